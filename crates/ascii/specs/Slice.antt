@@ -1,0 +1,29 @@
+-- What a range of a source gives: the source's length where the range does not fit, else the first
+-- byte over 127 inside it, else the text between its ends.
+use Rattle.std.specs.Prelude.{◌≡◌, ℕ, List, length, slice_range, ◌⊎◌, MatchResult}
+use Rattle.std.specs.declared.result.Result.{Result}
+use Rattle.std.specs.Str.{IsAscii}
+use Rattle.ascii_base.specs.declared.range.AsciiRange.{AsciiRange}
+use Rattle.ascii_base.specs.Bytes.{FirstOther}
+use Rattle.ascii_base.specs.Range.{start_of, end_of, Fits}
+use Rattle.ascii.specs.declared.ascii_str.AsciiStr.{AsciiStr}
+use Rattle.ascii.specs.declared.ascii_str.AsAsciiStrError.{AsAsciiStrError}
+use Rattle.ascii.specs.View.{text_of, position_of}
+
+-- a range is refused with the length where it does not fit, and else with its first byte over 127
+abbrev pub IsRefused : List ℕ → AsciiRange → AsAsciiStrError → Type 0
+IsRefused bytes r e = let n = length bytes in
+    (¬ Fits r n × (position_of e ≡ n)) ⊎ (Fits r n × FirstOther bytes (start_of r) (end_of r n) (position_of e))
+
+-- the bounds of a range that fits and holds only bytes under 128
+pub record IsAsciiBounds (bytes : List ℕ) (r : AsciiRange) (bounds : ℕ × ℕ) : Type 0 where
+  pub fits : Fits r (length bytes)
+  pub start : bounds.0 ≡ start_of r
+  pub end : bounds.1 ≡ end_of r (length bytes)
+  pub ascii : IsAscii (slice_range bytes (start_of r) (end_of r (length bytes)))
+
+-- the three outcomes of a slice, of which no two hold at once
+abbrev pub SliceOutcome : List ℕ → AsciiRange → Result AsciiStr AsAsciiStrError → Type 0
+SliceOutcome bytes r result = let n = length bytes in MatchResult result
+    (λ v. Fits r n × (text_of v ≡ slice_range bytes (start_of r) (end_of r n)))
+    (IsRefused bytes r)

@@ -1,0 +1,30 @@
+//! The one test that stands under every form of a range over every source.
+
+ghost use Rattle.std.specs.Prelude.{MatchResult};
+ghost use Rattle.ascii.specs.Slice.{IsAsciiBounds, IsRefused};
+
+use crate::ascii_str::AsAsciiStrError;
+use ascii_base::kernels;
+use ascii_base::range::AsciiRange;
+
+/// The start and the end of a range of a source that fits and holds only bytes under 128.
+/// The fit is looked at before any byte, and each byte of the range at most once.
+pub(crate) fn checked_bounds(
+    source: &[u8],
+    range: AsciiRange,
+) -> Result<(usize, usize), AsAsciiStrError>
+    ensures { MatchResult result (IsAsciiBounds source.now range) (IsRefused source.now range) }
+{
+    let len = source.len();
+    if !range.fits(len) {
+        return Err(AsAsciiStrError { valid_up_to: len });
+    }
+    let start = range.start();
+    let end = range.end(len);
+    match kernels::first_other(&source[start..end]) {
+        Some(i) => Err(AsAsciiStrError {
+            valid_up_to: start + i,
+        }),
+        None => Ok((start, end)),
+    }
+}

@@ -1,0 +1,26 @@
+-- What each form of a range stands for over n bytes, in numbers that do not wrap.
+use Rattle.std.specs.Prelude.{ℕ, ◌+◌, ◌≤◌}
+use Rattle.ascii_base.specs.declared.range.AsciiRange.{AsciiRange}
+use Rattle.ascii_base.specs.declared.range.AsciiRange.TheVariants.{Full, From, To, Range, Inclusive, ToInclusive}
+
+-- the position of the first byte
+abbrev pub start_of : AsciiRange → ℕ
+start_of Full = 0
+start_of (From a) = a
+start_of (To b) = 0
+start_of (Range a b) = a
+start_of (Inclusive a b) = a
+start_of (ToInclusive b) = 0
+
+-- the position past the last byte
+abbrev pub end_of : AsciiRange → ℕ → ℕ
+end_of Full n = n
+end_of (From a) n = n
+end_of (To b) n = b
+end_of (Range a b) n = b
+end_of (Inclusive a b) n = b + 1
+end_of (ToInclusive b) n = b + 1
+
+-- the range lies within n bytes
+abbrev pub Fits : AsciiRange → ℕ → Type 0
+Fits r n = (start_of r ≤ end_of r n) × (end_of r n ≤ n)

@@ -1,0 +1,7 @@
+//! The ground of ASCII text: its characters, its caret notation, the ranges of a source, and the
+//! searches and maps over bytes that the texts above stand on.
+#![tactic(auto)]
+
+pub mod ascii_char;
+pub mod kernels;
+pub mod range;
