@@ -1,0 +1,76 @@
+-- What `engine` tells of the bytes that it read and of those that went out.
+use Rattle.std.specs.Prelude.{◌≡◌, ℕ, ◌+◌, List, ◌++◌, length}
+use Rattle.std.specs.Str.{IsAscii}
+use Rattle.std.specs.Io.KnownBytes.{Appends, Consumes, IsAtEnd, Keeps}
+use Rattle.std.specs.declared.option.Option.{Option}
+use Rattle.std.specs.declared.result.Result.{Result}
+use Rattle.std.specs.declared.result.Result.TheVariants.{Ok, Err}
+use Rattle.ascii_base.specs.Bytes.{FirstOther}
+use Rattle.ascii_run.specs.declared.modes.EngineFault.{EngineFault}
+use Rattle.ascii_run.specs.declared.modes.EngineFault.TheVariants.{NotAscii, Memory, Read, Write}
+use Rattle.ascii_run.specs.declared.modes.Mode.{Mode}
+use Rattle.ascii_run.specs.Output.{IsOutput}
+
+-- the reader gave these bytes and is at its end
+pub record ReadsAll (old new : Option (List ℕ)) (bytes : List ℕ) : Type 0 where
+  pub gave : Consumes old new bytes
+  pub ended : IsAtEnd new
+
+-- the bytes were a text, and its output is this one
+pub record HasOutput (mode : Mode) (old new : Option (List ℕ)) (output : List ℕ) : Type 0 where
+  pub text : List ℕ
+  pub read : ReadsAll old new text
+  pub ascii : IsAscii text
+  pub output_of : IsOutput mode text output
+
+-- at its answer: what the reader gave from `rest` to `left`, and what the writer took from `old` to `new`
+abbrev pub Tells : Mode → Result (Unit {0}) EngineFault → Option (List ℕ) → Option (List ℕ) → Option (List ℕ) → Option (List ℕ) → Type 0
+Tells mode (Ok _) rest left old new = (output : List ℕ) × HasOutput mode rest left output × Appends old new output
+Tells mode (Err (NotAscii n)) rest left old new =
+    (bytes : List ℕ) × ReadsAll rest left bytes × FirstOther bytes 0 (length bytes) n × Keeps old new
+Tells mode (Err Memory) rest left old new = Keeps old new
+Tells mode (Err Read) rest left old new = Keeps old new
+Tells mode (Err Write) rest left old new =
+    (sent others : List ℕ) × HasOutput mode rest left (sent ++ others) × Appends old new sent
+
+-- the reader's failures after an answer: one more at `Read` alone
+abbrev pub read_failures : ℕ → Result (Unit {0}) EngineFault → ℕ
+read_failures n (Err Read) = n + 1
+read_failures n (Err (NotAscii k)) = n
+read_failures n (Err Memory) = n
+read_failures n (Err Write) = n
+read_failures n (Ok _) = n
+
+-- the writer's failures after an answer: one more at `Write` alone
+abbrev pub write_failures : ℕ → Result (Unit {0}) EngineFault → ℕ
+write_failures n (Err Write) = n + 1
+write_failures n (Err (NotAscii k)) = n
+write_failures n (Err Memory) = n
+write_failures n (Err Read) = n
+write_failures n (Ok _) = n
+
+-- the faults that end the reading
+abbrev pub IsMemoryOrRead : EngineFault → Type 0
+IsMemoryOrRead Memory = Unit {0}
+IsMemoryOrRead Read = Unit {0}
+IsMemoryOrRead (NotAscii n) = ⊥
+IsMemoryOrRead Write = ⊥
+
+-- the reader's failures after reading: one more at `Read` alone
+abbrev pub CountsRead : {T : Type 0} → ℕ → ℕ → Result T EngineFault → Type 0
+CountsRead old new (Ok x) = new ≡ old
+CountsRead old new (Err Read) = new ≡ old + 1
+CountsRead old new (Err Memory) = new ≡ old
+CountsRead old new (Err Write) = new ≡ old
+CountsRead old new (Err (NotAscii n)) = new ≡ old
+
+-- the writer took a beginning of the bytes
+abbrev pub AppendsFront : Option (List ℕ) → Option (List ℕ) → List ℕ → Type 0
+AppendsFront old new bytes = (sent others : List ℕ) × Appends old new sent × (sent ++ others ≡ bytes)
+
+-- the first byte over 127 is at the place that the fault names
+abbrev pub IsNotAsciiIn : List ℕ → EngineFault → Type 0
+IsNotAsciiIn bytes (NotAscii n) = FirstOther bytes 0 (length bytes) n
+IsNotAsciiIn bytes Memory = ⊥
+IsNotAsciiIn bytes Read = ⊥
+IsNotAsciiIn bytes Write = ⊥

@@ -1,0 +1,5 @@
+pub mod Devices
+pub mod Engine
+pub mod Output
+pub mod Wrapped
+pub use Rattle.ascii_base.specs.Bytes

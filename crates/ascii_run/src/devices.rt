@@ -1,0 +1,186 @@
+//! The devices that a run reads from and writes to.
+
+ghost use Rattle.std.specs.Prelude.{◌≡◌, ℕ, ◌<◌, ◌≤◌, List, length, take, IfOk, MatchResult};
+ghost use Rattle.std.specs.Io.KnownBytes.{Appends, Consumes, IsAtEnd, Keeps};
+ghost use Rattle.std.specs.declared.option.Option.{Option};
+ghost use Rattle.ascii_run.specs.Devices.{CountsFault};
+
+use std::io;
+
+/// A device failed. Its count of failures has risen by one.
+#[derive(Clone, Copy, PartialEq, Eq, Debug)]
+pub struct DeviceFault;
+
+/// A device that gives bytes.
+pub trait Source {
+    // The bytes to come, or `None` where they are untold.
+    ghost rest: { Self → Option (List ℕ) };
+
+    // How many calls have failed.
+    ghost failures: { Self → ℕ };
+
+    /// How many calls have failed.
+    fn failures(&self) -> u64
+        ensures { result ≡ failures self.now };
+
+    /// Moves bytes from the front of the rest to the front of `buf`, and gives their number, which
+    /// is 0 only where no byte is left.
+    fn read(&mut self, buf: &mut [u8]) -> Result<usize, DeviceFault>
+        requires room { 0 < length buf.old }
+        requires count { failures self.old < u64.MAX }
+        ensures bytes { IfOk result (λ n. (n ≤ length buf.new) × Consumes (rest self.old) (rest self.new) (take n buf.new)) }
+        ensures end { IfOk result (λ n. n ≡ 0 → IsAtEnd (rest self.new)) }
+        ensures count { CountsFault (failures self.old) (failures self.new) result };
+}
+
+/// A device that takes bytes.
+pub trait Sink {
+    // The bytes that it has taken, or `None` where they are untold.
+    ghost taken: { Self → Option (List ℕ) };
+
+    // How many calls have failed.
+    ghost failures: { Self → ℕ };
+
+    /// How many calls have failed.
+    fn failures(&self) -> u64
+        ensures { result ≡ failures self.now };
+
+    /// Appends bytes from the front of `bytes`, at least one, and gives their number.
+    fn write(&mut self, bytes: &[u8]) -> Result<usize, DeviceFault>
+        requires some { 0 < length bytes.now }
+        requires count { failures self.old < u64.MAX }
+        ensures number { IfOk result (λ n. (1 ≤ n) × (n ≤ length bytes.now)) }
+        ensures bytes { MatchResult result
+            (λ n. Appends (taken self.old) (taken self.new) (take n bytes.now))
+            (λ _. Keeps (taken self.old) (taken self.new)) }
+        ensures count { CountsFault (failures self.old) (failures self.new) result };
+
+    /// Passes on what is held back. The bytes that were taken stay.
+    fn flush(&mut self) -> Result<(), DeviceFault>
+        requires count { failures self.old < u64.MAX }
+        ensures bytes { Keeps (taken self.old) (taken self.new) }
+        ensures count { CountsFault (failures self.old) (failures self.new) result };
+}
+
+/// A reader as a `Source`. Each error of the reader is a failure, an interruption too.
+#[derive(Drop)]
+pub struct Input<R> {
+    reader: R,
+    failures: u64,
+}
+
+impl<R: io::Read> Input<R> {
+    ghost use Rattle.ascii_run.specs.Wrapped.{reader_of, input_failures};
+
+    /// A source over the reader, with no failure so far.
+    pub fn new(reader: R) -> Input<R>
+        ensures reader { reader_of result ≡ reader }
+        ensures failures { input_failures result ≡ 0 }
+    {
+        Input {
+            reader,
+            failures: 0,
+        }
+    }
+
+    /// The reader.
+    pub fn into_inner(self) -> R
+        ensures { result ≡ reader_of self }
+    {
+        let Input {
+            reader,
+            failures: _,
+        } = self;
+        reader
+    }
+}
+
+impl<R: io::Read> Source for Input<R> {
+    ghost use Rattle.std.specs.Prelude.{List, ℕ};
+    ghost use Rattle.ascii_run.specs.Wrapped.{reader_of, input_failures};
+
+    ghost rest = { λ input. R.remaining (reader_of input) };
+
+    ghost failures = { λ input. input_failures input };
+
+    fn failures(&self) -> u64 {
+        self.failures
+    }
+
+    fn read(&mut self, buf: &mut [u8]) -> Result<usize, DeviceFault> {
+        match self.reader.read(buf) {
+            Ok(n) => Ok(n),
+            Err(_) => {
+                self.failures += 1;
+                Err(DeviceFault)
+            }
+        }
+    }
+}
+
+/// A writer as a `Sink`. Each error of the writer is a failure, an interruption too, and so is a
+/// write that takes no byte.
+#[derive(Drop)]
+pub struct Output<W> {
+    writer: W,
+    failures: u64,
+}
+
+impl<W: io::Write> Output<W> {
+    ghost use Rattle.ascii_run.specs.Wrapped.{writer_of, output_failures};
+
+    /// A sink over the writer, with no failure so far.
+    pub fn new(writer: W) -> Output<W>
+        ensures writer { writer_of result ≡ writer }
+        ensures failures { output_failures result ≡ 0 }
+    {
+        Output {
+            writer,
+            failures: 0,
+        }
+    }
+
+    /// The writer.
+    pub fn into_inner(self) -> W
+        ensures { result ≡ writer_of self }
+    {
+        let Output {
+            writer,
+            failures: _,
+        } = self;
+        writer
+    }
+}
+
+impl<W: io::Write> Sink for Output<W> {
+    ghost use Rattle.std.specs.Prelude.{List, ℕ};
+    ghost use Rattle.ascii_run.specs.Wrapped.{writer_of, output_failures};
+
+    ghost taken = { λ output. W.contents (writer_of output) };
+
+    ghost failures = { λ output. output_failures output };
+
+    fn failures(&self) -> u64 {
+        self.failures
+    }
+
+    fn write(&mut self, bytes: &[u8]) -> Result<usize, DeviceFault> {
+        match self.writer.write(bytes) {
+            Ok(n) if n > 0 => Ok(n),
+            _ => {
+                self.failures += 1;
+                Err(DeviceFault)
+            }
+        }
+    }
+
+    fn flush(&mut self) -> Result<(), DeviceFault> {
+        match self.writer.flush() {
+            Ok(()) => Ok(()),
+            Err(_) => {
+                self.failures += 1;
+                Err(DeviceFault)
+            }
+        }
+    }
+}

@@ -1,0 +1,8 @@
+//! Runs over ASCII text: a filter from bytes to bytes in one of several modes.
+#![tactic(auto)]
+
+mod devices;
+mod modes;
+
+pub use devices::{DeviceFault, Input, Output, Sink, Source};
+pub use modes::{EngineFault, Mode, engine};

@@ -1,0 +1,56 @@
+//! Why the program ends with a status other than 0.
+
+ghost use Rattle.std.specs.Prelude.{◌≡◌};
+ghost use Rattle.ascii_show.specs.Status.{status_of};
+
+use ascii_run::EngineFault;
+use std::fmt;
+
+/// A failure of the program.
+#[derive(Clone, Copy, Debug)]
+pub enum Failure {
+    /// The words are no call.
+    Usage,
+    /// The run stopped.
+    Run(EngineFault),
+}
+
+impl Failure {
+    /// The status that the program ends with.
+    pub fn status(self) -> u8
+        ensures { result ≡ status_of self }
+    {
+        match self {
+            Failure::Run(EngineFault::NotAscii(_)) => 1,
+            Failure::Usage => 2,
+            Failure::Run(EngineFault::Memory | EngineFault::Read | EngineFault::Write) => 3,
+        }
+    }
+}
+
+impl fmt::Display for Failure {
+    fn fmt<W: fmt::Write>(&self, f: &mut fmt::Formatter<W>) -> fmt::Result {
+        match *self {
+            Failure::Usage => f.write_str(
+                "usage: ascii_show copy|lines|tac|caret|ends SCRIPT|edit WORD..|json",
+            ),
+            Failure::Run(EngineFault::NotAscii(position)) => write!(
+                f,
+                "the byte at index {position} is not ASCII"
+            ),
+            Failure::Run(EngineFault::Memory) => f.write_str("no memory"),
+            Failure::Run(EngineFault::Read) => f.write_str("read failed"),
+            Failure::Run(EngineFault::Write) => f.write_str("write failed"),
+        }
+    }
+}
+
+impl From<EngineFault> for Failure {
+    ghost use Rattle.ascii_show.specs.declared.failure.Failure.TheVariants.{Run};
+
+    ghost from_gives = { λ fault failure. failure ≡ Run fault };
+
+    fn from(fault: EngineFault) -> Failure {
+        Failure::Run(fault)
+    }
+}

@@ -1,0 +1,88 @@
+//! `ascii_show MODE [..]`: standard input, in one of several modes, to standard output.
+#![tactic(auto)]
+
+ghost use Rattle.std.specs.Prelude.{◌≡◌, ◌≤◌};
+ghost use Rattle.ascii_show.specs.Call.{IsCall, words_of};
+ghost use Rattle.ascii_show.specs.Status.{status_of};
+
+mod arguments;
+mod failure;
+
+use arguments::mode_of;
+use ascii_run::{EngineFault, Input, Output, engine};
+use failure::Failure;
+use std::alloc::{AllocError, Allocator};
+use std::process::ExitCode;
+use std::{env, io};
+
+/// Runs the words after the program's name: reads `input`, writes `output`, and writes one line to
+/// `errors` where it fails. The answer is the status: 0 done, 1 not ASCII, 2 a fault in the words,
+/// 3 no memory or a failing device. A failure of `errors` changes no status.
+pub fn show<A: Allocator, I: io::Read + Drop, O: io::Write + Drop, E: io::Write + Drop>(
+    alloc: A,
+    args: &[String],
+    input: I,
+    output: O,
+    errors: E,
+) -> u8
+    ensures status { result ≤ 3 }
+    ensures usage { ¬ IsCall (words_of args.now) → result ≡ 2 }
+{
+    match run_words(alloc, args, input, output) {
+        Ok(()) => 0,
+        Err(failure) => { report(failure, errors) }
+    }
+}
+
+/// Writes the line of a failure, and gives its status.
+fn report<E: io::Write + Drop>(failure: Failure, mut errors: E) -> u8
+    ensures { result ≡ status_of failure }
+{
+    let _ = writeln!(errors, "{failure}");
+    failure.status()
+}
+
+/// The words are read before any input is.
+fn run_words<A: Allocator, I: io::Read + Drop, O: io::Write + Drop>(
+    alloc: A,
+    args: &[String],
+    input: I,
+    output: O,
+) -> Result<(), Failure>
+    ensures { ¬ IsCall (words_of args.now) → result ≡ Err Failure.Usage }
+{
+    let mode = mode_of(args)?;
+    engine(
+        alloc,
+        mode,
+        &mut Input::new(input),
+        &mut Output::new(output),
+    )?;
+    Ok(())
+}
+
+/// The words after the program's name. Words that are no text are taken as none.
+fn words(rt: &HostRuntime) -> Result<Vec<String>, AllocError> {
+    match env::args(rt) {
+        Ok(args) => args.skip(1).collect(rt.alloc()),
+        Err(e) if e.kind() == io::ErrorKind::OutOfMemory => Err(AllocError),
+        Err(_) => Ok(Vec::new(rt.alloc())),
+    }
+}
+
+fn main(rt: HostRuntime) -> ExitCode {
+    let status = match words(&rt) {
+        Ok(words) => show(
+            rt.alloc(),
+            &words,
+            rt.reader(),
+            io::writer(&rt),
+            rt.stderr(),
+        ),
+        Err(_) => report(Failure::Run(EngineFault::Memory), rt.stderr()),
+    };
+    ExitCode::from(status)
+}
+
+#[cfg(test)]
+mod tests;
