@@ -1,5 +1,6 @@
 pub mod Slice
 pub mod Text
+pub mod Trim
 pub mod View
 pub use Rattle.ascii_base.specs.Bytes
 pub use Rattle.ascii_base.specs.Code

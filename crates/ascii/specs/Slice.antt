@@ -1,9 +1,11 @@
 -- What a range of a source gives: the source's length where the range does not fit, else the first
 -- byte over 127 inside it, else the text between its ends.
-use Rattle.std.specs.Prelude.{◌≡◌, ℕ, List, length, slice_range, ◌⊎◌, MatchResult}
+use Rattle.std.specs.Prelude.{◌<◌, slice_index, MatchOption, Option, ◌≡◌, ℕ, List, length, slice_range, ◌⊎◌, MatchResult}
 use Rattle.std.specs.declared.result.Result.{Result}
 use Rattle.std.specs.Str.{IsAscii}
 use Rattle.ascii_base.specs.declared.range.AsciiRange.{AsciiRange}
+use Rattle.ascii_base.specs.declared.ascii_char.AsciiChar.{AsciiChar}
+use Rattle.ascii_base.specs.Code.{code_of}
 use Rattle.ascii_base.specs.Bytes.{FirstOther}
 use Rattle.ascii_base.specs.Range.{start_of, end_of, Fits}
 use Rattle.ascii.specs.declared.ascii_str.AsciiStr.{AsciiStr}
@@ -27,3 +29,12 @@ abbrev pub SliceOutcome : List ℕ → AsciiRange → Result AsciiStr AsAsciiStr
 SliceOutcome bytes r result = let n = length bytes in MatchResult result
     (λ v. Fits r n × (text_of v ≡ slice_range bytes (start_of r) (end_of r n)))
     (IsRefused bytes r)
+
+-- a place in a source whose byte is a code
+abbrev pub HasCodeAt : List ℕ → ℕ → Type 0
+HasCodeAt bytes i = (i < length bytes) × (slice_index bytes i < 128)
+
+-- the character at a place, exactly where there is one
+abbrev pub GetsAscii : List ℕ → ℕ → Option AsciiChar → Type 0
+GetsAscii bytes i result =
+    MatchOption result (¬ (HasCodeAt bytes i)) (λ ch. HasCodeAt bytes i × (code_of ch ≡ slice_index bytes i))

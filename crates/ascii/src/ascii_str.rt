@@ -1,10 +1,18 @@
 //! Views over bytes that are all under 128.
 
-ghost use Rattle.std.specs.Prelude.{◌≡◌, length, IsTrue, ◌↔◌, Some, codes, ◌++◌, []};
+ghost use Rattle.std.specs.Prelude.{◌≡◌, ◌-◌, ◌<◌, ◌↔◌, ◌++◌, [], IsOkAnd, IsTrue, OnErr, Some, codes, length, map, slice_get, slice_index, slice_range};
 ghost use Rattle.std.specs.Str.{IsAscii};
 ghost use Rattle.std.specs.Fmt.{decimal};
+ghost use Rattle.std.specs.Option.{option_map};
 ghost use Rattle.std.proofs.Props.{props};
+ghost use Rattle.ascii_base.specs.Case.{lower_image};
+ghost use Rattle.ascii_base.specs.Code.{code_of};
+ghost use Rattle.ascii_base.specs.Range.{Fits, end_of, start_of};
+ghost use Rattle.ascii.specs.Trim.{Trims, TrimsEnd, TrimsStart};
 
+use ascii_base::ascii_char::AsciiChar;
+use ascii_base::kernels;
+use ascii_base::range::AsciiRange;
 use std::fmt;
 
 /// A text of ASCII characters that borrows its bytes: checked once, read without a copy.
@@ -15,7 +23,7 @@ pub struct AsciiStr<'a> {
 }
 
 impl<'a> AsciiStr<'a> {
-    ghost use Rattle.std.specs.Str.{IsUtf8};
+    ghost use Rattle.ascii.specs.Slice.{SliceOutcome};
     ghost use Rattle.ascii.specs.View.{text_of};
 
     /// The characters of the view as text. Nothing is checked or copied.
@@ -49,6 +57,162 @@ impl<'a> AsciiStr<'a> {
         ensures { IsTrue result ↔ (text_of self.entry ≡ []) }
     {
         self.bytes.is_empty()
+    }
+
+    /// The first character, or `None` of the empty view.
+    #[inline]
+    pub fn first(self) -> Option<AsciiChar>
+        ensures { option_map code_of result ≡ slice_get (text_of self.entry) 0 }
+    {
+        self.get_ascii(0)
+    }
+
+    /// The last character, or `None` of the empty view.
+    #[inline]
+    pub fn last(self) -> Option<AsciiChar>
+        ensures { option_map code_of result ≡ slice_get (text_of self.entry) (length (text_of self.entry) - 1) }
+    {
+        self.get_ascii(self.bytes.len().saturating_sub(1))
+    }
+
+    /// The character at a position from 0, or `None` past the end.
+    #[inline]
+    pub fn get_ascii(self, i: usize) -> Option<AsciiChar>
+        ensures { option_map code_of result ≡ slice_get (text_of self.entry) i }
+    {
+        if i < self.bytes.len() {
+            Some(self.char_at(i))
+        } else {
+            None
+        }
+    }
+
+    /// The character at a position from 0 that is under the length.
+    #[inline]
+    pub fn char_at(self, i: usize) -> AsciiChar
+        requires { i < length (text_of self) }
+        ensures { code_of result ≡ slice_index (text_of self.entry) i }
+    {
+        AsciiChar::from_ascii_unchecked(self.bytes[i])
+    }
+
+    /// The view itself: a view never has to be checked again.
+    #[inline]
+    pub fn as_ascii_str(self) -> Result<AsciiStr<'a>, AsAsciiStrError>
+        ensures { IsOkAnd result (λ view. text_of view ≡ text_of self.entry) }
+    {
+        Ok(self)
+    }
+
+    /// The part of the view that the range names, or the length of the view where the range does
+    /// not fit.
+    #[inline]
+    pub fn slice_ascii(self, range: AsciiRange) -> Result<AsciiStr<'a>, AsAsciiStrError>
+        ensures outcome { SliceOutcome (text_of self.entry) range result }
+        ensures unfit { OnErr result (¬ Fits range (length (text_of self.entry))) }
+    {
+        let len = self.bytes.len();
+        if range.fits(len) {
+            Ok(self.slice(range))
+        } else {
+            Err(AsAsciiStrError { valid_up_to: len })
+        }
+    }
+
+    /// The part of the view that a range names which fits it.
+    #[inline]
+    pub fn slice(self, range: AsciiRange) -> AsciiStr<'a>
+        requires { Fits range (length (text_of self)) }
+        ensures { text_of result ≡ slice_range (text_of self.entry) (start_of range) (end_of range (length (text_of self.entry))) }
+    {
+        let start = range.start();
+        let end = range.end(self.bytes.len());
+        AsciiStr {
+            bytes: &self.bytes[start..end],
+        }
+    }
+
+    /// The view without the white space at both of its ends: space, tab, line feed, vertical tab,
+    /// form feed and carriage return.
+    pub fn trim(self) -> AsciiStr<'a>
+        ensures { Trims (text_of self.entry) (text_of result) }
+    {
+        self.trim_start().trim_end()
+    }
+
+    /// The view without the white space at its front.
+    pub fn trim_start(self) -> AsciiStr<'a>
+        ensures { TrimsStart (text_of self.entry) (text_of result) }
+    {
+        let start = kernels::first_not_whitespace(self.bytes).unwrap_or(self.bytes.len());
+        AsciiStr {
+            bytes: &self.bytes[start..],
+        }
+    }
+
+    /// The view without the white space at its back.
+    pub fn trim_end(self) -> AsciiStr<'a>
+        ensures { TrimsEnd (text_of self.entry) (text_of result) }
+    {
+        let end = kernels::last_not_whitespace(self.bytes).map_or(0, |last| last + 1);
+        AsciiStr {
+            bytes: &self.bytes[..end],
+        }
+    }
+
+    /// Whether two views are equal when the case of letters does not count.
+    #[inline]
+    pub fn eq_ignore_ascii_case(self, other: AsciiStr<'_>) -> bool
+        ensures { IsTrue result ↔ (map lower_image (text_of self.entry) ≡ map lower_image (text_of other.entry)) }
+    {
+        kernels::eq_ignore_case(self.bytes, other.bytes)
+    }
+
+    /// Whether the view has the bytes of a text.
+    #[inline]
+    pub fn eq_str(self, other: &str) -> bool
+        ensures { IsTrue result ↔ (text_of self.entry ≡ other.now) }
+    {
+        self.eq_bytes(other.as_bytes())
+    }
+
+    /// Whether the view has these bytes.
+    #[inline]
+    pub fn eq_bytes(self, other: &[u8]) -> bool
+        ensures { IsTrue result ↔ (text_of self.entry ≡ other.now) }
+    {
+        self.bytes == other
+    }
+}
+
+impl Default for AsciiStr<'_> {
+    ghost use Rattle.ascii.specs.View.{text_of};
+
+    ghost is_default = { λ view. text_of view ≡ [] };
+
+    /// The empty view.
+    fn default() -> Self {
+        AsciiStr { bytes: &[] }
+    }
+}
+
+impl<'a> From<AsciiStr<'a>> for &'a str {
+    ghost use Rattle.ascii.specs.View.{text_of};
+
+    ghost from_gives = { λ view text. text.now ≡ text_of view };
+
+    fn from(view: AsciiStr<'a>) -> &'a str {
+        view.as_str()
+    }
+}
+
+impl<'a> From<AsciiStr<'a>> for &'a [u8] {
+    ghost use Rattle.ascii.specs.View.{text_of};
+
+    ghost from_gives = { λ view bytes. bytes.now ≡ text_of view };
+
+    fn from(view: AsciiStr<'a>) -> &'a [u8] {
+        view.as_bytes()
     }
 }
 

@@ -1,9 +1,13 @@
 //! Views of borrowed bytes.
 
-ghost use Rattle.ascii.specs.Slice.{SliceOutcome};
+ghost use Rattle.std.specs.Prelude.{◌≡◌};
+ghost use Rattle.std.specs.Str.{IsAscii};
+ghost use Rattle.ascii.specs.Slice.{GetsAscii, SliceOutcome};
+ghost use Rattle.ascii.specs.View.{text_of};
 
 use crate::ascii_str::{AsAsciiStrError, AsciiStr};
 use crate::bounds::checked_bounds;
+use ascii_base::ascii_char::{AsciiChar, ToAsciiChar};
 use ascii_base::range::AsciiRange;
 
 /// The whole source as ASCII text, or the position of its first byte over 127.
@@ -30,4 +34,29 @@ pub fn slice_ascii(source: &[u8], range: AsciiRange) -> Result<AsciiStr<'_>, AsA
     Ok(AsciiStr {
         bytes: &source[start..end],
     })
+}
+
+/// The character at a position from 0: `None` past the end, and where the byte is over 127.
+pub fn get_ascii(source: &[u8], i: usize) -> Option<AsciiChar>
+    ensures { GetsAscii source.now i result }
+{
+    source.get(i)?.to_ascii_char().ok()
+}
+
+/// The whole source as ASCII text. Nothing is checked.
+#[inline]
+pub fn as_ascii_str_unchecked(source: &[u8]) -> AsciiStr<'_>
+    requires { IsAscii source.now }
+    ensures { text_of result ≡ source.now }
+{
+    AsciiStr { bytes: source }
+}
+
+/// The same as `as_ascii_str_unchecked`.
+#[inline]
+pub fn from_ascii_unchecked(source: &[u8]) -> AsciiStr<'_>
+    requires { IsAscii source.now }
+    ensures { text_of result ≡ source.now }
+{
+    as_ascii_str_unchecked(source)
 }

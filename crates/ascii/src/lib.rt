@@ -6,7 +6,10 @@ pub mod ascii_str;
 pub mod ascii_string;
 mod bounds;
 pub mod bytes;
+pub mod text;
 
-pub use ascii_base::ascii_char::AsciiChar;
+pub use ascii_base::ascii_char::{AsciiChar, ToAsciiChar, ToAsciiCharError};
+pub use ascii_base::free_functions::{caret_decode, caret_encode};
+pub use ascii_base::range::AsciiRange;
 pub use ascii_str::{AsAsciiStrError, AsciiStr};
 pub use ascii_string::AsciiString;

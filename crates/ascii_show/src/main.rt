@@ -30,7 +30,7 @@ pub fn show<A: Allocator, I: io::Read + Drop, O: io::Write + Drop, E: io::Write 
 {
     match run_words(alloc, args, input, output) {
         Ok(()) => 0,
-        Err(failure) => { report(failure, errors) }
+        Err(failure) => report(failure, errors),
     }
 }
 

@@ -1,0 +1,59 @@
+//! Views of borrowed text. Positions count bytes, and may fall inside a character.
+
+ghost use Rattle.std.specs.Prelude.{◌≡◌};
+ghost use Rattle.std.specs.Str.{IsAscii};
+ghost use Rattle.ascii.specs.Slice.{GetsAscii, SliceOutcome};
+ghost use Rattle.ascii.specs.View.{text_of};
+
+use crate::ascii_str::{AsAsciiStrError, AsciiStr};
+use crate::bytes;
+use ascii_base::ascii_char::AsciiChar;
+use ascii_base::range::AsciiRange;
+
+/// The whole source as ASCII text, or the position of its first byte over 127.
+pub fn as_ascii_str(source: &str) -> Result<AsciiStr<'_>, AsAsciiStrError>
+    ensures { SliceOutcome source.now AsciiRange.Full result }
+{
+    bytes::as_ascii_str(source.as_bytes())
+}
+
+/// The same as `as_ascii_str`.
+pub fn from_ascii(source: &str) -> Result<AsciiStr<'_>, AsAsciiStrError>
+    ensures { SliceOutcome source.now AsciiRange.Full result }
+{
+    as_ascii_str(source)
+}
+
+/// The part of the source that the range of bytes names, as ASCII text. A range that does not fit is
+/// refused with the number of bytes of the source, and one that fits with the position in the source
+/// of its first byte over 127. Bytes outside the range do not matter.
+pub fn slice_ascii(source: &str, range: AsciiRange) -> Result<AsciiStr<'_>, AsAsciiStrError>
+    ensures { SliceOutcome source.now range result }
+{
+    bytes::slice_ascii(source.as_bytes(), range)
+}
+
+/// The character at a position in bytes from 0: `None` past the end, and where the byte is over 127.
+pub fn get_ascii(source: &str, i: usize) -> Option<AsciiChar>
+    ensures { GetsAscii source.now i result }
+{
+    bytes::get_ascii(source.as_bytes(), i)
+}
+
+/// The whole source as ASCII text. Nothing is checked.
+#[inline]
+pub fn as_ascii_str_unchecked(source: &str) -> AsciiStr<'_>
+    requires { IsAscii source.now }
+    ensures { text_of result ≡ source.now }
+{
+    bytes::as_ascii_str_unchecked(source.as_bytes())
+}
+
+/// The same as `as_ascii_str_unchecked`.
+#[inline]
+pub fn from_ascii_unchecked(source: &str) -> AsciiStr<'_>
+    requires { IsAscii source.now }
+    ensures { text_of result ≡ source.now }
+{
+    as_ascii_str_unchecked(source)
+}
