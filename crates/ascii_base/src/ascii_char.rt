@@ -191,7 +191,7 @@ impl AsciiChar {
         ensures code { result ≡ code_of self }
         ensures small { result < 128 }
     {
-        self as u8 as char
+        self.as_byte() as char
     }
 
     /// The code with bit 5 set: of an upper case letter the lower case one, of a lower case letter
@@ -200,7 +200,7 @@ impl AsciiChar {
     fn to_not_upper(self) -> u8
         ensures { result ≡ bit_or (code_of self) 32 }
     {
-        self as u8 | 0b010_0000
+        self.as_byte() | 0b010_0000
     }
 
     /// Whether the character is a letter, `A` to `Z` or `a` to `z`.
@@ -226,7 +226,7 @@ impl AsciiChar {
         requires { radix ≤ 36 }
         ensures { IsTrue result ↔ IsDigitIn radix (code_of self) }
     {
-        match self as u8 {
+        match self.as_byte() {
             digit @ b'0'..=b'9' => u32::from(digit - b'0') < radix,
             letter @ b'a'..=b'z' => u32::from(letter - b'a') + 10 < radix,
             letter @ b'A'..=b'Z' => u32::from(letter - b'A') + 10 < radix,
@@ -239,7 +239,7 @@ impl AsciiChar {
     pub fn is_ascii_digit(&self) -> bool
         ensures { IsTrue result ↔ IsDigit (code_of self.now) }
     {
-        (*self as u8 >= b'0') & (*self as u8 <= b'9')
+        (self.as_byte() >= b'0') & (self.as_byte() <= b'9')
     }
 
     /// Whether the character is a letter or a decimal digit.
@@ -263,7 +263,7 @@ impl AsciiChar {
     pub fn is_ascii_blank(&self) -> bool
         ensures { IsTrue result ↔ IsBlank (code_of self.now) }
     {
-        (*self as u8 == b' ') | (*self as u8 == b'\t')
+        (self.as_byte() == b' ') | (self.as_byte() == b'\t')
     }
 
     /// Whether the character is space, tab, line feed, vertical tab, form feed or carriage return.
@@ -271,7 +271,7 @@ impl AsciiChar {
     pub fn is_whitespace(self) -> bool
         ensures { IsTrue result ↔ IsWhitespace (code_of self) }
     {
-        (self as u8 == b' ') | ((self as u8).wrapping_sub(b'\t') < 5)
+        (self.as_byte() == b' ') | (self.as_byte().wrapping_sub(b'\t') < 5)
     }
 
     /// Whether the character is space, tab, line feed, form feed or carriage return: vertical tab is
@@ -281,9 +281,9 @@ impl AsciiChar {
         ensures { IsTrue result ↔ IsAsciiWhitespace (code_of self.now) }
     {
         self.is_ascii_blank()
-            | (*self as u8 == b'\n')
-            | (*self as u8 == b'\r')
-            | (*self as u8 == 0x0c)
+            | (self.as_byte() == b'\n')
+            | (self.as_byte() == b'\r')
+            | (self.as_byte() == 0x0c)
     }
 
     /// Whether the character is a control character, 0 to 31 or 127.
@@ -291,7 +291,7 @@ impl AsciiChar {
     pub fn is_ascii_control(&self) -> bool
         ensures { IsTrue result ↔ IsControl (code_of self.now) }
     {
-        ((*self as u8) < b' ') | (*self as u8 == 127)
+        (self.as_byte() < b' ') | (self.as_byte() == 127)
     }
 
     /// Whether the character leaves ink: neither a control character nor space.
@@ -355,7 +355,7 @@ impl AsciiChar {
     pub fn is_ascii_hexdigit(&self) -> bool
         ensures { IsTrue result ↔ IsHexdigit (code_of self.now) }
     {
-        self.is_ascii_digit() | ((*self as u8 | 0x20).wrapping_sub(b'a') < 6)
+        self.is_ascii_digit() | ((self.as_byte() | 0x20).wrapping_sub(b'a') < 6)
     }
 
     /// A `char` that shows the character: the pictures from U+2400 on for the codes 0 to 31, U+2421
@@ -364,7 +364,7 @@ impl AsciiChar {
     pub fn as_printable_char(self) -> char
         ensures { result ≡ printable_of (code_of self) }
     {
-        match self as u8 {
+        match self.as_byte() {
             control @ 0..=0x1f => char::from_u32(0x2400 + u32::from(control)).unwrap(),
             0x7f => '␡',
             _ => self.as_char(),
@@ -393,7 +393,7 @@ impl AsciiChar {
         ensures { code_of result ≡ upper_image (code_of self.now) }
     {
         if self.is_lowercase() {
-            of_low_bits(*self as u8 - 32)
+            of_low_bits(self.as_byte() - 32)
         } else {
             *self
         }
@@ -405,7 +405,7 @@ impl AsciiChar {
         ensures { code_of result ≡ lower_image (code_of self.now) }
     {
         if self.is_uppercase() {
-            of_low_bits(*self as u8 + 32)
+            of_low_bits(self.as_byte() + 32)
         } else {
             *self
         }
@@ -557,7 +557,7 @@ impl fmt::Debug for ToAsciiCharError {
 
     #[inline]
     fn fmt<W: fmt::Write>(&self, f: &mut fmt::Formatter<W>) -> fmt::Result {
-        f.write_str(self.description())
+        fmt::Display::fmt(self, f)
     }
 }
 
@@ -565,6 +565,9 @@ impl fmt::Display for ToAsciiCharError {
     ghost use Rattle.std.specs.Prelude.{Some};
 
     ghost output = { λ _. Some not_ascii_text };
+
+    // no option of a hole changes the text
+    ghost styled_output = { λ _ _. Some not_ascii_text };
 
     #[inline]
     fn fmt<W: fmt::Write>(&self, f: &mut fmt::Formatter<W>) -> fmt::Result {
@@ -623,11 +626,7 @@ impl ToAsciiChar for i8 {
 
     #[inline]
     fn to_ascii_char(self) -> Result<AsciiChar, ToAsciiCharError> {
-        if self >= 0 {
-            Ok(of_low_bits(self as u8))
-        } else {
-            Err(ToAsciiCharError(()))
-        }
+        self.cast_unsigned().to_ascii_char()
     }
 
     #[inline]

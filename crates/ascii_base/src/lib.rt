@@ -6,3 +6,5 @@ pub mod ascii_char;
 pub mod free_functions;
 pub mod kernels;
 pub mod range;
+#[cfg(test)]
+mod tests;
