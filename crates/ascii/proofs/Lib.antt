@@ -1,2 +1,3 @@
 pub mod Slices
+pub mod Texts
 pub mod Trims

@@ -1,10 +1,18 @@
 //! Owned ASCII text.
 
-ghost use Rattle.std.specs.Prelude.{◌≡◌, ◌+◌, ◌≤◌, ◌++◌, [], length, IsTrue, ◌↔◌, IsOk, OnOk, OnErr, vec_capacity};
+ghost use Rattle.std.specs.Prelude.{◌≡◌, ◌+◌, ◌-◌, ◌<◌, ◌≤◌, ◌↔◌, ◌++◌, ◌∷◌, [], IfOk, IsOk, IsTrue, OnErr, OnOk, insert, length, map, remove, slice_get, slice_index, slice_set, take, vec_capacity, vec_len};
+ghost use Rattle.std.specs.Option.{option_map};
+ghost use Rattle.ascii_base.specs.Case.{lower_image, upper_image};
+ghost use Rattle.ascii_base.specs.Code.{code_of};
+ghost use Rattle.ascii.specs.Text.{insert_text};
 ghost use Rattle.ascii.specs.View.{text_of};
 
 use crate::ascii_str::AsciiStr;
+use ascii_base::ascii_char::AsciiChar;
+use ascii_base::kernels;
 use std::alloc::{AllocError, Allocator, Global};
+use std::cmp::Ordering;
+use std::hash::{Hash, Hasher};
 use std::marker::Model;
 
 /// A text of ASCII characters that owns its bytes and can grow. It keeps the allocator that it was
@@ -39,6 +47,27 @@ impl<A: Allocator> AsciiString<A> {
         }
     }
 
+    /// The empty text, with room for at least `capacity` bytes.
+    pub fn with_capacity(alloc: A, capacity: usize) -> Result<AsciiString<A>, AllocError>
+        ensures text { IfOk result (λ string. string.text ≡ []) }
+        ensures capacity { IfOk result (λ string. capacity ≤ string.capacity) }
+        ensures succeeds { capacity ≡ 0 → IsOk result }
+    {
+        Ok(AsciiString {
+            bytes: Vec::with_capacity(alloc, capacity)?,
+        })
+    }
+
+    /// The text of bytes that are known to be under 128. The buffer is kept, and so is its capacity.
+    #[inline]
+    pub fn from_ascii_unchecked(bytes: Vec<u8, A>) -> AsciiString<A>
+        requires { IsAscii bytes.items }
+        ensures text { result.text ≡ bytes.items }
+        ensures capacity { result.capacity ≡ vec_capacity bytes }
+    {
+        AsciiString { bytes }
+    }
+
     /// A view of the whole text.
     #[inline]
     pub fn as_ascii_str(&self) -> AsciiStr<'_>
@@ -47,6 +76,171 @@ impl<A: Allocator> AsciiString<A> {
         AsciiStr {
             bytes: self.bytes.as_slice(),
         }
+    }
+
+    /// The number of bytes that the text can have before it has to grow.
+    #[inline]
+    pub fn capacity(&self) -> usize
+        ensures { result ≡ self.now.capacity }
+    {
+        self.bytes.capacity()
+    }
+
+    /// Makes room for `additional` more bytes. The text stays, and a refusal of memory comes only
+    /// where the room was missing.
+    pub fn reserve(&mut self, additional: usize) -> Result<(), AllocError>
+        requires { length self.old.text + additional ≤ usize.MAX }
+        ensures text { self.new.text ≡ self.old.text }
+        ensures ok { OnOk result (length self.new.text + additional ≤ self.new.capacity) }
+        ensures capacity { self.old.capacity ≤ self.new.capacity }
+        ensures succeeds { length self.old.text + additional ≤ self.old.capacity → IsOk result }
+    {
+        self.bytes.reserve(additional)
+    }
+
+    /// Makes room for `additional` more bytes and asks for no more than that. The text stays, and a
+    /// refusal of memory comes only where the room was missing.
+    pub fn reserve_exact(&mut self, additional: usize) -> Result<(), AllocError>
+        requires { length self.old.text + additional ≤ usize.MAX }
+        ensures text { self.new.text ≡ self.old.text }
+        ensures ok { OnOk result (length self.new.text + additional ≤ self.new.capacity) }
+        ensures capacity { self.old.capacity ≤ self.new.capacity }
+        ensures succeeds { length self.old.text + additional ≤ self.old.capacity → IsOk result }
+    {
+        self.bytes.reserve_exact(additional)
+    }
+
+    /// Gives back the room that the text does not need. The text stays; a refusal of memory leaves
+    /// the room too, and comes only where there was some.
+    pub fn shrink_to_fit(&mut self) -> Result<(), AllocError>
+        ensures text { self.new.text ≡ self.old.text }
+        ensures ok { OnOk result (self.new.capacity ≡ length self.new.text) }
+        ensures err { OnErr result (length self.new.text < self.new.capacity) }
+        ensures capacity { self.new.capacity ≤ self.old.capacity }
+    {
+        self.bytes.shrink_to_fit();
+        if self.bytes.len() < self.bytes.capacity() {
+            return Err(AllocError);
+        }
+        Ok(())
+    }
+
+    /// Appends a character. It is never refused where the longer text fits the capacity; a refusal
+    /// of memory leaves the text.
+    #[inline]
+    pub fn push(&mut self, ch: AsciiChar) -> Result<(), AllocError>
+        ensures ok { OnOk result (self.new.text ≡ self.old.text ++ code_of ch ∷ []) }
+        ensures err { OnErr result (self.new.text ≡ self.old.text) }
+        ensures capacity { self.old.capacity ≤ self.new.capacity }
+        ensures succeeds { length self.old.text + 1 ≤ self.old.capacity → IsOk result }
+        ensures full { OnErr result (self.old.capacity < length self.old.text + 1) }
+    {
+        self.bytes.push(ch.as_byte())?;
+        Ok(())
+    }
+
+    /// Appends a view. It is never refused where the longer text fits the capacity; a refusal of
+    /// memory leaves the text.
+    #[inline]
+    pub fn push_str(&mut self, view: AsciiStr<'_>) -> Result<(), AllocError>
+        ensures ok { OnOk result (self.new.text ≡ self.old.text ++ text_of view.entry) }
+        ensures err { OnErr result (self.new.text ≡ self.old.text) }
+        ensures capacity { self.old.capacity ≤ self.new.capacity }
+        ensures succeeds { length self.old.text + length (text_of view.entry) ≤ self.old.capacity → IsOk result }
+        ensures full { OnErr result (self.old.capacity < length self.old.text + length (text_of view.entry)) }
+    {
+        self.bytes.extend_from_slice(view.as_bytes())
+    }
+
+    /// Puts a character before the position `idx`; at the length it is appended. It is never refused
+    /// where the longer text fits the capacity; a refusal of memory leaves the text.
+    pub fn insert(&mut self, idx: usize, ch: AsciiChar) -> Result<(), AllocError>
+        requires { idx ≤ length self.old.text }
+        ensures ok { OnOk result (self.new.text ≡ insert self.old.text idx (code_of ch)) }
+        ensures err { OnErr result (self.new.text ≡ self.old.text) }
+        ensures capacity { self.old.capacity ≤ self.new.capacity }
+        ensures succeeds { length self.old.text + 1 ≤ self.old.capacity → IsOk result }
+    {
+        self.bytes.insert(idx, ch.as_byte())?;
+        Ok(())
+    }
+
+    /// Puts a view before the position `idx`; at the length it is appended. It is never refused where
+    /// the longer text fits the capacity; a refusal of memory leaves the text.
+    pub fn insert_str(&mut self, idx: usize, view: AsciiStr<'_>) -> Result<(), AllocError>
+        requires { idx ≤ length self.old.text }
+        ensures ok { OnOk result (self.new.text ≡ insert_text self.old.text idx (text_of view.entry)) }
+        ensures err { OnErr result (self.new.text ≡ self.old.text) }
+        ensures capacity { self.old.capacity ≤ self.new.capacity }
+        ensures succeeds { length self.old.text + length (text_of view.entry) ≤ self.old.capacity → IsOk result }
+    {
+        insert_bytes(&mut self.bytes, idx, view.as_bytes())?;
+        Ok(())
+    }
+
+    /// Takes out the character at a position from 0 that is under the length.
+    pub fn remove(&mut self, idx: usize) -> AsciiChar
+        requires { idx < length self.old.text }
+        ensures removed { code_of result ≡ slice_index self.old.text idx }
+        ensures text { self.new.text ≡ remove self.old.text idx }
+        ensures capacity { self.new.capacity ≡ self.old.capacity }
+    {
+        AsciiChar::from_ascii_unchecked(self.bytes.remove(idx))
+    }
+
+    /// Takes off the last character, or answers `None` of the empty text.
+    #[inline]
+    pub fn pop(&mut self) -> Option<AsciiChar>
+        ensures popped { option_map code_of result ≡ slice_get self.old.text (length self.old.text - 1) }
+        ensures text { self.new.text ≡ take (length self.old.text - 1) self.old.text }
+        ensures capacity { self.new.capacity ≡ self.old.capacity }
+    {
+        let byte = self.bytes.pop()?;
+        Some(AsciiChar::from_ascii_unchecked(byte))
+    }
+
+    /// Keeps the first `n` characters, or all where there are fewer.
+    #[inline]
+    pub fn truncate(&mut self, n: usize)
+        ensures text { self.new.text ≡ take n self.old.text }
+        ensures capacity { self.new.capacity ≡ self.old.capacity }
+    {
+        self.bytes.truncate(n);
+    }
+
+    /// Takes off all characters. The capacity stays.
+    #[inline]
+    pub fn clear(&mut self)
+        ensures text { self.new.text ≡ [] }
+        ensures capacity { self.new.capacity ≡ self.old.capacity }
+    {
+        self.bytes.clear();
+    }
+
+    /// Puts a character in the place of the one at a position from 0 that is under the length.
+    #[inline]
+    pub fn set(&mut self, i: usize, ch: AsciiChar)
+        requires { i < length self.old.text }
+        ensures text { self.new.text ≡ slice_set self.old.text i (code_of ch) }
+        ensures capacity { self.new.capacity ≡ self.old.capacity }
+    {
+        self.bytes[i] = ch.as_byte();
+    }
+
+    /// Changes `a` to `z` to `A` to `Z`, and leaves every other character.
+    pub fn make_ascii_uppercase(&mut self)
+        ensures text { self.new.text ≡ map upper_image self.old.text }
+        ensures capacity { self.new.capacity ≡ self.old.capacity }
+    {
+        kernels::upper_in_place(&mut self.bytes);
+    }
+
+    /// Changes `A` to `Z` to `a` to `z`, and leaves every other character.
+    pub fn make_ascii_lowercase(&mut self)
+        ensures text { self.new.text ≡ map lower_image self.old.text }
+        ensures capacity { self.new.capacity ≡ self.old.capacity }
+    {
+        kernels::lower_in_place(&mut self.bytes);
     }
 
     /// The number of characters, which is the number of bytes.
@@ -64,24 +258,124 @@ impl<A: Allocator> AsciiString<A> {
     {
         self.bytes.is_empty()
     }
+}
 
-    /// The number of bytes that the text can have before it has to grow.
-    #[inline]
-    pub fn capacity(&self) -> usize
-        ensures capacity { result ≡ self.now.capacity }
-    {
-        self.bytes.capacity()
+/// Puts bytes before the position `idx`, or leaves the bytes where memory is refused.
+fn insert_bytes<A: Allocator>(
+    bytes: &mut Vec<u8, A>,
+    idx: usize,
+    piece: &[u8],
+) -> Result<(), AllocError>
+    requires { idx ≤ vec_len bytes.old }
+    ensures ok { OnOk result (bytes.new.items ≡ insert_text bytes.old.items idx piece.now) }
+    ensures err { OnErr result (bytes.new.items ≡ bytes.old.items) }
+    ensures capacity { vec_capacity bytes.old ≤ vec_capacity bytes.new }
+    ensures succeeds { vec_len bytes.old + length piece.now ≤ vec_capacity bytes.old → IsOk result }
+{
+    bytes.extend_from_slice(piece)?;
+    bytes[idx..].rotate_right(piece.len());
+    Ok(())
+}
+
+impl<A: Allocator + Clone> Clone for AsciiString<A> {
+    ghost is_clone = { λ string copy. copy.text ≡ string.text };
+
+    /// The same text in memory of its own.
+    fn clone(&self) -> Result<AsciiString<A>, AllocError> {
+        Ok(AsciiString {
+            bytes: self.bytes.clone()?,
+        })
     }
+}
 
-    /// Appends a view. It is never refused where the longer text fits the capacity; a refusal of
-    /// memory leaves the text.
-    #[inline]
-    pub fn push_str(&mut self, view: AsciiStr<'_>) -> Result<(), AllocError>
-        ensures ok { OnOk result (self.new.text ≡ self.old.text ++ text_of view.entry) }
-        ensures err { OnErr result (self.new.text ≡ self.old.text) }
-        ensures capacity { self.old.capacity ≤ self.new.capacity }
-        ensures succeeds { length self.old.text + length (text_of view.entry) ≤ self.old.capacity → IsOk result }
-    {
-        self.bytes.extend_from_slice(view.as_bytes())
+impl<A: Allocator> PartialEq for AsciiString<A> {
+    ghost use Rattle.std.specs.Prelude.{◌==◌};
+    ghost use Rattle.std.specs.Ordering.{on};
+    ghost use Rattle.std.specs.Cmp.Lexicographic.{pointwise};
+    ghost use Rattle.std.specs.Cmp.Rules.{comparing};
+    ghost use Rattle.std.proofs.Common.{rules};
+
+    ghost eq = { on (λ string. string.text) (pointwise ◌==◌) };
+
+    ghost laws = { Prim.search (comparing, rules) };
+
+    fn eq(&self, other: &AsciiString<A>) -> bool {
+        self.as_ascii_str() == other.as_ascii_str()
+    }
+}
+
+impl<A: Allocator> Eq for AsciiString<A> {
+    ghost use Rattle.std.specs.Cmp.Rules.{comparing};
+    ghost use Rattle.std.proofs.Common.{rules};
+
+    ghost laws = { Prim.search (comparing, rules) };
+}
+
+impl<A: Allocator> PartialOrd for AsciiString<A> {
+    ghost use Rattle.std.specs.Ordering.{as_partial_cmp, nat_cmp, on};
+    ghost use Rattle.std.specs.Cmp.Lexicographic.{slice_cmp};
+    ghost use Rattle.std.specs.Cmp.{partial_order_from_own_ties};
+    ghost use Rattle.std.specs.Cmp.Rules.{comparing};
+    ghost use Rattle.std.proofs.Common.{rules};
+
+    ghost partial_cmp = { as_partial_cmp (on (λ string. string.text) (slice_cmp nat_cmp)) };
+
+    ghost laws = { partial_order_from_own_ties (Prim.search (comparing, rules)) (Prim.search (comparing, rules)) };
+
+    fn partial_cmp(&self, other: &AsciiString<A>) -> Option<Ordering> {
+        Some(self.cmp(other))
+    }
+}
+
+impl<A: Allocator> Ord for AsciiString<A> {
+    ghost use Rattle.std.specs.Ordering.{nat_cmp, on};
+    ghost use Rattle.std.specs.Cmp.Lexicographic.{slice_cmp};
+    ghost use Rattle.std.specs.Cmp.Rules.{comparing};
+    ghost use Rattle.std.proofs.Common.{rules};
+
+    ghost cmp = { on (λ string. string.text) (slice_cmp nat_cmp) };
+
+    ghost total = { Prim.search (comparing, rules) };
+
+    ghost matches_partial_cmp = { Prim.search (comparing, rules) };
+
+    ghost matches_eq = { Prim.search (comparing, rules) };
+
+    fn cmp(&self, other: &AsciiString<A>) -> Ordering {
+        self.as_ascii_str().cmp(&other.as_ascii_str())
+    }
+}
+
+impl<A: Allocator> Hash for AsciiString<A> {
+    ghost use Rattle.std.specs.Hash as fed;
+    ghost use Rattle.std.specs.Cmp.Rules.{hashing};
+    ghost use Rattle.std.proofs.Common.{rules};
+
+    ghost hash_input = { λ string. fed.str string.text };
+
+    ghost respects_eq = { Prim.search (hashing, rules) };
+
+    fn hash<H: Hasher>(&self, state: &mut H) {
+        self.as_ascii_str().as_str().hash(state);
+    }
+}
+
+impl<A: Allocator> From<AsciiString<A>> for Vec<u8, A> {
+    ghost from_gives = { λ string bytes. bytes.items ≡ string.text };
+
+    /// The bytes of the text, in the buffer that it had.
+    fn from(string: AsciiString<A>) -> Vec<u8, A> {
+        string.bytes
+    }
+}
+
+impl<A: Allocator> From<AsciiString<A>> for String<A> {
+    ghost use Rattle.std.specs.String.{string_bytes};
+
+    ghost from_gives = { λ string text. string_bytes text ≡ string.text };
+
+    /// The text as a `String`, in the buffer that it had.
+    fn from(string: AsciiString<A>) -> String<A> {
+        unsafe { String::from_utf8_unchecked(string.bytes) }
     }
 }
