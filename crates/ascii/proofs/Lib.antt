@@ -1,3 +1,4 @@
+pub mod Debugs
 pub mod Slices
 pub mod Texts
 pub mod Trims

@@ -1,7 +1,10 @@
+pub mod Debug
 pub mod Slice
 pub mod Text
 pub mod Trim
 pub mod View
 pub use Rattle.ascii_base.specs.Bytes
+pub use Rattle.ascii_base.specs.Case
+pub use Rattle.ascii_base.specs.Class
 pub use Rattle.ascii_base.specs.Code
 pub use Rattle.ascii_base.specs.Range

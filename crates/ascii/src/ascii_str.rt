@@ -216,6 +216,30 @@ impl<'a> From<AsciiStr<'a>> for &'a [u8] {
     }
 }
 
+impl fmt::Display for AsciiStr<'_> {
+    ghost use Rattle.std.specs.Fmt.{styled_text};
+    ghost use Rattle.ascii.specs.View.{text_of};
+
+    ghost output = { λ view. Some (text_of view) };
+
+    ghost styled_output = { λ view spec. Some (styled_text spec (text_of view)) };
+
+    fn fmt<W: fmt::Write>(&self, f: &mut fmt::Formatter<W>) -> fmt::Result {
+        fmt::Display::fmt(&self.as_str(), f)
+    }
+}
+
+impl fmt::Debug for AsciiStr<'_> {
+    ghost use Rattle.ascii.specs.Debug.{debug_text};
+    ghost use Rattle.ascii.specs.View.{text_of};
+
+    ghost debug_output = { λ view. Some (debug_text (text_of view)) };
+
+    fn fmt<W: fmt::Write>(&self, f: &mut fmt::Formatter<W>) -> fmt::Result {
+        fmt::Debug::fmt(&self.as_str(), f)
+    }
+}
+
 /// A source was refused as ASCII text: its range does not fit, or a byte in its range is over 127.
 #[derive(Clone, Copy, PartialEq, Eq, Debug)]
 pub struct AsAsciiStrError {

@@ -12,6 +12,7 @@ use ascii_base::ascii_char::AsciiChar;
 use ascii_base::kernels;
 use std::alloc::{AllocError, Allocator, Global};
 use std::cmp::Ordering;
+use std::fmt;
 use std::hash::{Hash, Hasher};
 use std::marker::Model;
 
@@ -357,6 +358,30 @@ impl<A: Allocator> Hash for AsciiString<A> {
 
     fn hash<H: Hasher>(&self, state: &mut H) {
         self.as_ascii_str().as_str().hash(state);
+    }
+}
+
+impl<A: Allocator> fmt::Display for AsciiString<A> {
+    ghost use Rattle.std.specs.Prelude.{Some};
+    ghost use Rattle.std.specs.Fmt.{styled_text};
+
+    ghost output = { λ string. Some string.text };
+
+    ghost styled_output = { λ string spec. Some (styled_text spec string.text) };
+
+    fn fmt<W: fmt::Write>(&self, f: &mut fmt::Formatter<W>) -> fmt::Result {
+        fmt::Display::fmt(&self.as_ascii_str(), f)
+    }
+}
+
+impl<A: Allocator> fmt::Debug for AsciiString<A> {
+    ghost use Rattle.std.specs.Prelude.{Some};
+    ghost use Rattle.ascii.specs.Debug.{debug_text};
+
+    ghost debug_output = { λ string. Some (debug_text string.text) };
+
+    fn fmt<W: fmt::Write>(&self, f: &mut fmt::Formatter<W>) -> fmt::Result {
+        fmt::Debug::fmt(&self.as_ascii_str(), f)
     }
 }
 
