@@ -1,4 +1,5 @@
 pub mod Debugs
+pub mod Extends
 pub mod Slices
 pub mod Texts
 pub mod Trims

@@ -1,4 +1,6 @@
 pub mod Debug
+pub mod Extend
+pub mod Refusal
 pub mod Slice
 pub mod Text
 pub mod Trim

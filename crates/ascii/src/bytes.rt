@@ -1,14 +1,18 @@
 //! Views of borrowed bytes.
 
-ghost use Rattle.std.specs.Prelude.{◌≡◌};
+ghost use Rattle.std.specs.Prelude.{◌≡◌, MatchResult};
 ghost use Rattle.std.specs.Str.{IsAscii};
+ghost use Rattle.ascii.specs.Refusal.{RefusesCopy};
 ghost use Rattle.ascii.specs.Slice.{GetsAscii, SliceOutcome};
 ghost use Rattle.ascii.specs.View.{text_of};
 
 use crate::ascii_str::{AsAsciiStrError, AsciiStr};
+use crate::ascii_string::AsciiString;
 use crate::bounds::checked_bounds;
+use crate::from_ascii::{CopyError, FromAsciiError};
 use ascii_base::ascii_char::{AsciiChar, ToAsciiChar};
 use ascii_base::range::AsciiRange;
+use std::alloc::Allocator;
 
 /// The whole source as ASCII text, or the position of its first byte over 127.
 pub fn as_ascii_str(source: &[u8]) -> Result<AsciiStr<'_>, AsAsciiStrError>
@@ -59,4 +63,21 @@ pub fn from_ascii_unchecked(source: &[u8]) -> AsciiStr<'_>
     ensures { text_of result ≡ source.now }
 {
     as_ascii_str_unchecked(source)
+}
+
+/// A copy of the source, or the position of its first byte over 127 with the source itself. The
+/// bytes are checked before memory is asked for; that of no bytes is never refused.
+pub fn to_ascii_string<A: Allocator>(
+    alloc: A,
+    source: &[u8],
+) -> Result<AsciiString<A>, CopyError<&[u8]>>
+    ensures { MatchResult result (λ string. string.text ≡ source.now) (RefusesCopy source.entry source.now) }
+{
+    match as_ascii_str(source) {
+        Ok(view) => match view.to_ascii_string(alloc) {
+            Ok(string) => Ok(string),
+            Err(e) => Err(CopyError::Memory(e)),
+        },
+        Err(error) => Err(CopyError::NotAscii(FromAsciiError { error, source })),
+    }
 }

@@ -6,10 +6,16 @@ pub mod ascii_str;
 pub mod ascii_string;
 mod bounds;
 pub mod bytes;
+mod collects;
+mod copies;
+mod from_ascii;
+pub mod string;
 pub mod text;
+pub mod vec;
 
 pub use ascii_base::ascii_char::{AsciiChar, ToAsciiChar, ToAsciiCharError};
 pub use ascii_base::free_functions::{caret_decode, caret_encode};
 pub use ascii_base::range::AsciiRange;
 pub use ascii_str::{AsAsciiStrError, AsciiStr};
 pub use ascii_string::AsciiString;
+pub use from_ascii::{CopyError, FromAsciiError};

@@ -1,14 +1,18 @@
 //! Views of borrowed text. Positions count bytes, and may fall inside a character.
 
-ghost use Rattle.std.specs.Prelude.{◌≡◌};
+ghost use Rattle.std.specs.Prelude.{◌≡◌, MatchResult};
 ghost use Rattle.std.specs.Str.{IsAscii};
+ghost use Rattle.ascii.specs.Refusal.{RefusesCopy};
 ghost use Rattle.ascii.specs.Slice.{GetsAscii, SliceOutcome};
 ghost use Rattle.ascii.specs.View.{text_of};
 
 use crate::ascii_str::{AsAsciiStrError, AsciiStr};
+use crate::ascii_string::AsciiString;
 use crate::bytes;
+use crate::from_ascii::{CopyError, FromAsciiError};
 use ascii_base::ascii_char::AsciiChar;
 use ascii_base::range::AsciiRange;
+use std::alloc::Allocator;
 
 /// The whole source as ASCII text, or the position of its first byte over 127.
 pub fn as_ascii_str(source: &str) -> Result<AsciiStr<'_>, AsAsciiStrError>
@@ -56,4 +60,21 @@ pub fn from_ascii_unchecked(source: &str) -> AsciiStr<'_>
     ensures { text_of result ≡ source.now }
 {
     as_ascii_str_unchecked(source)
+}
+
+/// A copy of the source, or the position of its first byte over 127 with the source itself. The
+/// bytes are checked before memory is asked for; that of the empty text is never refused.
+pub fn to_ascii_string<A: Allocator>(
+    alloc: A,
+    source: &str,
+) -> Result<AsciiString<A>, CopyError<&str>>
+    ensures { MatchResult result (λ string. string.text ≡ source.now) (RefusesCopy source.entry source.now) }
+{
+    match as_ascii_str(source) {
+        Ok(view) => match view.to_ascii_string(alloc) {
+            Ok(string) => Ok(string),
+            Err(e) => Err(CopyError::Memory(e)),
+        },
+        Err(error) => Err(CopyError::NotAscii(FromAsciiError { error, source })),
+    }
 }

@@ -1,0 +1,27 @@
+-- What a refused conversion hands back.
+use Rattle.std.specs.Prelude.{◌≡◌, ℕ, ◌<◌, List, length}
+use Rattle.std.specs.Str.{IsAscii}
+use Rattle.ascii_base.specs.Bytes.{FirstOther}
+use Rattle.ascii.specs.declared.ascii_str.AsAsciiStrError.{AsAsciiStrError}
+use Rattle.ascii.specs.declared.from_ascii.FromAsciiError.{FromAsciiError}
+use Rattle.ascii.specs.declared.from_ascii.CopyError.{CopyError}
+use Rattle.ascii.specs.declared.from_ascii.CopyError.TheVariants.{NotAscii, Memory}
+use Rattle.ascii.specs.View.{position_of}
+
+-- why a conversion was refused
+abbrev pub ascii_error_of : {O : Type 0} → FromAsciiError O → AsAsciiStrError
+ascii_error_of e = e.error
+
+-- the source that a refusal hands back
+abbrev pub source_of : {O : Type 0} → FromAsciiError O → O
+source_of e = e.source
+
+-- the refusal names the first byte over 127 and has the source itself
+abbrev pub HandsBack : {O : Type 0} → O → List ℕ → FromAsciiError O → Type 0
+HandsBack source bytes e =
+    (source_of e ≡ source) × FirstOther bytes 0 (length bytes) (position_of (ascii_error_of e))
+
+-- a copy is refused for a byte over 127, and for want of memory only where there are bytes, all of them under 128
+abbrev pub RefusesCopy : {O : Type 0} → O → List ℕ → CopyError O → Type 0
+RefusesCopy source bytes (NotAscii e) = HandsBack source bytes e
+RefusesCopy source bytes (Memory e) = IsAscii bytes × (0 < length bytes)

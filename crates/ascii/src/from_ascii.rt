@@ -1,0 +1,62 @@
+//! The refusals of conversions into owned text.
+
+ghost use Rattle.std.specs.Prelude.{◌≡◌, ◌++◌, Some, codes};
+ghost use Rattle.std.specs.Fmt.{decimal};
+
+use crate::ascii_str::AsAsciiStrError;
+use std::alloc::AllocError;
+use std::fmt;
+
+/// A source was refused as ASCII text. It has the source, unchanged.
+#[derive(PartialEq, Eq, Drop)]
+pub struct FromAsciiError<O> {
+    pub(crate) error: AsAsciiStrError,
+    pub(crate) source: O,
+}
+
+impl<O> FromAsciiError<O> {
+    ghost use Rattle.ascii.specs.Refusal.{ascii_error_of, source_of};
+
+    /// Why the source was refused: the position of its first byte over 127.
+    #[inline]
+    pub fn ascii_error(&self) -> AsAsciiStrError
+        ensures { result ≡ ascii_error_of self.now }
+    {
+        self.error
+    }
+
+    /// The source, unchanged.
+    #[inline]
+    pub fn into_source(self) -> O
+        ensures { result ≡ source_of self }
+    {
+        let FromAsciiError { error: _, source } = self;
+        source
+    }
+}
+
+impl<O> fmt::Display for FromAsciiError<O> {
+    ghost use Rattle.ascii.specs.Refusal.{ascii_error_of};
+    ghost use Rattle.ascii.specs.View.{position_of};
+
+    ghost output = { λ e. Some (codes "the byte at index " ++ decimal (position_of (ascii_error_of e)) ++ codes " is not ASCII") };
+
+    fn fmt<W: fmt::Write>(&self, f: &mut fmt::Formatter<W>) -> fmt::Result {
+        fmt::Display::fmt(&self.error, f)
+    }
+}
+
+impl<O> fmt::Debug for FromAsciiError<O> {
+    fn fmt<W: fmt::Write>(&self, f: &mut fmt::Formatter<W>) -> fmt::Result {
+        fmt::Debug::fmt(&self.error, f)
+    }
+}
+
+/// A copy of a source into owned text was refused.
+#[derive(PartialEq, Eq, Debug, Drop)]
+pub enum CopyError<O> {
+    /// A byte of the source is over 127. This is decided before memory is asked for.
+    NotAscii(FromAsciiError<O>),
+    /// Memory was refused.
+    Memory(AllocError),
+}

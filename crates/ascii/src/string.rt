@@ -1,0 +1,36 @@
+//! Owned text out of strings, which keep their buffers.
+
+ghost use Rattle.std.specs.Prelude.{◌≡◌, MatchResult, string_bytes};
+ghost use Rattle.std.specs.String.{string_capacity};
+ghost use Rattle.ascii.specs.Refusal.{HandsBack};
+
+use crate::ascii_str::AsAsciiStrError;
+use crate::ascii_string::AsciiString;
+use crate::from_ascii::FromAsciiError;
+use ascii_base::kernels;
+use std::alloc::Allocator;
+
+/// The string as a text in the same buffer, or the position of its first byte over 127 with the
+/// string itself. It takes no memory.
+pub fn into_ascii_string<A: Allocator>(
+    string: String<A>,
+) -> Result<AsciiString<A>, FromAsciiError<String<A>>>
+    ensures { MatchResult result (λ ascii. (ascii.text ≡ string_bytes string) × (ascii.capacity ≡ string_capacity string)) (HandsBack string (string_bytes string)) }
+{
+    match kernels::first_other(string.as_bytes()) {
+        Some(valid_up_to) => Err(FromAsciiError {
+            error: AsAsciiStrError { valid_up_to },
+            source: string,
+        }),
+        None => Ok(AsciiString::from_ascii_unchecked(string.into_bytes())),
+    }
+}
+
+/// The same as `into_ascii_string`.
+pub fn from_ascii<A: Allocator>(
+    string: String<A>,
+) -> Result<AsciiString<A>, FromAsciiError<String<A>>>
+    ensures { MatchResult result (λ ascii. (ascii.text ≡ string_bytes string) × (ascii.capacity ≡ string_capacity string)) (HandsBack string (string_bytes string)) }
+{
+    into_ascii_string(string)
+}

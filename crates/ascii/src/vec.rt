@@ -1,0 +1,35 @@
+//! Owned text out of vectors of bytes, which keep their buffers.
+
+ghost use Rattle.std.specs.Prelude.{◌≡◌, MatchResult, vec_capacity};
+ghost use Rattle.ascii.specs.Refusal.{HandsBack};
+
+use crate::ascii_str::AsAsciiStrError;
+use crate::ascii_string::AsciiString;
+use crate::from_ascii::FromAsciiError;
+use ascii_base::kernels;
+use std::alloc::Allocator;
+
+/// The bytes as a text in the same buffer, or the position of the first byte over 127 with the
+/// vector itself. It takes no memory.
+pub fn into_ascii_string<A: Allocator>(
+    bytes: Vec<u8, A>,
+) -> Result<AsciiString<A>, FromAsciiError<Vec<u8, A>>>
+    ensures { MatchResult result (λ string. (string.text ≡ bytes.items) × (string.capacity ≡ vec_capacity bytes)) (HandsBack bytes bytes.items) }
+{
+    match kernels::first_other(&bytes) {
+        Some(valid_up_to) => Err(FromAsciiError {
+            error: AsAsciiStrError { valid_up_to },
+            source: bytes,
+        }),
+        None => Ok(AsciiString::from_ascii_unchecked(bytes)),
+    }
+}
+
+/// The same as `into_ascii_string`.
+pub fn from_ascii<A: Allocator>(
+    bytes: Vec<u8, A>,
+) -> Result<AsciiString<A>, FromAsciiError<Vec<u8, A>>>
+    ensures { MatchResult result (λ string. (string.text ≡ bytes.items) × (string.capacity ≡ vec_capacity bytes)) (HandsBack bytes bytes.items) }
+{
+    into_ascii_string(bytes)
+}
