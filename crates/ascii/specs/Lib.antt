@@ -1,3 +1,4 @@
+pub mod Cow
 pub mod Debug
 pub mod Extend
 pub mod Refusal

@@ -8,7 +8,8 @@ ghost use Rattle.ascii.specs.Text.{insert_text};
 ghost use Rattle.ascii.specs.View.{text_of};
 
 use crate::ascii_str::AsciiStr;
-use ascii_base::ascii_char::AsciiChar;
+use crate::text;
+use ascii_base::ascii_char::{AsciiChar, ToAsciiChar};
 use ascii_base::kernels;
 use std::alloc::{AllocError, Allocator, Global};
 use std::cmp::Ordering;
@@ -382,6 +383,51 @@ impl<A: Allocator> fmt::Debug for AsciiString<A> {
 
     fn fmt<W: fmt::Write>(&self, f: &mut fmt::Formatter<W>) -> fmt::Result {
         fmt::Debug::fmt(&self.as_ascii_str(), f)
+    }
+}
+
+impl<A: Allocator> AsciiString<A> {
+    ghost use Rattle.std.specs.Str.{IsAscii};
+
+    /// Appends a character. One past 127, or a refusal of memory, is an error and leaves the text.
+    pub fn write_char(&mut self, ch: char) -> fmt::Result
+        ensures ok { OnOk result (self.new.text ≡ self.old.text ++ ch ∷ []) }
+        ensures ascii { OnOk result (ch < 128) }
+        ensures err { OnErr result (self.new.text ≡ self.old.text) }
+        ensures capacity { self.old.capacity ≤ self.new.capacity }
+        ensures succeeds { ch < 128 → length self.old.text + 1 ≤ self.old.capacity → IsOk result }
+    {
+        let Ok(ch) = ch.to_ascii_char() else {
+            return Err(fmt::Error);
+        };
+        match self.push(ch) {
+            Ok(()) => Ok(()),
+            Err(_) => Err(fmt::Error),
+        }
+    }
+}
+
+impl<A: Allocator> fmt::Write for AsciiString<A> {
+    ghost use Rattle.std.specs.Str.{IsAscii};
+
+    ghost write_str_gives = { λ old bytes new. new.text ≡ old.text ++ bytes };
+
+    /// Appends a text. One with a character past 127, or a refusal of memory, is an error and leaves
+    /// the text: no part of it goes in.
+    fn write_str(&mut self, s: &str) -> fmt::Result
+        ensures ok { IsOk result → self.new.text ≡ self.old.text ++ s.now }
+        ensures ascii { OnOk result (IsAscii s.now) }
+        ensures err { OnErr result (self.new.text ≡ self.old.text) }
+        ensures capacity { self.old.capacity ≤ self.new.capacity }
+        ensures succeeds { IsAscii s.now → length self.old.text + length s.now ≤ self.old.capacity → IsOk result }
+    {
+        let Ok(view) = text::as_ascii_str(s) else {
+            return Err(fmt::Error);
+        };
+        match self.push_str(view) {
+            Ok(()) => Ok(()),
+            Err(_) => Err(fmt::Error),
+        }
     }
 }
 

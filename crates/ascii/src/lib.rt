@@ -5,6 +5,7 @@
 pub mod ascii_str;
 pub mod ascii_string;
 mod bounds;
+mod boxed;
 pub mod bytes;
 mod collects;
 mod copies;
@@ -18,4 +19,5 @@ pub use ascii_base::free_functions::{caret_decode, caret_encode};
 pub use ascii_base::range::AsciiRange;
 pub use ascii_str::{AsAsciiStrError, AsciiStr};
 pub use ascii_string::AsciiString;
+pub use boxed::{BoxedAsciiStr, CowAsciiStr, RcAsciiStr};
 pub use from_ascii::{CopyError, FromAsciiError};

@@ -1,0 +1,10 @@
+-- What a text is that is borrowed or owned.
+use Rattle.std.specs.Prelude.{ℕ, List}
+use Rattle.ascii.specs.declared.boxed.CowAsciiStr.{CowAsciiStr}
+use Rattle.ascii.specs.declared.boxed.CowAsciiStr.TheVariants.{Borrowed, Owned}
+use Rattle.ascii.specs.View.{text_of}
+
+-- the codes, wherever they are
+abbrev pub cow_text : {A : Type 0} → CowAsciiStr A → List ℕ
+cow_text (Borrowed view) = text_of view
+cow_text (Owned string) = string.text

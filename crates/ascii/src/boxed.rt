@@ -1,0 +1,200 @@
+//! Owned text in a box, shared text, and text that is borrowed or owned.
+
+ghost use Rattle.std.specs.Prelude.{◌≡◌, IfErr, IfOk, IsOkAnd};
+ghost use Rattle.std.specs.Box.{boxed_str_bytes};
+ghost use Rattle.ascii.specs.View.{text_of};
+
+use crate::ascii_str::AsciiStr;
+use crate::ascii_string::AsciiString;
+use std::alloc::{AllocError, Allocator, Global};
+use std::boxed::BoxedStr;
+use std::marker::Model;
+use std::rc::RcStr;
+
+/// A text of ASCII characters in a box, which does not grow.
+#[derive(Drop)]
+pub struct BoxedAsciiStr<A: Allocator = Global> {
+    text: BoxedStr<A>,
+}
+
+impl<A: Allocator> Model for BoxedAsciiStr<A> {
+    ghost use Rattle.std.specs.Prelude.{List, ℕ};
+    ghost use Rattle.std.specs.Box.{boxed_str_bytes};
+    ghost use Rattle.std.specs.Str.{IsAscii};
+
+    ghost Value = { List ℕ };
+
+    ghost view = { λ boxed. boxed_str_bytes boxed.text };
+
+    ghost invariant = { λ boxed. IsAscii (boxed_str_bytes boxed.text) };
+}
+
+impl<A: Allocator> BoxedAsciiStr<A> {
+    /// A copy of a view.
+    pub fn from_ascii_str(alloc: A, view: AsciiStr<'_>) -> Result<BoxedAsciiStr<A>, AllocError>
+        ensures { IfOk result (λ boxed. boxed ≡ text_of view.entry) }
+    {
+        Ok(BoxedAsciiStr {
+            text: BoxedStr::from_str(alloc, view.as_str())?,
+        })
+    }
+
+    /// A view of the text.
+    #[inline]
+    pub fn as_ascii_str(&self) -> AsciiStr<'_>
+        ensures { text_of result ≡ self.now }
+    {
+        AsciiStr {
+            bytes: self.text.as_str().as_bytes(),
+        }
+    }
+
+    /// The text as a string that can grow, in the memory that it has. It is never refused.
+    pub fn into_ascii_string(self) -> Result<AsciiString<A>, BoxedAsciiStr<A>>
+        ensures { IsOkAnd result (λ string. string.text ≡ self) }
+    {
+        let bytes = self.text.into_string().into_bytes();
+        Ok(AsciiString::from_ascii_unchecked(bytes))
+    }
+
+    /// The text as a boxed `str`, in the memory that it has.
+    pub fn into_boxed_str(self) -> BoxedStr<A>
+        ensures { boxed_str_bytes result ≡ self }
+    {
+        self.text
+    }
+}
+
+/// A text of ASCII characters that several owners share.
+#[derive(Drop)]
+pub struct RcAsciiStr<A: Allocator = Global> {
+    text: RcStr<A>,
+}
+
+impl<A: Allocator> Model for RcAsciiStr<A> {
+    ghost use Rattle.std.specs.Prelude.{List, ℕ};
+    ghost use Rattle.std.specs.Rc.{rc_str_bytes};
+    ghost use Rattle.std.specs.Str.{IsAscii};
+
+    ghost Value = { List ℕ };
+
+    ghost view = { λ shared. rc_str_bytes shared.text };
+
+    ghost invariant = { λ shared. IsAscii (rc_str_bytes shared.text) };
+}
+
+impl<A: Allocator> RcAsciiStr<A> {
+    /// A copy of a view.
+    pub fn from_ascii_str(alloc: A, view: AsciiStr<'_>) -> Result<RcAsciiStr<A>, AllocError>
+    where
+        A: Clone,
+        ensures { IfOk result (λ shared. shared ≡ text_of view.entry) }
+    {
+        Ok(RcAsciiStr {
+            text: RcStr::from_str(alloc, view.as_str())?,
+        })
+    }
+
+    /// A view of the text.
+    #[inline]
+    pub fn as_ascii_str(&self) -> AsciiStr<'_>
+        ensures { text_of result ≡ self.now }
+    {
+        AsciiStr {
+            bytes: self.text.as_str().as_bytes(),
+        }
+    }
+}
+
+impl<A: Allocator> Clone for RcAsciiStr<A> {
+    ghost is_clone = { λ shared copy. copy ≡ shared };
+
+    /// One more owner of the same text.
+    fn clone(&self) -> Result<RcAsciiStr<A>, AllocError> {
+        Ok(RcAsciiStr {
+            text: self.text.clone()?,
+        })
+    }
+}
+
+impl<A: Allocator> AsciiString<A> {
+    /// The text in a box, in the memory that it has. It is never refused.
+    pub fn into_boxed_ascii_str(self) -> Result<BoxedAsciiStr<A>, AsciiString<A>>
+        ensures { IsOkAnd result (λ boxed. boxed ≡ self.text) }
+    {
+        let text = String::from(self).into_boxed_str();
+        Ok(BoxedAsciiStr { text })
+    }
+
+    /// A shared copy of the text. Where memory is refused the string comes back.
+    pub fn into_rc_ascii_str<B: Allocator + Clone>(
+        self,
+        alloc: B,
+    ) -> Result<RcAsciiStr<B>, AsciiString<A>>
+        ensures ok { IfOk result (λ shared. shared ≡ self.text) }
+        ensures err { IfErr result (λ string. string ≡ self) }
+    {
+        match RcAsciiStr::from_ascii_str(alloc, self.as_ascii_str()) {
+            Ok(shared) => Ok(shared),
+            Err(_) => Err(self),
+        }
+    }
+}
+
+/// A text of ASCII characters that is borrowed or owned.
+#[derive(Drop)]
+pub enum CowAsciiStr<'a, A: Allocator = Global> {
+    /// A view.
+    Borrowed(AsciiStr<'a>),
+    /// A string.
+    Owned(AsciiString<A>),
+}
+
+impl<'a, A: Allocator> CowAsciiStr<'a, A> {
+    ghost use Rattle.ascii.specs.Cow.{cow_text};
+
+    /// A view of the text.
+    pub fn as_ascii_str(&self) -> AsciiStr<'_>
+        ensures { text_of result ≡ cow_text self.now }
+    {
+        match self {
+            CowAsciiStr::Borrowed(view) => *view,
+            CowAsciiStr::Owned(string) => string.as_ascii_str(),
+        }
+    }
+
+    /// The text as a string: the owned one itself, or a copy of the borrowed one. Where memory is
+    /// refused the value comes back.
+    pub fn into_owned(self, alloc: A) -> Result<AsciiString<A>, CowAsciiStr<'a, A>>
+        ensures ok { IfOk result (λ string. string.text ≡ cow_text self.entry) }
+        ensures err { IfErr result (λ cow. cow ≡ self.entry) }
+    {
+        match self {
+            CowAsciiStr::Owned(string) => Ok(string),
+            CowAsciiStr::Borrowed(view) => match view.to_ascii_string(alloc) {
+                Ok(string) => Ok(string),
+                Err(_) => Err(CowAsciiStr::Borrowed(view)),
+            },
+        }
+    }
+}
+
+impl<'a, A: Allocator> From<AsciiStr<'a>> for CowAsciiStr<'a, A> {
+    ghost use Rattle.ascii.specs.declared.boxed.CowAsciiStr.TheVariants.{Borrowed};
+
+    ghost from_gives = { λ view cow. cow ≡ Borrowed view };
+
+    fn from(view: AsciiStr<'a>) -> CowAsciiStr<'a, A> {
+        CowAsciiStr::Borrowed(view)
+    }
+}
+
+impl<'a, A: Allocator> From<AsciiString<A>> for CowAsciiStr<'a, A> {
+    ghost use Rattle.ascii.specs.declared.boxed.CowAsciiStr.TheVariants.{Owned};
+
+    ghost from_gives = { λ string cow. cow ≡ Owned string };
+
+    fn from(string: AsciiString<A>) -> CowAsciiStr<'a, A> {
+        CowAsciiStr::Owned(string)
+    }
+}
