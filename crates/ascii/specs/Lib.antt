@@ -1,6 +1,9 @@
 pub mod Cow
 pub mod Debug
+pub mod Ends
 pub mod Extend
+pub mod Lines
+pub mod Pieces
 pub mod Refusal
 pub mod Slice
 pub mod Text

@@ -10,6 +10,7 @@ pub mod bytes;
 mod collects;
 mod copies;
 mod from_ascii;
+pub mod iter;
 pub mod string;
 pub mod text;
 pub mod vec;

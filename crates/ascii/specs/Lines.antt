@@ -1,0 +1,61 @@
+-- The lines of a text.
+use Rattle.std.specs.Prelude.{◌≡◌, ◌≢◌, ℕ, ◌-◌, List, [], ◌∷◌, ◌++◌, ◌⊎◌, length, take, slice_get, cond, Bool, ◌==◌, Some, None, Option, is_none, map}
+use Rattle.std.specs.List.{All, Contains, flat_map, slice_split}
+
+-- a line: its body, and the bytes of the ending behind it
+pub record Line : Type 0 where
+  pub body : List ℕ
+  pub ending : List ℕ
+
+-- the ending LF
+abbrev pub lf : List ℕ
+lf = 10 ∷ []
+
+-- the ending CR LF
+abbrev pub cr_lf : List ℕ
+cr_lf = 13 ∷ 10 ∷ []
+
+-- the body ends in CR
+abbrev pub EndsInCr : List ℕ → Type 0
+EndsInCr body = slice_get body (length body - 1) ≡ Some 13
+
+-- LF stands only behind a body that does not end in CR, and no ending only behind a body that is not empty
+abbrev pub MayEnd : Line → Type 0
+MayEnd line = ((line.ending ≡ lf) × (¬ (EndsInCr line.body))) ⊎ (line.ending ≡ cr_lf) ⊎ ((line.ending ≡ []) × (line.body ≢ []))
+
+-- the bytes of a line
+abbrev pub line_text : Line → List ℕ
+line_text line = line.body ++ line.ending
+
+-- bodies without LF, each with an ending that it may have, all but the last with one, that in order give the text
+pub record LinesOf (text : List ℕ) (lines : List Line) : Type 0 where
+  pub bodies : All (λ line. ¬ (Contains line.body 10)) lines
+  pub endings : All MayEnd lines
+  pub ended : All (λ line. line.ending ≢ []) (take (length lines - 1) lines)
+  pub joined : flat_map line_text lines ≡ text
+
+-- the bodies, which are what the lines hand out
+abbrev pub bodies : List Line → List (List ℕ)
+bodies lines = map (λ line. line.body) lines
+
+-- one way to find the lines of a text: `lines` ensures that they are in `LinesOf`, and that no others are
+abbrev pub last_is_cr : List ℕ → Bool
+last_is_cr [] = 0 == 1
+last_is_cr (x ∷ []) = x == 13
+last_is_cr (x ∷ y ∷ ys) = last_is_cr (y ∷ ys)
+
+-- the line of what stands before a LF
+abbrev pub ended_line : List ℕ → Line
+ended_line piece = cond (last_is_cr piece)
+    (record { body = take (length piece - 1) piece; ending = cr_lf })
+    (record { body = piece; ending = lf })
+
+-- the lines of the pieces at LF: the last has no LF behind it, and is no line where it is empty
+abbrev pub lines_of_pieces : List (List ℕ) → List Line
+lines_of_pieces [] = []
+lines_of_pieces ([] ∷ []) = []
+lines_of_pieces ((x ∷ xs) ∷ []) = record { body = x ∷ xs; ending = [] } ∷ []
+lines_of_pieces (piece ∷ next ∷ others) = ended_line piece ∷ lines_of_pieces (next ∷ others)
+
+abbrev pub lines_of : List ℕ → List Line
+lines_of text = lines_of_pieces (slice_split (λ code. code == 10) text)
