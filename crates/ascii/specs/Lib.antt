@@ -4,6 +4,7 @@ pub mod Ends
 pub mod Extend
 pub mod Lines
 pub mod Pieces
+pub mod Places
 pub mod Refusal
 pub mod Slice
 pub mod Text
