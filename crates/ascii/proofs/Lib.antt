@@ -1,5 +1,6 @@
 pub mod Debugs
 pub mod Extends
+pub mod Lining
 pub mod Slices
 pub mod Splits
 pub mod Texts

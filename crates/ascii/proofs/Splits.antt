@@ -64,7 +64,7 @@ pub rest_is : {X : Type 0} (xs : List X) (k : ℕ) → take (length xs - k) (dro
 rest_is xs k = grind (arith, common_steps)
 
 -- a separator is one
-is_on : (on : ℕ) → eqb on on ≡ true
+pub is_on : (on : ℕ) → eqb on on ≡ true
 is_on on = grind (arith, nat_tests)
 
 -- a list round the element at a place
@@ -103,7 +103,7 @@ onto_first-free on x (part ∷ parts) is free =
     (All-cons (λ code. eqb code on ≡ false) x part is (All-head (Free on) part parts free))
     (All-tail (Free on) part parts free)
 
-all_free : (on : ℕ) (t : List ℕ) → All (Free on) (pieces_of on t)
+pub all_free : (on : ℕ) (t : List ℕ) → All (Free on) (pieces_of on t)
 all_free on [] = All-cons (Free on) [] [] (All-nil (λ code. eqb code on ≡ false)) (All-nil (Free on))
 all_free on (x ∷ xs) =
     let p : ℕ → Bool = λ code. eqb code on in

@@ -1,6 +1,7 @@
 -- The lines of a text.
-use Rattle.std.specs.Prelude.{◌≡◌, ◌≢◌, ℕ, ◌-◌, List, [], ◌∷◌, ◌++◌, ◌⊎◌, length, take, slice_get, cond, Bool, ◌==◌, Some, None, Option, is_none, map}
-use Rattle.std.specs.List.{All, Contains, flat_map, slice_split}
+use Rattle.std.specs.Prelude.{◌≡◌, ◌≢◌, ℕ, ◌-◌, List, [], ◌∷◌, ◌++◌, ◌⊎◌, length, take, slice_get, slice_index_or, cond, Bool, ◌==◌, Some, map}
+use Rattle.std.specs.List.{All, Contains, flat_map}
+use Rattle.ascii.specs.Pieces.{pieces_of}
 
 -- a line: its body, and the bytes of the ending behind it
 pub record Line : Type 0 where
@@ -21,7 +22,7 @@ EndsInCr body = slice_get body (length body - 1) ≡ Some 13
 
 -- LF stands only behind a body that does not end in CR, and no ending only behind a body that is not empty
 abbrev pub MayEnd : Line → Type 0
-MayEnd line = ((line.ending ≡ lf) × (¬ (EndsInCr line.body))) ⊎ (line.ending ≡ cr_lf) ⊎ ((line.ending ≡ []) × (line.body ≢ []))
+MayEnd line = ((line.ending ≡ lf) × (¬ (EndsInCr line.body))) ⊎ ((line.ending ≡ cr_lf) ⊎ ((line.ending ≡ []) × (line.body ≢ [])))
 
 -- the bytes of a line
 abbrev pub line_text : Line → List ℕ
@@ -38,24 +39,35 @@ pub record LinesOf (text : List ℕ) (lines : List Line) : Type 0 where
 abbrev pub bodies : List Line → List (List ℕ)
 bodies lines = map (λ line. line.body) lines
 
--- one way to find the lines of a text: `lines` ensures that they are in `LinesOf`, and that no others are
-abbrev pub last_is_cr : List ℕ → Bool
-last_is_cr [] = 0 == 1
-last_is_cr (x ∷ []) = x == 13
-last_is_cr (x ∷ y ∷ ys) = last_is_cr (y ∷ ys)
+-- the body ends in CR, as a test
+abbrev pub ends_in_cr : List ℕ → Bool
+ends_in_cr body = slice_index_or body (length body - 1) 0 == 13
 
 -- the line of what stands before a LF
 abbrev pub ended_line : List ℕ → Line
-ended_line piece = cond (last_is_cr piece)
+ended_line piece = cond (ends_in_cr piece)
     (record { body = take (length piece - 1) piece; ending = cr_lf })
     (record { body = piece; ending = lf })
 
--- the lines of the pieces at LF: the last has no LF behind it, and is no line where it is empty
+-- the line of what stands behind the last LF, which is none where nothing does
+abbrev pub open_line : List ℕ → List Line
+open_line [] = []
+open_line (x ∷ xs) = record { body = x ∷ xs; ending = [] } ∷ []
+
+-- the lines of the pieces at LF
 abbrev pub lines_of_pieces : List (List ℕ) → List Line
 lines_of_pieces [] = []
-lines_of_pieces ([] ∷ []) = []
-lines_of_pieces ((x ∷ xs) ∷ []) = record { body = x ∷ xs; ending = [] } ∷ []
+lines_of_pieces (piece ∷ []) = open_line piece
 lines_of_pieces (piece ∷ next ∷ others) = ended_line piece ∷ lines_of_pieces (next ∷ others)
 
+-- one way to find the lines of a text: `lines` ensures that they are in `LinesOf`, and that no others are
 abbrev pub lines_of : List ℕ → List Line
-lines_of text = lines_of_pieces (slice_split (λ code. code == 10) text)
+lines_of text = lines_of_pieces (pieces_of 10 text)
+
+-- the first line of a text, of which this is the body, and what is left
+abbrev pub IsFirstLine : List ℕ → List ℕ → List ℕ → Type 0
+IsFirstLine text body rest = (line : Line) × (lines_of text ≡ line ∷ lines_of rest) × (line.body ≡ body)
+
+-- the last line of a text, of which this is the body, and what is left
+abbrev pub IsLastLine : List ℕ → List ℕ → List ℕ → Type 0
+IsLastLine text body rest = (line : Line) × (lines_of text ≡ lines_of rest ++ line ∷ []) × (line.body ≡ body)
