@@ -11,7 +11,11 @@ use std::cmp::Ordering;
 use std::fmt;
 use std::hash::{Hash, Hasher};
 
-/// A character of US-ASCII, one byte wide.
+/// A character of US-ASCII, one byte wide. The number of a variant is its code.
+///
+/// Letters and digits have their own names, all others a word or, among the controls, their
+/// abbreviation. Three abbreviations differ from those of US-ASCII: 2 is `SOX` (there STX), 14 is `SI`
+/// (there SO) and 15 is `SO` (there SI).
 ///
 /// ```text
 /// AsciiChar::A.as_byte()    // 65
