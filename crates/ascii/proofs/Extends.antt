@@ -1,5 +1,5 @@
 -- The end of an extend where memory was refused.
-use Rattle.std.proofs.Common.{◌≡◌, ℕ, ◌+◌, ◌<◌, ◌≤◌, List, [], ◌∷◌, ◌++◌, length, Option, None, Some, Err, MatchResult, Result, arith, append_assoc, length-append, ap, ◌∙◌, sym, subst}
+use Rattle.std.proofs.Common.{◌≡◌, ℕ, ◌+◌, ◌<◌, ◌≤◌, List, [], ◌∷◌, ◌++◌, length, Option, None, Some, Err, MatchResult, Result, arith, length-append, ◌∙◌, sym, subst}
 use Rattle.std.specs.Iterator.{Yields}
 use Rattle.std.specs.List.{flat_map}
 use Rattle.std.specs.declared.alloc.AllocError.{AllocError}

@@ -1,8 +1,8 @@
 -- The lines of a text are one list, and how it breaks at either end.
-use Rattle.std.proofs.Common.{append-nil, ◌≡◌, ◌≢◌, ℕ, zero, suc, ◌+◌, ◌-◌, ◌<◌, ◌≤◌, ◌⊎◌, Bool, true, false, eqb, cond, List, [], ◌∷◌, ◌++◌, length, get_or, take, drop, map, refl, sym, ap, ◌∙◌, subst, arith, eqb-true, add-one, length-append, append_assoc, inl, inr, Some, None, ⊎_elim}
-use Rattle.std.specs.List.{All, Contains, flat_map, slice_split, slice_get, join_with_byte}
+use Rattle.std.proofs.Common.{append-nil, ◌≡◌, ◌≢◌, ℕ, suc, ◌+◌, ◌-◌, ◌<◌, Bool, true, false, eqb, cond, List, [], ◌∷◌, ◌++◌, length, get_or, take, drop, map, refl, sym, ap, ◌∙◌, subst, arith, eqb-true, length-append, append_assoc, inl, inr, Some, ⊎_elim}
+use Rattle.std.specs.List.{All, Contains, flat_map, join_with_byte}
 use Rattle.std.proofs.lemmas.List.Splits.{join_with_byte-slice_split}
-use Rattle.std.proofs.lemmas.List.Elements.{All-cons, All-head, All-tail, All-nil, All-from_get_or, All-get_or, All-take, All-append}
+use Rattle.std.proofs.lemmas.List.Elements.{All-cons, All-head, All-tail, All-nil, All-take, All-append}
 use Rattle.std.proofs.lemmas.Bool.{cases_lt, false≢true}
 use Rattle.std.proofs.lemmas.Option.{get_or_from_slice_get, slice_get-get_or}
 use Rattle.std.proofs.Math.Seq.{take-length}
@@ -10,7 +10,7 @@ use Rattle.std.proofs.lemmas.List.{take_more}
 use Rattle.std.proofs.lemmas.List.Splits.{slice_split_at}
 use Rattle.std.proofs.lemmas.Bool.Decides.{nat_tests}
 use Rattle.std.proofs.lemmas.Grind.{common_steps}
-use Rattle.ascii.specs.Lines.{Line, lf, cr_lf, EndsInCr, MayEnd, line_text, LinesOf, ends_in_cr, ended_line, open_line, lines_of_pieces, lines_of, IsFirstLine, IsLastLine}
+use Rattle.ascii.specs.Lines.{Line, lf, cr_lf, EndsInCr, MayEnd, line_text, LinesOf, ends_in_cr, ended_line, open_line, lines_of_pieces, lines_of}
 use Rattle.ascii.specs.Pieces.{pieces_of}
 use Rattle.ascii.specs.Places.{Free, IsFirstPlace, IsLastStart}
 use Rattle.ascii.proofs.Splits.{slice_split-some, slice_split-joint, pieces_of_front, pieces_of_none, rest_is, is_on, around, Free-from_absent, absent-from_Free, all_free}
@@ -36,9 +36,9 @@ pub lines_of-joint : (a b : List ℕ) → lines_of (a ++ 10 ∷ b) ≡ lines_of 
 lines_of-joint a b =
     let p : ℕ → Bool = λ code. eqb code 10 in
     let whole : lines_of (a ++ 10 ∷ b) ≡ map ended_line (pieces_of 10 a) ++ lines_of b =
-      ap lines_of_pieces (slice_split-joint p a 10 b (is_on 10)) ∙ lines_of_pieces-append (pieces_of 10 a) (pieces_of 10 b) (slice_split-some p b) in
+    ap lines_of_pieces (slice_split-joint p a 10 b (is_on 10)) ∙ lines_of_pieces-append (pieces_of 10 a) (pieces_of 10 b) (slice_split-some p b) in
     let front : lines_of (a ++ 10 ∷ []) ≡ map ended_line (pieces_of 10 a) ++ [] =
-      ap lines_of_pieces (slice_split-joint p a 10 [] (is_on 10)) ∙ lines_of_pieces-append (pieces_of 10 a) (pieces_of 10 []) (slice_split-some p []) in
+    ap lines_of_pieces (slice_split-joint p a 10 [] (is_on 10)) ∙ lines_of_pieces-append (pieces_of 10 a) (pieces_of 10 []) (slice_split-some p []) in
     whole ∙ sym (ap (λ ls. ls ++ lines_of b) (front ∙ append-nil (map ended_line (pieces_of 10 a))))
 
 -- a text without LF
@@ -55,7 +55,7 @@ pub first_line_at : (t : List ℕ) (k : ℕ) → IsFirstPlace 10 t k
 first_line_at t k first =
     ap lines_of_pieces (pieces_of_front 10 t k first.inside first.here first.free)
     ∙ lines_of_pieces-cons (take k t) (pieces_of 10 (take (length t - (k + 1)) (drop (k + 1) t)))
-        (slice_split-some (λ code. eqb code 10) (take (length t - (k + 1)) (drop (k + 1) t)))
+    (slice_split-some (λ code. eqb code 10) (take (length t - (k + 1)) (drop (k + 1) t)))
 
 -- the last line begins where the last piece of what stands before its ending does
 pub last_line_at : (r e : List ℕ) (start : ℕ) → IsLastStart 10 r start
@@ -63,24 +63,24 @@ pub last_line_at : (r e : List ℕ) (start : ℕ) → IsLastStart 10 r start
 last_line_at r e start last =
     let Goal : ℕ → Type 0 = λ n. lines_of (r ++ e) ≡ lines_of (take n r) ++ lines_of (take (length r - n) (drop n r) ++ e) in
     ⊎_elim
-      (λ positive.
-        let k = start - 1 in
-        let next : k + 1 ≡ start = omega arith in
-        let d = drop (k + 1) r in
-        let place : k < length r = omega arith in
-        let here : get_or r k 0 ≡ 10 = last.before positive in
-        let parts : r ≡ take k r ++ 10 ∷ d = around r k 10 0 place here in
-        let front : take (k + 1) r ≡ take k r ++ 10 ∷ [] = rw (take_more r k 0 place, here) refl in
-        subst Goal next
-          (ap (λ xs. lines_of (xs ++ e)) parts
-          ∙ (ap lines_of (append_assoc (take k r) (10 ∷ d) e)
-          ∙ (lines_of-joint (take k r) (d ++ e)
-          ∙ (ap (λ xs. lines_of xs ++ lines_of (d ++ e)) (sym front)
-          ∙ ap (λ xs. lines_of (take (k + 1) r) ++ lines_of (xs ++ e)) (sym (rest_is r (k + 1))))))))
-      (λ none.
-        let zero_is : 0 ≡ start = omega arith in
-        subst Goal zero_is (sym (ap (λ d. lines_of (d ++ e)) (rest_is r 0))))
-      (cases_lt 0 start)
+    (λ positive.
+    let k = start - 1 in
+    let next : k + 1 ≡ start = omega arith in
+    let d = drop (k + 1) r in
+    let place : k < length r = omega arith in
+    let here : get_or r k 0 ≡ 10 = last.before positive in
+    let parts : r ≡ take k r ++ 10 ∷ d = around r k 10 0 place here in
+    let front : take (k + 1) r ≡ take k r ++ 10 ∷ [] = rw (take_more r k 0 place, here) refl in
+    subst Goal next
+    (ap (λ xs. lines_of (xs ++ e)) parts
+    ∙ (ap lines_of (append_assoc (take k r) (10 ∷ d) e)
+    ∙ (lines_of-joint (take k r) (d ++ e)
+    ∙ (ap (λ xs. lines_of xs ++ lines_of (d ++ e)) (sym front)
+    ∙ ap (λ xs. lines_of (take (k + 1) r) ++ lines_of (xs ++ e)) (sym (rest_is r (k + 1))))))))
+    (λ none.
+    let zero_is : 0 ≡ start = omega arith in
+    subst Goal zero_is (sym (ap (λ d. lines_of (d ++ e)) (rest_is r 0))))
+    (cases_lt 0 start)
 
 -- ---- the line before a LF
 
@@ -92,7 +92,7 @@ ended_cases p P with_cr without_cr =
     let at_cr : Line = record { body = take (length p - 1) p; ending = cr_lf } in
     let at_lf : Line = record { body = p; ending = lf } in
     let decide : (b : Bool) → ends_in_cr p ≡ b → P (cond b at_cr at_lf) =
-      λ b. elim b as (λ v. ends_in_cr p ≡ v → P (cond v at_cr at_lf)) [ | true ↦ with_cr | false ↦ without_cr ] in
+    λ b. elim b as (λ v. ends_in_cr p ≡ v → P (cond v at_cr at_lf)) [ true ↦ with_cr | false ↦ without_cr ] in
     decide (ends_in_cr p) refl
 
 -- a text that ends in CR
@@ -115,9 +115,12 @@ line_text-ended p = ended_cases p (λ line. line_text line ≡ p ++ 10 ∷ [])
 MayEnd-ended : (p : List ℕ) → MayEnd (ended_line p)
 MayEnd-ended p = ended_cases p MayEnd
     (λ is. inr (inl refl))
-    (λ is. inl (refl, (λ ends.
-        let here : get_or p (length p - 1) 0 ≡ 13 = get_or_from_slice_get p (length p - 1) 13 0 ends in
-        absurd (false≢true (sym is ∙ (ap (λ c. eqb c 13) here ∙ is_on 13))))))
+    (λ is. inl (
+      refl,
+      (λ ends.
+          let here : get_or p (length p - 1) 0 ≡ 13 = get_or_from_slice_get p (length p - 1) 13 0 ends in
+          absurd (false≢true (sym is ∙ (ap (λ c. eqb c 13) here ∙ is_on 13)))),
+    ))
 
 ended_line-has : (p : List ℕ) → (ended_line p).ending ≢ []
 ended_line-has p = ended_cases p (λ line. line.ending ≢ []) (λ is none. cc) (λ is none. cc)
@@ -136,8 +139,8 @@ all_absent ((x ∷ xs) ∷ []) free =
     All-cons (λ one. ¬ (Contains one.body 10)) line [] (absent-from_Free 10 (x ∷ xs) (All-head (Free 10) (x ∷ xs) [] free)) (All-nil (λ one. ¬ (Contains one.body 10)))
 all_absent (p ∷ q ∷ qs) free =
     All-cons (λ line. ¬ (Contains line.body 10)) (ended_line p) (lines_of_pieces (q ∷ qs))
-      (absent-from_Free 10 ((ended_line p).body) (body-free p (All-head (Free 10) p (q ∷ qs) free)))
-      (all_absent (q ∷ qs) (All-tail (Free 10) p (q ∷ qs) free))
+    (absent-from_Free 10 ((ended_line p).body) (body-free p (All-head (Free 10) p (q ∷ qs) free)))
+    (all_absent (q ∷ qs) (All-tail (Free 10) p (q ∷ qs) free))
 
 all_end : (ps : List (List ℕ)) → All MayEnd (lines_of_pieces ps)
 all_end [] = All-nil MayEnd
@@ -158,7 +161,7 @@ ended_front : (line : Line) (lines : List Line) → line.ending ≢ [] → All (
 ended_front line [] has others = All-nil (λ one. one.ending ≢ [])
 ended_front line (next ∷ more) has others =
     subst (All (λ (one : Line). one.ending ≢ [])) (sym (front_is line next more))
-      (All-cons (λ one. one.ending ≢ []) line (take (length (next ∷ more) - 1) (next ∷ more)) has others)
+    (All-cons (λ one. one.ending ≢ []) line (take (length (next ∷ more) - 1) (next ∷ more)) has others)
 
 all_ended : (ps : List (List ℕ)) → All (λ line. line.ending ≢ []) (take (length (lines_of_pieces ps) - 1) (lines_of_pieces ps))
 all_ended [] = All-nil (λ line. line.ending ≢ [])
@@ -178,19 +181,19 @@ all_joined (p ∷ q ∷ qs) some =
 -- the lines found are in the relation
 pub LinesOf-lines_of : (t : List ℕ) → LinesOf t (lines_of t)
 LinesOf-lines_of t = record {
-    bodies = all_absent (pieces_of 10 t) (all_free 10 t);
-    endings = all_end (pieces_of 10 t);
-    ended = all_ended (pieces_of 10 t);
-    joined = all_joined (pieces_of 10 t) (slice_split-some (λ code. eqb code 10) t) ∙ join_with_byte-slice_split 10 t;
-  }
+  bodies = all_absent (pieces_of 10 t) (all_free 10 t);
+  endings = all_end (pieces_of 10 t);
+  ended = all_ended (pieces_of 10 t);
+  joined = all_joined (pieces_of 10 t) (slice_split-some (λ code. eqb code 10) t) ∙ join_with_byte-slice_split 10 t;
+}
 
 -- a body that does not end in CR, before LF
 same_lf : (line : Line) → line.ending ≡ lf → ¬ (EndsInCr line.body) → ended_line line.body ≡ line
 same_lf line is not_cr =
     let make : List ℕ → Line = λ e. record { body = line.body; ending = e } in
     ended_cases line.body (λ one. one ≡ line)
-      (λ cr. absurd (not_cr (ends line.body cr)))
-      (λ other. ap make (sym is))
+    (λ cr. absurd (not_cr (ends line.body cr)))
+    (λ other. ap make (sym is))
   where
     ends : (p : List ℕ) → ends_in_cr p ≡ true → EndsInCr p
     ends [] cr = absurd (false≢true cr)
@@ -207,8 +210,8 @@ same_cr line is =
     let here : get_or p (length p - 1) 0 ≡ 13 = grind (arith, common_steps) in
     let make : List ℕ → List ℕ → Line = λ b e. record { body = b; ending = e } in
     ended_cases p (λ one. one ≡ line)
-      (λ cr. ap (λ b. make b cr_lf) front ∙ ap (make line.body) (sym is))
-      (λ other. absurd (false≢true (sym other ∙ (ap (λ c. eqb c 13) here ∙ is_on 13))))
+    (λ cr. ap (λ b. make b cr_lf) front ∙ ap (make line.body) (sym is))
+    (λ other. absurd (false≢true (sym other ∙ (ap (λ c. eqb c 13) here ∙ is_on 13))))
 
 -- what stands before the LF of a line that has one
 piece_of : (line : Line) → ¬ (Contains line.body 10) → MayEnd line → line.ending ≢ []
@@ -218,12 +221,14 @@ piece_of line absent may has =
     elim may [
       | inl at_lf ↦ (line.body, free, ap (λ e. line.body ++ e) at_lf.0, same_lf line at_lf.0 at_lf.1)
       | inr more ↦ elim more [
-          | inl at_cr ↦ (line.body ++ 13 ∷ [],
-              All-append (λ code. eqb code 10 ≡ false) line.body (13 ∷ []) free (All-cons (λ code. eqb code 10 ≡ false) 13 [] refl (All-nil (λ code. eqb code 10 ≡ false))),
-              ap (λ e. line.body ++ e) at_cr ∙ sym (append_assoc line.body (13 ∷ []) (10 ∷ [])),
-              same_cr line at_cr)
-          | inr open ↦ absurd (has open.0)
-        ]
+        | inl at_cr ↦ (
+          line.body ++ 13 ∷ [],
+          All-append (λ code. eqb code 10 ≡ false) line.body (13 ∷ []) free (All-cons (λ code. eqb code 10 ≡ false) 13 [] refl (All-nil (λ code. eqb code 10 ≡ false))),
+          ap (λ e. line.body ++ e) at_cr ∙ sym (append_assoc line.body (13 ∷ []) (10 ∷ [])),
+          same_cr line at_cr,
+        )
+        | inr bare ↦ absurd (has bare.0)
+      ]
     ]
 
 -- a line with an ending, before others, is found again
@@ -246,7 +251,7 @@ lines_of-open : (line : Line) → Free 10 line.body → line.ending ≡ [] → l
 lines_of-open line free is some =
     let make : List ℕ → Line = λ e. record { body = line.body; ending = e } in
     let whole : flat_map line_text (line ∷ []) ≡ line.body =
-      append-nil (line.body ++ line.ending) ∙ (ap (λ e. line.body ++ e) is ∙ append-nil line.body) in
+    append-nil (line.body ++ line.ending) ∙ (ap (λ e. line.body ++ e) is ∙ append-nil line.body) in
     ap lines_of whole ∙ (lines_of-free line.body free ∙ (open_line-some line.body some ∙ ap (λ e. make e ∷ []) (sym is)))
 
 -- lines with such endings are found again when they are joined
@@ -260,18 +265,18 @@ lines_of-joined (line ∷ []) absent may ended =
     elim how [
       | inl at_lf ↦ found (λ none. let is = at_lf.0 in cc)
       | inr more ↦ elim more [
-          | inl at_cr ↦ found (λ none. cc)
-          | inr open ↦ lines_of-open line (Free-from_absent 10 line.body alone) open.0 open.1
-        ]
+        | inl at_cr ↦ found (λ none. cc)
+        | inr bare ↦ lines_of-open line (Free-from_absent 10 line.body alone) bare.0 bare.1
+      ]
     ]
 lines_of-joined (line ∷ next ∷ others) absent may ended =
     let Absent : Line → Type 0 = λ one. ¬ (Contains one.body 10) in
     let Ended : Line → Type 0 = λ one. one.ending ≢ [] in
     let front = subst (All Ended) (front_is line next others) ended in
     found-ended line (flat_map line_text (next ∷ others)) (All-head Absent line (next ∷ others) absent) (All-head MayEnd line (next ∷ others) may)
-      (All-head Ended line (take (length (next ∷ others) - 1) (next ∷ others)) front)
+    (All-head Ended line (take (length (next ∷ others) - 1) (next ∷ others)) front)
     ∙ ap (λ ls. line ∷ ls) (lines_of-joined (next ∷ others) (All-tail Absent line (next ∷ others) absent) (All-tail MayEnd line (next ∷ others) may)
-        (All-tail Ended line (take (length (next ∷ others) - 1) (next ∷ others)) front))
+    (All-tail Ended line (take (length (next ∷ others) - 1) (next ∷ others)) front))
 
 -- no other list is in the relation
 pub LinesOf-only : (t : List ℕ) (lines : List Line) → LinesOf t lines → lines ≡ lines_of t

@@ -1,5 +1,5 @@
 -- What a script of ends takes from a list.
-use Rattle.std.specs.Prelude.{◌≡◌, ℕ, List, [], ◌∷◌}
+use Rattle.std.specs.Prelude.{◌≡◌, List, [], ◌∷◌}
 use Rattle.std.specs.Iterator.{YieldsFirst, YieldsLast}
 use Rattle.std.specs.declared.option.Option.{Option}
 use Rattle.ascii.specs.declared.iter.End.{End}

@@ -1,4 +1,3 @@
-use Rattle.std.proofs.Common.{arith}
 use Rattle.ascii.proofs.Texts.{IsAscii-insert}
 use Rattle.ascii.proofs.ascii_string.AsciiString.insert.Goals as goal
 
