@@ -1,5 +1,5 @@
 -- The lines of a text are one list, and how it breaks at either end.
-use Rattle.std.proofs.Common.{append-nil, ◌≡◌, ◌≢◌, ℕ, suc, ◌+◌, ◌-◌, ◌<◌, Bool, true, false, eqb, cond, List, [], ◌∷◌, ◌++◌, length, get_or, take, drop, map, refl, sym, ap, ◌∙◌, subst, arith, eqb-true, length-append, append_assoc, inl, inr, Some, ⊎_elim}
+use Rattle.std.proofs.Common.{append-nil, ◌≤◌, ◌≡◌, ◌≢◌, ℕ, suc, ◌+◌, ◌-◌, ◌<◌, Bool, true, false, eqb, cond, List, [], ◌∷◌, ◌++◌, length, get_or, take, drop, map, refl, sym, ap, ◌∙◌, subst, arith, eqb-true, length-append, append_assoc, inl, inr, Some, ⊎_elim}
 use Rattle.std.specs.List.{All, Contains, flat_map, join_with_byte}
 use Rattle.std.proofs.lemmas.List.Splits.{join_with_byte-slice_split}
 use Rattle.std.proofs.lemmas.List.Elements.{All-cons, All-head, All-tail, All-nil, All-take, All-append}
@@ -10,7 +10,7 @@ use Rattle.std.proofs.lemmas.List.{take_more}
 use Rattle.std.proofs.lemmas.List.Splits.{slice_split_at}
 use Rattle.std.proofs.lemmas.Bool.Decides.{nat_tests}
 use Rattle.std.proofs.lemmas.Grind.{common_steps}
-use Rattle.ascii.specs.Lines.{Line, lf, cr_lf, EndsInCr, MayEnd, line_text, LinesOf, ends_in_cr, ended_line, open_line, lines_of_pieces, lines_of}
+use Rattle.ascii.specs.Lines.{IsFirstLine, IsLastLine, Line, lf, cr_lf, EndsInCr, MayEnd, line_text, LinesOf, ends_in_cr, ended_line, open_line, lines_of_pieces, lines_of}
 use Rattle.ascii.specs.Pieces.{pieces_of}
 use Rattle.ascii.specs.Places.{Free, IsFirstPlace, IsLastStart}
 use Rattle.ascii.proofs.Splits.{slice_split-some, slice_split-joint, pieces_of_front, pieces_of_none, rest_is, is_on, around, Free-from_absent, absent-from_Free, all_free}
@@ -281,3 +281,71 @@ lines_of-joined (line ∷ next ∷ others) absent may ended =
 -- no other list is in the relation
 pub LinesOf-only : (t : List ℕ) (lines : List Line) → LinesOf t lines → lines ≡ lines_of t
 LinesOf-only t lines held = sym (lines_of-joined lines held.bodies held.endings held.ended) ∙ ap lines_of held.joined
+
+-- ---- the lines at either end
+
+-- the first line, where there is a LF
+pub first_line_cut : (t bytes body : List ℕ) (k : ℕ) → bytes ≡ t → IsFirstPlace 10 bytes k → body ≡ (ended_line (take k bytes)).body
+    → IsFirstLine t body (take (length bytes - (k + 1)) (drop (k + 1) bytes))
+first_line_cut t bytes body k same first is =
+    (ended_line (take k bytes), ap lines_of (sym same) ∙ first_line_at bytes k first, sym is)
+
+-- a text without LF that is not empty is one line
+pub only_line : (t bytes : List ℕ) → bytes ≡ t → Free 10 bytes → 0 < length t
+    → IsFirstLine t t (take (length bytes - length bytes) (drop (length bytes) bytes))
+only_line t bytes same free some =
+    let line : Line = record { body = bytes; ending = [] } in
+    let none : take (length bytes - length bytes) (drop (length bytes) bytes) ≡ [] = grind (arith, common_steps) in
+    let long : 0 < length bytes = omega (arith, ap length same) in (
+      line,
+      ap lines_of (sym same) ∙ (lines_of-free bytes free ∙ (open_line-some bytes (λ empty. absurd (omega (arith, long, ap length empty)))
+          ∙ ap (λ xs. line ∷ lines_of xs) (sym none))),
+      same,
+    )
+
+-- the last line of a text that ends in LF
+pub last_ended_line : (t bytes body : List ℕ) (start : ℕ) → bytes ≡ t → 0 < length t → get_or bytes (length bytes - 1) 0 ≡ 10
+    → IsLastStart 10 (take (length bytes - 1) bytes) start
+    → body ≡ (ended_line (take (length bytes - 1 - start) (drop start bytes))).body
+    → IsLastLine t body (take start bytes)
+last_ended_line t bytes body start same some ends last is =
+    let front = take (length bytes - 1) bytes in
+    let long : 0 < length bytes = omega (arith, ap length same) in
+    let k = length bytes - 1 in
+    let next : k + 1 ≡ length bytes = omega arith in
+    let short : length front ≡ k = grind (arith, common_steps) in
+    let inside : start ≤ k = subst (λ (n : ℕ). start ≤ n) short last.inside in
+    let whole : bytes ≡ front ++ 10 ∷ [] =
+    sym (take-length bytes) ∙ (ap (λ n. take n bytes) (sym next) ∙ (take_more bytes k 0 (omega arith) ∙ ap (λ c. front ++ c ∷ []) ends)) in
+    let piece : take (length front - start) (drop start front) ≡ take (length bytes - 1 - start) (drop start bytes) = grind (arith, common_steps) in
+    let others : take start front ≡ take start bytes = grind (arith, common_steps) in (
+      ended_line (take (length bytes - 1 - start) (drop start bytes)),
+      ap lines_of (sym same ∙ whole)
+          ∙ (last_line_at front (10 ∷ []) start last
+          ∙ (ap (λ ls. lines_of (take start front) ++ ls) (lines_of-ended (take (length front - start) (drop start front)) last.free)
+          ∙ (ap (λ xs. lines_of xs ++ ended_line (take (length front - start) (drop start front)) ∷ []) others
+          ∙ ap (λ xs. lines_of (take start bytes) ++ ended_line xs ∷ []) piece))),
+      sym is,
+    )
+
+-- the last line of a text that does not
+pub last_open_line : (t bytes : List ℕ) (start : ℕ) → bytes ≡ t → 0 < length t → get_or bytes (length bytes - 1) 0 ≢ 10
+    → IsLastStart 10 bytes start
+    → IsLastLine t (take (length bytes - start) (drop start bytes)) (take start bytes)
+last_open_line t bytes start same some ends last =
+    let piece = take (length bytes - start) (drop start bytes) in
+    let line : Line = record { body = piece; ending = [] } in
+    let long : 0 < length bytes = omega (arith, ap length same) in
+    let short : start < length bytes =
+    ⊎_elim (λ below. below) (λ past.
+    let is : start ≡ length bytes = omega (arith, last.inside) in
+    absurd (ends (ap (λ n. get_or bytes (n - 1) 0) (sym is) ∙ last.before (omega arith)))) (cases_lt start (length bytes)) in
+    let size : length piece ≡ length bytes - start = grind (arith, common_steps) in
+    let holds : piece ≢ [] = λ empty. absurd (omega (arith, size, ap length empty)) in (
+      line,
+      ap lines_of (sym same ∙ sym (append-nil bytes))
+          ∙ (last_line_at bytes [] start last
+          ∙ ap (λ ls. lines_of (take start bytes) ++ ls)
+          (ap lines_of (append-nil piece) ∙ (lines_of-free piece last.free ∙ open_line-some piece holds))),
+      refl,
+    )

@@ -6,8 +6,9 @@ ghost use Rattle.std.specs.Iterator.{IsFinite, MakesProgress, UpTo, YieldsFirstB
 ghost use Rattle.std.specs.Iterator.SizeHint.{IsWithinCount};
 ghost use Rattle.std.specs.Option.{option_map};
 ghost use Rattle.ascii_base.specs.Code.{code_of};
+ghost use Rattle.ascii.specs.Lines.{HandsFirst, HandsLast, IsFirstLine, IsLastLine, bodies, ended_line};
 ghost use Rattle.ascii.specs.Pieces.{pieces_left, pieces_of};
-ghost use Rattle.ascii.specs.Places.{Free, IsFirstPlace, IsLastPlace};
+ghost use Rattle.ascii.specs.Places.{Free, IsFirstPlace, IsLastPlace, IsLastStart};
 ghost use Rattle.ascii.specs.View.{text_of};
 
 use crate::ascii_str::AsciiStr;
@@ -321,8 +322,154 @@ impl<'a> DoubleEndedIterator for Split<'a> {
 
 impl FusedIterator for Split<'_> {}
 
+/// Where the last piece of the bytes between line feeds begins.
+fn last_start(bytes: &[u8]) -> usize
+    ensures { IsLastStart 10 bytes.now result }
+{
+    match last_place(bytes, b'\n') {
+        Some(place) => place + 1,
+        None => 0,
+    }
+}
+
+/// The body of a line that ended in a line feed: one carriage return before it is of the ending.
+fn without_return(line: AsciiStr<'_>) -> AsciiStr<'_>
+    ensures { text_of result ≡ (ended_line (text_of line.entry)).body }
+{
+    let bytes = line.as_bytes();
+    if bytes.last() == Some(&b'\r') {
+        AsciiStr {
+            bytes: &bytes[..bytes.len() - 1],
+        }
+    } else {
+        line
+    }
+}
+
+/// The body of the first line of a view that is not empty, and what stands behind its ending.
+fn first_line(view: AsciiStr<'_>) -> (AsciiStr<'_>, AsciiStr<'_>)
+    requires { 0 < length (text_of view) }
+    ensures { IsFirstLine (text_of view.entry) (text_of result.0) (text_of result.1) }
+{
+    let bytes = view.as_bytes();
+    match first_place(bytes, b'\n') {
+        Some(place) => {
+            let line = AsciiStr {
+                bytes: &bytes[..place],
+            };
+            let others = AsciiStr {
+                bytes: &bytes[place + 1..],
+            };
+            (without_return(line), others)
+        }
+        None => (
+            view,
+            AsciiStr {
+                bytes: &bytes[bytes.len()..],
+            },
+        ),
+    }
+}
+
+/// The body of the last line of a view that is not empty, and what stands before it.
+fn last_line(view: AsciiStr<'_>) -> (AsciiStr<'_>, AsciiStr<'_>)
+    requires { 0 < length (text_of view) }
+    ensures { IsLastLine (text_of view.entry) (text_of result.0) (text_of result.1) }
+{
+    let bytes = view.as_bytes();
+    let last = bytes.len() - 1;
+    if bytes[last] == b'\n' {
+        let start = last_start(&bytes[..last]);
+        let line = AsciiStr {
+            bytes: &bytes[start..last],
+        };
+        let others = AsciiStr {
+            bytes: &bytes[..start],
+        };
+        (without_return(line), others)
+    } else {
+        let start = last_start(bytes);
+        let line = AsciiStr {
+            bytes: &bytes[start..],
+        };
+        let others = AsciiStr {
+            bytes: &bytes[..start],
+        };
+        (line, others)
+    }
+}
+
+/// The lines of a view that are left, from both ends. The items are the bodies.
+#[derive(Drop)]
+pub struct Lines<'a> {
+    // The lines that are left, with their endings.
+    rest: AsciiStr<'a>,
+}
+
+impl<'a> Model for Lines<'a> {
+    ghost use Rattle.std.specs.Prelude.{List};
+    ghost use Rattle.ascii.specs.Lines.{Line, lines_of};
+    ghost use Rattle.ascii.specs.View.{text_of};
+
+    ghost Value = { List Line };
+
+    ghost view = { λ lines. lines_of (text_of lines.rest) };
+}
+
+impl Clone for Lines<'_> {
+    ghost is_clone = { λ lines copy. copy ≡ lines };
+
+    ghost is_infallible = { λ _. Unit {0} };
+
+    /// An iterator that owes the same lines. It is never refused.
+    fn clone(&self) -> Result<Self, AllocError> {
+        Ok(Lines { rest: self.rest })
+    }
+}
+
+impl<'a> Iterator for Lines<'a> {
+    type Item = AsciiStr<'a>;
+
+    ghost next_gives = { YieldsFirstBy text_of bodies };
+
+    ghost remaining = { item_count bodies };
+
+    fn next(&mut self) -> Option<AsciiStr<'a>>
+        ensures steps { YieldsFirstBy text_of bodies self.old result self.new }
+        ensures goes { MakesProgress (λ _. ⊤) (item_count bodies) self.old result self.new }
+        ensures line { HandsFirst self.old (option_map text_of result) self.new }
+    {
+        if self.rest.is_empty() {
+            return None;
+        }
+        let (first, others) = first_line(self.rest);
+        self.rest = others;
+        Some(first)
+    }
+}
+
+impl<'a> DoubleEndedIterator for Lines<'a> {
+    ghost next_back_gives = { YieldsLastBy text_of bodies };
+
+    fn next_back(&mut self) -> Option<AsciiStr<'a>>
+        ensures steps { YieldsLastBy text_of bodies self.old result self.new }
+        ensures goes { MakesProgress (λ _. ⊤) (item_count bodies) self.old result self.new }
+        ensures line { HandsLast self.old (option_map text_of result) self.new }
+    {
+        if self.rest.is_empty() {
+            return None;
+        }
+        let (last, others) = last_line(self.rest);
+        self.rest = others;
+        Some(last)
+    }
+}
+
+impl FusedIterator for Lines<'_> {}
+
 impl<'a> AsciiStr<'a> {
     ghost use Rattle.ascii.specs.Pieces.{Pieces};
+    ghost use Rattle.ascii.specs.Lines.{Line, LinesOf};
 
     /// The characters of the view.
     #[inline]
@@ -342,6 +489,15 @@ impl<'a> AsciiStr<'a> {
             rest: Some(self),
             on,
         }
+    }
+
+    /// The lines of the view, without their endings. A line ends in LF or in CR LF; a CR before that
+    /// stays in its line, and so does a last CR with no LF behind it. A last LF makes no further line.
+    pub fn lines(self) -> Lines<'a>
+        ensures lines { LinesOf (text_of self.entry) result }
+        ensures only { (lines : List Line) → LinesOf (text_of self.entry) lines → lines ≡ result }
+    {
+        Lines { rest: self }
     }
 }
 
