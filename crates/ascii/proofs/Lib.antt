@@ -5,3 +5,4 @@ pub mod Slices
 pub mod Splits
 pub mod Texts
 pub mod Trims
+pub mod Walks

@@ -6,8 +6,8 @@ ghost use Rattle.std.specs.Iterator.{IsFinite, MakesProgress, UpTo, YieldsFirstB
 ghost use Rattle.std.specs.Iterator.SizeHint.{IsWithinCount};
 ghost use Rattle.std.specs.Option.{option_map};
 ghost use Rattle.ascii_base.specs.Code.{code_of};
-ghost use Rattle.ascii.specs.Lines.{HandsFirst, HandsLast, IsFirstLine, IsLastLine, bodies, ended_line};
-ghost use Rattle.ascii.specs.Pieces.{pieces_left, pieces_of};
+ghost use Rattle.ascii.specs.Lines.{HandsFirst, HandsLast, IsFirstLine, IsLastLine, Line, LinesOf, bodies, ended_line};
+ghost use Rattle.ascii.specs.Pieces.{Pieces, pieces_left, pieces_of};
 ghost use Rattle.ascii.specs.Places.{Free, IsFirstPlace, IsLastPlace, IsLastStart};
 ghost use Rattle.ascii.specs.View.{text_of};
 
@@ -16,6 +16,10 @@ use ascii_base::ascii_char::AsciiChar;
 use std::alloc::AllocError;
 use std::iter::FusedIterator;
 use std::marker::Model;
+
+mod walks;
+
+pub use walks::{End, walk_lines, walk_split};
 
 /// The characters of a view that are left, from both ends.
 #[derive(Drop)]
@@ -468,9 +472,6 @@ impl<'a> DoubleEndedIterator for Lines<'a> {
 impl FusedIterator for Lines<'_> {}
 
 impl<'a> AsciiStr<'a> {
-    ghost use Rattle.ascii.specs.Pieces.{Pieces};
-    ghost use Rattle.ascii.specs.Lines.{Line, LinesOf};
-
     /// The characters of the view.
     #[inline]
     pub fn chars(self) -> Chars<'a>
@@ -499,13 +500,4 @@ impl<'a> AsciiStr<'a> {
     {
         Lines { rest: self }
     }
-}
-
-/// An end of an iterator.
-#[derive(Clone, Copy, PartialEq, Eq, Debug)]
-pub enum End {
-    /// The end that `next` takes from.
-    Front,
-    /// The end that `next_back` takes from.
-    Back,
 }
