@@ -1,1 +1,3 @@
+pub mod Resting
 pub mod Slices
+pub mod WritingViews
