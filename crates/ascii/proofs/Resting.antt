@@ -1,17 +1,16 @@
 -- What rests in a lent source where a function answers with a view of it or with an error, and how a
 -- walk by hand gives the source up. Assumes `Logic`.
-use mathlib.Core.Path.{◌≡◌, refl, sym}
+use mathlib.Core.Path.{◌≡◌, refl}
 use mathlib.Core.List.{List, [], ◌∷◌}
-use mathlib.Core.Logic.{inl, inr}
 use Prim.Native.Nat.{ℕ}
 use seplogic.Ra.Ura.{Ura}
 use mir.Val.{Val}
-use base.Logic.{ent, emp, sep, wand}
+use base.Logic.{ent, emp, wand}
 use base.Fml.{GName, fex, feq, fsep, fres, fauth, fobs}
 use types.Logic.{Logic, sem}
 use mathlib.Core.Option.{some, none}
 use Rattle.std.specs.Prelude.{⊤}
-use types.Kit.{use0, ‵, raw, ◌$◌, ◌∵◌, !, qed, each, assume, move, keep, drop, rewrite, fpick, fsplit, fsplit3, fjoin, fpack, feq_i, updating, now, done}
+use types.Kit.{use0, ‵, ◌$◌, ◌∵◌, !, qed, each, assume, keep, drop, rewrite, fpick, fsplit, fsplit3, fjoin, fpack, feq_i, updating, now, done}
 use types.Tokens.{name_done}
 use denote.RattleType.{RattleType}
 use denote.Ref.{MutBor, NamedLft}
@@ -20,10 +19,8 @@ use denote.Array.{Array}
 use denote.Follow.{follows, follows_by, such_by}
 use denote.FollowSlice.{heres_id}
 use denote.Laws.{shows}
-use denote.Slice.{heres}
 use denote.Steps.{peeks}
 use Rattle.std.specs.Borrow.{RestsIfErr}
-use Rattle.std.specs.declared.result.Result.{Result}
 use Rattle.std.specs.declared.result.Result.TheVariants.{Ok, Err}
 use Rattle.ascii.specs.declared.ascii_str_mut.AsciiStrMut.{AsciiStrMut}
 use Rattle.ascii.specs.contracts.ascii_str_mut.AsciiStrMut as V

@@ -1,5 +1,5 @@
 -- The walk: the search carries the source, and its answer decides the `Result`. Assumes `Logic`.
-use mathlib.Core.Path.{◌≡◌, refl, sym, ap, subst}
+use mathlib.Core.Path.{◌≡◌, refl, ap, subst}
 use mathlib.Core.List.{List, [], ◌∷◌}
 use Prim.Native.Nat.{ℕ, ◌<◌, ◌^◌}
 use mathlib.Core.Bool.{Bool, true, false, not}
@@ -10,18 +10,17 @@ use seplogic.Ra.Ura.{Ura}
 use base.Logic.{id⊢, ent, emp}
 use types.Logic.{Logic, sem}
 use denote.Shadow.{makes_shadow}
-use base.Fml.{GName, ftrue, fres}
-use base.Fraction.{full_share}
+use base.Fml.{GName, fres}
 use contract.Monad.{fact, fact_i}
 use contract.Running.{tables}
-use types.Kit.{‵, raw, prop, later, some, at_ret, ◌⊛◌, ◌$◌, ◌∵◌, !, qed, by, move, keep, drop, use0, use1, split, join, fjoin, pick, await, rewrite}
+use types.Kit.{‵, raw, later, some, at_ret, ◌⊛◌, ◌$◌, ◌∵◌, !, qed, by, move, drop, use0, use1, split, join, fjoin, pick, await, rewrite}
 use types.Part.{whole, sub, agg}
 use types.Run.{stop, fld, hop, from, addr, of_opd, lit, and_then, no_more, first, branches, skips, exec, returns, returns_within, enter}
 use types.ByLocal.{alloc_all, pass_all, free_all, look_at, look_in_at, get, get_in, sets, lands_as, env}
 use types.Match.{live}
 use denote.Builtin.{u8}
 use denote.Exit.{yes, no}
-use denote.Laws.{Is, Typed, shows}
+use denote.Laws.{Typed, shows}
 use denote.Ref.{MutBor}
 use denote.Signature.{plain, named_lft, mut_slice_of}
 use denote.Slice.{mut_slice_vals, mut_slice_Tells}
