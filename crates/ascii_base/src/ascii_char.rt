@@ -1,7 +1,15 @@
 //! The characters of US-ASCII.
 
-ghost use Rattle.std.specs.Prelude.{◌≡◌, ◌<◌};
+ghost use Rattle.std.specs.Prelude.{◌≡◌, ◌<◌, ◌≤◌, ◌↔◌, IsTrue, ℤ, pos, MatchResult, bit_or};
 ghost use Rattle.ascii_base.specs.Code.{code_of};
+ghost use Rattle.ascii_base.specs.Class.{IsAlphabetic, IsDigitIn, IsDigit, IsAlphanumeric, IsBlank, IsWhitespace, IsAsciiWhitespace, IsControl, IsGraphic, IsPrintable, IsLowercase, IsUppercase, IsPunctuation, IsHexdigit};
+ghost use Rattle.ascii_base.specs.Case.{upper_image, lower_image};
+ghost use Rattle.ascii_base.specs.Printable.{printable_of};
+ghost use Rattle.ascii_base.specs.ToAscii.{HasCode, IsCode, IsNotAscii, not_ascii_text};
+
+use std::cmp::Ordering;
+use std::fmt;
+use std::hash::{Hash, Hasher};
 
 /// A character of US-ASCII, one byte wide.
 ///
@@ -142,6 +150,32 @@ pub enum AsciiChar {
 }
 
 impl AsciiChar {
+    /// The character of a value, or the refusal of one that is no code: `ch.to_ascii_char()`.
+    #[inline]
+    pub fn from_ascii<C: ToAsciiChar>(ch: C) -> Result<AsciiChar, ToAsciiCharError>
+        ensures { MatchResult result (HasCode (C.code ch)) (λ _. IsNotAscii (C.code ch)) }
+    {
+        ch.to_ascii_char()
+    }
+
+    /// The character of a `char` that is known to be under 128.
+    #[inline]
+    pub fn new(ch: char) -> AsciiChar
+        requires { ch < 128 }
+        ensures { code_of result ≡ ch }
+    {
+        of_low_bits(ch as u8)
+    }
+
+    /// The character of a byte that is known to be under 128.
+    #[inline]
+    pub fn from_ascii_unchecked(ch: u8) -> AsciiChar
+        requires { ch < 128 }
+        ensures { code_of result ≡ ch }
+    {
+        of_low_bits(ch)
+    }
+
     /// The code of the character, 0 to 127.
     #[inline]
     pub fn as_byte(self) -> u8
@@ -149,6 +183,240 @@ impl AsciiChar {
         ensures small { result < 128 }
     {
         self as u8
+    }
+
+    /// The character as a `char`, under 128.
+    #[inline]
+    pub fn as_char(self) -> char
+        ensures code { result ≡ code_of self }
+        ensures small { result < 128 }
+    {
+        self as u8 as char
+    }
+
+    /// The code with bit 5 set: of an upper case letter the lower case one, of a lower case letter
+    /// itself. Other characters may change too.
+    #[inline]
+    fn to_not_upper(self) -> u8
+        ensures { result ≡ bit_or (code_of self) 32 }
+    {
+        self as u8 | 0b010_0000
+    }
+
+    /// Whether the character is a letter, `A` to `Z` or `a` to `z`.
+    #[inline]
+    pub fn is_alphabetic(self) -> bool
+        ensures { IsTrue result ↔ IsAlphabetic (code_of self) }
+    {
+        (self.to_not_upper() >= b'a') & (self.to_not_upper() <= b'z')
+    }
+
+    /// Whether the character is a letter, `A` to `Z` or `a` to `z`.
+    #[inline]
+    pub fn is_ascii_alphabetic(&self) -> bool
+        ensures { IsTrue result ↔ IsAlphabetic (code_of self.now) }
+    {
+        self.is_alphabetic()
+    }
+
+    /// Whether the character is a digit in a radix of at most 36: `0` to `9` count for 0 to 9, the
+    /// letters of either case for 10 to 35. In radix 0 there is no digit, in radix 1 only `0`.
+    #[inline]
+    pub fn is_digit(self, radix: u32) -> bool
+        requires { radix ≤ 36 }
+        ensures { IsTrue result ↔ IsDigitIn radix (code_of self) }
+    {
+        match self as u8 {
+            digit @ b'0'..=b'9' => u32::from(digit - b'0') < radix,
+            letter @ b'a'..=b'z' => u32::from(letter - b'a') + 10 < radix,
+            letter @ b'A'..=b'Z' => u32::from(letter - b'A') + 10 < radix,
+            _ => false,
+        }
+    }
+
+    /// Whether the character is a decimal digit, `0` to `9`.
+    #[inline]
+    pub fn is_ascii_digit(&self) -> bool
+        ensures { IsTrue result ↔ IsDigit (code_of self.now) }
+    {
+        (*self as u8 >= b'0') & (*self as u8 <= b'9')
+    }
+
+    /// Whether the character is a letter or a decimal digit.
+    #[inline]
+    pub fn is_alphanumeric(self) -> bool
+        ensures { IsTrue result ↔ IsAlphanumeric (code_of self) }
+    {
+        self.is_alphabetic() | self.is_ascii_digit()
+    }
+
+    /// Whether the character is a letter or a decimal digit.
+    #[inline]
+    pub fn is_ascii_alphanumeric(&self) -> bool
+        ensures { IsTrue result ↔ IsAlphanumeric (code_of self.now) }
+    {
+        self.is_alphanumeric()
+    }
+
+    /// Whether the character is space or tab.
+    #[inline]
+    pub fn is_ascii_blank(&self) -> bool
+        ensures { IsTrue result ↔ IsBlank (code_of self.now) }
+    {
+        (*self as u8 == b' ') | (*self as u8 == b'\t')
+    }
+
+    /// Whether the character is space, tab, line feed, vertical tab, form feed or carriage return.
+    #[inline]
+    pub fn is_whitespace(self) -> bool
+        ensures { IsTrue result ↔ IsWhitespace (code_of self) }
+    {
+        (self as u8 == b' ') | ((self as u8).wrapping_sub(b'\t') < 5)
+    }
+
+    /// Whether the character is space, tab, line feed, form feed or carriage return: vertical tab is
+    /// not among them.
+    #[inline]
+    pub fn is_ascii_whitespace(&self) -> bool
+        ensures { IsTrue result ↔ IsAsciiWhitespace (code_of self.now) }
+    {
+        self.is_ascii_blank()
+            | (*self as u8 == b'\n')
+            | (*self as u8 == b'\r')
+            | (*self as u8 == 0x0c)
+    }
+
+    /// Whether the character is a control character, 0 to 31 or 127.
+    #[inline]
+    pub fn is_ascii_control(&self) -> bool
+        ensures { IsTrue result ↔ IsControl (code_of self.now) }
+    {
+        ((*self as u8) < b' ') | (*self as u8 == 127)
+    }
+
+    /// Whether the character leaves ink: neither a control character nor space.
+    #[inline]
+    pub fn is_ascii_graphic(&self) -> bool
+        ensures { IsTrue result ↔ IsGraphic (code_of self.now) }
+    {
+        self.as_byte().wrapping_sub(b' ' + 1) < 0x5e
+    }
+
+    /// Whether the character leaves ink or is space: it is no control character.
+    #[inline]
+    pub fn is_ascii_printable(&self) -> bool
+        ensures { IsTrue result ↔ IsPrintable (code_of self.now) }
+    {
+        self.as_byte().wrapping_sub(b' ') < 0x5f
+    }
+
+    /// Whether the character is a lower case letter, `a` to `z`.
+    #[inline]
+    pub fn is_lowercase(self) -> bool
+        ensures { IsTrue result ↔ IsLowercase (code_of self) }
+    {
+        self.as_byte().wrapping_sub(b'a') < 26
+    }
+
+    /// Whether the character is a lower case letter, `a` to `z`.
+    #[inline]
+    pub fn is_ascii_lowercase(&self) -> bool
+        ensures { IsTrue result ↔ IsLowercase (code_of self.now) }
+    {
+        self.is_lowercase()
+    }
+
+    /// Whether the character is an upper case letter, `A` to `Z`.
+    #[inline]
+    pub fn is_uppercase(self) -> bool
+        ensures { IsTrue result ↔ IsUppercase (code_of self) }
+    {
+        self.as_byte().wrapping_sub(b'A') < 26
+    }
+
+    /// Whether the character is an upper case letter, `A` to `Z`.
+    #[inline]
+    pub fn is_ascii_uppercase(&self) -> bool
+        ensures { IsTrue result ↔ IsUppercase (code_of self.now) }
+    {
+        self.is_uppercase()
+    }
+
+    /// Whether the character leaves ink and is neither a letter nor a digit.
+    #[inline]
+    pub fn is_ascii_punctuation(&self) -> bool
+        ensures { IsTrue result ↔ IsPunctuation (code_of self.now) }
+    {
+        self.is_ascii_graphic() & !self.is_alphanumeric()
+    }
+
+    /// Whether the character is a hexadecimal digit, in either case.
+    #[inline]
+    pub fn is_ascii_hexdigit(&self) -> bool
+        ensures { IsTrue result ↔ IsHexdigit (code_of self.now) }
+    {
+        self.is_ascii_digit() | ((*self as u8 | 0x20).wrapping_sub(b'a') < 6)
+    }
+
+    /// A `char` that shows the character: the pictures from U+2400 on for the codes 0 to 31, U+2421
+    /// for delete, and the character itself for all others.
+    #[inline]
+    pub fn as_printable_char(self) -> char
+        ensures { result ≡ printable_of (code_of self) }
+    {
+        match self as u8 {
+            control @ 0..=0x1f => char::from_u32(0x2400 + u32::from(control)).unwrap(),
+            0x7f => '␡',
+            _ => self.as_char(),
+        }
+    }
+
+    /// Changes `a` to `z` to `A` to `Z`, and leaves every other character.
+    #[inline]
+    pub fn make_ascii_uppercase(&mut self)
+        ensures { code_of self.new ≡ upper_image (code_of self.old) }
+    {
+        *self = self.to_ascii_uppercase();
+    }
+
+    /// Changes `A` to `Z` to `a` to `z`, and leaves every other character.
+    #[inline]
+    pub fn make_ascii_lowercase(&mut self)
+        ensures { code_of self.new ≡ lower_image (code_of self.old) }
+    {
+        *self = self.to_ascii_lowercase();
+    }
+
+    /// The upper case letter of `a` to `z`, and every other character itself.
+    #[inline]
+    pub fn to_ascii_uppercase(&self) -> AsciiChar
+        ensures { code_of result ≡ upper_image (code_of self.now) }
+    {
+        if self.is_lowercase() {
+            of_low_bits(*self as u8 - 32)
+        } else {
+            *self
+        }
+    }
+
+    /// The lower case letter of `A` to `Z`, and every other character itself.
+    #[inline]
+    pub fn to_ascii_lowercase(&self) -> AsciiChar
+        ensures { code_of result ≡ lower_image (code_of self.now) }
+    {
+        if self.is_uppercase() {
+            of_low_bits(*self as u8 + 32)
+        } else {
+            *self
+        }
+    }
+
+    /// Whether two characters are equal when the case of letters doesn't count.
+    #[inline]
+    pub fn eq_ignore_ascii_case(&self, other: &AsciiChar) -> bool
+        ensures { IsTrue result ↔ (lower_image (code_of self.now) ≡ lower_image (code_of other.now)) }
+    {
+        self.to_ascii_lowercase() == other.to_ascii_lowercase()
     }
 }
 
@@ -171,6 +439,255 @@ impl Eq for AsciiChar {
     ghost use Rattle.std.specs.Cmp.{on_equiv, nat_eq_equiv};
 
     ghost laws = { on_equiv code_of nat_eq_equiv };
+}
+
+impl PartialOrd for AsciiChar {
+    ghost use Rattle.std.specs.Ordering.{on, nat_cmp, as_partial_cmp};
+    ghost use Rattle.std.specs.Cmp.{on_po, unsigned_po};
+
+    ghost partial_cmp = { as_partial_cmp (on code_of nat_cmp) };
+
+    ghost laws = { on_po code_of unsigned_po };
+
+    #[inline]
+    fn partial_cmp(&self, other: &AsciiChar) -> Option<Ordering> {
+        Some(self.cmp(other))
+    }
+}
+
+impl Ord for AsciiChar {
+    ghost use Rattle.std.specs.Ordering.{on, nat_cmp};
+    ghost use Rattle.std.specs.Cmp.{on_total, nat_cmp_total, unsigned_ties};
+    ghost use Rattle.std.proofs.Common.{rules};
+
+    ghost cmp = { on code_of nat_cmp };
+
+    ghost total = { on_total code_of nat_cmp_total };
+
+    ghost matches_partial_cmp = { Prim.search rules };
+
+    ghost matches_eq = { λ x y. unsigned_ties (code_of x) (code_of y) };
+
+    #[inline]
+    fn cmp(&self, other: &AsciiChar) -> Ordering {
+        self.as_byte().cmp(&other.as_byte())
+    }
+}
+
+impl Hash for AsciiChar {
+    ghost use Rattle.std.specs.Hash as fed;
+    ghost use Rattle.std.specs.Cmp.Rules.{hashing};
+    ghost use Rattle.std.proofs.Common.{rules};
+
+    ghost hash_input = { λ ch. fed.u8 (code_of ch) };
+
+    ghost respects_eq = { Prim.search (hashing, rules) };
+
+    #[inline]
+    fn hash<H: Hasher>(&self, state: &mut H) {
+        state.write_u8(self.as_byte());
+    }
+}
+
+impl fmt::Display for AsciiChar {
+    ghost use Rattle.std.specs.Prelude.{[], ◌∷◌, Some};
+    ghost use Rattle.std.specs.Fmt.{styled_text};
+
+    ghost output = { λ ch. Some (code_of ch ∷ []) };
+
+    ghost styled_output = { λ ch spec. Some (styled_text spec (code_of ch ∷ [])) };
+
+    #[inline]
+    fn fmt<W: fmt::Write>(&self, f: &mut fmt::Formatter<W>) -> fmt::Result {
+        fmt::Display::fmt(&self.as_char(), f)
+    }
+}
+
+impl fmt::Debug for AsciiChar {
+    ghost use Rattle.std.specs.Prelude.{[], ◌∷◌, ◌++◌, Some};
+    ghost use Rattle.std.specs.Fmt.{debug_escape};
+
+    // the escaped character between single quotes
+    ghost debug_output = { λ ch. Some (39 ∷ (debug_escape 39 (code_of ch) ++ 39 ∷ [])) };
+
+    #[inline]
+    fn fmt<W: fmt::Write>(&self, f: &mut fmt::Formatter<W>) -> fmt::Result {
+        fmt::Debug::fmt(&self.as_char(), f)
+    }
+}
+
+impl From<AsciiChar> for u8 {
+    ghost from_gives = { λ ch byte. byte ≡ code_of ch };
+
+    #[inline]
+    fn from(ch: AsciiChar) -> u8 {
+        ch.as_byte()
+    }
+}
+
+impl From<AsciiChar> for char {
+    ghost from_gives = { λ ch point. point ≡ code_of ch };
+
+    #[inline]
+    fn from(ch: AsciiChar) -> char {
+        ch.as_char()
+    }
+}
+
+/// The refusal of a value that is no code.
+#[derive(Clone, Copy, PartialEq, Eq)]
+pub struct ToAsciiCharError(());
+
+const MESSAGE: &str = "not an ASCII character";
+
+impl ToAsciiCharError {
+    /// What the refusal says: `not an ASCII character`.
+    #[inline]
+    pub fn description(&self) -> &'static str
+        ensures { result.now ≡ not_ascii_text }
+    {
+        MESSAGE
+    }
+}
+
+impl fmt::Debug for ToAsciiCharError {
+    ghost use Rattle.std.specs.Prelude.{Some};
+
+    ghost debug_output = { λ _. Some not_ascii_text };
+
+    #[inline]
+    fn fmt<W: fmt::Write>(&self, f: &mut fmt::Formatter<W>) -> fmt::Result {
+        f.write_str(self.description())
+    }
+}
+
+impl fmt::Display for ToAsciiCharError {
+    ghost use Rattle.std.specs.Prelude.{Some};
+
+    ghost output = { λ _. Some not_ascii_text };
+
+    #[inline]
+    fn fmt<W: fmt::Write>(&self, f: &mut fmt::Formatter<W>) -> fmt::Result {
+        f.write_str(self.description())
+    }
+}
+
+/// Values that may be characters, each seen as a whole number, `code`.
+pub trait ToAsciiChar: Sized {
+    ghost code: { Self → ℤ };
+
+    /// The character whose code is the value, or the refusal of a value outside 0 to 127.
+    fn to_ascii_char(self) -> Result<AsciiChar, ToAsciiCharError>
+        ensures { MatchResult result (HasCode (code self)) (λ _. IsNotAscii (code self)) };
+
+    /// The character of a value that is known to be 0 to 127.
+    fn to_ascii_char_unchecked(self) -> AsciiChar
+        requires { IsCode (code self) }
+        ensures { HasCode (code self) result };
+}
+
+impl ToAsciiChar for AsciiChar {
+    ghost code = { λ ch. pos (code_of ch) };
+
+    #[inline]
+    fn to_ascii_char(self) -> Result<AsciiChar, ToAsciiCharError> {
+        Ok(self)
+    }
+
+    #[inline]
+    fn to_ascii_char_unchecked(self) -> AsciiChar {
+        self
+    }
+}
+
+impl ToAsciiChar for u8 {
+    ghost code = { λ value. pos value };
+
+    #[inline]
+    fn to_ascii_char(self) -> Result<AsciiChar, ToAsciiCharError> {
+        if self < 128 {
+            Ok(of_low_bits(self))
+        } else {
+            Err(ToAsciiCharError(()))
+        }
+    }
+
+    #[inline]
+    fn to_ascii_char_unchecked(self) -> AsciiChar {
+        of_low_bits(self)
+    }
+}
+
+impl ToAsciiChar for i8 {
+    ghost code = { λ value. value };
+
+    #[inline]
+    fn to_ascii_char(self) -> Result<AsciiChar, ToAsciiCharError> {
+        if self >= 0 {
+            Ok(of_low_bits(self as u8))
+        } else {
+            Err(ToAsciiCharError(()))
+        }
+    }
+
+    #[inline]
+    fn to_ascii_char_unchecked(self) -> AsciiChar {
+        of_low_bits(self as u8)
+    }
+}
+
+impl ToAsciiChar for u16 {
+    ghost code = { λ value. pos value };
+
+    #[inline]
+    fn to_ascii_char(self) -> Result<AsciiChar, ToAsciiCharError> {
+        if self < 128 {
+            Ok(of_low_bits(self as u8))
+        } else {
+            Err(ToAsciiCharError(()))
+        }
+    }
+
+    #[inline]
+    fn to_ascii_char_unchecked(self) -> AsciiChar {
+        of_low_bits(self as u8)
+    }
+}
+
+impl ToAsciiChar for u32 {
+    ghost code = { λ value. pos value };
+
+    #[inline]
+    fn to_ascii_char(self) -> Result<AsciiChar, ToAsciiCharError> {
+        if self < 128 {
+            Ok(of_low_bits(self as u8))
+        } else {
+            Err(ToAsciiCharError(()))
+        }
+    }
+
+    #[inline]
+    fn to_ascii_char_unchecked(self) -> AsciiChar {
+        of_low_bits(self as u8)
+    }
+}
+
+impl ToAsciiChar for char {
+    ghost code = { λ value. pos value };
+
+    #[inline]
+    fn to_ascii_char(self) -> Result<AsciiChar, ToAsciiCharError> {
+        if (self as u32) < 128 {
+            Ok(of_low_bits(self as u8))
+        } else {
+            Err(ToAsciiCharError(()))
+        }
+    }
+
+    #[inline]
+    fn to_ascii_char_unchecked(self) -> AsciiChar {
+        of_low_bits(self as u8)
+    }
 }
 
 /// The character of the low seven bits of a byte.

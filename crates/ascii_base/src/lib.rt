@@ -3,5 +3,6 @@
 #![tactic(auto)]
 
 pub mod ascii_char;
+pub mod free_functions;
 pub mod kernels;
 pub mod range;

@@ -1,0 +1,65 @@
+-- The classes of characters, as sets of codes.
+use Rattle.std.specs.Prelude.{◌⊎◌, ℕ, ◌≡◌, ◌-◌, ◌<◌, Option, Some, None, IsSomeAnd, if◌then◌else◌, nat_le, ◌&&◌}
+use Rattle.std.specs.Int.{IsInRange}
+
+-- `A` to `Z`
+abbrev pub IsUppercase : ℕ → Type 0
+IsUppercase n = IsInRange 65 90 n
+
+-- `a` to `z`
+abbrev pub IsLowercase : ℕ → Type 0
+IsLowercase n = IsInRange 97 122 n
+
+-- a letter
+abbrev pub IsAlphabetic : ℕ → Type 0
+IsAlphabetic n = IsInRange 65 90 n ⊎ IsInRange 97 122 n
+
+-- `0` to `9`
+abbrev pub IsDigit : ℕ → Type 0
+IsDigit n = IsInRange 48 57 n
+
+-- a digit or a letter
+abbrev pub IsAlphanumeric : ℕ → Type 0
+IsAlphanumeric n = IsInRange 48 57 n ⊎ IsInRange 65 90 n ⊎ IsInRange 97 122 n
+
+-- `0` to `9`, `A` to `F`, `a` to `f`
+abbrev pub IsHexdigit : ℕ → Type 0
+IsHexdigit n = IsInRange 48 57 n ⊎ IsInRange 65 70 n ⊎ IsInRange 97 102 n
+
+-- tab or space
+abbrev pub IsBlank : ℕ → Type 0
+IsBlank n = (n ≡ 9) ⊎ (n ≡ 32)
+
+-- tab, line feed, vertical tab, form feed, carriage return or space
+abbrev pub IsWhitespace : ℕ → Type 0
+IsWhitespace n = IsInRange 9 13 n ⊎ (n ≡ 32)
+
+-- the same without vertical tab
+abbrev pub IsAsciiWhitespace : ℕ → Type 0
+IsAsciiWhitespace n = (n ≡ 9) ⊎ (n ≡ 10) ⊎ (n ≡ 12) ⊎ (n ≡ 13) ⊎ (n ≡ 32)
+
+-- a control character: 0 to 31, or delete
+abbrev pub IsControl : ℕ → Type 0
+IsControl n = IsInRange 0 31 n ⊎ (n ≡ 127)
+
+-- a character that leaves ink
+abbrev pub IsGraphic : ℕ → Type 0
+IsGraphic n = IsInRange 33 126 n
+
+-- a character that leaves ink, or space
+abbrev pub IsPrintable : ℕ → Type 0
+IsPrintable n = IsInRange 32 126 n
+
+-- a character that leaves ink and is no digit or letter
+abbrev pub IsPunctuation : ℕ → Type 0
+IsPunctuation n = IsInRange 33 47 n ⊎ IsInRange 58 64 n ⊎ IsInRange 91 96 n ⊎ IsInRange 123 126 n
+
+-- what a code counts for as a digit: `0` to `9` as 0 to 9, and a letter of either case as 10 to 35
+abbrev pub digit_value : ℕ → Option ℕ
+digit_value n = if nat_le 48 n && nat_le n 57 then Some (n - 48)
+    else (if nat_le 65 n && nat_le n 90 then Some (n - 55)
+    else (if nat_le 97 n && nat_le n 122 then Some (n - 87) else None))
+
+-- the code is a digit in the radix
+abbrev pub IsDigitIn : ℕ → ℕ → Type 0
+IsDigitIn radix n = IsSomeAnd (digit_value n) (λ d. d < radix)

@@ -1,0 +1,36 @@
+//! Caret notation, which writes a control character as a caret and a printable partner.
+
+ghost use Rattle.std.specs.Prelude.{◌≡◌, ◌≤◌, ◌↔◌, ◌⊎◌, ℕ, IsSome, IfSome, IfNone};
+ghost use Rattle.std.specs.Int.{IsInRange};
+ghost use Rattle.ascii_base.specs.Caret.{IsCaretPair};
+ghost use Rattle.ascii_base.specs.Code.{code_of};
+
+use crate::ascii_char::AsciiChar;
+
+/// The partner that stands behind the caret for a control character: of the bytes 0 to 31 the
+/// character 64 higher, of 127 the question mark. Every other byte has none.
+#[inline]
+pub fn caret_encode(c: u8) -> Option<AsciiChar>
+    ensures pair { IfSome result (λ partner. IsCaretPair c (code_of partner)) }
+    ensures none { IfNone result ((m : ℕ) → ¬ (IsCaretPair c m)) }
+    ensures some { IsSome result ↔ ((c ≤ 31) ⊎ (c ≡ 127)) }
+{
+    match c {
+        0..=31 | 127 => Some(AsciiChar::from_ascii_unchecked(c ^ 0x40)),
+        _ => None,
+    }
+}
+
+/// The control character that a partner stands for: of the bytes 64 to 95 the character 64 lower, of
+/// the question mark 127. Every other byte stands for none.
+#[inline]
+pub fn caret_decode(c: u8) -> Option<AsciiChar>
+    ensures pair { IfSome result (λ control. IsCaretPair (code_of control) c) }
+    ensures none { IfNone result ((n : ℕ) → ¬ (IsCaretPair n c)) }
+    ensures some { IsSome result ↔ (IsInRange 64 95 c ⊎ (c ≡ 63)) }
+{
+    match c {
+        b'?'..=b'_' => Some(AsciiChar::from_ascii_unchecked(c ^ 0x40)),
+        _ => None,
+    }
+}
