@@ -4,5 +4,6 @@ pub mod Text
 pub mod View
 pub mod WritingView
 pub use Rattle.ascii_base.specs.Bytes
+pub use Rattle.ascii_base.specs.Case
 pub use Rattle.ascii_base.specs.Code
 pub use Rattle.ascii_base.specs.Range

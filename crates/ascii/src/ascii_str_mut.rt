@@ -3,12 +3,14 @@
 
 ghost use Rattle.std.specs.Prelude.{◌≡◌, ◌<◌, ◌≤◌, ◌++◌, length, slice_set, map};
 ghost use Rattle.std.proofs.Props.{props};
+ghost use Rattle.ascii_base.specs.Case.{upper_image, lower_image};
 ghost use Rattle.ascii_base.specs.Code.{code_of};
 ghost use Rattle.ascii.specs.Between.{AsciiBetween};
 ghost use Rattle.ascii.specs.View.{text_of};
 
 use crate::ascii_str::AsciiStr;
 use ascii_base::ascii_char::AsciiChar;
+use ascii_base::kernels;
 
 /// A text of ASCII characters in a source that was lent for writing. The text can be changed, and
 /// the bytes of the source before and after it stay. It keeps its length.
@@ -36,6 +38,32 @@ impl AsciiStrMut<'_> {
         ensures whole { source_of self.new ≡ before_of self.new ++ mut_text_of self.new ++ after_of self.new }
     {
         self.bytes[self.start + i] = ch.as_byte();
+    }
+
+    /// Changes each character `a` to `z` of the text to that of `A` to `Z`. The rest of the text
+    /// stays.
+    #[tactic(auto, using(std::proofs::lemmas::Slice::overwrites))]
+    pub fn make_ascii_uppercase(&mut self)
+        ensures text { mut_text_of self.new ≡ map upper_image (mut_text_of self.old) }
+        ensures before { before_of self.new ≡ before_of self.old }
+        ensures after { after_of self.new ≡ after_of self.old }
+        ensures lender { lender_of self.new ≡ lender_of self.old }
+        ensures whole { source_of self.new ≡ before_of self.new ++ mut_text_of self.new ++ after_of self.new }
+    {
+        kernels::upper_in_place(&mut self.bytes[self.start..self.end]);
+    }
+
+    /// Changes each character `A` to `Z` of the text to that of `a` to `z`. The rest of the text
+    /// stays.
+    #[tactic(auto, using(std::proofs::lemmas::Slice::overwrites))]
+    pub fn make_ascii_lowercase(&mut self)
+        ensures text { mut_text_of self.new ≡ map lower_image (mut_text_of self.old) }
+        ensures before { before_of self.new ≡ before_of self.old }
+        ensures after { after_of self.new ≡ after_of self.old }
+        ensures lender { lender_of self.new ≡ lender_of self.old }
+        ensures whole { source_of self.new ≡ before_of self.new ++ mut_text_of self.new ++ after_of self.new }
+    {
+        kernels::lower_in_place(&mut self.bytes[self.start..self.end]);
     }
 
     /// A view of the text, to read it.

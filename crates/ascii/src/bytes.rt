@@ -4,6 +4,9 @@ ghost use Rattle.ascii.specs.Slice.{SliceOutcome};
 
 use crate::ascii_str::{AsAsciiStrError, AsciiStr};
 use crate::bounds::checked_bounds;
+pub use crate::bytes_mut::{
+    as_mut_ascii_str, as_mut_ascii_str_unchecked, slice_ascii_mut, slice_ascii_mut_unchecked,
+};
 use ascii_base::range::AsciiRange;
 
 /// The whole source as ASCII text, or the position of its first byte over 127.
