@@ -1,5 +1,9 @@
 //! Views of borrowed bytes.
 
+ghost use Rattle.std.specs.Prelude.{OnOk, length};
+ghost use Rattle.std.specs.Str.{IsAscii};
+ghost use Rattle.ascii_base.specs.Range.{start_of, end_of};
+ghost use Rattle.ascii.specs.Between.{AsciiBetween};
 ghost use Rattle.ascii.specs.Slice.{SliceOutcome};
 
 use crate::ascii_str::{AsAsciiStrError, AsciiStr};
@@ -11,7 +15,8 @@ use ascii_base::range::AsciiRange;
 
 /// The whole source as ASCII text, or the position of its first byte over 127.
 pub fn as_ascii_str(source: &[u8]) -> Result<AsciiStr<'_>, AsAsciiStrError>
-    ensures { SliceOutcome source.now AsciiRange.Full result }
+    ensures outcome { SliceOutcome source.now AsciiRange.Full result }
+    ensures ascii { OnOk result (IsAscii source.now) }
 {
     slice_ascii(source, AsciiRange::Full)
 }
@@ -27,7 +32,8 @@ pub fn from_ascii(source: &[u8]) -> Result<AsciiStr<'_>, AsAsciiStrError>
 /// with the length of the source, and one that fits with the position in the source of its first
 /// byte over 127. Bytes outside the range do not matter.
 pub fn slice_ascii(source: &[u8], range: AsciiRange) -> Result<AsciiStr<'_>, AsAsciiStrError>
-    ensures { SliceOutcome source.now range result }
+    ensures outcome { SliceOutcome source.now range result }
+    ensures ascii { OnOk result (AsciiBetween source.now (start_of range) (end_of range (length source.now))) }
 {
     let (start, end) = checked_bounds(source, range)?;
     Ok(AsciiStr {
