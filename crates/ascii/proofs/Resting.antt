@@ -65,6 +65,16 @@ module _ {M : Type 1} {𝓤 : Ura M} (𝓛 : Logic 𝓤) where
         qed 𝓛 (‵ (fres s.ghost_name (code s.now)) ∷ []) ∵
         fpack ! ((x : (List ℕ → List ℕ) × List ℕ) × (List ℕ → ⊤) × (x.1 ≡ s.now)) From (((λ w. w), s.now), (λ w. tt), refl) $ done !
 
+    -- and so it has that value
+    pub rested : (s : MutBor (List ℕ)) (e : E)
+        → ent 𝓤 (sem 𝓛 (RestsIfErr Bytes s name (Err e) (λ n. n ≡ s.now))) (A.res s.ghost_name (Bytes.coded.code s.now))
+    unfolding such_by follows_by
+    rested s e =
+        let code = Bytes.coded.code in
+        let From = λ (r : (x : (List ℕ → List ℕ) × List ℕ) × (List ℕ → ⊤) × (x.1 ≡ s.now)). follows_by (List ℕ) (List ℕ) code code s.ghost_name none r.0.0 r.0.1 in
+        qed 𝓛 (‵ (fex ((x : (List ℕ → List ℕ) × List ℕ) × (List ℕ → ⊤) × (x.1 ≡ s.now)) From) ∷ []) ∵
+        fpick ! (λ r. rewrite ! 0 (λ (xs : List ℕ). ‵ (fres s.ghost_name (code xs))) r.2 refl $ done !)
+
   -- a view that is let go leaves its source at the value that it has then
   pub given_up : (a : NamedLft) (v : AsciiStrMut) (vs : List Val)
       → ent 𝓤 (sem 𝓛 ((V.the_row a).own_val v vs)) (H.⇛ (A.res v.bytes.ghost_name (Bytes.coded.code v.bytes.now)))
