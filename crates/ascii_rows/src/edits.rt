@@ -6,18 +6,15 @@ ghost use Rattle.ascii_base.specs.Range.{start_of, end_of, Fits};
 ghost use Rattle.ascii.specs.Slice.{IsRefused};
 ghost use Rattle.ascii.specs.WritingView.{before_of, mut_text_of, after_of, source_of, lender_of};
 
-use ascii::bytes;
-use ascii::{AsAsciiStrError, AsciiStrMut};
+use ascii::{AsAsciiStrError, AsciiStrMut, bytes};
 use ascii_base::range::AsciiRange;
 
 /// Changes the letters of a part of a source to upper case, where the part is ASCII text. A refused
 /// source is unchanged.
 pub fn upper_in(source: &mut [u8], range: AsciiRange) -> Result<(), AsAsciiStrError>
-    ensures done {
-        OnOk result (source.new ≡ take (start_of range) source.old
-            ++ map upper_image (slice_range source.old (start_of range) (end_of range (length source.old)))
-            ++ drop (end_of range (length source.old)) source.old)
-    }
+    ensures done { OnOk result (source.new ≡ take (start_of range) source.old
+        ++ map upper_image (slice_range source.old (start_of range) (end_of range (length source.old)))
+        ++ drop (end_of range (length source.old)) source.old) }
     ensures unchanged { OnErr result (source.new ≡ source.old) }
     ensures refused { IfErr result (IsRefused source.old range) }
 {
@@ -28,11 +25,9 @@ pub fn upper_in(source: &mut [u8], range: AsciiRange) -> Result<(), AsAsciiStrEr
 
 /// The same as `upper_in`, by one call that searches the part and lends it.
 pub fn raise_in(source: &mut [u8], range: AsciiRange) -> Result<(), AsAsciiStrError>
-    ensures done {
-        OnOk result (source.new ≡ take (start_of range) source.old
-            ++ map upper_image (slice_range source.old (start_of range) (end_of range (length source.old)))
-            ++ drop (end_of range (length source.old)) source.old)
-    }
+    ensures done { OnOk result (source.new ≡ take (start_of range) source.old
+        ++ map upper_image (slice_range source.old (start_of range) (end_of range (length source.old)))
+        ++ drop (end_of range (length source.old)) source.old) }
     ensures unchanged { OnErr result (source.new ≡ source.old) }
     ensures refused { IfErr result (IsRefused source.old range) }
 {
