@@ -40,7 +40,7 @@ IsAscii-part bytes s e ordered inside ascii =
     let P : ℕ → Type 0 = λ n. n < 128 in
     let long : length (slice_range bytes s e) ≡ e - s = length-slice_range bytes s e ordered inside in
     IsAscii-from_reads (slice_range bytes s e) (e - s) (omega arith) (λ k below.
-        subst P (sym (slice_range-at bytes s e k below)) (ascii (s + k) (omega arith) (omega arith)))
+    subst P (sym (slice_range-at bytes s e k below)) (ascii (s + k) (omega arith) (omega arith)))
 
 -- a part that is mapped to bytes under 128 keeps to them
 mapped : (f : ℕ → ℕ) → ((b : ℕ) → b < 128 → f b < 128) → (xs ys : List ℕ) (s e : ℕ) → s ≤ e → e ≤ length xs → AsciiBetween xs s e
@@ -49,7 +49,7 @@ mapped f small xs ys s e ordered inside ascii is =
     let long : length ys ≡ e - s = ap length is ∙ length-map (slice_range xs s e) f ∙ length-slice_range xs s e ordered inside in
     let part : slice_range (put_mid s (e - s) xs ys) s e ≡ map f (slice_range xs s e) = between-put_mid s (e - s) xs ys e (omega arith) long ∙ is in
     AsciiBetween-part (put_mid s (e - s) xs ys) s e
-        (subst IsAscii (sym part) (IsAscii-map f (slice_range xs s e) small (IsAscii-part xs s e ordered inside ascii)))
+    (subst IsAscii (sym part) (IsAscii-map f (slice_range xs s e) small (IsAscii-part xs s e ordered inside ascii)))
 
 upper_small : (b : ℕ) → b < 128 → upper_image b < 128
 upper_small b small = grind (arith, nat_tests)
@@ -65,3 +65,6 @@ raised = mapped upper_image upper_small
 pub lowered : (xs ys : List ℕ) (s e : ℕ) → s ≤ e → e ≤ length xs → AsciiBetween xs s e
     → ys ≡ map lower_image (slice_range xs s e) → AsciiBetween (put_mid s (e - s) xs ys) s e
 lowered = mapped lower_image lower_small
+
+-- the same, for either case
+pub ruleset keeps_ascii = (raised, lowered)

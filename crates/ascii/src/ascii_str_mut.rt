@@ -42,7 +42,7 @@ impl AsciiStrMut<'_> {
 
     /// Changes each character `a` to `z` of the text to that of `A` to `Z`. The rest of the text
     /// stays.
-    #[tactic(auto, using(std::proofs::lemmas::Slice::overwrites, crate::proofs::WritingViews::raised))]
+    #[tactic(auto, using(std::proofs::lemmas::Slice::overwrites, crate::proofs::WritingViews::keeps_ascii))]
     pub fn make_ascii_uppercase(&mut self)
         ensures text { mut_text_of self.new ≡ map upper_image (mut_text_of self.old) }
         ensures before { before_of self.new ≡ before_of self.old }
@@ -55,7 +55,7 @@ impl AsciiStrMut<'_> {
 
     /// Changes each character `A` to `Z` of the text to that of `a` to `z`. The rest of the text
     /// stays.
-    #[tactic(auto, using(std::proofs::lemmas::Slice::overwrites, crate::proofs::WritingViews::lowered))]
+    #[tactic(auto, using(std::proofs::lemmas::Slice::overwrites, crate::proofs::WritingViews::keeps_ascii))]
     pub fn make_ascii_lowercase(&mut self)
         ensures text { mut_text_of self.new ≡ map lower_image (mut_text_of self.old) }
         ensures before { before_of self.new ≡ before_of self.old }
