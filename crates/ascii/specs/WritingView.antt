@@ -1,7 +1,7 @@
 -- What a writing view is: the whole source that was lent to it, cut into the bytes before its text,
 -- the codes of its text, and the bytes after it.
 use Rattle.std.specs.Prelude.{◌≡◌, ℕ, List, length, take, drop, slice_range, MatchResult}
-use Rattle.std.specs.Borrow.{GName}
+use Rattle.std.specs.Borrow.{Array, Fml, GName, MutBor, RestsIfErr, u8}
 use Rattle.std.specs.declared.result.Result.{Result}
 use Rattle.ascii_base.specs.declared.range.AsciiRange.{AsciiRange}
 use Rattle.ascii_base.specs.Range.{start_of, end_of, Fits}
@@ -41,3 +41,8 @@ abbrev pub MutSliceOutcome : List ℕ → AsciiRange → Result AsciiStrMut AsAs
 MutSliceOutcome source r result = let n = length source in MatchResult result
     (λ v. Fits r n × IsPart source (start_of r) (end_of r n) v)
     (IsRefused source r)
+
+-- what a source rests at: where it was refused, as it was, and else at the last value of the view,
+-- which holds the very borrow of the source
+abbrev pub Rests : MutBor (List ℕ) → Result AsciiStrMut AsAsciiStrError → Fml
+Rests source result = RestsIfErr (Array u8 0) source lender_of result (λ last. last ≡ source.now)

@@ -23,7 +23,8 @@ pub fn as_ascii_str(source: &[u8]) -> Result<AsciiStr<'_>, AsAsciiStrError>
 
 /// The same as `as_ascii_str`.
 pub fn from_ascii(source: &[u8]) -> Result<AsciiStr<'_>, AsAsciiStrError>
-    ensures { SliceOutcome source.now AsciiRange.Full result }
+    ensures outcome { SliceOutcome source.now AsciiRange.Full result }
+    ensures ascii { OnOk result (IsAscii source.now) }
 {
     as_ascii_str(source)
 }

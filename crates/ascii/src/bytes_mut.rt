@@ -3,10 +3,10 @@
 ghost use Rattle.std.specs.Prelude.{true, false, ◌≡◌, ◌<◌, ◌≤◌, IfOk, length, slice_index};
 ghost use Rattle.ascii_base.specs.Range.{start_of, end_of, Fits};
 ghost use Rattle.ascii.specs.Between.{AsciiBetween};
-ghost use Rattle.ascii.specs.WritingView.{IsPart, MutSliceOutcome, lender_of, source_of};
+ghost use Rattle.ascii.specs.WritingView.{IsPart, MutSliceOutcome, Rests, lender_of, source_of};
 ghost use Rattle.ascii.specs.Slice.{IsRefused};
 ghost use Rattle.std.specs.Str.{IsAscii};
-ghost use Rattle.std.specs.Borrow.{sem, RestsIfErr, Array, u8 as byte};
+ghost use Rattle.std.specs.Borrow.{sem};
 
 use crate::ascii_str::AsAsciiStrError;
 use crate::ascii_str_mut::AsciiStrMut;
@@ -48,7 +48,7 @@ pub fn slice_ascii_mut(
 ) -> Result<AsciiStrMut<'_>, AsAsciiStrError>
     ensures outcome { MutSliceOutcome source.old range result }
     ensures lender { IfOk result (λ v. lender_of v ≡ source.entry.ghost_name) }
-    ensures* rests { sem 𝓛 (RestsIfErr (Array byte 0) source.entry lender_of result (λ n. n ≡ source.old)) }
+    ensures* rests { sem 𝓛 (Rests source.entry result) }
 {
     let searched = search(source, range);
     if searched.is_refused {
@@ -64,7 +64,7 @@ pub fn slice_ascii_mut(
 pub fn as_mut_ascii_str(source: &mut [u8]) -> Result<AsciiStrMut<'_>, AsAsciiStrError>
     ensures outcome { MutSliceOutcome source.old AsciiRange.Full result }
     ensures lender { IfOk result (λ v. lender_of v ≡ source.entry.ghost_name) }
-    ensures* rests { sem 𝓛 (RestsIfErr (Array byte 0) source.entry lender_of result (λ n. n ≡ source.old)) }
+    ensures* rests { sem 𝓛 (Rests source.entry result) }
 {
     slice_ascii_mut(source, AsciiRange::Full)
 }
