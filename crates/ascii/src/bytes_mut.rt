@@ -1,6 +1,6 @@
 //! Writing views of borrowed bytes.
 
-ghost use Rattle.std.specs.Prelude.{true, false, ◌≡◌, ◌<◌, ◌≤◌, IfOk, length, slice_index};
+ghost use Rattle.std.specs.Prelude.{true, false, ◌≡◌, IfOk, length};
 ghost use Rattle.ascii_base.specs.Range.{start_of, end_of, Fits};
 ghost use Rattle.ascii.specs.Between.{AsciiBetween};
 ghost use Rattle.ascii.specs.WritingView.{IsPart, MutSliceOutcome, Rests, lender_of, source_of};

@@ -1,8 +1,8 @@
 //! Edits of a part of a source.
 
 ghost use Rattle.std.specs.Prelude.{◌≡◌, OnOk, OnErr, IfErr, length, take, drop, slice_range, map, ◌++◌};
-ghost use Rattle.ascii_base.specs.Case.{upper_image, lower_image};
-ghost use Rattle.ascii_base.specs.Range.{start_of, end_of, Fits};
+ghost use Rattle.ascii_base.specs.Case.{upper_image};
+ghost use Rattle.ascii_base.specs.Range.{start_of, end_of};
 ghost use Rattle.ascii.specs.Slice.{IsRefused};
 ghost use Rattle.ascii.specs.WritingView.{before_of, mut_text_of, after_of, source_of, lender_of};
 
