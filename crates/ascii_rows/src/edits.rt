@@ -1,9 +1,9 @@
 //! Edits of a part of a source.
 
-ghost use Rattle.std.specs.Prelude.{◌≡◌, OnOk, OnErr, IfErr, length, take, drop, slice_range, map, ◌++◌};
+ghost use Rattle.std.specs.Prelude.{◌≡◌, ◌++◌, OnOk, OnErr, IfErr, map};
 ghost use Rattle.ascii_base.specs.Case.{upper_image};
-ghost use Rattle.ascii_base.specs.Range.{start_of, end_of};
 ghost use Rattle.ascii.specs.Slice.{IsRefused};
+ghost use Rattle.ascii_rows.specs.Raised.{raised_part};
 ghost use Rattle.ascii.specs.WritingView.{before_of, mut_text_of, after_of, source_of, lender_of};
 
 use ascii::{AsAsciiStrError, AsciiStrMut, bytes};
@@ -12,9 +12,7 @@ use ascii_base::range::AsciiRange;
 /// Changes the letters of a part of a source to upper case, where the part is ASCII text. A refused
 /// source is unchanged.
 pub fn upper_in(source: &mut [u8], range: AsciiRange) -> Result<(), AsAsciiStrError>
-    ensures done { OnOk result (source.new ≡ take (start_of range) source.old
-        ++ map upper_image (slice_range source.old (start_of range) (end_of range (length source.old)))
-        ++ drop (end_of range (length source.old)) source.old) }
+    ensures done { OnOk result (source.new ≡ raised_part source.old range) }
     ensures unchanged { OnErr result (source.new ≡ source.old) }
     ensures refused { IfErr result (IsRefused source.old range) }
 {
@@ -25,9 +23,7 @@ pub fn upper_in(source: &mut [u8], range: AsciiRange) -> Result<(), AsAsciiStrEr
 
 /// The same as `upper_in`, by one call that searches the part and lends it.
 pub fn raise_in(source: &mut [u8], range: AsciiRange) -> Result<(), AsAsciiStrError>
-    ensures done { OnOk result (source.new ≡ take (start_of range) source.old
-        ++ map upper_image (slice_range source.old (start_of range) (end_of range (length source.old)))
-        ++ drop (end_of range (length source.old)) source.old) }
+    ensures done { OnOk result (source.new ≡ raised_part source.old range) }
     ensures unchanged { OnErr result (source.new ≡ source.old) }
     ensures refused { IfErr result (IsRefused source.old range) }
 {
