@@ -1,8 +1,10 @@
 pub mod Debugs
 pub mod Extends
 pub mod Lining
+pub mod Resting
 pub mod Slices
 pub mod Splits
 pub mod Texts
 pub mod Trims
 pub mod Walks
+pub mod WritingViews

@@ -1,3 +1,4 @@
+pub mod Between
 pub mod Cow
 pub mod Debug
 pub mod Ends
@@ -10,6 +11,7 @@ pub mod Slice
 pub mod Text
 pub mod Trim
 pub mod View
+pub mod WritingView
 pub use Rattle.ascii_base.specs.Bytes
 pub use Rattle.ascii_base.specs.Case
 pub use Rattle.ascii_base.specs.Class

@@ -3,10 +3,12 @@
 #![tactic(auto)]
 
 pub mod ascii_str;
+pub mod ascii_str_mut;
 pub mod ascii_string;
 mod bounds;
 mod boxed;
 pub mod bytes;
+mod bytes_mut;
 mod collects;
 mod copies;
 mod from_ascii;
@@ -19,6 +21,7 @@ pub use ascii_base::ascii_char::{AsciiChar, ToAsciiChar, ToAsciiCharError};
 pub use ascii_base::free_functions::{caret_decode, caret_encode};
 pub use ascii_base::range::AsciiRange;
 pub use ascii_str::{AsAsciiStrError, AsciiStr};
+pub use ascii_str_mut::AsciiStrMut;
 pub use ascii_string::AsciiString;
 pub use boxed::{BoxedAsciiStr, CowAsciiStr, RcAsciiStr};
 pub use from_ascii::{CopyError, FromAsciiError};

@@ -1,0 +1,48 @@
+-- What a writing view is: the whole source that was lent to it, cut into the bytes before its text,
+-- the codes of its text, and the bytes after it.
+use Rattle.std.specs.Prelude.{◌≡◌, ℕ, List, length, take, drop, slice_range, MatchResult}
+use Rattle.std.specs.Borrow.{Array, Fml, GName, MutBor, RestsIfErr, u8}
+use Rattle.std.specs.declared.result.Result.{Result}
+use Rattle.ascii_base.specs.declared.range.AsciiRange.{AsciiRange}
+use Rattle.ascii_base.specs.Range.{start_of, end_of, Fits}
+use Rattle.ascii.specs.declared.ascii_str.AsAsciiStrError.{AsAsciiStrError}
+use Rattle.ascii.specs.declared.ascii_str_mut.AsciiStrMut.{AsciiStrMut}
+use Rattle.ascii.specs.Slice.{IsRefused}
+
+-- the bytes before the text
+abbrev pub before_of : AsciiStrMut → List ℕ
+before_of v = take v.start v.bytes.now
+
+-- the codes of the text
+abbrev pub mut_text_of : AsciiStrMut → List ℕ
+mut_text_of v = slice_range v.bytes.now v.start v.end
+
+-- the bytes after the text
+abbrev pub after_of : AsciiStrMut → List ℕ
+after_of v = drop v.end v.bytes.now
+
+-- the whole source
+abbrev pub source_of : AsciiStrMut → List ℕ
+source_of v = v.bytes.now
+
+-- the borrow of the source: two views with one lender write into the same source
+abbrev pub lender_of : AsciiStrMut → GName
+lender_of v = v.bytes.ghost_name
+
+-- a view of the bytes from s up to e of a source
+pub record IsPart (source : List ℕ) (s e : ℕ) (v : AsciiStrMut) : Type 0 where
+  pub before : before_of v ≡ take s source
+  pub text : mut_text_of v ≡ slice_range source s e
+  pub after : after_of v ≡ drop e source
+  pub whole : source_of v ≡ source
+
+-- the three outcomes of a slice for writing, of which no two hold at once
+abbrev pub MutSliceOutcome : List ℕ → AsciiRange → Result AsciiStrMut AsAsciiStrError → Type 0
+MutSliceOutcome source r result = let n = length source in MatchResult result
+    (λ v. Fits r n × IsPart source (start_of r) (end_of r n) v)
+    (IsRefused source r)
+
+-- what a source rests at: where it was refused, as it was, and else at the last value of the view,
+-- which holds the very borrow of the source
+abbrev pub Rests : MutBor (List ℕ) → Result AsciiStrMut AsAsciiStrError → Fml
+Rests source result = RestsIfErr (Array u8 0) source lender_of result (λ last. last ≡ source.now)

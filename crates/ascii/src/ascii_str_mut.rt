@@ -1,0 +1,78 @@
+//! Views that write: the part of a lent source that holds only bytes under 128 can be changed, and
+//! goes on holding only such bytes.
+
+ghost use Rattle.std.specs.Prelude.{◌≡◌, ◌<◌, ◌≤◌, ◌++◌, length, slice_set, map};
+ghost use Rattle.std.proofs.Props.{props};
+ghost use Rattle.ascii_base.specs.Case.{upper_image, lower_image};
+ghost use Rattle.ascii_base.specs.Code.{code_of};
+ghost use Rattle.ascii.specs.Between.{AsciiBetween};
+ghost use Rattle.ascii.specs.View.{text_of};
+
+use crate::ascii_str::AsciiStr;
+use ascii_base::ascii_char::AsciiChar;
+use ascii_base::kernels;
+
+/// A text of ASCII characters in a source that was lent for writing. The text can be changed, and
+/// the bytes of the source before and after it stay. It keeps its length.
+#[derive(Drop)]
+pub struct AsciiStrMut<'a> {
+    pub(crate) bytes: &'a mut [u8],
+    pub(crate) start: usize,
+    pub(crate) end: usize,
+    ghost ordered: { start ≤ end } by { Prim.hlevel props },
+    ghost inside: { end ≤ length bytes.now } by { Prim.hlevel props },
+    ghost ascii: { AsciiBetween bytes.now start end } by { Prim.hlevel props },
+}
+
+impl AsciiStrMut<'_> {
+    ghost use Rattle.ascii.specs.WritingView.{before_of, mut_text_of, after_of, source_of, lender_of};
+
+    /// Puts `ch` at position `i` of the text, counted from 0. The rest of the text stays.
+    #[inline]
+    pub fn set(&mut self, i: usize, ch: AsciiChar)
+        requires { i < length (mut_text_of self.old) }
+        ensures text { mut_text_of self.new ≡ slice_set (mut_text_of self.old) i (code_of ch) }
+        ensures before { before_of self.new ≡ before_of self.old }
+        ensures after { after_of self.new ≡ after_of self.old }
+        ensures lender { lender_of self.new ≡ lender_of self.old }
+        ensures whole { source_of self.new ≡ before_of self.new ++ mut_text_of self.new ++ after_of self.new }
+    {
+        self.bytes[self.start + i] = ch.as_byte();
+    }
+
+    /// Changes each character `a` to `z` of the text to that of `A` to `Z`. The rest of the text
+    /// stays.
+    #[tactic(auto, using(std::proofs::lemmas::Slice::overwrites, crate::proofs::WritingViews::keeps_ascii))]
+    pub fn make_ascii_uppercase(&mut self)
+        ensures text { mut_text_of self.new ≡ map upper_image (mut_text_of self.old) }
+        ensures before { before_of self.new ≡ before_of self.old }
+        ensures after { after_of self.new ≡ after_of self.old }
+        ensures lender { lender_of self.new ≡ lender_of self.old }
+        ensures whole { source_of self.new ≡ before_of self.new ++ mut_text_of self.new ++ after_of self.new }
+    {
+        kernels::upper_in_place(&mut self.bytes[self.start..self.end]);
+    }
+
+    /// Changes each character `A` to `Z` of the text to that of `a` to `z`. The rest of the text
+    /// stays.
+    #[tactic(auto, using(std::proofs::lemmas::Slice::overwrites, crate::proofs::WritingViews::keeps_ascii))]
+    pub fn make_ascii_lowercase(&mut self)
+        ensures text { mut_text_of self.new ≡ map lower_image (mut_text_of self.old) }
+        ensures before { before_of self.new ≡ before_of self.old }
+        ensures after { after_of self.new ≡ after_of self.old }
+        ensures lender { lender_of self.new ≡ lender_of self.old }
+        ensures whole { source_of self.new ≡ before_of self.new ++ mut_text_of self.new ++ after_of self.new }
+    {
+        kernels::lower_in_place(&mut self.bytes[self.start..self.end]);
+    }
+
+    /// A view of the text, to read it.
+    #[inline]
+    pub fn as_ascii_str(&self) -> AsciiStr<'_>
+        ensures { text_of result ≡ mut_text_of self.now }
+    {
+        AsciiStr {
+            bytes: &self.bytes[self.start..self.end],
+        }
+    }
+}

@@ -1,0 +1,109 @@
+//! Writing views of borrowed bytes.
+
+ghost use Rattle.std.specs.Prelude.{true, false, ◌≡◌, IfOk, length};
+ghost use Rattle.ascii_base.specs.Range.{start_of, end_of, Fits};
+ghost use Rattle.ascii.specs.Between.{AsciiBetween};
+ghost use Rattle.ascii.specs.WritingView.{IsPart, MutSliceOutcome, Rests, lender_of, source_of};
+ghost use Rattle.ascii.specs.Slice.{IsRefused};
+ghost use Rattle.std.specs.Str.{IsAscii};
+ghost use Rattle.std.specs.Borrow.{sem};
+
+use crate::ascii_str::AsAsciiStrError;
+use crate::ascii_str_mut::AsciiStrMut;
+use crate::bounds::checked_bounds;
+use ascii_base::range::AsciiRange;
+
+/// The part of the source that the range names, for writing. Nothing is checked.
+#[inline]
+pub fn slice_ascii_mut_unchecked(source: &mut [u8], range: AsciiRange) -> AsciiStrMut<'_>
+    requires fits { Fits range (length source.old) }
+    requires ascii { AsciiBetween source.old (start_of range) (end_of range (length source.old)) }
+    ensures part { IsPart source.old (start_of range) (end_of range (length source.old)) result }
+    ensures lender { lender_of result ≡ source.entry.ghost_name }
+{
+    let end = range.end(source.len());
+    AsciiStrMut {
+        bytes: source,
+        start: range.start(),
+        end,
+    }
+}
+
+/// The whole source, for writing. Nothing is checked.
+#[inline]
+pub fn as_mut_ascii_str_unchecked(source: &mut [u8]) -> AsciiStrMut<'_>
+    requires { IsAscii source.old }
+    ensures part { IsPart source.old 0 (length source.old) result }
+    ensures lender { lender_of result ≡ source.entry.ghost_name }
+{
+    slice_ascii_mut_unchecked(source, AsciiRange::Full)
+}
+
+/// The part of the source that the range names, for writing. A range that does not fit is refused
+/// with the length of the source, and one that fits with the position in the source of its first
+/// byte over 127. A refused source is unchanged, and bytes outside the range do not matter.
+pub fn slice_ascii_mut(
+    source: &mut [u8],
+    range: AsciiRange,
+) -> Result<AsciiStrMut<'_>, AsAsciiStrError>
+    ensures outcome { MutSliceOutcome source.old range result }
+    ensures lender { IfOk result (λ v. lender_of v ≡ source.entry.ghost_name) }
+    ensures* rests { sem 𝓛 (Rests source.entry result) }
+{
+    let searched = search(source, range);
+    if searched.is_refused {
+        return Err(AsAsciiStrError {
+            valid_up_to: searched.valid_up_to,
+        });
+    }
+    Ok(searched.view)
+}
+
+/// The whole source for writing, or the position of its first byte over 127. A refused source is
+/// unchanged.
+pub fn as_mut_ascii_str(source: &mut [u8]) -> Result<AsciiStrMut<'_>, AsAsciiStrError>
+    ensures outcome { MutSliceOutcome source.old AsciiRange.Full result }
+    ensures lender { IfOk result (λ v. lender_of v ≡ source.entry.ghost_name) }
+    ensures* rests { sem 𝓛 (Rests source.entry result) }
+{
+    slice_ascii_mut(source, AsciiRange::Full)
+}
+
+/// What a search of a range of a source found.
+#[derive(Drop)]
+struct Searched<'a> {
+    /// the part of the range; of a refused source, no part
+    view: AsciiStrMut<'a>,
+    is_refused: bool,
+    /// the position that a refusal names
+    valid_up_to: usize,
+}
+
+/// Looks through the range of a source, and keeps hold of the source.
+fn search(source: &mut [u8], range: AsciiRange) -> Searched<'_>
+    ensures accepted { result.is_refused ≡ false → Fits range (length source.old) × IsPart source.old (start_of range) (end_of range (length source.old)) result.view }
+    ensures refused { result.is_refused ≡ true → IsRefused source.old range (record { valid_up_to = result.valid_up_to }) }
+    ensures whole { source_of result.view ≡ source.old }
+    ensures lender { lender_of result.view ≡ source.entry.ghost_name }
+{
+    match checked_bounds(source, range) {
+        Ok((start, end)) => Searched {
+            view: AsciiStrMut {
+                bytes: source,
+                start,
+                end,
+            },
+            is_refused: false,
+            valid_up_to: end,
+        },
+        Err(error) => Searched {
+            view: AsciiStrMut {
+                bytes: source,
+                start: 0,
+                end: 0,
+            },
+            is_refused: true,
+            valid_up_to: error.valid_up_to,
+        },
+    }
+}

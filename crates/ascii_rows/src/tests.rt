@@ -1,0 +1,86 @@
+//! Each call on sources whose outcome is known from outside.
+
+use crate::edits::{raise_in, upper_in};
+use ascii::{AsciiChar, bytes};
+use ascii_base::range::AsciiRange;
+
+const SOURCE: [u8; 5] = [0x61, 0xc4, 0x8d, 0x42, 0x62];
+
+#[test]
+fn a_view_edits_its_part_alone(rt: HostRuntime) {
+    let mut source = SOURCE;
+    match bytes::slice_ascii_mut(&mut source[..], AsciiRange::From(3)) {
+        Ok(view) => {
+            let mut view = view;
+            view.make_ascii_lowercase();
+            assert_eq!(rt; view.as_ascii_str().as_str(), "bb");
+            assert!(rt; !view.as_ascii_str().is_empty());
+            view.set(0, AsciiChar::Z);
+            assert_eq!(rt; view.as_ascii_str().as_str(), "Zb");
+        }
+        Err(_) => assert!(rt; false),
+    }
+    assert_eq!(rt; source, [0x61, 0xc4, 0x8d, 0x5a, 0x62]);
+}
+
+#[test]
+fn a_refused_source_is_unchanged(rt: HostRuntime) {
+    for (range, position) in [
+        (AsciiRange::Range(1, 3), 1),
+        (AsciiRange::To(6), 5),
+        (AsciiRange::Full, 1),
+        (AsciiRange::Inclusive(3, usize::MAX), 5),
+    ] {
+        let mut source = SOURCE;
+        match bytes::slice_ascii_mut(&mut source[..], range) {
+            Ok(_) => assert!(rt; false),
+            Err(error) => assert_eq!(rt; error.valid_up_to(), position),
+        }
+        assert_eq!(rt; source, SOURCE);
+    }
+    let mut source = SOURCE;
+    match bytes::as_mut_ascii_str(&mut source[..]) {
+        Ok(_) => assert!(rt; false),
+        Err(error) => assert_eq!(rt; error.valid_up_to(), 1),
+    }
+    assert_eq!(rt; source, SOURCE);
+}
+
+#[test]
+fn a_whole_source_is_edited(rt: HostRuntime) {
+    let mut source = *b"`aBz{";
+    match bytes::as_mut_ascii_str(&mut source[..]) {
+        Ok(view) => {
+            let mut view = view;
+            view.make_ascii_uppercase();
+            assert_eq!(rt; view.as_ascii_str().as_str(), "`ABZ{");
+        }
+        Err(_) => assert!(rt; false),
+    }
+    assert_eq!(rt; source, *b"`ABZ{");
+    let mut view = bytes::as_mut_ascii_str_unchecked(&mut source[..]);
+    view.make_ascii_lowercase();
+    assert_eq!(rt; source, *b"`abz{");
+}
+
+#[test]
+fn a_part_is_raised(rt: HostRuntime) {
+    for (range, edited) in [
+        (AsciiRange::From(3), Some([0x61, 0xc4, 0x8d, 0x42, 0x42])),
+        (
+            AsciiRange::ToInclusive(0),
+            Some([0x41, 0xc4, 0x8d, 0x42, 0x62]),
+        ),
+        (AsciiRange::Range(1, 1), Some(SOURCE)),
+        (AsciiRange::Range(0, 2), None),
+        (AsciiRange::Range(2, 1), None),
+    ] {
+        let mut first = SOURCE;
+        let mut second = SOURCE;
+        let is_done = upper_in(&mut first[..], range).is_ok();
+        assert_eq!(rt; raise_in(&mut second[..], range).is_ok(), is_done);
+        assert_eq!(rt; is_done, edited.is_some());
+        assert_eq!(rt; first, edited.unwrap_or(SOURCE));
+        assert_eq!(rt; second, first);
+    }
+}
