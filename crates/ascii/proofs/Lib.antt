@@ -1,6 +1,7 @@
 pub mod Debugs
 pub mod Extends
 pub mod Lining
+pub mod OneByte
 pub mod Resting
 pub mod Slices
 pub mod Splits

@@ -13,6 +13,7 @@ mod collects;
 mod copies;
 mod from_ascii;
 pub mod iter;
+pub mod json;
 pub mod string;
 pub mod text;
 pub mod vec;

@@ -1,0 +1,30 @@
+-- Why a JSON value is refused as a character or as a text.
+use Rattle.std.specs.Prelude.{◌≡◌, ◌≢◌, ℕ, ◌<◌, List, length, Some, None}
+use Rattle.std.specs.Str.{IsAscii}
+use Rattle.serde_json.specs.Data.{Data}
+use Rattle.serde_json.specs.Find.{as_str}
+use Rattle.ascii_base.specs.Bytes.{FirstOther}
+use Rattle.ascii.specs.declared.json.JsonError.{JsonError}
+use Rattle.ascii.specs.declared.json.JsonError.TheVariants.{NotText, NotOneByte, NotAscii, Memory}
+use Rattle.ascii.specs.View.{position_of}
+
+-- no character: no JSON string, or one that has not one byte
+abbrev pub RefusesChar : Data → JsonError → Type 0
+RefusesChar value NotText = as_str value ≡ None
+RefusesChar value NotOneByte = (text : List ℕ) × (as_str value ≡ Some text) × (length text ≢ 1)
+RefusesChar value (NotAscii e) = ⊥
+RefusesChar value Memory = ⊥
+
+-- no text: no JSON string, or one with a byte over 127, whose first place is named
+abbrev pub RefusesText : Data → JsonError → Type 0
+RefusesText value NotText = as_str value ≡ None
+RefusesText value NotOneByte = ⊥
+RefusesText value (NotAscii e) = (text : List ℕ) × (as_str value ≡ Some text) × FirstOther text 0 (length text) (position_of e)
+RefusesText value Memory = ⊥
+
+-- the same for a copy, or memory was refused for one that is not empty
+abbrev pub RefusesTextCopy : Data → JsonError → Type 0
+RefusesTextCopy value NotText = as_str value ≡ None
+RefusesTextCopy value NotOneByte = ⊥
+RefusesTextCopy value (NotAscii e) = (text : List ℕ) × (as_str value ≡ Some text) × FirstOther text 0 (length text) (position_of e)
+RefusesTextCopy value Memory = (text : List ℕ) × (as_str value ≡ Some text) × IsAscii text × (0 < length text)

@@ -1,0 +1,97 @@
+//! Characters and texts as JSON values: a character is a JSON string of one byte, a text a JSON
+//! string with all bytes under 128.
+
+ghost use Rattle.std.specs.Prelude.{◌≡◌, [], ◌∷◌, IfOk, MatchResult, Some};
+ghost use Rattle.serde_json.specs.Data.{string};
+ghost use Rattle.serde_json.specs.Find.{as_str};
+ghost use Rattle.serde_json.specs.View.{view};
+ghost use Rattle.ascii_base.specs.Code.{code_of};
+ghost use Rattle.ascii.specs.Json.{RefusesChar, RefusesText, RefusesTextCopy};
+ghost use Rattle.ascii.specs.View.{text_of};
+
+use crate::ascii_str::{AsAsciiStrError, AsciiStr};
+use crate::ascii_string::AsciiString;
+use crate::text;
+use ascii_base::ascii_char::{AsciiChar, ToAsciiChar};
+use serde_json::Value;
+use std::alloc::{AllocError, Allocator, Global};
+
+/// A JSON value was refused as a character or as a text.
+#[derive(Clone, Copy, PartialEq, Eq, Debug)]
+pub enum JsonError {
+    /// The value is no JSON string.
+    NotText,
+    /// The JSON string has not one byte.
+    NotOneByte,
+    /// The JSON string has a byte over 127; the error has the position of the first.
+    NotAscii(AsAsciiStrError),
+    /// Memory was refused.
+    Memory,
+}
+
+impl AsciiStr<'_> {
+    /// The view as a JSON string.
+    pub fn to_json(self, alloc: Global) -> Result<Value, AllocError>
+        ensures { IfOk result (λ value. view value ≡ string (text_of self.entry)) }
+    {
+        Ok(Value::String(String::from_str(alloc, self.as_str())?))
+    }
+}
+
+impl<A: Allocator> AsciiString<A> {
+    /// The text as a JSON string.
+    pub fn to_json(&self, alloc: Global) -> Result<Value, AllocError>
+        ensures { IfOk result (λ value. view value ≡ string self.now.text) }
+    {
+        self.as_ascii_str().to_json(alloc)
+    }
+}
+
+/// The character as a JSON string of one byte.
+pub fn char_to_json(alloc: Global, ch: AsciiChar) -> Result<Value, AllocError>
+    ensures { IfOk result (λ value. view value ≡ string (code_of ch ∷ [])) }
+{
+    let mut text = String::new(alloc);
+    text.push(ch.as_char())?;
+    Ok(Value::String(text))
+}
+
+/// The character of a JSON string of one byte.
+pub fn char_from_json(value: &Value) -> Result<AsciiChar, JsonError>
+    ensures { MatchResult result (λ ch. as_str (view value.now) ≡ Some (code_of ch ∷ [])) (RefusesChar (view value.now)) }
+{
+    let Some(text) = value.as_str() else {
+        return Err(JsonError::NotText);
+    };
+    if text.len() != 1 {
+        return Err(JsonError::NotOneByte);
+    }
+    let byte = text.as_bytes()[0];
+    Ok(AsciiChar::from_ascii_unchecked(byte))
+}
+
+/// A view of the text of a JSON string, in the value's own memory.
+pub fn str_from_json(value: &Value) -> Result<AsciiStr<'_>, JsonError>
+    ensures { MatchResult result (λ text. as_str (view value.now) ≡ Some (text_of text)) (RefusesText (view value.now)) }
+{
+    let Some(text) = value.as_str() else {
+        return Err(JsonError::NotText);
+    };
+    match text::as_ascii_str(text) {
+        Ok(view) => Ok(view),
+        Err(e) => Err(JsonError::NotAscii(e)),
+    }
+}
+
+/// A copy of the text of a JSON string. Memory is asked for after every other test.
+pub fn string_from_json<A: Allocator>(alloc: A, value: &Value) -> Result<AsciiString<A>, JsonError>
+    ensures { MatchResult result (λ string. as_str (view value.now) ≡ Some string.text) (RefusesTextCopy (view value.now)) }
+{
+    match str_from_json(value) {
+        Ok(view) => match view.to_ascii_string(alloc) {
+            Ok(string) => Ok(string),
+            Err(_) => Err(JsonError::Memory),
+        },
+        Err(e) => Err(e),
+    }
+}
