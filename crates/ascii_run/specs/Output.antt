@@ -1,8 +1,35 @@
 -- What each mode puts out for a text.
-use Rattle.std.specs.Prelude.{◌≡◌, ℕ, List}
+use Rattle.std.specs.Prelude.{◌≡◌, ℕ, ◌+◌, List, [], ◌∷◌, ◌++◌, reverse, if◌then◌else◌, nat_lt, ◌==◌, Option, Some, None}
+use Rattle.std.specs.List.{flat_map}
+use Rattle.ascii.specs.Ends.{Ends as EndsOf}
+use Rattle.ascii_run.specs.JsonText.{json_text}
+use Rattle.ascii.specs.Lines.{Line, LinesOf, bodies}
 use Rattle.ascii_run.specs.declared.modes.Mode.{Mode}
-use Rattle.ascii_run.specs.declared.modes.Mode.TheVariants.{Copy}
+use Rattle.ascii_run.specs.declared.modes.Mode.TheVariants.{Copy, Lines, Tac, Caret, Ends, Json}
+
+-- a line's body, and LF
+abbrev pub with_line_feed : List ℕ → List ℕ
+with_line_feed body = body ++ 10 ∷ []
+
+-- an answer: `+`, the body and LF, or `-` and LF
+abbrev pub answer_text : Option (List ℕ) → List ℕ
+answer_text None = 45 ∷ 10 ∷ []
+answer_text (Some body) = 43 ∷ (body ++ 10 ∷ [])
+
+-- a code: a control other than LF as `^` and its caret letter, and else itself
+abbrev pub caret_text : ℕ → List ℕ
+caret_text n =
+    if n == 10 then n ∷ []
+    else (if nat_lt n 32 then 94 ∷ (n + 64) ∷ []
+    else (if n == 127 then 94 ∷ 63 ∷ [] else n ∷ []))
 
 -- the output of a mode for a text
 abbrev pub IsOutput : Mode → List ℕ → List ℕ → Type 0
 IsOutput Copy text output = output ≡ text
+IsOutput Lines text output = (lines : List Line) × LinesOf text lines × (output ≡ flat_map with_line_feed (bodies lines))
+IsOutput Tac text output = (lines : List Line) × LinesOf text lines × (output ≡ flat_map with_line_feed (reverse (bodies lines)))
+IsOutput Caret text output = output ≡ flat_map caret_text text
+IsOutput (Ends script) text output =
+    (lines : List Line) × LinesOf text lines
+    × ((answers : List (Option (List ℕ))) × EndsOf (bodies lines) script.now answers × (output ≡ flat_map answer_text answers))
+IsOutput Json text output = output ≡ json_text text

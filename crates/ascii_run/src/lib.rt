@@ -3,6 +3,7 @@
 
 mod devices;
 mod modes;
+mod outputs;
 
 pub use devices::{DeviceFault, Input, Output, Sink, Source};
 pub use modes::{EngineFault, Mode, engine};

@@ -5,17 +5,29 @@ ghost use Rattle.std.specs.Io.KnownBytes.{Appends};
 ghost use Rattle.ascii.specs.View.{text_of};
 ghost use Rattle.ascii_run.specs.Devices.{CountsFault};
 ghost use Rattle.ascii_run.specs.Engine.{AppendsFront, CountsRead, IsMemoryOrRead, IsNotAsciiIn, ReadsAll, Tells, read_failures, write_failures};
-ghost use Rattle.ascii_run.specs.Output.{IsOutput};
 
 use crate::devices::{Sink, Source};
+use crate::outputs::output_of;
+use ascii::iter::End;
 use ascii::{AsciiStr, bytes};
 use std::alloc::Allocator;
 
 /// What a run does with the text of its input.
 #[derive(Clone, Copy)]
-pub enum Mode {
+pub enum Mode<'a> {
     /// The text itself.
     Copy,
+    /// The body of each line and LF, from the front.
+    Lines,
+    /// The body of each line and LF, from the back.
+    Tac,
+    /// Each character; a control character other than LF as `^` and its caret letter.
+    Caret,
+    /// For each end of the script what one iterator of lines gives: `+`, the body and LF, or `-` and
+    /// LF where none is left.
+    Ends(&'a [End]),
+    /// The text as a compact JSON string.
+    Json,
 }
 
 /// Why a run stopped.
@@ -34,21 +46,22 @@ pub enum EngineFault {
 /// Reads the input to its end, and then writes the output of the mode and flushes it. All growth is
 /// made before the first byte goes out. After `NotAscii`, `Memory` and `Read` nothing was written;
 /// after `Write` a beginning of the output went out.
-pub fn engine<S: Source, K: Sink, A: Allocator>(
+pub fn engine<S: Source, K: Sink, A: Allocator + Copy>(
     alloc: A,
-    mode: Mode,
+    mode: Mode<'_>,
     reader: &mut S,
     writer: &mut K,
 ) -> Result<(), EngineFault>
     requires reads { S.failures reader.old < u64.MAX }
     requires writes { K.failures writer.old < u64.MAX }
-    ensures tells { Tells mode result (S.rest reader.old) (S.rest reader.new) (K.taken writer.old) (K.taken writer.new) }
+    ensures tells { Tells mode.entry result (S.rest reader.old) (S.rest reader.new) (K.taken writer.old) (K.taken writer.new) }
     ensures read { S.failures reader.new ≡ read_failures (S.failures reader.old) result }
     ensures write { K.failures writer.new ≡ write_failures (K.failures writer.old) result }
 {
     let input = read_all(alloc, reader)?;
     let text = text_in(&input)?;
-    write_all(writer, output_of(mode, text).as_bytes())
+    let output = output_of(alloc, mode, text)?;
+    write_all(writer, output.as_ascii_str().as_bytes())
 }
 
 /// The input as a text.
@@ -59,15 +72,6 @@ fn text_in(input: &[u8]) -> Result<AsciiStr<'_>, EngineFault>
     match bytes::as_ascii_str(input) {
         Ok(text) => Ok(text),
         Err(e) => Err(EngineFault::NotAscii(e.valid_up_to())),
-    }
-}
-
-/// The output of the mode for a text.
-fn output_of<'a>(mode: Mode, text: AsciiStr<'a>) -> AsciiStr<'a>
-    ensures { IsOutput mode (text_of text.entry) (text_of result) }
-{
-    match mode {
-        Mode::Copy => text,
     }
 }
 

@@ -1,0 +1,140 @@
+//! The output of each mode for a text.
+
+ghost use Rattle.std.specs.Prelude.{◌≡◌, IfErr, IfOk, OnOk, [], ◌++◌};
+ghost use Rattle.std.specs.Option.{option_map};
+ghost use Rattle.ascii_base.specs.Code.{code_of};
+ghost use Rattle.std.specs.List.{flat_map};
+ghost use Rattle.ascii.specs.Cow.{cow_text};
+ghost use Rattle.ascii.specs.View.{text_of};
+ghost use Rattle.ascii_run.specs.Output.{IsOutput, answer_text, caret_text};
+ghost use Rattle.ascii_run.specs.JsonText.{json_text};
+
+use crate::modes::{EngineFault, Mode};
+use ascii::iter::End;
+use ascii::{AsciiChar, AsciiStr, AsciiString, CowAsciiStr, caret_encode};
+use json::Writer;
+use std::alloc::{AllocError, Allocator};
+
+/// The output of the mode for a text. All memory for it is asked for here.
+pub fn output_of<'a, A: Allocator + Copy>(
+    alloc: A,
+    mode: Mode<'_>,
+    text: AsciiStr<'a>,
+) -> Result<CowAsciiStr<'a, A>, EngineFault>
+    ensures ok { IfOk result (λ output. IsOutput mode.entry (text_of text.entry) (cow_text output)) }
+    ensures err { IfErr result (λ fault. fault ≡ EngineFault.Memory) }
+{
+    let made = match mode {
+        Mode::Copy => return Ok(CowAsciiStr::Borrowed(text)),
+        Mode::Lines => lines_output(alloc, text),
+        Mode::Tac => tac_output(alloc, text),
+        Mode::Caret => caret_output(alloc, text),
+        Mode::Ends(script) => ends_output(alloc, text, script),
+        Mode::Json => json_output(alloc, text),
+    };
+    match made {
+        Ok(output) => Ok(CowAsciiStr::Owned(output)),
+        Err(_) => Err(EngineFault::Memory),
+    }
+}
+
+/// An empty output with room for the bodies of all lines of a text, each with a line feed.
+fn room_for_lines<A: Allocator>(alloc: A, text: AsciiStr<'_>) -> Result<AsciiString<A>, AllocError>
+    ensures { IfOk result (λ output. output.text ≡ []) }
+{
+    AsciiString::with_capacity(alloc, text.len().saturating_add(1))
+}
+
+/// The body of each line and LF, from the front.
+fn lines_output<A: Allocator>(alloc: A, text: AsciiStr<'_>) -> Result<AsciiString<A>, AllocError>
+    ensures { IfOk result (λ output. IsOutput Mode.Lines (text_of text.entry) output.text) }
+{
+    let mut output = room_for_lines(alloc, text)?;
+    for body in text.lines() {
+        output.push_str(body)?;
+        output.push(AsciiChar::LineFeed)?;
+    }
+    Ok(output)
+}
+
+/// The body of each line and LF, from the back.
+fn tac_output<A: Allocator>(alloc: A, text: AsciiStr<'_>) -> Result<AsciiString<A>, AllocError>
+    ensures { IfOk result (λ output. IsOutput Mode.Tac (text_of text.entry) output.text) }
+{
+    let mut output = room_for_lines(alloc, text)?;
+    for body in text.lines().rev() {
+        output.push_str(body)?;
+        output.push(AsciiChar::LineFeed)?;
+    }
+    Ok(output)
+}
+
+/// Each character; a control character other than LF as `^` and its caret letter.
+fn caret_output<A: Allocator>(alloc: A, text: AsciiStr<'_>) -> Result<AsciiString<A>, AllocError>
+    ensures { IfOk result (λ output. output.text ≡ flat_map caret_text (text_of text.entry)) }
+{
+    let mut output = AsciiString::with_capacity(alloc, text.len())?;
+    for ch in text.chars() {
+        push_caret(&mut output, ch)?;
+    }
+    Ok(output)
+}
+
+/// Appends a character as `caret` shows it.
+fn push_caret<A: Allocator>(output: &mut AsciiString<A>, ch: AsciiChar) -> Result<(), AllocError>
+    ensures { OnOk result (output.new.text ≡ output.old.text ++ caret_text (code_of ch)) }
+{
+    match caret_encode(ch.as_byte()) {
+        Some(letter) if ch != AsciiChar::LineFeed => {
+            output.push(AsciiChar::Caret)?;
+            output.push(letter)
+        }
+        _ => output.push(ch),
+    }
+}
+
+/// What one iterator of lines gives to a script of ends, a line for each end.
+fn ends_output<A: Allocator>(
+    alloc: A,
+    text: AsciiStr<'_>,
+    script: &[End],
+) -> Result<AsciiString<A>, AllocError>
+    ensures { IfOk result (λ output. IsOutput (Mode.Ends script.entry) (text_of text.entry) output.text) }
+{
+    let mut output = AsciiString::new(alloc);
+    let mut lines = text.lines();
+    for end in script {
+        let answer = match end {
+            End::Front => lines.next(),
+            End::Back => lines.next_back(),
+        };
+        push_answer(&mut output, answer)?;
+    }
+    Ok(output)
+}
+
+/// Appends an answer: `+`, the body and LF, or `-` and LF.
+fn push_answer<A: Allocator>(
+    output: &mut AsciiString<A>,
+    answer: Option<AsciiStr<'_>>,
+) -> Result<(), AllocError>
+    ensures { OnOk result (output.new.text ≡ output.old.text ++ answer_text (option_map text_of answer.entry)) }
+{
+    match answer {
+        Some(body) => {
+            output.push(AsciiChar::Plus)?;
+            output.push_str(body)?;
+        }
+        None => output.push(AsciiChar::Minus)?,
+    }
+    output.push(AsciiChar::LineFeed)
+}
+
+/// The text as a compact JSON string.
+fn json_output<A: Allocator>(alloc: A, text: AsciiStr<'_>) -> Result<AsciiString<A>, AllocError>
+    ensures { IfOk result (λ output. output.text ≡ json_text (text_of text.entry)) }
+{
+    let mut writer = Writer::new(Vec::with_capacity(alloc, text.len().saturating_add(2))?);
+    writer.string(text.as_str())?;
+    Ok(AsciiString::from_ascii_unchecked(writer.into_inner()))
+}
