@@ -33,11 +33,11 @@ same (x ∷ xs) (y ∷ ys) h =
     cc
 
 -- a test at each number below n
-abbrev all_below : (ℕ → Bool) → ℕ → Bool
+abbrev pub all_below : (ℕ → Bool) → ℕ → Bool
 all_below test zero = true
 all_below test (suc n) = test n && all_below test n
 
-all_below-at : (test : ℕ → Bool) (n c : ℕ) → all_below test n ≡ true → c < n → test c ≡ true
+pub all_below-at : (test : ℕ → Bool) (n c : ℕ) → all_below test n ≡ true → c < n → test c ≡ true
 all_below-at test zero c ok low = absurd (omega arith)
 all_below-at test (suc n) c ok low =
     let parts = both (test n) (all_below test n) ok in

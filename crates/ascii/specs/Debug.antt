@@ -1,14 +1,11 @@
 -- What `{:?}` writes for a text: a double quote, its characters one by one, a double quote.
-use Rattle.std.specs.Prelude.{ℕ, ◌+◌, ◌/◌, ◌%◌, List, [], ◌∷◌, ◌++◌, if◌then◌else◌, ◌==◌, ◌||◌, nat_lt}
+use Rattle.std.specs.Prelude.{ℕ, ◌/◌, ◌%◌, List, [], ◌∷◌, ◌++◌, if◌then◌else◌, ◌==◌, ◌||◌, nat_lt}
+use Rattle.std.specs.Char.{digit_char}
 use Rattle.std.specs.List.{flat_map}
-
--- a hexadecimal digit in lower case, as a byte
-abbrev pub hex_digit : ℕ → ℕ
-hex_digit d = if nat_lt d 10 then 48 + d else 87 + d
 
 -- a number under 256 in hexadecimal, without leading zeros
 abbrev pub hex : ℕ → List ℕ
-hex n = if nat_lt n 16 then hex_digit n ∷ [] else hex_digit (n / 16) ∷ hex_digit (n % 16) ∷ []
+hex n = if nat_lt n 16 then digit_char n ∷ [] else digit_char (n / 16) ∷ digit_char (n % 16) ∷ []
 
 -- a code between double quotes: `\0`, `\t`, `\n`, `\r`, `\"`, `\\`, `\u{..}` for the other controls, and else itself
 abbrev pub debug_code : ℕ → List ℕ

@@ -1,1 +1,3 @@
+pub mod EndsOutput
+pub mod JsonTexts
 pub mod Known

@@ -1,10 +1,7 @@
 -- The compact JSON text of a text: a double quote, its characters one by one, a double quote.
-use Rattle.std.specs.Prelude.{ℕ, ◌+◌, ◌/◌, ◌%◌, List, [], ◌∷◌, ◌++◌, if◌then◌else◌, ◌==◌, nat_lt}
+use Rattle.std.specs.Prelude.{ℕ, ◌/◌, ◌%◌, List, [], ◌∷◌, ◌++◌, if◌then◌else◌, ◌==◌, nat_lt}
+use Rattle.std.specs.Char.{digit_char}
 use Rattle.std.specs.List.{flat_map}
-
--- a hexadecimal digit in lower case, as a byte
-abbrev pub hex_digit : ℕ → ℕ
-hex_digit d = if nat_lt d 10 then 48 + d else 87 + d
 
 -- a code in a JSON string: `\b`, `\t`, `\n`, `\f`, `\r`, `\"`, `\\`, `\u00` and two digits for the other codes under 32, and else itself
 abbrev pub json_code : ℕ → List ℕ
@@ -16,7 +13,7 @@ json_code n =
     else (if n == 13 then 92 ∷ 114 ∷ []
     else (if n == 34 then 92 ∷ 34 ∷ []
     else (if n == 92 then 92 ∷ 92 ∷ []
-    else (if nat_lt n 32 then 92 ∷ 117 ∷ 48 ∷ 48 ∷ hex_digit (n / 16) ∷ hex_digit (n % 16) ∷ [] else n ∷ [])))))))
+    else (if nat_lt n 32 then 92 ∷ 117 ∷ 48 ∷ 48 ∷ digit_char (n / 16) ∷ digit_char (n % 16) ∷ [] else n ∷ [])))))))
 
 -- a text as a JSON string
 abbrev pub json_text : List ℕ → List ℕ

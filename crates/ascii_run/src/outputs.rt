@@ -5,12 +5,14 @@ ghost use Rattle.std.specs.Option.{option_map};
 ghost use Rattle.ascii_base.specs.Code.{code_of};
 ghost use Rattle.std.specs.List.{flat_map};
 ghost use Rattle.ascii.specs.Cow.{cow_text};
+ghost use Rattle.ascii.specs.Ends.{TakesEnd};
+ghost use Rattle.ascii.specs.Lines.{bodies};
 ghost use Rattle.ascii.specs.View.{text_of};
 ghost use Rattle.ascii_run.specs.Output.{IsOutput, answer_text, caret_text};
 ghost use Rattle.ascii_run.specs.JsonText.{json_text};
 
 use crate::modes::{EngineFault, Mode};
-use ascii::iter::End;
+use ascii::iter::{End, Lines};
 use ascii::{AsciiChar, AsciiStr, AsciiString, CowAsciiStr, caret_encode};
 use json::Writer;
 use std::alloc::{AllocError, Allocator};
@@ -104,13 +106,19 @@ fn ends_output<A: Allocator>(
     let mut output = AsciiString::new(alloc);
     let mut lines = text.lines();
     for end in script {
-        let answer = match end {
-            End::Front => lines.next(),
-            End::Back => lines.next_back(),
-        };
-        push_answer(&mut output, answer)?;
+        push_answer(&mut output, take_line(&mut lines, *end))?;
     }
     Ok(output)
+}
+
+/// Takes a line from an end.
+fn take_line<'a>(lines: &mut Lines<'a>, end: End) -> Option<AsciiStr<'a>>
+    ensures { TakesEnd end (bodies lines.old) (option_map text_of result) (bodies lines.new) }
+{
+    match end {
+        End::Front => lines.next(),
+        End::Back => lines.next_back(),
+    }
 }
 
 /// Appends an answer: `+`, the body and LF, or `-` and LF.

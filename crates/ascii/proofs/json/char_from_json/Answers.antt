@@ -1,4 +1,4 @@
-use Rattle.std.proofs.Common.{rules, ◌≡◌, length, arith}
+use Rattle.std.proofs.Common.{rules, ◌≡◌, length}
 use Rattle.ascii.proofs.OneByte.{one_byte_below}
 use Rattle.ascii.proofs.json.char_from_json.Goals as goal
 
