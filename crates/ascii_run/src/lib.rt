@@ -8,3 +8,6 @@ mod modes;
 pub use commands::{Cmd, Reply, run};
 pub use devices::{DeviceFault, Input, Output, Sink, Source};
 pub use modes::{EngineFault, Mode, engine};
+
+#[cfg(test)]
+mod tests_commands;
