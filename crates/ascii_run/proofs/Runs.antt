@@ -1,9 +1,11 @@
 -- Runs of commands, one step after another.
-use Rattle.std.proofs.Common.{◌≡◌, ◌≢◌, ℕ, zero, suc, List, [], ◌∷◌, ◌++◌, map, refl, subst, take, inl, inr}
+use Rattle.std.proofs.Common.{◌≡◌, ◌≢◌, ℕ, ◌≤◌, zero, suc, List, [], ◌∷◌, ◌++◌, map, refl, subst, take, inl, inr, arith}
 use Rattle.std.proofs.lemmas.List.Elements.{All-head, All-tail}
+use Rattle.ascii.specs.Text.{Text}
 use Rattle.ascii_run.specs.declared.commands.Cmd.{Cmd}
+use Rattle.ascii_run.specs.declared.commands.Cmd.TheVariants.{Push, PushStr, Insert, InsertStr, Remove, Pop, Truncate, Clear, Set, Upper, Lower, Reserve, Shrink, Len, First, Last, Get, Copy, EqIgnoreCase}
 use Rattle.ascii_run.specs.declared.commands.Reply.{Reply}
-use Rattle.ascii_run.specs.Step.{Said, Step, after, answer, no_memory, said}
+use Rattle.ascii_run.specs.Step.{LacksRoom, MayRefuse, Said, Step, after, answer, no_memory, said}
 use Rattle.ascii_run.specs.Run.{IsPlainRun, IsServed, Run, WantsNone, plain_replies}
 
 -- a run goes on by one step
@@ -48,3 +50,56 @@ run_front {A} sure t (cmd ∷ cmds) (r ∷ replies) t2 (suc k) h some =
     let step = step_plain sure t cmd (said r) h.0 h.1 (All-head IsServed r (take k replies) some) in
     let rest = run_front sure h.0 cmds replies t2 k h.2 (All-tail IsServed r (take k replies) some) in
     rw (step.0, rest, step.1) refl
+
+-- memory that may be wanting past a sure length may be wanting past a smaller one
+may_refuse_less : (sure less : ℕ) (t : List ℕ) (cmd : Cmd) → less ≤ sure → cmd ≢ Shrink
+    → MayRefuse sure t cmd → MayRefuse less t cmd
+may_refuse_less sure less t (Push ch) le ne h = (h.0, omega (arith, h.1))
+may_refuse_less sure less t (PushStr view) le ne h = (h.0, omega (arith, h.1))
+may_refuse_less sure less t (Insert i ch) le ne h = (h.0, (h.1.0, omega (arith, h.1.1)))
+may_refuse_less sure less t (InsertStr i view) le ne h = (h.0, (h.1.0, omega (arith, h.1.1)))
+may_refuse_less sure less t (Remove i) le ne h = h
+may_refuse_less sure less t Pop le ne h = h
+may_refuse_less sure less t (Truncate n) le ne h = h
+may_refuse_less sure less t Clear le ne h = h
+may_refuse_less sure less t (Set i ch) le ne h = h
+may_refuse_less sure less t Upper le ne h = h
+may_refuse_less sure less t Lower le ne h = h
+may_refuse_less sure less t (Reserve n) le ne h = (h.0, (h.1.0, omega (arith, h.1.1)))
+may_refuse_less sure less t Shrink le ne h = absurd (ne refl)
+may_refuse_less sure less t Len le ne h = h
+may_refuse_less sure less t First le ne h = h
+may_refuse_less sure less t Last le ne h = h
+may_refuse_less sure less t (Get i) le ne h = h
+may_refuse_less sure less t (Copy r) le ne h = h
+may_refuse_less sure less t (EqIgnoreCase view) le ne h = h
+
+-- where room is missing for a command that gives none back, the capacity is a sure length
+lacks_room : (string : Text) (cmd : Cmd) → cmd ≢ Shrink → LacksRoom string cmd → MayRefuse string.capacity string.text cmd
+lacks_room string (Push ch) ne h = h
+lacks_room string (PushStr view) ne h = h
+lacks_room string (Insert i ch) ne h = h
+lacks_room string (InsertStr i view) ne h = h
+lacks_room string (Remove i) ne h = h
+lacks_room string Pop ne h = h
+lacks_room string (Truncate n) ne h = h
+lacks_room string Clear ne h = h
+lacks_room string (Set i ch) ne h = h
+lacks_room string Upper ne h = h
+lacks_room string Lower ne h = h
+lacks_room string (Reserve n) ne h = h
+lacks_room string Shrink ne h = absurd (ne refl)
+lacks_room string Len ne h = h
+lacks_room string First ne h = h
+lacks_room string Last ne h = h
+lacks_room string (Get i) ne h = h
+lacks_room string (Copy r) ne h = h
+lacks_room string (EqIgnoreCase view) ne h = h
+
+-- up to the capacity every length is sure
+pub step_within : (sure : ℕ) (string : Text) (cmd : Cmd) (r : Said) (t2 : List ℕ)
+    → Step 0 string.text cmd r t2 → (r ≡ no_memory → LacksRoom string cmd)
+    → sure ≤ string.capacity → cmd ≢ Shrink → Step sure string.text cmd r t2
+step_within sure string cmd r t2 (inl plain) lacks le ne = inl plain
+step_within sure string cmd r t2 (inr wants) lacks le ne =
+    inr (wants.0, may_refuse_less string.capacity sure string.text cmd le ne (lacks_room string cmd ne (lacks wants.0)), wants.2)

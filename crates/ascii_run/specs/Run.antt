@@ -1,6 +1,7 @@
 -- What a run of commands does: one reply a command, in order, and the text at the end.
 use Rattle.std.specs.Prelude.{◌≡◌, ◌≢◌, ℕ, ◌<◌, List, [], ◌∷◌, All, IfSome, IsSomeAnd, map, slice_get}
 use Rattle.ascii_run.specs.declared.commands.Cmd.{Cmd}
+use Rattle.ascii_run.specs.declared.commands.Cmd.TheVariants.{Shrink}
 use Rattle.ascii_run.specs.declared.commands.Reply.{Reply}
 use Rattle.ascii_run.specs.Step.{Said, Step, a_char, a_number, a_text, a_truth, after, answer, bad_position, done, no_memory, refused, said, too_many}
 
@@ -33,6 +34,10 @@ WantsNone replies = All IsServed replies
 -- the replies and the text at the end are those of the run in which no memory is wanting
 abbrev pub IsPlainRun : {A : Type 0} → List ℕ → List Cmd → List (Reply A) → List ℕ → Type 0
 IsPlainRun t cmds replies t2 = (map said replies ≡ plain_replies t cmds) × (t2 ≡ plain_text t cmds)
+
+-- no command gives room back
+abbrev pub NeverShrinks : List Cmd → Type 0
+NeverShrinks cmds = All (λ cmd. cmd ≢ Shrink) cmds
 
 -- an answer that refuses a command for its number or its range
 abbrev pub IsFault : Said → Type 0

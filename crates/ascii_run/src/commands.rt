@@ -1,8 +1,8 @@
 //! Runs of commands over a text.
 
-ghost use Rattle.std.specs.Prelude.{◌≡◌, [], IfOk, IsOk, OnErr};
+ghost use Rattle.std.specs.Prelude.{◌≡◌, ◌≢◌, ◌≤◌, [], IfOk, IsOk, OnErr};
 ghost use Rattle.ascii.specs.View.{text_of};
-ghost use Rattle.ascii_run.specs.Run.{Run};
+ghost use Rattle.ascii_run.specs.Run.{NeverShrinks, Run};
 ghost use Rattle.ascii_run.specs.Step.{LacksRoom, Step, after, answer, no_memory, said, said_of_growth};
 
 use ascii::{AsAsciiStrError, AsciiChar, AsciiRange, AsciiStr, AsciiString};
@@ -77,13 +77,16 @@ pub enum Reply<A: Allocator = Global> {
 
 /// Carries out the commands in order, and gives one reply for each. The room for all replies is
 /// taken before the first command, and where it is refused the text stays; with no command it is
-/// not.
+/// not. Where no command gives room back, memory is wanting only for a copy or where the text gets
+/// longer than the capacity before.
 pub fn run<A: Allocator + Copy, B: Allocator>(
     alloc: A,
     buf: &mut AsciiString<B>,
     cmds: &[Cmd<'_>],
 ) -> Result<Vec<Reply<A>, A>, AllocError>
     ensures run { IfOk result (λ replies. Run 0 buf.old.text cmds.now replies.items buf.new.text) }
+    ensures within { NeverShrinks cmds.now → IfOk result (λ replies. Run buf.old.capacity buf.old.text cmds.now replies.items buf.new.text) }
+    ensures capacity { NeverShrinks cmds.now → buf.old.capacity ≤ buf.new.capacity }
     ensures err { OnErr result (buf.new ≡ buf.old) }
     ensures nothing { cmds.now ≡ [] → IsOk result }
 {
@@ -98,6 +101,7 @@ pub fn run<A: Allocator + Copy, B: Allocator>(
 fn step<A: Allocator, B: Allocator>(alloc: A, buf: &mut AsciiString<B>, cmd: Cmd<'_>) -> Reply<A>
     ensures step { Step 0 buf.old.text cmd.entry (said result) buf.new.text }
     ensures room { said result ≡ no_memory → LacksRoom buf.old cmd.entry }
+    ensures capacity { cmd.entry ≢ Cmd.Shrink → buf.old.capacity ≤ buf.new.capacity }
 {
     match cmd {
         Cmd::Push(ch) => grown(buf.push(ch)),
@@ -149,6 +153,7 @@ fn grown<A: Allocator>(growth: Result<(), AllocError>) -> Reply<A>
 fn push_str<A: Allocator, B: Allocator>(buf: &mut AsciiString<B>, view: AsciiStr<'_>) -> Reply<A>
     ensures step { Step 0 buf.old.text (Cmd.PushStr view.entry) (said result) buf.new.text }
     ensures room { said result ≡ no_memory → LacksRoom buf.old (Cmd.PushStr view.entry) }
+    ensures capacity { buf.old.capacity ≤ buf.new.capacity }
 {
     if view.is_empty() {
         return Reply::Done;
@@ -164,6 +169,7 @@ fn insert<A: Allocator, B: Allocator>(
 ) -> Reply<A>
     ensures step { Step 0 buf.old.text (Cmd.Insert idx ch) (said result) buf.new.text }
     ensures room { said result ≡ no_memory → LacksRoom buf.old (Cmd.Insert idx ch) }
+    ensures capacity { buf.old.capacity ≤ buf.new.capacity }
 {
     if idx > buf.len() {
         return Reply::BadPosition;
@@ -179,6 +185,7 @@ fn insert_str<A: Allocator, B: Allocator>(
 ) -> Reply<A>
     ensures step { Step 0 buf.old.text (Cmd.InsertStr idx view.entry) (said result) buf.new.text }
     ensures room { said result ≡ no_memory → LacksRoom buf.old (Cmd.InsertStr idx view.entry) }
+    ensures capacity { buf.old.capacity ≤ buf.new.capacity }
 {
     if idx > buf.len() {
         return Reply::BadPosition;
@@ -193,6 +200,7 @@ fn insert_str<A: Allocator, B: Allocator>(
 fn remove<A: Allocator, B: Allocator>(buf: &mut AsciiString<B>, idx: usize) -> Reply<A>
     ensures reply { said result ≡ answer buf.old.text (Cmd.Remove idx) }
     ensures text { buf.new.text ≡ after buf.old.text (Cmd.Remove idx) }
+    ensures capacity { buf.new.capacity ≡ buf.old.capacity }
 {
     if idx < buf.len() {
         Reply::Char(Some(buf.remove(idx)))
@@ -205,6 +213,7 @@ fn remove<A: Allocator, B: Allocator>(buf: &mut AsciiString<B>, idx: usize) -> R
 fn set<A: Allocator, B: Allocator>(buf: &mut AsciiString<B>, idx: usize, ch: AsciiChar) -> Reply<A>
     ensures reply { said result ≡ answer buf.old.text (Cmd.Set idx ch) }
     ensures text { buf.new.text ≡ after buf.old.text (Cmd.Set idx ch) }
+    ensures capacity { buf.new.capacity ≡ buf.old.capacity }
 {
     if idx < buf.len() {
         buf.set(idx, ch);
@@ -218,6 +227,7 @@ fn set<A: Allocator, B: Allocator>(buf: &mut AsciiString<B>, idx: usize, ch: Asc
 fn reserve<A: Allocator, B: Allocator>(buf: &mut AsciiString<B>, additional: usize) -> Reply<A>
     ensures step { Step 0 buf.old.text (Cmd.Reserve additional) (said result) buf.new.text }
     ensures room { said result ≡ no_memory → LacksRoom buf.old (Cmd.Reserve additional) }
+    ensures capacity { buf.old.capacity ≤ buf.new.capacity }
 {
     if additional > usize::MAX - buf.len() {
         return Reply::TooMany;
