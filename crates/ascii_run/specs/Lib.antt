@@ -2,6 +2,8 @@ pub mod Devices
 pub mod Engine
 pub mod JsonText
 pub mod Output
+pub mod Run
+pub mod Step
 pub mod Wrapped
 pub use Rattle.ascii_base.specs.Bytes
 pub use Rattle.ascii.specs.Ends

@@ -1,9 +1,14 @@
 //! Runs over ASCII text: a filter from bytes to bytes in one of several modes.
 #![tactic(auto)]
 
+mod commands;
 mod devices;
 mod modes;
 mod outputs;
 
+pub use commands::{Cmd, Reply, run};
 pub use devices::{DeviceFault, Input, Output, Sink, Source};
 pub use modes::{EngineFault, Mode, engine};
+
+#[cfg(test)]
+mod tests_commands;

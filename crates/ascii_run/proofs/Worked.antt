@@ -1,0 +1,41 @@
+-- Runs whose replies and text are known from outside, computed by the definitions.
+use Rattle.std.proofs.Common.{◌≡◌, ℕ, zero, suc, ◌-◌, ◌^◌, ◌<◌, true, List, [], ◌∷◌, Some, None, refl, arith}
+use Rattle.std.specs.Prelude.{IfSome, slice_get}
+use Rattle.ascii_base.specs.declared.ascii_char.AsciiChar.TheVariants as ch
+use Rattle.ascii_base.specs.declared.range.AsciiRange.TheVariants as range
+use Rattle.ascii.specs.declared.ascii_str.AsciiStr.{AsciiStr}
+use Rattle.ascii.specs.View.{text_of}
+use Rattle.ascii_run.specs.declared.commands.Cmd.{Cmd}
+use Rattle.ascii_run.specs.declared.commands.Cmd.TheVariants as cmd
+use Rattle.ascii_run.specs.Step.{a_char, a_number, a_text, a_truth, bad_position, done, refused, too_many}
+use Rattle.ascii_run.specs.Run.{IsFault, IsFaultPlace, plain_replies, plain_text}
+
+-- one command of each kind of reply, from `abc` to the empty text
+abbrev worked : AsciiStr → List Cmd
+worked b =
+    cmd.Insert 4 ch.x ∷ cmd.Insert 3 ch.x ∷ cmd.Remove 4 ∷ cmd.Remove 0 ∷ cmd.Set 3 ch.z ∷ cmd.Truncate 1
+    ∷ cmd.Upper ∷ cmd.EqIgnoreCase b ∷ cmd.Copy (range.From 2) ∷ cmd.Copy (range.Inclusive 1 0)
+    ∷ cmd.Reserve (2 ^ 64 - 1) ∷ cmd.Len ∷ cmd.Pop ∷ cmd.Pop ∷ []
+
+abbrev abc : List ℕ
+abc = 97 ∷ 98 ∷ 99 ∷ []
+
+worked_replies : (b : AsciiStr) → text_of b ≡ 98 ∷ [] → plain_replies abc (worked b)
+    ≡ bad_position ∷ done ∷ bad_position ∷ a_char (Some 97) ∷ bad_position ∷ done
+    ∷ done ∷ a_truth true ∷ refused 1 ∷ a_text []
+    ∷ too_many ∷ a_number 1 ∷ a_char (Some 66) ∷ a_char None ∷ []
+worked_replies b is_b = rw is_b refl
+
+worked_text : (b : AsciiStr) → plain_text abc (worked b) ≡ []
+worked_text b = refl
+
+-- the second command is the first that is refused, whatever comes behind it
+abbrev faulty : List Cmd
+faulty = cmd.Pop ∷ cmd.Remove 2 ∷ cmd.Set 9 ch.z ∷ []
+
+before_fault : (i : ℕ) → i < 1 → IfSome (slice_get (plain_replies abc faulty) i) (λ r. ¬ (IsFault r))
+before_fault zero h = λ fault. fault
+before_fault (suc i) h = let none : ⊥ = omega arith in absurd none
+
+worked_fault : IsFaultPlace abc faulty 1
+worked_fault = record { fault = tt; first = before_fault }

@@ -1,0 +1,61 @@
+-- What a run of commands does: one reply a command, in order, and the text at the end.
+use Rattle.std.specs.Prelude.{◌≡◌, ◌≢◌, ℕ, ◌<◌, List, [], ◌∷◌, All, IfSome, IsSomeAnd, map, slice_get}
+use Rattle.ascii_run.specs.declared.commands.Cmd.{Cmd}
+use Rattle.ascii_run.specs.declared.commands.Cmd.TheVariants.{Shrink}
+use Rattle.ascii_run.specs.declared.commands.Reply.{Reply}
+use Rattle.ascii_run.specs.Step.{Said, Step, a_char, a_number, a_text, a_truth, after, answer, bad_position, done, no_memory, refused, said, too_many}
+
+-- the replies and the text at the end, step by step
+abbrev pub Run : {A : Type 0} → ℕ → List ℕ → List Cmd → List (Reply A) → List ℕ → Type 0
+Run sure t [] [] t2 = t2 ≡ t
+Run sure t [] (r ∷ replies) t2 = ⊥
+Run sure t (cmd ∷ cmds) [] t2 = ⊥
+Run sure t (cmd ∷ cmds) (r ∷ replies) t2 =
+    (mid : List ℕ) × Step sure t cmd (said r) mid × Run sure mid cmds replies t2
+
+-- the text behind a run in which no memory is wanting
+abbrev pub plain_text : List ℕ → List Cmd → List ℕ
+plain_text t [] = t
+plain_text t (cmd ∷ cmds) = plain_text (after t cmd) cmds
+
+-- what the replies of a run say in which no memory is wanting
+abbrev pub plain_replies : List ℕ → List Cmd → List Said
+plain_replies t [] = []
+plain_replies t (cmd ∷ cmds) = answer t cmd ∷ plain_replies (after t cmd) cmds
+
+-- the reply is not want of memory
+abbrev pub IsServed : {A : Type 0} → Reply A → Type 0
+IsServed r = said r ≢ no_memory
+
+-- no reply is want of memory
+abbrev pub WantsNone : {A : Type 0} → List (Reply A) → Type 0
+WantsNone replies = All IsServed replies
+
+-- the replies and the text at the end are those of the run in which no memory is wanting
+abbrev pub IsPlainRun : {A : Type 0} → List ℕ → List Cmd → List (Reply A) → List ℕ → Type 0
+IsPlainRun t cmds replies t2 = (map said replies ≡ plain_replies t cmds) × (t2 ≡ plain_text t cmds)
+
+-- no command gives room back
+abbrev pub NeverShrinks : List Cmd → Type 0
+NeverShrinks cmds = All (λ cmd. cmd ≢ Shrink) cmds
+
+-- an answer that refuses a command for its number or its range
+abbrev pub IsFault : Said → Type 0
+IsFault done = ⊥
+IsFault (a_char ch) = ⊥
+IsFault (a_number n) = ⊥
+IsFault (a_truth b) = ⊥
+IsFault (a_text t) = ⊥
+IsFault bad_position = Unit {0}
+IsFault (refused n) = Unit {0}
+IsFault no_memory = ⊥
+IsFault too_many = Unit {0}
+
+-- k is the place, counted from 0, of the first command that is refused where no memory is wanting
+pub record IsFaultPlace (t : List ℕ) (cmds : List Cmd) (k : ℕ) : Type 0 where
+  pub fault : IsSomeAnd (slice_get (plain_replies t cmds) k) IsFault
+  pub first : (i : ℕ) → i < k → IfSome (slice_get (plain_replies t cmds) i) (λ r. ¬ (IsFault r))
+
+-- no command is refused where no memory is wanting
+abbrev pub HasNoFault : List ℕ → List Cmd → Type 0
+HasNoFault t cmds = All (λ r. ¬ (IsFault r)) (plain_replies t cmds)

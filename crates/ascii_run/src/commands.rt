@@ -1,0 +1,252 @@
+//! Runs of commands over a text.
+
+ghost use Rattle.std.specs.Prelude.{◌≡◌, ◌≢◌, ◌≤◌, [], IfOk, IsOk, OnErr};
+ghost use Rattle.ascii.specs.View.{text_of};
+ghost use Rattle.ascii_run.specs.Run.{NeverShrinks, Run};
+ghost use Rattle.ascii_run.specs.Step.{LacksRoom, Step, after, answer, no_memory, said, said_of_growth};
+
+use ascii::{AsAsciiStrError, AsciiChar, AsciiRange, AsciiStr, AsciiString};
+use std::alloc::{AllocError, Allocator, Global};
+
+/// One command of a run over a text. Positions count characters from 0.
+#[derive(Clone, Copy)]
+pub enum Cmd<'a> {
+    /// Appends a character.
+    Push(AsciiChar),
+    /// Appends a view.
+    PushStr(AsciiStr<'a>),
+    /// Puts a character before a position; at the length it is appended.
+    Insert(usize, AsciiChar),
+    /// Puts a view before a position; at the length it is appended.
+    InsertStr(usize, AsciiStr<'a>),
+    /// Takes out the character at a position.
+    Remove(usize),
+    /// Takes off the last character.
+    Pop,
+    /// Keeps the first characters, as many as the number says, or all where there are fewer.
+    Truncate(usize),
+    /// Takes off all characters.
+    Clear,
+    /// Puts a character in the place of the one at a position.
+    Set(usize, AsciiChar),
+    /// Changes `a` to `z` to `A` to `Z`.
+    Upper,
+    /// Changes `A` to `Z` to `a` to `z`.
+    Lower,
+    /// Makes room for this many more characters.
+    Reserve(usize),
+    /// Gives back the room that the text does not need.
+    Shrink,
+    /// Asks for the number of characters.
+    Len,
+    /// Asks for the first character.
+    First,
+    /// Asks for the last character.
+    Last,
+    /// Asks for the character at a position.
+    Get(usize),
+    /// Asks for a copy of the part that a range names.
+    Copy(AsciiRange),
+    /// Asks whether the text equals a view when the case of letters does not count.
+    EqIgnoreCase(AsciiStr<'a>),
+}
+
+/// The answer to one command. Every answer but `Done` and the `Char` of `Remove` and `Pop` leaves
+/// the text.
+#[derive(Drop, Debug)]
+pub enum Reply<A: Allocator = Global> {
+    /// The command was carried out.
+    Done,
+    /// The character that was asked for or taken out, or `None` where there is no such character.
+    Char(Option<AsciiChar>),
+    /// The number of characters.
+    Number(usize),
+    /// Whether the two are equal.
+    Truth(bool),
+    /// The copy.
+    Text(AsciiString<A>),
+    /// The position of an edit is outside the text.
+    BadPosition,
+    /// The range of a copy does not fit; the error names the length of the text.
+    Refused(AsAsciiStrError),
+    /// A growth was refused.
+    NoMemory,
+    /// A reserve passes the largest length that there is.
+    TooMany,
+}
+
+/// Carries out the commands in order, and gives one reply for each. The room for all replies is
+/// taken before the first command, and where it is refused the text stays; with no command it is
+/// not. Where no command gives room back, memory is wanting only for a copy or where the text gets
+/// longer than the capacity before.
+pub fn run<A: Allocator + Copy, B: Allocator>(
+    alloc: A,
+    buf: &mut AsciiString<B>,
+    cmds: &[Cmd<'_>],
+) -> Result<Vec<Reply<A>, A>, AllocError>
+    ensures run { IfOk result (λ replies. Run 0 buf.old.text cmds.now replies.items buf.new.text) }
+    ensures within { NeverShrinks cmds.now → IfOk result (λ replies. Run buf.old.capacity buf.old.text cmds.now replies.items buf.new.text) }
+    ensures capacity { NeverShrinks cmds.now → buf.old.capacity ≤ buf.new.capacity }
+    ensures err { OnErr result (buf.new ≡ buf.old) }
+    ensures nothing { cmds.now ≡ [] → IsOk result }
+{
+    let mut replies = Vec::with_capacity(alloc, cmds.len())?;
+    for cmd in cmds {
+        replies.push(step(alloc, buf, *cmd))?;
+    }
+    Ok(replies)
+}
+
+/// Carries out one command.
+fn step<A: Allocator, B: Allocator>(alloc: A, buf: &mut AsciiString<B>, cmd: Cmd<'_>) -> Reply<A>
+    ensures step { Step 0 buf.old.text cmd.entry (said result) buf.new.text }
+    ensures room { said result ≡ no_memory → LacksRoom buf.old cmd.entry }
+    ensures capacity { cmd.entry ≢ Cmd.Shrink → buf.old.capacity ≤ buf.new.capacity }
+{
+    match cmd {
+        Cmd::Push(ch) => grown(buf.push(ch)),
+        Cmd::PushStr(view) => push_str(buf, view),
+        Cmd::Insert(idx, ch) => insert(buf, idx, ch),
+        Cmd::InsertStr(idx, view) => insert_str(buf, idx, view),
+        Cmd::Remove(idx) => remove(buf, idx),
+        Cmd::Pop => Reply::Char(buf.pop()),
+        Cmd::Truncate(n) => {
+            buf.truncate(n);
+            Reply::Done
+        }
+        Cmd::Clear => {
+            buf.clear();
+            Reply::Done
+        }
+        Cmd::Set(idx, ch) => set(buf, idx, ch),
+        Cmd::Upper => {
+            buf.make_ascii_uppercase();
+            Reply::Done
+        }
+        Cmd::Lower => {
+            buf.make_ascii_lowercase();
+            Reply::Done
+        }
+        Cmd::Reserve(additional) => reserve(buf, additional),
+        Cmd::Shrink => grown(buf.shrink_to_fit()),
+        Cmd::Len => Reply::Number(buf.len()),
+        Cmd::First => Reply::Char(buf.as_ascii_str().first()),
+        Cmd::Last => Reply::Char(buf.as_ascii_str().last()),
+        Cmd::Get(idx) => Reply::Char(buf.as_ascii_str().get_ascii(idx)),
+        Cmd::Copy(range) => copy(alloc, buf.as_ascii_str(), range),
+        Cmd::EqIgnoreCase(view) => Reply::Truth(buf.as_ascii_str().eq_ignore_ascii_case(view)),
+    }
+}
+
+/// The reply to a growth.
+#[inline]
+fn grown<A: Allocator>(growth: Result<(), AllocError>) -> Reply<A>
+    ensures { said result ≡ said_of_growth growth }
+{
+    match growth {
+        Ok(()) => Reply::Done,
+        Err(_) => Reply::NoMemory,
+    }
+}
+
+/// Appends a view.
+fn push_str<A: Allocator, B: Allocator>(buf: &mut AsciiString<B>, view: AsciiStr<'_>) -> Reply<A>
+    ensures step { Step 0 buf.old.text (Cmd.PushStr view.entry) (said result) buf.new.text }
+    ensures room { said result ≡ no_memory → LacksRoom buf.old (Cmd.PushStr view.entry) }
+    ensures capacity { buf.old.capacity ≤ buf.new.capacity }
+{
+    if view.is_empty() {
+        return Reply::Done;
+    }
+    grown(buf.push_str(view))
+}
+
+/// Puts a character before a position.
+fn insert<A: Allocator, B: Allocator>(
+    buf: &mut AsciiString<B>,
+    idx: usize,
+    ch: AsciiChar,
+) -> Reply<A>
+    ensures step { Step 0 buf.old.text (Cmd.Insert idx ch) (said result) buf.new.text }
+    ensures room { said result ≡ no_memory → LacksRoom buf.old (Cmd.Insert idx ch) }
+    ensures capacity { buf.old.capacity ≤ buf.new.capacity }
+{
+    if idx > buf.len() {
+        return Reply::BadPosition;
+    }
+    grown(buf.insert(idx, ch))
+}
+
+/// Puts a view before a position.
+fn insert_str<A: Allocator, B: Allocator>(
+    buf: &mut AsciiString<B>,
+    idx: usize,
+    view: AsciiStr<'_>,
+) -> Reply<A>
+    ensures step { Step 0 buf.old.text (Cmd.InsertStr idx view.entry) (said result) buf.new.text }
+    ensures room { said result ≡ no_memory → LacksRoom buf.old (Cmd.InsertStr idx view.entry) }
+    ensures capacity { buf.old.capacity ≤ buf.new.capacity }
+{
+    if idx > buf.len() {
+        return Reply::BadPosition;
+    }
+    if view.is_empty() {
+        return Reply::Done;
+    }
+    grown(buf.insert_str(idx, view))
+}
+
+/// Takes out the character at a position.
+fn remove<A: Allocator, B: Allocator>(buf: &mut AsciiString<B>, idx: usize) -> Reply<A>
+    ensures reply { said result ≡ answer buf.old.text (Cmd.Remove idx) }
+    ensures text { buf.new.text ≡ after buf.old.text (Cmd.Remove idx) }
+    ensures capacity { buf.new.capacity ≡ buf.old.capacity }
+{
+    if idx < buf.len() {
+        Reply::Char(Some(buf.remove(idx)))
+    } else {
+        Reply::BadPosition
+    }
+}
+
+/// Puts a character in the place of the one at a position.
+fn set<A: Allocator, B: Allocator>(buf: &mut AsciiString<B>, idx: usize, ch: AsciiChar) -> Reply<A>
+    ensures reply { said result ≡ answer buf.old.text (Cmd.Set idx ch) }
+    ensures text { buf.new.text ≡ after buf.old.text (Cmd.Set idx ch) }
+    ensures capacity { buf.new.capacity ≡ buf.old.capacity }
+{
+    if idx < buf.len() {
+        buf.set(idx, ch);
+        Reply::Done
+    } else {
+        Reply::BadPosition
+    }
+}
+
+/// Makes room for more characters.
+fn reserve<A: Allocator, B: Allocator>(buf: &mut AsciiString<B>, additional: usize) -> Reply<A>
+    ensures step { Step 0 buf.old.text (Cmd.Reserve additional) (said result) buf.new.text }
+    ensures room { said result ≡ no_memory → LacksRoom buf.old (Cmd.Reserve additional) }
+    ensures capacity { buf.old.capacity ≤ buf.new.capacity }
+{
+    if additional > usize::MAX - buf.len() {
+        return Reply::TooMany;
+    }
+    if additional == 0 {
+        return Reply::Done;
+    }
+    grown(buf.reserve(additional))
+}
+
+/// Copies the part of a view that a range names.
+fn copy<A: Allocator>(alloc: A, view: AsciiStr<'_>, range: AsciiRange) -> Reply<A>
+    ensures { Step 0 (text_of view.entry) (Cmd.Copy range) (said result) (text_of view.entry) }
+{
+    match view.slice_ascii(range) {
+        Err(refusal) => Reply::Refused(refusal),
+        Ok(part) => match part.to_ascii_string(alloc) {
+            Ok(string) => Reply::Text(string),
+            Err(_) => Reply::NoMemory,
+        },
+    }
+}
