@@ -1,3 +1,4 @@
+pub mod Edits
 pub mod EndsOutput
 pub mod JsonTexts
 pub mod Known

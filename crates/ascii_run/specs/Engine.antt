@@ -7,9 +7,9 @@ use Rattle.std.specs.declared.result.Result.{Result}
 use Rattle.std.specs.declared.result.Result.TheVariants.{Ok, Err}
 use Rattle.ascii_base.specs.Bytes.{FirstOther}
 use Rattle.ascii_run.specs.declared.modes.EngineFault.{EngineFault}
-use Rattle.ascii_run.specs.declared.modes.EngineFault.TheVariants.{NotAscii, Memory, Read, Write}
+use Rattle.ascii_run.specs.declared.modes.EngineFault.TheVariants.{NotAscii, Position, Memory, Read, Write}
 use Rattle.ascii_run.specs.declared.modes.Mode.{Mode}
-use Rattle.ascii_run.specs.Output.{IsOutput}
+use Rattle.ascii_run.specs.Output.{IsFaultOf, IsOutput}
 
 -- the reader gave these bytes and is at its end
 pub record ReadsAll (old new : Option (List ℕ)) (bytes : List ℕ) : Type 0 where
@@ -28,6 +28,8 @@ abbrev pub Tells : Mode → Result (Unit {0}) EngineFault → Option (List ℕ) 
 Tells mode (Ok _) rest left old new = (output : List ℕ) × HasOutput mode rest left output × Appends old new output
 Tells mode (Err (NotAscii n)) rest left old new =
     (bytes : List ℕ) × ReadsAll rest left bytes × FirstOther bytes 0 (length bytes) n × Keeps old new
+Tells mode (Err (Position k)) rest left old new =
+    (text : List ℕ) × ReadsAll rest left text × IsAscii text × IsFaultOf mode text k × Keeps old new
 Tells mode (Err Memory) rest left old new = Keeps old new
 Tells mode (Err Read) rest left old new = Keeps old new
 Tells mode (Err Write) rest left old new =
@@ -37,6 +39,7 @@ Tells mode (Err Write) rest left old new =
 abbrev pub read_failures : ℕ → Result (Unit {0}) EngineFault → ℕ
 read_failures n (Err Read) = n + 1
 read_failures n (Err (NotAscii k)) = n
+read_failures n (Err (Position k)) = n
 read_failures n (Err Memory) = n
 read_failures n (Err Write) = n
 read_failures n (Ok _) = n
@@ -45,6 +48,7 @@ read_failures n (Ok _) = n
 abbrev pub write_failures : ℕ → Result (Unit {0}) EngineFault → ℕ
 write_failures n (Err Write) = n + 1
 write_failures n (Err (NotAscii k)) = n
+write_failures n (Err (Position k)) = n
 write_failures n (Err Memory) = n
 write_failures n (Err Read) = n
 write_failures n (Ok _) = n
@@ -54,12 +58,14 @@ abbrev pub IsMemoryOrRead : EngineFault → Type 0
 IsMemoryOrRead Memory = Unit {0}
 IsMemoryOrRead Read = Unit {0}
 IsMemoryOrRead (NotAscii n) = ⊥
+IsMemoryOrRead (Position k) = ⊥
 IsMemoryOrRead Write = ⊥
 
 -- the reader's failures after reading: one more at `Read` alone
 abbrev pub CountsRead : {T : Type 0} → ℕ → ℕ → Result T EngineFault → Type 0
 CountsRead old new (Ok x) = new ≡ old
 CountsRead old new (Err Read) = new ≡ old + 1
+CountsRead old new (Err (Position k)) = new ≡ old
 CountsRead old new (Err Memory) = new ≡ old
 CountsRead old new (Err Write) = new ≡ old
 CountsRead old new (Err (NotAscii n)) = new ≡ old
@@ -71,6 +77,15 @@ AppendsFront old new bytes = (sent others : List ℕ) × Appends old new sent ×
 -- the first byte over 127 is at the place that the fault names
 abbrev pub IsNotAsciiIn : List ℕ → EngineFault → Type 0
 IsNotAsciiIn bytes (NotAscii n) = FirstOther bytes 0 (length bytes) n
+IsNotAsciiIn bytes (Position k) = ⊥
 IsNotAsciiIn bytes Memory = ⊥
 IsNotAsciiIn bytes Read = ⊥
 IsNotAsciiIn bytes Write = ⊥
+
+-- the faults that end the making of an output
+abbrev pub StopsOutput : Mode → List ℕ → EngineFault → Type 0
+StopsOutput mode text (NotAscii n) = ⊥
+StopsOutput mode text (Position k) = IsFaultOf mode text k
+StopsOutput mode text Memory = Unit {0}
+StopsOutput mode text Read = ⊥
+StopsOutput mode text Write = ⊥

@@ -1,5 +1,6 @@
 pub mod Devices
 pub mod Engine
+pub mod Faults
 pub mod JsonText
 pub mod Output
 pub mod Run

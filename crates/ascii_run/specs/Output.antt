@@ -5,7 +5,8 @@ use Rattle.ascii.specs.Ends.{Ends as EndsOf}
 use Rattle.ascii_run.specs.JsonText.{json_text}
 use Rattle.ascii.specs.Lines.{Line, LinesOf, bodies}
 use Rattle.ascii_run.specs.declared.modes.Mode.{Mode}
-use Rattle.ascii_run.specs.declared.modes.Mode.TheVariants.{Copy, Lines, Tac, Caret, Ends, Json}
+use Rattle.ascii_run.specs.declared.modes.Mode.TheVariants.{Copy, Lines, Tac, Caret, Ends, Edit, Json}
+use Rattle.ascii_run.specs.Run.{HasNoFault, IsFaultPlace, plain_text}
 
 -- a line's body, and LF
 abbrev pub with_line_feed : List ℕ → List ℕ
@@ -32,4 +33,15 @@ IsOutput Caret text output = output ≡ flat_map caret_text text
 IsOutput (Ends script) text output =
     (lines : List Line) × LinesOf text lines
     × ((answers : List (Option (List ℕ))) × EndsOf (bodies lines) script.now answers × (output ≡ flat_map answer_text answers))
+IsOutput (Edit cmds) text output = HasNoFault text cmds.now × (output ≡ plain_text text cmds.now)
 IsOutput Json text output = output ≡ json_text text
+
+-- the place, counted from 0, of the command that stops a mode from having an output
+abbrev pub IsFaultOf : Mode → List ℕ → ℕ → Type 0
+IsFaultOf Copy text k = ⊥
+IsFaultOf Lines text k = ⊥
+IsFaultOf Tac text k = ⊥
+IsFaultOf Caret text k = ⊥
+IsFaultOf (Ends script) text k = ⊥
+IsFaultOf (Edit cmds) text k = IsFaultPlace text cmds.now k
+IsFaultOf Json text k = ⊥

@@ -6,6 +6,7 @@ ghost use Rattle.ascii.specs.View.{text_of};
 ghost use Rattle.ascii_run.specs.Devices.{CountsFault};
 ghost use Rattle.ascii_run.specs.Engine.{AppendsFront, CountsRead, IsMemoryOrRead, IsNotAsciiIn, ReadsAll, Tells, read_failures, write_failures};
 
+use crate::commands::Cmd;
 use crate::devices::{Sink, Source};
 use crate::outputs::output_of;
 use ascii::iter::End;
@@ -26,6 +27,8 @@ pub enum Mode<'a> {
     /// For each end of the script what one iterator of lines gives: `+`, the body and LF, or `-` and
     /// LF where none is left.
     Ends(&'a [End]),
+    /// The text after the commands, in order.
+    Edit(&'a [Cmd<'a>]),
     /// The text as a compact JSON string.
     Json,
 }
@@ -35,6 +38,9 @@ pub enum Mode<'a> {
 pub enum EngineFault {
     /// The byte of the input at this position, counted from 0, is the first over 127.
     NotAscii(usize),
+    /// The command at this place, counted from 0, is the first that is refused for its position,
+    /// its range or its number.
+    Position(usize),
     /// A growth was refused.
     Memory,
     /// The reader failed.
@@ -44,7 +50,8 @@ pub enum EngineFault {
 }
 
 /// Reads the input to its end, and then writes the output of the mode and flushes it. All growth is
-/// made before the first byte goes out. After `NotAscii`, `Memory` and `Read` nothing was written;
+/// made before the first byte goes out. After `NotAscii`, `Position`, `Memory` and `Read` nothing was
+/// written;
 /// after `Write` a beginning of the output went out.
 pub fn engine<S: Source, K: Sink, A: Allocator + Copy>(
     alloc: A,

@@ -1,16 +1,21 @@
 //! The output of each mode for a text.
 
-ghost use Rattle.std.specs.Prelude.{◌≡◌, IfErr, IfOk, OnOk, [], ◌++◌};
+ghost use Rattle.std.specs.Prelude.{◌≡◌, IfErr, IfOk, MatchResult, OnOk, [], ◌++◌};
 ghost use Rattle.std.specs.Option.{option_map};
 ghost use Rattle.ascii_base.specs.Code.{code_of};
-ghost use Rattle.std.specs.List.{flat_map};
+ghost use Rattle.std.specs.List.{All, flat_map};
 ghost use Rattle.ascii.specs.Cow.{cow_text};
 ghost use Rattle.ascii.specs.Ends.{TakesEnd};
 ghost use Rattle.ascii.specs.Lines.{bodies};
 ghost use Rattle.ascii.specs.View.{text_of};
+ghost use Rattle.ascii_run.specs.Engine.{StopsOutput};
+ghost use Rattle.ascii_run.specs.Faults.{IsGood, Stops, StopsAt};
 ghost use Rattle.ascii_run.specs.Output.{IsOutput, answer_text, caret_text};
+ghost use Rattle.ascii_run.specs.Run.{HasNoFault, plain_text};
+ghost use Rattle.ascii_run.specs.Step.{said};
 ghost use Rattle.ascii_run.specs.JsonText.{json_text};
 
+use crate::commands::{Cmd, Reply, run};
 use crate::modes::{EngineFault, Mode};
 use ascii::iter::{End, Lines};
 use ascii::{AsciiChar, AsciiStr, AsciiString, CowAsciiStr, caret_encode};
@@ -24,7 +29,7 @@ pub fn output_of<'a, A: Allocator + Copy>(
     text: AsciiStr<'a>,
 ) -> Result<CowAsciiStr<'a, A>, EngineFault>
     ensures ok { IfOk result (λ output. IsOutput mode.entry (text_of text.entry) (cow_text output)) }
-    ensures err { IfErr result (λ fault. fault ≡ EngineFault.Memory) }
+    ensures err { IfErr result (StopsOutput mode.entry (text_of text.entry)) }
 {
     let made = match mode {
         Mode::Copy => return Ok(CowAsciiStr::Borrowed(text)),
@@ -32,6 +37,9 @@ pub fn output_of<'a, A: Allocator + Copy>(
         Mode::Tac => tac_output(alloc, text),
         Mode::Caret => caret_output(alloc, text),
         Mode::Ends(script) => ends_output(alloc, text, script),
+        Mode::Edit(cmds) => {
+            return Ok(CowAsciiStr::Owned(edit_output(alloc, text, cmds)?));
+        }
         Mode::Json => json_output(alloc, text),
     };
     match made {
@@ -145,4 +153,49 @@ fn json_output<A: Allocator>(alloc: A, text: AsciiStr<'_>) -> Result<AsciiString
     let mut writer = Writer::new(Vec::with_capacity(alloc, text.len().saturating_add(2))?);
     writer.string(text.as_str())?;
     Ok(AsciiString::from_ascii_unchecked(writer.into_inner()))
+}
+
+/// The text after the commands.
+fn edit_output<A: Allocator + Copy>(
+    alloc: A,
+    text: AsciiStr<'_>,
+    cmds: &[Cmd<'_>],
+) -> Result<AsciiString<A>, EngineFault>
+    ensures ok { IfOk result (λ output. HasNoFault (text_of text.entry) cmds.now × (output.text ≡ plain_text (text_of text.entry) cmds.now)) }
+    ensures err { IfErr result (StopsOutput (Mode.Edit cmds.entry) (text_of text.entry)) }
+{
+    let Ok(mut output) = text.to_ascii_string(alloc) else {
+        return Err(EngineFault::Memory);
+    };
+    let Ok(replies) = run(alloc, &mut output, cmds) else {
+        return Err(EngineFault::Memory);
+    };
+    match find_fault(&replies) {
+        Ok(()) => Ok(output),
+        Err(fault) => Err(fault),
+    }
+}
+
+/// The first reply that ends an edit: a refused command, or want of memory.
+fn find_fault<A: Allocator>(replies: &[Reply<A>]) -> Result<(), EngineFault>
+    ensures ok { OnOk result (All (λ r. IsGood (said r)) replies.now) }
+    ensures err { IfErr result (StopsAt replies.now) }
+{
+    for (k, reply) in replies.iter().enumerate() {
+        granted(k, reply)?;
+    }
+    Ok(())
+}
+
+/// Whether the reply to the command at a place lets an edit go on.
+fn granted<A: Allocator>(k: usize, reply: &Reply<A>) -> Result<(), EngineFault>
+    ensures { MatchResult result (λ _. IsGood (said reply.now)) (Stops k reply.now) }
+{
+    match reply {
+        Reply::NoMemory => Err(EngineFault::Memory),
+        Reply::BadPosition | Reply::Refused(_) | Reply::TooMany => Err(EngineFault::Position(k)),
+        Reply::Done | Reply::Char(_) | Reply::Number(_) | Reply::Truth(_) | Reply::Text(_) => Ok(
+            (),
+        ),
+    }
 }
