@@ -4,6 +4,7 @@ ghost use Rattle.std.specs.Prelude.{◌≡◌};
 ghost use Rattle.ascii_show.specs.Status.{status_of};
 
 use ascii_run::EngineFault;
+use std::alloc::{AllocError, AllocFailed};
 use std::fmt;
 
 /// A failure of the program.
@@ -11,6 +12,8 @@ use std::fmt;
 pub enum Failure {
     /// The words are no call.
     Usage,
+    /// The word with this number, counted from 1 behind the mode, is none that the mode knows.
+    BadWord(usize),
     /// The run stopped.
     Run(EngineFault),
 }
@@ -22,7 +25,7 @@ impl Failure {
     {
         match self {
             Failure::Run(EngineFault::NotAscii(_)) => 1,
-            Failure::Usage => 2,
+            Failure::Usage | Failure::BadWord(_) | Failure::Run(EngineFault::Position(_)) => 2,
             Failure::Run(EngineFault::Memory | EngineFault::Read | EngineFault::Write) => 3,
         }
     }
@@ -34,10 +37,14 @@ impl fmt::Display for Failure {
             Failure::Usage => f.write_str(
                 "usage: ascii_show copy|lines|tac|caret|ends SCRIPT|edit WORD..|json",
             ),
-            Failure::Run(EngineFault::NotAscii(position)) => write!(
-                f,
-                "the byte at index {position} is not ASCII"
-            ),
+            Failure::BadWord(number) => write!(f, "bad word {number}"),
+            Failure::Run(EngineFault::Position(place)) => {
+                let number = place.saturating_add(1);
+                write!(f, "bad position in word {number}")
+            }
+            Failure::Run(EngineFault::NotAscii(position)) => {
+                write!(f, "the byte at index {position} is not ASCII")
+            }
             Failure::Run(EngineFault::Memory) => f.write_str("no memory"),
             Failure::Run(EngineFault::Read) => f.write_str("read failed"),
             Failure::Run(EngineFault::Write) => f.write_str("write failed"),
@@ -52,5 +59,27 @@ impl From<EngineFault> for Failure {
 
     fn from(fault: EngineFault) -> Failure {
         Failure::Run(fault)
+    }
+}
+
+impl From<AllocError> for Failure {
+    ghost use Rattle.ascii_show.specs.declared.failure.Failure.TheVariants.{Run};
+    ghost use Rattle.ascii_run.specs.declared.modes.EngineFault.TheVariants.{Memory};
+
+    ghost from_gives = { λ _ failure. failure ≡ Run Memory };
+
+    fn from(_: AllocError) -> Failure {
+        Failure::Run(EngineFault::Memory)
+    }
+}
+
+impl<T: Drop> From<AllocFailed<T>> for Failure {
+    ghost use Rattle.ascii_show.specs.declared.failure.Failure.TheVariants.{Run};
+    ghost use Rattle.ascii_run.specs.declared.modes.EngineFault.TheVariants.{Memory};
+
+    ghost from_gives = { λ _ failure. failure ≡ Run Memory };
+
+    fn from(_: AllocFailed<T>) -> Failure {
+        Failure::Run(EngineFault::Memory)
     }
 }

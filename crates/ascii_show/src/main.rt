@@ -8,7 +8,7 @@ ghost use Rattle.ascii_show.specs.Status.{status_of};
 mod arguments;
 mod failure;
 
-use arguments::mode_of;
+use arguments::request_of;
 use ascii_run::{EngineFault, Input, Output, engine};
 use failure::Failure;
 use std::alloc::{AllocError, Allocator};
@@ -18,7 +18,7 @@ use std::{env, io};
 /// Runs the words after the program's name: reads `input`, writes `output`, and writes one line to
 /// `errors` where it fails. The answer is the status: 0 done, 1 not ASCII, 2 a fault in the words,
 /// 3 no memory or a failing device. A failure of `errors` changes no status.
-pub fn show<A: Allocator, I: io::Read + Drop, O: io::Write + Drop, E: io::Write + Drop>(
+pub fn show<A: Allocator + Copy, I: io::Read + Drop, O: io::Write + Drop, E: io::Write + Drop>(
     alloc: A,
     args: &[String],
     input: I,
@@ -43,7 +43,7 @@ fn report<E: io::Write + Drop>(failure: Failure, mut errors: E) -> u8
 }
 
 /// The words are read before any input is.
-fn run_words<A: Allocator, I: io::Read + Drop, O: io::Write + Drop>(
+fn run_words<A: Allocator + Copy, I: io::Read + Drop, O: io::Write + Drop>(
     alloc: A,
     args: &[String],
     input: I,
@@ -51,10 +51,10 @@ fn run_words<A: Allocator, I: io::Read + Drop, O: io::Write + Drop>(
 ) -> Result<(), Failure>
     ensures { ¬ IsCall (words_of args.now) → result ≡ Err Failure.Usage }
 {
-    let mode = mode_of(args)?;
+    let request = request_of(alloc, args)?;
     engine(
         alloc,
-        mode,
+        request.mode(),
         &mut Input::new(input),
         &mut Output::new(output),
     )?;
