@@ -5,7 +5,7 @@ mod commands;
 mod devices;
 mod modes;
 
-pub use commands::{Cmd, Reply, run};
+pub use commands::{Cmd, Reply, plain_run, run, runs_agree};
 pub use devices::{DeviceFault, Input, Output, Sink, Source};
 pub use modes::{EngineFault, Mode, engine};
 
