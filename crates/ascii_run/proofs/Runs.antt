@@ -10,7 +10,8 @@ use Rattle.ascii_run.specs.declared.commands.EditFault.{EditFault}
 use Rattle.ascii_run.specs.declared.commands.EditFault.TheVariants.{Position, Memory}
 use Rattle.ascii_run.specs.declared.commands.Reply.{Reply}
 use Rattle.ascii_run.specs.Step.{LacksRoom, MayRefuse, Said, Step, after, answer, no_memory, said}
-use Rattle.ascii_run.specs.Run.{HasNoFault, IsEditFault, IsFault, IsFaultPlace, IsNoFault, IsPlainRun, IsServed, Run, StopsAt, WantsNone, plain_replies, plain_text}
+use Rattle.ascii_run.specs.Run.{HasNoFault, IsFault, IsFaultPlace, IsNoFault, IsPlainRun, IsServed, Run, WantsNone, plain_replies, plain_text}
+use Rattle.ascii_run.specs.Edit.{IsEditFault, StopsAt}
 
 -- a run goes on by one step
 pub run_more : {A : Type 0} (sure : ℕ) (t : List ℕ) (cmds : List Cmd) (replies : List (Reply A)) (mid : List ℕ) (cmd : Cmd) (r : Reply A) (t2 : List ℕ)

@@ -1,11 +1,9 @@
 -- What a run of commands does: one reply a command, in order, and the text at the end.
-use Rattle.std.specs.Prelude.{◌≡◌, ◌≢◌, ℕ, ◌<◌, List, [], ◌∷◌, All, IfSome, IsSomeAnd, Some, map, slice_get, take}
+use Rattle.std.specs.Prelude.{◌≡◌, ◌≢◌, ℕ, ◌<◌, List, [], ◌∷◌, All, IfSome, IsSomeAnd, map, slice_get}
 use Rattle.ascii_run.specs.declared.commands.Cmd.{Cmd}
 use Rattle.ascii_run.specs.declared.commands.Cmd.TheVariants.{Shrink}
-use Rattle.ascii_run.specs.declared.commands.EditFault.{EditFault}
-use Rattle.ascii_run.specs.declared.commands.EditFault.TheVariants.{Position, Memory}
 use Rattle.ascii_run.specs.declared.commands.Reply.{Reply}
-use Rattle.ascii_run.specs.Step.{MayRefuse, Said, Step, a_char, a_number, a_text, a_truth, after, answer, bad_position, done, no_memory, refused, said, too_many}
+use Rattle.ascii_run.specs.Step.{Said, Step, a_char, a_number, a_text, a_truth, after, answer, bad_position, done, no_memory, refused, said, too_many}
 
 -- the replies and the text at the end, step by step
 abbrev pub Run : {A : Type 0} → ℕ → List ℕ → List Cmd → List (Reply A) → List ℕ → Type 0
@@ -73,21 +71,3 @@ pub record IsFaultPlace (t : List ℕ) (cmds : List Cmd) (k : ℕ) : Type 0 wher
 -- no command is refused where no memory is wanting
 abbrev pub HasNoFault : List ℕ → List Cmd → Type 0
 HasNoFault t cmds = All IsNoFault (plain_replies t cmds)
-
--- a command may want memory, before which none is refused
-pub record MayWantMemory (t : List ℕ) (cmds : List Cmd) : Type 0 where
-  pub place : ℕ
-  pub cmd : Cmd
-  pub here : slice_get cmds place ≡ Some cmd
-  pub none : HasNoFault t (take place cmds)
-  pub wants : MayRefuse 0 (plain_text t (take place cmds)) cmd
-
--- why edits stop: at the fault place, or for want of memory
-abbrev pub IsEditFault : List ℕ → List Cmd → EditFault → Type 0
-IsEditFault t cmds (Position k) = IsFaultPlace t cmds k
-IsEditFault t cmds Memory = MayWantMemory t cmds
-
--- why edits stop at the command at place k, by what its reply says
-abbrev pub StopsAt : ℕ → Said → EditFault → Type 0
-StopsAt k r (Position i) = (i ≡ k) × IsFault r
-StopsAt k r Memory = r ≡ no_memory

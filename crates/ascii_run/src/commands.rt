@@ -2,7 +2,8 @@
 
 ghost use Rattle.std.specs.Prelude.{◌≡◌, ◌≢◌, ℕ, ◌≤◌, List, [], IfErr, IfOk, IsOk, OnErr, OnOk, map, take};
 ghost use Rattle.ascii.specs.View.{text_of};
-ghost use Rattle.ascii_run.specs.Run.{AreRuns, HasNoFault, IsEditFault, IsNoFault, IsPlainRun, IsServed, NeverShrinks, Run, StopsAt, WantsNone, plain_text};
+ghost use Rattle.ascii_run.specs.Edit.{IsEditFault, StopsAt};
+ghost use Rattle.ascii_run.specs.Run.{AreRuns, HasNoFault, IsNoFault, IsPlainRun, IsServed, NeverShrinks, Run, WantsNone, plain_text};
 ghost use Rattle.ascii_run.specs.Step.{LacksRoom, Step, after, answer, no_memory, said, said_of_growth};
 
 use ascii::{AsAsciiStrError, AsciiChar, AsciiRange, AsciiStr, AsciiString};
@@ -77,8 +78,8 @@ pub enum Reply<A: Allocator = Global> {
 
 /// Carries out the commands in order, and gives one reply for each. The room for all replies is
 /// taken before the first command, and where it is refused the text stays; with no command it is
-/// not. Where no command gives room back, memory is wanting only for a copy or where the text gets
-/// longer than the capacity before.
+/// not. Where no command gives room back, memory is wanting only for a copy, or for a text or a room
+/// that is over the capacity before.
 pub fn run<A: Allocator + Copy, B: Allocator>(
     alloc: A,
     buf: &mut AsciiString<B>,
