@@ -1,12 +1,17 @@
 -- Runs of commands, one step after another.
-use Rattle.std.proofs.Common.{◌≡◌, ◌≢◌, ℕ, ◌≤◌, zero, suc, List, [], ◌∷◌, ◌++◌, map, refl, subst, take, inl, inr, arith}
-use Rattle.std.proofs.lemmas.List.Elements.{All-head, All-tail}
+use Rattle.std.proofs.Common.{◌≡◌, ◌≢◌, ℕ, ◌<◌, ◌≤◌, zero, suc, List, [], ◌∷◌, ◌++◌, ◌∙◌, ap, map, refl, subst, sym, take, inl, inr, arith}
+use Rattle.std.proofs.lemmas.List.Elements.{All-cons, All-head, All-nil, All-tail}
+use Rattle.std.proofs.lemmas.Option.{none-some}
+use Rattle.std.specs.Prelude.{IfSome, Some, slice_get, unwrap_or}
 use Rattle.ascii.specs.Text.{Text}
 use Rattle.ascii_run.specs.declared.commands.Cmd.{Cmd}
 use Rattle.ascii_run.specs.declared.commands.Cmd.TheVariants.{Push, PushStr, Insert, InsertStr, Remove, Pop, Truncate, Clear, Set, Upper, Lower, Reserve, Shrink, Len, First, Last, Get, Copy, EqIgnoreCase}
+use Rattle.ascii_run.specs.declared.commands.EditFault.{EditFault}
+use Rattle.ascii_run.specs.declared.commands.EditFault.TheVariants.{Position, Memory}
 use Rattle.ascii_run.specs.declared.commands.Reply.{Reply}
 use Rattle.ascii_run.specs.Step.{LacksRoom, MayRefuse, Said, Step, after, answer, no_memory, said}
-use Rattle.ascii_run.specs.Run.{IsPlainRun, IsServed, Run, WantsNone, plain_replies}
+use Rattle.ascii_run.specs.Run.{HasNoFault, IsFault, IsFaultPlace, IsNoFault, IsPlainRun, IsServed, Run, WantsNone, plain_replies, plain_text}
+use Rattle.ascii_run.specs.Edit.{IsEditFault, StopsAt}
 
 -- a run goes on by one step
 pub run_more : {A : Type 0} (sure : ℕ) (t : List ℕ) (cmds : List Cmd) (replies : List (Reply A)) (mid : List ℕ) (cmd : Cmd) (r : Reply A) (t2 : List ℕ)
@@ -96,6 +101,28 @@ lacks_room string (Get i) ne h = h
 lacks_room string (Copy r) ne h = h
 lacks_room string (EqIgnoreCase view) ne h = h
 
+-- where room is missing memory may be wanting, with no length that is sure
+pub lacks_may_refuse : (string : Text) (cmd : Cmd) → LacksRoom string cmd → MayRefuse 0 string.text cmd
+lacks_may_refuse string (Push ch) h = (h.0, omega (arith, h.1))
+lacks_may_refuse string (PushStr view) h = (h.0, omega (arith, h.1))
+lacks_may_refuse string (Insert i ch) h = (h.0, (h.1.0, omega (arith, h.1.1)))
+lacks_may_refuse string (InsertStr i view) h = (h.0, (h.1.0, omega (arith, h.1.1)))
+lacks_may_refuse string (Remove i) h = h
+lacks_may_refuse string Pop h = h
+lacks_may_refuse string (Truncate n) h = h
+lacks_may_refuse string Clear h = h
+lacks_may_refuse string (Set i ch) h = h
+lacks_may_refuse string Upper h = h
+lacks_may_refuse string Lower h = h
+lacks_may_refuse string (Reserve n) h = (h.0, (h.1.0, omega (arith, h.1.1)))
+lacks_may_refuse string Shrink h = refl
+lacks_may_refuse string Len h = h
+lacks_may_refuse string First h = h
+lacks_may_refuse string Last h = h
+lacks_may_refuse string (Get i) h = h
+lacks_may_refuse string (Copy r) h = h
+lacks_may_refuse string (EqIgnoreCase view) h = h
+
 -- up to the capacity every length is sure
 pub step_within : (sure : ℕ) (string : Text) (cmd : Cmd) (r : Said) (t2 : List ℕ)
     → Step 0 string.text cmd r t2 → (r ≡ no_memory → LacksRoom string cmd)
@@ -103,3 +130,81 @@ pub step_within : (sure : ℕ) (string : Text) (cmd : Cmd) (r : Said) (t2 : List
 step_within sure string cmd r t2 (inl plain) lacks le ne = inl plain
 step_within sure string cmd r t2 (inr wants) lacks le ne =
     inr (wants.0, may_refuse_less string.capacity sure string.text cmd le ne (lacks_room string cmd ne (lacks wants.0)), wants.2)
+
+-- a refusal is not want of memory
+fault_served : (r : Said) → IsFault r → r ≢ no_memory
+fault_served r fault e = subst IsFault e fault
+
+-- a step whose reply refuses has the plain reply
+pub step_fault : (t : List ℕ) (cmd : Cmd) (r : Said) (t2 : List ℕ)
+    → Step 0 t cmd r t2 → IsFault r → IsFault (answer t cmd)
+step_fault t cmd r t2 step fault =
+    subst IsFault ((step_plain 0 t cmd r t2 step (fault_served r fault)).0) fault
+
+-- the plain text behind one command more
+pub plain_text_more : (t : List ℕ) (cmds : List Cmd) (cmd : Cmd)
+    → plain_text t (cmds ++ cmd ∷ []) ≡ after (plain_text t cmds) cmd
+plain_text_more t [] cmd = refl
+plain_text_more t (c ∷ cmds) cmd = plain_text_more (after t c) cmds cmd
+
+-- one command more that is not refused
+pub no_fault_more : (t : List ℕ) (cmds : List Cmd) (cmd : Cmd)
+    → HasNoFault t cmds → IsNoFault (answer (plain_text t cmds) cmd) → HasNoFault t (cmds ++ cmd ∷ [])
+no_fault_more t [] cmd none served = All-cons IsNoFault (answer t cmd) [] served (All-nil IsNoFault)
+no_fault_more t (c ∷ cmds) cmd none served =
+    All-cons IsNoFault (answer t c) (plain_replies (after t c) (cmds ++ cmd ∷ []))
+    (All-head IsNoFault (answer t c) (plain_replies (after t c) cmds) none)
+    (no_fault_more (after t c) cmds cmd (All-tail IsNoFault (answer t c) (plain_replies (after t c) cmds) none) served)
+
+-- no reply before the fault place is a refusal, with one more reply in front
+first_later : (t : List ℕ) (c : Cmd) (cmds : List Cmd) (k : ℕ) → IsNoFault (answer t c)
+    → ((i : ℕ) → i < k → IfSome (slice_get (plain_replies (after t c) cmds) i) IsNoFault)
+    → (i : ℕ) → i < suc k → IfSome (slice_get (plain_replies t (c ∷ cmds)) i) IsNoFault
+first_later t c cmds k head later zero lt = head
+first_later t c cmds k head later (suc i) lt = later i (omega arith)
+
+-- the first command that is refused is at the fault place
+pub fault_here : (t : List ℕ) (cmds : List Cmd) (k : ℕ) (cmd : Cmd)
+    → slice_get cmds k ≡ Some cmd → HasNoFault t (take k cmds)
+    → IsFault (answer (plain_text t (take k cmds)) cmd) → IsFaultPlace t cmds k
+fault_here t [] k cmd at none fault = absurd (none-some cmd at)
+fault_here t (c ∷ cmds) zero cmd at none fault = record {
+  fault = let P : Cmd → Type 0 = λ x. IsFault (answer t x) in subst P (sym (ap (λ found. unwrap_or found cmd) at)) fault;
+  first = λ i lt. let no : ⊥ = omega arith in absurd no;
+}
+fault_here t (c ∷ cmds) (suc k) cmd at none fault =
+    let front = plain_replies (after t c) (take k cmds) in
+    let later = fault_here (after t c) cmds k cmd at (All-tail IsNoFault (answer t c) front none) fault in record {
+      fault = later.fault;
+      first = first_later t c cmds k (All-head IsNoFault (answer t c) front none) later.first;
+    }
+
+-- edits that stop at a command tell why
+pub edit_stops : (string : Text) (t : List ℕ) (cmds : List Cmd) (k : ℕ) (cmd : Cmd) (r : Said) (t2 : List ℕ) (fault : EditFault)
+    → slice_get cmds k ≡ Some cmd → HasNoFault t (take k cmds) → string.text ≡ plain_text t (take k cmds)
+    → Step 0 string.text cmd r t2 → (r ≡ no_memory → LacksRoom string cmd)
+    → StopsAt k r fault → IsEditFault t cmds fault
+edit_stops string t cmds k cmd r t2 (Position i) at none text step lacks stops =
+    let P : List ℕ → Type 0 = λ x. IsFault (answer x cmd) in
+    let here = fault_here t cmds k cmd at none (subst P text (step_fault string.text cmd r t2 step stops.1)) in
+    subst (IsFaultPlace t cmds) (sym stops.0) here
+edit_stops string t cmds k cmd r t2 Memory at none text step lacks stops =
+    let P : List ℕ → Type 0 = λ x. MayRefuse 0 x cmd in record {
+      place = k;
+      cmd = cmd;
+      here = at;
+      none = none;
+      wants = subst P text (lacks_may_refuse string cmd (lacks stops));
+    }
+
+-- edits that go on behind a command have its plain text
+pub edit_more : (t : List ℕ) (front : List Cmd) (mid : List ℕ) (cmd : Cmd) (r : Said) (t2 : List ℕ)
+    → HasNoFault t front → mid ≡ plain_text t front → Step 0 mid cmd r t2 → IsNoFault r → r ≢ no_memory
+    → HasNoFault t (front ++ cmd ∷ []) × (t2 ≡ plain_text t (front ++ cmd ∷ []))
+edit_more t front mid cmd r t2 none text step served some =
+    let plain = step_plain 0 mid cmd r t2 step some in
+    let says : r ≡ answer (plain_text t front) cmd = plain.0 ∙ ap (λ x. answer x cmd) text in
+    let leaves : t2 ≡ after (plain_text t front) cmd = plain.1 ∙ ap (λ x. after x cmd) text in (
+      no_fault_more t front cmd none (subst IsNoFault says served),
+      leaves ∙ sym (plain_text_more t front cmd),
+    )

@@ -8,7 +8,7 @@ use Rattle.ascii.specs.View.{text_of}
 use Rattle.ascii_run.specs.declared.commands.Cmd.{Cmd}
 use Rattle.ascii_run.specs.declared.commands.Cmd.TheVariants as cmd
 use Rattle.ascii_run.specs.Step.{a_char, a_number, a_text, a_truth, bad_position, done, refused, too_many}
-use Rattle.ascii_run.specs.Run.{IsFault, IsFaultPlace, plain_replies, plain_text}
+use Rattle.ascii_run.specs.Run.{IsFaultPlace, IsNoFault, plain_replies, plain_text}
 
 -- one command of each kind of reply, from `abc` to the empty text
 abbrev worked : AsciiStr → List Cmd
@@ -33,7 +33,7 @@ worked_text b = refl
 abbrev faulty : List Cmd
 faulty = cmd.Pop ∷ cmd.Remove 2 ∷ cmd.Set 9 ch.z ∷ []
 
-before_fault : (i : ℕ) → i < 1 → IfSome (slice_get (plain_replies abc faulty) i) (λ r. ¬ (IsFault r))
+before_fault : (i : ℕ) → i < 1 → IfSome (slice_get (plain_replies abc faulty) i) IsNoFault
 before_fault zero h = λ fault. fault
 before_fault (suc i) h = let none : ⊥ = omega arith in absurd none
 

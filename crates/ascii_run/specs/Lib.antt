@@ -1,4 +1,5 @@
 pub mod Devices
+pub mod Edit
 pub mod Engine
 pub mod Faults
 pub mod JsonText

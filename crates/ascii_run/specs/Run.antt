@@ -35,6 +35,14 @@ WantsNone replies = All IsServed replies
 abbrev pub IsPlainRun : {A : Type 0} → List ℕ → List Cmd → List (Reply A) → List ℕ → Type 0
 IsPlainRun t cmds replies t2 = (map said replies ≡ plain_replies t cmds) × (t2 ≡ plain_text t cmds)
 
+-- two runs of the same commands from the same text, each with a sure length of its own
+pub record AreRuns {A B : Type 0} (cmds : List Cmd) (first : List (Reply A)) (t1 : List ℕ) (second : List (Reply B)) (t2 : List ℕ) : Type 0 where
+  pub text : List ℕ
+  pub sure1 : ℕ
+  pub sure2 : ℕ
+  pub run1 : Run sure1 text cmds first t1
+  pub run2 : Run sure2 text cmds second t2
+
 -- no command gives room back
 abbrev pub NeverShrinks : List Cmd → Type 0
 NeverShrinks cmds = All (λ cmd. cmd ≢ Shrink) cmds
@@ -51,11 +59,15 @@ IsFault (refused n) = Unit {0}
 IsFault no_memory = ⊥
 IsFault too_many = Unit {0}
 
+-- an answer that does not refuse
+abbrev pub IsNoFault : Said → Type 0
+IsNoFault r = ¬ (IsFault r)
+
 -- k is the place, counted from 0, of the first command that is refused where no memory is wanting
 pub record IsFaultPlace (t : List ℕ) (cmds : List Cmd) (k : ℕ) : Type 0 where
   pub fault : IsSomeAnd (slice_get (plain_replies t cmds) k) IsFault
-  pub first : (i : ℕ) → i < k → IfSome (slice_get (plain_replies t cmds) i) (λ r. ¬ (IsFault r))
+  pub first : (i : ℕ) → i < k → IfSome (slice_get (plain_replies t cmds) i) IsNoFault
 
 -- no command is refused where no memory is wanting
 abbrev pub HasNoFault : List ℕ → List Cmd → Type 0
-HasNoFault t cmds = All (λ r. ¬ (IsFault r)) (plain_replies t cmds)
+HasNoFault t cmds = All IsNoFault (plain_replies t cmds)

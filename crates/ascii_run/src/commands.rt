@@ -1,8 +1,9 @@
 //! Runs of commands over a text.
 
-ghost use Rattle.std.specs.Prelude.{◌≡◌, ◌≢◌, ◌≤◌, [], IfOk, IsOk, OnErr};
+ghost use Rattle.std.specs.Prelude.{◌≡◌, ◌≢◌, ℕ, ◌≤◌, List, [], IfErr, IfOk, IsOk, OnErr, OnOk, map, take};
 ghost use Rattle.ascii.specs.View.{text_of};
-ghost use Rattle.ascii_run.specs.Run.{NeverShrinks, Run};
+ghost use Rattle.ascii_run.specs.Edit.{IsEditFault, StopsAt};
+ghost use Rattle.ascii_run.specs.Run.{AreRuns, HasNoFault, IsNoFault, IsPlainRun, IsServed, NeverShrinks, Run, WantsNone, plain_text};
 ghost use Rattle.ascii_run.specs.Step.{LacksRoom, Step, after, answer, no_memory, said, said_of_growth};
 
 use ascii::{AsAsciiStrError, AsciiChar, AsciiRange, AsciiStr, AsciiString};
@@ -77,8 +78,8 @@ pub enum Reply<A: Allocator = Global> {
 
 /// Carries out the commands in order, and gives one reply for each. The room for all replies is
 /// taken before the first command, and where it is refused the text stays; with no command it is
-/// not. Where no command gives room back, memory is wanting only for a copy or where the text gets
-/// longer than the capacity before.
+/// not. Where no command gives room back, memory is wanting only for a copy, or for a text or a room
+/// that is over the capacity before.
 pub fn run<A: Allocator + Copy, B: Allocator>(
     alloc: A,
     buf: &mut AsciiString<B>,
@@ -96,6 +97,23 @@ pub fn run<A: Allocator + Copy, B: Allocator>(
     }
     Ok(replies)
 }
+
+/// A law, and no work: the replies of a run in which no memory is wanting, and its text at the end,
+/// are those that the text before and the commands alone decide.
+pub fn plain_run<A: Allocator>(cmds: &[Cmd<'_>], replies: &[Reply<A>])
+    ensures { (sure : ℕ) → (t t2 : List ℕ) → Run sure t cmds.now replies.now t2 → WantsNone replies.now → IsPlainRun t cmds.now replies.now t2 }
+{}
+
+/// A law, and no work: two runs of the same commands from the same text have the same replies up to
+/// the first want of memory of either, and with none in either they have the same text at the end.
+pub fn runs_agree<A: Allocator, B: Allocator>(
+    cmds: &[Cmd<'_>],
+    first: &[Reply<A>],
+    second: &[Reply<B>],
+)
+    ensures front { (t1 t2 : List ℕ) → AreRuns cmds.now first.now t1 second.now t2 → (k : ℕ) → WantsNone (take k first.now) → WantsNone (take k second.now) → map said (take k first.now) ≡ map said (take k second.now) }
+    ensures text { (t1 t2 : List ℕ) → AreRuns cmds.now first.now t1 second.now t2 → WantsNone first.now → WantsNone second.now → t1 ≡ t2 }
+{}
 
 /// Carries out one command.
 fn step<A: Allocator, B: Allocator>(alloc: A, buf: &mut AsciiString<B>, cmd: Cmd<'_>) -> Reply<A>
@@ -248,5 +266,46 @@ fn copy<A: Allocator>(alloc: A, view: AsciiStr<'_>, range: AsciiRange) -> Reply<
             Ok(string) => Reply::Text(string),
             Err(_) => Reply::NoMemory,
         },
+    }
+}
+
+/// Why a list of edits stopped.
+#[derive(Clone, Copy, PartialEq, Eq, Debug)]
+pub(crate) enum EditFault {
+    /// The command at this place, counted from 0, is the first that is refused.
+    Position(usize),
+    /// A growth was refused before any command was.
+    Memory,
+}
+
+/// Carries out the commands in order and keeps no reply. It stops at the first command that is
+/// refused or finds no memory.
+pub(crate) fn edit<A: Allocator + Copy, B: Allocator>(
+    alloc: A,
+    buf: &mut AsciiString<B>,
+    cmds: &[Cmd<'_>],
+) -> Result<(), EditFault>
+    ensures fault { OnOk result (HasNoFault buf.old.text cmds.now) }
+    ensures text { OnOk result (buf.new.text ≡ plain_text buf.old.text cmds.now) }
+    ensures err { IfErr result (IsEditFault buf.old.text cmds.now) }
+{
+    for (k, cmd) in cmds.iter().enumerate() {
+        served(step(alloc, buf, *cmd), k)?;
+    }
+    Ok(())
+}
+
+/// Whether the reply to the command at the place `k` lets the edits go on.
+fn served<A: Allocator>(reply: Reply<A>, k: usize) -> Result<(), EditFault>
+    ensures fault { OnOk result (IsNoFault (said reply)) }
+    ensures memory { OnOk result (IsServed reply) }
+    ensures err { IfErr result (StopsAt k (said reply)) }
+{
+    match reply {
+        Reply::NoMemory => Err(EditFault::Memory),
+        Reply::BadPosition | Reply::Refused(_) | Reply::TooMany => Err(EditFault::Position(k)),
+        Reply::Done | Reply::Char(_) | Reply::Number(_) | Reply::Truth(_) | Reply::Text(_) => Ok(
+            (),
+        ),
     }
 }

@@ -6,7 +6,7 @@ mod devices;
 mod modes;
 mod outputs;
 
-pub use commands::{Cmd, Reply, run};
+pub use commands::{Cmd, Reply, plain_run, run, runs_agree};
 pub use devices::{DeviceFault, Input, Output, Sink, Source};
 pub use modes::{EngineFault, Mode, engine};
 

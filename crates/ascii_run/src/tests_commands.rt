@@ -1,4 +1,4 @@
-use crate::commands::{Cmd, run};
+use crate::commands::{Cmd, EditFault, edit, plain_run, run, runs_agree};
 use ascii::{AsciiChar, AsciiRange, AsciiStr, text};
 use std::alloc::{AllocError, Global};
 use std::test::Fail;
@@ -7,6 +7,8 @@ use std::test::Fail;
 fn ran(alloc: Global, start: &str, cmds: &[Cmd<'_>]) -> Result<String, AllocError> {
     let mut buf = view(start).to_ascii_string(alloc)?;
     let replies = run(alloc, &mut buf, cmds)?;
+    plain_run(cmds, &replies);
+    runs_agree(cmds, &replies, &replies);
     let mut shown = String::new(alloc);
     for reply in &replies {
         shown.push_str(format!(in alloc; "{reply:?}; ")?.as_str())?;
@@ -206,5 +208,22 @@ fn copies(rt: HostRuntime) -> Result<(), Fail> {
     for (range, want) in rows {
         assert_eq!(rt; ran(rt.alloc(), "abc", &[Cmd::Copy(range)])?.as_str(), want);
     }
+    Ok(())
+}
+
+#[test]
+fn edits(rt: HostRuntime) -> Result<(), Fail> {
+    let mut buf = view("abc").to_ascii_string(rt.alloc())?;
+    let stops = [Cmd::Pop, Cmd::Remove(2), Cmd::Set(9, AsciiChar::x)];
+    assert_eq!(rt;
+        edit(rt.alloc(), &mut buf, &stops),
+        Err(EditFault::Position(1))
+    );
+    let wants = [Cmd::Reserve(usize::MAX - 2), Cmd::Remove(2)];
+    assert_eq!(rt; edit(rt.alloc(), &mut buf, &wants), Err(EditFault::Memory));
+    let goes_on = [Cmd::Push(AsciiChar::x), Cmd::Truncate(9), Cmd::Upper];
+    assert_eq!(rt; edit(rt.alloc(), &mut buf, &goes_on), Ok(()));
+    assert_eq!(rt; buf.as_ascii_str().as_str(), "ABX");
+    assert_eq!(rt; edit(rt.alloc(), &mut buf, &[]), Ok(()));
     Ok(())
 }
