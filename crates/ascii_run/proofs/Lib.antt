@@ -1,4 +1,3 @@
-pub mod Edits
 pub mod EndsOutput
 pub mod JsonTexts
 pub mod Known

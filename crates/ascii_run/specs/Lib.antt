@@ -1,7 +1,6 @@
 pub mod Devices
 pub mod Edit
 pub mod Engine
-pub mod Faults
 pub mod JsonText
 pub mod Output
 pub mod Run

@@ -1,21 +1,19 @@
 //! The output of each mode for a text.
 
-ghost use Rattle.std.specs.Prelude.{◌≡◌, IfErr, IfOk, MatchResult, OnOk, [], ◌++◌};
+ghost use Rattle.std.specs.Prelude.{◌≡◌, IfErr, IfOk, OnOk, [], ◌++◌};
 ghost use Rattle.std.specs.Option.{option_map};
 ghost use Rattle.ascii_base.specs.Code.{code_of};
-ghost use Rattle.std.specs.List.{All, flat_map};
+ghost use Rattle.std.specs.List.{flat_map};
 ghost use Rattle.ascii.specs.Cow.{cow_text};
 ghost use Rattle.ascii.specs.Ends.{TakesEnd};
 ghost use Rattle.ascii.specs.Lines.{bodies};
 ghost use Rattle.ascii.specs.View.{text_of};
 ghost use Rattle.ascii_run.specs.Engine.{StopsOutput};
-ghost use Rattle.ascii_run.specs.Faults.{IsGood, Stops, StopsAt};
 ghost use Rattle.ascii_run.specs.Output.{IsOutput, answer_text, caret_text};
 ghost use Rattle.ascii_run.specs.Run.{HasNoFault, plain_text};
-ghost use Rattle.ascii_run.specs.Step.{said};
 ghost use Rattle.ascii_run.specs.JsonText.{json_text};
 
-use crate::commands::{Cmd, Reply, run};
+use crate::commands::{Cmd, EditFault, edit};
 use crate::modes::{EngineFault, Mode};
 use ascii::iter::{End, Lines};
 use ascii::{AsciiChar, AsciiStr, AsciiString, CowAsciiStr, caret_encode};
@@ -167,35 +165,9 @@ fn edit_output<A: Allocator + Copy>(
     let Ok(mut output) = text.to_ascii_string(alloc) else {
         return Err(EngineFault::Memory);
     };
-    let Ok(replies) = run(alloc, &mut output, cmds) else {
-        return Err(EngineFault::Memory);
-    };
-    match find_fault(&replies) {
+    match edit(alloc, &mut output, cmds) {
         Ok(()) => Ok(output),
-        Err(fault) => Err(fault),
-    }
-}
-
-/// The first reply that ends an edit: a refused command, or want of memory.
-fn find_fault<A: Allocator>(replies: &[Reply<A>]) -> Result<(), EngineFault>
-    ensures ok { OnOk result (All (λ r. IsGood (said r)) replies.now) }
-    ensures err { IfErr result (StopsAt replies.now) }
-{
-    for (k, reply) in replies.iter().enumerate() {
-        granted(k, reply)?;
-    }
-    Ok(())
-}
-
-/// Whether the reply to the command at a place lets an edit go on.
-fn granted<A: Allocator>(k: usize, reply: &Reply<A>) -> Result<(), EngineFault>
-    ensures { MatchResult result (λ _. IsGood (said reply.now)) (Stops k reply.now) }
-{
-    match reply {
-        Reply::NoMemory => Err(EngineFault::Memory),
-        Reply::BadPosition | Reply::Refused(_) | Reply::TooMany => Err(EngineFault::Position(k)),
-        Reply::Done | Reply::Char(_) | Reply::Number(_) | Reply::Truth(_) | Reply::Text(_) => Ok(
-            (),
-        ),
+        Err(EditFault::Position(place)) => Err(EngineFault::Position(place)),
+        Err(EditFault::Memory) => Err(EngineFault::Memory),
     }
 }
