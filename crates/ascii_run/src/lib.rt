@@ -12,3 +12,5 @@ pub use modes::{EngineFault, Mode, engine};
 
 #[cfg(test)]
 mod tests_commands;
+#[cfg(test)]
+mod tests_engine;
