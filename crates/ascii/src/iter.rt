@@ -9,6 +9,7 @@ ghost use Rattle.ascii_base.specs.Code.{code_of};
 ghost use Rattle.ascii.specs.Lines.{HandsFirst, HandsLast, IsFirstLine, IsLastLine, Line, LinesOf, bodies, ended_line};
 ghost use Rattle.ascii.specs.Pieces.{Pieces, pieces_left, pieces_of};
 ghost use Rattle.ascii.specs.Places.{Free, IsFirstPlace, IsLastPlace, IsLastStart};
+ghost use Rattle.ascii.specs.Steps.{Goes};
 ghost use Rattle.ascii.specs.View.{text_of};
 
 use crate::ascii_str::AsciiStr;
@@ -301,8 +302,7 @@ impl<'a> Iterator for Split<'a> {
 
     fn next(&mut self) -> Option<AsciiStr<'a>>
         ensures steps { YieldsFirstBy text_of (λ split. split.pieces) self.old result self.new }
-        ensures goes { MakesProgress (λ _. ⊤) (item_count (λ split. split.pieces)) self.old result self.new }
-        ensures separator { self.new.on ≡ self.old.on }
+        ensures goes { Goes (item_count (λ split. split.pieces)) (self.new.on ≡ self.old.on) self.old result self.new }
     {
         let (first, others) = cut_front(self.rest?, self.on);
         self.rest = others;
@@ -440,8 +440,7 @@ impl<'a> Iterator for Lines<'a> {
 
     fn next(&mut self) -> Option<AsciiStr<'a>>
         ensures steps { YieldsFirstBy text_of bodies self.old result self.new }
-        ensures goes { MakesProgress (λ _. ⊤) (item_count bodies) self.old result self.new }
-        ensures line { HandsFirst self.old (option_map text_of result) self.new }
+        ensures goes { Goes (item_count bodies) (HandsFirst self.old (option_map text_of result) self.new) self.old result self.new }
     {
         if self.rest.is_empty() {
             return None;
