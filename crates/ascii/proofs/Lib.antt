@@ -1,5 +1,7 @@
 pub mod Debugs
+pub mod Drained
 pub mod Extends
+pub mod Goings
 pub mod Lining
 pub mod OneByte
 pub mod Resting

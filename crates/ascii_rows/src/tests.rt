@@ -1,5 +1,10 @@
 //! Each call on sources whose outcome is known from outside.
 
+mod both_ends;
+mod strings;
+mod vectors;
+mod views;
+
 use crate::edits::{raise_in, upper_in};
 use ascii::{AsciiChar, bytes};
 use ascii_base::range::AsciiRange;

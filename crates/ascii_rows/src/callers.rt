@@ -1,0 +1,87 @@
+//! Callers of the iterators of a view: loops and adapters, and what they gave.
+
+ghost use Rattle.std.specs.Prelude.{◌≡◌, ◌+◌, ◌≤◌, ◌++◌, ◌∷◌, [], IfOk, IsOk, OnErr, OnOk, List, ℕ, length, map, reverse, string_bytes, codes, take};
+ghost use Rattle.std.specs.List.{All, flat_map};
+ghost use Rattle.ascii_base.specs.Case.{upper_image};
+ghost use Rattle.ascii_base.specs.Code.{code_of};
+ghost use Rattle.ascii.specs.Debug.{debug_text};
+ghost use Rattle.ascii.specs.Lines.{Line, LinesOf, bodies};
+ghost use Rattle.ascii.specs.Pieces.{Pieces};
+ghost use Rattle.ascii.specs.View.{text_of};
+
+use ascii::{AsciiChar, AsciiStr, AsciiString};
+use std::alloc::{AllocError, Global};
+
+/// The number of pieces of a view between separators.
+#[tactic(auto, using(crate::proofs::Counts::count_of_pieces))]
+pub fn piece_count(view: AsciiStr<'_>, on: AsciiChar) -> usize
+    ensures { (pieces : List (List ℕ)) × Pieces (text_of view.entry) (code_of on) pieces × (result ≡ length pieces) }
+{
+    view.split(on).count()
+}
+
+/// The bodies of the lines of a view, the last one first.
+pub fn bodies_reversed<'a>(
+    alloc: Global,
+    view: AsciiStr<'a>,
+) -> Result<Vec<AsciiStr<'a>>, AllocError>
+    ensures { IfOk result (λ views. (lines : List Line) × LinesOf (text_of view.entry) lines × (map text_of views.items ≡ reverse (bodies lines))) }
+{
+    view.lines().rev().collect(alloc)
+}
+
+/// The lengths of the lines of a view, without their endings.
+pub fn line_lengths(alloc: Global, view: AsciiStr<'_>) -> Result<Vec<usize>, AllocError>
+    ensures { IfOk result (λ lengths. (lines : List Line) × LinesOf (text_of view.entry) lines × (lengths.items ≡ map length (bodies lines))) }
+{
+    view.lines().map(|line| line.len()).collect(alloc)
+}
+
+/// The length of the longest line of a view, or 0 where there is no line.
+pub fn longest_line(view: AsciiStr<'_>) -> usize
+    ensures { (lines : List Line) × LinesOf (text_of view.entry) lines × All (λ body. length body ≤ result) (bodies lines) }
+{
+    let mut longest = 0;
+    for line in view.lines() {
+        longest = longest.max(line.len());
+    }
+    longest
+}
+
+/// Appends the characters of a view in upper case. Where memory is refused, those before the refused
+/// one stay; it is never refused where all of them fit the capacity.
+pub fn push_upper(string: &mut AsciiString, view: AsciiStr<'_>) -> Result<(), AllocError>
+    ensures ok { OnOk result (string.new.text ≡ string.old.text ++ map upper_image (text_of view.entry)) }
+    ensures front { (n : ℕ) × (string.new.text ≡ string.old.text ++ map upper_image (take n (text_of view.entry))) }
+    ensures succeeds { length string.old.text + length (text_of view.entry) ≤ string.old.capacity → IsOk result }
+{
+    string.extend_chars(view.chars().map(|ch| ch.to_ascii_uppercase()))
+}
+
+/// The text of a view without its separators.
+pub fn without(alloc: Global, view: AsciiStr<'_>, on: AsciiChar) -> Result<AsciiString, AllocError>
+    ensures { IfOk result (λ string. (pieces : List (List ℕ)) × Pieces (text_of view.entry) (code_of on) pieces × (string.text ≡ flat_map (λ piece. piece) pieces)) }
+{
+    AsciiString::collect_strs(alloc, view.split(on))
+}
+
+/// The text of a view without its line endings.
+pub fn unbroken(alloc: Global, view: AsciiStr<'_>) -> Result<AsciiString, AllocError>
+    ensures { IfOk result (λ string. (lines : List Line) × LinesOf (text_of view.entry) lines × (string.text ≡ flat_map (λ line. line.body) lines)) }
+{
+    AsciiString::collect_strs(alloc, view.lines())
+}
+
+/// A view between square brackets.
+pub fn bracketed(alloc: Global, view: AsciiStr<'_>) -> Result<String, AllocError>
+    ensures { IfOk result (λ text. string_bytes text ≡ codes "[" ++ (text_of view.entry ++ codes "]")) }
+{
+    format!(in alloc; "[{view}]")
+}
+
+/// A view between quotes, its controls, quotes and backslashes escaped.
+pub fn quoted(alloc: Global, view: AsciiStr<'_>) -> Result<String, AllocError>
+    ensures { IfOk result (λ text. string_bytes text ≡ debug_text (text_of view.entry)) }
+{
+    format!(in alloc; "{view:?}")
+}

@@ -1,0 +1,243 @@
+//! Characters, pieces and lines from both ends.
+
+use super::views::ascii;
+use ascii::iter::{End, walk_lines, walk_split};
+use ascii::{AsciiChar, AsciiStr, AsciiString, bytes};
+use std::alloc::{AllocError, Global};
+use std::mem;
+use std::test::Fail;
+
+/// The ends that the letters `F` and `B` name.
+pub fn ends(alloc: Global, letters: &str) -> Result<Vec<End>, AllocError> {
+    letters
+        .bytes()
+        .map(|letter| {
+            if letter == b'F' {
+                End::Front
+            } else {
+                End::Back
+            }
+        })
+        .collect(alloc)
+}
+
+/// The answers of a walk, each with a bar behind it, and `~` for a `None`.
+pub fn joined(alloc: Global, answers: &[Option<AsciiStr<'_>>]) -> Result<AsciiString, AllocError> {
+    let mut text = AsciiString::new(alloc);
+    for answer in answers {
+        match answer {
+            Some(view) => text.push_str(*view)?,
+            None => text.push(AsciiChar::Tilde)?,
+        }
+        text.push(AsciiChar::VerticalBar)?;
+    }
+    Ok(text)
+}
+
+#[test]
+fn walked_pieces(rt: HostRuntime) -> Result<(), Fail> {
+    for (source, on, script, want) in [
+        (
+            " foo  bar baz ",
+            AsciiChar::Space,
+            "FBFBBFB",
+            "||foo|baz|bar||~|",
+        ),
+        ("", AsciiChar::NAK, "FF", "|~|"),
+        ("", AsciiChar::NAK, "BB", "|~|"),
+        ("|||", AsciiChar::VerticalBar, "FFFFF", "||||~|"),
+        ("|||", AsciiChar::VerticalBar, "BBBBB", "||||~|"),
+        (
+            "foo;bar;baz;",
+            AsciiChar::Semicolon,
+            "FFFFF",
+            "foo|bar|baz||~|",
+        ),
+        (",", AsciiChar::Comma, "BBF", "||~|"),
+        ("ab", AsciiChar::Comma, "BF", "ab|~|"),
+        ("", AsciiChar::Equal, "FFF", "|~|~|"),
+        ("1,2,3", AsciiChar::Comma, "FFFF", "1|2|3|~|"),
+        (" a  b  c ", AsciiChar::Space, "FFFFFFFF", "|a||b||c||~|"),
+        (" a  b  c ", AsciiChar::Space, "BBBBBBBB", "|c||b||a||~|"),
+        ("ab", AsciiChar::Comma, "", ""),
+    ] {
+        let script = ends(rt.alloc(), script)?;
+        let answers = walk_split(rt.alloc(), ascii(source), on, &script)?;
+        assert_eq!(rt;
+            joined(rt.alloc(), &answers)?.as_ascii_str().as_str(),
+            want,
+            "{source}"
+        );
+    }
+    Ok(())
+}
+
+#[test]
+fn walked_lines(rt: HostRuntime) -> Result<(), Fail> {
+    for (source, script, want) in [
+        ("foo\r\nbar\n\nbaz\n", "FBBFF", "foo|baz||bar|~|"),
+        ("foo\r\nbar\n\nbaz", "FFFFF", "foo|bar||baz|~|"),
+        ("foo\r\nbar\n\nbaz\n", "BBBBB", "baz||bar|foo|~|"),
+        ("\r\r\n", "FF", "\r|~|"),
+        ("\r\r\n", "BB", "\r|~|"),
+        ("a\r", "FF", "a\r|~|"),
+        ("a\r", "BB", "a\r|~|"),
+        ("\n\r\n\n\r\n", "FFFFF", "||||~|"),
+        ("\n\r\n\n\r\n", "BBBBB", "||||~|"),
+        ("\n", "FF", "|~|"),
+        ("", "FF", "~|~|"),
+        ("", "BB", "~|~|"),
+        ("\n\n", "BBFF", "||~|~|"),
+        ("a\r\n\r\nb\r", "BBB", "b\r||a|"),
+    ] {
+        let script = ends(rt.alloc(), script)?;
+        let answers = walk_lines(rt.alloc(), ascii(source), &script)?;
+        assert_eq!(rt; joined(rt.alloc(), &answers)?.as_ascii_str().as_str(), want);
+    }
+    Ok(())
+}
+
+#[test]
+fn characters_from_both_ends(rt: HostRuntime) -> Result<(), Fail> {
+    let mut chars = ascii("abc").chars();
+    assert_eq!(rt; chars.size_hint(), (3, Some(3)));
+    assert_eq!(rt; chars.next(), Some(AsciiChar::a));
+    assert_eq!(rt; chars.next_back(), Some(AsciiChar::c));
+    assert_eq!(rt; chars.as_str().as_str(), "b");
+    assert_eq!(rt; chars.len(), 1);
+    let mut again = chars.clone()?;
+    assert_eq!(rt; chars.next_back(), Some(AsciiChar::b));
+    assert_eq!(rt; chars.next(), None);
+    assert_eq!(rt; chars.next_back(), None);
+    assert_eq!(rt; again.next(), Some(AsciiChar::b));
+    let mut chars = ascii("xyz").into_iter();
+    assert_eq!(rt; chars.size_hint(), (3, Some(3)));
+    assert_eq!(rt; chars.next_back(), Some(AsciiChar::z));
+    assert_eq!(rt; chars.next(), Some(AsciiChar::x));
+    assert_eq!(rt; chars.as_str().as_str(), "y");
+    let mut again = chars.clone()?;
+    assert_eq!(rt; again.next(), Some(AsciiChar::y));
+    assert_eq!(rt; again.next(), None);
+    assert_eq!(rt; chars.size_hint(), (1, Some(1)));
+    let source = b"hello world\0";
+    let mut codes = source.iter();
+    for ch in ascii("hello world\0") {
+        assert_eq!(rt; Some(&ch.as_byte()), codes.next());
+    }
+    assert_eq!(rt; codes.next(), None);
+    assert_eq!(rt;
+        ascii("hello world\0").chars().rev().last(),
+        Some(AsciiChar::h)
+    );
+    let mut pieces = ascii("a-b-c").split(AsciiChar::Minus);
+    assert_eq!(rt; pieces.next(), Some(ascii("a")));
+    let rest = pieces.clone()?;
+    assert_eq!(rt; pieces.count(), 2);
+    assert_eq!(rt; rest.last(), Some(ascii("c")));
+    let mut lines = ascii("a\nb\r\nc").lines();
+    assert_eq!(rt; lines.next_back(), Some(ascii("c")));
+    let rest = lines.clone()?;
+    assert_eq!(rt; lines.count(), 2);
+    assert_eq!(rt; rest.last(), Some(ascii("b")));
+    Ok(())
+}
+
+/// The pieces of a text between separators, worked out plainly.
+fn plain_pieces(alloc: Global, text: &[u8], on: u8) -> Result<Vec<Vec<u8>>, AllocError> {
+    let mut pieces = Vec::new(alloc);
+    let mut piece = Vec::new(alloc);
+    for byte in text {
+        if *byte == on {
+            pieces.push(mem::replace(&mut piece, Vec::new(alloc)))?;
+        } else {
+            piece.push(*byte)?;
+        }
+    }
+    pieces.push(piece)?;
+    Ok(pieces)
+}
+
+/// The bodies of the lines of a text, worked out plainly.
+fn plain_bodies(alloc: Global, text: &[u8]) -> Result<Vec<Vec<u8>>, AllocError> {
+    let mut bodies = Vec::new(alloc);
+    let mut body = Vec::new(alloc);
+    for byte in text {
+        if *byte == b'\n' {
+            if body.last() == Some(&b'\r') {
+                body.pop();
+            }
+            bodies.push(mem::replace(&mut body, Vec::new(alloc)))?;
+        } else {
+            body.push(*byte)?;
+        }
+    }
+    if !body.is_empty() {
+        bodies.push(body)?;
+    }
+    Ok(bodies)
+}
+
+/// Whether an iterator gives the items of a list for eight ends, of which each bit is one.
+fn gives<'a, I: DoubleEndedIterator<Item = AsciiStr<'a>> + Drop>(
+    iter: I,
+    list: &[Vec<u8>],
+    script: u32,
+) -> bool {
+    let mut items = iter;
+    let mut left = list;
+    let mut bits = script;
+    for _ in 0..8 {
+        let is_front = bits % 2 == 0;
+        bits /= 2;
+        let wanted = if is_front {
+            left.split_first()
+        } else {
+            left.split_last()
+        };
+        let item = if is_front {
+            items.next()
+        } else {
+            items.next_back()
+        };
+        match (item, wanted) {
+            (Some(view), Some((piece, others))) => {
+                if !view.eq_bytes(piece) {
+                    return false;
+                }
+                left = others;
+            }
+            (None, None) => {}
+            _ => return false,
+        }
+    }
+    true
+}
+
+#[test]
+fn every_small_text(rt: HostRuntime) -> Result<(), Fail> {
+    for (length, count) in [(0, 1), (1, 3), (2, 9), (3, 27), (4, 81), (5, 243), (6, 729)] {
+        for number in 0..count {
+            let mut text = Vec::new(rt.alloc());
+            let mut rest: u32 = number;
+            for _ in 0..length {
+                text.push(match rest % 3 {
+                    0 => b'\r',
+                    1 => b'\n',
+                    _ => b'a',
+                })?;
+                rest /= 3;
+            }
+            let bodies = plain_bodies(rt.alloc(), &text)?;
+            let pieces = plain_pieces(rt.alloc(), &text, b'a')?;
+            let view = bytes::as_ascii_str(&text).unwrap_or_default();
+            for script in 0..256 {
+                assert!(rt; gives(view.lines(), &bodies, script), "{view:?} {script}");
+                assert!(rt;
+                    gives(view.split(AsciiChar::a), &pieces, script),
+                    "{view:?} {script}"
+                );
+            }
+        }
+    }
+    Ok(())
+}
