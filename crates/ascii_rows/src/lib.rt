@@ -6,3 +6,4 @@ pub mod callers;
 pub mod edits;
 #[cfg(test)]
 mod tests;
+pub mod values;

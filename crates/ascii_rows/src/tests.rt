@@ -1,6 +1,7 @@
 //! Each call on sources whose outcome is known from outside.
 
 mod both_ends;
+mod json;
 mod strings;
 mod vectors;
 mod views;
