@@ -22,8 +22,12 @@ pub enum Request<'a, A: Allocator> {
 }
 
 impl<'a, A: Allocator> Request<'a, A> {
+    ghost use Rattle.ascii_show.specs.Asked.{StandsFor};
+
     /// The mode of the engine.
-    pub fn mode(&self) -> Mode<'_> {
+    pub fn mode(&self) -> Mode<'_>
+        ensures { StandsFor self.now result }
+    {
         match self {
             Request::Copy => Mode::Copy,
             Request::Lines => Mode::Lines,
