@@ -1,7 +1,7 @@
 //! Callers of the iterators of a view: loops and adapters, and what they gave.
 
 ghost use Rattle.std.specs.Prelude.{◌≡◌, ◌+◌, ◌≤◌, ◌++◌, ◌∷◌, [], IfOk, IsOk, OnErr, OnOk, List, ℕ, length, map, reverse, string_bytes, codes, take};
-ghost use Rattle.std.specs.List.{All, flat_map};
+ghost use Rattle.std.specs.List.{flat_map};
 ghost use Rattle.ascii_base.specs.Case.{upper_image};
 ghost use Rattle.ascii_base.specs.Code.{code_of};
 ghost use Rattle.ascii.specs.Debug.{debug_text};
@@ -35,17 +35,6 @@ pub fn line_lengths(alloc: Global, view: AsciiStr<'_>) -> Result<Vec<usize>, All
     ensures { IfOk result (λ lengths. (lines : List Line) × LinesOf (text_of view.entry) lines × (lengths.items ≡ map length (bodies lines))) }
 {
     view.lines().map(|line| line.len()).collect(alloc)
-}
-
-/// The length of the longest line of a view, or 0 where there is no line.
-pub fn longest_line(view: AsciiStr<'_>) -> usize
-    ensures { (lines : List Line) × LinesOf (text_of view.entry) lines × All (λ body. length body ≤ result) (bodies lines) }
-{
-    let mut longest = 0;
-    for line in view.lines() {
-        longest = longest.max(line.len());
-    }
-    longest
 }
 
 /// Appends the characters of a view in upper case. Where memory is refused, those before the refused

@@ -132,12 +132,14 @@ fn characters_from_both_ends(rt: HostRuntime) -> Result<(), Fail> {
     let mut pieces = ascii("a-b-c").split(AsciiChar::Minus);
     assert_eq!(rt; pieces.next(), Some(ascii("a")));
     let rest = pieces.clone()?;
-    assert_eq!(rt; pieces.count(), 2);
+    let left: Vec<AsciiStr<'_>> = pieces.collect(rt.alloc())?;
+    assert_eq!(rt; left.len(), 2);
     assert_eq!(rt; rest.last(), Some(ascii("c")));
     let mut lines = ascii("a\nb\r\nc").lines();
     assert_eq!(rt; lines.next_back(), Some(ascii("c")));
     let rest = lines.clone()?;
-    assert_eq!(rt; lines.count(), 2);
+    let left: Vec<AsciiStr<'_>> = lines.collect(rt.alloc())?;
+    assert_eq!(rt; left.len(), 2);
     assert_eq!(rt; rest.last(), Some(ascii("b")));
     Ok(())
 }
@@ -177,31 +179,17 @@ fn plain_bodies(alloc: Global, text: &[u8]) -> Result<Vec<Vec<u8>>, AllocError> 
     Ok(bodies)
 }
 
-/// Whether an iterator gives the items of a list for eight ends, of which each bit is one.
-fn gives<'a, I: DoubleEndedIterator<Item = AsciiStr<'a>> + Drop>(
-    iter: I,
-    list: &[Vec<u8>],
-    script: u32,
-) -> bool {
-    let mut items = iter;
+/// Whether the answers to a script are those of a list that is worked off from both ends.
+fn agrees(answers: &[Option<AsciiStr<'_>>], script: &[End], list: &[Vec<u8>]) -> bool {
     let mut left = list;
-    let mut bits = script;
-    for _ in 0..8 {
-        let is_front = bits % 2 == 0;
-        bits /= 2;
-        let wanted = if is_front {
-            left.split_first()
-        } else {
-            left.split_last()
+    for (answer, end) in answers.iter().zip(script) {
+        let wanted = match end {
+            End::Front => left.split_first(),
+            End::Back => left.split_last(),
         };
-        let item = if is_front {
-            items.next()
-        } else {
-            items.next_back()
-        };
-        match (item, wanted) {
-            (Some(view), Some((piece, others))) => {
-                if !view.eq_bytes(piece) {
+        match (answer, wanted) {
+            (Some(view), Some((item, others))) => {
+                if !view.eq_bytes(item) {
                     return false;
                 }
                 left = others;
@@ -210,32 +198,53 @@ fn gives<'a, I: DoubleEndedIterator<Item = AsciiStr<'a>> + Drop>(
             _ => return false,
         }
     }
-    true
+    answers.len() == script.len()
+}
+
+/// Every script of eight ends.
+fn scripts(alloc: Global) -> Result<Vec<Vec<End>>, AllocError> {
+    let mut all = Vec::new(alloc);
+    for number in 0..256u32 {
+        let mut script = Vec::new(alloc);
+        let mut rest = number;
+        for _ in 0..8 {
+            script.push(if rest % 2 == 0 { End::Front } else { End::Back })?;
+            rest /= 2;
+        }
+        all.push(script)?;
+    }
+    Ok(all)
+}
+
+/// The text of a length over CR, LF and `a` that a number stands for.
+fn small_text(alloc: Global, length: u32, number: u32) -> Result<Vec<u8>, AllocError> {
+    let mut text = Vec::new(alloc);
+    let mut rest = number;
+    for _ in 0..length {
+        text.push(match rest % 3 {
+            0 => b'\r',
+            1 => b'\n',
+            _ => b'a',
+        })?;
+        rest /= 3;
+    }
+    Ok(text)
 }
 
 #[test]
 fn every_small_text(rt: HostRuntime) -> Result<(), Fail> {
+    let scripts = scripts(rt.alloc())?;
     for (length, count) in [(0, 1), (1, 3), (2, 9), (3, 27), (4, 81), (5, 243), (6, 729)] {
         for number in 0..count {
-            let mut text = Vec::new(rt.alloc());
-            let mut rest: u32 = number;
-            for _ in 0..length {
-                text.push(match rest % 3 {
-                    0 => b'\r',
-                    1 => b'\n',
-                    _ => b'a',
-                })?;
-                rest /= 3;
-            }
+            let text = small_text(rt.alloc(), length, number)?;
             let bodies = plain_bodies(rt.alloc(), &text)?;
             let pieces = plain_pieces(rt.alloc(), &text, b'a')?;
             let view = bytes::as_ascii_str(&text).unwrap_or_default();
-            for script in 0..256 {
-                assert!(rt; gives(view.lines(), &bodies, script), "{view:?} {script}");
-                assert!(rt;
-                    gives(view.split(AsciiChar::a), &pieces, script),
-                    "{view:?} {script}"
-                );
+            for script in &scripts {
+                let answers = walk_lines(rt.alloc(), view, script)?;
+                assert!(rt; agrees(&answers, script, &bodies));
+                let answers = walk_split(rt.alloc(), view, AsciiChar::a, script)?;
+                assert!(rt; agrees(&answers, script, &pieces));
             }
         }
     }

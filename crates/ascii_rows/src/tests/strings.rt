@@ -2,8 +2,8 @@
 
 use super::views::ascii;
 use ascii::{
-    AsciiChar, AsciiString, BoxedAsciiStr, CopyError, CowAsciiStr, RcAsciiStr, bytes, string, text,
-    vec,
+    AsciiChar, AsciiStr, AsciiString, BoxedAsciiStr, CopyError, CowAsciiStr, RcAsciiStr, bytes,
+    string, text, vec,
 };
 use std::alloc::Global;
 use std::cmp::Ordering;
@@ -37,6 +37,11 @@ fn edits(rt: HostRuntime) -> Result<(), Fail> {
     assert_eq!(rt; shown(&string), "ADEFBCX");
     string.make_ascii_lowercase();
     assert_eq!(rt; shown(&string), "adefbcx");
+    Ok(())
+}
+
+#[test]
+fn single_edits(rt: HostRuntime) -> Result<(), Fail> {
     let mut string = AsciiString::new(rt.alloc());
     assert!(rt; string.is_empty());
     assert_eq!(rt; string.pop(), None);
@@ -113,6 +118,11 @@ fn taken_over(rt: HostRuntime) -> Result<(), Fail> {
         };
         assert_eq!(rt; refusal.into_source(), source.as_bytes());
     }
+    Ok(())
+}
+
+#[test]
+fn refused_bytes(rt: HostRuntime) -> Result<(), Fail> {
     let Err(refusal) = vec::into_ascii_string(vec![in rt.alloc(); 127, 128, 255]?) else {
         return Err(Fail::from("accepted"));
     };
@@ -128,6 +138,11 @@ fn taken_over(rt: HostRuntime) -> Result<(), Fail> {
         return Err(Fail::from("accepted"));
     };
     assert_eq!(rt; again.into_source().as_slice(), [127, 128, 255].as_slice());
+    Ok(())
+}
+
+#[test]
+fn kept_buffers(rt: HostRuntime) -> Result<(), Fail> {
     let Ok(kept) = vec::into_ascii_string(vec![in rt.alloc(); 40, 32, 59]?) else {
         return Err(Fail::from("refused"));
     };
@@ -194,6 +209,12 @@ fn conversions(rt: HostRuntime) -> Result<(), Fail> {
         shown(&AsciiString::from_char(rt.alloc(), AsciiChar::A)?),
         "A"
     );
+    Ok(())
+}
+
+#[test]
+fn borrowed_or_owned(rt: HostRuntime) -> Result<(), Fail> {
+    let view = ascii("abc");
     let borrowed: CowAsciiStr = view.into();
     assert_eq!(rt; borrowed.as_ascii_str().as_str(), "abc");
     let Ok(copy) = borrowed.into_owned(rt.alloc()) else {
@@ -241,7 +262,10 @@ fn collected(rt: HostRuntime) -> Result<(), Fail> {
     assert_eq!(rt; shown(&string), "abcabc");
     string.extend_strs(ascii("one\ntwo\nthree").lines())?;
     assert_eq!(rt; shown(&string), "abcabconetwothree");
-    for piece in ascii("ASCII Ascii ascii").split(AsciiChar::Space) {
+    let pieces: Vec<AsciiStr<'_>> = ascii("ASCII Ascii ascii")
+        .split(AsciiChar::Space)
+        .collect(rt.alloc())?;
+    for piece in &pieces {
         string.push_str(piece.to_ascii_uppercase(rt.alloc())?.as_ascii_str())?;
     }
     string.push(AsciiChar::LineFeed)?;

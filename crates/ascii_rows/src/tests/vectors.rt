@@ -43,6 +43,22 @@ fn ranges(alloc: Global, length: usize) -> Result<Vec<AsciiRange>, AllocError> {
     Ok(all)
 }
 
+/// The length of a part for writing, or the position of the refusal.
+fn length_for_writing(source: &mut [u8], range: AsciiRange) -> Result<usize, usize> {
+    match bytes::slice_ascii_mut(source, range) {
+        Ok(view) => Ok(view.as_ascii_str().len()),
+        Err(error) => Err(error.valid_up_to()),
+    }
+}
+
+/// The length of a text, or the position of the refusal.
+fn length_of(slice: Result<&str, usize>) -> Result<usize, usize> {
+    match slice {
+        Ok(text) => Ok(text.len()),
+        Err(position) => Err(position),
+    }
+}
+
 #[test]
 fn every_form_at_its_edges(rt: HostRuntime) -> Result<(), Fail> {
     let whole = ascii("@ABCDEFGHIJKLMNOPQRSTUVWXYZ[\\]^_`");
@@ -72,12 +88,7 @@ fn every_form_at_its_edges(rt: HostRuntime) -> Result<(), Fail> {
             let Some(part) = copy.get_mut(..length) else {
                 return Err(Fail::from("too long"));
             };
-            match bytes::slice_ascii_mut(part, *range) {
-                Ok(text) => {
-                    assert_eq!(rt; Ok(text.as_ascii_str().len()), want.map(|text| text.len()));
-                }
-                Err(error) => assert_eq!(rt; Err(error.valid_up_to()), want),
-            }
+            assert_eq!(rt; length_for_writing(part, *range), length_of(want));
         }
     }
     Ok(())
@@ -140,12 +151,17 @@ static LINES: [(&str, &str, &str); 24] = [
 ];
 
 #[test]
-fn walks(rt: HostRuntime) -> Result<(), Fail> {
+fn walked_pieces(rt: HostRuntime) -> Result<(), Fail> {
     for (source, script, want) in SPLITS {
         let script = ends(rt.alloc(), script)?;
         let answers = walk_split(rt.alloc(), ascii(source), AsciiChar::Comma, &script)?;
         assert_eq!(rt; joined(rt.alloc(), &answers)?.as_ascii_str().as_str(), want);
     }
+    Ok(())
+}
+
+#[test]
+fn walked_lines(rt: HostRuntime) -> Result<(), Fail> {
     for (source, script, want) in LINES {
         let script = ends(rt.alloc(), script)?;
         let answers = walk_lines(rt.alloc(), ascii(source), &script)?;
@@ -265,12 +281,19 @@ static TRIMS: [(&str, &str, &str, &str, &str, &str); 20] = [
 ];
 
 #[test]
-fn trims_and_cases(rt: HostRuntime) -> Result<(), Fail> {
-    for (source, start, end, both, upper, lower) in TRIMS {
+fn trims(rt: HostRuntime) {
+    for (source, start, end, both, _, _) in TRIMS {
         let view = ascii(source);
         assert_eq!(rt; view.trim_start().as_str(), start);
         assert_eq!(rt; view.trim_end().as_str(), end);
         assert_eq!(rt; view.trim().as_str(), both);
+    }
+}
+
+#[test]
+fn cases(rt: HostRuntime) -> Result<(), Fail> {
+    for (source, _, _, _, upper, lower) in TRIMS {
+        let view = ascii(source);
         assert_eq!(rt;
             view.to_ascii_uppercase(rt.alloc())?.as_ascii_str().as_str(),
             upper
