@@ -58,7 +58,8 @@ fn lines_output<A: Allocator>(alloc: A, text: AsciiStr<'_>) -> Result<AsciiStrin
     ensures { IfOk result (λ output. IsOutput Mode.Lines (text_of text.entry) output.text) }
 {
     let mut output = room_for_lines(alloc, text)?;
-    for body in text.lines() {
+    let mut lines = text.lines();
+    while let Some(body) = lines.next() {
         output.push_str(body)?;
         output.push(AsciiChar::LineFeed)?;
     }
