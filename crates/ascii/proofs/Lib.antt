@@ -1,7 +1,6 @@
 pub mod Debugs
 pub mod Drained
 pub mod Extends
-pub mod Goings
 pub mod Lining
 pub mod OneByte
 pub mod Resting

@@ -9,7 +9,6 @@ pub mod Pieces
 pub mod Places
 pub mod Refusal
 pub mod Slice
-pub mod Steps
 pub mod Text
 pub mod Trim
 pub mod View

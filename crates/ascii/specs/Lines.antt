@@ -71,11 +71,3 @@ IsFirstLine text body rest = (line : Line) × (lines_of text ≡ line ∷ lines_
 -- the last line of a text, of which this is the body, and what is left
 abbrev pub IsLastLine : List ℕ → List ℕ → List ℕ → Type 0
 IsLastLine text body rest = (line : Line) × (lines_of text ≡ lines_of rest ++ line ∷ []) × (line.body ≡ body)
-
--- a call handed out the body of the first line of those owed, or None where none was
-abbrev pub HandsFirst : List Line → Option (List ℕ) → List Line → Type 0
-HandsFirst old item new = MatchOption item ((old ≡ []) × (new ≡ [])) (λ body. (line : Line) × (old ≡ line ∷ new) × (line.body ≡ body))
-
--- the same of the last line
-abbrev pub HandsLast : List Line → Option (List ℕ) → List Line → Type 0
-HandsLast old item new = MatchOption item ((old ≡ []) × (new ≡ [])) (λ body. (line : Line) × (old ≡ new ++ line ∷ []) × (line.body ≡ body))

@@ -20,6 +20,21 @@ pub fn piece_count(view: AsciiStr<'_>, on: AsciiChar) -> usize
     view.split(on).count()
 }
 
+/// The lengths of the pieces of a view between separators.
+pub fn piece_lengths(
+    alloc: Global,
+    view: AsciiStr<'_>,
+    on: AsciiChar,
+) -> Result<Vec<usize>, AllocError>
+    ensures { IfOk result (λ lengths. (pieces : List (List ℕ)) × Pieces (text_of view.entry) (code_of on) pieces × (lengths.items ≡ map length pieces)) }
+{
+    let mut lengths = Vec::new(alloc);
+    for piece in view.split(on) {
+        lengths.push(piece.len())?;
+    }
+    Ok(lengths)
+}
+
 /// The bodies of the lines of a view, the last one first.
 pub fn bodies_reversed<'a>(
     alloc: Global,

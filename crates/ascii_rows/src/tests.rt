@@ -2,6 +2,7 @@
 
 mod both_ends;
 mod json;
+mod loops;
 mod strings;
 mod vectors;
 mod views;

@@ -58,8 +58,7 @@ fn lines_output<A: Allocator>(alloc: A, text: AsciiStr<'_>) -> Result<AsciiStrin
     ensures { IfOk result (λ output. IsOutput Mode.Lines (text_of text.entry) output.text) }
 {
     let mut output = room_for_lines(alloc, text)?;
-    let mut lines = text.lines();
-    while let Some(body) = lines.next() {
+    for body in text.lines() {
         output.push_str(body)?;
         output.push(AsciiChar::LineFeed)?;
     }

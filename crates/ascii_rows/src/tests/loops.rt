@@ -1,0 +1,43 @@
+//! The callers of the iterators, each once.
+
+use super::views::ascii;
+use crate::callers::{
+    bodies_reversed, bracketed, line_lengths, piece_count, piece_lengths, push_upper, quoted,
+    unbroken, without,
+};
+use ascii::{AsciiChar, AsciiString};
+use std::test::Fail;
+
+#[test]
+fn counts_and_lengths(rt: HostRuntime) -> Result<(), Fail> {
+    let view = ascii("foo;bar;;a");
+    assert_eq!(rt; piece_count(view, AsciiChar::Semicolon), 4);
+    let lengths = piece_lengths(rt.alloc(), view, AsciiChar::Semicolon)?;
+    assert_eq!(rt; lengths.as_slice(), &[3, 3, 0, 1][..]);
+    let view = ascii("foo\r\nba\n\nx");
+    let lengths = line_lengths(rt.alloc(), view)?;
+    assert_eq!(rt; lengths.as_slice(), &[3, 2, 0, 1][..]);
+    let bodies = bodies_reversed(rt.alloc(), view)?;
+    for (body, want) in bodies.iter().zip(["x", "", "ba", "foo"].iter()) {
+        assert_eq!(rt; body.as_str(), *want);
+    }
+    assert_eq!(rt; bodies.len(), 4);
+    Ok(())
+}
+
+#[test]
+fn texts(rt: HostRuntime) -> Result<(), Fail> {
+    let mut string = AsciiString::new(rt.alloc());
+    push_upper(&mut string, ascii("aB1"))?;
+    assert_eq!(rt; string.as_ascii_str().as_str(), "AB1");
+    let text = without(rt.alloc(), ascii("a,b,,c"), AsciiChar::Comma)?;
+    assert_eq!(rt; text.as_ascii_str().as_str(), "abc");
+    let text = unbroken(rt.alloc(), ascii("foo\r\nba\r\rx\n"))?;
+    assert_eq!(rt; text.as_ascii_str().as_str(), "fooba\r\rx");
+    assert_eq!(rt; bracketed(rt.alloc(), ascii("ab"))?.as_str(), "[ab]");
+    assert_eq!(rt;
+        quoted(rt.alloc(), ascii("a\"\t"))?.as_str(),
+        "\"a\\\"\\t\""
+    );
+    Ok(())
+}
