@@ -1,5 +1,5 @@
 -- The mode of the engine that a request stands for.
-use Rattle.std.specs.Prelude.{◌≡◌, List, Vec}
+use Rattle.std.specs.Prelude.{◌≡◌, List}
 use Rattle.std.specs.Borrow.{Bor}
 use Rattle.ascii.specs.declared.iter.walks.End.{End}
 use Rattle.ascii_run.specs.declared.commands.Cmd.{Cmd}

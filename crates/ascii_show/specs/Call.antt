@@ -1,7 +1,14 @@
 -- What words after the program's name are a call.
-use Rattle.std.specs.Prelude.{◌≡◌, ◌⊎◌, ℕ, List, [], ◌∷◌, map, codes, length, String}
+use Rattle.std.specs.Prelude.{◌≡◌, ◌⊎◌, ⊤, ℕ, List, [], ◌∷◌, map, codes, length, String}
 use Rattle.std.specs.String.{string_bytes}
+use Rattle.std.specs.List.{AllZip}
 use Rattle.std.specs.declared.alloc.Global.{Global}
+use Rattle.ascii_run.specs.declared.modes.EngineFault.TheVariants.{Memory}
+use Rattle.ascii_show.specs.declared.arguments.Request.{Request}
+use Rattle.ascii_show.specs.declared.arguments.Request.TheVariants.{Copy, Lines, Tac, Caret, Ends, Edit, Json}
+use Rattle.ascii_show.specs.declared.failure.Failure.{Failure}
+use Rattle.ascii_show.specs.declared.failure.Failure.TheVariants.{Usage, BadWord, Run}
+use Rattle.ascii_show.specs.Words.{AreEndsOf, IsFirstBadWord, IsNoScript, IsWordOf}
 
 -- the words as bytes
 abbrev pub words_of : List (String Global) → List (List ℕ)
@@ -17,3 +24,37 @@ abbrev pub IsCall : List (List ℕ) → Type 0
 IsCall [] = ⊥
 IsCall (mode ∷ others) =
     (StandsAlone mode × (others ≡ [])) ⊎ (((mode ≡ codes "ends") × (length others ≡ 1)) ⊎ (mode ≡ codes "edit"))
+
+-- the word with this number, counted from 1 behind the mode, is the first that the mode does not know
+abbrev pub HasBadWord : List (List ℕ) → ℕ → Type 0
+HasBadWord words n =
+    ((script : List ℕ) × (words ≡ codes "ends" ∷ (script ∷ [])) × (n ≡ 1) × IsNoScript script)
+    ⊎ ((edits : List (List ℕ)) × (words ≡ codes "edit" ∷ edits) × IsFirstBadWord edits n)
+
+-- the words ask for this
+abbrev pub AsksFor : {A : Type 0} → List (List ℕ) → Request A → Type 0
+AsksFor words Copy = words ≡ codes "copy" ∷ []
+AsksFor words Lines = words ≡ codes "lines" ∷ []
+AsksFor words Tac = words ≡ codes "tac" ∷ []
+AsksFor words Caret = words ≡ codes "caret" ∷ []
+AsksFor words Json = words ≡ codes "json" ∷ []
+AsksFor words (Ends ends) = (script : List ℕ) × (words ≡ codes "ends" ∷ (script ∷ [])) × AreEndsOf script ends.items
+AsksFor words (Edit cmds) = (edits : List (List ℕ)) × (words ≡ codes "edit" ∷ edits) × AllZip IsWordOf edits cmds.items
+
+-- why a script gives no ends, and words no commands: a letter or a word, or want of memory
+abbrev pub IsScriptFault : List ℕ → Failure → Type 0
+IsScriptFault script (BadWord n) = (n ≡ 1) × IsNoScript script
+IsScriptFault script (Run Memory) = ⊤
+IsScriptFault script other = ⊥
+
+abbrev pub IsEditsFault : List (List ℕ) → Failure → Type 0
+IsEditsFault edits (BadWord n) = IsFirstBadWord edits n
+IsEditsFault edits (Run Memory) = ⊤
+IsEditsFault edits other = ⊥
+
+-- why the words give no request: memory may be wanting for any call
+abbrev pub IsFaultOf : List (List ℕ) → Failure → Type 0
+IsFaultOf words Usage = ¬ (IsCall words)
+IsFaultOf words (BadWord n) = HasBadWord words n
+IsFaultOf words (Run Memory) = IsCall words
+IsFaultOf words other = ⊥

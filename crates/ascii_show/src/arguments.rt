@@ -1,11 +1,14 @@
 //! What the words after the program's name ask for.
 
-ghost use Rattle.std.specs.Prelude.{◌≡◌};
-ghost use Rattle.ascii_show.specs.Call.{IsCall, words_of};
+ghost use Rattle.std.specs.Prelude.{◌≡◌, ◌==◌, MatchOption, MatchResult, ℕ, position};
+ghost use Rattle.std.specs.List.{AllZip};
+ghost use Rattle.ascii.specs.View.{text_of};
+ghost use Rattle.ascii_show.specs.Call.{AsksFor, IsEditsFault, IsFaultOf, IsScriptFault, words_of};
+ghost use Rattle.ascii_show.specs.Words.{AreDigitsOf, AreEndsOf, IsInsertion, IsNoLetter, IsWord, IsWordOf, letter_of};
 
 use crate::failure::Failure;
-use ascii::bytes;
 use ascii::iter::End;
+use ascii::{AsciiRange, AsciiStr, text};
 use ascii_run::{Cmd, Mode};
 use std::alloc::Allocator;
 
@@ -42,7 +45,7 @@ impl<'a, A: Allocator> Request<'a, A> {
 
 /// What the words ask for. The number of words is looked at before any word behind the mode.
 pub fn request_of<'a, A: Allocator>(alloc: A, args: &'a [String]) -> Result<Request<'a, A>, Failure>
-    ensures { ¬ IsCall (words_of args.now) → result ≡ Err Failure.Usage }
+    ensures { MatchResult result (AsksFor (words_of args.now)) (IsFaultOf (words_of args.now)) }
 {
     let Some((mode, others)) = args.split_first() else {
         return Err(Failure::Usage);
@@ -66,26 +69,37 @@ pub fn request_of<'a, A: Allocator>(alloc: A, args: &'a [String]) -> Result<Requ
 }
 
 /// The ends that a script names, `F` for the front and `B` for the back.
-fn script_of<A: Allocator>(alloc: A, script: &[u8]) -> Result<Vec<End, A>, Failure> {
+fn script_of<A: Allocator>(alloc: A, script: &[u8]) -> Result<Vec<End, A>, Failure>
+    ensures { MatchResult result (λ ends. AreEndsOf script.now ends.items) (IsScriptFault script.now) }
+{
     let mut ends = Vec::with_capacity(alloc, script.len())?;
     for letter in script {
-        ends.push(match letter {
-            b'F' => End::Front,
-            b'B' => End::Back,
-            _ => return Err(Failure::BadWord(1)),
-        })?;
+        let Some(end) = end_of(*letter) else {
+            return Err(Failure::BadWord(1));
+        };
+        ends.push(end)?;
     }
     Ok(ends)
 }
 
+/// The end that a letter names.
+fn end_of(letter: u8) -> Option<End>
+    ensures { MatchOption result (IsNoLetter letter) (λ end. letter_of end ≡ letter) }
+{
+    match letter {
+        b'F' => Some(End::Front),
+        b'B' => Some(End::Back),
+        _ => None,
+    }
+}
+
 /// The commands that the words of an edit name.
-fn commands_of<'a, A: Allocator>(
-    alloc: A,
-    words: &'a [String],
-) -> Result<Vec<Cmd<'a>, A>, Failure> {
+fn commands_of<'a, A: Allocator>(alloc: A, words: &'a [String]) -> Result<Vec<Cmd<'a>, A>, Failure>
+    ensures { MatchResult result (λ cmds. AllZip IsWordOf (words_of words.now) cmds.items) (IsEditsFault (words_of words.now)) }
+{
     let mut cmds = Vec::with_capacity(alloc, words.len())?;
     for (i, word) in words.iter().enumerate() {
-        let Some(cmd) = command_of(word.as_bytes()) else {
+        let Some(cmd) = command_of(word.as_str()) else {
             return Err(Failure::BadWord(i + 1));
         };
         cmds.push(cmd)?;
@@ -94,41 +108,46 @@ fn commands_of<'a, A: Allocator>(
 }
 
 /// The command that a word of an edit names.
-fn command_of(word: &[u8]) -> Option<Cmd<'_>> {
-    let (letter, rest) = word.split_first()?;
+fn command_of(word: &str) -> Option<Cmd<'_>>
+    ensures { MatchOption result (¬ IsWord word.now) (IsWordOf word.now) }
+{
+    let word = text::as_ascii_str(word).ok()?;
+    let letter = *word.as_bytes().first()?;
+    let rest = word.slice(AsciiRange::From(1));
     match letter {
-        b'p' => Some(Cmd::PushStr(bytes::as_ascii_str(rest).ok()?)),
+        b'p' => Some(Cmd::PushStr(rest)),
         b'i' => insertion_of(rest),
         b'r' => Some(Cmd::Remove(number_of(rest)?)),
         b't' => Some(Cmd::Truncate(number_of(rest)?)),
-        b'o' if rest.is_empty() => Some(Cmd::Pop),
-        b'u' if rest.is_empty() => Some(Cmd::Upper),
-        b'l' if rest.is_empty() => Some(Cmd::Lower),
+        b'o' => rest.is_empty().then_some(Cmd::Pop),
+        b'u' => rest.is_empty().then_some(Cmd::Upper),
+        b'l' => rest.is_empty().then_some(Cmd::Lower),
         _ => None,
     }
 }
 
+/// The place of the first colon.
+fn colon_of(bytes: &[u8]) -> Option<usize>
+    ensures { result ≡ position (λ byte. byte == 58) bytes.now }
+{
+    bytes.iter().position(|byte| *byte == b':')
+}
+
 /// The insertion of a number, a colon and a text: the first colon ends the number.
-fn insertion_of(word: &[u8]) -> Option<Cmd<'_>> {
-    let colon = word.iter().position(|byte| *byte == b':')?;
-    let idx = number_of(&word[..colon])?;
-    let view = bytes::as_ascii_str(&word[colon + 1..]).ok()?;
-    Some(Cmd::InsertStr(idx, view))
+fn insertion_of(word: AsciiStr<'_>) -> Option<Cmd<'_>>
+    ensures { MatchOption result (¬ ((n : ℕ) × (view : AsciiStr) × IsInsertion (text_of word.entry) n view)) (λ cmd. (n : ℕ) × (view : AsciiStr) × (cmd ≡ Cmd.InsertStr n view) × IsInsertion (text_of word.entry) n view) }
+{
+    let colon = colon_of(word.as_bytes())?;
+    let idx = number_of(word.slice(AsciiRange::To(colon)))?;
+    Some(Cmd::InsertStr(idx, word.slice(AsciiRange::From(colon + 1))))
 }
 
 /// The number that one or more digits name, where it is at most the largest `usize`.
-fn number_of(digits: &[u8]) -> Option<usize> {
-    if digits.is_empty() {
+fn number_of(digits: AsciiStr<'_>) -> Option<usize>
+    ensures { MatchOption result (¬ ((n : ℕ) × AreDigitsOf (text_of digits.entry) n)) (AreDigitsOf (text_of digits.entry)) }
+{
+    if digits.as_bytes().first() == Some(&b'+') {
         return None;
     }
-    let mut number = 0usize;
-    for digit in digits {
-        if !digit.is_ascii_digit() {
-            return None;
-        }
-        number = number
-            .checked_mul(10)?
-            .checked_add(usize::from(*digit - b'0'))?;
-    }
-    Some(number)
+    usize::from_str_radix(digits.as_str(), 10).ok()
 }

@@ -1,6 +1,6 @@
 //! Why the program ends with a status other than 0.
 
-ghost use Rattle.std.specs.Prelude.{◌≡◌};
+ghost use Rattle.std.specs.Prelude.{◌≡◌, Some};
 ghost use Rattle.ascii_show.specs.Status.{status_of};
 
 use ascii_run::EngineFault;
@@ -32,6 +32,10 @@ impl Failure {
 }
 
 impl fmt::Display for Failure {
+    ghost use Rattle.ascii_show.specs.Status.{line_of};
+
+    ghost output = { λ failure. Some (line_of failure) };
+
     fn fmt<W: fmt::Write>(&self, f: &mut fmt::Formatter<W>) -> fmt::Result {
         match *self {
             Failure::Usage => f.write_str(

@@ -1,8 +1,9 @@
 //! `ascii_show MODE [..]`: standard input, in one of several modes, to standard output.
 #![tactic(auto)]
 
-ghost use Rattle.std.specs.Prelude.{◌≡◌, ◌≤◌};
-ghost use Rattle.ascii_show.specs.Call.{IsCall, words_of};
+ghost use Rattle.std.specs.Prelude.{◌≡◌, Result};
+ghost use Rattle.ascii_show.specs.Answer.{MayAnswer, status_of_answer};
+ghost use Rattle.ascii_show.specs.Call.{words_of};
 ghost use Rattle.ascii_show.specs.Status.{status_of};
 
 mod arguments;
@@ -25,8 +26,7 @@ pub fn show<A: Allocator + Copy, I: io::Read + Drop, O: io::Write + Drop, E: io:
     output: O,
     errors: E,
 ) -> u8
-    ensures status { result ≤ 3 }
-    ensures usage { ¬ IsCall (words_of args.now) → result ≡ 2 }
+    ensures { (answer : Result (Unit {0}) Failure) × MayAnswer (words_of args.now) (I.remaining input) answer × (result ≡ status_of_answer answer) }
 {
     match run_words(alloc, args, input, output) {
         Ok(()) => 0,
@@ -49,7 +49,7 @@ fn run_words<A: Allocator + Copy, I: io::Read + Drop, O: io::Write + Drop>(
     input: I,
     output: O,
 ) -> Result<(), Failure>
-    ensures { ¬ IsCall (words_of args.now) → result ≡ Err Failure.Usage }
+    ensures { MayAnswer (words_of args.now) (I.remaining input) result }
 {
     let request = request_of(alloc, args)?;
     engine(
