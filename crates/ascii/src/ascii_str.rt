@@ -241,7 +241,7 @@ impl fmt::Debug for AsciiStr<'_> {
 }
 
 /// A source was refused as ASCII text: its range does not fit, or a byte in its range is over 127.
-#[derive(Clone, Copy, PartialEq, Eq, Debug)]
+#[derive(Clone, Copy, PartialEq, Eq)]
 pub struct AsAsciiStrError {
     pub(crate) valid_up_to: usize,
 }
@@ -274,5 +274,13 @@ impl fmt::Display for AsAsciiStrError {
     fn fmt<W: fmt::Write>(&self, f: &mut fmt::Formatter<W>) -> fmt::Result {
         let position = self.valid_up_to;
         write!(f, "the byte at index {position} is not ASCII")
+    }
+}
+
+impl fmt::Debug for AsAsciiStrError {
+    fn fmt<W: fmt::Write>(&self, f: &mut fmt::Formatter<W>) -> fmt::Result {
+        f.debug_tuple("AsAsciiStrError")
+            .field(&self.valid_up_to)
+            .finish()
     }
 }

@@ -41,7 +41,7 @@ fn one_of_each_reply(rt: HostRuntime) -> Result<(), Fail> {
         Cmd::Pop,
     ];
     let wanted = "BadPosition; Done; BadPosition; Char(Some('a')); BadPosition; Done; Done; \
-        Truth(true); Refused(AsAsciiStrError { valid_up_to: 1 }); Text(\"\"); TooMany; Number(1); \
+        Truth(true); Refused(AsAsciiStrError(1)); Text(\"\"); TooMany; Number(1); \
         Char(Some('B')); Char(None); ";
     assert_eq!(rt; ran(rt.alloc(), "abc", &cmds)?.as_str(), wanted);
     assert_eq!(rt; ran(rt.alloc(), "abc", &[])?.as_str(), "abc");
@@ -181,7 +181,7 @@ fn other_commands(rt: HostRuntime) -> Result<(), Fail> {
 
 #[test]
 fn copies(rt: HostRuntime) -> Result<(), Fail> {
-    let refused = "Refused(AsAsciiStrError { valid_up_to: 3 }); abc";
+    let refused = "Refused(AsAsciiStrError(3)); abc";
     let rows = [
         (AsciiRange::Full, "Text(\"abc\"); abc"),
         (AsciiRange::From(0), "Text(\"abc\"); abc"),

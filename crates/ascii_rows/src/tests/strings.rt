@@ -132,7 +132,7 @@ fn refused_bytes(rt: HostRuntime) -> Result<(), Fail> {
     );
     assert_eq!(rt;
         format!(in rt.alloc(); "{refusal:?}")?.as_str(),
-        "AsAsciiStrError { valid_up_to: 1 }"
+        "AsAsciiStrError(1)"
     );
     let Err(again) = vec::from_ascii(refusal.into_source()) else {
         return Err(Fail::from("accepted"));

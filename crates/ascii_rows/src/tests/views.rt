@@ -223,7 +223,7 @@ fn printed_refusals(rt: HostRuntime) -> Result<(), Fail> {
     );
     assert_eq!(rt;
         format!(in rt.alloc(); "{error:?}")?.as_str(),
-        "AsAsciiStrError { valid_up_to: 2 }"
+        "AsAsciiStrError(2)"
     );
     assert!(rt; Err(error) == bytes::as_ascii_str("zoä华".as_bytes()));
     Ok(())
