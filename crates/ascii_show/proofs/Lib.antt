@@ -3,3 +3,4 @@ pub mod Edits
 pub mod Insertions
 pub mod Letters
 pub mod Scripts
+mod Worked
