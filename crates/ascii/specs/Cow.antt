@@ -1,5 +1,8 @@
 -- What a text is that is borrowed or owned.
-use Rattle.std.specs.Prelude.{ℕ, List}
+use Rattle.std.specs.Prelude.{◌≡◌, ⊤, ℕ, List}
+use Rattle.std.specs.declared.result.Result.{Result}
+use Rattle.std.specs.declared.result.Result.TheVariants.{Ok}
+use Rattle.ascii.specs.declared.ascii_string.AsciiString.{AsciiString}
 use Rattle.ascii.specs.declared.boxed.CowAsciiStr.{CowAsciiStr}
 use Rattle.ascii.specs.declared.boxed.CowAsciiStr.TheVariants.{Borrowed, Owned}
 use Rattle.ascii.specs.View.{text_of}
@@ -8,3 +11,8 @@ use Rattle.ascii.specs.View.{text_of}
 abbrev pub cow_text : {A : Type 0} → CowAsciiStr A → List ℕ
 cow_text (Borrowed view) = text_of view
 cow_text (Owned string) = string.text
+
+-- an owned text is handed out as it is
+abbrev pub OwnedStays : {A : Type 0} → CowAsciiStr A → Result (AsciiString A) (CowAsciiStr A) → Type 0
+OwnedStays (Borrowed view) result = ⊤
+OwnedStays (Owned string) result = result ≡ Ok string

@@ -151,7 +151,7 @@ pub enum CowAsciiStr<'a, A: Allocator = Global> {
 }
 
 impl<'a, A: Allocator> CowAsciiStr<'a, A> {
-    ghost use Rattle.ascii.specs.Cow.{cow_text};
+    ghost use Rattle.ascii.specs.Cow.{OwnedStays, cow_text};
 
     /// A view of the text.
     pub fn as_ascii_str(&self) -> AsciiStr<'_>
@@ -163,10 +163,11 @@ impl<'a, A: Allocator> CowAsciiStr<'a, A> {
         }
     }
 
-    /// The text as a string: the owned one itself, or a copy of the borrowed one. Where memory is
-    /// refused the value comes back.
+    /// The text as a string: the owned one itself, which is never refused, or a copy of the borrowed
+    /// one. Where memory is refused the value comes back.
     pub fn into_owned(self, alloc: A) -> Result<AsciiString<A>, CowAsciiStr<'a, A>>
         ensures ok { IfOk result (λ string. string.text ≡ cow_text self.entry) }
+        ensures owned { OwnedStays self.entry result }
         ensures err { IfErr result (λ cow. cow ≡ self.entry) }
     {
         match self {

@@ -51,8 +51,7 @@ pub enum EngineFault {
 
 /// Reads the input to its end, and then writes the output of the mode and flushes it. All growth is
 /// made before the first byte goes out. After `NotAscii`, `Position`, `Memory` and `Read` nothing was
-/// written;
-/// after `Write` a beginning of the output went out.
+/// written; after `Write` a beginning of the output went out.
 pub fn engine<S: Source, K: Sink, A: Allocator + Copy>(
     alloc: A,
     mode: Mode<'_>,

@@ -35,7 +35,6 @@ fn take_end<I: DoubleEndedIterator>(items: &mut I, end: End) -> Option<I::Item>
 }
 
 /// The answers of a split to a script of ends, one for each end of the script, in order.
-
 pub fn walk_split<'a, A: Allocator>(
     alloc: A,
     view: AsciiStr<'a>,
@@ -54,7 +53,6 @@ pub fn walk_split<'a, A: Allocator>(
 }
 
 /// The answers of an iterator of lines to a script of ends, one for each end of the script, in order.
-
 pub fn walk_lines<'a, A: Allocator>(
     alloc: A,
     view: AsciiStr<'a>,
