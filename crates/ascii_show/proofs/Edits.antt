@@ -25,7 +25,7 @@ more_words words cmds i word cmd inside is all last =
     rw (add-one i, take-suc words i [] inside, is) (push_zip IsWordOf (take i words) cmds word cmd all last)
 
 -- words with commands are words
-pub all_words : (words : List (List ℕ)) (cmds : List Cmd) → AllZip IsWordOf words cmds → All IsWord words
+all_words : (words : List (List ℕ)) (cmds : List Cmd) → AllZip IsWordOf words cmds → All IsWord words
 all_words [] [] all = All-nil IsWord
 all_words (word ∷ words) (cmd ∷ cmds) all = All-cons IsWord word words (cmd, all.0) (all_words words cmds all.1)
 all_words [] (cmd ∷ cmds) all = absurd all

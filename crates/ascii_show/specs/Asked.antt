@@ -1,6 +1,5 @@
--- The mode of the engine that a request stands for.
-use Rattle.std.specs.Prelude.{◌≡◌, List}
-use Rattle.std.specs.Borrow.{Bor}
+-- What words may ask for: a mode of the engine, with the ends or the commands that it takes.
+use Rattle.std.specs.Prelude.{List}
 use Rattle.ascii.specs.declared.iter.walks.End.{End}
 use Rattle.ascii_run.specs.declared.commands.Cmd.{Cmd}
 use Rattle.ascii_run.specs.declared.modes.Mode.{Mode}
@@ -8,12 +7,31 @@ use Rattle.ascii_run.specs.declared.modes.Mode.TheVariants as mode
 use Rattle.ascii_show.specs.declared.arguments.Request.{Request}
 use Rattle.ascii_show.specs.declared.arguments.Request.TheVariants as request
 
--- the request stands for the mode, with the script or the commands that it has
-abbrev pub StandsFor : {A : Type 0} → Request A → Mode → Type 0
-StandsFor request.Copy m = m ≡ mode.Copy
-StandsFor request.Lines m = m ≡ mode.Lines
-StandsFor request.Tac m = m ≡ mode.Tac
-StandsFor request.Caret m = m ≡ mode.Caret
-StandsFor (request.Ends script) m = (ends : Bor (List End)) × (m ≡ mode.Ends ends) × (ends.now ≡ script.items)
-StandsFor (request.Edit words) m = (cmds : Bor (List Cmd)) × (m ≡ mode.Edit cmds) × (cmds.now ≡ words.items)
-StandsFor request.Json m = m ≡ mode.Json
+pub data Asked : Type 0 where
+  copy : Asked
+  lines : Asked
+  tac : Asked
+  caret : Asked
+  ends : List End → Asked
+  edit : List Cmd → Asked
+  json : Asked
+
+-- what a request asks for
+abbrev pub asked_by : {A : Type 0} → Request A → Asked
+asked_by request.Copy = copy
+asked_by request.Lines = lines
+asked_by request.Tac = tac
+asked_by request.Caret = caret
+asked_by (request.Ends script) = ends script.items
+asked_by (request.Edit cmds) = edit cmds.items
+asked_by request.Json = json
+
+-- what a mode does
+abbrev pub done_by : Mode → Asked
+done_by mode.Copy = copy
+done_by mode.Lines = lines
+done_by mode.Tac = tac
+done_by mode.Caret = caret
+done_by (mode.Ends script) = ends script.now
+done_by (mode.Edit cmds) = edit cmds.now
+done_by mode.Json = json

@@ -4,8 +4,7 @@ use Rattle.std.specs.String.{string_bytes}
 use Rattle.std.specs.List.{AllZip}
 use Rattle.std.specs.declared.alloc.Global.{Global}
 use Rattle.ascii_run.specs.declared.modes.EngineFault.TheVariants.{Memory}
-use Rattle.ascii_show.specs.declared.arguments.Request.{Request}
-use Rattle.ascii_show.specs.declared.arguments.Request.TheVariants.{Copy, Lines, Tac, Caret, Ends, Edit, Json}
+use Rattle.ascii_show.specs.Asked.{Asked, copy, lines, tac, caret, ends, edit, json}
 use Rattle.ascii_show.specs.declared.failure.Failure.{Failure}
 use Rattle.ascii_show.specs.declared.failure.Failure.TheVariants.{Usage, BadWord, Run}
 use Rattle.ascii_show.specs.Words.{AreEndsOf, IsFirstBadWord, IsNoScript, IsWordOf}
@@ -32,14 +31,14 @@ HasBadWord words n =
     ⊎ ((edits : List (List ℕ)) × (words ≡ codes "edit" ∷ edits) × IsFirstBadWord edits n)
 
 -- the words ask for this
-abbrev pub AsksFor : {A : Type 0} → List (List ℕ) → Request A → Type 0
-AsksFor words Copy = words ≡ codes "copy" ∷ []
-AsksFor words Lines = words ≡ codes "lines" ∷ []
-AsksFor words Tac = words ≡ codes "tac" ∷ []
-AsksFor words Caret = words ≡ codes "caret" ∷ []
-AsksFor words Json = words ≡ codes "json" ∷ []
-AsksFor words (Ends ends) = (script : List ℕ) × (words ≡ codes "ends" ∷ (script ∷ [])) × AreEndsOf script ends.items
-AsksFor words (Edit cmds) = (edits : List (List ℕ)) × (words ≡ codes "edit" ∷ edits) × AllZip IsWordOf edits cmds.items
+abbrev pub AskFor : List (List ℕ) → Asked → Type 0
+AskFor words copy = words ≡ codes "copy" ∷ []
+AskFor words lines = words ≡ codes "lines" ∷ []
+AskFor words tac = words ≡ codes "tac" ∷ []
+AskFor words caret = words ≡ codes "caret" ∷ []
+AskFor words json = words ≡ codes "json" ∷ []
+AskFor words (ends script) = (letters : List ℕ) × (words ≡ codes "ends" ∷ (letters ∷ [])) × AreEndsOf letters script
+AskFor words (edit cmds) = (edits : List (List ℕ)) × (words ≡ codes "edit" ∷ edits) × AllZip IsWordOf edits cmds
 
 -- why a script gives no ends, and words no commands: a letter or a word, or want of memory
 abbrev pub IsScriptFault : List ℕ → Failure → Type 0

@@ -3,7 +3,8 @@
 ghost use Rattle.std.specs.Prelude.{◌≡◌, ◌==◌, MatchOption, MatchResult, ℕ, position};
 ghost use Rattle.std.specs.List.{AllZip};
 ghost use Rattle.ascii.specs.View.{text_of};
-ghost use Rattle.ascii_show.specs.Call.{AsksFor, IsEditsFault, IsFaultOf, IsScriptFault, words_of};
+ghost use Rattle.ascii_show.specs.Asked.{asked_by, done_by};
+ghost use Rattle.ascii_show.specs.Call.{AskFor, IsEditsFault, IsFaultOf, IsScriptFault, words_of};
 ghost use Rattle.ascii_show.specs.Words.{AreDigitsOf, AreEndsOf, IsInsertion, IsNoLetter, IsWord, IsWordOf, letter_of};
 
 use crate::failure::Failure;
@@ -25,11 +26,9 @@ pub enum Request<'a, A: Allocator> {
 }
 
 impl<'a, A: Allocator> Request<'a, A> {
-    ghost use Rattle.ascii_show.specs.Asked.{StandsFor};
-
     /// The mode of the engine.
     pub fn mode(&self) -> Mode<'_>
-        ensures { StandsFor self.now result }
+        ensures { done_by result ≡ asked_by self.now }
     {
         match self {
             Request::Copy => Mode::Copy,
@@ -45,7 +44,7 @@ impl<'a, A: Allocator> Request<'a, A> {
 
 /// What the words ask for. The number of words is looked at before any word behind the mode.
 pub fn request_of<'a, A: Allocator>(alloc: A, args: &'a [String]) -> Result<Request<'a, A>, Failure>
-    ensures { MatchResult result (AsksFor (words_of args.now)) (IsFaultOf (words_of args.now)) }
+    ensures { MatchResult result (λ request. AskFor (words_of args.now) (asked_by request)) (IsFaultOf (words_of args.now)) }
 {
     let Some((mode, others)) = args.split_first() else {
         return Err(Failure::Usage);

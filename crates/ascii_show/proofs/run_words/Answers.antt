@@ -1,6 +1,6 @@
-use Rattle.std.proofs.Common.{Ok, Err, subst}
+use Rattle.std.proofs.Common.{Ok, Err, subst, sym}
 use Rattle.ascii_show.specs.Answer.{MayAnswer}
-use Rattle.ascii_show.specs.Call.{words_of}
+use Rattle.ascii_show.specs.Call.{AskFor, words_of}
 use Rattle.ascii_show.specs.declared.failure.Failure.TheVariants.{Run}
 use Rattle.ascii_show.proofs.Asking.{done, failed, handed_on}
 use Rattle.ascii_show.proofs.run_words.Goals as goal
@@ -9,12 +9,14 @@ pub returns-in_err-engine : goal.returns-in_err-engine
 returns-in_err-engine g c =
     let words = words_of c.args.args.now in
     let fault = c.in_err-engine.field-0.0 in
-    let may = failed words c.in_ok-request.request c.mode.result fault _ _ _ _ c.in_ok-request.ensures c.mode.ensures c.in_err-engine.ensures.tells in
+    let asks = subst (AskFor words) (sym c.mode.ensures) c.in_ok-request.ensures in
+    let may = failed words c.mode.result fault _ _ _ _ asks c.in_err-engine.ensures.tells in
     handed_on words (g.I.Read.remaining c.args.input) fault c.from_residual-in_err-engine.result c.from_residual-in_err-engine.ensures.1
     (subst (λ reader. MayAnswer words (g.I.Read.remaining reader) (Err (Run fault))) c.new.ensures.reader may)
 
 pub returns : goal.returns
 returns g c =
     let words = words_of c.args.args.now in
-    let may = done words c.in_ok-request.request c.mode.result _ _ _ _ c.in_ok-request.ensures c.in_ok-engine.ensures.tells in
+    let asks = subst (AskFor words) (sym c.mode.ensures) c.in_ok-request.ensures in
+    let may = done words c.mode.result _ _ _ _ asks c.in_ok-engine.ensures.tells in
     subst (λ reader. MayAnswer words (g.I.Read.remaining reader) (Ok tt)) c.new.ensures.reader may
