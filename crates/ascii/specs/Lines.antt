@@ -1,5 +1,5 @@
 -- The lines of a text.
-use Rattle.std.specs.Prelude.{◌≡◌, ◌≢◌, ℕ, ◌-◌, List, [], ◌∷◌, ◌++◌, ◌⊎◌, length, take, slice_get, slice_index_or, cond, Bool, ◌==◌, Some, map, Option, MatchOption}
+use Rattle.std.specs.Prelude.{◌≡◌, ◌≢◌, ℕ, ◌-◌, List, [], ◌∷◌, ◌++◌, ◌⊎◌, length, take, slice_get, slice_index_or, cond, Bool, ◌==◌, Some, map}
 use Rattle.std.specs.List.{All, Contains, flat_map}
 use Rattle.ascii.specs.Pieces.{pieces_of}
 
