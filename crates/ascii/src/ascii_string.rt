@@ -89,25 +89,27 @@ impl<A: Allocator> AsciiString<A> {
     }
 
     /// Makes room for `additional` more bytes. The text stays, and a refusal of memory comes only
-    /// where the room was missing.
+    /// where the room was missing; room for none never is.
     pub fn reserve(&mut self, additional: usize) -> Result<(), AllocError>
         requires { length self.old.text + additional ≤ usize.MAX }
         ensures text { self.new.text ≡ self.old.text }
         ensures ok { OnOk result (length self.new.text + additional ≤ self.new.capacity) }
         ensures capacity { self.old.capacity ≤ self.new.capacity }
         ensures succeeds { length self.old.text + additional ≤ self.old.capacity → IsOk result }
+        ensures nothing { additional ≡ 0 → IsOk result }
     {
         self.bytes.reserve(additional)
     }
 
     /// Makes room for `additional` more bytes and asks for no more than that. The text stays, and a
-    /// refusal of memory comes only where the room was missing.
+    /// refusal of memory comes only where the room was missing; room for none never is.
     pub fn reserve_exact(&mut self, additional: usize) -> Result<(), AllocError>
         requires { length self.old.text + additional ≤ usize.MAX }
         ensures text { self.new.text ≡ self.old.text }
         ensures ok { OnOk result (length self.new.text + additional ≤ self.new.capacity) }
         ensures capacity { self.old.capacity ≤ self.new.capacity }
         ensures succeeds { length self.old.text + additional ≤ self.old.capacity → IsOk result }
+        ensures nothing { additional ≡ 0 → IsOk result }
     {
         self.bytes.reserve_exact(additional)
     }
@@ -141,14 +143,15 @@ impl<A: Allocator> AsciiString<A> {
         Ok(())
     }
 
-    /// Appends a view. It is never refused where the longer text fits the capacity; a refusal of
-    /// memory leaves the text.
+    /// Appends a view. It is never refused where the longer text fits the capacity, as it does with
+    /// the empty view; a refusal of memory leaves the text.
     #[inline]
     pub fn push_str(&mut self, view: AsciiStr<'_>) -> Result<(), AllocError>
         ensures ok { OnOk result (self.new.text ≡ self.old.text ++ text_of view.entry) }
         ensures err { OnErr result (self.new.text ≡ self.old.text) }
         ensures capacity { self.old.capacity ≤ self.new.capacity }
         ensures succeeds { length self.old.text + length (text_of view.entry) ≤ self.old.capacity → IsOk result }
+        ensures nothing { text_of view.entry ≡ [] → IsOk result }
         ensures full { OnErr result (self.old.capacity < length self.old.text + length (text_of view.entry)) }
     {
         self.bytes.extend_from_slice(view.as_bytes())
@@ -168,13 +171,15 @@ impl<A: Allocator> AsciiString<A> {
     }
 
     /// Puts a view before the position `idx`; at the length it is appended. It is never refused where
-    /// the longer text fits the capacity; a refusal of memory leaves the text.
+    /// the longer text fits the capacity, as it does with the empty view; a refusal of memory leaves
+    /// the text.
     pub fn insert_str(&mut self, idx: usize, view: AsciiStr<'_>) -> Result<(), AllocError>
         requires { idx ≤ length self.old.text }
         ensures ok { OnOk result (self.new.text ≡ insert_text self.old.text idx (text_of view.entry)) }
         ensures err { OnErr result (self.new.text ≡ self.old.text) }
         ensures capacity { self.old.capacity ≤ self.new.capacity }
         ensures succeeds { length self.old.text + length (text_of view.entry) ≤ self.old.capacity → IsOk result }
+        ensures nothing { text_of view.entry ≡ [] → IsOk result }
     {
         insert_bytes(&mut self.bytes, idx, view.as_bytes())?;
         Ok(())
@@ -273,6 +278,7 @@ fn insert_bytes<A: Allocator>(
     ensures err { OnErr result (bytes.new.items ≡ bytes.old.items) }
     ensures capacity { vec_capacity bytes.old ≤ vec_capacity bytes.new }
     ensures succeeds { vec_len bytes.old + length piece.now ≤ vec_capacity bytes.old → IsOk result }
+    ensures nothing { piece.now ≡ [] → IsOk result }
 {
     bytes.extend_from_slice(piece)?;
     bytes[idx..].rotate_right(piece.len());

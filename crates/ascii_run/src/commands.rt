@@ -123,7 +123,7 @@ fn step<A: Allocator, B: Allocator>(alloc: A, buf: &mut AsciiString<B>, cmd: Cmd
 {
     match cmd {
         Cmd::Push(ch) => grown(buf.push(ch)),
-        Cmd::PushStr(view) => push_str(buf, view),
+        Cmd::PushStr(view) => grown(buf.push_str(view)),
         Cmd::Insert(idx, ch) => insert(buf, idx, ch),
         Cmd::InsertStr(idx, view) => insert_str(buf, idx, view),
         Cmd::Remove(idx) => remove(buf, idx),
@@ -167,18 +167,6 @@ fn grown<A: Allocator>(growth: Result<(), AllocError>) -> Reply<A>
     }
 }
 
-/// Appends a view.
-fn push_str<A: Allocator, B: Allocator>(buf: &mut AsciiString<B>, view: AsciiStr<'_>) -> Reply<A>
-    ensures step { Step 0 buf.old.text (Cmd.PushStr view.entry) (said result) buf.new.text }
-    ensures room { said result ≡ no_memory → LacksRoom buf.old (Cmd.PushStr view.entry) }
-    ensures capacity { buf.old.capacity ≤ buf.new.capacity }
-{
-    if view.is_empty() {
-        return Reply::Done;
-    }
-    grown(buf.push_str(view))
-}
-
 /// Puts a character before a position.
 fn insert<A: Allocator, B: Allocator>(
     buf: &mut AsciiString<B>,
@@ -207,9 +195,6 @@ fn insert_str<A: Allocator, B: Allocator>(
 {
     if idx > buf.len() {
         return Reply::BadPosition;
-    }
-    if view.is_empty() {
-        return Reply::Done;
     }
     grown(buf.insert_str(idx, view))
 }
@@ -249,9 +234,6 @@ fn reserve<A: Allocator, B: Allocator>(buf: &mut AsciiString<B>, additional: usi
 {
     if additional > usize::MAX - buf.len() {
         return Reply::TooMany;
-    }
-    if additional == 0 {
-        return Reply::Done;
     }
     grown(buf.reserve(additional))
 }
