@@ -1,5 +1,5 @@
 -- The lines of a text.
-use Rattle.std.specs.Prelude.{◌≡◌, ◌≢◌, ℕ, ◌-◌, List, [], ◌∷◌, ◌++◌, ◌⊎◌, length, take, slice_get, slice_index_or, cond, Bool, ◌==◌, Some, map}
+use Rattle.std.specs.Prelude.{◌≡◌, ◌≢◌, ℕ, ◌-◌, List, [], ◌∷◌, ◌++◌, ◌⊎◌, length, take, slice_get, slice_index_or, cond, Bool, ◌==◌, Some, map, Option, MatchOption}
 use Rattle.std.specs.List.{All, Contains, flat_map}
 use Rattle.ascii.specs.Pieces.{pieces_of}
 
@@ -71,3 +71,7 @@ IsFirstLine text body rest = (line : Line) × (lines_of text ≡ line ∷ lines_
 -- the last line of a text, of which this is the body, and what is left
 abbrev pub IsLastLine : List ℕ → List ℕ → List ℕ → Type 0
 IsLastLine text body rest = (line : Line) × (lines_of text ≡ lines_of rest ++ line ∷ []) × (line.body ≡ body)
+
+-- a call handed out the body of the last line of those owed, or None where none was
+abbrev pub HandsLast : List Line → Option (List ℕ) → List Line → Type 0
+HandsLast old item new = MatchOption item ((old ≡ []) × (new ≡ [])) (λ body. (line : Line) × (old ≡ new ++ line ∷ []) × (line.body ≡ body))

@@ -2,11 +2,11 @@
 //! views alone, take no memory and refuse nothing.
 
 ghost use Rattle.std.specs.Prelude.{◌≡◌, ◌+◌, ◌-◌, ◌<◌, ◌↔◌, [], ◌∷◌, false, slice_index, take, drop, length, IfOk, IfSome, IsOk, List, ℕ, MatchOption, Some, map, ◌++◌, ⊤};
-ghost use Rattle.std.specs.Iterator.{IsFinite, UpTo, YieldsFirstBy, YieldsLastBy, item_count};
+ghost use Rattle.std.specs.Iterator.{IsFinite, MakesProgress, UpTo, YieldsFirstBy, YieldsLastBy, item_count};
 ghost use Rattle.std.specs.Iterator.SizeHint.{IsWithinCount};
 ghost use Rattle.std.specs.Option.{option_map};
 ghost use Rattle.ascii_base.specs.Code.{code_of};
-ghost use Rattle.ascii.specs.Lines.{IsFirstLine, IsLastLine, Line, LinesOf, bodies, ended_line};
+ghost use Rattle.ascii.specs.Lines.{HandsLast, IsFirstLine, IsLastLine, Line, LinesOf, bodies, ended_line};
 ghost use Rattle.ascii.specs.Pieces.{Pieces, pieces_left, pieces_of};
 ghost use Rattle.ascii.specs.Places.{Free, IsFirstPlace, IsLastPlace, IsLastStart};
 ghost use Rattle.ascii.specs.View.{text_of};
@@ -309,7 +309,11 @@ impl<'a> Iterator for Split<'a> {
 impl<'a> DoubleEndedIterator for Split<'a> {
     ghost next_back_gives = { YieldsLastBy text_of (λ split. split.pieces) };
 
-    fn next_back(&mut self) -> Option<AsciiStr<'a>> {
+    fn next_back(&mut self) -> Option<AsciiStr<'a>>
+        ensures steps { YieldsLastBy text_of (λ split. split.pieces) self.old result self.new }
+        ensures goes { MakesProgress (λ _. ⊤) (item_count (λ split. split.pieces)) self.old result self.new }
+        ensures separator { self.new.on ≡ self.old.on }
+    {
         let (last, others) = cut_back(self.rest?, self.on);
         self.rest = others;
         Some(last)
@@ -443,7 +447,11 @@ impl<'a> Iterator for Lines<'a> {
 impl<'a> DoubleEndedIterator for Lines<'a> {
     ghost next_back_gives = { YieldsLastBy text_of bodies };
 
-    fn next_back(&mut self) -> Option<AsciiStr<'a>> {
+    fn next_back(&mut self) -> Option<AsciiStr<'a>>
+        ensures steps { YieldsLastBy text_of bodies self.old result self.new }
+        ensures goes { MakesProgress (λ _. ⊤) (item_count bodies) self.old result self.new }
+        ensures line { HandsLast self.old (option_map text_of result) self.new }
+    {
         if self.rest.is_empty() {
             return None;
         }

@@ -7,6 +7,7 @@ use Rattle.ascii_run.specs.declared.modes.Mode.TheVariants as mode
 use Rattle.ascii_show.specs.declared.arguments.Request.{Request}
 use Rattle.ascii_show.specs.declared.arguments.Request.TheVariants as request
 
+-- a mode, with what its words name
 pub data Asked : Type 0 where
   copy : Asked
   lines : Asked

@@ -40,12 +40,13 @@ AskFor words json = words ≡ codes "json" ∷ []
 AskFor words (ends script) = (letters : List ℕ) × (words ≡ codes "ends" ∷ (letters ∷ [])) × AreEndsOf letters script
 AskFor words (edit cmds) = (edits : List (List ℕ)) × (words ≡ codes "edit" ∷ edits) × AllZip IsWordOf edits cmds
 
--- why a script gives no ends, and words no commands: a letter or a word, or want of memory
+-- why a script gives no ends: a letter, or want of memory
 abbrev pub IsScriptFault : List ℕ → Failure → Type 0
 IsScriptFault script (BadWord n) = (n ≡ 1) × IsNoScript script
 IsScriptFault script (Run Memory) = ⊤
 IsScriptFault script other = ⊥
 
+-- why words give no commands: a word, or want of memory
 abbrev pub IsEditsFault : List (List ℕ) → Failure → Type 0
 IsEditsFault edits (BadWord n) = IsFirstBadWord edits n
 IsEditsFault edits (Run Memory) = ⊤
