@@ -2,7 +2,7 @@ use Rattle.std.proofs.Common.{refl, ◌∙◌}
 use Rattle.std.proofs.lemmas.Iterator.Consumers.{YieldsList-from_first}
 use Rattle.ascii.specs.View.{text_of}
 use Rattle.ascii.proofs.Drained.{if_ok, pieces_from_drains}
-use Rattle.ascii_rows.proofs.callers.without.Goals as goal
+use Rattle.ascii_uses.proofs.iterators.without.Goals as goal
 
 pub returns : goal.returns
 returns c = if_ok c.collect_strs.result c.collect_strs.ensures (λ string given. (

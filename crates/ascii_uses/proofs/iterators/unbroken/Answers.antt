@@ -4,7 +4,7 @@ use Rattle.std.proofs.lemmas.List.Folds.{flat_map-map}
 use Rattle.ascii.specs.Lines.{bodies}
 use Rattle.ascii.specs.View.{text_of}
 use Rattle.ascii.proofs.Drained.{if_ok, pieces_from_drains}
-use Rattle.ascii_rows.proofs.callers.unbroken.Goals as goal
+use Rattle.ascii_uses.proofs.iterators.unbroken.Goals as goal
 
 pub returns : goal.returns
 returns c = if_ok c.collect_strs.result c.collect_strs.ensures (λ string given. (

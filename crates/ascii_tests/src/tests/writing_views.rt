@@ -1,15 +1,7 @@
-//! Each call on sources whose outcome is known from outside.
+//! Views that write, and what they leave of their source.
 
-mod both_ends;
-mod json;
-mod loops;
-mod strings;
-mod vectors;
-mod views;
-
-use crate::edits::{raise_in, upper_in};
-use ascii::{AsciiChar, bytes};
-use ascii_base::range::AsciiRange;
+use ascii::{AsciiChar, AsciiRange, bytes};
+use ascii_uses::parts::{raise_in, upper_in};
 
 const SOURCE: [u8; 5] = [0x61, 0xc4, 0x8d, 0x42, 0x62];
 

@@ -3,7 +3,7 @@
 ghost use Rattle.std.specs.Prelude.{◌≡◌, ◌++◌, OnOk, OnErr, IfErr, map};
 ghost use Rattle.ascii_base.specs.Case.{upper_image};
 ghost use Rattle.ascii.specs.Slice.{IsRefused};
-ghost use Rattle.ascii_rows.specs.Raised.{raised_part};
+ghost use Rattle.ascii_uses.specs.Raised.{raised_part};
 ghost use Rattle.ascii.specs.WritingView.{before_of, mut_text_of, after_of, source_of, lender_of};
 
 use ascii::{AsAsciiStrError, AsciiStrMut, bytes};

@@ -1,9 +1,9 @@
 //! Characters and texts as JSON values.
 
 use super::views::ascii;
-use crate::values::through_json;
 use ascii::AsciiChar;
 use ascii::json::{JsonError, char_from_json, char_to_json, str_from_json, string_from_json};
+use ascii_uses::values::through_json;
 use serde_json::Value;
 use std::test::Fail;
 

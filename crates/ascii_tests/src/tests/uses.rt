@@ -1,11 +1,11 @@
 //! The callers of the iterators, each once.
 
 use super::views::ascii;
-use crate::callers::{
+use ascii::{AsciiChar, AsciiString};
+use ascii_uses::iterators::{
     bodies_reversed, bracketed, line_lengths, piece_count, piece_lengths, push_upper, quoted,
     unbroken, without,
 };
-use ascii::{AsciiChar, AsciiString};
 use std::test::Fail;
 
 #[test]

@@ -1,6 +1,6 @@
 use Rattle.std.proofs.Common.{◌≡◌, length, map}
 use Rattle.ascii.specs.View.{text_of}
-use Rattle.ascii_rows.proofs.callers.piece_lengths.Given as goal
+use Rattle.ascii_uses.proofs.iterators.piece_lengths.Given as goal
 
 -- the lengths of the pieces so far
 abbrev pub invariant-loop-piece : goal.invariant-loop-piece

@@ -59,14 +59,14 @@ use Rattle.ascii.specs.contracts.ascii_str_mut.AsciiStrMut as V
 use Rattle.ascii.proofs.ascii_str.AsAsciiStrError.TheLaws as error_laws
 use Rattle.ascii.proofs.ascii_str_mut.AsciiStrMut.TheLaws as view_laws
 use Rattle.ascii.proofs.Resting.{Bytes, given_up, rested}
-use Rattle.ascii_rows.proofs.Relent.{Keeps, Again, Back, lends_slice_again, slice_comes_back, ok_view}
-use Rattle.ascii_rows.specs.contracts.edits.raise_in as f
-use Rattle.ascii_rows.proofs.edits.raise_in.Statement.{statement}
-use Rattle.ascii_rows.proofs.edits.raise_in.Code as code
+use Rattle.ascii_uses.proofs.Relent.{Keeps, Again, Back, lends_slice_again, slice_comes_back, ok_view}
+use Rattle.ascii_uses.specs.contracts.parts.raise_in as f
+use Rattle.ascii_uses.proofs.parts.raise_in.Statement.{statement}
+use Rattle.ascii_uses.proofs.parts.raise_in.Code as code
 use Rattle.ascii.specs.contracts.bytes.slice_ascii_mut as g
 use Rattle.ascii.proofs.bytes.slice_ascii_mut.Met.{met}
-use Rattle.ascii_rows.specs.contracts.edits.raised as h
-use Rattle.ascii_rows.proofs.edits.raised.Met.{met as raises}
+use Rattle.ascii_uses.specs.contracts.parts.raised as h
+use Rattle.ascii_uses.proofs.parts.raised.Met.{met as raises}
 
 abbrev stayed : Stays f.ended.signature.params f.ended.kept
 stayed = (stay_slice (0 ∷ []) tt (plain (λ _. u8)), (stay_dropped (plain (λ _. range.the_row)) yes, tt))
@@ -158,7 +158,7 @@ raise_in_spec 𝓤 𝓛 𝓜 𝓡 wired =
     let z' : J.Ghost = (((α ∷ [], tt), (full_share, tt), bounds, (w, tt), (shown_by ∷ [], tt)), tt) in
     nothing ! $ move ! (1 ∷ 0 ∷ []) $ join ! $ nothing ! $ move ! (2 ∷ 0 ∷ []) $ join ! $ join ! $
     nothing ! $ move ! (1 ∷ 0 ∷ []) $ use2 𝓛 (raw (J.pre z')) (id⊢ 𝓤 _) $
-    calls_at ! (framed 𝓤 𝓛.H 𝓜 𝓣) J (raises 𝓤 𝓛 𝓜 𝓡 (code.calls-ascii_rows::edits::raised 𝓡.env wired)) z'
+    calls_at ! (framed 𝓤 𝓛.H 𝓜 𝓣) J (raises 𝓤 𝓛 𝓜 𝓡 (code.calls-ascii_uses::parts::raised 𝓡.env wired)) z'
     (and_then ! (get ! refl) (no_more !)) (λ v'.
     let Same = λ (u : AsciiStrMut). lender_of u ≡ lender_of w in
     let Raised = λ (u : AsciiStrMut). source_of u ≡ before_of w ++ map upper_image (mut_text_of w) ++ after_of w in

@@ -1,0 +1,10 @@
+//! Each public call once, on sources whose outcome is known from outside: worked examples, and tables
+//! that were made with the Rust crate.
+
+mod both_ends;
+mod json;
+mod strings;
+mod uses;
+mod vectors;
+mod views;
+mod writing_views;

@@ -1,0 +1,7 @@
+//! What users write over the library, proved from its public contracts: loops and adapters over
+//! characters, pieces and lines, edits of a part of a source, and texts as JSON values.
+#![tactic(auto)]
+
+pub mod iterators;
+pub mod parts;
+pub mod values;
