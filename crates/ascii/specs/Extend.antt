@@ -4,11 +4,11 @@ use Rattle.std.specs.List.{flat_map}
 use Rattle.std.specs.Iterator.{Yields}
 use Rattle.std.specs.declared.result.Result.{Result}
 use Rattle.std.specs.declared.alloc.AllocError.{AllocError}
-use Rattle.ascii.specs.Text.{Text}
+use Rattle.ascii.specs.Held.{Held}
 
 -- the old text and the pieces of the items that came; at Ok no more item comes, at Err the next one
 -- comes, of which no part went in, and the text with it too does not fit the old capacity
-pub record Extends {S A : Type 0} (steps : S → Option A → S → Type 0) (piece : A → List ℕ) (iter : S) (old new : Text) (result : Result (Unit {0}) AllocError) : Type 0 where
+pub record Extends {S A : Type 0} (steps : S → Option A → S → Type 0) (piece : A → List ℕ) (iter : S) (old new : Held) (result : Result (Unit {0}) AllocError) : Type 0 where
   pub items : List A
   pub rest : S
   pub gave : Yields steps iter items rest

@@ -12,19 +12,15 @@ use Rattle.ascii.specs.View.{position_of}
 abbrev pub RefusesChar : Data → JsonError → Type 0
 RefusesChar value NotText = as_str value ≡ None
 RefusesChar value NotOneByte = (text : List ℕ) × (as_str value ≡ Some text) × (length text ≢ 1)
-RefusesChar value (NotAscii e) = ⊥
-RefusesChar value Memory = ⊥
+RefusesChar value other = ⊥
 
 -- no text: no JSON string, or one with a byte over 127, whose first place is named
 abbrev pub RefusesText : Data → JsonError → Type 0
 RefusesText value NotText = as_str value ≡ None
-RefusesText value NotOneByte = ⊥
 RefusesText value (NotAscii e) = (text : List ℕ) × (as_str value ≡ Some text) × FirstOther text 0 (length text) (position_of e)
-RefusesText value Memory = ⊥
+RefusesText value other = ⊥
 
--- the same for a copy, or memory was refused for one that is not empty
+-- the same for a copy, or memory was refused for a text that is not empty
 abbrev pub RefusesTextCopy : Data → JsonError → Type 0
-RefusesTextCopy value NotText = as_str value ≡ None
-RefusesTextCopy value NotOneByte = ⊥
-RefusesTextCopy value (NotAscii e) = (text : List ℕ) × (as_str value ≡ Some text) × FirstOther text 0 (length text) (position_of e)
 RefusesTextCopy value Memory = (text : List ℕ) × (as_str value ≡ Some text) × IsAscii text × (0 < length text)
+RefusesTextCopy value other = RefusesText value other

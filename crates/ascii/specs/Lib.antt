@@ -3,6 +3,7 @@ pub mod Cow
 pub mod Debug
 pub mod Ends
 pub mod Extend
+pub mod Held
 pub mod Json
 pub mod Lines
 pub mod Pieces

@@ -17,13 +17,6 @@ abbrev pub IsRefused : List ℕ → AsciiRange → AsAsciiStrError → Type 0
 IsRefused bytes r e = let n = length bytes in
     (¬ Fits r n × (position_of e ≡ n)) ⊎ (Fits r n × FirstOther bytes (start_of r) (end_of r n) (position_of e))
 
--- the bounds of a range that fits and holds only bytes under 128
-pub record IsAsciiBounds (bytes : List ℕ) (r : AsciiRange) (bounds : ℕ × ℕ) : Type 0 where
-  pub fits : Fits r (length bytes)
-  pub start : bounds.0 ≡ start_of r
-  pub end : bounds.1 ≡ end_of r (length bytes)
-  pub ascii : IsAscii (slice_range bytes (start_of r) (end_of r (length bytes)))
-
 -- the three outcomes of a slice, of which no two hold at once
 abbrev pub SliceOutcome : List ℕ → AsciiRange → Result AsciiStr AsAsciiStrError → Type 0
 SliceOutcome bytes r result = let n = length bytes in MatchResult result
@@ -38,3 +31,12 @@ HasCodeAt bytes i = (i < length bytes) × (slice_index bytes i < 128)
 abbrev pub GetsAscii : List ℕ → ℕ → Option AsciiChar → Type 0
 GetsAscii bytes i result =
     MatchOption result (¬ (HasCodeAt bytes i)) (λ ch. HasCodeAt bytes i × (code_of ch ≡ slice_index bytes i))
+
+-- ---- how a slice is found: cited by private functions alone
+
+-- the bounds of a range that fits and holds only bytes under 128
+pub record IsAsciiBounds (bytes : List ℕ) (r : AsciiRange) (bounds : ℕ × ℕ) : Type 0 where
+  pub fits : Fits r (length bytes)
+  pub start : bounds.0 ≡ start_of r
+  pub end : bounds.1 ≡ end_of r (length bytes)
+  pub ascii : IsAscii (slice_range bytes (start_of r) (end_of r (length bytes)))

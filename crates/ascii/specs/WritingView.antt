@@ -1,6 +1,6 @@
 -- What a writing view is: the whole source that was lent to it, cut into the bytes before its text,
 -- the codes of its text, and the bytes after it.
-use Rattle.std.specs.Prelude.{◌≡◌, ℕ, List, length, take, drop, slice_range, MatchResult}
+use Rattle.std.specs.Prelude.{◌≡◌, ℕ, List, length, take, drop, slice_range, ◌++◌, MatchResult}
 use Rattle.std.specs.Borrow.{Array, Fml, GName, MutBor, RestsIfErr, u8}
 use Rattle.std.specs.declared.result.Result.{Result}
 use Rattle.ascii_base.specs.declared.range.AsciiRange.{AsciiRange}
@@ -22,19 +22,27 @@ abbrev pub after_of : AsciiStrMut → List ℕ
 after_of v = drop v.end v.bytes.now
 
 -- the whole source
-abbrev pub source_of : AsciiStrMut → List ℕ
-source_of v = v.bytes.now
+abbrev pub whole_of : AsciiStrMut → List ℕ
+whole_of v = v.bytes.now
 
 -- the borrow of the source: two views with one lender write into the same source
 abbrev pub lender_of : AsciiStrMut → GName
 lender_of v = v.bytes.ghost_name
+
+-- an edit of the text to this one: the bytes around it and the borrow stay, and the source is the three in order
+pub record EditsTo (to : List ℕ) (old new : AsciiStrMut) : Type 0 where
+  pub text : mut_text_of new ≡ to
+  pub before : before_of new ≡ before_of old
+  pub after : after_of new ≡ after_of old
+  pub lender : lender_of new ≡ lender_of old
+  pub whole : whole_of new ≡ before_of new ++ mut_text_of new ++ after_of new
 
 -- a view of the bytes from s up to e of a source
 pub record IsPart (source : List ℕ) (s e : ℕ) (v : AsciiStrMut) : Type 0 where
   pub before : before_of v ≡ take s source
   pub text : mut_text_of v ≡ slice_range source s e
   pub after : after_of v ≡ drop e source
-  pub whole : source_of v ≡ source
+  pub whole : whole_of v ≡ source
 
 -- the three outcomes of a slice for writing, of which no two hold at once
 abbrev pub MutSliceOutcome : List ℕ → AsciiRange → Result AsciiStrMut AsAsciiStrError → Type 0
@@ -42,7 +50,7 @@ MutSliceOutcome source r result = let n = length source in MatchResult result
     (λ v. Fits r n × IsPart source (start_of r) (end_of r n) v)
     (IsRefused source r)
 
--- what a source rests at: where it was refused, as it was, and else at the last value of the view,
--- which holds the very borrow of the source
+-- how a source ends: where it was refused, as it was; where a view was given, as the last value of that
+-- view, which holds the borrow of the source
 abbrev pub Rests : MutBor (List ℕ) → Result AsciiStrMut AsAsciiStrError → Fml
 Rests source result = RestsIfErr (Array u8 0) source lender_of result (λ last. last ≡ source.now)

@@ -25,43 +25,31 @@ pub struct AsciiStrMut<'a> {
 }
 
 impl AsciiStrMut<'_> {
-    ghost use Rattle.ascii.specs.WritingView.{before_of, mut_text_of, after_of, source_of, lender_of};
+    ghost use Rattle.ascii.specs.WritingView.{EditsTo, mut_text_of};
 
     /// Puts `ch` at position `i` of the text, counted from 0. The rest of the text stays.
     #[inline]
     pub fn set(&mut self, i: usize, ch: AsciiChar)
         requires { i < length (mut_text_of self.old) }
-        ensures text { mut_text_of self.new ≡ slice_set (mut_text_of self.old) i (code_of ch) }
-        ensures before { before_of self.new ≡ before_of self.old }
-        ensures after { after_of self.new ≡ after_of self.old }
-        ensures lender { lender_of self.new ≡ lender_of self.old }
-        ensures whole { source_of self.new ≡ before_of self.new ++ mut_text_of self.new ++ after_of self.new }
+        ensures { EditsTo (slice_set (mut_text_of self.old) i (code_of ch)) self.old self.new }
     {
         self.bytes[self.start + i] = ch.as_byte();
     }
 
     /// Changes each character `a` to `z` of the text to that of `A` to `Z`. The rest of the text
     /// stays.
-    #[tactic(auto, using(std::proofs::lemmas::Slice::overwrites, crate::proofs::WritingViews::keeps_ascii))]
+    #[tactic(auto, using(std::proofs::lemmas::Slice::overwrites, crate::proofs::WritingViewLemmas::keeps_ascii))]
     pub fn make_ascii_uppercase(&mut self)
-        ensures text { mut_text_of self.new ≡ map upper_image (mut_text_of self.old) }
-        ensures before { before_of self.new ≡ before_of self.old }
-        ensures after { after_of self.new ≡ after_of self.old }
-        ensures lender { lender_of self.new ≡ lender_of self.old }
-        ensures whole { source_of self.new ≡ before_of self.new ++ mut_text_of self.new ++ after_of self.new }
+        ensures { EditsTo (map upper_image (mut_text_of self.old)) self.old self.new }
     {
         kernels::upper_in_place(&mut self.bytes[self.start..self.end]);
     }
 
     /// Changes each character `A` to `Z` of the text to that of `a` to `z`. The rest of the text
     /// stays.
-    #[tactic(auto, using(std::proofs::lemmas::Slice::overwrites, crate::proofs::WritingViews::keeps_ascii))]
+    #[tactic(auto, using(std::proofs::lemmas::Slice::overwrites, crate::proofs::WritingViewLemmas::keeps_ascii))]
     pub fn make_ascii_lowercase(&mut self)
-        ensures text { mut_text_of self.new ≡ map lower_image (mut_text_of self.old) }
-        ensures before { before_of self.new ≡ before_of self.old }
-        ensures after { after_of self.new ≡ after_of self.old }
-        ensures lender { lender_of self.new ≡ lender_of self.old }
-        ensures whole { source_of self.new ≡ before_of self.new ++ mut_text_of self.new ++ after_of self.new }
+        ensures { EditsTo (map lower_image (mut_text_of self.old)) self.old self.new }
     {
         kernels::lower_in_place(&mut self.bytes[self.start..self.end]);
     }

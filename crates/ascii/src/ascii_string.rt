@@ -4,6 +4,7 @@ ghost use Rattle.std.specs.Prelude.{◌≡◌, ◌+◌, ◌-◌, ◌<◌, ◌≤
 ghost use Rattle.std.specs.Option.{option_map};
 ghost use Rattle.ascii_base.specs.Case.{lower_image, upper_image};
 ghost use Rattle.ascii_base.specs.Code.{code_of};
+ghost use Rattle.ascii.specs.Held.{EditsWithin, GrowsTo, MakesRoom, Writes};
 ghost use Rattle.ascii.specs.Text.{insert_text};
 ghost use Rattle.ascii.specs.View.{text_of};
 
@@ -27,9 +28,9 @@ pub struct AsciiString<A: Allocator = Global> {
 impl<A: Allocator> Model for AsciiString<A> {
     ghost use Rattle.std.specs.Prelude.{vec_capacity};
     ghost use Rattle.std.specs.Str.{IsAscii};
-    ghost use Rattle.ascii.specs.Text.{Text};
+    ghost use Rattle.ascii.specs.Held.{Held};
 
-    ghost Value = { Text };
+    ghost Value = { Held };
 
     ghost view = { λ s. record { text = s.bytes.items; capacity = vec_capacity s.bytes } };
 
@@ -80,10 +81,11 @@ impl<A: Allocator> AsciiString<A> {
         }
     }
 
-    /// The number of bytes that the text can have before it has to grow.
+    /// The number of bytes that the text can have before it has to grow, at least its length.
     #[inline]
     pub fn capacity(&self) -> usize
-        ensures { result ≡ self.now.capacity }
+        ensures capacity { result ≡ self.now.capacity }
+        ensures room { length self.now.text ≤ result }
     {
         self.bytes.capacity()
     }
@@ -92,11 +94,7 @@ impl<A: Allocator> AsciiString<A> {
     /// where the room was missing; room for none never is.
     pub fn reserve(&mut self, additional: usize) -> Result<(), AllocError>
         requires { length self.old.text + additional ≤ usize.MAX }
-        ensures text { self.new.text ≡ self.old.text }
-        ensures ok { OnOk result (length self.new.text + additional ≤ self.new.capacity) }
-        ensures capacity { self.old.capacity ≤ self.new.capacity }
-        ensures succeeds { length self.old.text + additional ≤ self.old.capacity → IsOk result }
-        ensures nothing { additional ≡ 0 → IsOk result }
+        ensures { MakesRoom additional self.old self.new result }
     {
         self.bytes.reserve(additional)
     }
@@ -105,11 +103,7 @@ impl<A: Allocator> AsciiString<A> {
     /// refusal of memory comes only where the room was missing; room for none never is.
     pub fn reserve_exact(&mut self, additional: usize) -> Result<(), AllocError>
         requires { length self.old.text + additional ≤ usize.MAX }
-        ensures text { self.new.text ≡ self.old.text }
-        ensures ok { OnOk result (length self.new.text + additional ≤ self.new.capacity) }
-        ensures capacity { self.old.capacity ≤ self.new.capacity }
-        ensures succeeds { length self.old.text + additional ≤ self.old.capacity → IsOk result }
-        ensures nothing { additional ≡ 0 → IsOk result }
+        ensures { MakesRoom additional self.old self.new result }
     {
         self.bytes.reserve_exact(additional)
     }
@@ -121,6 +115,7 @@ impl<A: Allocator> AsciiString<A> {
         ensures ok { OnOk result (self.new.capacity ≡ length self.new.text) }
         ensures err { OnErr result (length self.new.text < self.new.capacity) }
         ensures capacity { self.new.capacity ≤ self.old.capacity }
+        ensures room { length self.new.text ≤ self.new.capacity }
     {
         self.bytes.shrink_to_fit();
         if self.bytes.len() < self.bytes.capacity() {
@@ -133,11 +128,7 @@ impl<A: Allocator> AsciiString<A> {
     /// of memory leaves the text.
     #[inline]
     pub fn push(&mut self, ch: AsciiChar) -> Result<(), AllocError>
-        ensures ok { OnOk result (self.new.text ≡ self.old.text ++ code_of ch ∷ []) }
-        ensures err { OnErr result (self.new.text ≡ self.old.text) }
-        ensures capacity { self.old.capacity ≤ self.new.capacity }
-        ensures succeeds { length self.old.text + 1 ≤ self.old.capacity → IsOk result }
-        ensures full { OnErr result (self.old.capacity < length self.old.text + 1) }
+        ensures { GrowsTo (self.old.text ++ code_of ch ∷ []) self.old self.new result }
     {
         self.bytes.push(ch.as_byte())?;
         Ok(())
@@ -147,12 +138,7 @@ impl<A: Allocator> AsciiString<A> {
     /// the empty view; a refusal of memory leaves the text.
     #[inline]
     pub fn push_str(&mut self, view: AsciiStr<'_>) -> Result<(), AllocError>
-        ensures ok { OnOk result (self.new.text ≡ self.old.text ++ text_of view.entry) }
-        ensures err { OnErr result (self.new.text ≡ self.old.text) }
-        ensures capacity { self.old.capacity ≤ self.new.capacity }
-        ensures succeeds { length self.old.text + length (text_of view.entry) ≤ self.old.capacity → IsOk result }
-        ensures nothing { text_of view.entry ≡ [] → IsOk result }
-        ensures full { OnErr result (self.old.capacity < length self.old.text + length (text_of view.entry)) }
+        ensures { GrowsTo (self.old.text ++ text_of view.entry) self.old self.new result }
     {
         self.bytes.extend_from_slice(view.as_bytes())
     }
@@ -161,10 +147,7 @@ impl<A: Allocator> AsciiString<A> {
     /// where the longer text fits the capacity; a refusal of memory leaves the text.
     pub fn insert(&mut self, idx: usize, ch: AsciiChar) -> Result<(), AllocError>
         requires { idx ≤ length self.old.text }
-        ensures ok { OnOk result (self.new.text ≡ insert self.old.text idx (code_of ch)) }
-        ensures err { OnErr result (self.new.text ≡ self.old.text) }
-        ensures capacity { self.old.capacity ≤ self.new.capacity }
-        ensures succeeds { length self.old.text + 1 ≤ self.old.capacity → IsOk result }
+        ensures { GrowsTo (insert self.old.text idx (code_of ch)) self.old self.new result }
     {
         self.bytes.insert(idx, ch.as_byte())?;
         Ok(())
@@ -175,11 +158,7 @@ impl<A: Allocator> AsciiString<A> {
     /// the text.
     pub fn insert_str(&mut self, idx: usize, view: AsciiStr<'_>) -> Result<(), AllocError>
         requires { idx ≤ length self.old.text }
-        ensures ok { OnOk result (self.new.text ≡ insert_text self.old.text idx (text_of view.entry)) }
-        ensures err { OnErr result (self.new.text ≡ self.old.text) }
-        ensures capacity { self.old.capacity ≤ self.new.capacity }
-        ensures succeeds { length self.old.text + length (text_of view.entry) ≤ self.old.capacity → IsOk result }
-        ensures nothing { text_of view.entry ≡ [] → IsOk result }
+        ensures { GrowsTo (insert_text self.old.text idx (text_of view.entry)) self.old self.new result }
     {
         insert_bytes(&mut self.bytes, idx, view.as_bytes())?;
         Ok(())
@@ -189,8 +168,7 @@ impl<A: Allocator> AsciiString<A> {
     pub fn remove(&mut self, idx: usize) -> AsciiChar
         requires { idx < length self.old.text }
         ensures removed { code_of result ≡ slice_index self.old.text idx }
-        ensures text { self.new.text ≡ remove self.old.text idx }
-        ensures capacity { self.new.capacity ≡ self.old.capacity }
+        ensures edits { EditsWithin (remove self.old.text idx) self.old self.new }
     {
         AsciiChar::from_ascii_unchecked(self.bytes.remove(idx))
     }
@@ -199,8 +177,7 @@ impl<A: Allocator> AsciiString<A> {
     #[inline]
     pub fn pop(&mut self) -> Option<AsciiChar>
         ensures popped { option_map code_of result ≡ slice_get self.old.text (length self.old.text - 1) }
-        ensures text { self.new.text ≡ take (length self.old.text - 1) self.old.text }
-        ensures capacity { self.new.capacity ≡ self.old.capacity }
+        ensures edits { EditsWithin (take (length self.old.text - 1) self.old.text) self.old self.new }
     {
         let byte = self.bytes.pop()?;
         Some(AsciiChar::from_ascii_unchecked(byte))
@@ -209,8 +186,7 @@ impl<A: Allocator> AsciiString<A> {
     /// Keeps the first `n` characters, or all where there are fewer.
     #[inline]
     pub fn truncate(&mut self, n: usize)
-        ensures text { self.new.text ≡ take n self.old.text }
-        ensures capacity { self.new.capacity ≡ self.old.capacity }
+        ensures { EditsWithin (take n self.old.text) self.old self.new }
     {
         self.bytes.truncate(n);
     }
@@ -218,8 +194,7 @@ impl<A: Allocator> AsciiString<A> {
     /// Takes off all characters. The capacity stays.
     #[inline]
     pub fn clear(&mut self)
-        ensures text { self.new.text ≡ [] }
-        ensures capacity { self.new.capacity ≡ self.old.capacity }
+        ensures { EditsWithin [] self.old self.new }
     {
         self.bytes.clear();
     }
@@ -228,24 +203,21 @@ impl<A: Allocator> AsciiString<A> {
     #[inline]
     pub fn set(&mut self, i: usize, ch: AsciiChar)
         requires { i < length self.old.text }
-        ensures text { self.new.text ≡ slice_set self.old.text i (code_of ch) }
-        ensures capacity { self.new.capacity ≡ self.old.capacity }
+        ensures { EditsWithin (slice_set self.old.text i (code_of ch)) self.old self.new }
     {
         self.bytes[i] = ch.as_byte();
     }
 
     /// Changes `a` to `z` to `A` to `Z`, and leaves every other character.
     pub fn make_ascii_uppercase(&mut self)
-        ensures text { self.new.text ≡ map upper_image self.old.text }
-        ensures capacity { self.new.capacity ≡ self.old.capacity }
+        ensures { EditsWithin (map upper_image self.old.text) self.old self.new }
     {
         kernels::upper_in_place(&mut self.bytes);
     }
 
     /// Changes `A` to `Z` to `a` to `z`, and leaves every other character.
     pub fn make_ascii_lowercase(&mut self)
-        ensures text { self.new.text ≡ map lower_image self.old.text }
-        ensures capacity { self.new.capacity ≡ self.old.capacity }
+        ensures { EditsWithin (map lower_image self.old.text) self.old self.new }
     {
         kernels::lower_in_place(&mut self.bytes);
     }
@@ -397,19 +369,13 @@ impl<A: Allocator> AsciiString<A> {
 
     /// Appends a character. One past 127, or a refusal of memory, is an error and leaves the text.
     pub fn write_char(&mut self, ch: char) -> fmt::Result
-        ensures ok { OnOk result (self.new.text ≡ self.old.text ++ ch ∷ []) }
-        ensures ascii { OnOk result (ch < 128) }
-        ensures err { OnErr result (self.new.text ≡ self.old.text) }
-        ensures capacity { self.old.capacity ≤ self.new.capacity }
-        ensures succeeds { ch < 128 → length self.old.text + 1 ≤ self.old.capacity → IsOk result }
+        ensures { Writes (ch ∷ []) self.old self.new result }
     {
+        let _capacity = self.capacity();
         let Ok(ch) = ch.to_ascii_char() else {
             return Err(fmt::Error);
         };
-        match self.push(ch) {
-            Ok(()) => Ok(()),
-            Err(_) => Err(fmt::Error),
-        }
+        self.push(ch).map_err(|_| fmt::Error)
     }
 }
 
@@ -422,23 +388,18 @@ impl<A: Allocator> fmt::Write for AsciiString<A> {
     /// the text: no part of it goes in.
     fn write_str(&mut self, s: &str) -> fmt::Result
         ensures ok { IsOk result → self.new.text ≡ self.old.text ++ s.now }
-        ensures ascii { OnOk result (IsAscii s.now) }
-        ensures err { OnErr result (self.new.text ≡ self.old.text) }
-        ensures capacity { self.old.capacity ≤ self.new.capacity }
-        ensures succeeds { IsAscii s.now → length self.old.text + length s.now ≤ self.old.capacity → IsOk result }
+        ensures writes { Writes s.now self.old self.new result }
     {
+        let _capacity = self.capacity();
         let Ok(view) = text::as_ascii_str(s) else {
             return Err(fmt::Error);
         };
-        match self.push_str(view) {
-            Ok(()) => Ok(()),
-            Err(_) => Err(fmt::Error),
-        }
+        self.push_str(view).map_err(|_| fmt::Error)
     }
 }
 
 impl<A: Allocator> From<AsciiString<A>> for Vec<u8, A> {
-    ghost from_gives = { λ string bytes. bytes.items ≡ string.text };
+    ghost from_gives = { λ string bytes. (bytes.items ≡ string.text) × (vec_capacity bytes ≡ string.capacity) };
 
     /// The bytes of the text, in the buffer that it had.
     fn from(string: AsciiString<A>) -> Vec<u8, A> {
@@ -447,9 +408,9 @@ impl<A: Allocator> From<AsciiString<A>> for Vec<u8, A> {
 }
 
 impl<A: Allocator> From<AsciiString<A>> for String<A> {
-    ghost use Rattle.std.specs.String.{string_bytes};
+    ghost use Rattle.std.specs.String.{string_bytes, string_capacity};
 
-    ghost from_gives = { λ string text. string_bytes text ≡ string.text };
+    ghost from_gives = { λ string text. (string_bytes text ≡ string.text) × (string_capacity text ≡ string.capacity) };
 
     /// The text as a `String`, in the buffer that it had.
     fn from(string: AsciiString<A>) -> String<A> {

@@ -134,10 +134,7 @@ impl<A: Allocator> AsciiString<A> {
         ensures ok { IfOk result (λ shared. shared ≡ self.text) }
         ensures err { IfErr result (λ string. string ≡ self) }
     {
-        match RcAsciiStr::from_ascii_str(alloc, self.as_ascii_str()) {
-            Ok(shared) => Ok(shared),
-            Err(_) => Err(self),
-        }
+        RcAsciiStr::from_ascii_str(alloc, self.as_ascii_str()).map_err(|_| self)
     }
 }
 
@@ -172,10 +169,9 @@ impl<'a, A: Allocator> CowAsciiStr<'a, A> {
     {
         match self {
             CowAsciiStr::Owned(string) => Ok(string),
-            CowAsciiStr::Borrowed(view) => match view.to_ascii_string(alloc) {
-                Ok(string) => Ok(string),
-                Err(_) => Err(CowAsciiStr::Borrowed(view)),
-            },
+            CowAsciiStr::Borrowed(view) => view
+                .to_ascii_string(alloc)
+                .map_err(|_| CowAsciiStr::Borrowed(view)),
         }
     }
 }

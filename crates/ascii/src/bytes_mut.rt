@@ -3,7 +3,7 @@
 ghost use Rattle.std.specs.Prelude.{true, false, ◌≡◌, IfOk, length};
 ghost use Rattle.ascii_base.specs.Range.{start_of, end_of, Fits};
 ghost use Rattle.ascii.specs.Between.{AsciiBetween};
-ghost use Rattle.ascii.specs.WritingView.{IsPart, MutSliceOutcome, Rests, lender_of, source_of};
+ghost use Rattle.ascii.specs.WritingView.{IsPart, MutSliceOutcome, Rests, lender_of, whole_of};
 ghost use Rattle.ascii.specs.Slice.{IsRefused};
 ghost use Rattle.std.specs.Str.{IsAscii};
 ghost use Rattle.std.specs.Borrow.{sem};
@@ -83,7 +83,7 @@ struct Searched<'a> {
 fn search(source: &mut [u8], range: AsciiRange) -> Searched<'_>
     ensures accepted { result.is_refused ≡ false → Fits range (length source.old) × IsPart source.old (start_of range) (end_of range (length source.old)) result.view }
     ensures refused { result.is_refused ≡ true → IsRefused source.old range (record { valid_up_to = result.valid_up_to }) }
-    ensures whole { source_of result.view ≡ source.old }
+    ensures whole { whole_of result.view ≡ source.old }
     ensures lender { lender_of result.view ≡ source.entry.ghost_name }
 {
     match checked_bounds(source, range) {

@@ -78,9 +78,6 @@ impl<A: Allocator> AsciiString<A> {
         ensures ok { IfOk result (λ chars. map code_of chars.items ≡ self.text) }
         ensures err { IfErr result (λ string. string ≡ self) }
     {
-        match self.as_ascii_str().to_chars(alloc) {
-            Ok(chars) => Ok(chars),
-            Err(_) => Err(self),
-        }
+        self.as_ascii_str().to_chars(alloc).map_err(|_| self)
     }
 }

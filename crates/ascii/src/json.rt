@@ -60,9 +60,7 @@ pub fn char_to_json(alloc: Global, ch: AsciiChar) -> Result<Value, AllocError>
 pub fn char_from_json(value: &Value) -> Result<AsciiChar, JsonError>
     ensures { MatchResult result (λ ch. as_str (view value.now) ≡ Some (code_of ch ∷ [])) (RefusesChar (view value.now)) }
 {
-    let Some(text) = value.as_str() else {
-        return Err(JsonError::NotText);
-    };
+    let text = value.as_str().ok_or(JsonError::NotText)?;
     if text.len() != 1 {
         return Err(JsonError::NotOneByte);
     }
@@ -74,24 +72,14 @@ pub fn char_from_json(value: &Value) -> Result<AsciiChar, JsonError>
 pub fn str_from_json(value: &Value) -> Result<AsciiStr<'_>, JsonError>
     ensures { MatchResult result (λ text. as_str (view value.now) ≡ Some (text_of text)) (RefusesText (view value.now)) }
 {
-    let Some(text) = value.as_str() else {
-        return Err(JsonError::NotText);
-    };
-    match text::as_ascii_str(text) {
-        Ok(view) => Ok(view),
-        Err(e) => Err(JsonError::NotAscii(e)),
-    }
+    let text = value.as_str().ok_or(JsonError::NotText)?;
+    text::as_ascii_str(text).map_err(JsonError::NotAscii)
 }
 
 /// A copy of the text of a JSON string. Memory is asked for after every other test.
 pub fn string_from_json<A: Allocator>(alloc: A, value: &Value) -> Result<AsciiString<A>, JsonError>
     ensures { MatchResult result (λ string. as_str (view value.now) ≡ Some string.text) (RefusesTextCopy (view value.now)) }
 {
-    match str_from_json(value) {
-        Ok(view) => match view.to_ascii_string(alloc) {
-            Ok(string) => Ok(string),
-            Err(_) => Err(JsonError::Memory),
-        },
-        Err(e) => Err(e),
-    }
+    let view = str_from_json(value)?;
+    view.to_ascii_string(alloc).map_err(|_| JsonError::Memory)
 }

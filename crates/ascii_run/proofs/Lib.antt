@@ -1,5 +1,5 @@
-pub mod EndsOutput
-pub mod JsonTexts
-pub mod Known
-pub mod Runs
-mod Worked
+pub mod EndsOutputLemmas
+pub mod JsonTextLemmas
+mod RunExamples
+pub mod RunsLemmas
+pub mod SinkLemmas

@@ -6,8 +6,8 @@ use Rattle.std.specs.declared.option.Option.{Option}
 use Rattle.std.specs.declared.result.Result.{Result}
 use Rattle.std.specs.declared.result.Result.TheVariants.{Ok, Err}
 use Rattle.ascii_base.specs.Bytes.{FirstOther}
-use Rattle.ascii_run.specs.declared.modes.EngineFault.{EngineFault}
-use Rattle.ascii_run.specs.declared.modes.EngineFault.TheVariants.{NotAscii, Position, Memory, Read, Write}
+use Rattle.ascii_run.specs.declared.faults.EngineFault.{EngineFault}
+use Rattle.ascii_run.specs.declared.faults.EngineFault.TheVariants.{NotAscii, Position, Memory, Read, Write}
 use Rattle.ascii_run.specs.declared.modes.Mode.{Mode}
 use Rattle.ascii_run.specs.Output.{IsFaultOf, IsOutput}
 
@@ -16,8 +16,8 @@ pub record ReadsAll (old new : Option (List ℕ)) (bytes : List ℕ) : Type 0 wh
   pub gave : Consumes old new bytes
   pub ended : IsAtEnd new
 
--- the bytes were a text, and its output is this one
-pub record HasOutput (mode : Mode) (old new : Option (List ℕ)) (output : List ℕ) : Type 0 where
+-- the reader gave a text and is at its end, and this is the output of the text
+pub record IsOutputOfInput (mode : Mode) (old new : Option (List ℕ)) (output : List ℕ) : Type 0 where
   pub text : List ℕ
   pub read : ReadsAll old new text
   pub ascii : IsAscii text
@@ -25,7 +25,7 @@ pub record HasOutput (mode : Mode) (old new : Option (List ℕ)) (output : List 
 
 -- at its answer: what the reader gave from `rest` to `left`, and what the writer took from `old` to `new`
 abbrev pub Tells : Mode → Result (Unit {0}) EngineFault → Option (List ℕ) → Option (List ℕ) → Option (List ℕ) → Option (List ℕ) → Type 0
-Tells mode (Ok _) rest left old new = (output : List ℕ) × HasOutput mode rest left output × Appends old new output
+Tells mode (Ok _) rest left old new = (output : List ℕ) × IsOutputOfInput mode rest left output × Appends old new output
 Tells mode (Err (NotAscii n)) rest left old new =
     (bytes : List ℕ) × ReadsAll rest left bytes × FirstOther bytes 0 (length bytes) n × Keeps old new
 Tells mode (Err (Position k)) rest left old new =
@@ -33,59 +33,24 @@ Tells mode (Err (Position k)) rest left old new =
 Tells mode (Err Memory) rest left old new = Keeps old new
 Tells mode (Err Read) rest left old new = Keeps old new
 Tells mode (Err Write) rest left old new =
-    (sent others : List ℕ) × HasOutput mode rest left (sent ++ others) × Appends old new sent
+    (sent others : List ℕ) × IsOutputOfInput mode rest left (sent ++ others) × Appends old new sent
 
 -- the reader's failures after an answer: one more at `Read` alone
-abbrev pub read_failures : ℕ → Result (Unit {0}) EngineFault → ℕ
+abbrev pub read_failures : {T : Type 0} → ℕ → Result T EngineFault → ℕ
 read_failures n (Err Read) = n + 1
-read_failures n (Err (NotAscii k)) = n
-read_failures n (Err (Position k)) = n
-read_failures n (Err Memory) = n
-read_failures n (Err Write) = n
-read_failures n (Ok _) = n
+read_failures n other = n
 
 -- the writer's failures after an answer: one more at `Write` alone
-abbrev pub write_failures : ℕ → Result (Unit {0}) EngineFault → ℕ
+abbrev pub write_failures : {T : Type 0} → ℕ → Result T EngineFault → ℕ
 write_failures n (Err Write) = n + 1
-write_failures n (Err (NotAscii k)) = n
-write_failures n (Err (Position k)) = n
-write_failures n (Err Memory) = n
-write_failures n (Err Read) = n
-write_failures n (Ok _) = n
-
--- the faults that end the reading
-abbrev pub IsMemoryOrRead : EngineFault → Type 0
-IsMemoryOrRead Memory = Unit {0}
-IsMemoryOrRead Read = Unit {0}
-IsMemoryOrRead (NotAscii n) = ⊥
-IsMemoryOrRead (Position k) = ⊥
-IsMemoryOrRead Write = ⊥
-
--- the reader's failures after reading: one more at `Read` alone
-abbrev pub CountsRead : {T : Type 0} → ℕ → ℕ → Result T EngineFault → Type 0
-CountsRead old new (Ok x) = new ≡ old
-CountsRead old new (Err Read) = new ≡ old + 1
-CountsRead old new (Err (Position k)) = new ≡ old
-CountsRead old new (Err Memory) = new ≡ old
-CountsRead old new (Err Write) = new ≡ old
-CountsRead old new (Err (NotAscii n)) = new ≡ old
+write_failures n other = n
 
 -- the writer took a beginning of the bytes
 abbrev pub AppendsFront : Option (List ℕ) → Option (List ℕ) → List ℕ → Type 0
 AppendsFront old new bytes = (sent others : List ℕ) × Appends old new sent × (sent ++ others ≡ bytes)
 
--- the first byte over 127 is at the place that the fault names
-abbrev pub IsNotAsciiIn : List ℕ → EngineFault → Type 0
-IsNotAsciiIn bytes (NotAscii n) = FirstOther bytes 0 (length bytes) n
-IsNotAsciiIn bytes (Position k) = ⊥
-IsNotAsciiIn bytes Memory = ⊥
-IsNotAsciiIn bytes Read = ⊥
-IsNotAsciiIn bytes Write = ⊥
-
 -- the faults that end the making of an output
 abbrev pub StopsOutput : Mode → List ℕ → EngineFault → Type 0
-StopsOutput mode text (NotAscii n) = ⊥
 StopsOutput mode text (Position k) = IsFaultOf mode text k
 StopsOutput mode text Memory = Unit {0}
-StopsOutput mode text Read = ⊥
-StopsOutput mode text Write = ⊥
+StopsOutput mode text other = ⊥

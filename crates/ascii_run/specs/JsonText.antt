@@ -1,20 +1,20 @@
 -- The compact JSON text of a text: a double quote, its characters one by one, a double quote.
-use Rattle.std.specs.Prelude.{ℕ, ◌/◌, ◌%◌, List, [], ◌∷◌, ◌++◌, if◌then◌else◌, ◌==◌, nat_lt}
+use Rattle.std.specs.Prelude.{ℕ, ◌/◌, ◌%◌, List, [], ◌∷◌, ◌++◌, if◌then◌else◌, ◌==◌, nat_lt, codes}
 use Rattle.std.specs.Char.{digit_char}
 use Rattle.std.specs.List.{flat_map}
 
 -- a code in a JSON string: `\b`, `\t`, `\n`, `\f`, `\r`, `\"`, `\\`, `\u00` and two digits for the other codes under 32, and else itself
 abbrev pub json_code : ℕ → List ℕ
 json_code n =
-    if n == 8 then 92 ∷ 98 ∷ []
-    else (if n == 9 then 92 ∷ 116 ∷ []
-    else (if n == 10 then 92 ∷ 110 ∷ []
-    else (if n == 12 then 92 ∷ 102 ∷ []
-    else (if n == 13 then 92 ∷ 114 ∷ []
-    else (if n == 34 then 92 ∷ 34 ∷ []
-    else (if n == 92 then 92 ∷ 92 ∷ []
-    else (if nat_lt n 32 then 92 ∷ 117 ∷ 48 ∷ 48 ∷ digit_char (n / 16) ∷ digit_char (n % 16) ∷ [] else n ∷ [])))))))
+    if n == 8 then codes "\\b"
+    else (if n == 9 then codes "\\t"
+    else (if n == 10 then codes "\\n"
+    else (if n == 12 then codes "\\f"
+    else (if n == 13 then codes "\\r"
+    else (if n == 34 then codes "\\\""
+    else (if n == 92 then codes "\\\\"
+    else (if nat_lt n 32 then codes "\\u00" ++ digit_char (n / 16) ∷ digit_char (n % 16) ∷ [] else n ∷ [])))))))
 
 -- a text as a JSON string
 abbrev pub json_text : List ℕ → List ℕ
-json_text text = 34 ∷ (flat_map json_code text ++ 34 ∷ [])
+json_text text = codes "\"" ++ (flat_map json_code text ++ codes "\"")

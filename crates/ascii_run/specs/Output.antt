@@ -1,5 +1,5 @@
 -- What each mode puts out for a text.
-use Rattle.std.specs.Prelude.{◌≡◌, ℕ, ◌+◌, List, [], ◌∷◌, ◌++◌, reverse, if◌then◌else◌, nat_lt, ◌==◌, Option, Some, None}
+use Rattle.std.specs.Prelude.{◌≡◌, ℕ, ◌+◌, List, [], ◌∷◌, ◌++◌, reverse, if◌then◌else◌, nat_lt, ◌==◌, Option, Some, None, codes}
 use Rattle.std.specs.List.{flat_map}
 use Rattle.ascii.specs.Ends.{Ends as EndsOf}
 use Rattle.ascii_run.specs.JsonText.{json_text}
@@ -10,19 +10,19 @@ use Rattle.ascii_run.specs.Run.{HasNoFault, IsFaultPlace, plain_text}
 
 -- a line's body, and LF
 abbrev pub with_line_feed : List ℕ → List ℕ
-with_line_feed body = body ++ 10 ∷ []
+with_line_feed body = body ++ codes "\n"
 
 -- an answer: `+`, the body and LF, or `-` and LF
 abbrev pub answer_text : Option (List ℕ) → List ℕ
-answer_text None = 45 ∷ 10 ∷ []
-answer_text (Some body) = 43 ∷ (body ++ 10 ∷ [])
+answer_text None = codes "-\n"
+answer_text (Some body) = codes "+" ++ (body ++ codes "\n")
 
 -- a code: a control other than LF as `^` and its caret letter, and else itself
 abbrev pub caret_text : ℕ → List ℕ
 caret_text n =
     if n == 10 then n ∷ []
-    else (if nat_lt n 32 then 94 ∷ (n + 64) ∷ []
-    else (if n == 127 then 94 ∷ 63 ∷ [] else n ∷ []))
+    else (if nat_lt n 32 then codes "^" ++ (n + 64) ∷ []
+    else (if n == 127 then codes "^?" else n ∷ []))
 
 -- the output of a mode for a text
 abbrev pub IsOutput : Mode → List ℕ → List ℕ → Type 0
@@ -38,10 +38,5 @@ IsOutput Json text output = output ≡ json_text text
 
 -- the place, counted from 0, of the command that stops a mode from having an output
 abbrev pub IsFaultOf : Mode → List ℕ → ℕ → Type 0
-IsFaultOf Copy text k = ⊥
-IsFaultOf Lines text k = ⊥
-IsFaultOf Tac text k = ⊥
-IsFaultOf Caret text k = ⊥
-IsFaultOf (Ends script) text k = ⊥
 IsFaultOf (Edit cmds) text k = IsFaultPlace text cmds.now k
-IsFaultOf Json text k = ⊥
+IsFaultOf other text k = ⊥

@@ -49,15 +49,10 @@ NeverShrinks cmds = All (λ cmd. cmd ≢ Shrink) cmds
 
 -- an answer that refuses a command for its number or its range
 abbrev pub IsFault : Said → Type 0
-IsFault done = ⊥
-IsFault (a_char ch) = ⊥
-IsFault (a_number n) = ⊥
-IsFault (a_truth b) = ⊥
-IsFault (a_text t) = ⊥
 IsFault bad_position = Unit {0}
 IsFault (refused n) = Unit {0}
-IsFault no_memory = ⊥
 IsFault too_many = Unit {0}
+IsFault other = ⊥
 
 -- an answer that does not refuse
 abbrev pub IsNoFault : Said → Type 0

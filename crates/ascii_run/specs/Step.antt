@@ -7,7 +7,8 @@ use Rattle.ascii_base.specs.Case.{lower_image, upper_image}
 use Rattle.ascii_base.specs.Code.{code_of}
 use Rattle.ascii_base.specs.Range.{Fits, end_of, start_of}
 use Rattle.ascii_base.specs.declared.range.AsciiRange.{AsciiRange}
-use Rattle.ascii.specs.Text.{Text, insert_text}
+use Rattle.ascii.specs.Held.{Held}
+use Rattle.ascii.specs.Text.{insert_text}
 use Rattle.ascii.specs.View.{position_of, text_of}
 use Rattle.ascii_run.specs.declared.commands.Cmd.{Cmd}
 use Rattle.ascii_run.specs.declared.commands.Cmd.TheVariants.{Push, PushStr, Insert, InsertStr, Remove, Pop, Truncate, Clear, Set, Upper, Lower, Reserve, Shrink, Len, First, Last, Get, Copy, EqIgnoreCase}
@@ -44,8 +45,8 @@ said_of_growth (Ok x) = done
 said_of_growth (Err e) = no_memory
 
 -- the range lies within n characters, as a test
-abbrev pub fits : AsciiRange → ℕ → Bool
-fits r n = nat_le (start_of r) (end_of r n) && nat_le (end_of r n) n
+abbrev pub lies_within : AsciiRange → ℕ → Bool
+lies_within r n = nat_le (start_of r) (end_of r n) && nat_le (end_of r n) n
 
 -- the largest length that there is
 abbrev pub largest : ℕ
@@ -53,25 +54,19 @@ largest = 2 ^ 64 - 1
 
 -- the answer of a command to a text, where no memory is wanting
 abbrev pub answer : List ℕ → Cmd → Said
-answer t (Push ch) = done
-answer t (PushStr view) = done
 answer t (Insert i ch) = if nat_le i (length t) then done else bad_position
 answer t (InsertStr i view) = if nat_le i (length t) then done else bad_position
 answer t (Remove i) = if nat_lt i (length t) then a_char (Some (slice_index t i)) else bad_position
 answer t Pop = a_char (slice_get t (length t - 1))
-answer t (Truncate n) = done
-answer t Clear = done
 answer t (Set i ch) = if nat_lt i (length t) then done else bad_position
-answer t Upper = done
-answer t Lower = done
 answer t (Reserve n) = if nat_le (length t + n) largest then done else too_many
-answer t Shrink = done
 answer t Len = a_number (length t)
 answer t First = a_char (slice_get t 0)
 answer t Last = a_char (slice_get t (length t - 1))
 answer t (Get i) = a_char (slice_get t i)
-answer t (Copy r) = if fits r (length t) then a_text (slice_range t (start_of r) (end_of r (length t))) else refused (length t)
+answer t (Copy r) = if lies_within r (length t) then a_text (slice_range t (start_of r) (end_of r (length t))) else refused (length t)
 answer t (EqIgnoreCase view) = a_truth (bytes_eq (map lower_image t) (map lower_image (text_of view)))
+answer t other = done
 
 -- the text behind a command, where no memory is wanting
 abbrev pub after : List ℕ → Cmd → List ℕ
@@ -86,14 +81,7 @@ after t Clear = []
 after t (Set i ch) = if nat_lt i (length t) then slice_set t i (code_of ch) else t
 after t Upper = map upper_image t
 after t Lower = map lower_image t
-after t (Reserve n) = t
-after t Shrink = t
-after t Len = t
-after t First = t
-after t Last = t
-after t (Get i) = t
-after t (Copy r) = t
-after t (EqIgnoreCase view) = t
+after t other = t
 
 -- n more codes, at least one, make the text longer than the sure length
 abbrev pub GrowsPast : ℕ → List ℕ → ℕ → Type 0
@@ -105,21 +93,10 @@ MayRefuse sure t (Push ch) = GrowsPast sure t 1
 MayRefuse sure t (PushStr view) = GrowsPast sure t (length (text_of view))
 MayRefuse sure t (Insert i ch) = (i ≤ length t) × GrowsPast sure t 1
 MayRefuse sure t (InsertStr i view) = (i ≤ length t) × GrowsPast sure t (length (text_of view))
-MayRefuse sure t (Remove i) = ⊥
-MayRefuse sure t Pop = ⊥
-MayRefuse sure t (Truncate n) = ⊥
-MayRefuse sure t Clear = ⊥
-MayRefuse sure t (Set i ch) = ⊥
-MayRefuse sure t Upper = ⊥
-MayRefuse sure t Lower = ⊥
 MayRefuse sure t (Reserve n) = (length t + n ≤ largest) × GrowsPast sure t n
 MayRefuse sure t Shrink = sure ≡ 0
-MayRefuse sure t Len = ⊥
-MayRefuse sure t First = ⊥
-MayRefuse sure t Last = ⊥
-MayRefuse sure t (Get i) = ⊥
 MayRefuse sure t (Copy r) = Fits r (length t) × (start_of r < end_of r (length t))
-MayRefuse sure t (EqIgnoreCase view) = ⊥
+MayRefuse sure t other = ⊥
 
 -- a command answers and edits, or memory is wanting where it may and the text stays
 abbrev pub Step : ℕ → List ℕ → Cmd → Said → List ℕ → Type 0
@@ -128,6 +105,6 @@ Step sure t cmd r t2 =
 
 -- where memory may be wanting for a string with this text and capacity: a growth past the capacity,
 -- a shrinking of more room than the text needs, or a copy
-abbrev pub LacksRoom : Text → Cmd → Type 0
+abbrev pub LacksRoom : Held → Cmd → Type 0
 LacksRoom string Shrink = length string.text < string.capacity
 LacksRoom string cmd = MayRefuse string.capacity string.text cmd

@@ -2,10 +2,11 @@
 
 ghost use Rattle.std.specs.Prelude.{◌≡◌, ◌≢◌, ℕ, ◌≤◌, List, [], IfErr, IfOk, IsOk, OnErr, OnOk, map, take};
 ghost use Rattle.ascii.specs.View.{text_of};
-ghost use Rattle.ascii_run.specs.Edit.{IsEditFault, StopsAt};
+ghost use Rattle.ascii_run.specs.Edit.{StopsAt, StopsEdits};
 ghost use Rattle.ascii_run.specs.Run.{AreRuns, HasNoFault, IsNoFault, IsPlainRun, IsServed, NeverShrinks, Run, WantsNone, plain_text};
 ghost use Rattle.ascii_run.specs.Step.{LacksRoom, Step, after, answer, no_memory, said, said_of_growth};
 
+use crate::faults::EngineFault;
 use ascii::{AsAsciiStrError, AsciiChar, AsciiRange, AsciiStr, AsciiString};
 use std::alloc::{AllocError, Allocator, Global};
 
@@ -251,25 +252,16 @@ fn copy<A: Allocator>(alloc: A, view: AsciiStr<'_>, range: AsciiRange) -> Reply<
     }
 }
 
-/// Why a list of edits stopped.
-#[derive(Clone, Copy, PartialEq, Eq, Debug)]
-pub(crate) enum EditFault {
-    /// The command at this place, counted from 0, is the first that is refused.
-    Position(usize),
-    /// A growth was refused before any command was.
-    Memory,
-}
-
 /// Carries out the commands in order and keeps no reply. It stops at the first command that is
-/// refused or finds no memory.
+/// refused, with its place, or that finds no memory.
 pub(crate) fn edit<A: Allocator + Copy, B: Allocator>(
     alloc: A,
     buf: &mut AsciiString<B>,
     cmds: &[Cmd<'_>],
-) -> Result<(), EditFault>
+) -> Result<(), EngineFault>
     ensures fault { OnOk result (HasNoFault buf.old.text cmds.now) }
     ensures text { OnOk result (buf.new.text ≡ plain_text buf.old.text cmds.now) }
-    ensures err { IfErr result (IsEditFault buf.old.text cmds.now) }
+    ensures err { IfErr result (StopsEdits buf.old.text cmds.now) }
 {
     for (k, cmd) in cmds.iter().enumerate() {
         served(step(alloc, buf, *cmd), k)?;
@@ -278,14 +270,14 @@ pub(crate) fn edit<A: Allocator + Copy, B: Allocator>(
 }
 
 /// Whether the reply to the command at the place `k` lets the edits go on.
-fn served<A: Allocator>(reply: Reply<A>, k: usize) -> Result<(), EditFault>
+fn served<A: Allocator>(reply: Reply<A>, k: usize) -> Result<(), EngineFault>
     ensures fault { OnOk result (IsNoFault (said reply)) }
     ensures memory { OnOk result (IsServed reply) }
     ensures err { IfErr result (StopsAt k (said reply)) }
 {
     match reply {
-        Reply::NoMemory => Err(EditFault::Memory),
-        Reply::BadPosition | Reply::Refused(_) | Reply::TooMany => Err(EditFault::Position(k)),
+        Reply::NoMemory => Err(EngineFault::Memory),
+        Reply::BadPosition | Reply::Refused(_) | Reply::TooMany => Err(EngineFault::Position(k)),
         Reply::Done | Reply::Char(_) | Reply::Number(_) | Reply::Truth(_) | Reply::Text(_) => Ok(
             (),
         ),

@@ -3,14 +3,16 @@
 
 mod commands;
 mod devices;
+mod faults;
+mod filter;
 mod modes;
 mod outputs;
 
 pub use commands::{Cmd, Reply, plain_run, run, runs_agree};
 pub use devices::{DeviceFault, Input, Output, Sink, Source};
-pub use modes::{EngineFault, Mode, engine};
+pub use faults::EngineFault;
+pub use filter::engine;
+pub use modes::Mode;
 
 #[cfg(test)]
-mod tests_commands;
-#[cfg(test)]
-mod tests_engine;
+mod tests;

@@ -13,8 +13,9 @@ ghost use Rattle.ascii_run.specs.Output.{IsOutput, answer_text, caret_text};
 ghost use Rattle.ascii_run.specs.Run.{HasNoFault, plain_text};
 ghost use Rattle.ascii_run.specs.JsonText.{json_text};
 
-use crate::commands::{Cmd, EditFault, edit};
-use crate::modes::{EngineFault, Mode};
+use crate::commands::{Cmd, edit};
+use crate::faults::EngineFault;
+use crate::modes::Mode;
 use ascii::iter::{End, Lines};
 use ascii::{AsciiChar, AsciiStr, AsciiString, CowAsciiStr, caret_encode};
 use json::Writer;
@@ -29,21 +30,16 @@ pub fn output_of<'a, A: Allocator + Copy>(
     ensures ok { IfOk result (λ output. IsOutput mode.entry (text_of text.entry) (cow_text output)) }
     ensures err { IfErr result (StopsOutput mode.entry (text_of text.entry)) }
 {
-    let made = match mode {
+    let output = match mode {
         Mode::Copy => return Ok(CowAsciiStr::Borrowed(text)),
-        Mode::Lines => lines_output(alloc, text),
-        Mode::Tac => tac_output(alloc, text),
-        Mode::Caret => caret_output(alloc, text),
-        Mode::Ends(script) => ends_output(alloc, text, script),
-        Mode::Edit(cmds) => {
-            return Ok(CowAsciiStr::Owned(edit_output(alloc, text, cmds)?));
-        }
-        Mode::Json => json_output(alloc, text),
+        Mode::Lines => lines_output(alloc, text)?,
+        Mode::Tac => tac_output(alloc, text)?,
+        Mode::Caret => caret_output(alloc, text)?,
+        Mode::Ends(script) => ends_output(alloc, text, script)?,
+        Mode::Edit(cmds) => edit_output(alloc, text, cmds)?,
+        Mode::Json => json_output(alloc, text)?,
     };
-    match made {
-        Ok(output) => Ok(CowAsciiStr::Owned(output)),
-        Err(_) => Err(EngineFault::Memory),
-    }
+    Ok(CowAsciiStr::Owned(output))
 }
 
 /// An empty output with room for the bodies of all lines of a text, each with a line feed.
@@ -162,12 +158,7 @@ fn edit_output<A: Allocator + Copy>(
     ensures ok { IfOk result (λ output. HasNoFault (text_of text.entry) cmds.now × (output.text ≡ plain_text (text_of text.entry) cmds.now)) }
     ensures err { IfErr result (StopsOutput (Mode.Edit cmds.entry) (text_of text.entry)) }
 {
-    let Ok(mut output) = text.to_ascii_string(alloc) else {
-        return Err(EngineFault::Memory);
-    };
-    match edit(alloc, &mut output, cmds) {
-        Ok(()) => Ok(output),
-        Err(EditFault::Position(place)) => Err(EngineFault::Position(place)),
-        Err(EditFault::Memory) => Err(EngineFault::Memory),
-    }
+    let mut output = text.to_ascii_string(alloc)?;
+    edit(alloc, &mut output, cmds)?;
+    Ok(output)
 }

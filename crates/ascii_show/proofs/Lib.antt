@@ -1,6 +1,6 @@
-pub mod Asking
-pub mod Edits
-pub mod Insertions
-pub mod Letters
-pub mod Scripts
-mod Worked
+pub mod AnswerLemmas
+pub mod EditLemmas
+pub mod InsertionLemmas
+pub mod ScriptLemmas
+mod WordExamples
+pub mod WordLemmas

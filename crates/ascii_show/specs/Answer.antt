@@ -6,7 +6,7 @@ use Rattle.std.specs.declared.result.Result.{Result}
 use Rattle.std.specs.declared.result.Result.TheVariants.{Ok, Err}
 use Rattle.ascii_base.specs.Bytes.{FirstOther}
 use Rattle.ascii_run.specs.Output.{IsFaultOf, IsOutput}
-use Rattle.ascii_run.specs.declared.modes.EngineFault.TheVariants.{NotAscii, Position, Memory, Read, Write}
+use Rattle.ascii_run.specs.declared.faults.EngineFault.TheVariants.{NotAscii, Position, Memory, Read, Write}
 use Rattle.ascii_run.specs.declared.modes.Mode.{Mode}
 use Rattle.ascii_show.specs.Asked.{done_by}
 use Rattle.ascii_show.specs.Call.{AskFor, HasBadWord, IsCall}

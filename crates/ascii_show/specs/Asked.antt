@@ -17,16 +17,6 @@ pub data Asked : Type 0 where
   edit : List Cmd → Asked
   json : Asked
 
--- what a request asks for
-abbrev pub asked_by : {A : Type 0} → Request A → Asked
-asked_by request.Copy = copy
-asked_by request.Lines = lines
-asked_by request.Tac = tac
-asked_by request.Caret = caret
-asked_by (request.Ends script) = ends script.items
-asked_by (request.Edit cmds) = edit cmds.items
-asked_by request.Json = json
-
 -- what a mode does
 abbrev pub done_by : Mode → Asked
 done_by mode.Copy = copy
@@ -36,3 +26,9 @@ done_by mode.Caret = caret
 done_by (mode.Ends script) = ends script.now
 done_by (mode.Edit cmds) = edit cmds.now
 done_by mode.Json = json
+
+-- what a request asks for
+abbrev pub asked_by : {A : Type 0} → Request A → Asked
+asked_by (request.Plain mode) = done_by mode
+asked_by (request.Ends script) = ends script.items
+asked_by (request.Edit cmds) = edit cmds.items

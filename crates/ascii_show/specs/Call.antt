@@ -3,7 +3,7 @@ use Rattle.std.specs.Prelude.{◌≡◌, ◌⊎◌, ⊤, ℕ, List, [], ◌∷�
 use Rattle.std.specs.String.{string_bytes}
 use Rattle.std.specs.List.{AllZip}
 use Rattle.std.specs.declared.alloc.Global.{Global}
-use Rattle.ascii_run.specs.declared.modes.EngineFault.TheVariants.{Memory}
+use Rattle.ascii_run.specs.declared.faults.EngineFault.TheVariants.{Memory}
 use Rattle.ascii_show.specs.Asked.{Asked, copy, lines, tac, caret, ends, edit, json}
 use Rattle.ascii_show.specs.declared.failure.Failure.{Failure}
 use Rattle.ascii_show.specs.declared.failure.Failure.TheVariants.{Usage, BadWord, Run}
@@ -30,15 +30,21 @@ HasBadWord words n =
     ((script : List ℕ) × (words ≡ codes "ends" ∷ (script ∷ [])) × (n ≡ 1) × IsNoScript script)
     ⊎ ((edits : List (List ℕ)) × (words ≡ codes "edit" ∷ edits) × IsFirstBadWord edits n)
 
+-- the name of what is asked for
+abbrev pub name_of : Asked → List ℕ
+name_of copy = codes "copy"
+name_of lines = codes "lines"
+name_of tac = codes "tac"
+name_of caret = codes "caret"
+name_of (ends script) = codes "ends"
+name_of (edit cmds) = codes "edit"
+name_of json = codes "json"
+
 -- the words ask for this
 abbrev pub AskFor : List (List ℕ) → Asked → Type 0
-AskFor words copy = words ≡ codes "copy" ∷ []
-AskFor words lines = words ≡ codes "lines" ∷ []
-AskFor words tac = words ≡ codes "tac" ∷ []
-AskFor words caret = words ≡ codes "caret" ∷ []
-AskFor words json = words ≡ codes "json" ∷ []
 AskFor words (ends script) = (letters : List ℕ) × (words ≡ codes "ends" ∷ (letters ∷ [])) × AreEndsOf letters script
 AskFor words (edit cmds) = (edits : List (List ℕ)) × (words ≡ codes "edit" ∷ edits) × AllZip IsWordOf edits cmds
+AskFor words asked = words ≡ name_of asked ∷ []
 
 -- why a script gives no ends: a letter, or want of memory
 abbrev pub IsScriptFault : List ℕ → Failure → Type 0
@@ -53,8 +59,8 @@ IsEditsFault edits (Run Memory) = ⊤
 IsEditsFault edits other = ⊥
 
 -- why the words give no request: memory may be wanting for any call
-abbrev pub IsFaultOf : List (List ℕ) → Failure → Type 0
-IsFaultOf words Usage = ¬ (IsCall words)
-IsFaultOf words (BadWord n) = HasBadWord words n
-IsFaultOf words (Run Memory) = IsCall words
-IsFaultOf words other = ⊥
+abbrev pub IsWordsFault : List (List ℕ) → Failure → Type 0
+IsWordsFault words Usage = ¬ (IsCall words)
+IsWordsFault words (BadWord n) = HasBadWord words n
+IsWordsFault words (Run Memory) = IsCall words
+IsWordsFault words other = ⊥

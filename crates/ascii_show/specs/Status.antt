@@ -1,6 +1,6 @@
 -- The status that the program ends with.
 use Rattle.std.specs.Prelude.{ℕ, List, ◌+◌, ◌++◌, codes, decimal, min, ◌^◌, ◌-◌}
-use Rattle.ascii_run.specs.declared.modes.EngineFault.TheVariants.{NotAscii, Position, Memory, Read, Write}
+use Rattle.ascii_run.specs.declared.faults.EngineFault.TheVariants.{NotAscii, Position, Memory, Read, Write}
 use Rattle.ascii_show.specs.declared.failure.Failure.{Failure}
 use Rattle.ascii_show.specs.declared.failure.Failure.TheVariants.{Usage, BadWord, Run}
 

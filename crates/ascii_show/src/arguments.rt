@@ -1,10 +1,10 @@
 //! What the words after the program's name ask for.
 
-ghost use Rattle.std.specs.Prelude.{◌≡◌, ◌==◌, MatchOption, MatchResult, ℕ, position};
+ghost use Rattle.std.specs.Prelude.{◌≡◌, ◌==◌, [], ◌∷◌, MatchOption, MatchResult, ℕ, position};
 ghost use Rattle.std.specs.List.{AllZip};
 ghost use Rattle.ascii.specs.View.{text_of};
 ghost use Rattle.ascii_show.specs.Asked.{asked_by, done_by};
-ghost use Rattle.ascii_show.specs.Call.{AskFor, IsEditsFault, IsFaultOf, IsScriptFault, words_of};
+ghost use Rattle.ascii_show.specs.Call.{AskFor, IsEditsFault, IsScriptFault, IsWordsFault, StandsAlone, words_of};
 ghost use Rattle.ascii_show.specs.Words.{AreDigitsOf, AreEndsOf, IsInsertion, IsNoLetter, IsWord, IsWordOf, letter_of};
 
 use crate::failure::Failure;
@@ -16,13 +16,10 @@ use std::alloc::Allocator;
 /// What a call asks for, with what its words name.
 #[derive(Drop)]
 pub enum Request<'a, A: Allocator> {
-    Copy,
-    Lines,
-    Tac,
-    Caret,
+    /// A mode that takes no further word.
+    Plain(Mode<'static>),
     Ends(Vec<End, A>),
     Edit(Vec<Cmd<'a>, A>),
-    Json,
 }
 
 impl<'a, A: Allocator> Request<'a, A> {
@@ -31,30 +28,21 @@ impl<'a, A: Allocator> Request<'a, A> {
         ensures { done_by result ≡ asked_by self.now }
     {
         match self {
-            Request::Copy => Mode::Copy,
-            Request::Lines => Mode::Lines,
-            Request::Tac => Mode::Tac,
-            Request::Caret => Mode::Caret,
+            Request::Plain(mode) => *mode,
             Request::Ends(script) => Mode::Ends(script.as_slice()),
             Request::Edit(cmds) => Mode::Edit(cmds.as_slice()),
-            Request::Json => Mode::Json,
         }
     }
 }
 
 /// What the words ask for. The number of words is looked at before any word behind the mode.
 pub fn request_of<'a, A: Allocator>(alloc: A, args: &'a [String]) -> Result<Request<'a, A>, Failure>
-    ensures { MatchResult result (λ request. AskFor (words_of args.now) (asked_by request)) (IsFaultOf (words_of args.now)) }
+    ensures { MatchResult result (λ request. AskFor (words_of args.now) (asked_by request)) (IsWordsFault (words_of args.now)) }
 {
     let Some((mode, others)) = args.split_first() else {
         return Err(Failure::Usage);
     };
     match mode.as_str() {
-        "copy" if others.is_empty() => Ok(Request::Copy),
-        "lines" if others.is_empty() => Ok(Request::Lines),
-        "tac" if others.is_empty() => Ok(Request::Tac),
-        "caret" if others.is_empty() => Ok(Request::Caret),
-        "json" if others.is_empty() => Ok(Request::Json),
         "ends" if others.len() == 1 => {
             let script = script_of(alloc, others[0].as_bytes())?;
             Ok(Request::Ends(script))
@@ -63,7 +51,25 @@ pub fn request_of<'a, A: Allocator>(alloc: A, args: &'a [String]) -> Result<Requ
             let cmds = commands_of(alloc, others)?;
             Ok(Request::Edit(cmds))
         }
+        name if others.is_empty() => match plain_mode(name) {
+            Some(mode) => Ok(Request::Plain(mode)),
+            None => Err(Failure::Usage),
+        },
         _ => Err(Failure::Usage),
+    }
+}
+
+/// The mode of a name that takes no further word.
+fn plain_mode(name: &str) -> Option<Mode<'static>>
+    ensures { MatchOption result (¬ (StandsAlone name.now)) (λ mode. AskFor (name.now ∷ []) (done_by mode)) }
+{
+    match name {
+        "copy" => Some(Mode::Copy),
+        "lines" => Some(Mode::Lines),
+        "tac" => Some(Mode::Tac),
+        "caret" => Some(Mode::Caret),
+        "json" => Some(Mode::Json),
+        _ => None,
     }
 }
 

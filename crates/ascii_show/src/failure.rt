@@ -68,7 +68,7 @@ impl From<EngineFault> for Failure {
 
 impl From<AllocError> for Failure {
     ghost use Rattle.ascii_show.specs.declared.failure.Failure.TheVariants.{Run};
-    ghost use Rattle.ascii_run.specs.declared.modes.EngineFault.TheVariants.{Memory};
+    ghost use Rattle.ascii_run.specs.declared.faults.EngineFault.TheVariants.{Memory};
 
     ghost from_gives = { λ _ failure. failure ≡ Run Memory };
 
@@ -79,7 +79,7 @@ impl From<AllocError> for Failure {
 
 impl<T: Drop> From<AllocFailed<T>> for Failure {
     ghost use Rattle.ascii_show.specs.declared.failure.Failure.TheVariants.{Run};
-    ghost use Rattle.ascii_run.specs.declared.modes.EngineFault.TheVariants.{Memory};
+    ghost use Rattle.ascii_run.specs.declared.faults.EngineFault.TheVariants.{Memory};
 
     ghost from_gives = { λ _ failure. failure ≡ Run Memory };
 

@@ -4,4 +4,5 @@
 
 pub mod iterators;
 pub mod parts;
+pub mod strings;
 pub mod values;

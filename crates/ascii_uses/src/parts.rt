@@ -4,7 +4,7 @@ ghost use Rattle.std.specs.Prelude.{◌≡◌, ◌++◌, OnOk, OnErr, IfErr, map
 ghost use Rattle.ascii_base.specs.Case.{upper_image};
 ghost use Rattle.ascii.specs.Slice.{IsRefused};
 ghost use Rattle.ascii_uses.specs.Raised.{raised_part};
-ghost use Rattle.ascii.specs.WritingView.{before_of, mut_text_of, after_of, source_of, lender_of};
+ghost use Rattle.ascii.specs.WritingView.{before_of, mut_text_of, after_of, whole_of, lender_of};
 
 use ascii::{AsAsciiStrError, AsciiStrMut, bytes};
 use ascii_base::range::AsciiRange;
@@ -39,7 +39,7 @@ pub fn raise_in(source: &mut [u8], range: AsciiRange) -> Result<(), AsAsciiStrEr
 /// The same view, its letters in upper case.
 fn raised<'a>(view: AsciiStrMut<'a>) -> AsciiStrMut<'a>
     ensures lender { lender_of result ≡ lender_of view.entry }
-    ensures whole { source_of result ≡ before_of view.entry ++ map upper_image (mut_text_of view.entry) ++ after_of view.entry }
+    ensures whole { whole_of result ≡ before_of view.entry ++ map upper_image (mut_text_of view.entry) ++ after_of view.entry }
 {
     let mut text = view;
     text.make_ascii_uppercase();

@@ -2,7 +2,7 @@ use Rattle.std.proofs.Common.{Ok, Err, subst, sym}
 use Rattle.ascii_show.specs.Answer.{MayAnswer}
 use Rattle.ascii_show.specs.Call.{AskFor, words_of}
 use Rattle.ascii_show.specs.declared.failure.Failure.TheVariants.{Run}
-use Rattle.ascii_show.proofs.Asking.{done, failed, handed_on}
+use Rattle.ascii_show.proofs.AnswerLemmas.{done, failed, handed_on}
 use Rattle.ascii_show.proofs.run_words.Goals as goal
 
 pub returns-in_err-engine : goal.returns-in_err-engine

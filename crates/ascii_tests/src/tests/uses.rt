@@ -6,6 +6,10 @@ use ascii_uses::iterators::{
     bodies_reversed, bracketed, line_lengths, piece_count, piece_lengths, push_upper, quoted,
     unbroken, without,
 };
+use ascii_uses::strings::{
+    begin_anew, blank, cut_with, ended_bytes, ended_text, move_to_the_end, replace_last,
+    spare_room, write_nothing,
+};
 use std::test::Fail;
 
 #[test]
@@ -41,5 +45,32 @@ fn texts(rt: HostRuntime) -> Result<(), Fail> {
         quoted(rt.alloc(), ascii("a\"\t"))?.as_str(),
         "\"a\\\"\\t\""
     );
+    Ok(())
+}
+
+#[test]
+fn written_again(rt: HostRuntime) -> Result<(), Fail> {
+    let mut string = ascii("abcd").to_ascii_string(rt.alloc())?;
+    assert!(rt; 0 < string.len());
+    replace_last(&mut string, AsciiChar::x)?;
+    assert_eq!(rt; string.as_ascii_str().as_str(), "abcx");
+    assert!(rt; 1 < string.len());
+    move_to_the_end(&mut string, 1)?;
+    assert_eq!(rt; string.as_ascii_str().as_str(), "acxb");
+    assert!(rt; 2 < string.len());
+    cut_with(&mut string, 2, AsciiChar::Tilde)?;
+    assert_eq!(rt; string.as_ascii_str().as_str(), "ac~");
+    assert!(rt; 0 < string.len());
+    begin_anew(&mut string, AsciiChar::z)?;
+    write_nothing(&mut string)?;
+    assert_eq!(rt; string.as_ascii_str().as_str(), "z");
+    assert_eq!(rt; spare_room(&string), string.capacity().saturating_sub(1));
+    assert!(rt; string.len() < string.capacity());
+    assert_eq!(rt; ended_bytes(string, 10)?.as_slice(), b"z\n".as_slice());
+    let mut string = AsciiString::with_capacity(rt.alloc(), 2)?;
+    string.push(AsciiChar::a)?;
+    assert!(rt; string.len() < string.capacity());
+    assert_eq!(rt; ended_text(string)?.as_str(), "a.");
+    assert_eq!(rt; blank(), AsciiChar::Null);
     Ok(())
 }

@@ -1,6 +1,6 @@
 use Rattle.std.proofs.Common.{rules, length}
 use Rattle.ascii_base.specs.Range.{Fits}
-use Rattle.ascii.proofs.Slices.{IsRefused-inside}
+use Rattle.ascii.proofs.SliceLemmas.{IsRefused-inside}
 use Rattle.ascii.proofs.bounds.checked_bounds.Goals as goal
 
 pub returns-in-Some : goal.returns-in-Some

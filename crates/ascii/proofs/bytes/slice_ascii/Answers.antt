@@ -1,6 +1,6 @@
 use Rattle.std.proofs.Common.{length}
 use Rattle.ascii_base.specs.Range.{start_of, end_of}
-use Rattle.ascii.proofs.WritingViews.{AsciiBetween-part}
+use Rattle.ascii.proofs.WritingViewLemmas.{AsciiBetween-part}
 use Rattle.ascii.proofs.bytes.slice_ascii.Goals as goal
 
 pub returns-clause-ascii : goal.returns-clause-ascii

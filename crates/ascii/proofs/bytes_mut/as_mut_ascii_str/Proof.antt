@@ -43,7 +43,7 @@ use Rattle.ascii.specs.contracts.ascii_str.AsAsciiStrError as E
 use Rattle.ascii.specs.contracts.ascii_str_mut.AsciiStrMut as V
 use Rattle.ascii.proofs.ascii_str.AsAsciiStrError.TheLaws as error_laws
 use Rattle.ascii.proofs.ascii_str_mut.AsciiStrMut.TheLaws as view_laws
-use Rattle.ascii.proofs.Resting.{Bytes}
+use Rattle.ascii.proofs.RestsLemmas.{Bytes}
 use Rattle.ascii.specs.contracts.bytes_mut.as_mut_ascii_str as f
 use Rattle.ascii.proofs.bytes_mut.as_mut_ascii_str.Statement.{statement}
 use Rattle.ascii.proofs.bytes_mut.as_mut_ascii_str.Code as code

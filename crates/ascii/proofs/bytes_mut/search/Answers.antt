@@ -1,4 +1,4 @@
-use Rattle.ascii.proofs.WritingViews.{bounds_hold}
+use Rattle.ascii.proofs.WritingViewLemmas.{bounds_hold}
 use Rattle.ascii.proofs.bytes_mut.search.Goals as goal
 
 pub invariant_of-result : goal.invariant_of-result

@@ -37,11 +37,11 @@ use Rattle.ascii_base.specs.Range.{start_of, end_of, Fits}
 use Rattle.ascii_base.specs.contracts.range.AsciiRange as range
 use Rattle.ascii_base.proofs.range.AsciiRange.TheLaws as range_laws
 use Rattle.ascii.specs.Slice.{IsRefused}
-use Rattle.ascii.specs.WritingView.{IsPart, source_of, lender_of}
+use Rattle.ascii.specs.WritingView.{IsPart, whole_of, lender_of}
 use Rattle.ascii.specs.declared.bytes_mut.Searched.{Searched}
 use Rattle.ascii.specs.contracts.bytes_mut.Searched as S
 use Rattle.ascii.proofs.bytes_mut.Searched.TheLaws as found_laws
-use Rattle.ascii.proofs.Resting.{Bytes, given_up, found_view, rests_ok, rests_err}
+use Rattle.ascii.proofs.RestsLemmas.{Bytes, given_up, found_view, rests_ok, rests_err}
 use Rattle.std.specs.Borrow.{RestsIfErr}
 use Rattle.ascii.specs.declared.ascii_str.AsAsciiStrError.{AsAsciiStrError}
 use Rattle.ascii.specs.declared.ascii_str_mut.AsciiStrMut.{AsciiStrMut}
@@ -95,7 +95,7 @@ slice_ascii_mut_spec 𝓤 𝓛 𝓜 𝓡 wired =
     let Row = S.the_row lft in
     let Accepted = λ (d : Searched). d.is_refused ≡ false → Fits r n × IsPart s.now (start_of r) (end_of r n) d.view in
     let Refused = λ (d : Searched). d.is_refused ≡ true → IsRefused s.now r (record { valid_up_to = d.valid_up_to }) in
-    let Whole = λ (d : Searched). source_of d.view ≡ s.now in
+    let Whole = λ (d : Searched). whole_of d.view ≡ s.now in
     let Lender = λ (d : Searched). lender_of d.view ≡ s.ghost_name in
     use1 𝓛 (later (some (λ (d : Searched). (raw (alive 𝓛 g.signature κs qs) ⊛ ‵ (Row.own_val d (v ∷ []))) ⊛
     some (λ (ws : Unit {0} × (Unit {0} × Unit {0})). ‵ (lasts g.ended κs a ws) ⊛ raw (fact 𝓤 (Accepted d)) ⊛ raw (fact 𝓤 (Refused d)) ⊛ raw (fact 𝓤 (Whole d)) ⊛ raw (fact 𝓤 (Lender d)))))) (id⊢ 𝓤 _) $

@@ -1,5 +1,5 @@
 use Rattle.std.proofs.Common.{rules, ◌≡◌, length}
-use Rattle.ascii.proofs.OneByte.{one_byte_below}
+use Rattle.ascii.proofs.JsonLemmas.{one_byte_below}
 use Rattle.ascii.proofs.json.char_from_json.Goals as goal
 
 pub from_ascii_unchecked-requires : goal.from_ascii_unchecked-requires

@@ -3,7 +3,7 @@ use Rattle.std.proofs.lemmas.List.{take_more}
 use Rattle.std.proofs.lemmas.Option.{slice_get_read}
 use Rattle.std.proofs.lemmas.Result.{err_from_is_err_and}
 use Rattle.ascii_run.specs.Step.{said}
-use Rattle.ascii_run.proofs.Runs.{edit_more, edit_stops}
+use Rattle.ascii_run.proofs.RunsLemmas.{edit_more, edits_stop}
 use Rattle.ascii_run.proofs.commands.edit.Goals as goal
 
 pub returns-in_err-served-clause-err : goal.returns-in_err-served-clause-err
@@ -13,9 +13,9 @@ returns-in_err-served-clause-err g c =
     let cmd = c.index-cmds-k.result in
     let lt : k < length cmds = omega arith in
     let exit = err_from_is_err_and c.from_residual.result c.from_residual.ensures.1 in
-    rw (exit.1, exit.2) (edit_stops c.loop-k.buf c.args.buf.now.text cmds k cmd (said c.step.result) c.step.new.buf.text
+    rw (exit.1, exit.2) (edits_stop c.args.buf.now.text cmds k cmd c.loop-k.buf.text (said c.step.result) c.step.new.buf.text
     c.in_err-served.field-0.0 (slice_get_read cmds (length cmds) k cmd refl lt c.index-cmds-k.is)
-    c.loop-k.invariant.none c.loop-k.invariant.text c.step.ensures.step c.step.ensures.room c.in_err-served.ensures.err)
+    c.loop-k.invariant.none c.loop-k.invariant.text c.step.ensures.step c.in_err-served.ensures.err)
 
 pub loop-k-preserved : goal.loop-k-preserved
 loop-k-preserved g c =

@@ -1,4 +1,4 @@
-use Rattle.ascii_run.proofs.Runs.{run_plain}
+use Rattle.ascii_run.proofs.RunsLemmas.{run_plain}
 use Rattle.ascii_run.proofs.commands.plain_run.Goals as goal
 
 pub returns : goal.returns

@@ -3,7 +3,7 @@ use Rattle.std.proofs.lemmas.List.{take_more}
 use Rattle.std.proofs.lemmas.List.Elements.{All-get_or}
 use Rattle.ascii_run.specs.declared.commands.Cmd.TheVariants.{Shrink}
 use Rattle.ascii_run.specs.Run.{NeverShrinks}
-use Rattle.ascii_run.proofs.Runs.{run_more, step_within}
+use Rattle.ascii_run.proofs.RunsLemmas.{run_more, step_within}
 use Rattle.ascii_run.proofs.commands.run.Goals as goal
 
 pub loop-cmd-preserved : goal.loop-cmd-preserved

@@ -1,5 +1,5 @@
 use Rattle.std.proofs.Common.{◌∙◌, sym}
-use Rattle.ascii_run.proofs.Runs.{run_front, run_plain}
+use Rattle.ascii_run.proofs.RunsLemmas.{run_front, run_plain}
 use Rattle.ascii_run.proofs.commands.runs_agree.Goals as goal
 
 pub returns-clause-front : goal.returns-clause-front

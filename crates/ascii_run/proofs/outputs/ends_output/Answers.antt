@@ -2,7 +2,7 @@ use Rattle.std.proofs.Common.{arith, rules}
 use Rattle.std.specs.Option.{option_map}
 use Rattle.ascii.specs.Lines.{bodies}
 use Rattle.ascii.specs.View.{text_of}
-use Rattle.ascii_run.proofs.EndsOutput.{ends_output_more}
+use Rattle.ascii_run.proofs.EndsOutputLemmas.{ends_output_more}
 use Rattle.ascii_run.proofs.outputs.ends_output.Goals as goal
 
 pub loop-end-preserved : goal.loop-end-preserved

@@ -2,7 +2,7 @@ use Rattle.std.proofs.Common.{◌≡◌, ◌∙◌, subst, sym}
 use Rattle.std.specs.Str.{IsAscii}
 use Rattle.ascii_run.specs.JsonText.{json_text}
 use Rattle.ascii.specs.View.{text_of}
-use Rattle.ascii_run.proofs.JsonTexts.{IsAscii-json_text, printed}
+use Rattle.ascii_run.proofs.JsonTextLemmas.{IsAscii-json_text, printed}
 use Rattle.ascii_run.proofs.outputs.json_output.Goals as goal
 
 pub from_ascii_unchecked-requires : goal.from_ascii_unchecked-requires

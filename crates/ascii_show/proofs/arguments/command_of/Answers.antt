@@ -1,7 +1,7 @@
 use Rattle.std.proofs.Common.{rules, ◌∷◌, ◌≡◌, arith}
 use Rattle.std.proofs.lemmas.Grind.{common_steps}
 use Rattle.ascii.specs.View.{text_of}
-use Rattle.ascii_show.proofs.Letters.{no_other_word, insertion_word}
+use Rattle.ascii_show.proofs.WordLemmas.{no_other_word, insertion_word}
 use Rattle.ascii_show.proofs.arguments.command_of.Goals as goal
 
 pub returns-in_err-word : goal.returns-in_err-word

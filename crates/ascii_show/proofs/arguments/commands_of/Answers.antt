@@ -2,7 +2,7 @@ use Rattle.std.proofs.Common.{◌<◌, ◌∙◌, sym, arith, length}
 use Rattle.std.specs.String.{string_bytes}
 use Rattle.std.proofs.lemmas.List.{length-map}
 use Rattle.ascii_show.specs.Call.{words_of}
-use Rattle.ascii_show.proofs.Edits.{more_words, first_bad_word, word_at}
+use Rattle.ascii_show.proofs.EditLemmas.{more_words, first_bad_word, word_at}
 use Rattle.ascii_show.proofs.arguments.commands_of.Goals as goal
 
 pub returns-in_default : goal.returns-in_default

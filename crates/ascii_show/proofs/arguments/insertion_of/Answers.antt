@@ -2,7 +2,7 @@ use Rattle.std.proofs.Common.{◌≡◌, ◌∙◌, ap, sym, refl, subst, ◌∷
 use Rattle.std.specs.Prelude.{position}
 use Rattle.ascii.specs.View.{text_of}
 use Rattle.ascii_show.specs.Words.{AreDigitsOf}
-use Rattle.ascii_show.proofs.Insertions.{is_colon, no_insertion, number_of_insertion, at_colon}
+use Rattle.ascii_show.proofs.InsertionLemmas.{is_colon, no_insertion, number_of_insertion, at_colon}
 use Rattle.ascii_show.proofs.arguments.insertion_of.Goals as goal
 
 pub returns-in_err-colon : goal.returns-in_err-colon

@@ -1,5 +1,5 @@
 use Rattle.std.proofs.Common.{refl, arith}
-use Rattle.ascii_show.proofs.Scripts.{no_script}
+use Rattle.ascii_show.proofs.ScriptLemmas.{no_script}
 use Rattle.ascii_show.proofs.arguments.script_of.Goals as goal
 
 pub returns-in_default : goal.returns-in_default

@@ -6,7 +6,7 @@ use Rattle.std.proofs.lemmas.List.{length-map, take-map}
 use Rattle.ascii_base.specs.Case.{upper_image}
 use Rattle.ascii_base.specs.Code.{code_of}
 use Rattle.ascii.specs.View.{text_of}
-use Rattle.ascii.proofs.Drained.{all_from_extends, front_from_extends, ok_from_extends, singles}
+use Rattle.ascii.proofs.ExtendLemmas.{all_from_extends, front_from_extends, ok_from_extends, singles}
 use Rattle.ascii_uses.proofs.iterators.push_upper.Goals as goal
 
 pub returns-clause-ok : goal.returns-clause-ok

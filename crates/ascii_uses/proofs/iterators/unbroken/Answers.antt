@@ -3,7 +3,7 @@ use Rattle.std.proofs.lemmas.Iterator.Consumers.{YieldsList-from_first}
 use Rattle.std.proofs.lemmas.List.Folds.{flat_map-map}
 use Rattle.ascii.specs.Lines.{bodies}
 use Rattle.ascii.specs.View.{text_of}
-use Rattle.ascii.proofs.Drained.{if_ok, pieces_from_drains}
+use Rattle.ascii.proofs.ExtendLemmas.{if_ok, pieces_from_drains}
 use Rattle.ascii_uses.proofs.iterators.unbroken.Goals as goal
 
 pub returns : goal.returns

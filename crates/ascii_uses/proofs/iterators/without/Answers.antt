@@ -1,7 +1,7 @@
 use Rattle.std.proofs.Common.{refl, ◌∙◌}
 use Rattle.std.proofs.lemmas.Iterator.Consumers.{YieldsList-from_first}
 use Rattle.ascii.specs.View.{text_of}
-use Rattle.ascii.proofs.Drained.{if_ok, pieces_from_drains}
+use Rattle.ascii.proofs.ExtendLemmas.{if_ok, pieces_from_drains}
 use Rattle.ascii_uses.proofs.iterators.without.Goals as goal
 
 pub returns : goal.returns

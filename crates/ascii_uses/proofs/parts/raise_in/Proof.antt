@@ -51,14 +51,14 @@ use Rattle.ascii_base.specs.Range.{start_of, end_of}
 use Rattle.ascii_base.specs.contracts.range.AsciiRange as range
 use Rattle.ascii_base.proofs.range.AsciiRange.TheLaws as range_laws
 use Rattle.ascii.specs.Slice.{IsRefused}
-use Rattle.ascii.specs.WritingView.{IsPart, MutSliceOutcome, before_of, mut_text_of, after_of, source_of, lender_of}
+use Rattle.ascii.specs.WritingView.{IsPart, MutSliceOutcome, before_of, mut_text_of, after_of, whole_of, lender_of}
 use Rattle.ascii.specs.declared.ascii_str.AsAsciiStrError.{AsAsciiStrError}
 use Rattle.ascii.specs.declared.ascii_str_mut.AsciiStrMut.{AsciiStrMut}
 use Rattle.ascii.specs.contracts.ascii_str.AsAsciiStrError as E
 use Rattle.ascii.specs.contracts.ascii_str_mut.AsciiStrMut as V
 use Rattle.ascii.proofs.ascii_str.AsAsciiStrError.TheLaws as error_laws
 use Rattle.ascii.proofs.ascii_str_mut.AsciiStrMut.TheLaws as view_laws
-use Rattle.ascii.proofs.Resting.{Bytes, given_up, rested}
+use Rattle.ascii.proofs.RestsLemmas.{Bytes, given_up, rested}
 use Rattle.ascii_uses.proofs.Relent.{Keeps, Again, Back, lends_slice_again, slice_comes_back, ok_view}
 use Rattle.ascii_uses.specs.contracts.parts.raise_in as f
 use Rattle.ascii_uses.proofs.parts.raise_in.Statement.{statement}
@@ -161,7 +161,7 @@ raise_in_spec 𝓤 𝓛 𝓜 𝓡 wired =
     calls_at ! (framed 𝓤 𝓛.H 𝓜 𝓣) J (raises 𝓤 𝓛 𝓜 𝓡 (code.calls-ascii_uses::parts::raised 𝓡.env wired)) z'
     (and_then ! (get ! refl) (no_more !)) (λ v'.
     let Same = λ (u : AsciiStrMut). lender_of u ≡ lender_of w in
-    let Raised = λ (u : AsciiStrMut). source_of u ≡ before_of w ++ map upper_image (mut_text_of w) ++ after_of w in
+    let Raised = λ (u : AsciiStrMut). whole_of u ≡ before_of w ++ map upper_image (mut_text_of w) ++ after_of w in
     use1 𝓛 (later (some (λ (u : AsciiStrMut). (tokens ⊛ ‵ (Row.own_val u (v' ∷ []))) ⊛
     some (λ (ls : (Unit {0} × Unit {0}) × Unit {0}). ‵ (lasts h.ended (α ∷ [], tt) (w, tt) ls) ⊛ raw (fact 𝓤 (Same u)) ⊛ raw (fact 𝓤 (Raised u)))))) (id⊢ 𝓤 _) $
     await ! tt $ pick ! (λ u. split ! $ move ! (1 ∷ []) $ pick ! (λ ls. split ! $ drop ! $ split ! $ heard ! (Same u) (λ same. heard ! (Raised u) (λ made.

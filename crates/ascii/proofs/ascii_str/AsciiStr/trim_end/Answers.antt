@@ -1,5 +1,5 @@
 use Rattle.std.proofs.Common.{rules}
-use Rattle.ascii.proofs.Trims.{TrimsEnd-cut}
+use Rattle.ascii.proofs.TrimLemmas.{TrimsEnd-cut}
 use Rattle.ascii.proofs.ascii_str.AsciiStr.trim_end.Goals as goal
 
 pub returns : goal.returns

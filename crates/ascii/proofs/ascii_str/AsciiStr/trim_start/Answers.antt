@@ -1,4 +1,4 @@
-use Rattle.ascii.proofs.Trims.{TrimsStart-cut}
+use Rattle.ascii.proofs.TrimLemmas.{TrimsStart-cut}
 use Rattle.ascii.proofs.ascii_str.AsciiStr.trim_start.Goals as goal
 
 pub returns : goal.returns

@@ -1,7 +1,7 @@
 use Rattle.std.proofs.Common.{rules}
 use Rattle.std.proofs.lemmas.Result.{err_from_is_err_and}
 use Rattle.ascii.specs.View.{text_of}
-use Rattle.ascii.proofs.Extends.{Extends-refused}
+use Rattle.ascii.proofs.ExtendLemmas.{Extends-refused}
 use Rattle.ascii.proofs.ascii_string.AsciiString.extend_strs.Goals as goal
 
 pub returns-in_err-push_str-clause-extends : goal.returns-in_err-push_str-clause-extends

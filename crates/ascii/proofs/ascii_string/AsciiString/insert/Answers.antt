@@ -1,4 +1,4 @@
-use Rattle.ascii.proofs.Texts.{IsAscii-insert}
+use Rattle.ascii.proofs.TextLemmas.{IsAscii-insert}
 use Rattle.ascii.proofs.ascii_string.AsciiString.insert.Goals as goal
 
 pub invariant_of-self-2 : goal.invariant_of-self-2

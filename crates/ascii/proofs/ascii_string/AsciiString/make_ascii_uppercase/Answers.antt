@@ -2,7 +2,7 @@ use Rattle.std.proofs.Common.{subst, sym}
 use Rattle.std.proofs.lemmas.Str.Ascii.{IsAscii-map}
 use Rattle.std.specs.Str.{IsAscii}
 use Rattle.ascii_base.specs.Case.{upper_image}
-use Rattle.ascii.proofs.Texts.{IsAscii-written, upper_image-below}
+use Rattle.ascii.proofs.TextLemmas.{IsAscii-written, upper_image-below}
 use Rattle.ascii.proofs.ascii_string.AsciiString.make_ascii_uppercase.Goals as goal
 
 pub invariant_of-self : goal.invariant_of-self

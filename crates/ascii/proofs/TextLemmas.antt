@@ -1,0 +1,51 @@
+-- Edits of a text leave codes alone.
+use Rattle.std.proofs.Common.{ℕ, ◌<◌, List, ◌∷◌, ◌++◌, ◌≤◌, length, take, drop, arith, Err, refl, subst, sym}
+use Rattle.std.proofs.lemmas.Bool.Decides.{nat_tests}
+use Rattle.std.specs.Str.{IsAscii}
+use Rattle.std.specs.List.{insert}
+use Rattle.std.proofs.lemmas.Str.{IsAscii-take, IsAscii-drop, IsAscii-append}
+use Rattle.std.proofs.lemmas.Str.Ascii.{IsAscii-cons, IsAscii-nil}
+use Rattle.std.specs.declared.fmt.Error.{Error}
+use Rattle.ascii_base.specs.Bytes.{FirstOther}
+use Rattle.ascii_base.specs.Case.{upper_image, lower_image}
+use Rattle.ascii.specs.Held.{Held, Writes}
+use Rattle.ascii.specs.Text.{insert_text}
+
+-- the upper image of a code is a code
+pub upper_image-below : (n : ℕ) → n < 128 → upper_image n < 128
+upper_image-below n h = grind (arith, nat_tests)
+
+-- the lower image of a code is a code
+pub lower_image-below : (n : ℕ) → n < 128 → lower_image n < 128
+lower_image-below n h = grind (arith, nat_tests)
+
+-- a text with another one inside is a text
+pub IsAscii-insert_text : (t : List ℕ) (i : ℕ) (piece : List ℕ) → IsAscii t → IsAscii piece → IsAscii (insert_text t i piece)
+IsAscii-insert_text t i piece a b =
+    IsAscii-append (take i t) (piece ++ drop i t) (IsAscii-take t i a) (IsAscii-append piece (drop i t) b (IsAscii-drop t i a))
+
+-- a text with a code inside is a text
+pub IsAscii-insert : (t : List ℕ) (i n : ℕ) → IsAscii t → n < 128 → IsAscii (insert t i n)
+IsAscii-insert t i n a b =
+    IsAscii-append (take i t) (n ∷ drop i t) (IsAscii-take t i a) (IsAscii-cons n (drop i t) b (IsAscii-drop t i a))
+
+-- the bytes of a buffer after the front of them is written anew
+pub IsAscii-written : (n : ℕ) (new old : List ℕ) → IsAscii new → IsAscii old → IsAscii (take n (new ++ drop (length new) old))
+IsAscii-written n new old a b =
+    IsAscii-take (new ++ drop (length new) old) n (IsAscii-append new (drop (length new) old) a (IsAscii-drop old (length new) b))
+
+-- a byte past 127 is no text, and no empty one
+pub no_text : (bytes : List ℕ) (i : ℕ) → FirstOther bytes 0 (length bytes) i → ¬ (IsAscii bytes)
+no_text bytes i other ascii = omega (arith, other.other, ascii i)
+
+-- what is no text is refused by writing, and the string stays
+pub Writes-refused : (piece : List ℕ) (held : Held) (e : Error) → length held.text ≤ held.capacity → ¬ (IsAscii piece) → Writes piece held held (Err e)
+Writes-refused piece held e room none = record {
+  ok = tt;
+  ascii = tt;
+  err = refl;
+  succeeds = λ ascii fits. absurd (none ascii);
+  nothing = λ empty. absurd (none (subst IsAscii (sym empty) IsAscii-nil));
+  capacity = omega arith;
+  room = room;
+}

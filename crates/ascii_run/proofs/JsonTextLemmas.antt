@@ -1,0 +1,71 @@
+-- The compact JSON text of a text is what the kit's writer gives, and is itself a text.
+use Rattle.std.proofs.Common.{◌≡◌, ℕ, ◌<◌, List, [], ◌∷◌, ◌++◌, refl, ap, ◌∙◌, sym, arith, append-nil, nat_lt, Bool, true, false, ◌&&◌, zero, suc, ⊎_elim, get_or}
+use Rattle.std.proofs.lemmas.Bool.Decides.{nat_tests}
+use Rattle.std.proofs.lemmas.Str.Ascii.{All-from_ascii, IsAscii-from_all}
+use Rattle.std.proofs.lemmas.List.Elements.{All-append, All-from_get_or, All-cons, All-head, All-nil, All-tail}
+use Rattle.std.proofs.lemmas.Bool.{cases_lt, ltb-true}
+use Rattle.std.proofs.lemmas.List.Sums.{AllPass-from_list_all}
+use Rattle.std.specs.List.{All, AllPass, flat_map, list_all}
+use Rattle.std.specs.Str.{IsAscii}
+use Rattle.json.specs.Print.{escape_byte, print, print_from}
+use Rattle.json.specs.Token.{Token, string}
+use Rattle.ascii_run.specs.JsonText.{json_code, json_text}
+
+-- a test at each number below n
+abbrev all_below : (ℕ → Bool) → ℕ → Bool
+all_below test zero = true
+all_below test (suc n) = test n && all_below test n
+
+both : (a b : Bool) → (a && b) ≡ true → (a ≡ true) × (b ≡ true)
+both true true h = (refl, refl)
+both true false h = absurd cc
+both false b h = absurd cc
+
+all_below-at : (test : ℕ → Bool) (n c : ℕ) → all_below test n ≡ true → c < n → test c ≡ true
+all_below-at test zero c ok low = absurd (omega arith)
+all_below-at test (suc n) c ok low =
+    let parts = both (test n) (all_below test n) ok in
+    ⊎_elim (λ below. all_below-at test n c parts.1 below) (λ high. let e : c ≡ n = omega arith in ap test e ∙ parts.0) (cases_lt c n)
+
+-- a code in a JSON string, as the writer has it
+json_code-is : (n : ℕ) → json_code n ≡ escape_byte n
+unfolding escape_byte
+json_code-is n = grind (arith, nat_tests)
+
+json_codes : (t : List ℕ) → flat_map escape_byte t ≡ flat_map json_code t
+json_codes [] = refl
+json_codes (x ∷ xs) = ap (λ c. c ++ flat_map escape_byte xs) (sym (json_code-is x)) ∙ ap (λ cs. json_code x ++ cs) (json_codes xs)
+
+-- what the writer prints for a text
+pub print-string : (t : List ℕ) → print (string t ∷ []) ≡ json_text t
+unfolding print_from
+print-string t = append-nil (34 ∷ (flat_map escape_byte t ++ 34 ∷ [])) ∙ ap (λ cs. 34 ∷ (cs ++ 34 ∷ [])) (json_codes t)
+
+-- the bytes of a code in a JSON string are codes
+json_code-ascii : (n : ℕ) → n < 128 → All (λ b. b < 128) (json_code n)
+json_code-ascii n low =
+    let test : ℕ → Bool = λ b. nat_lt b 128 in
+    let pass : AllPass test (json_code n) =
+    AllPass-from_list_all test (json_code n) (all_below-at (λ c. list_all test (json_code c)) 128 n refl low) in
+    All-from_get_or (λ b. b < 128) (json_code n) 0 (λ k inside. ltb-true (get_or (json_code n) k 0) 128 (pass k 0 inside))
+
+json_codes-ascii : (t : List ℕ) → All (λ b. b < 128) t → All (λ b. b < 128) (flat_map json_code t)
+json_codes-ascii [] h = All-nil (λ b. b < 128)
+json_codes-ascii (x ∷ xs) h =
+    All-append (λ b. b < 128) (json_code x) (flat_map json_code xs)
+    (json_code-ascii x (All-head (λ b. b < 128) x xs h)) (json_codes-ascii xs (All-tail (λ b. b < 128) x xs h))
+
+-- the compact JSON text of a text is a text
+pub IsAscii-json_text : (t : List ℕ) → IsAscii t → IsAscii (json_text t)
+IsAscii-json_text t h =
+    let Low : ℕ → Type 0 = λ b. b < 128 in
+    let quote : 34 < 128 = omega arith in
+    let end : All Low (34 ∷ []) = All-cons Low 34 [] quote (All-nil Low) in
+    IsAscii-from_all (json_text t)
+    (All-cons Low 34 (flat_map json_code t ++ 34 ∷ []) quote (All-append Low (flat_map json_code t) (34 ∷ []) (json_codes-ascii t (All-from_ascii t h)) end))
+
+-- what the writer holds after one string
+pub printed : (items before : List ℕ) (tokens old : List Token) (t text : List ℕ) → items ≡ before ++ print tokens → before ≡ []
+    → tokens ≡ old ++ string t ∷ [] → old ≡ [] → t ≡ text → items ≡ json_text text
+printed items before tokens old t text is none held empty same =
+    is ∙ (ap (λ b. b ++ print tokens) none ∙ (ap print (held ∙ ap (λ o. o ++ string t ∷ []) empty) ∙ (print-string t ∙ ap json_text same)))

@@ -1,0 +1,152 @@
+-- Runs of commands, one step after another.
+use Rattle.std.proofs.Common.{◌≡◌, ◌≢◌, ℕ, ◌<◌, ◌≤◌, zero, suc, List, [], ◌∷◌, ◌++◌, ◌∙◌, ap, map, refl, subst, sym, take, inl, inr, arith}
+use Rattle.std.proofs.lemmas.List.Elements.{All-cons, All-head, All-nil, All-tail}
+use Rattle.std.proofs.lemmas.Option.{none-some}
+use Rattle.std.specs.Prelude.{IfSome, Some, slice_get, unwrap_or}
+use Rattle.ascii.specs.Held.{Held}
+use Rattle.ascii_run.specs.declared.commands.Cmd.{Cmd}
+use Rattle.ascii_run.specs.declared.commands.Cmd.TheVariants.{Push, PushStr, Insert, InsertStr, Remove, Pop, Truncate, Clear, Set, Upper, Lower, Reserve, Shrink, Len, First, Last, Get, Copy, EqIgnoreCase}
+use Rattle.ascii_run.specs.declared.faults.EngineFault.{EngineFault}
+use Rattle.ascii_run.specs.declared.faults.EngineFault.TheVariants.{Position, Memory}
+use Rattle.ascii_run.specs.declared.commands.Reply.{Reply}
+use Rattle.ascii_run.specs.Step.{LacksRoom, MayRefuse, Said, Step, after, answer, no_memory, said}
+use Rattle.ascii_run.specs.Run.{HasNoFault, IsFault, IsFaultPlace, IsNoFault, IsPlainRun, IsServed, Run, WantsNone, plain_replies, plain_text}
+use Rattle.ascii_run.specs.Edit.{StopsAt, StopsEdits}
+
+-- a run goes on by one step
+pub run_more : {A : Type 0} (sure : ℕ) (t : List ℕ) (cmds : List Cmd) (replies : List (Reply A)) (mid : List ℕ) (cmd : Cmd) (r : Reply A) (t2 : List ℕ)
+    → Run sure t cmds replies mid → Step sure mid cmd (said r) t2
+    → Run sure t (cmds ++ cmd ∷ []) (replies ++ r ∷ []) t2
+run_more {A} sure t [] [] mid cmd r t2 h s =
+    let P : List ℕ → Type 0 = λ x. Step sure x cmd (said r) t2 in (t2, subst P h s, refl)
+run_more {A} sure t [] (q ∷ replies) mid cmd r t2 h s = absurd h
+run_more {A} sure t (c ∷ cmds) [] mid cmd r t2 h s = absurd h
+run_more {A} sure t (c ∷ cmds) (q ∷ replies) mid cmd r t2 h s =
+    (h.0, h.1, run_more sure h.0 cmds replies mid cmd r t2 h.2 s)
+
+-- a step that is not want of memory answers and edits
+pub step_plain : (sure : ℕ) (t : List ℕ) (cmd : Cmd) (r : Said) (t2 : List ℕ)
+    → Step sure t cmd r t2 → r ≢ no_memory → (r ≡ answer t cmd) × (t2 ≡ after t cmd)
+step_plain sure t cmd r t2 (inl plain) some = plain
+step_plain sure t cmd r t2 (inr wants) some = absurd (some wants.0)
+
+-- a run without want of memory is the plain run
+pub run_plain : {A : Type 0} (sure : ℕ) (t : List ℕ) (cmds : List Cmd) (replies : List (Reply A)) (t2 : List ℕ)
+    → Run sure t cmds replies t2 → WantsNone replies → IsPlainRun t cmds replies t2
+run_plain {A} sure t [] [] t2 h some = (refl, h)
+run_plain {A} sure t [] (r ∷ replies) t2 h some = absurd h
+run_plain {A} sure t (cmd ∷ cmds) [] t2 h some = absurd h
+run_plain {A} sure t (cmd ∷ cmds) (r ∷ replies) t2 h some =
+    let step = step_plain sure t cmd (said r) h.0 h.1 (All-head IsServed r replies some) in
+    let rest = run_plain sure h.0 cmds replies t2 h.2 (All-tail IsServed r replies some) in (
+      rw (step.0, rest.0, step.1) refl,
+      rw (rest.1, step.1) refl,
+    )
+
+-- up to the first want of memory the replies of a run are those of the plain run
+pub run_front : {A : Type 0} (sure : ℕ) (t : List ℕ) (cmds : List Cmd) (replies : List (Reply A)) (t2 : List ℕ) (k : ℕ)
+    → Run sure t cmds replies t2 → WantsNone (take k replies)
+    → map said (take k replies) ≡ take k (plain_replies t cmds)
+run_front {A} sure t cmds replies t2 zero h some = refl
+run_front {A} sure t [] [] t2 (suc k) h some = refl
+run_front {A} sure t [] (r ∷ replies) t2 (suc k) h some = absurd h
+run_front {A} sure t (cmd ∷ cmds) [] t2 (suc k) h some = absurd h
+run_front {A} sure t (cmd ∷ cmds) (r ∷ replies) t2 (suc k) h some =
+    let step = step_plain sure t cmd (said r) h.0 h.1 (All-head IsServed r (take k replies) some) in
+    let rest = run_front sure h.0 cmds replies t2 k h.2 (All-tail IsServed r (take k replies) some) in
+    rw (step.0, rest, step.1) refl
+
+-- memory that may be wanting past a sure length may be wanting past a smaller one
+may_refuse_less : (sure less : ℕ) (t : List ℕ) (cmd : Cmd) → less ≤ sure → cmd ≢ Shrink
+    → MayRefuse sure t cmd → MayRefuse less t cmd
+may_refuse_less sure less t (Push ch) le ne h = (h.0, omega (arith, h.1))
+may_refuse_less sure less t (PushStr view) le ne h = (h.0, omega (arith, h.1))
+may_refuse_less sure less t (Insert i ch) le ne h = (h.0, (h.1.0, omega (arith, h.1.1)))
+may_refuse_less sure less t (InsertStr i view) le ne h = (h.0, (h.1.0, omega (arith, h.1.1)))
+may_refuse_less sure less t (Reserve n) le ne h = (h.0, (h.1.0, omega (arith, h.1.1)))
+may_refuse_less sure less t Shrink le ne h = absurd (ne refl)
+may_refuse_less sure less t other le ne h = h
+
+-- where room is missing for a command that gives none back, the capacity is a sure length
+lacks_room : (string : Held) (cmd : Cmd) → cmd ≢ Shrink → LacksRoom string cmd → MayRefuse string.capacity string.text cmd
+lacks_room string Shrink ne h = absurd (ne refl)
+lacks_room string other ne h = h
+
+-- up to the capacity every length is sure
+pub step_within : (sure : ℕ) (string : Held) (cmd : Cmd) (r : Said) (t2 : List ℕ)
+    → Step 0 string.text cmd r t2 → (r ≡ no_memory → LacksRoom string cmd)
+    → sure ≤ string.capacity → cmd ≢ Shrink → Step sure string.text cmd r t2
+step_within sure string cmd r t2 (inl plain) lacks le ne = inl plain
+step_within sure string cmd r t2 (inr wants) lacks le ne =
+    inr (wants.0, may_refuse_less string.capacity sure string.text cmd le ne (lacks_room string cmd ne (lacks wants.0)), wants.2)
+
+-- a refusal is not want of memory
+fault_served : (r : Said) → IsFault r → r ≢ no_memory
+fault_served r fault e = subst IsFault e fault
+
+-- a step whose reply refuses has the plain reply
+pub step_fault : (t : List ℕ) (cmd : Cmd) (r : Said) (t2 : List ℕ)
+    → Step 0 t cmd r t2 → IsFault r → IsFault (answer t cmd)
+step_fault t cmd r t2 step fault =
+    subst IsFault ((step_plain 0 t cmd r t2 step (fault_served r fault)).0) fault
+
+-- the plain text behind one command more
+pub plain_text_more : (t : List ℕ) (cmds : List Cmd) (cmd : Cmd)
+    → plain_text t (cmds ++ cmd ∷ []) ≡ after (plain_text t cmds) cmd
+plain_text_more t [] cmd = refl
+plain_text_more t (c ∷ cmds) cmd = plain_text_more (after t c) cmds cmd
+
+-- one command more that is not refused
+pub no_fault_more : (t : List ℕ) (cmds : List Cmd) (cmd : Cmd)
+    → HasNoFault t cmds → IsNoFault (answer (plain_text t cmds) cmd) → HasNoFault t (cmds ++ cmd ∷ [])
+no_fault_more t [] cmd none served = All-cons IsNoFault (answer t cmd) [] served (All-nil IsNoFault)
+no_fault_more t (c ∷ cmds) cmd none served =
+    All-cons IsNoFault (answer t c) (plain_replies (after t c) (cmds ++ cmd ∷ []))
+    (All-head IsNoFault (answer t c) (plain_replies (after t c) cmds) none)
+    (no_fault_more (after t c) cmds cmd (All-tail IsNoFault (answer t c) (plain_replies (after t c) cmds) none) served)
+
+-- no reply before the fault place is a refusal, with one more reply in front
+first_later : (t : List ℕ) (c : Cmd) (cmds : List Cmd) (k : ℕ) → IsNoFault (answer t c)
+    → ((i : ℕ) → i < k → IfSome (slice_get (plain_replies (after t c) cmds) i) IsNoFault)
+    → (i : ℕ) → i < suc k → IfSome (slice_get (plain_replies t (c ∷ cmds)) i) IsNoFault
+first_later t c cmds k head later zero lt = head
+first_later t c cmds k head later (suc i) lt = later i (omega arith)
+
+-- the first command that is refused is at the fault place
+pub fault_here : (t : List ℕ) (cmds : List Cmd) (k : ℕ) (cmd : Cmd)
+    → slice_get cmds k ≡ Some cmd → HasNoFault t (take k cmds)
+    → IsFault (answer (plain_text t (take k cmds)) cmd) → IsFaultPlace t cmds k
+fault_here t [] k cmd at none fault = absurd (none-some cmd at)
+fault_here t (c ∷ cmds) zero cmd at none fault = record {
+  fault = let P : Cmd → Type 0 = λ x. IsFault (answer t x) in subst P (sym (ap (λ found. unwrap_or found cmd) at)) fault;
+  first = λ i lt. let no : ⊥ = omega arith in absurd no;
+}
+fault_here t (c ∷ cmds) (suc k) cmd at none fault =
+    let front = plain_replies (after t c) (take k cmds) in
+    let later = fault_here (after t c) cmds k cmd at (All-tail IsNoFault (answer t c) front none) fault in record {
+      fault = later.fault;
+      first = first_later t c cmds k (All-head IsNoFault (answer t c) front none) later.first;
+    }
+
+-- edits that stop at a command tell why
+pub edits_stop : (t : List ℕ) (cmds : List Cmd) (k : ℕ) (cmd : Cmd) (mid : List ℕ) (r : Said) (t2 : List ℕ) (fault : EngineFault)
+    → slice_get cmds k ≡ Some cmd → HasNoFault t (take k cmds) → mid ≡ plain_text t (take k cmds)
+    → Step 0 mid cmd r t2 → StopsAt k r fault → StopsEdits t cmds fault
+edits_stop t cmds k cmd mid r t2 (Position i) at none text step stops =
+    let P : List ℕ → Type 0 = λ x. IsFault (answer x cmd) in
+    let here = fault_here t cmds k cmd at none (subst P text (step_fault mid cmd r t2 step stops.1)) in
+    subst (IsFaultPlace t cmds) (sym stops.0) here
+edits_stop t cmds k cmd mid r t2 Memory at none text step stops = tt
+edits_stop t cmds k cmd mid r t2 other at none text step stops = stops
+
+-- edits that go on behind a command have its plain text
+pub edit_more : (t : List ℕ) (front : List Cmd) (mid : List ℕ) (cmd : Cmd) (r : Said) (t2 : List ℕ)
+    → HasNoFault t front → mid ≡ plain_text t front → Step 0 mid cmd r t2 → IsNoFault r → r ≢ no_memory
+    → HasNoFault t (front ++ cmd ∷ []) × (t2 ≡ plain_text t (front ++ cmd ∷ []))
+edit_more t front mid cmd r t2 none text step served some =
+    let plain = step_plain 0 mid cmd r t2 step some in
+    let says : r ≡ answer (plain_text t front) cmd = plain.0 ∙ ap (λ x. answer x cmd) text in
+    let leaves : t2 ≡ after (plain_text t front) cmd = plain.1 ∙ ap (λ x. after x cmd) text in (
+      no_fault_more t front cmd none (subst IsNoFault says served),
+      leaves ∙ sym (plain_text_more t front cmd),
+    )

@@ -1,0 +1,43 @@
+//! Why a run from bytes to bytes stopped.
+
+ghost use Rattle.std.specs.Prelude.{◌≡◌};
+
+use ascii::AsAsciiStrError;
+use std::alloc::AllocError;
+
+/// Why a run stopped.
+#[derive(Clone, Copy, PartialEq, Eq, Debug)]
+pub enum EngineFault {
+    /// The byte of the input at this position, counted from 0, is the first over 127.
+    NotAscii(usize),
+    /// The command at this place, counted from 0, is the first that is refused for its position,
+    /// its range or its number.
+    Position(usize),
+    /// A growth was refused.
+    Memory,
+    /// The reader failed.
+    Read,
+    /// The writer failed, or took no byte.
+    Write,
+}
+
+impl From<AllocError> for EngineFault {
+    ghost use Rattle.ascii_run.specs.declared.faults.EngineFault.TheVariants.{Memory};
+
+    ghost from_gives = { λ _ fault. fault ≡ Memory };
+
+    fn from(_: AllocError) -> EngineFault {
+        EngineFault::Memory
+    }
+}
+
+impl From<AsAsciiStrError> for EngineFault {
+    ghost use Rattle.ascii.specs.View.{position_of};
+    ghost use Rattle.ascii_run.specs.declared.faults.EngineFault.TheVariants.{NotAscii};
+
+    ghost from_gives = { λ e fault. fault ≡ NotAscii (position_of e) };
+
+    fn from(e: AsAsciiStrError) -> EngineFault {
+        EngineFault::NotAscii(e.valid_up_to())
+    }
+}

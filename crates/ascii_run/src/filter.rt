@@ -1,0 +1,73 @@
+//! A filter from bytes to bytes.
+
+ghost use Rattle.std.specs.Prelude.{◌≡◌, ◌⊎◌, ◌<◌, IfErr, IfOk, OnOk};
+ghost use Rattle.std.specs.Io.KnownBytes.{Appends};
+ghost use Rattle.ascii_run.specs.Engine.{AppendsFront, ReadsAll, Tells, read_failures, write_failures};
+
+use crate::devices::{Sink, Source};
+use crate::faults::EngineFault;
+use crate::modes::Mode;
+use crate::outputs::output_of;
+use ascii::bytes;
+use std::alloc::Allocator;
+
+/// Reads the input to its end, and then writes the output of the mode and flushes it. All growth is
+/// made before the first byte goes out. After `NotAscii`, `Position`, `Memory` and `Read` nothing was
+/// written; after `Write` a beginning of the output went out.
+pub fn engine<S: Source, K: Sink, A: Allocator + Copy>(
+    alloc: A,
+    mode: Mode<'_>,
+    reader: &mut S,
+    writer: &mut K,
+) -> Result<(), EngineFault>
+    requires reads { S.failures reader.old < u64.MAX }
+    requires writes { K.failures writer.old < u64.MAX }
+    ensures tells { Tells mode.entry result (S.rest reader.old) (S.rest reader.new) (K.taken writer.old) (K.taken writer.new) }
+    ensures read { S.failures reader.new ≡ read_failures (S.failures reader.old) result }
+    ensures write { K.failures writer.new ≡ write_failures (K.failures writer.old) result }
+{
+    let input = read_all(alloc, reader)?;
+    let text = bytes::as_ascii_str(&input)?;
+    let output = output_of(alloc, mode, text)?;
+    write_all(writer, output.as_ascii_str().as_bytes())
+}
+
+/// How many bytes one read asks for.
+const CHUNK: usize = 8192;
+
+/// All bytes that the reader has left.
+fn read_all<S: Source, A: Allocator>(alloc: A, reader: &mut S) -> Result<Vec<u8, A>, EngineFault>
+    requires { S.failures reader.old < u64.MAX }
+    ensures ok { IfOk result (λ input. ReadsAll (S.rest reader.old) (S.rest reader.new) input.items) }
+    ensures err { IfErr result (λ fault. (fault ≡ EngineFault.Memory) ⊎ (fault ≡ EngineFault.Read)) }
+    ensures count { S.failures reader.new ≡ read_failures (S.failures reader.old) result }
+{
+    let mut input = Vec::new(alloc);
+    let mut chunk = [0; CHUNK];
+    'reads: loop {
+        let Ok(n) = reader.read(&mut chunk) else {
+            return Err(EngineFault::Read);
+        };
+        if n == 0 {
+            return Ok(input);
+        }
+        input.extend_from_slice(&chunk[..n])?;
+    }
+}
+
+/// Writes all of the bytes, in as many writes as the writer takes, and flushes.
+fn write_all<K: Sink>(writer: &mut K, bytes: &[u8]) -> Result<(), EngineFault>
+    requires { K.failures writer.old < u64.MAX }
+    ensures ok { OnOk result (Appends (K.taken writer.old) (K.taken writer.new) bytes.now) }
+    ensures err { IfErr result (λ fault. (fault ≡ EngineFault.Write) × AppendsFront (K.taken writer.old) (K.taken writer.new) bytes.now) }
+    ensures count { K.failures writer.new ≡ write_failures (K.failures writer.old) result }
+{
+    let mut rest = bytes;
+    'writes: while !rest.is_empty() {
+        let Ok(n) = writer.write(rest) else {
+            return Err(EngineFault::Write);
+        };
+        rest = &rest[n..];
+    }
+    writer.flush().map_err(|_| EngineFault::Write)
+}

@@ -1,0 +1,4 @@
+//! Runs of commands, and the engine over devices.
+
+mod commands;
+mod engine;

@@ -1,0 +1,235 @@
+//! The replies of commands, and edits that stop.
+
+use crate::commands::edit;
+use crate::{Cmd, EngineFault, plain_run, run, runs_agree};
+use ascii::{AsciiChar, AsciiRange, AsciiStr, text};
+use std::alloc::{AllocError, Global};
+use std::test::Fail;
+
+/// The replies to the commands, each with `; ` behind it, and then the text at the end.
+fn ran(alloc: Global, start: &str, cmds: &[Cmd<'_>]) -> Result<String, AllocError> {
+    let mut buf = view(start).to_ascii_string(alloc)?;
+    let replies = run(alloc, &mut buf, cmds)?;
+    plain_run(cmds, &replies);
+    runs_agree(cmds, &replies, &replies);
+    let mut shown = String::new(alloc);
+    for reply in &replies {
+        shown.push_str(format!(in alloc; "{reply:?}; ")?.as_str())?;
+    }
+    shown.push_str(buf.as_ascii_str().as_str())?;
+    Ok(shown)
+}
+
+/// The view of a text, which is empty where the text is not ASCII.
+fn view(source: &str) -> AsciiStr<'_> {
+    text::as_ascii_str(source).unwrap_or_default()
+}
+
+#[test]
+fn one_of_each_reply(rt: HostRuntime) -> Result<(), Fail> {
+    let cmds = [
+        Cmd::Insert(4, AsciiChar::x),
+        Cmd::Insert(3, AsciiChar::x),
+        Cmd::Remove(4),
+        Cmd::Remove(0),
+        Cmd::Set(3, AsciiChar::z),
+        Cmd::Truncate(1),
+        Cmd::Upper,
+        Cmd::EqIgnoreCase(view("b")),
+        Cmd::Copy(AsciiRange::From(2)),
+        Cmd::Copy(AsciiRange::Inclusive(1, 0)),
+        Cmd::Reserve(usize::MAX),
+        Cmd::Len,
+        Cmd::Pop,
+        Cmd::Pop,
+    ];
+    let wanted = "BadPosition; Done; BadPosition; Char(Some('a')); BadPosition; Done; Done; \
+        Truth(true); Refused(AsAsciiStrError(1)); Text(\"\"); TooMany; Number(1); \
+        Char(Some('B')); Char(None); ";
+    assert_eq!(rt; ran(rt.alloc(), "abc", &cmds)?.as_str(), wanted);
+    assert_eq!(rt; ran(rt.alloc(), "abc", &[])?.as_str(), "abc");
+    Ok(())
+}
+
+#[test]
+fn edits_by_position(rt: HostRuntime) -> Result<(), Fail> {
+    let positions = [0, 2, 3, 4, usize::MAX];
+    let wanted = [
+        [
+            "Done; xabc",
+            "Done; abxc",
+            "Done; abcx",
+            "BadPosition; abc",
+            "BadPosition; abc",
+        ],
+        [
+            "Done; deabc",
+            "Done; abdec",
+            "Done; abcde",
+            "BadPosition; abc",
+            "BadPosition; abc",
+        ],
+        [
+            "Char(Some('a')); bc",
+            "Char(Some('c')); ab",
+            "BadPosition; abc",
+            "BadPosition; abc",
+            "BadPosition; abc",
+        ],
+        [
+            "Done; xbc",
+            "Done; abx",
+            "BadPosition; abc",
+            "BadPosition; abc",
+            "BadPosition; abc",
+        ],
+        ["Done; ", "Done; ab", "Done; abc", "Done; abc", "Done; abc"],
+        [
+            "Char(Some('a')); abc",
+            "Char(Some('c')); abc",
+            "Char(None); abc",
+            "Char(None); abc",
+            "Char(None); abc",
+        ],
+        [
+            "Done; abc",
+            "Done; abc",
+            "Done; abc",
+            "Done; abc",
+            "TooMany; abc",
+        ],
+    ];
+    for (i, n) in positions.iter().enumerate() {
+        for (cmd, want) in by_position(*n).iter().zip(wanted.iter()) {
+            let shown = ran(rt.alloc(), "abc", &[*cmd])?;
+            assert_eq!(rt; shown.as_str(), want[i], "at {n}");
+        }
+    }
+    Ok(())
+}
+
+#[test]
+fn edits_of_the_empty_text(rt: HostRuntime) -> Result<(), Fail> {
+    let positions = [0, 1, usize::MAX];
+    let wanted = [
+        ["Done; x", "BadPosition; ", "BadPosition; "],
+        ["Done; de", "BadPosition; ", "BadPosition; "],
+        ["BadPosition; ", "BadPosition; ", "BadPosition; "],
+        ["BadPosition; ", "BadPosition; ", "BadPosition; "],
+        ["Done; ", "Done; ", "Done; "],
+        ["Char(None); ", "Char(None); ", "Char(None); "],
+        ["Done; ", "Done; ", "NoMemory; "],
+    ];
+    for (i, n) in positions.iter().enumerate() {
+        for (cmd, want) in by_position(*n).iter().zip(wanted.iter()) {
+            let shown = ran(rt.alloc(), "", &[*cmd])?;
+            assert_eq!(rt; shown.as_str(), want[i], "at {n}");
+        }
+    }
+    Ok(())
+}
+
+/// The commands that take a position or a number.
+fn by_position(n: usize) -> [Cmd<'static>; 7] {
+    [
+        Cmd::Insert(n, AsciiChar::x),
+        Cmd::InsertStr(n, view("de")),
+        Cmd::Remove(n),
+        Cmd::Set(n, AsciiChar::x),
+        Cmd::Truncate(n),
+        Cmd::Get(n),
+        Cmd::Reserve(n),
+    ]
+}
+
+#[test]
+fn other_commands(rt: HostRuntime) -> Result<(), Fail> {
+    let rows = [
+        (Cmd::Push(AsciiChar::x), "Done; aBcx", "Done; x"),
+        (Cmd::PushStr(view("de")), "Done; aBcde", "Done; de"),
+        (Cmd::PushStr(view("")), "Done; aBc", "Done; "),
+        (Cmd::InsertStr(0, view("")), "Done; aBc", "Done; "),
+        (Cmd::Pop, "Char(Some('c')); aB", "Char(None); "),
+        (Cmd::Clear, "Done; ", "Done; "),
+        (Cmd::Upper, "Done; ABC", "Done; "),
+        (Cmd::Lower, "Done; abc", "Done; "),
+        (Cmd::Reserve(usize::MAX - 2), "TooMany; aBc", "NoMemory; "),
+        (Cmd::Reserve(usize::MAX - 3), "NoMemory; aBc", "NoMemory; "),
+        (Cmd::Shrink, "Done; aBc", "Done; "),
+        (Cmd::Len, "Number(3); aBc", "Number(0); "),
+        (Cmd::First, "Char(Some('a')); aBc", "Char(None); "),
+        (Cmd::Last, "Char(Some('c')); aBc", "Char(None); "),
+        (
+            Cmd::EqIgnoreCase(view("AbC")),
+            "Truth(true); aBc",
+            "Truth(false); ",
+        ),
+        (
+            Cmd::EqIgnoreCase(view("abd")),
+            "Truth(false); aBc",
+            "Truth(false); ",
+        ),
+        (
+            Cmd::EqIgnoreCase(view("")),
+            "Truth(false); aBc",
+            "Truth(true); ",
+        ),
+    ];
+    for (cmd, want, want_empty) in rows {
+        assert_eq!(rt; ran(rt.alloc(), "aBc", &[cmd])?.as_str(), want);
+        assert_eq!(rt; ran(rt.alloc(), "", &[cmd])?.as_str(), want_empty);
+    }
+    Ok(())
+}
+
+#[test]
+fn copies(rt: HostRuntime) -> Result<(), Fail> {
+    let refused = "Refused(AsAsciiStrError(3)); abc";
+    let rows = [
+        (AsciiRange::Full, "Text(\"abc\"); abc"),
+        (AsciiRange::From(0), "Text(\"abc\"); abc"),
+        (AsciiRange::From(3), "Text(\"\"); abc"),
+        (AsciiRange::From(4), refused),
+        (AsciiRange::From(usize::MAX), refused),
+        (AsciiRange::To(0), "Text(\"\"); abc"),
+        (AsciiRange::To(3), "Text(\"abc\"); abc"),
+        (AsciiRange::To(4), refused),
+        (AsciiRange::To(usize::MAX), refused),
+        (AsciiRange::Range(1, 2), "Text(\"b\"); abc"),
+        (AsciiRange::Range(3, 3), "Text(\"\"); abc"),
+        (AsciiRange::Range(3, 0), refused),
+        (AsciiRange::Range(4, 4), refused),
+        (AsciiRange::Inclusive(0, 2), "Text(\"abc\"); abc"),
+        (AsciiRange::Inclusive(3, 2), "Text(\"\"); abc"),
+        (AsciiRange::Inclusive(0, 3), refused),
+        (AsciiRange::Inclusive(0, usize::MAX), refused),
+        (AsciiRange::ToInclusive(0), "Text(\"a\"); abc"),
+        (AsciiRange::ToInclusive(2), "Text(\"abc\"); abc"),
+        (AsciiRange::ToInclusive(3), refused),
+        (AsciiRange::ToInclusive(usize::MAX), refused),
+    ];
+    for (range, want) in rows {
+        assert_eq!(rt; ran(rt.alloc(), "abc", &[Cmd::Copy(range)])?.as_str(), want);
+    }
+    Ok(())
+}
+
+#[test]
+fn edits(rt: HostRuntime) -> Result<(), Fail> {
+    let mut buf = view("abc").to_ascii_string(rt.alloc())?;
+    let stops = [Cmd::Pop, Cmd::Remove(2), Cmd::Set(9, AsciiChar::x)];
+    assert_eq!(rt;
+        edit(rt.alloc(), &mut buf, &stops),
+        Err(EngineFault::Position(1))
+    );
+    let wants = [Cmd::Reserve(usize::MAX - 2), Cmd::Remove(2)];
+    assert_eq!(rt;
+        edit(rt.alloc(), &mut buf, &wants),
+        Err(EngineFault::Memory)
+    );
+    let goes_on = [Cmd::Push(AsciiChar::x), Cmd::Truncate(9), Cmd::Upper];
+    assert_eq!(rt; edit(rt.alloc(), &mut buf, &goes_on), Ok(()));
+    assert_eq!(rt; buf.as_ascii_str().as_str(), "ABX");
+    assert_eq!(rt; edit(rt.alloc(), &mut buf, &[]), Ok(()));
+    Ok(())
+}

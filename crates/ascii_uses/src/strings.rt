@@ -1,0 +1,92 @@
+//! Strings that are written again in the room that they have.
+
+ghost use Rattle.std.specs.Prelude.{◌≡◌, ◌+◌, ◌-◌, ◌<◌, ◌++◌, ◌∷◌, [], IsOk, IsOkAnd, codes, length, remove, slice_index, string_bytes, take};
+ghost use Rattle.ascii_base.specs.Code.{code_of};
+
+use ascii::{AsciiChar, AsciiString};
+use std::alloc::AllocError;
+use std::fmt::{self, Write};
+
+/// Puts a character in the place of the last one of a text that has one. It is never refused.
+pub fn replace_last(string: &mut AsciiString, ch: AsciiChar) -> Result<(), AllocError>
+    requires { 0 < length string.old.text }
+    ensures ok { IsOk result }
+    ensures text { string.new.text ≡ take (length string.old.text - 1) string.old.text ++ code_of ch ∷ [] }
+{
+    string.pop();
+    string.push(ch)
+}
+
+/// Moves the character at a position from 0 to the end of the text. It is never refused.
+pub fn move_to_the_end(string: &mut AsciiString, idx: usize) -> Result<(), AllocError>
+    requires { idx < length string.old.text }
+    ensures ok { IsOk result }
+    ensures text { string.new.text ≡ remove string.old.text idx ++ slice_index string.old.text idx ∷ [] }
+{
+    let ch = string.remove(idx);
+    string.push(ch)
+}
+
+/// Cuts a text that is longer than `n` down to `n` characters and a mark behind them. It is never
+/// refused.
+pub fn cut_with(string: &mut AsciiString, n: usize, mark: AsciiChar) -> Result<(), AllocError>
+    requires { n < length string.old.text }
+    ensures ok { IsOk result }
+    ensures text { string.new.text ≡ take n string.old.text ++ code_of mark ∷ [] }
+{
+    string.truncate(n);
+    string.push(mark)
+}
+
+/// Begins a text that is not empty anew with one character. It is never refused.
+pub fn begin_anew(string: &mut AsciiString, ch: AsciiChar) -> Result<(), AllocError>
+    requires { 0 < length string.old.text }
+    ensures ok { IsOk result }
+    ensures text { string.new.text ≡ code_of ch ∷ [] }
+{
+    string.clear();
+    string.push(ch)
+}
+
+/// Writes nothing, which is never refused.
+pub fn write_nothing(string: &mut AsciiString) -> fmt::Result
+    ensures ok { IsOk result }
+    ensures text { string.new.text ≡ string.old.text }
+{
+    string.write_str("")
+}
+
+/// The number of characters that can be pushed before the string has to grow.
+pub fn spare_room(string: &AsciiString) -> usize
+    ensures { length string.now.text + result ≡ string.now.capacity }
+{
+    string.capacity() - string.len()
+}
+
+/// The bytes of a text with one more in the room that the string had spare. It is never refused.
+pub fn ended_bytes(string: AsciiString, end: u8) -> Result<Vec<u8>, AllocError>
+    requires { length string.text < string.capacity }
+    ensures { IsOkAnd result (λ bytes. bytes.items ≡ string.text ++ end ∷ []) }
+{
+    let mut bytes = Vec::from(string);
+    bytes.push(end)?;
+    Ok(bytes)
+}
+
+/// A text as a `String` with one character more in the room that the string had spare. It is never
+/// refused.
+pub fn ended_text(string: AsciiString) -> Result<String, AllocError>
+    requires { length string.text < string.capacity }
+    ensures { IsOkAnd result (λ text. string_bytes text ≡ string.text ++ codes ".") }
+{
+    let mut text = String::from(string);
+    text.push_str(".")?;
+    Ok(text)
+}
+
+/// The character that a table begins with where nothing was put in: code 0.
+pub fn blank() -> AsciiChar
+    ensures { code_of result ≡ 0 }
+{
+    AsciiChar::default()
+}
