@@ -25,7 +25,7 @@ FirstOther-shift bytes s e i a b first =
     record {
       at_least = omega arith;
       inside = omega arith;
-      other = let P : ℕ → Type 0 = λ n. 128 ≤ n in subst P (slice_range-at bytes s e i below) first.other;
+      other = let P : ℕ → Type 0 = λ n. ¬ (n < 128) in subst P (slice_range-at bytes s e i below) first.other;
       least = λ k from to.
           let near : k - s < i = omega arith in
           let within : k - s < e - s = omega arith in

@@ -6,7 +6,7 @@ use Rattle.std.proofs.lemmas.Grind.{common_steps}
 use Rattle.std.proofs.lemmas.List.{take-append-drop, get_or-take, get_or-drop}
 use Rattle.std.proofs.lemmas.List.Elements.{All-from_get_or}
 use Rattle.std.proofs.lemmas.Option.{slice_get-get_or}
-use Rattle.ascii_base.specs.Bytes.{FirstNotWhitespace, LastNotWhitespace}
+use Rattle.ascii_base.specs.Bytes.{IsFirstNot, IsLastNot}
 use Rattle.ascii_base.specs.Class.{IsWhitespace}
 use Rattle.ascii.specs.Trim.{TrimsEnd, TrimsStart}
 
@@ -18,7 +18,7 @@ bounded_at t i x inside is other =
     subst P (sym (slice_get-get_or t i 0 inside)) (subst Q (sym is) other)
 
 -- a trim of the front
-pub TrimsStart-cut : (t : List ℕ) (r : Option ℕ) (start : ℕ) → MatchOption r (All IsWhitespace t) (FirstNotWhitespace t)
+pub TrimsStart-cut : (t : List ℕ) (r : Option ℕ) (start : ℕ) → MatchOption r (All IsWhitespace t) (IsFirstNot IsWhitespace t 0 (length t))
     → start ≡ unwrap_or r (length t) → TrimsStart t (take (length t - start) (drop start t))
 TrimsStart-cut t None start white is = record {
   cut = t;
@@ -38,12 +38,12 @@ TrimsStart-cut t (Some i) start first is =
       white = All-from_get_or IsWhitespace (take i t) 0 (λ k h.
           let short : k < i = grind (arith, common_steps) in
           let P : ℕ → Type 0 = λ c. IsWhitespace c in
-          subst P (sym (get_or-take i t k 0 short)) (first.least k short));
+          subst P (sym (get_or-take i t k 0 short)) (first.least k (omega arith) short));
       bounded = bounded_at m 0 (get_or t i 0) long at first.other;
     }
 
 -- a trim of the back
-pub TrimsEnd-cut : (t : List ℕ) (r : Option ℕ) (end : ℕ) → MatchOption r (All IsWhitespace t) (LastNotWhitespace t)
+pub TrimsEnd-cut : (t : List ℕ) (r : Option ℕ) (end : ℕ) → MatchOption r (All IsWhitespace t) (IsLastNot IsWhitespace t)
     → end ≡ option_map_or (λ last. last + 1) r 0 → TrimsEnd t (take end t)
 TrimsEnd-cut t None end white is = record {
   cut = t;

@@ -20,9 +20,8 @@ use std::hash::{Hash, Hasher};
 /// ```text
 /// AsciiChar::A.as_byte()    // 65
 /// ```
-#[derive(Clone, Copy, Default)]
+#[derive(Clone, Copy)]
 pub enum AsciiChar {
-    #[default]
     Null = 0,
     SOH = 1,
     SOX = 2,
@@ -424,6 +423,16 @@ impl AsciiChar {
     }
 }
 
+/// The character of code 0.
+impl Default for AsciiChar {
+    ghost is_default = { λ ch. code_of ch ≡ 0 };
+
+    #[inline]
+    fn default() -> AsciiChar {
+        AsciiChar::Null
+    }
+}
+
 impl PartialEq for AsciiChar {
     ghost use Rattle.std.specs.Prelude.{◌==◌};
     ghost use Rattle.std.specs.Ordering.{on};
@@ -612,11 +621,7 @@ impl ToAsciiChar for u8 {
 
     #[inline]
     fn to_ascii_char(self) -> Result<AsciiChar, ToAsciiCharError> {
-        if self < 128 {
-            Ok(of_low_bits(self))
-        } else {
-            Err(ToAsciiCharError(()))
-        }
+        of_number(self.into())
     }
 
     #[inline]
@@ -630,7 +635,7 @@ impl ToAsciiChar for i8 {
 
     #[inline]
     fn to_ascii_char(self) -> Result<AsciiChar, ToAsciiCharError> {
-        self.cast_unsigned().to_ascii_char()
+        of_number(self.cast_unsigned().into())
     }
 
     #[inline]
@@ -644,11 +649,7 @@ impl ToAsciiChar for u16 {
 
     #[inline]
     fn to_ascii_char(self) -> Result<AsciiChar, ToAsciiCharError> {
-        if self < 128 {
-            Ok(of_low_bits(self as u8))
-        } else {
-            Err(ToAsciiCharError(()))
-        }
+        of_number(self.into())
     }
 
     #[inline]
@@ -662,11 +663,7 @@ impl ToAsciiChar for u32 {
 
     #[inline]
     fn to_ascii_char(self) -> Result<AsciiChar, ToAsciiCharError> {
-        if self < 128 {
-            Ok(of_low_bits(self as u8))
-        } else {
-            Err(ToAsciiCharError(()))
-        }
+        of_number(self)
     }
 
     #[inline]
@@ -680,16 +677,24 @@ impl ToAsciiChar for char {
 
     #[inline]
     fn to_ascii_char(self) -> Result<AsciiChar, ToAsciiCharError> {
-        if (self as u32) < 128 {
-            Ok(of_low_bits(self as u8))
-        } else {
-            Err(ToAsciiCharError(()))
-        }
+        of_number(self.into())
     }
 
     #[inline]
     fn to_ascii_char_unchecked(self) -> AsciiChar {
         of_low_bits(self as u8)
+    }
+}
+
+/// The character whose code is the number, or the refusal of a number over 127.
+#[inline]
+fn of_number(number: u32) -> Result<AsciiChar, ToAsciiCharError>
+    ensures { MatchResult result (λ ch. code_of ch ≡ number) (λ _. 127 < number) }
+{
+    if number < 128 {
+        Ok(of_low_bits(number as u8))
+    } else {
+        Err(ToAsciiCharError(()))
     }
 }
 

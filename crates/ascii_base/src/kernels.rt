@@ -2,7 +2,7 @@
 
 ghost use Rattle.std.specs.Prelude.{◌≡◌, ◌↔◌, IsTrue, length, map, All, MatchOption};
 ghost use Rattle.std.specs.Str.{IsAscii};
-ghost use Rattle.ascii_base.specs.Bytes.{FirstOther, FirstNotWhitespace, LastNotWhitespace};
+ghost use Rattle.ascii_base.specs.Bytes.{FirstOther, IsFirstNot, IsLastNot};
 ghost use Rattle.ascii_base.specs.Case.{upper_image, lower_image};
 ghost use Rattle.ascii_base.specs.Class.{IsWhitespace};
 
@@ -55,7 +55,7 @@ pub fn eq_ignore_case(first: &[u8], second: &[u8]) -> bool
 /// The position of the first byte that is no whitespace, or `None` where every byte is whitespace:
 /// space, tab, line feed, vertical tab, form feed or carriage return.
 pub fn first_not_whitespace(bytes: &[u8]) -> Option<usize>
-    ensures { MatchOption result (All IsWhitespace bytes.now) (FirstNotWhitespace bytes.now) }
+    ensures { MatchOption result (All IsWhitespace bytes.now) (IsFirstNot IsWhitespace bytes.now 0 (length bytes.now)) }
 {
     for (i, byte) in bytes.iter().enumerate() {
         if !is_whitespace(*byte) {
@@ -68,7 +68,7 @@ pub fn first_not_whitespace(bytes: &[u8]) -> Option<usize>
 /// The position of the last byte that is no whitespace, or `None` where every byte is whitespace:
 /// space, tab, line feed, vertical tab, form feed or carriage return.
 pub fn last_not_whitespace(bytes: &[u8]) -> Option<usize>
-    ensures { MatchOption result (All IsWhitespace bytes.now) (LastNotWhitespace bytes.now) }
+    ensures { MatchOption result (All IsWhitespace bytes.now) (IsLastNot IsWhitespace bytes.now) }
 {
     let mut end = bytes.len();
     while end > 0 {
