@@ -1,11 +1,14 @@
 pub mod DebugLemmas
+pub mod EndsLemmas
 pub mod ExtendLemmas
 pub mod JsonLemmas
-pub mod Lining
+pub mod LinesLemmas
+pub mod PiecesLemmas
 pub mod RestsLemmas
+pub mod SearchLemmas
 pub mod SliceLemmas
-pub mod Splits
+pub mod SpansLemmas
+pub mod StepsLemmas
 pub mod TextLemmas
 pub mod TrimLemmas
-pub mod Walks
 pub mod WritingViewLemmas

@@ -3,13 +3,15 @@ pub mod Cow
 pub mod Debug
 pub mod Ends
 pub mod Extend
+pub mod Found
 pub mod Held
 pub mod Json
 pub mod Lines
 pub mod Pieces
-pub mod Places
 pub mod Refusal
 pub mod Slice
+pub mod Spans
+pub mod Steps
 pub mod Text
 pub mod Trim
 pub mod View

@@ -26,3 +26,4 @@ pub use ascii_str_mut::AsciiStrMut;
 pub use ascii_string::AsciiString;
 pub use boxed::{BoxedAsciiStr, CowAsciiStr, RcAsciiStr};
 pub use from_ascii::{CopyError, FromAsciiError};
+pub use iter::{Chars, CharsRef};

@@ -5,7 +5,7 @@ use Rattle.std.proofs.lemmas.List.{take_more}
 use Rattle.std.proofs.lemmas.Grind.{flat_map-append}
 use Rattle.ascii.specs.declared.iter.walks.End.{End}
 use Rattle.ascii.specs.Ends.{EndsTo, TakesEnd}
-use Rattle.ascii.proofs.Walks.{EndsTo-more}
+use Rattle.ascii.proofs.EndsLemmas.{AnswersTo-more}
 use Rattle.ascii_run.specs.Output.{answer_text}
 
 -- the answers to the ends up to the next place, and their output
@@ -20,7 +20,7 @@ ends_output_more items mid left script k end answer old new inside here so_far t
     let P : List End → Type 0 = λ s. EndsTo items s more left in
     let next : take (k + 1) script ≡ take k script ++ end ∷ [] = take_more script k end inside ∙ ap (λ e. take k script ++ e ∷ []) here in (
       more,
-      subst P (sym next) (EndsTo-more items (take k script) answers mid left end answer so_far.1 takes),
+      subst P (sym next) (AnswersTo-more TakesEnd items (take k script) answers mid left end answer so_far.1 takes),
       is ∙ (ap (λ xs. xs ++ answer_text answer) so_far.2
           ∙ (ap (λ xs. flat_map answer_text answers ++ xs) (sym (append-nil (answer_text answer)))
           ∙ sym (flat_map-append answer_text answers (answer ∷ [])))),

@@ -3,12 +3,15 @@
 ghost use Rattle.std.specs.Prelude.{◌≡◌, [], IfOk, IsOk, List, ℕ, map};
 ghost use Rattle.std.specs.Option.{option_map};
 ghost use Rattle.ascii_base.specs.Code.{code_of};
-ghost use Rattle.ascii.specs.Ends.{Ends};
+ghost use Rattle.ascii.specs.Ends.{AnswersTo, Ends};
+ghost use Rattle.ascii.specs.Found.{StepsAt};
 ghost use Rattle.ascii.specs.Lines.{Line, LinesOf, bodies};
 ghost use Rattle.ascii.specs.Pieces.{Pieces};
+ghost use Rattle.ascii.specs.Spans.{LineSpansOf, PieceSpans, Placed, line_in, piece_in};
 ghost use Rattle.ascii.specs.View.{text_of};
 
 use crate::ascii_str::AsciiStr;
+use crate::iter::spans::{LineSpan, SplitSpan};
 use ascii_base::ascii_char::AsciiChar;
 use std::alloc::{AllocError, Allocator};
 
@@ -21,8 +24,9 @@ pub enum End {
     Back,
 }
 
-/// Takes from an end of an iterator.
-fn take_end<I: DoubleEndedIterator>(items: &mut I, end: End) -> Option<I::Item>
+/// Takes from an end of an iterator: `next` at the front, `next_back` at the back.
+#[inline]
+pub fn take_end<I: DoubleEndedIterator>(items: &mut I, end: End) -> Option<I::Item>
     requires can_next { I.can_next items.old }
     requires can_next_back { I.can_next_back items.old }
     ensures front { end ≡ End.Front → I.next_gives items.old result items.new }
@@ -34,7 +38,27 @@ fn take_end<I: DoubleEndedIterator>(items: &mut I, end: End) -> Option<I::Item>
     }
 }
 
-/// The answers of a split to a script of ends, one for each end of the script, in order.
+/// The answers of an iterator to a script of ends, one for each end of the script, in order.
+fn walk<I: DoubleEndedIterator + Drop, A: Allocator>(
+    alloc: A,
+    mut items: I,
+    script: &[End],
+) -> Result<Vec<Option<I::Item>, A>, AllocError>
+where
+    I::Item: Drop,
+    requires can { (s : I) → I.can_next s × I.can_next_back s }
+    ensures answers { IfOk result (λ answers. (left : I) × AnswersTo (StepsAt I.next_gives I.next_back_gives) items script.now answers.items left) }
+    ensures empty { script.now ≡ [] → IsOk result }
+{
+    let mut answers = Vec::with_capacity(alloc, script.len())?;
+    for end in script {
+        answers.push(take_end(&mut items, *end))?;
+    }
+    Ok(answers)
+}
+
+/// The answers of a split to a script of ends, one for each end of the script, in order. Where memory
+/// is refused nothing is given; the empty script takes none.
 pub fn walk_split<'a, A: Allocator>(
     alloc: A,
     view: AsciiStr<'a>,
@@ -44,15 +68,10 @@ pub fn walk_split<'a, A: Allocator>(
     ensures ends { IfOk result (λ answers. (pieces : List (List ℕ)) × Pieces (text_of view.entry) (code_of on) pieces × Ends pieces script.now (map (option_map text_of) answers.items)) }
     ensures empty { script.now ≡ [] → IsOk result }
 {
-    let mut pieces = view.split(on);
-    let mut answers = Vec::with_capacity(alloc, script.len())?;
-    for end in script {
-        answers.push(take_end(&mut pieces, *end))?;
-    }
-    Ok(answers)
+    walk(alloc, view.split(on), script)
 }
 
-/// The answers of an iterator of lines to a script of ends, one for each end of the script, in order.
+/// The same for the lines of a view: each answer is a body.
 pub fn walk_lines<'a, A: Allocator>(
     alloc: A,
     view: AsciiStr<'a>,
@@ -61,10 +80,30 @@ pub fn walk_lines<'a, A: Allocator>(
     ensures ends { IfOk result (λ answers. (lines : List Line) × LinesOf (text_of view.entry) lines × Ends (bodies lines) script.now (map (option_map text_of) answers.items)) }
     ensures empty { script.now ≡ [] → IsOk result }
 {
-    let mut lines = view.lines();
-    let mut answers = Vec::with_capacity(alloc, script.len())?;
-    for end in script {
-        answers.push(take_end(&mut lines, *end))?;
-    }
-    Ok(answers)
+    walk(alloc, view.lines(), script)
+}
+
+/// The same for the pieces of a view with their starts.
+pub fn walk_split_spans<'a, A: Allocator>(
+    alloc: A,
+    view: AsciiStr<'a>,
+    on: AsciiChar,
+    script: &[End],
+) -> Result<Vec<Option<SplitSpan<'a>>, A>, AllocError>
+    ensures ends { IfOk result (λ answers. (spans : List (Placed (List ℕ))) × PieceSpans 0 (text_of view.entry) (code_of on) spans × Ends spans script.now (map (option_map piece_in) answers.items)) }
+    ensures empty { script.now ≡ [] → IsOk result }
+{
+    walk(alloc, view.split_spans(on), script)
+}
+
+/// The same for the lines of a view with their starts and endings.
+pub fn walk_line_spans<'a, A: Allocator>(
+    alloc: A,
+    view: AsciiStr<'a>,
+    script: &[End],
+) -> Result<Vec<Option<LineSpan<'a>>, A>, AllocError>
+    ensures ends { IfOk result (λ answers. (spans : List (Placed Line)) × LineSpansOf 0 (text_of view.entry) spans × Ends spans script.now (map (option_map line_in) answers.items)) }
+    ensures empty { script.now ≡ [] → IsOk result }
+{
+    walk(alloc, view.line_spans(), script)
 }

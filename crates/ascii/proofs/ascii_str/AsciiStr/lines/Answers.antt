@@ -1,9 +1,8 @@
-use Rattle.ascii.specs.View.{text_of}
-use Rattle.ascii.proofs.Lining.{LinesOf-lines_of, LinesOf-only}
+use Rattle.ascii.proofs.StepsLemmas.{runs_in_order, runs_in_reverse}
 use Rattle.ascii.proofs.ascii_str.AsciiStr.lines.Goals as goal
 
-pub returns-clause-lines : goal.returns-clause-lines
-returns-clause-lines c = LinesOf-lines_of (text_of c.args.self)
+pub returns-clause-runs : goal.returns-clause-runs
+returns-clause-runs c = runs_in_order _ _ _
 
-pub returns-clause-only : goal.returns-clause-only
-returns-clause-only c = LinesOf-only (text_of c.args.self)
+pub returns-clause-runs_back : goal.returns-clause-runs_back
+returns-clause-runs_back c = runs_in_reverse _ _ _

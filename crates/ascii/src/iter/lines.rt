@@ -1,0 +1,258 @@
+//! The lines of a view, with and without their starts and endings.
+
+ghost use Rattle.std.specs.Prelude.{◌≡◌, ◌+◌, ◌≤◌, ◌∷◌, ◌++◌, [], IfSome, List, MatchOption, length};
+ghost use Rattle.std.specs.Iterator.{YieldsFirstBy, YieldsLastBy, item_count};
+ghost use Rattle.ascii.specs.Found.{ended_line, line_spans, part_in};
+ghost use Rattle.ascii.specs.Lines.{IsRestOfLines, Line, LinesOf, bodies};
+ghost use Rattle.ascii.specs.Spans.{IsRestOfLineSpans, LineSpansOf, Placed, line_in};
+ghost use Rattle.ascii.specs.Steps.{DropsFirst, DropsLast, RunsInOrder, RunsInReverse, YieldsFirstAnd, YieldsLastAnd};
+ghost use Rattle.ascii.specs.View.{text_of};
+
+use crate::ascii_str::AsciiStr;
+use crate::iter::rest::Rest;
+use crate::iter::spans::{Ending, LineSpan};
+use std::alloc::AllocError;
+use std::iter::FusedIterator;
+use std::marker::Model;
+
+impl<'a> Rest<'a> {
+    /// All of it as one line before a LF: one CR before the LF is of the ending.
+    #[inline]
+    fn ended_line(self) -> LineSpan<'a>
+        ensures { line_in result ≡ record { start = self.entry.start; item = ended_line (text_of self.entry.view) } }
+    {
+        match self.view.bytes.split_last() {
+            Some((b'\r', body)) => LineSpan {
+                start: self.start,
+                text: AsciiStr { bytes: body },
+                ending: Ending::CrLf,
+            },
+            _ => LineSpan {
+                start: self.start,
+                text: self.view,
+                ending: Ending::Lf,
+            },
+        }
+    }
+
+    /// All of it as one line with no ending.
+    #[inline]
+    fn open_line(self) -> LineSpan<'a>
+        ensures { line_in result ≡ record { start = self.entry.start; item = record { body = text_of self.entry.view; ending = Ending.Absent } } }
+    {
+        LineSpan {
+            start: self.start,
+            text: self.view,
+            ending: Ending::Absent,
+        }
+    }
+
+    /// The first line, and what stands behind its ending.
+    #[inline]
+    fn first_line(self) -> Option<(LineSpan<'a>, Rest<'a>)>
+        ensures { MatchOption result (line_spans (part_in self.entry) ≡ []) (λ cut. line_spans (part_in self.entry) ≡ line_in cut.0 ∷ line_spans (part_in cut.1)) }
+    {
+        if self.view.is_empty() {
+            return None;
+        }
+        match self.cut_first(b'\n') {
+            Some((line, others)) => Some((line.ended_line(), others)),
+            None => Some((self.open_line(), self.from(self.view.len()))),
+        }
+    }
+
+    /// The last line, and what stands before it.
+    #[inline]
+    fn last_line(self) -> Option<(LineSpan<'a>, Rest<'a>)>
+        ensures { MatchOption result (line_spans (part_in self.entry) ≡ []) (λ cut. line_spans (part_in self.entry) ≡ line_spans (part_in cut.1) ++ line_in cut.0 ∷ []) }
+    {
+        let (last, front) = self.view.bytes.split_last()?;
+        if *last == b'\n' {
+            let (others, line) = self.to(front.len()).cut_behind_last_feed();
+            Some((line.ended_line(), others))
+        } else {
+            let (others, line) = self.cut_behind_last_feed();
+            Some((line.open_line(), others))
+        }
+    }
+}
+
+/// The lines of a view that are left, each with its start and its ending, from both ends.
+#[derive(Drop)]
+pub struct LineSpans<'a> {
+    // The lines that are left, with their endings.
+    rest: Rest<'a>,
+}
+
+impl<'a> Model for LineSpans<'a> {
+    ghost use Rattle.std.specs.Prelude.{List};
+    ghost use Rattle.ascii.specs.Found.{line_spans, part_in};
+    ghost use Rattle.ascii.specs.Lines.{Line};
+    ghost use Rattle.ascii.specs.Spans.{Placed};
+
+    ghost Value = { List (Placed Line) };
+
+    ghost view = { λ lines. line_spans (part_in lines.rest) };
+}
+
+impl Clone for LineSpans<'_> {
+    ghost is_clone = { λ lines copy. copy ≡ lines };
+
+    ghost is_infallible = { λ _. Unit {0} };
+
+    /// An iterator that owes the same lines with the same starts. It is never refused.
+    fn clone(&self) -> Result<Self, AllocError> {
+        Ok(LineSpans { rest: self.rest })
+    }
+}
+
+impl<'a> Iterator for LineSpans<'a> {
+    type Item = LineSpan<'a>;
+
+    ghost next_gives = { YieldsFirstBy line_in (λ lines. lines) };
+
+    ghost remaining = { item_count (λ lines. lines) };
+
+    #[inline]
+    fn next(&mut self) -> Option<LineSpan<'a>> {
+        let (first, others) = self.rest.first_line()?;
+        self.rest = others;
+        Some(first)
+    }
+}
+
+impl<'a> DoubleEndedIterator for LineSpans<'a> {
+    ghost next_back_gives = { YieldsLastBy line_in (λ lines. lines) };
+
+    #[inline]
+    fn next_back(&mut self) -> Option<LineSpan<'a>> {
+        let (last, others) = self.rest.last_line()?;
+        self.rest = others;
+        Some(last)
+    }
+}
+
+impl FusedIterator for LineSpans<'_> {}
+
+impl<'a> LineSpans<'a> {
+    /// The lines that are left, with their endings, behind the place where the first one starts.
+    /// `None` where none is left; the iterator stays as it is.
+    pub fn remainder(&self) -> Option<(usize, AsciiStr<'a>)>
+        ensures rest { IsRestOfLineSpans self.now result }
+        ensures fits { IfSome result (λ rest. rest.0 + length (text_of rest.1) ≤ usize.MAX) }
+    {
+        if self.rest.view.is_empty() {
+            return None;
+        }
+        Some((self.rest.start, self.rest.view))
+    }
+}
+
+/// The lines of a view that are left, from both ends. The items are the bodies.
+#[derive(Drop)]
+pub struct Lines<'a> {
+    spans: LineSpans<'a>,
+}
+
+impl<'a> Model for Lines<'a> {
+    ghost use Rattle.std.specs.Prelude.{List};
+    ghost use Rattle.ascii.specs.Lines.{Line};
+    ghost use Rattle.ascii.specs.Spans.{items_of};
+
+    ghost Value = { List Line };
+
+    ghost view = { λ lines. items_of lines.spans };
+}
+
+impl Clone for Lines<'_> {
+    ghost is_clone = { λ lines copy. copy ≡ lines };
+
+    ghost is_infallible = { λ _. Unit {0} };
+
+    /// An iterator that owes the same lines. It is never refused.
+    fn clone(&self) -> Result<Self, AllocError> {
+        Ok(Lines {
+            spans: self.spans.clone()?,
+        })
+    }
+}
+
+impl<'a> Iterator for Lines<'a> {
+    type Item = AsciiStr<'a>;
+
+    ghost next_gives = { YieldsFirstAnd text_of bodies DropsFirst };
+
+    ghost remaining = { item_count bodies };
+
+    #[inline]
+    fn next(&mut self) -> Option<AsciiStr<'a>> {
+        let span = self.spans.next()?;
+        Some(span.text)
+    }
+}
+
+impl<'a> DoubleEndedIterator for Lines<'a> {
+    ghost next_back_gives = { YieldsLastAnd text_of bodies DropsLast };
+
+    #[inline]
+    fn next_back(&mut self) -> Option<AsciiStr<'a>> {
+        let span = self.spans.next_back()?;
+        Some(span.text)
+    }
+}
+
+impl FusedIterator for Lines<'_> {}
+
+impl<'a> Lines<'a> {
+    /// The lines that are left, with their endings. `None` where none is left; the iterator stays
+    /// as it is.
+    #[tactic(auto, using(crate::proofs::SpansLemmas::items_some))]
+    pub fn remainder(&self) -> Option<AsciiStr<'a>>
+        ensures { IsRestOfLines self.now result }
+    {
+        let (_, rest) = self.spans.remainder()?;
+        Some(rest)
+    }
+}
+
+impl<'a> AsciiStr<'a> {
+    /// The lines of the view, without their endings. A line ends in LF or in CR LF; a CR before that
+    /// stays in its line, and so does a last CR with no LF behind it. A last LF makes no further line.
+    #[tactic(auto, using(crate::proofs::SpansLemmas::same_lines))]
+    pub fn lines(self) -> Lines<'a>
+        ensures lines { LinesOf (text_of self.entry) result }
+        ensures only { (lines : List Line) → LinesOf (text_of self.entry) lines → lines ≡ result }
+        ensures fits { length result ≤ usize.MAX }
+        ensures runs { RunsInOrder text_of bodies DropsFirst }
+        ensures runs_back { RunsInReverse text_of bodies DropsLast }
+    {
+        Lines {
+            spans: self.line_spans(),
+        }
+    }
+
+    /// The lines of the view, each with its ending and the place in the view where it starts.
+    pub fn line_spans(self) -> LineSpans<'a>
+        ensures spans { LineSpansOf 0 (text_of self.entry) result }
+        ensures only { (spans : List (Placed Line)) → LineSpansOf 0 (text_of self.entry) spans → spans ≡ result }
+        ensures fits { length result ≤ usize.MAX }
+    {
+        self.line_spans_from(0)
+    }
+
+    /// The same for a view that starts at an offset: each place is larger by the offset. The offset
+    /// and the length together are at most `usize::MAX`.
+    pub fn line_spans_from(self, offset: usize) -> LineSpans<'a>
+        requires { offset + length (text_of self) ≤ usize.MAX }
+        ensures spans { LineSpansOf offset (text_of self.entry) result }
+        ensures only { (spans : List (Placed Line)) → LineSpansOf offset (text_of self.entry) spans → spans ≡ result }
+        ensures fits { length result ≤ usize.MAX }
+    {
+        LineSpans {
+            rest: Rest {
+                start: offset,
+                view: self,
+            },
+        }
+    }
+}

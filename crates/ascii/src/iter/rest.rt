@@ -1,0 +1,80 @@
+//! What an iterator over the parts of a text has left, and how it is cut. A separator and LF are
+//! found by `memchr` and `memrchr` alone.
+
+ghost use Rattle.std.specs.Prelude.{◌≡◌, ◌+◌, ◌<◌, ◌≤◌, ◌^◌, MatchOption, drop, length, take};
+ghost use Rattle.std.proofs.Props.{props};
+
+use crate::ascii_str::AsciiStr;
+use memchr::{memchr, memrchr};
+
+/// A part of a text, and where it starts.
+#[derive(Clone, Copy)]
+pub(crate) struct Rest<'a> {
+    pub(crate) start: usize,
+    pub(crate) view: AsciiStr<'a>,
+    ghost fits: { start + length view.bytes.now < 2 ^ 64 } by { Prim.hlevel props },
+}
+
+impl<'a> Rest<'a> {
+    ghost use Rattle.ascii.specs.Found.{Free, IsCutBehindLastFeed, IsCutFirst, IsCutLast, part_in};
+    ghost use Rattle.ascii.specs.View.{text_of};
+
+    /// What stands before a place.
+    #[inline]
+    pub(crate) fn to(self, place: usize) -> Rest<'a>
+        requires { place ≤ length (text_of self.view) }
+        ensures start { result.start ≡ self.entry.start }
+        ensures text { text_of result.view ≡ take place (text_of self.entry.view) }
+    {
+        Rest {
+            start: self.start,
+            view: AsciiStr {
+                bytes: &self.view.bytes[..place],
+            },
+        }
+    }
+
+    /// What stands from a place on.
+    #[inline]
+    pub(crate) fn from(self, place: usize) -> Rest<'a>
+        requires { place ≤ length (text_of self.view) }
+        ensures start { result.start ≡ self.entry.start + place }
+        ensures text { text_of result.view ≡ drop place (text_of self.entry.view) }
+    {
+        Rest {
+            start: self.start + place,
+            view: AsciiStr {
+                bytes: &self.view.bytes[place..],
+            },
+        }
+    }
+
+    /// What stands before the first byte that is `on`, and what stands behind it.
+    #[inline]
+    pub(crate) fn cut_first(self, on: u8) -> Option<(Rest<'a>, Rest<'a>)>
+        ensures { MatchOption result (Free on (text_of self.entry.view)) (IsCutFirst on (part_in self.entry)) }
+    {
+        let place = memchr(on, self.view.bytes)?;
+        Some((self.to(place), self.from(place + 1)))
+    }
+
+    /// What stands before the last byte that is `on`, and what stands behind it.
+    #[inline]
+    pub(crate) fn cut_last(self, on: u8) -> Option<(Rest<'a>, Rest<'a>)>
+        ensures { MatchOption result (Free on (text_of self.entry.view)) (IsCutLast on (part_in self.entry)) }
+    {
+        let place = memrchr(on, self.view.bytes)?;
+        Some((self.to(place), self.from(place + 1)))
+    }
+
+    /// What stands up to the last LF, and what stands behind it.
+    #[inline]
+    pub(crate) fn cut_behind_last_feed(self) -> (Rest<'a>, Rest<'a>)
+        ensures { IsCutBehindLastFeed (part_in self.entry) result }
+    {
+        match memrchr(b'\n', self.view.bytes) {
+            Some(place) => (self.to(place + 1), self.from(place + 1)),
+            None => (self.to(0), self),
+        }
+    }
+}

@@ -1,0 +1,242 @@
+//! The pieces of a view between separators, with and without their starts.
+
+ghost use Rattle.std.specs.Prelude.{◌≡◌, ◌+◌, ◌≤◌, ◌∷◌, ◌++◌, [], IfSome, List, ℕ, length};
+ghost use Rattle.std.specs.Iterator.{item_count};
+ghost use Rattle.std.specs.Option.{option_map};
+ghost use Rattle.ascii_base.specs.Code.{code_of};
+ghost use Rattle.ascii.specs.Found.{part_in, piece_spans, spans_left};
+ghost use Rattle.ascii.specs.Pieces.{IsRestOfPieces, Owed, Pieces};
+ghost use Rattle.ascii.specs.Spans.{IsRestOfPieceSpans, OwedSpans, PieceSpans, Placed, piece_in};
+ghost use Rattle.ascii.specs.Steps.{KeepsOn, KeepsSpansOn, RunsInOrder, RunsInReverse, YieldsFirstAnd, YieldsLastAnd};
+ghost use Rattle.ascii.specs.View.{text_of};
+
+use crate::ascii_str::AsciiStr;
+use crate::iter::rest::Rest;
+use crate::iter::spans::SplitSpan;
+use ascii_base::ascii_char::AsciiChar;
+use std::alloc::AllocError;
+use std::iter::FusedIterator;
+use std::marker::Model;
+
+impl<'a> Rest<'a> {
+    /// All of it as one piece.
+    #[inline]
+    fn piece(self) -> SplitSpan<'a>
+        ensures { piece_in result ≡ part_in self.entry }
+    {
+        SplitSpan {
+            start: self.start,
+            text: self.view,
+        }
+    }
+
+    /// The first piece, and what stands behind its separator where there is one.
+    #[inline]
+    fn first_piece(self, on: AsciiChar) -> (SplitSpan<'a>, Option<Rest<'a>>)
+        ensures { piece_spans (code_of on) (part_in self.entry) ≡ piece_in result.0 ∷ spans_left (code_of on) (option_map part_in result.1) }
+    {
+        match self.cut_first(on.as_byte()) {
+            Some((piece, others)) => (piece.piece(), Some(others)),
+            None => (self.piece(), None),
+        }
+    }
+
+    /// The last piece, and what stands before its separator where there is one.
+    #[inline]
+    fn last_piece(self, on: AsciiChar) -> (SplitSpan<'a>, Option<Rest<'a>>)
+        ensures { piece_spans (code_of on) (part_in self.entry) ≡ spans_left (code_of on) (option_map part_in result.1) ++ piece_in result.0 ∷ [] }
+    {
+        match self.cut_last(on.as_byte()) {
+            Some((others, piece)) => (piece.piece(), Some(others)),
+            None => (self.piece(), None),
+        }
+    }
+}
+
+/// The pieces of a view between separators that are left, each with its start, from both ends.
+#[derive(Drop)]
+pub struct SplitSpans<'a> {
+    // The pieces that are left, joined by the separator, or `None` where none is left.
+    rest: Option<Rest<'a>>,
+    on: AsciiChar,
+}
+
+impl<'a> Model for SplitSpans<'a> {
+    ghost use Rattle.std.specs.Option.{option_map};
+    ghost use Rattle.ascii_base.specs.Code.{code_of};
+    ghost use Rattle.ascii.specs.Found.{part_in, spans_left};
+    ghost use Rattle.ascii.specs.Spans.{OwedSpans};
+
+    ghost Value = { OwedSpans };
+
+    ghost view = { λ split. record { on = code_of split.on; spans = spans_left (code_of split.on) (option_map part_in split.rest) } };
+}
+
+impl Clone for SplitSpans<'_> {
+    ghost is_clone = { λ split copy. copy ≡ split };
+
+    ghost is_infallible = { λ _. Unit {0} };
+
+    /// An iterator that owes the same pieces with the same starts. It is never refused.
+    fn clone(&self) -> Result<Self, AllocError> {
+        Ok(SplitSpans {
+            rest: self.rest,
+            on: self.on,
+        })
+    }
+}
+
+impl<'a> Iterator for SplitSpans<'a> {
+    type Item = SplitSpan<'a>;
+
+    ghost next_gives = { YieldsFirstAnd piece_in (λ split. split.spans) KeepsSpansOn };
+
+    ghost remaining = { item_count (λ split. split.spans) };
+
+    #[inline]
+    fn next(&mut self) -> Option<SplitSpan<'a>> {
+        let (first, others) = self.rest?.first_piece(self.on);
+        self.rest = others;
+        Some(first)
+    }
+}
+
+impl<'a> DoubleEndedIterator for SplitSpans<'a> {
+    ghost next_back_gives = { YieldsLastAnd piece_in (λ split. split.spans) KeepsSpansOn };
+
+    #[inline]
+    fn next_back(&mut self) -> Option<SplitSpan<'a>> {
+        let (last, others) = self.rest?.last_piece(self.on);
+        self.rest = others;
+        Some(last)
+    }
+}
+
+impl FusedIterator for SplitSpans<'_> {}
+
+impl<'a> SplitSpans<'a> {
+    /// The pieces that are left, joined by the separator, behind the place where the first one
+    /// starts. `None` where none is left; the iterator stays as it is.
+    pub fn remainder(&self) -> Option<(usize, AsciiStr<'a>)>
+        ensures rest { IsRestOfPieceSpans self.now result }
+        ensures fits { IfSome result (λ rest. rest.0 + length (text_of rest.1) ≤ usize.MAX) }
+    {
+        let rest = self.rest?;
+        Some((rest.start, rest.view))
+    }
+}
+
+/// The pieces of a view between separators that are left, from both ends.
+#[derive(Drop)]
+pub struct Split<'a> {
+    spans: SplitSpans<'a>,
+}
+
+impl<'a> Model for Split<'a> {
+    ghost use Rattle.ascii.specs.Pieces.{Owed};
+    ghost use Rattle.ascii.specs.Spans.{items_of};
+
+    ghost Value = { Owed };
+
+    ghost view = { λ split. record { on = split.spans.on; pieces = items_of split.spans.spans } };
+}
+
+impl Clone for Split<'_> {
+    ghost is_clone = { λ split copy. copy ≡ split };
+
+    ghost is_infallible = { λ _. Unit {0} };
+
+    /// An iterator that owes the same pieces. It is never refused.
+    fn clone(&self) -> Result<Self, AllocError> {
+        Ok(Split {
+            spans: self.spans.clone()?,
+        })
+    }
+}
+
+impl<'a> Iterator for Split<'a> {
+    type Item = AsciiStr<'a>;
+
+    ghost next_gives = { YieldsFirstAnd text_of (λ split. split.pieces) KeepsOn };
+
+    ghost remaining = { item_count (λ split. split.pieces) };
+
+    #[inline]
+    fn next(&mut self) -> Option<AsciiStr<'a>> {
+        let span = self.spans.next()?;
+        Some(span.text)
+    }
+}
+
+impl<'a> DoubleEndedIterator for Split<'a> {
+    ghost next_back_gives = { YieldsLastAnd text_of (λ split. split.pieces) KeepsOn };
+
+    #[inline]
+    fn next_back(&mut self) -> Option<AsciiStr<'a>> {
+        let span = self.spans.next_back()?;
+        Some(span.text)
+    }
+}
+
+impl FusedIterator for Split<'_> {}
+
+impl<'a> Split<'a> {
+    /// The pieces that are left, joined by the separator. `None` where none is left; the iterator
+    /// stays as it is.
+    pub fn remainder(&self) -> Option<AsciiStr<'a>>
+        ensures { IsRestOfPieces self.now result }
+    {
+        let (_, rest) = self.spans.remainder()?;
+        Some(rest)
+    }
+}
+
+impl<'a> AsciiStr<'a> {
+    /// The pieces of the view at each separator: at least one, none of which has the separator. A
+    /// separator at an end makes an empty piece there.
+    #[tactic(auto, using(crate::proofs::SpansLemmas::same_pieces))]
+    pub fn split(self, on: AsciiChar) -> Split<'a>
+        ensures pieces { Pieces (text_of self.entry) (code_of on) result.pieces }
+        ensures only { (pieces : List (List ℕ)) → Pieces (text_of self.entry) (code_of on) pieces → pieces ≡ result.pieces }
+        ensures separator { result.on ≡ code_of on }
+        ensures fits { length result.pieces ≤ usize.MAX }
+        ensures runs { RunsInOrder text_of (λ (split : Owed). split.pieces) KeepsOn }
+        ensures runs_back { RunsInReverse text_of (λ (split : Owed). split.pieces) KeepsOn }
+    {
+        Split {
+            spans: self.split_spans(on),
+        }
+    }
+
+    /// The pieces of the view at each separator, each with the place in the view where it starts.
+    pub fn split_spans(self, on: AsciiChar) -> SplitSpans<'a>
+        ensures spans { PieceSpans 0 (text_of self.entry) (code_of on) result.spans }
+        ensures only { (spans : List (Placed (List ℕ))) → PieceSpans 0 (text_of self.entry) (code_of on) spans → spans ≡ result.spans }
+        ensures separator { result.on ≡ code_of on }
+        ensures fits { length result.spans ≤ usize.MAX }
+        ensures runs { RunsInOrder piece_in (λ (split : OwedSpans). split.spans) KeepsSpansOn }
+        ensures runs_back { RunsInReverse piece_in (λ (split : OwedSpans). split.spans) KeepsSpansOn }
+    {
+        self.split_spans_from(on, 0)
+    }
+
+    /// The same for a view that starts at an offset: each place is larger by the offset. The offset
+    /// and the length together are at most `usize::MAX`.
+    pub fn split_spans_from(self, on: AsciiChar, offset: usize) -> SplitSpans<'a>
+        requires { offset + length (text_of self) ≤ usize.MAX }
+        ensures spans { PieceSpans offset (text_of self.entry) (code_of on) result.spans }
+        ensures only { (spans : List (Placed (List ℕ))) → PieceSpans offset (text_of self.entry) (code_of on) spans → spans ≡ result.spans }
+        ensures separator { result.on ≡ code_of on }
+        ensures fits { length result.spans ≤ usize.MAX }
+        ensures runs { RunsInOrder piece_in (λ (split : OwedSpans). split.spans) KeepsSpansOn }
+        ensures runs_back { RunsInReverse piece_in (λ (split : OwedSpans). split.spans) KeepsSpansOn }
+    {
+        SplitSpans {
+            rest: Some(Rest {
+                start: offset,
+                view: self,
+            }),
+            on,
+        }
+    }
+}
