@@ -1,4 +1,6 @@
-//! Runs of commands, and the engine over devices.
+//! Runs of commands, and the engine over memory and over devices that fail.
 
 mod commands;
+mod devices;
 mod engine;
+mod lengths;

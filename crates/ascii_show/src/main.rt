@@ -10,9 +10,11 @@ mod arguments;
 mod failure;
 
 use arguments::request_of;
+use arrayvec::ArrayString;
 use ascii_run::{EngineFault, Input, Output, engine};
 use failure::Failure;
 use std::alloc::{AllocError, Allocator};
+use std::fmt::Write as _;
 use std::process::ExitCode;
 use std::{env, io};
 
@@ -34,11 +36,17 @@ pub fn show<A: Allocator + Copy, I: io::Read + Drop, O: io::Write + Drop, E: io:
     }
 }
 
-/// Writes the line of a failure, and gives its status.
+/// More bytes than the line of a failure has.
+const LINE: usize = 128;
+
+/// Writes the line of a failure in one write, and gives its status. It takes no memory.
 fn report<E: io::Write + Drop>(failure: Failure, mut errors: E) -> u8
     ensures { result ≡ status_of failure }
 {
-    let _ = writeln!(errors, "{failure}");
+    let mut line = ArrayString::<LINE>::new();
+    if writeln!(line, "{failure}").is_ok() {
+        let _ = errors.write_all(line.as_bytes());
+    }
     failure.status()
 }
 

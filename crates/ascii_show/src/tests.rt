@@ -1,3 +1,7 @@
+//! The program over memory and over devices that fail.
+
+mod failing;
+
 use super::*;
 use std::alloc::Global;
 use std::process::Abort;
@@ -362,62 +366,4 @@ fn modes(rt: HostRuntime) -> Result<(), Fail> {
 #[test]
 fn edits(rt: HostRuntime) -> Result<(), Fail> {
     compare(&rt, EDITS)
-}
-
-/// A reader that gives `abc` and then fails.
-#[derive(Drop)]
-struct Breaking {
-    given: bool,
-}
-
-impl io::Read for Breaking {
-    fn read(&mut self, buf: &mut [u8]) -> io::Result<usize> {
-        if self.given || buf.len() < 3 {
-            return Err(io::Error::from(io::ErrorKind::Other));
-        }
-        self.given = true;
-        buf[0] = b'a';
-        buf[1] = b'b';
-        buf[2] = b'c';
-        Ok(3)
-    }
-}
-
-/// A writer that takes two bytes and then fails.
-#[derive(Drop)]
-struct Full {
-    taken: bool,
-}
-
-impl io::Write for Full {
-    fn write(&mut self, buf: &[u8]) -> io::Result<usize> {
-        if self.taken || buf.len() < 2 {
-            return Err(io::Error::from(io::ErrorKind::Other));
-        }
-        self.taken = true;
-        Ok(2)
-    }
-
-    fn flush(&mut self) -> io::Result<()> {
-        Ok(())
-    }
-}
-
-#[test]
-fn failing_devices(rt: HostRuntime) -> Result<(), Fail> {
-    let alloc = rt.alloc();
-    let args = vec![in alloc; String::from_str(alloc, "copy")?]?;
-    let mut output = Vec::new(alloc);
-    let mut errors = Vec::new(alloc);
-    let reader = Breaking { given: false };
-    assert_eq!(rt; show(alloc, &args, reader, &mut output, &mut errors), 3);
-    assert_eq!(rt; output.len(), 0);
-    assert_eq!(rt; errors.as_slice(), b"read failed\n".as_slice());
-
-    let mut errors = Vec::new(alloc);
-    let writer = Full { taken: false };
-    let input: &[u8] = b"abcdef";
-    assert_eq!(rt; show(alloc, &args, input, writer, &mut errors), 3);
-    assert_eq!(rt; errors.as_slice(), b"write failed\n".as_slice());
-    Ok(())
 }

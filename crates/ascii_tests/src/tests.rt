@@ -3,6 +3,7 @@
 
 mod both_ends;
 mod json;
+mod lengths;
 mod strings;
 mod uses;
 mod vectors;

@@ -1,0 +1,120 @@
+//! Runs and modes on long inputs: nothing gives up past a length.
+
+use super::engine::ran;
+use crate::{Cmd, EngineFault, Mode, Output, Reply, engine, run};
+use ascii::iter::End;
+use ascii::{AsciiChar, AsciiRange, AsciiString};
+use std::alloc::{AllocError, Global};
+use std::io;
+use std::test::Fail;
+
+const LENGTHS: [usize; 4] = [0, 1, 33, 5_000];
+
+/// As many bytes `a`, between a front and a back.
+fn bytes_of(alloc: Global, front: &str, length: usize, back: &str) -> Result<Vec<u8>, AllocError> {
+    let mut bytes = Vec::new(alloc);
+    bytes.extend_from_slice(front.as_bytes())?;
+    for _ in 0..length {
+        bytes.push(b'a')?;
+    }
+    bytes.extend_from_slice(back.as_bytes())?;
+    Ok(bytes)
+}
+
+#[test]
+fn each_mode(rt: HostRuntime) -> Result<(), Fail> {
+    let alloc = rt.alloc();
+    for length in LENGTHS {
+        let input = bytes_of(alloc, "", length, "")?;
+        let line = if length == 0 { "" } else { "\n" };
+        let answer = if length == 0 {
+            ("-", "\n")
+        } else {
+            ("+", "\n")
+        };
+        for (mode, front, back) in [
+            (Mode::Copy, "", ""),
+            (Mode::Lines, "", line),
+            (Mode::Tac, "", line),
+            (Mode::Caret, "", ""),
+            (Mode::Ends(&[End::Back]), answer.0, answer.1),
+            (Mode::Edit(&[]), "", ""),
+            (Mode::Json, "\"", "\""),
+        ] {
+            let (outcome, written) = ran(alloc, mode, &input);
+            assert_eq!(rt; outcome, Ok(()), "{length}");
+            assert!(rt;
+                written == bytes_of(alloc, front, length, back)?,
+                "{length}"
+            );
+        }
+    }
+    Ok(())
+}
+
+/// A writer that takes all and then fails to flush.
+#[derive(Drop)]
+struct Unflushed;
+
+impl io::Write for Unflushed {
+    fn write(&mut self, buf: &[u8]) -> io::Result<usize> {
+        Ok(buf.len())
+    }
+
+    fn flush(&mut self) -> io::Result<()> {
+        Err(io::Error::from(io::ErrorKind::Other))
+    }
+}
+
+#[test]
+fn each_flush(rt: HostRuntime) -> Result<(), Fail> {
+    for length in LENGTHS {
+        let input = bytes_of(rt.alloc(), "", length, "")?;
+        let mut reader = crate::Input::new(input.as_slice());
+        let mut writer = Output::new(Unflushed);
+        let answer = engine(rt.alloc(), Mode::Copy, &mut reader, &mut writer);
+        assert_eq!(rt; answer, Err(EngineFault::Write), "{length}");
+    }
+    Ok(())
+}
+
+#[test]
+fn many_commands(rt: HostRuntime) -> Result<(), Fail> {
+    let alloc = rt.alloc();
+    let mut buf = AsciiString::new(alloc);
+    let mut cmds = Vec::new(alloc);
+    for _ in 0..5_000 {
+        cmds.push(Cmd::Push(AsciiChar::a))?;
+    }
+    let replies = run(alloc, &mut buf, &cmds)?;
+    assert!(rt; replies.iter().all(|reply| matches!(reply, Reply::Done)));
+    assert_eq!(rt; replies.len(), 5_000);
+    let long = buf.clone()?;
+    let insert = [
+        Cmd::InsertStr(1, long.as_ascii_str()),
+        Cmd::Copy(AsciiRange::Full),
+    ];
+    let replies = run(alloc, &mut buf, &insert)?;
+    match replies.as_slice() {
+        [Reply::Done, Reply::Text(copy)] => assert!(rt; *copy == buf),
+        _ => assert!(rt; false),
+    }
+    assert_eq!(rt;
+        buf.as_ascii_str().as_bytes(),
+        bytes_of(alloc, "", 10_000, "")?.as_slice()
+    );
+    Ok(())
+}
+
+#[test]
+fn room_is_made_and_given_back(rt: HostRuntime) -> Result<(), Fail> {
+    let mut buf = AsciiString::from_char(rt.alloc(), AsciiChar::x)?;
+    let replies = run(rt.alloc(), &mut buf, &[Cmd::Reserve(10_000)])?;
+    assert!(rt; matches!(replies.as_slice(), [Reply::Done]));
+    assert!(rt; 10_001 <= buf.capacity());
+    let replies = run(rt.alloc(), &mut buf, &[Cmd::Shrink])?;
+    assert!(rt; matches!(replies.as_slice(), [Reply::Done]));
+    assert_eq!(rt; buf.capacity(), 1);
+    assert_eq!(rt; buf.as_ascii_str().as_str(), "x");
+    Ok(())
+}

@@ -1,0 +1,188 @@
+//! Devices that fail, and no memory.
+
+use crate::show;
+use linked_list_allocator::LocalHeap;
+use std::alloc::{AllocError, Global};
+use std::io::{self, ErrorKind};
+use std::process::Abort;
+use std::test::Fail;
+
+/// The words of a call.
+fn words(alloc: Global, words: &[&str]) -> Result<Vec<String>, AllocError> {
+    let mut args = Vec::new(alloc);
+    for word in words {
+        args.push(String::from_str(alloc, *word)?)?;
+    }
+    Ok(args)
+}
+
+/// A reader that gives `abc` and then fails.
+#[derive(Drop)]
+struct Breaking {
+    given: bool,
+}
+
+impl io::Read for Breaking {
+    fn read(&mut self, buf: &mut [u8]) -> io::Result<usize> {
+        if self.given || buf.len() < 3 {
+            return Err(io::Error::from(ErrorKind::Other));
+        }
+        self.given = true;
+        buf[..3].copy_from_slice(b"abc");
+        Ok(3)
+    }
+}
+
+/// A writer that takes two bytes and then fails.
+#[derive(Drop)]
+struct Full {
+    taken: bool,
+}
+
+impl io::Write for Full {
+    fn write(&mut self, buf: &[u8]) -> io::Result<usize> {
+        if self.taken || buf.len() < 2 {
+            return Err(io::Error::from(ErrorKind::Other));
+        }
+        self.taken = true;
+        Ok(2)
+    }
+
+    fn flush(&mut self) -> io::Result<()> {
+        Ok(())
+    }
+}
+
+#[test]
+fn failing_devices(rt: HostRuntime) -> Result<(), Fail> {
+    let alloc = rt.alloc();
+    let args = words(alloc, &["copy"])?;
+    let mut output = Vec::new(alloc);
+    let mut errors = Vec::new(alloc);
+    let reader = Breaking { given: false };
+    assert_eq!(rt; show(alloc, &args, reader, &mut output, &mut errors), 3);
+    assert_eq!(rt; output.len(), 0);
+    assert_eq!(rt; errors.as_slice(), b"read failed\n".as_slice());
+
+    let mut errors = Vec::new(alloc);
+    let writer = Full { taken: false };
+    let input: &[u8] = b"abcdef";
+    assert_eq!(rt; show(alloc, &args, input, writer, &mut errors), 3);
+    assert_eq!(rt; errors.as_slice(), b"write failed\n".as_slice());
+    Ok(())
+}
+
+/// Errors that can't be written change no status.
+fn unheard<R: Abort + AllocGlobal>(
+    rt: &R,
+    call: &[&str],
+    input: &[u8],
+    status: u8,
+) -> Result<(), Fail> {
+    let alloc = rt.alloc();
+    let args = words(alloc, call)?;
+    let mut output = Vec::new(alloc);
+    let errors = Full { taken: true };
+    assert_eq!(rt; show(alloc, &args, input, &mut output, errors), status);
+    assert_eq!(rt; output.len(), 0);
+    Ok(())
+}
+
+#[test]
+fn failing_errors(rt: HostRuntime) -> Result<(), Fail> {
+    unheard(&rt, &[], b"abc", 2)?;
+    unheard(&rt, &["edit", "x"], b"abc", 2)?;
+    unheard(&rt, &["edit", "r9"], b"abc", 2)?;
+    unheard(&rt, &["copy"], &[97, 200], 1)
+}
+
+/// A writer that wants a whole line in one write, and no more than one.
+#[derive(Drop)]
+struct OneLine {
+    wanted: &'static [u8],
+}
+
+impl io::Write for OneLine {
+    fn write(&mut self, buf: &[u8]) -> io::Result<usize> {
+        if buf != self.wanted {
+            return Err(io::Error::from(ErrorKind::InvalidData));
+        }
+        self.wanted = b"";
+        Ok(buf.len())
+    }
+
+    fn flush(&mut self) -> io::Result<()> {
+        Ok(())
+    }
+}
+
+/// The status of a call whose line comes in one write, and whose words leave the input.
+fn told<R: Abort + AllocGlobal>(
+    rt: &R,
+    call: &[&str],
+    status: u8,
+    line: &'static [u8],
+) -> Result<(), Fail> {
+    let alloc = rt.alloc();
+    let args = words(alloc, call)?;
+    let mut input: &[u8] = b"abc";
+    let mut errors = OneLine { wanted: line };
+    let got = show(alloc, &args, &mut input, Vec::new(alloc), &mut errors);
+    assert_eq!(rt; got, status);
+    assert_eq!(rt; errors.wanted.len(), 0);
+    assert_eq!(rt; input, b"abc".as_slice());
+    Ok(())
+}
+
+#[test]
+fn words_leave_the_input(rt: HostRuntime) -> Result<(), Fail> {
+    let late = [
+        "edit", "u", "u", "u", "u", "u", "u", "u", "u", "u", "u", "u", "x",
+    ];
+    told(&rt, &late, 2, b"bad word 12\n")?;
+    told(&rt, &["ends", "FX"], 2, b"bad word 1\n")
+}
+
+#[test]
+fn numbers_of_two_digits(rt: HostRuntime) -> Result<(), Fail> {
+    let alloc = rt.alloc();
+    let args = words(
+        alloc,
+        &[
+            "edit", "u", "u", "u", "u", "u", "u", "u", "u", "u", "u", "r9",
+        ],
+    )?;
+    let mut errors = OneLine {
+        wanted: b"bad position in word 11\n",
+    };
+    let input: &[u8] = b"abc";
+    assert_eq!(rt; show(alloc, &args, input, Vec::new(alloc), &mut errors), 2);
+    assert_eq!(rt; errors.wanted.len(), 0);
+    let args = words(alloc, &["tac"])?;
+    let mut errors = OneLine {
+        wanted: b"the byte at index 12 is not ASCII\n",
+    };
+    let input: &[u8] = b"abcdefghijkl\x80";
+    assert_eq!(rt; show(alloc, &args, input, Vec::new(alloc), &mut errors), 1);
+    assert_eq!(rt; errors.wanted.len(), 0);
+    Ok(())
+}
+
+#[test]
+fn no_memory(rt: HostRuntime) -> Result<(), Fail> {
+    let alloc = rt.alloc();
+    let heap = LocalHeap::new(alloc, 64)?;
+    let call = ["edit", "u", "u", "u", "u"];
+    for args in [words(alloc, &["copy"])?, words(alloc, &call)?] {
+        let mut errors = OneLine {
+            wanted: b"no memory\n",
+        };
+        let input = vec![in alloc; b'a'; 1_000]?;
+        let mut output = Vec::new(alloc);
+        let status = show(&heap, &args, input.as_slice(), &mut output, &mut errors);
+        assert_eq!(rt; status, 3);
+        assert_eq!(rt; output.len(), 0);
+        assert_eq!(rt; errors.wanted.len(), 0);
+    }
+    Ok(())
+}

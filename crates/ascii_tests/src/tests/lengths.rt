@@ -1,0 +1,110 @@
+//! Each call that takes memory, on texts of 0, 1, 33 and 5,000 bytes: nothing gives up past a length.
+
+use ascii::iter::{End, walk_lines, walk_split};
+use ascii::json::{char_from_json, char_to_json, string_from_json};
+use ascii::{AsciiChar, AsciiString, BoxedAsciiStr, RcAsciiStr, bytes, text};
+use std::alloc::{AllocError, Global};
+use std::test::Fail;
+
+const LENGTHS: [usize; 4] = [0, 1, 33, 5_000];
+
+/// As many characters `a`, each written behind the others.
+fn long(alloc: Global, length: usize) -> Result<AsciiString, Fail> {
+    let mut string = AsciiString::new(alloc);
+    for _ in 0..length {
+        string.write_char('a')?;
+    }
+    Ok(string)
+}
+
+#[test]
+fn copies(rt: HostRuntime) -> Result<(), Fail> {
+    let alloc = rt.alloc();
+    for length in LENGTHS {
+        let string = long(alloc, length)?;
+        let view = string.as_ascii_str();
+        assert_eq!(rt; view.len(), length);
+        assert!(rt; view.to_ascii_string(alloc)? == string);
+        assert!(rt; string.clone()? == string);
+        assert!(rt; view.to_ascii_lowercase(alloc)? == string);
+        let upper = view.to_ascii_uppercase(alloc)?;
+        assert!(rt; upper.as_ascii_str().eq_ignore_ascii_case(view));
+        assert_eq!(rt; upper == string, length == 0);
+        assert!(rt; bytes::to_ascii_string(alloc, view.as_bytes()).is_ok());
+        assert!(rt; text::to_ascii_string(alloc, view.as_str()).is_ok());
+        assert_eq!(rt;
+            BoxedAsciiStr::from_ascii_str(alloc, view)?.as_ascii_str(),
+            view
+        );
+        assert_eq!(rt;
+            RcAsciiStr::from_ascii_str(alloc, view)?.as_ascii_str(),
+            view
+        );
+    }
+    Ok(())
+}
+
+#[test]
+fn collected(rt: HostRuntime) -> Result<(), Fail> {
+    let alloc = rt.alloc();
+    for length in LENGTHS {
+        let string = long(alloc, length)?;
+        let view = string.as_ascii_str();
+        let chars = view.to_chars(alloc)?;
+        assert_eq!(rt; chars.len(), length);
+        assert!(rt; AsciiString::from_chars(alloc, &chars)? == string);
+        assert!(rt; AsciiString::collect_chars(alloc, view.chars())? == string);
+        assert!(rt; AsciiString::collect_strs(alloc, view.split(AsciiChar::Comma))? == string);
+        let mut twice = AsciiString::collect_strs(alloc, view.lines())?;
+        twice.extend_chars(view.chars())?;
+        twice.extend_strs(view.lines())?;
+        assert_eq!(rt; twice.len(), 3 * length);
+        let Ok(chars) = string.into_chars(alloc) else {
+            return Err(Fail::from("refused"));
+        };
+        assert_eq!(rt; chars.len(), length);
+    }
+    Ok(())
+}
+
+/// As many ends, all at the front.
+fn fronts(alloc: Global, length: usize) -> Result<Vec<End>, AllocError> {
+    let mut script = Vec::new(alloc);
+    for _ in 0..length {
+        script.push(End::Front)?;
+    }
+    Ok(script)
+}
+
+#[test]
+fn walks(rt: HostRuntime) -> Result<(), Fail> {
+    let alloc = rt.alloc();
+    for length in LENGTHS {
+        let string = long(alloc, length)?;
+        let view = string.as_ascii_str();
+        let script = fronts(alloc, length)?;
+        let answers = walk_split(alloc, view, AsciiChar::a, &script)?;
+        assert_eq!(rt; answers.len(), length);
+        assert!(rt; answers.iter().all(|answer| answer.is_some()));
+        assert_eq!(rt; walk_lines(alloc, view, &script)?.len(), length);
+    }
+    Ok(())
+}
+
+#[test]
+fn json(rt: HostRuntime) -> Result<(), Fail> {
+    let alloc = rt.alloc();
+    for code in 0..128 {
+        let ch = AsciiChar::from_ascii_unchecked(code);
+        let value = char_to_json(alloc, ch)?;
+        assert!(rt; char_from_json(&value) == Ok(ch), "{code}");
+    }
+    for length in LENGTHS {
+        let string = long(alloc, length)?;
+        match string_from_json(alloc, &string.to_json(alloc)?) {
+            Ok(copy) => assert!(rt; copy == string),
+            Err(_) => assert!(rt; false, "{length}"),
+        }
+    }
+    Ok(())
+}
