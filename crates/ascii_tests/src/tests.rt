@@ -3,6 +3,9 @@
 
 mod both_ends;
 mod json;
+mod resuming;
+mod small_texts;
+mod spans;
 mod strings;
 mod uses;
 mod vectors;
