@@ -2,7 +2,6 @@
 use Rattle.std.specs.Prelude.{◌≡◌, ◌-◌, List, Option, drop, length, take}
 use Rattle.std.specs.Iterator.{YieldsFirstBy, YieldsLastBy}
 use Rattle.std.specs.Iterator.Runs.{EveryRun, ItemsMapTo, ItemsMapToReversed}
-use Rattle.ascii.specs.Lines.{Line}
 use Rattle.ascii.specs.Pieces.{Owed}
 use Rattle.ascii.specs.Spans.{OwedSpans}
 
@@ -13,11 +12,11 @@ KeepsOn old new = new.on ≡ old.on
 abbrev pub KeepsSpansOn : OwedSpans → OwedSpans → Type 0
 KeepsSpansOn old new = new.on ≡ old.on
 
--- all lines but the first, or but the last, stay as they were
-abbrev pub DropsFirst : List Line → List Line → Type 0
+-- all but the first item, or but the last, stay as they were
+abbrev pub DropsFirst : {A : Type 0} → List A → List A → Type 0
 DropsFirst old new = new ≡ drop 1 old
 
-abbrev pub DropsLast : List Line → List Line → Type 0
+abbrev pub DropsLast : {A : Type 0} → List A → List A → Type 0
 DropsLast old new = new ≡ take (length old - 1) old
 
 module _ {S A B : Type 0} (view : A → B) (rest : S → List B) (also : S → S → Type 0) where

@@ -4,6 +4,9 @@
 mod both_ends;
 mod json;
 mod lengths;
+mod resuming;
+mod small_texts;
+mod spans;
 mod strings;
 mod uses;
 mod vectors;

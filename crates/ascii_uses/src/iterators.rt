@@ -13,7 +13,6 @@ use ascii::{AsciiChar, AsciiStr, AsciiString};
 use std::alloc::{AllocError, Global};
 
 /// The number of pieces of a view between separators.
-#[tactic(auto, using(crate::proofs::Counts::count_of_pieces))]
 pub fn piece_count(view: AsciiStr<'_>, on: AsciiChar) -> usize
     ensures { (pieces : List (List ℕ)) × Pieces (text_of view.entry) (code_of on) pieces × (result ≡ length pieces) }
 {
@@ -31,6 +30,46 @@ pub fn piece_lengths(
     let mut lengths = Vec::new(alloc);
     for piece in view.split(on) {
         lengths.push(piece.len())?;
+    }
+    Ok(lengths)
+}
+
+/// The same by a map.
+pub fn piece_lengths_by_map(
+    alloc: Global,
+    view: AsciiStr<'_>,
+    on: AsciiChar,
+) -> Result<Vec<usize>, AllocError>
+    ensures { IfOk result (λ lengths. (pieces : List (List ℕ)) × Pieces (text_of view.entry) (code_of on) pieces × (lengths.items ≡ map length pieces)) }
+{
+    view.split(on).map(|piece| piece.len()).collect(alloc)
+}
+
+/// The pieces of a view between separators, the last one first.
+pub fn pieces_reversed<'a>(
+    alloc: Global,
+    view: AsciiStr<'a>,
+    on: AsciiChar,
+) -> Result<Vec<AsciiStr<'a>>, AllocError>
+    ensures { IfOk result (λ views. (pieces : List (List ℕ)) × Pieces (text_of view.entry) (code_of on) pieces × (map text_of views.items ≡ reverse pieces)) }
+{
+    view.split(on).rev().collect(alloc)
+}
+
+/// The number of lines of a view.
+pub fn line_count(view: AsciiStr<'_>) -> usize
+    ensures { (lines : List Line) × LinesOf (text_of view.entry) lines × (result ≡ length lines) }
+{
+    view.lines().count()
+}
+
+/// The lengths of the lines of a view, without their endings, by a loop.
+pub fn line_lengths_by_for(alloc: Global, view: AsciiStr<'_>) -> Result<Vec<usize>, AllocError>
+    ensures { IfOk result (λ lengths. (lines : List Line) × LinesOf (text_of view.entry) lines × (lengths.items ≡ map length (bodies lines))) }
+{
+    let mut lengths = Vec::new(alloc);
+    for body in view.lines() {
+        lengths.push(body.len())?;
     }
     Ok(lengths)
 }

@@ -2,7 +2,10 @@
 //! characters, pieces and lines, edits of a part of a source, and texts as JSON values.
 #![tactic(auto)]
 
+pub mod fronts;
 pub mod iterators;
 pub mod parts;
+pub mod resuming;
+pub mod spans;
 pub mod strings;
 pub mod values;

@@ -1,7 +1,7 @@
 //! The lines of a view, with and without their starts and endings.
 
 ghost use Rattle.std.specs.Prelude.{◌≡◌, ◌+◌, ◌≤◌, ◌∷◌, ◌++◌, [], IfSome, List, MatchOption, length};
-ghost use Rattle.std.specs.Iterator.{YieldsFirstBy, YieldsLastBy, item_count};
+ghost use Rattle.std.specs.Iterator.{item_count};
 ghost use Rattle.ascii.specs.Found.{ended_line, line_spans, part_in};
 ghost use Rattle.ascii.specs.Lines.{IsRestOfLines, Line, LinesOf, bodies};
 ghost use Rattle.ascii.specs.Spans.{IsRestOfLineSpans, LineSpansOf, Placed, line_in};
@@ -109,7 +109,7 @@ impl Clone for LineSpans<'_> {
 impl<'a> Iterator for LineSpans<'a> {
     type Item = LineSpan<'a>;
 
-    ghost next_gives = { YieldsFirstBy line_in (λ lines. lines) };
+    ghost next_gives = { YieldsFirstAnd line_in (λ lines. lines) DropsFirst };
 
     ghost remaining = { item_count (λ lines. lines) };
 
@@ -122,7 +122,7 @@ impl<'a> Iterator for LineSpans<'a> {
 }
 
 impl<'a> DoubleEndedIterator for LineSpans<'a> {
-    ghost next_back_gives = { YieldsLastBy line_in (λ lines. lines) };
+    ghost next_back_gives = { YieldsLastAnd line_in (λ lines. lines) DropsLast };
 
     #[inline]
     fn next_back(&mut self) -> Option<LineSpan<'a>> {
@@ -236,6 +236,8 @@ impl<'a> AsciiStr<'a> {
         ensures spans { LineSpansOf 0 (text_of self.entry) result }
         ensures only { (spans : List (Placed Line)) → LineSpansOf 0 (text_of self.entry) spans → spans ≡ result }
         ensures fits { length result ≤ usize.MAX }
+        ensures runs { RunsInOrder line_in (λ (lines : List (Placed Line)). lines) DropsFirst }
+        ensures runs_back { RunsInReverse line_in (λ (lines : List (Placed Line)). lines) DropsLast }
     {
         self.line_spans_from(0)
     }
@@ -247,6 +249,8 @@ impl<'a> AsciiStr<'a> {
         ensures spans { LineSpansOf offset (text_of self.entry) result }
         ensures only { (spans : List (Placed Line)) → LineSpansOf offset (text_of self.entry) spans → spans ≡ result }
         ensures fits { length result ≤ usize.MAX }
+        ensures runs { RunsInOrder line_in (λ (lines : List (Placed Line)). lines) DropsFirst }
+        ensures runs_back { RunsInReverse line_in (λ (lines : List (Placed Line)). lines) DropsLast }
     {
         LineSpans {
             rest: Rest {

@@ -2,9 +2,8 @@
 
 use super::views::ascii;
 use ascii::iter::{End, walk_lines, walk_split};
-use ascii::{AsciiChar, AsciiStr, AsciiString, bytes};
+use ascii::{AsciiChar, AsciiStr, AsciiString};
 use std::alloc::{AllocError, Global};
-use std::mem;
 use std::test::Fail;
 
 /// The ends that the letters `F` and `B` name.
@@ -144,65 +143,8 @@ fn characters_from_both_ends(rt: HostRuntime) -> Result<(), Fail> {
     Ok(())
 }
 
-/// The pieces of a text between separators, worked out plainly.
-fn plain_pieces(alloc: Global, text: &[u8], on: u8) -> Result<Vec<Vec<u8>>, AllocError> {
-    let mut pieces = Vec::new(alloc);
-    let mut piece = Vec::new(alloc);
-    for byte in text {
-        if *byte == on {
-            pieces.push(mem::replace(&mut piece, Vec::new(alloc)))?;
-        } else {
-            piece.push(*byte)?;
-        }
-    }
-    pieces.push(piece)?;
-    Ok(pieces)
-}
-
-/// The bodies of the lines of a text, worked out plainly.
-fn plain_bodies(alloc: Global, text: &[u8]) -> Result<Vec<Vec<u8>>, AllocError> {
-    let mut bodies = Vec::new(alloc);
-    let mut body = Vec::new(alloc);
-    for byte in text {
-        if *byte == b'\n' {
-            if body.last() == Some(&b'\r') {
-                body.pop();
-            }
-            bodies.push(mem::replace(&mut body, Vec::new(alloc)))?;
-        } else {
-            body.push(*byte)?;
-        }
-    }
-    if !body.is_empty() {
-        bodies.push(body)?;
-    }
-    Ok(bodies)
-}
-
-/// Whether the answers to a script are those of a list that is worked off from both ends.
-fn agrees(answers: &[Option<AsciiStr<'_>>], script: &[End], list: &[Vec<u8>]) -> bool {
-    let mut left = list;
-    for (answer, end) in answers.iter().zip(script) {
-        let wanted = match end {
-            End::Front => left.split_first(),
-            End::Back => left.split_last(),
-        };
-        match (answer, wanted) {
-            (Some(view), Some((item, others))) => {
-                if !view.eq_bytes(item) {
-                    return false;
-                }
-                left = others;
-            }
-            (None, None) => {}
-            _ => return false,
-        }
-    }
-    answers.len() == script.len()
-}
-
 /// Every script of eight ends.
-fn scripts(alloc: Global) -> Result<Vec<Vec<End>>, AllocError> {
+pub fn scripts(alloc: Global) -> Result<Vec<Vec<End>>, AllocError> {
     let mut all = Vec::new(alloc);
     for number in 0..256u32 {
         let mut script = Vec::new(alloc);
@@ -217,7 +159,7 @@ fn scripts(alloc: Global) -> Result<Vec<Vec<End>>, AllocError> {
 }
 
 /// The text of a length over CR, LF and `a` that a number stands for.
-fn small_text(alloc: Global, length: u32, number: u32) -> Result<Vec<u8>, AllocError> {
+pub fn small_text(alloc: Global, length: u32, number: u32) -> Result<Vec<u8>, AllocError> {
     let mut text = Vec::new(alloc);
     let mut rest = number;
     for _ in 0..length {
@@ -229,24 +171,4 @@ fn small_text(alloc: Global, length: u32, number: u32) -> Result<Vec<u8>, AllocE
         rest /= 3;
     }
     Ok(text)
-}
-
-#[test]
-fn every_small_text(rt: HostRuntime) -> Result<(), Fail> {
-    let scripts = scripts(rt.alloc())?;
-    for (length, count) in [(0, 1), (1, 3), (2, 9), (3, 27), (4, 81), (5, 243), (6, 729)] {
-        for number in 0..count {
-            let text = small_text(rt.alloc(), length, number)?;
-            let bodies = plain_bodies(rt.alloc(), &text)?;
-            let pieces = plain_pieces(rt.alloc(), &text, b'a')?;
-            let view = bytes::as_ascii_str(&text).unwrap_or_default();
-            for script in &scripts {
-                let answers = walk_lines(rt.alloc(), view, script)?;
-                assert!(rt; agrees(&answers, script, &bodies));
-                let answers = walk_split(rt.alloc(), view, AsciiChar::a, script)?;
-                assert!(rt; agrees(&answers, script, &pieces));
-            }
-        }
-    }
-    Ok(())
 }

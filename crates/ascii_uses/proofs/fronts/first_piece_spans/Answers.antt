@@ -1,0 +1,15 @@
+use Rattle.std.proofs.Common.{ap, map, refl, ◌∙◌}
+use Rattle.std.proofs.lemmas.Iterator.Consumers.{YieldsList-at}
+use Rattle.ascii.specs.Spans.{OwedSpans, piece_in}
+use Rattle.ascii.specs.Steps.{KeepsSpansOn}
+use Rattle.ascii.proofs.ExtendLemmas.{if_ok}
+use Rattle.ascii.proofs.StepsLemmas.{road_from_first_and}
+use Rattle.ascii_uses.proofs.TakenLemmas.{taken}
+use Rattle.ascii_uses.proofs.fronts.first_piece_spans.Goals as goal
+
+pub returns : goal.returns
+returns c = if_ok c.collect.result c.collect.ensures.ran (λ given ran. (
+  c.split_spans.result.spans,
+  c.split_spans.ensures.spans,
+  ap (map piece_in) ran.2.0 ∙ taken c.args.n c.take.result ran.0 (YieldsList-at c.take.ensures.source (road_from_first_and piece_in (λ (split : OwedSpans). split.spans) KeepsSpansOn c.split_spans.result.spans refl)) c.take.ensures.count ran.1,
+))

@@ -1,0 +1,101 @@
+//! Callers that stop in the middle of a walk: they count what is left, hand it over as a view, and take
+//! it up again.
+
+ghost use Rattle.std.specs.Prelude.{◌≡◌, ◌-◌, IfOk, List, MatchOption, ℕ, [], drop, length, map};
+ghost use Rattle.std.specs.Option.{option_map};
+ghost use Rattle.ascii_base.specs.Code.{code_of};
+ghost use Rattle.ascii.specs.Ends.{TakesEnd};
+ghost use Rattle.ascii.specs.Lines.{Line, LinesOf, bodies};
+ghost use Rattle.ascii.specs.Pieces.{Pieces};
+ghost use Rattle.ascii.specs.Spans.{line_in};
+ghost use Rattle.ascii.specs.View.{text_of};
+
+use ascii::iter::{End, LineSpan, LineSpans, Lines, Split, SplitSpans, take_end};
+use ascii::{AsciiChar, AsciiStr};
+use std::alloc::{AllocError, Global};
+
+/// The number of pieces of a view behind the first one.
+pub fn count_behind_first(view: AsciiStr<'_>, on: AsciiChar) -> usize
+    ensures { (pieces : List (List ℕ)) × Pieces (text_of view.entry) (code_of on) pieces × (result ≡ length pieces - 1) }
+{
+    let mut split = view.split(on);
+    split.next();
+    split.count()
+}
+
+/// The number of lines of a view before the last one.
+pub fn count_before_last(view: AsciiStr<'_>) -> usize
+    ensures { (lines : List Line) × LinesOf (text_of view.entry) lines × (result ≡ length lines - 1) }
+{
+    let mut lines = view.lines();
+    lines.next_back();
+    lines.count()
+}
+
+/// The number of lines of a view, and an iterator that still owes them all.
+pub fn counted_lines(view: AsciiStr<'_>) -> Result<(usize, Lines<'_>), AllocError>
+    ensures { IfOk result (λ answer. LinesOf (text_of view.entry) answer.1 × (answer.0 ≡ length answer.1)) }
+{
+    let lines = view.lines();
+    let count = lines.clone()?.count();
+    Ok((count, lines))
+}
+
+/// What stands behind the first two separators.
+pub fn behind_two<'a>(view: AsciiStr<'a>, on: AsciiChar) -> Option<AsciiStr<'a>>
+    ensures { (pieces : List (List ℕ)) × Pieces (text_of view.entry) (code_of on) pieces × MatchOption result (drop 2 pieces ≡ []) (λ rest. Pieces (text_of rest) (code_of on) (drop 2 pieces)) }
+{
+    let mut split = view.split(on);
+    split.next();
+    split.next();
+    split.remainder()
+}
+
+/// A split that owes the same pieces as one that was stopped, where any is left.
+pub fn split_again<'a>(split: &Split<'a>, on: AsciiChar) -> Option<Split<'a>>
+    requires { code_of on ≡ split.now.on }
+    ensures { MatchOption result (split.now.pieces ≡ []) (λ other. (other.pieces ≡ split.now.pieces) × (other.on ≡ split.now.on)) }
+{
+    let rest = split.remainder()?;
+    Some(rest.split(on))
+}
+
+/// An iterator that owes the same lines as one that was stopped, where any is left.
+pub fn lines_again<'a>(lines: &Lines<'a>) -> Option<Lines<'a>>
+    ensures { MatchOption result (lines.now ≡ []) (λ other. other ≡ lines.now) }
+{
+    let rest = lines.remainder()?;
+    Some(rest.lines())
+}
+
+/// A split that owes the same pieces with the same starts, where any is left.
+pub fn split_spans_again<'a>(split: &SplitSpans<'a>, on: AsciiChar) -> Option<SplitSpans<'a>>
+    requires { code_of on ≡ split.now.on }
+    ensures { MatchOption result (split.now.spans ≡ []) (λ other. (other.spans ≡ split.now.spans) × (other.on ≡ split.now.on)) }
+{
+    let (start, rest) = split.remainder()?;
+    Some(rest.split_spans_from(on, start))
+}
+
+/// An iterator that owes the same lines with the same starts and endings, where any is left.
+pub fn line_spans_again<'a>(lines: &LineSpans<'a>) -> Option<LineSpans<'a>>
+    ensures { MatchOption result (lines.now ≡ []) (λ other. other ≡ lines.now) }
+{
+    let (start, rest) = lines.remainder()?;
+    Some(rest.line_spans_from(start))
+}
+
+/// Takes a line with its start and its ending from an end.
+pub fn take_line_span<'a>(lines: &mut LineSpans<'a>, end: End) -> Option<LineSpan<'a>>
+    ensures { TakesEnd end lines.old (option_map line_in result) lines.new }
+{
+    take_end(lines, end)
+}
+
+/// The lengths of the pieces that a split still owes.
+#[tactic(auto, using(ascii::proofs::StepsLemmas::run_of_first_and))]
+pub fn lengths_left(alloc: Global, split: Split<'_>) -> Result<Vec<usize>, AllocError>
+    ensures { IfOk result (λ lengths. lengths.items ≡ map length split.entry.pieces) }
+{
+    split.map(|piece| piece.len()).collect(alloc)
+}
