@@ -1,2 +1,3 @@
+mod CaseLemmas
 mod Examples
-mod Images
+mod LanesLemmas

@@ -3,6 +3,7 @@ pub mod Caret
 pub mod Case
 pub mod Class
 pub mod Code
+pub mod Lanes
 pub mod Printable
 pub mod Range
 pub mod ToAscii

@@ -5,6 +5,7 @@
 pub mod ascii_char;
 pub mod free_functions;
 pub mod kernels;
+mod lanes;
 pub mod range;
 #[cfg(test)]
 mod tests;

@@ -1,34 +1,125 @@
+ghost use Rattle.std.specs.Prelude.{◌≤◌};
+
 use crate::kernels;
 
 #[test]
-fn bytes(rt: HostRuntime) {
-    let mut text = *b"a[Z{\xc3\x9f\xe0z@`";
+fn cases(rt: HostRuntime) {
+    let mut text = [0x60, 0x61, 0x7a, 0x7b, 0xe1];
     kernels::upper_in_place(&mut text);
-    assert_eq!(rt; text, *b"A[Z{\xc3\x9f\xe0Z@`");
+    assert_eq!(rt; text, [0x60, 0x41, 0x5a, 0x7b, 0xe1]);
+    let mut text = [0x40, 0x41, 0x5a, 0x5b, 0xc1];
     kernels::lower_in_place(&mut text);
-    assert_eq!(rt; text, *b"a[z{\xc3\x9f\xe0z@`");
-    assert_eq!(rt; kernels::first_other(&text), Some(4));
-    assert_eq!(rt; kernels::first_other(b"abc"), None);
-    for (one, other, same) in [
-        ("", "", true),
-        ("aZ", "Az", true),
-        ("aZ", "Azz", false),
-        ("[", "{", false),
-        ("\u{e0}", "\u{c0}", false),
-        ("\u{e0}", "\u{e0}", true),
-        ("Z", "\u{7f}", false),
+    assert_eq!(rt; text, [0x40, 0x61, 0x7a, 0x5b, 0xc1]);
+    for (first, second, same) in [
+        ([0xc1, 0x41], [0xe1, 0x41], false),
+        ([0x5b, 0x41], [0x7b, 0x41], false),
+        ([0x41, 0x7a], [0x61, 0x5a], true),
+        ([0x41, 0x5a], [0x61, 0x7f], false),
     ] {
-        let (one, other) = (one.as_bytes(), other.as_bytes());
-        assert_eq!(rt; kernels::eq_ignore_case(one, other), same);
+        assert_eq!(rt; kernels::eq_ignore_case(&first, &second), same);
     }
-    for (text, first, last) in [
-        ("  \twhite \tspace  \t", Some(3), Some(14)),
-        ("\x0ba\x0b", Some(1), Some(1)),
-        ("   ", None, None),
-        ("", None, None),
-        (" \u{a0}", Some(1), Some(2)),
-    ] {
-        assert_eq!(rt; kernels::first_not_whitespace(text.as_bytes()), first);
-        assert_eq!(rt; kernels::last_not_whitespace(text.as_bytes()), last);
+    assert!(rt; !kernels::eq_ignore_case(b"aZ", b"Azz"));
+    assert!(rt; kernels::eq_ignore_case(b"", b""));
+}
+
+#[test]
+fn ends(rt: HostRuntime) {
+    let texts: [(&[u8], Option<usize>, Option<usize>); 6] = [
+        (&[0x20, 0x0b, 0xa0], Some(2), Some(2)),
+        (&[0x85, 0x20], Some(0), Some(0)),
+        (&[0x20, 0x09], None, None),
+        (&[], None, None),
+        (b"  \twhite \tspace  \t", Some(3), Some(14)),
+        (b"\x0ba\x0b", Some(1), Some(1)),
+    ];
+    for (text, first, last) in texts {
+        assert_eq!(rt; kernels::first_not_whitespace(text), first);
+        assert_eq!(rt; kernels::last_not_whitespace(text), last);
+    }
+}
+
+#[test]
+fn others(rt: HostRuntime) {
+    let mut text = [0x7f; 64];
+    assert_eq!(rt; kernels::first_other(&text), None);
+    text[63] = 0x80;
+    assert_eq!(rt; kernels::first_other(&text), Some(63));
+    text[31] = 0x80;
+    assert_eq!(rt; kernels::first_other(&text), Some(31));
+}
+
+// Texts of each length up to past the widest step, with a byte of another kind at each place: what a
+// kernel gives there beside a plain loop.
+const LONGEST: usize = 129;
+
+fn marked(length: usize, places: [usize; 2], byte: u8, mark: u8) -> [u8; LONGEST]
+    requires { length ≤ LONGEST }
+{
+    let mut text = [b'-'; LONGEST];
+    for at in 0..length {
+        text[at] = if at == places[0] || at == places[1] {
+            mark
+        } else {
+            byte
+        };
+    }
+    text
+}
+
+#[test]
+fn searches_at_each_place(rt: HostRuntime) {
+    for length in 0..LONGEST + 1 {
+        for place in 0..length + 1 {
+            let text = marked(length, [place, (place + length) / 2], b' ', 0x85);
+            let text = &text[..length];
+            let first = text.iter().position(|byte| *byte > 127);
+            let last = text.iter().rposition(|byte| *byte > 127);
+            assert_eq!(rt; kernels::first_other(text), first, "{place} of {length}");
+            assert_eq!(rt;
+                kernels::first_not_whitespace(text),
+                first,
+                "{place} of {length}"
+            );
+            assert_eq!(rt;
+                kernels::last_not_whitespace(text),
+                last,
+                "{place} of {length}"
+            );
+        }
+    }
+}
+
+#[test]
+fn comparisons_at_each_place(rt: HostRuntime) {
+    for length in 0..LONGEST + 1 {
+        for place in 0..length {
+            let upper = marked(length, [place, place], b'Z', 0xda);
+            let lower = marked(length, [place, place], b'z', 0xda);
+            let other = marked(length, [place, place], b'z', 0xfa);
+            let (upper, lower, other) = (&upper[..length], &lower[..length], &other[..length]);
+            assert!(rt;
+                kernels::eq_ignore_case(upper, lower),
+                "{place} of {length}"
+            );
+            assert!(rt;
+                !kernels::eq_ignore_case(upper, other),
+                "{place} of {length}"
+            );
+        }
+    }
+}
+
+#[test]
+fn changes_at_each_place(rt: HostRuntime) {
+    for length in 0..LONGEST + 1 {
+        for place in 0..length {
+            let upper = marked(length, [place, place], b'Z', 0xfa);
+            let lower = marked(length, [place, place], b'z', 0xfa);
+            let (mut raised, mut lowered) = (lower, upper);
+            kernels::upper_in_place(&mut raised[..length]);
+            kernels::lower_in_place(&mut lowered[..length]);
+            assert!(rt; raised == upper, "{place} of {length}");
+            assert!(rt; lowered == lower, "{place} of {length}");
+        }
     }
 }

@@ -1,7 +1,10 @@
-use Rattle.std.proofs.Common.{ℕ, ◌≡◌, ◌<◌, get_or}
-use Rattle.ascii_base.specs.Case.{lower_image}
+use Rattle.std.proofs.Common.{◌≤◌, ◌-◌, length}
+use Rattle.ascii_base.specs.Lanes.{SameBefore}
 use Rattle.ascii_base.proofs.kernels.eq_ignore_case.Given as goal
 
--- the bytes before i agree when case doesn't count
-abbrev pub invariant-loop-i : goal.invariant-loop-i
-invariant-loop-i l = (k : ℕ) → k < l.i → lower_image (get_or l.first k 0) ≡ lower_image (get_or l.second k 0)
+-- the bytes before `at` are the same when case doesn't count
+abbrev pub invariant-loop-at : goal.invariant-loop-at
+invariant-loop-at l = record { inside : l.at ≤ length l.first; before : SameBefore l.first l.second l.at }
+
+abbrev pub decreases-loop-at : goal.decreases-loop-at
+decreases-loop-at l = length l.first - l.at

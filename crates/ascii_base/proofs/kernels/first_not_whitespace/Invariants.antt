@@ -1,7 +1,11 @@
-use Rattle.std.proofs.Common.{ℕ, ◌<◌, get_or}
+use Rattle.std.proofs.Common.{◌≤◌, ◌-◌, length}
 use Rattle.ascii_base.specs.Class.{IsWhitespace}
+use Rattle.ascii_base.specs.Lanes.{AllBefore}
 use Rattle.ascii_base.proofs.kernels.first_not_whitespace.Given as goal
 
--- every byte before i is whitespace
-abbrev pub invariant-loop-i : goal.invariant-loop-i
-invariant-loop-i l = (k : ℕ) → k < l.i → IsWhitespace (get_or l.bytes k 0)
+-- the bytes before `at` are whitespace
+abbrev pub invariant-loop-at : goal.invariant-loop-at
+invariant-loop-at l = record { inside : l.at ≤ length l.bytes; before : AllBefore IsWhitespace l.bytes l.at }
+
+abbrev pub decreases-loop-at : goal.decreases-loop-at
+decreases-loop-at l = length l.bytes - l.at

@@ -1,6 +1,10 @@
-use Rattle.std.proofs.Common.{ℕ, ◌<◌, get_or}
+use Rattle.std.proofs.Common.{◌<◌, ◌≤◌, ◌-◌, length}
+use Rattle.ascii_base.specs.Lanes.{AllBefore}
 use Rattle.ascii_base.proofs.kernels.first_other.Given as goal
 
--- no byte before i is over 127
-abbrev pub invariant-loop-i : goal.invariant-loop-i
-invariant-loop-i l = (k : ℕ) → k < l.i → get_or l.bytes k 0 < 128
+-- the bytes before `at` are under 128
+abbrev pub invariant-loop-at : goal.invariant-loop-at
+invariant-loop-at l = record { inside : l.at ≤ length l.bytes; before : AllBefore (λ byte. byte < 128) l.bytes l.at }
+
+abbrev pub decreases-loop-at : goal.decreases-loop-at
+decreases-loop-at l = length l.bytes - l.at

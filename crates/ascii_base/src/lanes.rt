@@ -1,0 +1,95 @@
+//! Tests and maps of several bytes at once, at any number of lanes up to 64.
+
+ghost use Rattle.std.specs.Prelude.{ℕ, ◌≡◌, ◌≢◌, ◌<◌, ◌≤◌, ◌+◌, ◌*◌, ◌↔◌, IsTrue, map, length, slice_index};
+ghost use Rattle.std.specs.Int.{bit_at};
+ghost use Rattle.ascii_base.specs.Case.{upper_image, lower_image};
+ghost use Rattle.ascii_base.specs.Class.{IsWhitespace};
+ghost use Rattle.ascii_base.specs.Lanes.{Marks, SameBefore};
+
+use std::simd::prelude::*;
+
+/// How many bytes a step of the loops takes.
+pub(crate) const LANES: usize = 32;
+
+/// How many bytes one test of `is_quiet` takes.
+pub(crate) const QUIET: usize = 4 * LANES;
+
+/// Marks the bytes over 127 among the `N` from `at` on.
+#[inline(always)]
+pub(crate) fn others<const N: usize>(bytes: &[u8], at: usize) -> u64
+    requires lanes { N ≤ 64 }
+    requires room { at + N ≤ length bytes.now }
+    ensures { Marks (λ byte. byte < 128) bytes.now at N result }
+{
+    let lanes = Simd::<u8, N>::from_slice(&bytes[at..]);
+    lanes.simd_ge(Simd::splat(128)).to_bitmask()
+}
+
+/// Marks the bytes that are no whitespace among the `N` from `at` on.
+#[inline(always)]
+pub(crate) fn not_whitespace<const N: usize>(bytes: &[u8], at: usize) -> u64
+    requires lanes { N ≤ 64 }
+    requires room { at + N ≤ length bytes.now }
+    ensures { Marks IsWhitespace bytes.now at N result }
+{
+    let lanes = Simd::<u8, N>::from_slice(&bytes[at..]);
+    let from_tab = lanes - Simd::splat(b'\t');
+    (from_tab.simd_ge(Simd::splat(5)) & lanes.simd_ne(Simd::splat(b' '))).to_bitmask()
+}
+
+/// Whether the 128 bytes from `at` on are all under 128, by one test.
+#[inline(always)]
+pub(crate) fn is_quiet(bytes: &[u8], at: usize) -> bool
+    requires { at + QUIET ≤ length bytes.now }
+    ensures { IsTrue result → (k : ℕ) → at ≤ k → k < at + QUIET → slice_index bytes.now k < 128 }
+{
+    let front = u8x32::from_slice(&bytes[at..]) | u8x32::from_slice(&bytes[at + LANES..]);
+    let back = u8x32::from_slice(&bytes[at + 2 * LANES..])
+        | u8x32::from_slice(&bytes[at + 3 * LANES..]);
+    (front | back).simd_ge(u8x32::splat(128)).to_bitmask() == 0
+}
+
+/// Each byte of `a` to `z` as that of `A` to `Z`.
+#[inline(always)]
+pub(crate) fn upper_of(lanes: u8x32) -> u8x32
+    ensures { result ≡ map upper_image lanes }
+{
+    let is_lower = (lanes - u8x32::splat(b'a')).simd_lt(u8x32::splat(26));
+    lanes - is_lower.select(u8x32::splat(32), u8x32::splat(0))
+}
+
+/// Each byte of `A` to `Z` as that of `a` to `z`.
+#[inline(always)]
+pub(crate) fn lower_of(lanes: u8x32) -> u8x32
+    ensures { result ≡ map lower_image lanes }
+{
+    let is_upper = (lanes - u8x32::splat(b'A')).simd_lt(u8x32::splat(26));
+    lanes + is_upper.select(u8x32::splat(32), u8x32::splat(0))
+}
+
+/// Whether the `N` bytes from `at` on are the same in both when case doesn't count: no two bytes of a
+/// place differ in a bit, but for the bit of the case where the first is a letter.
+#[inline(always)]
+pub(crate) fn is_same<const N: usize>(first: &[u8], second: &[u8], at: usize) -> bool
+    requires lanes { N ≤ 64 }
+    requires same_length { length first.now ≡ length second.now }
+    requires room { at + N ≤ length first.now }
+    requires before { SameBefore first.now second.now at }
+    ensures { IsTrue result ↔ SameBefore first.now second.now (at + N) }
+{
+    let lanes = Simd::<u8, N>::from_slice(&first[at..]);
+    let is_letter = ((lanes | Simd::splat(32)) - Simd::splat(b'a')).simd_lt(Simd::splat(26));
+    let counted = is_letter.select(Simd::splat(0xdf), Simd::splat(0xff));
+    let apart = (lanes ^ Simd::<u8, N>::from_slice(&second[at..])) & counted;
+    apart.simd_ne(Simd::splat(0)).to_bitmask() == 0
+}
+
+/// The place of the highest bit that is set.
+#[inline(always)]
+pub(crate) fn highest(mask: u64) -> usize
+    requires { mask ≢ 0 }
+    ensures set { bit_at mask result ≡ 1 }
+    ensures above { (k : ℕ) → result < k → bit_at mask k ≡ 0 }
+{
+    mask.ilog2() as usize
+}
