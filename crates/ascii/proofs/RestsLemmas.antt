@@ -2,9 +2,10 @@
 -- walk by hand gives the source up. Assumes `Logic`.
 use mathlib.Core.Path.{◌≡◌, refl}
 use mathlib.Core.List.{List, [], ◌∷◌}
-use Prim.Native.Nat.{ℕ}
+use Prim.Native.Nat.{ℕ, ◌<◌, ◌^◌}
 use seplogic.Ra.Ura.{Ura}
-use mir.Val.{Val}
+use mir.Syntax.{w64}
+use mir.Val.{Val, vint, vstruct, vcons, vnil}
 use base.Logic.{ent, emp, wand}
 use base.Fml.{GName, fex, feq, fsep, fres, fauth, fobs}
 use types.Logic.{Logic, sem}
@@ -19,10 +20,12 @@ use denote.Array.{Array}
 use denote.Follow.{follows, follows_by, such_by}
 use denote.FollowSlice.{heres_id}
 use denote.Laws.{shows}
+use denote.Shadow.{makes_shadow}
 use denote.Steps.{peeks}
 use Rattle.std.specs.Borrow.{RestsIfErr}
 use Rattle.std.specs.declared.result.Result.TheVariants.{Ok, Err}
 use Rattle.ascii.specs.declared.ascii_str_mut.AsciiStrMut.{AsciiStrMut}
+use Rattle.ascii.specs.contracts.ascii_str.AsAsciiStrError as E
 use Rattle.ascii.specs.contracts.ascii_str_mut.AsciiStrMut as V
 use Rattle.ascii.specs.declared.bytes_mut.Searched.{Searched}
 use Rattle.ascii.specs.contracts.bytes_mut.Searched as S
@@ -88,3 +91,9 @@ module _ {M : Type 1} {𝓤 : Ura M} (𝓛 : Logic 𝓤) where
   found_view a r vs = qed 𝓛 (‵ ((S.the_row a).own_val r vs) ∷ []) ∵ fpick ! (λ us. fsplit ! $ drop ! $ fsplit ! $ keep ! (0 ∷ []) $
       peeks ! (V.the_row a) _ (shows 𝓛 (V.the_row a)) r.view us.0 (λ is.
       rewrite ! 0 (λ (ws : List Val). ‵ ((V.the_row a).own_val r.view ws)) ((view_laws.lowers a).val_is r.view us.0 is) refl $ done !))
+
+-- the error of a position, made of its number
+pub error_made : {M : Type 1} {𝓤 : Ura M} (𝓛 : Logic 𝓤) (n : ℕ) → n < 2 ^ 64
+    → ent 𝓤 (emp 𝓤) (sem 𝓛 (E.the_row.own_val (record { valid_up_to = n }) (vstruct (vcons (vint w64 n) vnil) ∷ [])))
+error_made 𝓛 n fits = makes_shadow 𝓛 (E.the_row.own_val (record { valid_up_to = n }) (vstruct (vcons (vint w64 n) vnil) ∷ [])) (λ _. (tt, ((tt, tt), tt)))
+    ((vint w64 n ∷ [], tt), (refl, ((refl, fits), tt)))

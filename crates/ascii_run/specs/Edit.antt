@@ -1,4 +1,4 @@
--- Why edits that keep no reply stop before their end.
+-- Why edits that keep no reply stop before their end. Private functions alone cite it.
 use Rattle.std.specs.Prelude.{◌≡◌, ℕ, List}
 use Rattle.ascii_run.specs.declared.commands.Cmd.{Cmd}
 use Rattle.ascii_run.specs.declared.faults.EngineFault.{EngineFault}

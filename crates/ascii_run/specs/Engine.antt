@@ -45,6 +45,8 @@ abbrev pub write_failures : {T : Type 0} → ℕ → Result T EngineFault → �
 write_failures n (Err Write) = n + 1
 write_failures n other = n
 
+-- ---- cited by private functions alone
+
 -- the writer took a beginning of the bytes
 abbrev pub AppendsFront : Option (List ℕ) → Option (List ℕ) → List ℕ → Type 0
 AppendsFront old new bytes = (sent others : List ℕ) × Appends old new sent × (sent ++ others ≡ bytes)

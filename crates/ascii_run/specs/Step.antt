@@ -39,11 +39,6 @@ said (reply.Refused e) = refused (position_of e)
 said reply.NoMemory = no_memory
 said reply.TooMany = too_many
 
--- what the reply to a growth says
-abbrev pub said_of_growth : Result (Unit {0}) AllocError → Said
-said_of_growth (Ok x) = done
-said_of_growth (Err e) = no_memory
-
 -- the range lies within n characters, as a test
 abbrev pub lies_within : AsciiRange → ℕ → Bool
 lies_within r n = nat_le (start_of r) (end_of r n) && nat_le (end_of r n) n
@@ -102,6 +97,13 @@ MayRefuse sure t other = ⊥
 abbrev pub Step : ℕ → List ℕ → Cmd → Said → List ℕ → Type 0
 Step sure t cmd r t2 =
     ((r ≡ answer t cmd) × (t2 ≡ after t cmd)) ⊎ ((r ≡ no_memory) × MayRefuse sure t cmd × (t2 ≡ t))
+
+-- ---- cited by private functions alone
+
+-- what the reply to a growth says
+abbrev pub said_of_growth : Result (Unit {0}) AllocError → Said
+said_of_growth (Ok x) = done
+said_of_growth (Err e) = no_memory
 
 -- where memory may be wanting for a string with this text and capacity: a growth past the capacity,
 -- a shrinking of more room than the text needs, or a copy

@@ -24,23 +24,22 @@ fn bytes_of(alloc: Global, front: &str, length: usize, back: &str) -> Result<Vec
 #[test]
 fn each_mode(rt: HostRuntime) -> Result<(), Fail> {
     let alloc = rt.alloc();
+    let script = [End::Back];
+    let cmds = [Cmd::Len];
     for length in LENGTHS {
         let input = bytes_of(alloc, "", length, "")?;
         let line = if length == 0 { "" } else { "\n" };
-        let answer = if length == 0 {
-            ("-", "\n")
-        } else {
-            ("+", "\n")
-        };
-        for (mode, front, back) in [
+        let sign = if length == 0 { "-" } else { "+" };
+        let rows: [(Mode<'_>, &str, &str); 7] = [
             (Mode::Copy, "", ""),
             (Mode::Lines, "", line),
             (Mode::Tac, "", line),
             (Mode::Caret, "", ""),
-            (Mode::Ends(&[End::Back]), answer.0, answer.1),
-            (Mode::Edit(&[]), "", ""),
+            (Mode::Ends(&script), sign, "\n"),
+            (Mode::Edit(&cmds), "", ""),
             (Mode::Json, "\"", "\""),
-        ] {
+        ];
+        for (mode, front, back) in rows {
             let (outcome, written) = ran(alloc, mode, &input);
             assert_eq!(rt; outcome, Ok(()), "{length}");
             assert!(rt;

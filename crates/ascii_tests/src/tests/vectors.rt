@@ -1,8 +1,6 @@
 //! Vectors that were made with the Rust crate.
 
-use super::both_ends::{ends, joined};
 use super::views::{ascii, outcome};
-use ascii::iter::{walk_lines, walk_split};
 use ascii::{AsciiChar, AsciiRange, bytes, text};
 use std::alloc::{AllocError, Global};
 use std::cmp::Ordering;
@@ -90,82 +88,6 @@ fn every_form_at_its_edges(rt: HostRuntime) -> Result<(), Fail> {
             };
             assert_eq!(rt; length_for_writing(part, *range), length_of(want));
         }
-    }
-    Ok(())
-}
-
-// A text, ends, and what its split at a comma answers to them: a bar behind each, `~` for a `None`.
-static SPLITS: [(&str, &str, &str); 24] = [
-    (",,a,baba", "BFBFF", "baba||a||~|"),
-    ("", "FBBFBFFF", "|~|~|~|~|~|~|~|"),
-    (",bbaabbb", "BBF", "bbaabbb||~|"),
-    ("bbb,,a,,", "FBF", "bbb|||"),
-    (",a,", "BBB", "|a||"),
-    (",b,,b", "BFB", "b|||"),
-    (",a,,,a,abbab,,,,,a,,a,ab,,b,,a,,,", "FFB", "|a||"),
-    ("baa,a", "BBB", "a|baa|~|"),
-    (",baa,,bbb,ab", "BFFBB", "ab||baa|bbb||"),
-    (",", "FBBBBBBB", "||~|~|~|~|~|~|"),
-    ("ba,b,", "FFBBB", "ba|b||~|~|"),
-    ("", "FBBBB", "|~|~|~|~|"),
-    (",,b", "FBBBBBBB", "|b||~|~|~|~|~|"),
-    (",,,", "FBBBF", "||||~|"),
-    ("bb,,,a,b", "BBBFFFBF", "b|a||bb||~|~|~|"),
-    ("b", "FBFFFFFB", "b|~|~|~|~|~|~|~|"),
-    (",", "FBB", "||~|"),
-    (",ab", "BFB", "ab||~|"),
-    (",,a,a", "BFBBBBFB", "a||a||~|~|~|~|"),
-    (",,bb,", "BFFFBFBF", "|||bb|~|~|~|~|"),
-    ("b,,", "BFBBB", "|b||~|~|"),
-    (",,b,,,,,a,,,", "FBFFB", "|||b||"),
-    (",", "FBF", "||~|"),
-    (",b,ab", "BFBBB", "ab||b|~|~|"),
-];
-
-// The same of its lines.
-static LINES: [(&str, &str, &str); 24] = [
-    ("\n\n\r\n\raab", "BBBFB", "\raab||||~|"),
-    ("\r\r\r", "FFFBBFFF", "\r\r\r|~|~|~|~|~|~|~|"),
-    ("\n\n\n\r\r", "BBBBFBBF", "\r\r||||~|~|~|~|"),
-    ("a\r\n", "BBBFFBBB", "a|~|~|~|~|~|~|~|"),
-    ("b\n\n\naa\rb", "FFFBB", "b|||aa\rb|~|"),
-    ("", "BFFFF", "~|~|~|~|~|"),
-    ("\ra\rb\r\r\nb", "FBF", "\ra\rb\r|b|~|"),
-    ("", "FFFBFBFF", "~|~|~|~|~|~|~|~|"),
-    ("\n\nba\na\r\r\n\n\n\r", "BFFBFBFB", "\r||||ba||a\r|~|"),
-    ("", "FBBFFBBB", "~|~|~|~|~|~|~|~|"),
-    ("b", "FBFFFFBF", "b|~|~|~|~|~|~|~|"),
-    ("\n\n\ra\n", "BFF", "\ra|||"),
-    ("\rb\raa", "BFFBBFBB", "\rb\raa|~|~|~|~|~|~|~|"),
-    ("\r\r\n\nb\r\r\r", "BBFFF", "b\r\r\r||\r|~|~|"),
-    ("aaaab", "FFB", "aaaab|~|~|"),
-    ("\r\ra\n\n", "BBBBF", "|\r\ra|~|~|~|"),
-    ("b", "FFBBBFBF", "b|~|~|~|~|~|~|~|"),
-    ("b\r\r", "FBF", "b\r\r|~|~|"),
-    ("\r\ra", "FBBFFBBB", "\r\ra|~|~|~|~|~|~|~|"),
-    ("b\rbab\ra\nb\ra\n", "BBFBB", "b\ra|b\rbab\ra|~|~|~|"),
-    ("a\r\r", "FFFFF", "a\r\r|~|~|~|~|"),
-    ("\n\n\r\ra\na\n\r\nba", "BFF", "ba|||"),
-    ("\n", "BFF", "|~|~|"),
-    ("a\n\naa\r\n\n\r\raa", "FBF", "a|\r\raa||"),
-];
-
-#[test]
-fn walked_pieces(rt: HostRuntime) -> Result<(), Fail> {
-    for (source, script, want) in SPLITS {
-        let script = ends(rt.alloc(), script)?;
-        let answers = walk_split(rt.alloc(), ascii(source), AsciiChar::Comma, &script)?;
-        assert_eq!(rt; joined(rt.alloc(), &answers)?.as_ascii_str().as_str(), want);
-    }
-    Ok(())
-}
-
-#[test]
-fn walked_lines(rt: HostRuntime) -> Result<(), Fail> {
-    for (source, script, want) in LINES {
-        let script = ends(rt.alloc(), script)?;
-        let answers = walk_lines(rt.alloc(), ascii(source), &script)?;
-        assert_eq!(rt; joined(rt.alloc(), &answers)?.as_ascii_str().as_str(), want);
     }
     Ok(())
 }

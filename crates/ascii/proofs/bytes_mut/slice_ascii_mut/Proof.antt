@@ -9,7 +9,6 @@ use mir.Val.{Val, vint, vstruct, vcons, vnil, of_list}
 use seplogic.Ra.Ura.{Ura}
 use base.Logic.{id⊢, ent, emp}
 use types.Logic.{Logic, sem}
-use denote.Shadow.{makes_shadow}
 use base.Fml.{GName, fres}
 use contract.Monad.{fact, fact_i}
 use contract.Running.{tables}
@@ -41,7 +40,7 @@ use Rattle.ascii.specs.WritingView.{IsPart, whole_of, lender_of}
 use Rattle.ascii.specs.declared.bytes_mut.Searched.{Searched}
 use Rattle.ascii.specs.contracts.bytes_mut.Searched as S
 use Rattle.ascii.proofs.bytes_mut.Searched.TheLaws as found_laws
-use Rattle.ascii.proofs.RestsLemmas.{Bytes, given_up, found_view, rests_ok, rests_err}
+use Rattle.ascii.proofs.RestsLemmas.{Bytes, error_made, given_up, found_view, rests_ok, rests_err}
 use Rattle.std.specs.Borrow.{RestsIfErr}
 use Rattle.ascii.specs.declared.ascii_str.AsAsciiStrError.{AsAsciiStrError}
 use Rattle.ascii.specs.declared.ascii_str_mut.AsciiStrMut.{AsciiStrMut}
@@ -67,11 +66,6 @@ is_true false t = absurd t
 is_false : (b : Bool) → T (not b) → b ≡ false
 is_false true t = absurd t
 is_false false t = refl
-
-error_made : {M : Type 1} {𝓤 : Ura M} (𝓛 : Logic 𝓤) (n : ℕ) → n < 2 ^ 64
-    → ent 𝓤 (emp 𝓤) (sem 𝓛 (E.the_row.own_val (record { valid_up_to = n }) (vstruct (vcons (vint w64 n) vnil) ∷ [])))
-error_made 𝓛 n fits = makes_shadow 𝓛 (E.the_row.own_val (record { valid_up_to = n }) (vstruct (vcons (vint w64 n) vnil) ∷ [])) (λ _. (tt, ((tt, tt), tt)))
-    ((vint w64 n ∷ [], tt), (refl, ((refl, fits), tt)))
 
 pub slice_ascii_mut_spec : {M : Type 1} → statement M
 slice_ascii_mut_spec 𝓤 𝓛 𝓜 𝓡 wired =

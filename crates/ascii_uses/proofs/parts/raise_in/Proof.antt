@@ -24,7 +24,6 @@ use denote.Exit.{yes}
 use denote.Laws.{Is, Typed, shows}
 use denote.Param.Laws.{Told, enum_told, row_laws}
 use denote.Ref.{MutBor, NamedLft}
-use denote.Shadow.{makes_shadow}
 use denote.Signature.{plain, named_lft}
 use denote.Slice.{MutSlice, mut_slice_vals, mut_slice_Tells, finally, res-finally}
 use denote.FollowSlice.{heres_id}
@@ -58,7 +57,7 @@ use Rattle.ascii.specs.contracts.ascii_str.AsAsciiStrError as E
 use Rattle.ascii.specs.contracts.ascii_str_mut.AsciiStrMut as V
 use Rattle.ascii.proofs.ascii_str.AsAsciiStrError.TheLaws as error_laws
 use Rattle.ascii.proofs.ascii_str_mut.AsciiStrMut.TheLaws as view_laws
-use Rattle.ascii.proofs.RestsLemmas.{Bytes, given_up, rested}
+use Rattle.ascii.proofs.RestsLemmas.{Bytes, error_made, given_up, rested}
 use Rattle.ascii_uses.proofs.Relent.{Keeps, Again, Back, lends_slice_again, slice_comes_back, ok_view}
 use Rattle.ascii_uses.specs.contracts.parts.raise_in as f
 use Rattle.ascii_uses.proofs.parts.raise_in.Statement.{statement}
@@ -86,11 +85,6 @@ module _ {M : Type 1} {𝓤 : Ura M} {𝓛 : Logic 𝓤} {K : Type 0} {Γ : List
   by_result : {X Y : Type 0} (x : Result X Y) → ((w : X) → x ≡ Ok w → Seq K 𝓛 Γ G) → ((e : Y) → x ≡ Err e → Seq K 𝓛 Γ G) → Seq K 𝓛 Γ G
   by_result (Ok w) k k' = k w refl
   by_result (Err e) k k' = k' e refl
-
-error_made : {M : Type 1} {𝓤 : Ura M} (𝓛 : Logic 𝓤) (n : ℕ) → n < 2 ^ 64
-    → ent 𝓤 (emp 𝓤) (sem 𝓛 (E.the_row.own_val (record { valid_up_to = n }) (vstruct (vcons (vint w64 n) vnil) ∷ [])))
-error_made 𝓛 n fits = makes_shadow 𝓛 (E.the_row.own_val (record { valid_up_to = n }) (vstruct (vcons (vint w64 n) vnil) ∷ [])) (λ _. (tt, ((tt, tt), tt)))
-    ((vint w64 n ∷ [], tt), (refl, ((refl, fits), tt)))
 
 pub raise_in_spec : {M : Type 1} → statement M
 raise_in_spec 𝓤 𝓛 𝓜 𝓡 wired =

@@ -1,7 +1,6 @@
 //! Walks that stop at each place and go on over what is left give what an unbroken walk gives.
 
-use super::both_ends::scripts;
-use super::views::ascii;
+use super::both_ends::{ascii, scripts};
 use ascii::iter::{
     End, LineSpan, SplitSpan, take_end, walk_line_spans, walk_lines, walk_split, walk_split_spans,
 };

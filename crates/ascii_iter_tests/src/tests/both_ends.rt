@@ -1,10 +1,14 @@
 //! Characters, pieces and lines from both ends.
 
-use super::views::ascii;
 use ascii::iter::{End, walk_lines, walk_split};
-use ascii::{AsciiChar, AsciiStr, AsciiString};
+use ascii::{AsciiChar, AsciiStr, AsciiString, text};
 use std::alloc::{AllocError, Global};
 use std::test::Fail;
+
+/// The view of a text that is ASCII.
+pub fn ascii(source: &str) -> AsciiStr<'_> {
+    text::as_ascii_str(source).unwrap_or_default()
+}
 
 /// The ends that the letters `F` and `B` name.
 pub fn ends(alloc: Global, letters: &str) -> Result<Vec<End>, AllocError> {
