@@ -155,17 +155,15 @@ fn push_span<A: Allocator>(
 ) -> Result<(), AllocError>
     ensures { OnOk result (output.new.text ≡ output.old.text ++ span_text (option_map line_in answer.entry)) }
 {
-    match answer {
-        Some(span) => {
-            output.push(AsciiChar::Plus)?;
-            push_number(output, span.start)?;
-            output.push(AsciiChar::Space)?;
-            output.push_str(word_of_ending(span.ending))?;
-            output.push(AsciiChar::Space)?;
-            output.push_str(span.text)?;
-        }
-        None => output.push(AsciiChar::Minus)?,
-    }
+    let Some(span) = answer else {
+        return push_answer(output, None);
+    };
+    output.push(AsciiChar::Plus)?;
+    push_number(output, span.start)?;
+    output.push(AsciiChar::Space)?;
+    output.push_str(word_of_ending(span.ending))?;
+    output.push(AsciiChar::Space)?;
+    output.push_str(span.text)?;
     output.push(AsciiChar::LineFeed)
 }
 
