@@ -1,27 +1,30 @@
 -- One more answer in the output of a script of ends.
-use Rattle.std.proofs.Common.{◌≡◌, ℕ, ◌+◌, ◌<◌, List, [], ◌∷◌, ◌++◌, length, get_or, take, Option, sym, ap, subst, ◌∙◌, append-nil}
+use Rattle.std.proofs.Common.{◌≡◌, ℕ, ◌+◌, ◌<◌, ◌≤◌, List, [], ◌∷◌, ◌++◌, length, get_or, take, Option, sym, ap, ◌∙◌, append-nil}
 use Rattle.std.specs.List.{flat_map}
-use Rattle.std.proofs.lemmas.List.{take_more}
 use Rattle.std.proofs.lemmas.Grind.{flat_map-append}
 use Rattle.ascii.specs.declared.iter.walks.End.{End}
 use Rattle.ascii.specs.Ends.{EndsTo, TakesEnd}
-use Rattle.ascii.proofs.EndsLemmas.{AnswersTo-more}
-use Rattle.ascii_run.specs.Output.{answer_text}
+use Rattle.ascii.proofs.EndsLemmas.{AnswersTo-all, AnswersTo-step}
+use Rattle.ascii_run.specs.Output.{ShowsEnds}
 
--- the answers to the ends up to the next place, and their output
-pub ends_output_more : (items mid left : List (List ℕ)) (script : List End) (k : ℕ) (end : End) (answer : Option (List ℕ)) (old new : List ℕ)
-    → k < length script → get_or script k end ≡ end
-    → ((answers : List (Option (List ℕ))) × EndsTo items (take k script) answers mid × (old ≡ flat_map answer_text answers))
-    → TakesEnd end mid answer left → new ≡ old ++ answer_text answer
-    → (answers : List (Option (List ℕ))) × EndsTo items (take (k + 1) script) answers left × (new ≡ flat_map answer_text answers)
-ends_output_more items mid left script k end answer old new inside here so_far takes is =
-    let answers = so_far.0 in
-    let more = answers ++ answer ∷ [] in
-    let P : List End → Type 0 = λ s. EndsTo items s more left in
-    let next : take (k + 1) script ≡ take k script ++ end ∷ [] = take_more script k end inside ∙ ap (λ e. take k script ++ e ∷ []) here in (
-      more,
-      subst P (sym next) (AnswersTo-more TakesEnd items (take k script) answers mid left end answer so_far.1 takes),
-      is ∙ (ap (λ xs. xs ++ answer_text answer) so_far.2
-          ∙ (ap (λ xs. flat_map answer_text answers ++ xs) (sym (append-nil (answer_text answer)))
-          ∙ sym (flat_map-append answer_text answers (answer ∷ [])))),
-    )
+-- the output of the answers so far, and what is still owed
+abbrev pub ShowsSoFar : {A : Type 0} → (Option A → List ℕ) → List A → List End → List ℕ → List A → Type 0
+ShowsSoFar {A} shown items script output left = (answers : List (Option A)) × EndsTo items script answers left × (output ≡ flat_map shown answers)
+
+module _ {A : Type 0} (shown : Option A → List ℕ) (items left : List A) (script : List End) (k : ℕ) where
+  -- the answers to the ends up to the next place, and their output
+  pub shows_more : (mid : List A) (end : End) (answer : Option A) (old new : List ℕ) → k < length script → get_or script k end ≡ end
+      → ShowsSoFar shown items (take k script) old mid → TakesEnd end mid answer left → new ≡ old ++ shown answer
+      → ShowsSoFar shown items (take (k + 1) script) new left
+  shows_more mid end answer old new inside here so_far takes is =
+      let answers = so_far.0 in (
+        answers ++ answer ∷ [],
+        AnswersTo-step TakesEnd items mid left script k end answers answer inside here so_far.1 takes,
+        is ∙ (ap (λ xs. xs ++ shown answer) so_far.2
+            ∙ (ap (λ xs. flat_map shown answers ++ xs) (sym (append-nil (shown answer)))
+            ∙ sym (flat_map-append shown answers (answer ∷ [])))),
+      )
+
+  -- the answers to the whole script
+  pub shows_all : (output : List ℕ) → length script ≤ k → ShowsSoFar shown items (take k script) output left → ShowsEnds shown items script output
+  shows_all output past so_far = (so_far.0, (left, AnswersTo-all TakesEnd items left script k so_far.0 past so_far.1), so_far.2)

@@ -17,6 +17,9 @@ pub enum Mode<'a> {
     /// For each end of the script what one iterator of lines gives: `+`, the body and LF, or `-` and
     /// LF where none is left.
     Ends(&'a [End]),
+    /// The same with the place where each line starts and how it ends: `+`, the start in decimal, a
+    /// space, `lf`, `crlf` or `none`, a space, the body and LF, or `-` and LF where none is left.
+    EndsSpans(&'a [End]),
     /// The text after the commands, in order.
     Edit(&'a [Cmd<'a>]),
     /// The text as a compact JSON string.

@@ -1,23 +1,23 @@
 //! The output of each mode for a text.
 
-ghost use Rattle.std.specs.Prelude.{◌≡◌, IfErr, IfOk, OnOk, [], ◌++◌};
+ghost use Rattle.std.specs.Prelude.{◌≡◌, IfErr, IfOk, OnOk, [], ◌++◌, decimal};
 ghost use Rattle.std.specs.Option.{option_map};
 ghost use Rattle.ascii_base.specs.Code.{code_of};
 ghost use Rattle.std.specs.List.{flat_map};
 ghost use Rattle.ascii.specs.Cow.{cow_text};
-ghost use Rattle.ascii.specs.Ends.{TakesEnd};
-ghost use Rattle.ascii.specs.Lines.{bodies};
+ghost use Rattle.ascii.specs.Spans.{line_in};
 ghost use Rattle.ascii.specs.View.{text_of};
 ghost use Rattle.ascii_run.specs.Engine.{StopsOutput};
-ghost use Rattle.ascii_run.specs.Output.{IsOutput, answer_text, caret_text};
+ghost use Rattle.ascii_run.specs.Output.{IsOutput, answer_text, caret_text, ending_word, span_text};
 ghost use Rattle.ascii_run.specs.Run.{HasNoFault, plain_text};
 ghost use Rattle.ascii_run.specs.JsonText.{json_text};
 
 use crate::commands::{Cmd, edit};
 use crate::faults::EngineFault;
 use crate::modes::Mode;
-use ascii::iter::{End, Lines};
-use ascii::{AsciiChar, AsciiStr, AsciiString, CowAsciiStr, caret_encode};
+use ascii::iter::{End, Ending, LineSpan, take_end};
+use ascii::{AsciiChar, AsciiStr, AsciiString, CowAsciiStr, caret_encode, text};
+use itoa::Buffer;
 use json::Writer;
 use std::alloc::{AllocError, Allocator};
 
@@ -36,6 +36,7 @@ pub fn output_of<'a, A: Allocator + Copy>(
         Mode::Tac => tac_output(alloc, text)?,
         Mode::Caret => caret_output(alloc, text)?,
         Mode::Ends(script) => ends_output(alloc, text, script)?,
+        Mode::EndsSpans(script) => ends_spans_output(alloc, text, script)?,
         Mode::Edit(cmds) => edit_output(alloc, text, cmds)?,
         Mode::Json => json_output(alloc, text)?,
     };
@@ -108,19 +109,25 @@ fn ends_output<A: Allocator>(
     let mut output = AsciiString::new(alloc);
     let mut lines = text.lines();
     for end in script {
-        push_answer(&mut output, take_line(&mut lines, *end))?;
+        push_answer(&mut output, take_end(&mut lines, *end))?;
     }
     Ok(output)
 }
 
-/// Takes a line from an end.
-fn take_line<'a>(lines: &mut Lines<'a>, end: End) -> Option<AsciiStr<'a>>
-    ensures { TakesEnd end (bodies lines.old) (option_map text_of result) (bodies lines.new) }
+/// The same with the start and the ending of each line.
+fn ends_spans_output<A: Allocator>(
+    alloc: A,
+    text: AsciiStr<'_>,
+    script: &[End],
+) -> Result<AsciiString<A>, AllocError>
+    ensures { IfOk result (λ output. IsOutput (Mode.EndsSpans script.entry) (text_of text.entry) output.text) }
 {
-    match end {
-        End::Front => lines.next(),
-        End::Back => lines.next_back(),
+    let mut output = AsciiString::new(alloc);
+    let mut lines = text.line_spans();
+    for end in script {
+        push_span(&mut output, take_end(&mut lines, *end))?;
     }
+    Ok(output)
 }
 
 /// Appends an answer: `+`, the body and LF, or `-` and LF.
@@ -138,6 +145,45 @@ fn push_answer<A: Allocator>(
         None => output.push(AsciiChar::Minus)?,
     }
     output.push(AsciiChar::LineFeed)
+}
+
+/// Appends an answer with its place: `+`, the start, the ending's word and the body with spaces
+/// between, and LF; or `-` and LF.
+fn push_span<A: Allocator>(
+    output: &mut AsciiString<A>,
+    answer: Option<LineSpan<'_>>,
+) -> Result<(), AllocError>
+    ensures { OnOk result (output.new.text ≡ output.old.text ++ span_text (option_map line_in answer.entry)) }
+{
+    let Some(span) = answer else {
+        return push_answer(output, None);
+    };
+    output.push(AsciiChar::Plus)?;
+    push_number(output, span.start)?;
+    output.push(AsciiChar::Space)?;
+    output.push_str(word_of_ending(span.ending))?;
+    output.push(AsciiChar::Space)?;
+    output.push_str(span.text)?;
+    output.push(AsciiChar::LineFeed)
+}
+
+/// Appends a number in decimal.
+fn push_number<A: Allocator>(output: &mut AsciiString<A>, n: usize) -> Result<(), AllocError>
+    ensures { OnOk result (output.new.text ≡ output.old.text ++ decimal n) }
+{
+    let mut buffer = Buffer::new();
+    output.push_str(text::as_ascii_str_unchecked(buffer.format(n)))
+}
+
+/// The word of an ending.
+fn word_of_ending(ending: Ending) -> AsciiStr<'static>
+    ensures { text_of result ≡ ending_word ending }
+{
+    match ending {
+        Ending::Lf => text::as_ascii_str_unchecked("lf"),
+        Ending::CrLf => text::as_ascii_str_unchecked("crlf"),
+        Ending::Absent => text::as_ascii_str_unchecked("none"),
+    }
 }
 
 /// The text as a compact JSON string.

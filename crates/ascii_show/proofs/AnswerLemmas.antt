@@ -12,8 +12,9 @@ use Rattle.ascii_run.specs.declared.faults.EngineFault.{EngineFault}
 use Rattle.ascii_run.specs.declared.faults.EngineFault.TheVariants.{NotAscii, Position, Memory, Read, Write}
 use Rattle.ascii_run.specs.declared.modes.Mode.{Mode}
 use Rattle.ascii_show.specs.Answer.{HasOutput, MayAnswer}
-use Rattle.ascii_show.specs.Asked.{Asked, copy, lines, tac, caret, ends, edit, json, done_by}
+use Rattle.ascii_show.specs.Asked.{Asked, copy, lines, tac, caret, ends, ends_spans, edit, json, done_by}
 use Rattle.ascii_show.specs.Call.{AskFor, IsCall}
+use Rattle.ascii_show.proofs.ScriptLemmas.{letters_are_no_option}
 use Rattle.ascii_show.specs.declared.failure.Failure.{Failure}
 use Rattle.ascii_show.specs.declared.failure.Failure.TheVariants.{Run}
 
@@ -24,7 +25,8 @@ call words lines is = rw is (inl (inr (inl refl), refl))
 call words tac is = rw is (inl (inr (inr (inl refl)), refl))
 call words caret is = rw is (inl (inr (inr (inr (inl refl))), refl))
 call words json is = rw is (inl (inr (inr (inr (inr refl))), refl))
-call words (ends script) asks = rw asks.1 (inr (inl (refl, refl)))
+call words (ends script) asks = rw asks.1 (inr (inl (refl, (asks.0, 1, inl (refl, letters_are_no_option asks.0 script asks.2, refl)))))
+call words (ends_spans script) asks = rw asks.1 (inr (inl (refl, (asks.0, 2, inr (refl, refl)))))
 call words (edit cmds) asks = rw asks.1 (inr (inr refl))
 
 -- what holds of all that was read holds of what is known

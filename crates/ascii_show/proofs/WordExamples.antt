@@ -1,5 +1,5 @@
 -- Words that are known from outside, computed by the definitions.
-use Rattle.std.proofs.Common.{◌≡◌, ◌≢◌, [], ◌∷◌, ◌++◌, drop, get_or, refl, sym, ap, subst, arith, inl, inr}
+use Rattle.std.proofs.Common.{◌≡◌, ◌≢◌, List, ℕ, [], ◌∷◌, ◌++◌, drop, get_or, length, refl, sym, ap, subst, arith, inl, inr}
 use Rattle.std.specs.Prelude.{codes}
 use Rattle.std.specs.Str.{IsAscii}
 use Rattle.std.proofs.lemmas.List.Elements.{All-cons, All-nil}
@@ -9,7 +9,7 @@ use Rattle.ascii.specs.declared.iter.walks.End.{End}
 use Rattle.ascii.specs.declared.iter.walks.End.TheVariants.{Front, Back}
 use Rattle.ascii_run.specs.declared.commands.Cmd.{Cmd}
 use Rattle.ascii_run.specs.declared.commands.Cmd.TheVariants.{PushStr, InsertStr, Remove, Truncate, Pop, Upper, Lower}
-use Rattle.ascii_show.specs.Call.{IsCall}
+use Rattle.ascii_show.specs.Call.{HasScript, IsCall}
 use Rattle.ascii_show.specs.Words.{AreDigitsOf, AreEndsOf, IsFirstBadWord, IsNoScript, IsWord, IsWordOf, letter_of}
 use Rattle.ascii_show.proofs.ScriptLemmas.{no_script}
 
@@ -18,7 +18,19 @@ copy_call : IsCall (codes "copy" ∷ [])
 copy_call = inl (inl refl, refl)
 
 ends_call : IsCall (codes "ends" ∷ (codes "" ∷ []))
-ends_call = inr (inl (refl, refl))
+ends_call = inr (inl (refl, (codes "", 1, inl (refl, (λ is. omega (arith, ap length is)), refl))))
+
+ends_spans_call : IsCall (codes "ends" ∷ (codes "-s" ∷ (codes "F" ∷ [])))
+ends_spans_call = inr (inl (refl, (codes "F", 2, inr (refl, refl))))
+
+no_script_alone : (script : List ℕ) (n : ℕ) → ¬ (HasScript (codes "-s" ∷ []) script n)
+no_script_alone script n (inl alone) = alone.1 (sym (ap (λ words. get_or words 0 []) alone.0))
+no_script_alone script n (inr behind) = omega (arith, ap length behind.0)
+
+option_alone : ¬ (IsCall (codes "ends" ∷ (codes "-s" ∷ [])))
+option_alone (inl alone) = omega (arith, ap length alone.1)
+option_alone (inr (inl ends)) = no_script_alone ends.1.0 ends.1.1 ends.1.2
+option_alone (inr (inr edit)) = omega (arith, ap (λ word. get_or word 1 0) edit)
 
 no_words : ¬ (IsCall [])
 no_words is = is

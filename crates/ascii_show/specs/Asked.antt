@@ -14,6 +14,7 @@ pub data Asked : Type 0 where
   tac : Asked
   caret : Asked
   ends : List End → Asked
+  ends_spans : List End → Asked
   edit : List Cmd → Asked
   json : Asked
 
@@ -24,6 +25,7 @@ done_by mode.Lines = lines
 done_by mode.Tac = tac
 done_by mode.Caret = caret
 done_by (mode.Ends script) = ends script.now
+done_by (mode.EndsSpans script) = ends_spans script.now
 done_by (mode.Edit cmds) = edit cmds.now
 done_by mode.Json = json
 
@@ -31,4 +33,5 @@ done_by mode.Json = json
 abbrev pub asked_by : {A : Type 0} → Request A → Asked
 asked_by (request.Plain mode) = done_by mode
 asked_by (request.Ends script) = ends script.items
+asked_by (request.EndsSpans script) = ends_spans script.items
 asked_by (request.Edit cmds) = edit cmds.items

@@ -16,7 +16,7 @@ status_of (Run Write) = 3
 
 -- the line that says why; words are counted from 1, and bytes from 0
 abbrev pub line_of : Failure → List ℕ
-line_of Usage = codes "usage: ascii_show copy|lines|tac|caret|ends SCRIPT|edit WORD..|json"
+line_of Usage = codes "usage: ascii_show copy|lines|tac|caret|ends [-s] SCRIPT|edit WORD..|json"
 line_of (BadWord n) = codes "bad word " ++ decimal n
 line_of (Run (Position k)) = codes "bad position in word " ++ decimal (min (k + 1) (2 ^ 64 - 1))
 line_of (Run (NotAscii n)) = codes "the byte at index " ++ (decimal n ++ codes " is not ASCII")

@@ -1,6 +1,6 @@
 //! What the words after the program's name ask for.
 
-ghost use Rattle.std.specs.Prelude.{◌≡◌, ◌==◌, [], ◌∷◌, MatchOption, MatchResult, ℕ, position};
+ghost use Rattle.std.specs.Prelude.{◌≡◌, ◌==◌, [], ◌∷◌, MatchOption, MatchResult, ℕ, codes, position};
 ghost use Rattle.std.specs.List.{AllZip};
 ghost use Rattle.ascii.specs.View.{text_of};
 ghost use Rattle.ascii_show.specs.Asked.{asked_by, done_by};
@@ -19,6 +19,7 @@ pub enum Request<'a, A: Allocator> {
     /// A mode that takes no further word.
     Plain(Mode<'static>),
     Ends(Vec<End, A>),
+    EndsSpans(Vec<End, A>),
     Edit(Vec<Cmd<'a>, A>),
 }
 
@@ -30,6 +31,7 @@ impl<'a, A: Allocator> Request<'a, A> {
         match self {
             Request::Plain(mode) => *mode,
             Request::Ends(script) => Mode::Ends(script.as_slice()),
+            Request::EndsSpans(script) => Mode::EndsSpans(script.as_slice()),
             Request::Edit(cmds) => Mode::Edit(cmds.as_slice()),
         }
     }
@@ -43,10 +45,7 @@ pub fn request_of<'a, A: Allocator>(alloc: A, args: &'a [String]) -> Result<Requ
         return Err(Failure::Usage);
     };
     match mode.as_str() {
-        "ends" if others.len() == 1 => {
-            let script = script_of(alloc, others[0].as_bytes())?;
-            Ok(Request::Ends(script))
-        }
+        "ends" => ends_request(alloc, others),
         "edit" => {
             let cmds = commands_of(alloc, others)?;
             Ok(Request::Edit(cmds))
@@ -73,14 +72,39 @@ fn plain_mode(name: &str) -> Option<Mode<'static>>
     }
 }
 
-/// The ends that a script names, `F` for the front and `B` for the back.
-fn script_of<A: Allocator>(alloc: A, script: &[u8]) -> Result<Vec<End, A>, Failure>
-    ensures { MatchResult result (λ ends. AreEndsOf script.now ends.items) (IsScriptFault script.now) }
+/// What the words behind `ends` ask for: a script alone, or `-s` and a script.
+#[tactic(auto, using(crate::proofs::ScriptLemmas::two_words))]
+fn ends_request<'a, A: Allocator>(alloc: A, others: &'a [String]) -> Result<Request<'a, A>, Failure>
+    ensures { MatchResult result (λ request. AskFor (codes "ends" ∷ words_of others.now) (asked_by request)) (IsWordsFault (codes "ends" ∷ words_of others.now)) }
+{
+    match others.len() {
+        1 => {
+            if others[0].as_str() == "-s" {
+                return Err(Failure::Usage);
+            }
+            let script = script_of(alloc, others[0].as_bytes(), 1)?;
+            Ok(Request::Ends(script))
+        }
+        2 => {
+            if others[0].as_str() != "-s" {
+                return Err(Failure::Usage);
+            }
+            let script = script_of(alloc, others[1].as_bytes(), 2)?;
+            Ok(Request::EndsSpans(script))
+        }
+        _ => Err(Failure::Usage),
+    }
+}
+
+/// The ends that a script names, `F` for the front and `B` for the back. The number is that of the
+/// script among the words.
+fn script_of<A: Allocator>(alloc: A, script: &[u8], number: usize) -> Result<Vec<End, A>, Failure>
+    ensures { MatchResult result (λ ends. AreEndsOf script.now ends.items) (IsScriptFault script.now number) }
 {
     let mut ends = Vec::with_capacity(alloc, script.len())?;
     for letter in script {
         let Some(end) = end_of(*letter) else {
-            return Err(Failure::BadWord(1));
+            return Err(Failure::BadWord(number));
         };
         ends.push(end)?;
     }

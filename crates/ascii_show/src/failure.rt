@@ -39,7 +39,7 @@ impl fmt::Display for Failure {
     fn fmt<W: fmt::Write>(&self, f: &mut fmt::Formatter<W>) -> fmt::Result {
         match *self {
             Failure::Usage => f.write_str(
-                "usage: ascii_show copy|lines|tac|caret|ends SCRIPT|edit WORD..|json",
+                "usage: ascii_show copy|lines|tac|caret|ends [-s] SCRIPT|edit WORD..|json",
             ),
             Failure::BadWord(number) => write!(f, "bad word {number}"),
             Failure::Run(EngineFault::Position(place)) => {

@@ -7,7 +7,7 @@ use std::alloc::Global;
 use std::process::Abort;
 use std::test::Fail;
 
-const USAGE: &str = "usage: ascii_show copy|lines|tac|caret|ends SCRIPT|edit WORD..|json\n";
+const USAGE: &str = "usage: ascii_show copy|lines|tac|caret|ends [-s] SCRIPT|edit WORD..|json\n";
 
 /// The status, the output and the line of a run of these words.
 fn shown(
@@ -151,6 +151,69 @@ const MODES: &[Row] = &[
         output: b"+\n+\n-\n-\n",
         line: "",
         status: 0,
+    },
+    Row {
+        words: &["ends", "-s", "FBB"],
+        input: b"x\r\ny",
+        output: b"+0 crlf x\n+3 none y\n-\n",
+        line: "",
+        status: 0,
+    },
+    Row {
+        words: &["ends", "-s", "FBBFF"],
+        input: b"foo\r\nbar\n\nbaz\n",
+        output: b"+0 crlf foo\n+10 lf baz\n+9 lf \n+5 lf bar\n-\n",
+        line: "",
+        status: 0,
+    },
+    Row {
+        words: &["ends", "-s", ""],
+        input: b"a",
+        output: b"",
+        line: "",
+        status: 0,
+    },
+    Row {
+        words: &["ends", "-s"],
+        input: b"x",
+        output: b"",
+        line: USAGE,
+        status: 2,
+    },
+    Row {
+        words: &["ends", "F", "-s"],
+        input: b"x",
+        output: b"",
+        line: USAGE,
+        status: 2,
+    },
+    Row {
+        words: &["ends", "-s", "F", "F"],
+        input: b"x",
+        output: b"",
+        line: USAGE,
+        status: 2,
+    },
+    Row {
+        words: &["ends", "-s", "FX"],
+        input: b"\x80",
+        output: b"",
+        line: "bad word 2\n",
+        status: 2,
+    },
+    Row {
+        words: &["ends", "-S"],
+        input: b"x",
+        output: b"",
+        line: "bad word 1\n",
+        status: 2,
+    },
+    Row {
+        words: &["ends", "-s", "-s"],
+        input: b"x",
+        output: b"",
+        line: "bad word 2\n",
+        status: 2,
     },
     Row {
         words: &["tac"],
