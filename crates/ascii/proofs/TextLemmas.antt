@@ -1,10 +1,10 @@
 -- Edits of a text leave codes alone.
-use Rattle.std.proofs.Common.{ℕ, ◌<◌, List, ◌∷◌, ◌++◌, ◌≤◌, length, take, drop, arith, Err, refl, subst, sym}
+use Rattle.std.proofs.Common.{ℕ, ◌≡◌, map, ◌<◌, List, ◌∷◌, ◌++◌, ◌≤◌, length, take, drop, arith, Err, refl, subst, sym}
 use Rattle.std.proofs.lemmas.Bool.Decides.{nat_tests}
 use Rattle.std.specs.Str.{IsAscii}
 use Rattle.std.specs.List.{insert}
 use Rattle.std.proofs.lemmas.Str.{IsAscii-take, IsAscii-drop, IsAscii-append}
-use Rattle.std.proofs.lemmas.Str.Ascii.{IsAscii-cons, IsAscii-nil}
+use Rattle.std.proofs.lemmas.Str.Ascii.{IsAscii-cons, IsAscii-map, IsAscii-nil}
 use Rattle.std.specs.declared.fmt.Error.{Error}
 use Rattle.ascii_base.specs.Bytes.{FirstOther}
 use Rattle.ascii_base.specs.Case.{upper_image, lower_image}
@@ -30,9 +30,15 @@ IsAscii-insert t i n a b =
     IsAscii-append (take i t) (n ∷ drop i t) (IsAscii-take t i a) (IsAscii-cons n (drop i t) b (IsAscii-drop t i a))
 
 -- the bytes of a buffer after the front of them is written anew
-pub IsAscii-written : (n : ℕ) (new old : List ℕ) → IsAscii new → IsAscii old → IsAscii (take n (new ++ drop (length new) old))
+IsAscii-written : (n : ℕ) (new old : List ℕ) → IsAscii new → IsAscii old → IsAscii (take n (new ++ drop (length new) old))
 IsAscii-written n new old a b =
     IsAscii-take (new ++ drop (length new) old) n (IsAscii-append new (drop (length new) old) a (IsAscii-drop old (length new) b))
+
+-- the bytes of a buffer after a text in front of them is mapped to codes
+pub IsAscii-mapped : (f : ℕ → ℕ) → ((b : ℕ) → b < 128 → f b < 128) → (n : ℕ) (new shown old : List ℕ)
+    → new ≡ map f shown → shown ≡ old → IsAscii old → IsAscii (take n (new ++ drop (length new) old))
+IsAscii-mapped f small n new shown old mapped is ascii =
+    IsAscii-written n new old (subst IsAscii (sym mapped) (IsAscii-map f shown small (subst IsAscii (sym is) ascii))) ascii
 
 -- a byte past 127 is no text, and no empty one
 pub no_text : (bytes : List ℕ) (i : ℕ) → FirstOther bytes 0 (length bytes) i → ¬ (IsAscii bytes)

@@ -1,11 +1,7 @@
-use Rattle.std.proofs.Common.{subst, sym}
-use Rattle.std.proofs.lemmas.Str.Ascii.{IsAscii-map}
-use Rattle.std.specs.Str.{IsAscii}
 use Rattle.ascii_base.specs.Case.{upper_image}
-use Rattle.ascii.proofs.TextLemmas.{IsAscii-written, upper_image-below}
+use Rattle.ascii.proofs.TextLemmas.{IsAscii-mapped, upper_image-below}
 use Rattle.ascii.proofs.ascii_string.AsciiString.make_ascii_uppercase.Goals as goal
 
 pub invariant_of-self : goal.invariant_of-self
-invariant_of-self g c = IsAscii-written _ c.upper_in_place.new.bytes _
-    (subst IsAscii (sym c.upper_in_place.ensures) (IsAscii-map upper_image _ upper_image-below (subst IsAscii (sym c.deref_mut.ensures.value) c.self.invariant)))
-    c.self.invariant
+invariant_of-self g c =
+    IsAscii-mapped upper_image upper_image-below _ c.upper_in_place.new.bytes _ _ c.upper_in_place.ensures c.deref_mut.ensures.value c.self.invariant
