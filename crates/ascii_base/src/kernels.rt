@@ -1,7 +1,7 @@
 //! The searches and maps over bytes, each equal to its plain definition at every length.
 //!
-//! Each goes through the bytes in chunks of 32. What is left behind the last whole chunk takes steps of
-//! 16 or of 8 bytes, of which the last may take bytes again, and fewer than 8 are taken one by one.
+//! Each goes through the bytes in chunks of 32. What is left behind the last whole chunk takes two steps of
+//! 16 or of 8 bytes, the second of which may take bytes again, and fewer than 8 go one by one.
 
 ghost use Rattle.std.specs.Prelude.{◌≡◌, ◌↔◌, ◌+◌, ◌<◌, ◌≤◌, IsTrue, length, map, take, drop, ◌++◌, All, MatchOption};
 ghost use Rattle.std.specs.Str.{IsAscii};
@@ -15,7 +15,7 @@ use crate::lanes::{
 };
 use std::simd::prelude::*;
 
-/// How many bytes at an end are looked at one by one before lanes are: few texts have more white space.
+/// How many bytes at an end are looked at one by one first: few texts have more white space there.
 const NEAR: usize = 8;
 
 /// The position of the first byte over 127, or `None` where every byte is under 128.
@@ -73,7 +73,8 @@ pub fn eq_ignore_case(first: &[u8], second: &[u8]) -> bool
 /// The position of the first byte that is no whitespace, or `None` where every byte is whitespace:
 /// space, tab, line feed, vertical tab, form feed or carriage return.
 pub fn first_not_whitespace(bytes: &[u8]) -> Option<usize>
-    ensures { MatchOption result (All IsWhitespace bytes.now) (IsFirstNot IsWhitespace bytes.now 0 (length bytes.now)) }
+    ensures { MatchOption result (All IsWhitespace bytes.now)
+        (IsFirstNot IsWhitespace bytes.now 0 (length bytes.now)) }
 {
     let mut at = bytes.len().min(NEAR);
     let found = first_one_by_one(bytes, 0, at);
@@ -184,7 +185,7 @@ fn other_one_by_one(bytes: &[u8], from: usize) -> Option<usize>
     None
 }
 
-/// Changes whole chunks of 32 bytes to upper case, as many as there are, and says where they end.
+/// Changes whole chunks of 32 bytes to upper case, and gives the place where they end.
 #[inline(always)]
 fn upper_chunks(bytes: &mut [u8]) -> usize
     ensures inside { result ≤ length bytes.old }
@@ -199,7 +200,7 @@ fn upper_chunks(bytes: &mut [u8]) -> usize
     at
 }
 
-/// Changes whole chunks of 32 bytes to lower case, as many as there are, and says where they end.
+/// Changes whole chunks of 32 bytes to lower case, and gives the place where they end.
 #[inline(always)]
 fn lower_chunks(bytes: &mut [u8]) -> usize
     ensures inside { result ≤ length bytes.old }
