@@ -1,7 +1,8 @@
 //! The searches and maps over bytes, each equal to its plain definition at every length.
 //!
-//! Each goes through the bytes in chunks of 32. What is left behind the last whole chunk takes two steps of
-//! 16 or of 8 bytes, the second of which may take bytes again, and fewer than 8 go one by one.
+//! Each goes through the bytes in chunks of 32, the comparison by two at once. What is left behind the last
+//! whole chunk takes two steps of 16 or of 8 bytes, the second of which may take bytes again, and fewer than
+//! 8 go one by one.
 
 ghost use Rattle.std.specs.Prelude.{◌≡◌, ◌↔◌, ◌+◌, ◌<◌, ◌≤◌, IsTrue, length, map, take, drop, ◌++◌, All, MatchOption};
 ghost use Rattle.std.specs.Str.{IsAscii};
@@ -11,7 +12,7 @@ ghost use Rattle.ascii_base.specs.Class.{IsWhitespace};
 ghost use Rattle.ascii_base.specs.Lanes.{AllBefore, AllFrom, FindsFirstNot, FindsLastNot, SameBefore};
 
 use crate::lanes::{
-    LANES, QUIET, highest, is_quiet, is_same, lower_of, not_whitespace, others, upper_of,
+    LANES, QUIET, WIDE, highest, is_quiet, is_same, lower_of, not_whitespace, others, upper_of,
 };
 use std::simd::prelude::*;
 
@@ -61,11 +62,11 @@ pub fn eq_ignore_case(first: &[u8], second: &[u8]) -> bool
         return false;
     }
     let mut at = 0;
-    while first.len() - at >= LANES {
-        if !is_same::<LANES>(first, second, at) {
+    while first.len() - at >= WIDE {
+        if !is_same::<WIDE>(first, second, at) {
             return false;
         }
-        at += LANES;
+        at += WIDE;
     }
     same_in_rest(first, second, at)
 }
@@ -248,19 +249,20 @@ fn same_in_two<const N: usize>(first: &[u8], second: &[u8], at: usize) -> bool
     is_same::<N>(first, second, at) && is_same::<N>(first, second, first.len() - N)
 }
 
-/// Whether a rest of fewer than 32 bytes is the same in both when case doesn't count.
+/// Whether a rest of fewer than 64 bytes is the same in both when case doesn't count.
 #[inline(always)]
 fn same_in_rest(first: &[u8], second: &[u8], at: usize) -> bool
     requires same_length { length first.now ≡ length second.now }
     requires inside { at ≤ length first.now }
-    requires short { length first.now ≤ at + LANES }
+    requires short { length first.now ≤ at + WIDE }
     requires before { SameBefore first.now second.now at }
     ensures { IsTrue result ↔ (map lower_image first.now ≡ map lower_image second.now) }
 {
     match first.len() - at {
         0..=7 => same_one_by_one(first, second, at),
         8..=15 => same_in_two::<8>(first, second, at),
-        _ => same_in_two::<16>(first, second, at),
+        16..=31 => same_in_two::<16>(first, second, at),
+        _ => same_in_two::<LANES>(first, second, at),
     }
 }
 

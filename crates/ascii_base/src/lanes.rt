@@ -11,6 +11,9 @@ use std::simd::prelude::*;
 /// How many bytes a step of the loops takes.
 pub(crate) const LANES: usize = 32;
 
+/// How many bytes a step of the comparison takes: two chunks under one test.
+pub(crate) const WIDE: usize = 2 * LANES;
+
 /// How many bytes one test of `is_quiet` takes.
 pub(crate) const QUIET: usize = 4 * LANES;
 
