@@ -5,6 +5,7 @@ mod json;
 mod lengths;
 mod strings;
 mod uses;
+mod uses_of_spans;
 mod vectors;
 mod views;
 mod writing_views;
