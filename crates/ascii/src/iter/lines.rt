@@ -17,7 +17,7 @@ use std::marker::Model;
 
 impl<'a> Rest<'a> {
     /// All of it as one line before a LF: one CR before the LF is of the ending.
-    #[inline]
+    #[inline(always)]
     fn ended_line(self) -> LineSpan<'a>
         ensures { line_in result ≡ record { start = self.entry.start; item = ended_line (text_of self.entry.view) } }
     {
@@ -36,7 +36,7 @@ impl<'a> Rest<'a> {
     }
 
     /// All of it as one line with no ending.
-    #[inline]
+    #[inline(always)]
     fn open_line(self) -> LineSpan<'a>
         ensures { line_in result ≡ record { start = self.entry.start; item = record { body = text_of self.entry.view; ending = Ending.Absent } } }
     {
@@ -48,7 +48,7 @@ impl<'a> Rest<'a> {
     }
 
     /// The first line, and what stands behind its ending.
-    #[inline]
+    #[inline(always)]
     fn first_line(self) -> Option<(LineSpan<'a>, Rest<'a>)>
         ensures { MatchOption result (line_spans (part_in self.entry) ≡ []) (λ cut. line_spans (part_in self.entry) ≡ line_in cut.0 ∷ line_spans (part_in cut.1)) }
     {
@@ -62,7 +62,7 @@ impl<'a> Rest<'a> {
     }
 
     /// The last line, and what stands before it.
-    #[inline]
+    #[inline(always)]
     fn last_line(self) -> Option<(LineSpan<'a>, Rest<'a>)>
         ensures { MatchOption result (line_spans (part_in self.entry) ≡ []) (λ cut. line_spans (part_in self.entry) ≡ line_spans (part_in cut.1) ++ line_in cut.0 ∷ []) }
     {
@@ -113,7 +113,7 @@ impl<'a> Iterator for LineSpans<'a> {
 
     ghost remaining = { item_count (λ lines. lines) };
 
-    #[inline]
+    #[inline(always)]
     fn next(&mut self) -> Option<LineSpan<'a>> {
         let (first, others) = self.rest.first_line()?;
         self.rest = others;
@@ -124,7 +124,7 @@ impl<'a> Iterator for LineSpans<'a> {
 impl<'a> DoubleEndedIterator for LineSpans<'a> {
     ghost next_back_gives = { YieldsLastAnd line_in (λ lines. lines) DropsLast };
 
-    #[inline]
+    #[inline(always)]
     fn next_back(&mut self) -> Option<LineSpan<'a>> {
         let (last, others) = self.rest.last_line()?;
         self.rest = others;
@@ -184,7 +184,7 @@ impl<'a> Iterator for Lines<'a> {
 
     ghost remaining = { item_count bodies };
 
-    #[inline]
+    #[inline(always)]
     fn next(&mut self) -> Option<AsciiStr<'a>> {
         let span = self.spans.next()?;
         Some(span.text)
@@ -194,7 +194,7 @@ impl<'a> Iterator for Lines<'a> {
 impl<'a> DoubleEndedIterator for Lines<'a> {
     ghost next_back_gives = { YieldsLastAnd text_of bodies DropsLast };
 
-    #[inline]
+    #[inline(always)]
     fn next_back(&mut self) -> Option<AsciiStr<'a>> {
         let span = self.spans.next_back()?;
         Some(span.text)

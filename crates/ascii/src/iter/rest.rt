@@ -20,7 +20,7 @@ impl<'a> Rest<'a> {
     ghost use Rattle.ascii.specs.View.{text_of};
 
     /// What stands before a place.
-    #[inline]
+    #[inline(always)]
     pub(crate) fn to(self, place: usize) -> Rest<'a>
         requires { place ≤ length (text_of self.view) }
         ensures start { result.start ≡ self.entry.start }
@@ -35,7 +35,7 @@ impl<'a> Rest<'a> {
     }
 
     /// What stands from a place on.
-    #[inline]
+    #[inline(always)]
     pub(crate) fn from(self, place: usize) -> Rest<'a>
         requires { place ≤ length (text_of self.view) }
         ensures start { result.start ≡ self.entry.start + place }
@@ -50,7 +50,7 @@ impl<'a> Rest<'a> {
     }
 
     /// What stands before the first byte that is `on`, and what stands behind it.
-    #[inline]
+    #[inline(always)]
     pub(crate) fn cut_first(self, on: u8) -> Option<(Rest<'a>, Rest<'a>)>
         ensures { MatchOption result (Free on (text_of self.entry.view)) (IsCutFirst on (part_in self.entry)) }
     {
@@ -59,7 +59,7 @@ impl<'a> Rest<'a> {
     }
 
     /// What stands before the last byte that is `on`, and what stands behind it.
-    #[inline]
+    #[inline(always)]
     pub(crate) fn cut_last(self, on: u8) -> Option<(Rest<'a>, Rest<'a>)>
         ensures { MatchOption result (Free on (text_of self.entry.view)) (IsCutLast on (part_in self.entry)) }
     {
@@ -68,7 +68,7 @@ impl<'a> Rest<'a> {
     }
 
     /// What stands up to the last LF, and what stands behind it.
-    #[inline]
+    #[inline(always)]
     pub(crate) fn cut_behind_last_feed(self) -> (Rest<'a>, Rest<'a>)
         ensures { IsCutBehindLastFeed (part_in self.entry) result }
     {

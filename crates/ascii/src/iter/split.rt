@@ -20,7 +20,7 @@ use std::marker::Model;
 
 impl<'a> Rest<'a> {
     /// All of it as one piece.
-    #[inline]
+    #[inline(always)]
     fn piece(self) -> SplitSpan<'a>
         ensures { piece_in result ≡ part_in self.entry }
     {
@@ -31,7 +31,7 @@ impl<'a> Rest<'a> {
     }
 
     /// The first piece, and what stands behind its separator where there is one.
-    #[inline]
+    #[inline(always)]
     fn first_piece(self, on: AsciiChar) -> (SplitSpan<'a>, Option<Rest<'a>>)
         ensures { piece_spans (code_of on) (part_in self.entry) ≡ piece_in result.0 ∷ spans_left (code_of on) (option_map part_in result.1) }
     {
@@ -42,7 +42,7 @@ impl<'a> Rest<'a> {
     }
 
     /// The last piece, and what stands before its separator where there is one.
-    #[inline]
+    #[inline(always)]
     fn last_piece(self, on: AsciiChar) -> (SplitSpan<'a>, Option<Rest<'a>>)
         ensures { piece_spans (code_of on) (part_in self.entry) ≡ spans_left (code_of on) (option_map part_in result.1) ++ piece_in result.0 ∷ [] }
     {
@@ -93,7 +93,7 @@ impl<'a> Iterator for SplitSpans<'a> {
 
     ghost remaining = { item_count (λ split. split.spans) };
 
-    #[inline]
+    #[inline(always)]
     fn next(&mut self) -> Option<SplitSpan<'a>> {
         let (first, others) = self.rest?.first_piece(self.on);
         self.rest = others;
@@ -104,7 +104,7 @@ impl<'a> Iterator for SplitSpans<'a> {
 impl<'a> DoubleEndedIterator for SplitSpans<'a> {
     ghost next_back_gives = { YieldsLastAnd piece_in (λ split. split.spans) KeepsSpansOn };
 
-    #[inline]
+    #[inline(always)]
     fn next_back(&mut self) -> Option<SplitSpan<'a>> {
         let (last, others) = self.rest?.last_piece(self.on);
         self.rest = others;
@@ -161,7 +161,7 @@ impl<'a> Iterator for Split<'a> {
 
     ghost remaining = { item_count (λ split. split.pieces) };
 
-    #[inline]
+    #[inline(always)]
     fn next(&mut self) -> Option<AsciiStr<'a>> {
         let span = self.spans.next()?;
         Some(span.text)
@@ -171,7 +171,7 @@ impl<'a> Iterator for Split<'a> {
 impl<'a> DoubleEndedIterator for Split<'a> {
     ghost next_back_gives = { YieldsLastAnd text_of (λ split. split.pieces) KeepsOn };
 
-    #[inline]
+    #[inline(always)]
     fn next_back(&mut self) -> Option<AsciiStr<'a>> {
         let span = self.spans.next_back()?;
         Some(span.text)
