@@ -146,24 +146,37 @@ fn offsets(rt: HostRuntime) -> Result<(), Fail> {
         shown_lines(rt.alloc(), &lines)?.as_str(),
         "5 lf bar|9 lf |"
     );
-    let mut split = ascii("a,").split_spans_from(AsciiChar::Comma, usize::MAX - 2);
+    Ok(())
+}
+
+#[test]
+fn pieces_at_the_largest_place(rt: HostRuntime) {
+    let view = ascii("a,");
+    assert!(rt; view.len() <= 2);
     let last = SplitSpan {
         start: usize::MAX,
         text: AsciiStr::default(),
     };
+    let mut split = view.split_spans_from(AsciiChar::Comma, usize::MAX - 2);
     assert_eq!(rt; split.next_back(), Some(last));
     assert_eq!(rt; split.remainder(), Some((usize::MAX - 2, ascii("a"))));
-    let mut split = ascii("a,").split_spans_from(AsciiChar::Comma, usize::MAX - 2);
+    let mut split = view.split_spans_from(AsciiChar::Comma, usize::MAX - 2);
     split.next();
     assert_eq!(rt; split.remainder(), Some((usize::MAX, AsciiStr::default())));
     assert_eq!(rt; split.next(), Some(last));
-    let mut lines = ascii("\r\nb").line_spans_from(usize::MAX - 3);
+}
+
+#[test]
+fn lines_at_the_largest_place(rt: HostRuntime) {
+    let view = ascii("\r\nb");
+    assert!(rt; view.len() <= 3);
+    let mut lines = view.line_spans_from(usize::MAX - 3);
     lines.next();
     assert_eq!(rt; lines.remainder(), Some((usize::MAX - 1, ascii("b"))));
     lines.next();
     assert_eq!(rt; lines.remainder(), None);
     assert_eq!(rt; lines.next_back(), None);
-    let lines = AsciiStr::default().line_spans_from(usize::MAX);
-    assert_eq!(rt; lines.remainder(), None);
-    Ok(())
+    let none = AsciiStr::default();
+    assert!(rt; none.is_empty());
+    assert_eq!(rt; none.line_spans_from(usize::MAX).remainder(), None);
 }
