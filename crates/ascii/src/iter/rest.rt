@@ -1,11 +1,12 @@
 //! What an iterator over the parts of a text has left, and how it is cut. A separator and LF are
-//! found by `memchr` and `memrchr` alone.
+//! found by the crate `memchr` alone.
 
 ghost use Rattle.std.specs.Prelude.{◌≡◌, ◌+◌, ◌<◌, ◌≤◌, ◌^◌, MatchOption, drop, length, take};
 ghost use Rattle.std.proofs.Props.{props};
+ghost use Rattle.memchr.specs.Find.{IsFirstByte, is_byte};
 
 use crate::ascii_str::AsciiStr;
-use memchr::{memchr, memrchr};
+use memchr::{memchr_iter, memrchr};
 
 /// A part of a text, and where it starts.
 #[derive(Clone, Copy)]
@@ -13,6 +14,16 @@ pub(crate) struct Rest<'a> {
     pub(crate) start: usize,
     pub(crate) view: AsciiStr<'a>,
     ghost fits: { start + length view.bytes.now < 2 ^ 64 } by { Prim.hlevel props },
+}
+
+/// The first place of a byte. The first step of the iterator looks at the next 32 bytes before it
+/// goes on in wide steps, which serves separators that stand close together.
+#[inline(always)]
+#[tactic(auto, using(crate::proofs::SearchLemmas::first_of_places))]
+fn first_place(on: u8, bytes: &[u8]) -> Option<usize>
+    ensures { IsFirstByte (is_byte on) bytes.now result }
+{
+    memchr_iter(on, bytes).next()
 }
 
 impl<'a> Rest<'a> {
@@ -54,7 +65,7 @@ impl<'a> Rest<'a> {
     pub(crate) fn cut_first(self, on: u8) -> Option<(Rest<'a>, Rest<'a>)>
         ensures { MatchOption result (Free on (text_of self.entry.view)) (IsCutFirst on (part_in self.entry)) }
     {
-        let place = memchr(on, self.view.bytes)?;
+        let place = first_place(on, self.view.bytes)?;
         Some((self.to(place), self.from(place + 1)))
     }
 
