@@ -1,5 +1,7 @@
+pub mod CaretLemmas
 pub mod EndsOutputLemmas
 pub mod JsonTextLemmas
+pub mod PageLemmas
 mod RunExamples
 pub mod RunsLemmas
 pub mod SinkLemmas

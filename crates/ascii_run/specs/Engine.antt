@@ -56,3 +56,11 @@ abbrev pub StopsOutput : Mode → List ℕ → EngineFault → Type 0
 StopsOutput mode text (Position k) = IsFaultOf mode text k
 StopsOutput mode text Memory = Unit {0}
 StopsOutput mode text other = ⊥
+
+-- at its answer: what the writer took of the output of a text
+abbrev pub WritesOutput : Mode → List ℕ → Result (Unit {0}) EngineFault → Option (List ℕ) → Option (List ℕ) → Type 0
+WritesOutput mode text (Ok _) old new = (output : List ℕ) × IsOutput mode text output × Appends old new output
+WritesOutput mode text (Err (Position k)) old new = IsFaultOf mode text k × Keeps old new
+WritesOutput mode text (Err Memory) old new = Keeps old new
+WritesOutput mode text (Err Write) old new = (sent others : List ℕ) × IsOutput mode text (sent ++ others) × Appends old new sent
+WritesOutput mode text other old new = ⊥

@@ -2,6 +2,7 @@ pub mod Devices
 pub mod Edit
 pub mod Engine
 pub mod JsonText
+pub mod Outgoing
 pub mod Output
 pub mod Run
 pub mod Step

@@ -1,5 +1,5 @@
 -- What each mode puts out for a text.
-use Rattle.std.specs.Prelude.{◌≡◌, ℕ, ◌+◌, List, [], ◌∷◌, ◌++◌, reverse, if◌then◌else◌, nat_lt, ◌==◌, Option, Some, None, codes, decimal}
+use Rattle.std.specs.Prelude.{◌≡◌, ℕ, ◌+◌, ◌≤◌, ◌⊎◌, List, [], ◌∷◌, ◌++◌, reverse, if◌then◌else◌, nat_lt, ◌==◌, Option, Some, None, codes, decimal}
 use Rattle.std.specs.List.{flat_map}
 use Rattle.ascii.specs.Ends.{Ends as EndsOf}
 use Rattle.ascii_run.specs.JsonText.{json_text}
@@ -43,6 +43,10 @@ caret_text n =
     if n == 10 then n ∷ []
     else (if nat_lt n 32 then codes "^" ++ (n + 64) ∷ []
     else (if n == 127 then codes "^?" else n ∷ []))
+
+-- a code that `caret` shows as itself: LF, and the codes from 32 on but 127
+abbrev pub IsShown : ℕ → Type 0
+IsShown n = (n ≡ 10) ⊎ ((32 ≤ n) × (n ≡ 127 → ⊥))
 
 -- the output of a mode for a text
 abbrev pub IsOutput : Mode → List ℕ → List ℕ → Type 0

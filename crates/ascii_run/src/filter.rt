@@ -1,13 +1,12 @@
 //! A filter from bytes to bytes.
 
-ghost use Rattle.std.specs.Prelude.{◌≡◌, ◌⊎◌, ◌<◌, IfErr, IfOk, OnOk};
-ghost use Rattle.std.specs.Io.KnownBytes.{Appends};
-ghost use Rattle.ascii_run.specs.Engine.{AppendsFront, ReadsAll, Tells, read_failures, write_failures};
+ghost use Rattle.std.specs.Prelude.{◌≡◌, ◌⊎◌, ◌<◌, IfErr, IfOk};
+ghost use Rattle.ascii_run.specs.Engine.{ReadsAll, Tells, read_failures, write_failures};
 
 use crate::devices::{Sink, Source};
 use crate::faults::EngineFault;
 use crate::modes::Mode;
-use crate::outputs::output_of;
+use crate::outputs::write_output;
 use ascii::bytes;
 use std::alloc::Allocator;
 
@@ -28,8 +27,7 @@ pub fn engine<S: Source, K: Sink, A: Allocator + Copy>(
 {
     let input = read_all(alloc, reader)?;
     let text = bytes::as_ascii_str(&input)?;
-    let output = output_of(alloc, mode, text)?;
-    write_all(writer, output.as_ascii_str().as_bytes())
+    write_output(alloc, mode, text, writer)
 }
 
 /// How many bytes one read asks for.
@@ -53,21 +51,4 @@ fn read_all<S: Source, A: Allocator>(alloc: A, reader: &mut S) -> Result<Vec<u8,
         }
         input.extend_from_slice(&chunk[..n])?;
     }
-}
-
-/// Writes all of the bytes, in as many writes as the writer takes, and flushes.
-fn write_all<K: Sink>(writer: &mut K, bytes: &[u8]) -> Result<(), EngineFault>
-    requires { K.failures writer.old < u64.MAX }
-    ensures ok { OnOk result (Appends (K.taken writer.old) (K.taken writer.new) bytes.now) }
-    ensures err { IfErr result (λ fault. (fault ≡ EngineFault.Write) × AppendsFront (K.taken writer.old) (K.taken writer.new) bytes.now) }
-    ensures count { K.failures writer.new ≡ write_failures (K.failures writer.old) result }
-{
-    let mut rest = bytes;
-    'writes: while !rest.is_empty() {
-        let Ok(n) = writer.write(rest) else {
-            return Err(EngineFault::Write);
-        };
-        rest = &rest[n..];
-    }
-    writer.flush().map_err(|_| EngineFault::Write)
 }

@@ -7,6 +7,7 @@ mod faults;
 mod filter;
 mod modes;
 mod outputs;
+mod page;
 
 pub use commands::{Cmd, Reply, plain_run, run, runs_agree};
 pub use devices::{DeviceFault, Input, Output, Sink, Source};

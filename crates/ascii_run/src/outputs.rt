@@ -1,188 +1,223 @@
 //! The output of each mode for a text.
 
-ghost use Rattle.std.specs.Prelude.{◌≡◌, IfErr, IfOk, OnOk, [], ◌++◌, decimal};
+ghost use Rattle.std.specs.Prelude.{◌≡◌, ◌↔◌, ◌<◌, ◌++◌, IfErr, IfOk, IsTrue, MatchOption, OnErr, OnOk, codes, length};
 ghost use Rattle.std.specs.Option.{option_map};
-ghost use Rattle.ascii_base.specs.Code.{code_of};
-ghost use Rattle.std.specs.List.{flat_map};
-ghost use Rattle.ascii.specs.Cow.{cow_text};
+ghost use Rattle.ascii_base.specs.Bytes.{IsFirstNot};
+ghost use Rattle.std.specs.List.{All, flat_map};
 ghost use Rattle.ascii.specs.Spans.{line_in};
 ghost use Rattle.ascii.specs.View.{text_of};
-ghost use Rattle.ascii_run.specs.Engine.{StopsOutput};
-ghost use Rattle.ascii_run.specs.Output.{IsOutput, answer_text, caret_text, ending_word, span_text};
+ghost use Rattle.ascii_run.specs.Engine.{StopsOutput, WritesOutput, write_failures};
+ghost use Rattle.ascii_run.specs.Outgoing.{MayFail, Puts, PutsOutput, out};
+ghost use Rattle.ascii_run.specs.Output.{IsShown, answer_text, caret_text, ending_word, span_text, with_line_feed};
 ghost use Rattle.ascii_run.specs.Run.{HasNoFault, plain_text};
 ghost use Rattle.ascii_run.specs.JsonText.{json_text};
 
 use crate::commands::{Cmd, edit};
+use crate::devices::Sink;
 use crate::faults::EngineFault;
 use crate::modes::Mode;
+use crate::page::Page;
 use ascii::iter::{End, Ending, LineSpan, take_end};
-use ascii::{AsciiChar, AsciiStr, AsciiString, CowAsciiStr, caret_encode, text};
+use ascii::{AsciiStr, AsciiString};
 use itoa::Buffer;
 use json::Writer;
 use std::alloc::{AllocError, Allocator};
 
-/// The output of the mode for a text. All memory for it is asked for here.
-pub fn output_of<'a, A: Allocator + Copy>(
+/// Writes the output of the mode for a text, and flushes. All growth is made before the first byte
+/// goes out.
+pub(crate) fn write_output<K: Sink, A: Allocator + Copy>(
     alloc: A,
     mode: Mode<'_>,
-    text: AsciiStr<'a>,
-) -> Result<CowAsciiStr<'a, A>, EngineFault>
-    ensures ok { IfOk result (λ output. IsOutput mode.entry (text_of text.entry) (cow_text output)) }
-    ensures err { IfErr result (StopsOutput mode.entry (text_of text.entry)) }
+    text: AsciiStr<'_>,
+    writer: &mut K,
+) -> Result<(), EngineFault>
+    requires { K.failures writer.old < u64.MAX }
+    ensures tells { WritesOutput mode.entry (text_of text.entry) result (K.taken writer.old) (K.taken writer.new) }
+    ensures count { K.failures writer.new ≡ write_failures (K.failures writer.old) result }
 {
-    let output = match mode {
-        Mode::Copy => return Ok(CowAsciiStr::Borrowed(text)),
-        Mode::Lines => lines_output(alloc, text)?,
-        Mode::Tac => tac_output(alloc, text)?,
-        Mode::Caret => caret_output(alloc, text)?,
-        Mode::Ends(script) => ends_output(alloc, text, script)?,
-        Mode::EndsSpans(script) => ends_spans_output(alloc, text, script)?,
-        Mode::Edit(cmds) => edit_output(alloc, text, cmds)?,
-        Mode::Json => json_output(alloc, text)?,
-    };
-    Ok(CowAsciiStr::Owned(output))
+    let mut page = Page::new(alloc)?;
+    put_output(alloc, mode, text, &mut page, writer)?;
+    page.finish(writer)
 }
 
-/// An empty output with room for the bodies of all lines of a text, each with a line feed.
-fn room_for_lines<A: Allocator>(alloc: A, text: AsciiStr<'_>) -> Result<AsciiString<A>, AllocError>
-    ensures { IfOk result (λ output. output.text ≡ []) }
-{
-    AsciiString::with_capacity(alloc, text.len().saturating_add(1))
-}
-
-/// The body of each line and LF, from the front.
-fn lines_output<A: Allocator>(alloc: A, text: AsciiStr<'_>) -> Result<AsciiString<A>, AllocError>
-    ensures { IfOk result (λ output. IsOutput Mode.Lines (text_of text.entry) output.text) }
-{
-    let mut output = room_for_lines(alloc, text)?;
-    for body in text.lines() {
-        output.push_str(body)?;
-        output.push(AsciiChar::LineFeed)?;
-    }
-    Ok(output)
-}
-
-/// The body of each line and LF, from the back.
-fn tac_output<A: Allocator>(alloc: A, text: AsciiStr<'_>) -> Result<AsciiString<A>, AllocError>
-    ensures { IfOk result (λ output. IsOutput Mode.Tac (text_of text.entry) output.text) }
-{
-    let mut output = room_for_lines(alloc, text)?;
-    for body in text.lines().rev() {
-        output.push_str(body)?;
-        output.push(AsciiChar::LineFeed)?;
-    }
-    Ok(output)
-}
-
-/// Each character; a control character other than LF as `^` and its caret letter.
-fn caret_output<A: Allocator>(alloc: A, text: AsciiStr<'_>) -> Result<AsciiString<A>, AllocError>
-    ensures { IfOk result (λ output. output.text ≡ flat_map caret_text (text_of text.entry)) }
-{
-    let mut output = AsciiString::with_capacity(alloc, text.len())?;
-    for ch in text.chars() {
-        push_caret(&mut output, ch)?;
-    }
-    Ok(output)
-}
-
-/// Appends a character as `caret` shows it.
-fn push_caret<A: Allocator>(output: &mut AsciiString<A>, ch: AsciiChar) -> Result<(), AllocError>
-    ensures { OnOk result (output.new.text ≡ output.old.text ++ caret_text (code_of ch)) }
-{
-    match caret_encode(ch.as_byte()) {
-        Some(letter) if ch != AsciiChar::LineFeed => {
-            output.push(AsciiChar::Caret)?;
-            output.push(letter)
-        }
-        _ => output.push(ch),
-    }
-}
-
-/// What one iterator of lines gives to a script of ends, a line for each end.
-fn ends_output<A: Allocator>(
+/// Puts in the output of the mode for a text. Nothing is put in where it fails.
+fn put_output<K: Sink, A: Allocator + Copy>(
     alloc: A,
+    mode: Mode<'_>,
+    text: AsciiStr<'_>,
+    page: &mut Page<A>,
+    writer: &mut K,
+) -> Result<(), EngineFault>
+    requires { MayFail (out K.taken K.failures writer.old page.old) }
+    ensures ok { OnOk result (PutsOutput mode.entry (text_of text.entry) (out K.taken K.failures writer.old page.old) (out K.taken K.failures writer.new page.new)) }
+    ensures err { IfErr result (StopsOutput mode.entry (text_of text.entry)) }
+    ensures kept { OnErr result (writer.new ≡ writer.old) }
+{
+    match mode {
+        Mode::Copy => page.put(writer, text.as_bytes()),
+        Mode::Lines => put_lines(text, page, writer),
+        Mode::Tac => put_tac(text, page, writer),
+        Mode::Caret => put_caret(text, page, writer),
+        Mode::Ends(script) => put_ends(text, script, page, writer),
+        Mode::EndsSpans(script) => put_ends_spans(text, script, page, writer),
+        Mode::Edit(cmds) => page.put(
+            writer,
+            edit_output(alloc, text, cmds)?.as_ascii_str().as_bytes(),
+        ),
+        Mode::Json => page.put(writer, json_output(alloc, text)?.as_ascii_str().as_bytes()),
+    }
+    Ok(())
+}
+
+/// Puts in the body of each line and LF, from the front.
+fn put_lines<K: Sink, A: Allocator>(text: AsciiStr<'_>, page: &mut Page<A>, writer: &mut K)
+    requires { MayFail (out K.taken K.failures writer.old page.old) }
+    ensures { PutsOutput Mode.Lines (text_of text.entry) (out K.taken K.failures writer.old page.old) (out K.taken K.failures writer.new page.new) }
+{
+    for body in text.lines() {
+        put_line(body, page, writer);
+    }
+}
+
+/// Puts in the body of each line and LF, from the back.
+fn put_tac<K: Sink, A: Allocator>(text: AsciiStr<'_>, page: &mut Page<A>, writer: &mut K)
+    requires { MayFail (out K.taken K.failures writer.old page.old) }
+    ensures { PutsOutput Mode.Tac (text_of text.entry) (out K.taken K.failures writer.old page.old) (out K.taken K.failures writer.new page.new) }
+{
+    for body in text.lines().rev() {
+        put_line(body, page, writer);
+    }
+}
+
+/// Puts in a body and LF.
+fn put_line<K: Sink, A: Allocator>(body: AsciiStr<'_>, page: &mut Page<A>, writer: &mut K)
+    requires { MayFail (out K.taken K.failures writer.old page.old) }
+    ensures { Puts (out K.taken K.failures writer.old page.old) (out K.taken K.failures writer.new page.new) (with_line_feed (text_of body.entry)) }
+{
+    page.put(writer, body.as_bytes());
+    page.put(writer, b"\n");
+}
+
+/// Puts in each character; a control character other than LF as `^` and its caret letter. What
+/// stands between two of these goes in as one run.
+fn put_caret<K: Sink, A: Allocator>(text: AsciiStr<'_>, page: &mut Page<A>, writer: &mut K)
+    requires { MayFail (out K.taken K.failures writer.old page.old) }
+    ensures { Puts (out K.taken K.failures writer.old page.old) (out K.taken K.failures writer.new page.new) (flat_map caret_text (text_of text.entry)) }
+{
+    let mut rest = text.as_bytes();
+    'runs: while let Some(place) = first_control(rest) {
+        page.put(writer, &rest[..place]);
+        put_control(rest[place], page, writer);
+        rest = &rest[place + 1..];
+    }
+    page.put(writer, rest);
+}
+
+/// The place of the first control character other than LF.
+fn first_control(bytes: &[u8]) -> Option<usize>
+    ensures { MatchOption result (All IsShown bytes.now) (IsFirstNot IsShown bytes.now 0 (length bytes.now)) }
+{
+    for at in 0..bytes.len() {
+        if !is_shown(bytes[at]) {
+            return Some(at);
+        }
+    }
+    None
+}
+
+/// Whether `caret` shows the code as itself.
+#[inline]
+fn is_shown(code: u8) -> bool
+    ensures { IsTrue result ↔ IsShown code }
+{
+    code == b'\n' || code >= 32 && code != 127
+}
+
+/// Puts in a control character other than LF: `^` and its caret letter.
+fn put_control<K: Sink, A: Allocator>(code: u8, page: &mut Page<A>, writer: &mut K)
+    requires fail { MayFail (out K.taken K.failures writer.old page.old) }
+    requires control { ¬ IsShown code }
+    requires ascii { code < 128 }
+    ensures { Puts (out K.taken K.failures writer.old page.old) (out K.taken K.failures writer.new page.new) (caret_text code) }
+{
+    let letter = if code < 32 { code + 64 } else { b'?' };
+    page.put(writer, &[b'^', letter]);
+}
+
+/// Puts in what one iterator of lines gives to a script of ends, a line for each end.
+fn put_ends<K: Sink, A: Allocator>(
     text: AsciiStr<'_>,
     script: &[End],
-) -> Result<AsciiString<A>, AllocError>
-    ensures { IfOk result (λ output. IsOutput (Mode.Ends script.entry) (text_of text.entry) output.text) }
+    page: &mut Page<A>,
+    writer: &mut K,
+)
+    requires { MayFail (out K.taken K.failures writer.old page.old) }
+    ensures { PutsOutput (Mode.Ends script.entry) (text_of text.entry) (out K.taken K.failures writer.old page.old) (out K.taken K.failures writer.new page.new) }
 {
-    let mut output = AsciiString::new(alloc);
     let mut lines = text.lines();
     for end in script {
-        push_answer(&mut output, take_end(&mut lines, *end))?;
+        put_answer(take_end(&mut lines, *end), page, writer);
     }
-    Ok(output)
 }
 
-/// The same with the start and the ending of each line.
-fn ends_spans_output<A: Allocator>(
-    alloc: A,
-    text: AsciiStr<'_>,
-    script: &[End],
-) -> Result<AsciiString<A>, AllocError>
-    ensures { IfOk result (λ output. IsOutput (Mode.EndsSpans script.entry) (text_of text.entry) output.text) }
-{
-    let mut output = AsciiString::new(alloc);
-    let mut lines = text.line_spans();
-    for end in script {
-        push_span(&mut output, take_end(&mut lines, *end))?;
-    }
-    Ok(output)
-}
-
-/// Appends an answer: `+`, the body and LF, or `-` and LF.
-fn push_answer<A: Allocator>(
-    output: &mut AsciiString<A>,
+/// Puts in an answer: `+`, the body and LF, or `-` and LF.
+fn put_answer<K: Sink, A: Allocator>(
     answer: Option<AsciiStr<'_>>,
-) -> Result<(), AllocError>
-    ensures { OnOk result (output.new.text ≡ output.old.text ++ answer_text (option_map text_of answer.entry)) }
+    page: &mut Page<A>,
+    writer: &mut K,
+)
+    requires { MayFail (out K.taken K.failures writer.old page.old) }
+    ensures { Puts (out K.taken K.failures writer.old page.old) (out K.taken K.failures writer.new page.new) (answer_text (option_map text_of answer.entry)) }
 {
     match answer {
         Some(body) => {
-            output.push(AsciiChar::Plus)?;
-            output.push_str(body)?;
+            page.put(writer, b"+");
+            put_line(body, page, writer);
         }
-        None => output.push(AsciiChar::Minus)?,
+        None => page.put(writer, b"-\n"),
     }
-    output.push(AsciiChar::LineFeed)
 }
 
-/// Appends an answer with its place: `+`, the start, the ending's word and the body with spaces
+/// The same as `put_ends` with the start and the ending of each line.
+fn put_ends_spans<K: Sink, A: Allocator>(
+    text: AsciiStr<'_>,
+    script: &[End],
+    page: &mut Page<A>,
+    writer: &mut K,
+)
+    requires { MayFail (out K.taken K.failures writer.old page.old) }
+    ensures { PutsOutput (Mode.EndsSpans script.entry) (text_of text.entry) (out K.taken K.failures writer.old page.old) (out K.taken K.failures writer.new page.new) }
+{
+    let mut lines = text.line_spans();
+    for end in script {
+        put_span(take_end(&mut lines, *end), page, writer);
+    }
+}
+
+/// Puts in an answer with its place: `+`, the start, the ending's word and the body with spaces
 /// between, and LF; or `-` and LF.
-fn push_span<A: Allocator>(
-    output: &mut AsciiString<A>,
-    answer: Option<LineSpan<'_>>,
-) -> Result<(), AllocError>
-    ensures { OnOk result (output.new.text ≡ output.old.text ++ span_text (option_map line_in answer.entry)) }
+fn put_span<K: Sink, A: Allocator>(answer: Option<LineSpan<'_>>, page: &mut Page<A>, writer: &mut K)
+    requires { MayFail (out K.taken K.failures writer.old page.old) }
+    ensures { Puts (out K.taken K.failures writer.old page.old) (out K.taken K.failures writer.new page.new) (span_text (option_map line_in answer.entry)) }
 {
     let Some(span) = answer else {
-        return push_answer(output, None);
+        return page.put(writer, b"-\n");
     };
-    output.push(AsciiChar::Plus)?;
-    push_number(output, span.start)?;
-    output.push(AsciiChar::Space)?;
-    output.push_str(word_of_ending(span.ending))?;
-    output.push(AsciiChar::Space)?;
-    output.push_str(span.text)?;
-    output.push(AsciiChar::LineFeed)
+    let mut number = Buffer::new();
+    page.put(writer, b"+");
+    page.put(writer, number.format(span.start).as_bytes());
+    page.put(writer, word_of_ending(span.ending));
+    put_line(span.text, page, writer);
 }
 
-/// Appends a number in decimal.
-fn push_number<A: Allocator>(output: &mut AsciiString<A>, n: usize) -> Result<(), AllocError>
-    ensures { OnOk result (output.new.text ≡ output.old.text ++ decimal n) }
-{
-    let mut buffer = Buffer::new();
-    output.push_str(text::as_ascii_str_unchecked(buffer.format(n)))
-}
-
-/// The word of an ending.
-fn word_of_ending(ending: Ending) -> AsciiStr<'static>
-    ensures { text_of result ≡ ending_word ending }
+/// The word of an ending, with a space before and behind it.
+fn word_of_ending(ending: Ending) -> &'static [u8]
+    ensures { result.now ≡ codes " " ++ (ending_word ending ++ codes " ") }
 {
     match ending {
-        Ending::Lf => text::as_ascii_str_unchecked("lf"),
-        Ending::CrLf => text::as_ascii_str_unchecked("crlf"),
-        Ending::Absent => text::as_ascii_str_unchecked("none"),
+        Ending::Lf => b" lf ",
+        Ending::CrLf => b" crlf ",
+        Ending::Absent => b" none ",
     }
 }
 

@@ -4,3 +4,4 @@ mod commands;
 mod devices;
 mod engine;
 mod lengths;
+mod pages;

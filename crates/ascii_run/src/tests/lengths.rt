@@ -8,7 +8,7 @@ use std::alloc::{AllocError, Global};
 use std::io;
 use std::test::Fail;
 
-const LENGTHS: [usize; 4] = [0, 1, 33, 5_000];
+const LENGTHS: [usize; 8] = [0, 1, 33, 5_000, 65_535, 65_536, 65_537, 200_000];
 
 /// As many bytes `a`, between a front and a back.
 fn bytes_of(alloc: Global, front: &str, length: usize, back: &str) -> Result<Vec<u8>, AllocError> {

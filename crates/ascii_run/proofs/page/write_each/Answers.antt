@@ -1,0 +1,14 @@
+use Rattle.std.proofs.Common.{◌++◌, ◌∙◌, take}
+use Rattle.std.proofs.KnownBytes.{Appends-trans}
+use Rattle.ascii_run.proofs.SinkLemmas.{sent_more}
+use Rattle.ascii_run.proofs.page.write_each.Goals as goal
+
+pub writes-preserved : goal.writes-preserved
+writes-preserved g c =
+    let sent = c.writes.invariant.0 in
+    let rest = c.writes.rest.now in (
+      sent ++ take c.in-Ok.n rest,
+      Appends-trans _ _ _ sent (take c.in-Ok.n rest) c.writes.invariant.1 c.in-Ok.ensures.bytes,
+      sent_more sent rest c.args.bytes.now c.in-Ok.n c.writes.invariant.2,
+      c.in-Ok.ensures.count ∙ c.writes.invariant.3,
+    )

@@ -1,0 +1,52 @@
+-- What went out of the bytes that were put in. No public clause cites it.
+use Rattle.std.specs.Prelude.{◌≡◌, ℕ, ◌+◌, ◌<◌, ◌^◌, List, [], ◌++◌, Bool, true, false, ◌-◌}
+use Rattle.std.specs.Io.KnownBytes.{Appends, Keeps}
+use Rattle.std.specs.declared.option.Option.{Option}
+use Rattle.std.specs.declared.result.Result.{Result}
+use Rattle.std.specs.declared.result.Result.TheVariants.{Ok, Err}
+use Rattle.ascii_run.specs.declared.faults.EngineFault.{EngineFault}
+use Rattle.ascii_run.specs.declared.faults.EngineFault.TheVariants.{Write}
+use Rattle.ascii_run.specs.declared.modes.Mode.{Mode}
+use Rattle.ascii_run.specs.Engine.{AppendsFront}
+use Rattle.ascii_run.specs.Output.{IsOutput}
+
+-- the bytes that a page holds back, and whether a write of it has failed
+pub record Held : Type 0 where
+  pub bytes : List ℕ
+  pub is_broken : Bool
+
+-- what a writer took, how many of its calls failed, and the page before it
+pub record Outgoing : Type 0 where
+  pub taken : Option (List ℕ)
+  pub failures : ℕ
+  pub page : Held
+
+-- the state of a writer, told by what it took and how many of its calls failed, and of the page before it
+abbrev pub out : {K : Type 0} → (K → Option (List ℕ)) → (K → ℕ) → K → Held → Outgoing
+out taken failures writer page = record { taken = taken writer; failures = failures writer; page = page }
+
+-- no write has failed yet, and one more can be counted; or one has
+abbrev pub MayFail : Outgoing → Type 0
+MayFail out = out.page.is_broken ≡ false → out.failures < 2 ^ 64 - 1
+
+-- bytes were put in: all but those that are held went out; or a write failed, and a beginning of them did; or nothing, where one had failed
+abbrev pub PutsBy : Bool → Bool → Outgoing → Outgoing → List ℕ → Type 0
+PutsBy false false old new bytes =
+    (sent : List ℕ) × Appends old.taken new.taken sent × (sent ++ new.page.bytes ≡ old.page.bytes ++ bytes) × (new.failures ≡ old.failures)
+PutsBy false true old new bytes = AppendsFront old.taken new.taken (old.page.bytes ++ bytes) × (new.failures ≡ old.failures + 1)
+PutsBy true false old new bytes = ⊥
+PutsBy true true old new bytes = Keeps old.taken new.taken × (new.failures ≡ old.failures)
+
+pub record Puts (old new : Outgoing) (bytes : List ℕ) : Type 0 where
+  pub goes : PutsBy old.page.is_broken new.page.is_broken old new bytes
+
+-- the output of a mode for a text was put in
+abbrev pub PutsOutput : Mode → List ℕ → Outgoing → Outgoing → Type 0
+PutsOutput mode text old new = (output : List ℕ) × IsOutput mode text output × Puts old new output
+
+-- what is held goes out and the page is done: all of it went out, or a write or the flush failed and a beginning did
+abbrev pub FinishesBy : Bool → Outgoing → Option (List ℕ) → ℕ → Result (Unit {0}) EngineFault → Type 0
+FinishesBy false old taken failures (Ok _) = Appends old.taken taken old.page.bytes × (failures ≡ old.failures)
+FinishesBy false old taken failures (Err Write) = AppendsFront old.taken taken old.page.bytes × (failures ≡ old.failures + 1)
+FinishesBy true old taken failures (Err Write) = Keeps old.taken taken × (failures ≡ old.failures)
+FinishesBy is_broken old taken failures other = ⊥

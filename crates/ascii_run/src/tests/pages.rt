@@ -1,0 +1,83 @@
+//! Outputs round the size of a page, and writers that fail between two pages.
+
+use crate::{EngineFault, Input, Mode, Output, engine};
+use std::alloc::{AllocError, Global};
+use std::io;
+use std::test::Fail;
+
+/// A writer that keeps what it takes, counts its calls, and fails at one of them and at all later ones.
+#[derive(Drop)]
+struct Counting {
+    taken: Vec<u8>,
+    calls: usize,
+    fails_at: usize,
+}
+
+impl Counting {
+    fn new(alloc: Global, fails_at: usize) -> Counting {
+        Counting {
+            taken: Vec::new(alloc),
+            calls: 0,
+            fails_at,
+        }
+    }
+}
+
+impl io::Write for Counting {
+    fn write(&mut self, buf: &[u8]) -> io::Result<usize> {
+        self.calls = self.calls.wrapping_add(1);
+        if self.calls >= self.fails_at {
+            return Err(io::Error::from(io::ErrorKind::Other));
+        }
+        self.taken.extend_from_slice(buf)?;
+        Ok(buf.len())
+    }
+
+    fn flush(&mut self) -> io::Result<()> {
+        Ok(())
+    }
+}
+
+/// As many lines of eight bytes.
+fn lines_of(alloc: Global, count: usize) -> Result<Vec<u8>, AllocError> {
+    let mut bytes = Vec::new(alloc);
+    for _ in 0..count {
+        bytes.extend_from_slice(b"abcdefg\n")?;
+    }
+    Ok(bytes)
+}
+
+#[test]
+fn lines_round_a_page(rt: HostRuntime) -> Result<(), Fail> {
+    let rows = [(8_191, 1), (8_192, 1), (8_193, 2), (25_000, 4)];
+    let modes = [Mode::Lines, Mode::Tac];
+    for (count, calls) in rows {
+        let input = lines_of(rt.alloc(), count)?;
+        for mode in modes {
+            let mut reader = Input::new(input.as_slice());
+            let mut writer = Output::new(Counting::new(rt.alloc(), usize::MAX));
+            let answer = engine(rt.alloc(), mode, &mut reader, &mut writer);
+            let counting = writer.into_inner();
+            assert_eq!(rt; answer, Ok(()), "{count}");
+            assert_eq!(rt; counting.calls, calls, "{count}");
+            assert!(rt; counting.taken == input, "{count}");
+        }
+    }
+    Ok(())
+}
+
+#[test]
+fn writers_that_fail_at_a_page(rt: HostRuntime) -> Result<(), Fail> {
+    let input = lines_of(rt.alloc(), 25_000)?;
+    let rows = [(1, 0), (2, 65_536), (3, 131_072), (4, 196_608)];
+    for (fails_at, taken) in rows {
+        let mut reader = Input::new(input.as_slice());
+        let mut writer = Output::new(Counting::new(rt.alloc(), fails_at));
+        let answer = engine(rt.alloc(), Mode::Lines, &mut reader, &mut writer);
+        let counting = writer.into_inner();
+        assert_eq!(rt; answer, Err(EngineFault::Write), "{fails_at}");
+        assert_eq!(rt; counting.calls, fails_at, "{fails_at}");
+        assert_eq!(rt; counting.taken.len(), taken, "{fails_at}");
+    }
+    Ok(())
+}
