@@ -40,9 +40,17 @@ PutsBy true true old new bytes = Keeps old.taken new.taken × (new.failures ≡ 
 pub record Puts (old new : Outgoing) (bytes : List ℕ) : Type 0 where
   pub goes : PutsBy old.page.is_broken new.page.is_broken old new bytes
 
+-- the same of a writer and a page before it, as they were and as they are
+abbrev pub PutIn : {K : Type 0} → (K → Option (List ℕ)) → (K → ℕ) → K → Held → K → Held → List ℕ → Type 0
+PutIn taken failures writer page writer_now page_now bytes = Puts (out taken failures writer page) (out taken failures writer_now page_now) bytes
+
 -- the output of a mode for a text was put in
 abbrev pub PutsOutput : Mode → List ℕ → Outgoing → Outgoing → Type 0
 PutsOutput mode text old new = (output : List ℕ) × IsOutput mode text output × Puts old new output
+
+abbrev pub OutputIn : {K : Type 0} → Mode → List ℕ → (K → Option (List ℕ)) → (K → ℕ) → K → Held → K → Held → Type 0
+OutputIn mode text taken failures writer page writer_now page_now =
+    PutsOutput mode text (out taken failures writer page) (out taken failures writer_now page_now)
 
 -- what is held goes out and the page is done: all of it went out, or a write or the flush failed and a beginning did
 abbrev pub FinishesBy : Bool → Outgoing → Option (List ℕ) → ℕ → Result (Unit {0}) EngineFault → Type 0

@@ -7,7 +7,7 @@ ghost use Rattle.std.specs.List.{All, flat_map};
 ghost use Rattle.ascii.specs.Spans.{line_in};
 ghost use Rattle.ascii.specs.View.{text_of};
 ghost use Rattle.ascii_run.specs.Engine.{StopsOutput, WritesOutput, write_failures};
-ghost use Rattle.ascii_run.specs.Outgoing.{MayFail, Puts, PutsOutput, out};
+ghost use Rattle.ascii_run.specs.Outgoing.{MayFail, OutputIn, PutIn, out};
 ghost use Rattle.ascii_run.specs.Output.{IsShown, answer_text, caret_text, ending_word, span_text, with_line_feed};
 ghost use Rattle.ascii_run.specs.Run.{HasNoFault, plain_text};
 ghost use Rattle.ascii_run.specs.JsonText.{json_text};
@@ -49,7 +49,7 @@ fn put_output<K: Sink, A: Allocator + Copy>(
     writer: &mut K,
 ) -> Result<(), EngineFault>
     requires { MayFail (out K.taken K.failures writer.old page.old) }
-    ensures ok { OnOk result (PutsOutput mode.entry (text_of text.entry) (out K.taken K.failures writer.old page.old) (out K.taken K.failures writer.new page.new)) }
+    ensures ok { OnOk result (OutputIn mode.entry (text_of text.entry) K.taken K.failures writer.old page.old writer.new page.new) }
     ensures err { IfErr result (StopsOutput mode.entry (text_of text.entry)) }
     ensures kept { OnErr result (writer.new ≡ writer.old) }
 {
@@ -72,7 +72,7 @@ fn put_output<K: Sink, A: Allocator + Copy>(
 /// Puts in the body of each line and LF, from the front.
 fn put_lines<K: Sink, A: Allocator>(text: AsciiStr<'_>, page: &mut Page<A>, writer: &mut K)
     requires { MayFail (out K.taken K.failures writer.old page.old) }
-    ensures { PutsOutput Mode.Lines (text_of text.entry) (out K.taken K.failures writer.old page.old) (out K.taken K.failures writer.new page.new) }
+    ensures { OutputIn Mode.Lines (text_of text.entry) K.taken K.failures writer.old page.old writer.new page.new }
 {
     for body in text.lines() {
         put_line(body, page, writer);
@@ -82,7 +82,7 @@ fn put_lines<K: Sink, A: Allocator>(text: AsciiStr<'_>, page: &mut Page<A>, writ
 /// Puts in the body of each line and LF, from the back.
 fn put_tac<K: Sink, A: Allocator>(text: AsciiStr<'_>, page: &mut Page<A>, writer: &mut K)
     requires { MayFail (out K.taken K.failures writer.old page.old) }
-    ensures { PutsOutput Mode.Tac (text_of text.entry) (out K.taken K.failures writer.old page.old) (out K.taken K.failures writer.new page.new) }
+    ensures { OutputIn Mode.Tac (text_of text.entry) K.taken K.failures writer.old page.old writer.new page.new }
 {
     for body in text.lines().rev() {
         put_line(body, page, writer);
@@ -92,7 +92,7 @@ fn put_tac<K: Sink, A: Allocator>(text: AsciiStr<'_>, page: &mut Page<A>, writer
 /// Puts in a body and LF.
 fn put_line<K: Sink, A: Allocator>(body: AsciiStr<'_>, page: &mut Page<A>, writer: &mut K)
     requires { MayFail (out K.taken K.failures writer.old page.old) }
-    ensures { Puts (out K.taken K.failures writer.old page.old) (out K.taken K.failures writer.new page.new) (with_line_feed (text_of body.entry)) }
+    ensures { PutIn K.taken K.failures writer.old page.old writer.new page.new (with_line_feed (text_of body.entry)) }
 {
     page.put(writer, body.as_bytes());
     page.put(writer, b"\n");
@@ -102,7 +102,7 @@ fn put_line<K: Sink, A: Allocator>(body: AsciiStr<'_>, page: &mut Page<A>, write
 /// stands between two of these goes in as one run.
 fn put_caret<K: Sink, A: Allocator>(text: AsciiStr<'_>, page: &mut Page<A>, writer: &mut K)
     requires { MayFail (out K.taken K.failures writer.old page.old) }
-    ensures { Puts (out K.taken K.failures writer.old page.old) (out K.taken K.failures writer.new page.new) (flat_map caret_text (text_of text.entry)) }
+    ensures { PutIn K.taken K.failures writer.old page.old writer.new page.new (flat_map caret_text (text_of text.entry)) }
 {
     let mut rest = text.as_bytes();
     'runs: while let Some(place) = first_control(rest) {
@@ -138,7 +138,7 @@ fn put_control<K: Sink, A: Allocator>(code: u8, page: &mut Page<A>, writer: &mut
     requires fail { MayFail (out K.taken K.failures writer.old page.old) }
     requires control { ¬ IsShown code }
     requires ascii { code < 128 }
-    ensures { Puts (out K.taken K.failures writer.old page.old) (out K.taken K.failures writer.new page.new) (caret_text code) }
+    ensures { PutIn K.taken K.failures writer.old page.old writer.new page.new (caret_text code) }
 {
     let letter = if code < 32 { code + 64 } else { b'?' };
     page.put(writer, &[b'^', letter]);
@@ -152,7 +152,7 @@ fn put_ends<K: Sink, A: Allocator>(
     writer: &mut K,
 )
     requires { MayFail (out K.taken K.failures writer.old page.old) }
-    ensures { PutsOutput (Mode.Ends script.entry) (text_of text.entry) (out K.taken K.failures writer.old page.old) (out K.taken K.failures writer.new page.new) }
+    ensures { OutputIn (Mode.Ends script.entry) (text_of text.entry) K.taken K.failures writer.old page.old writer.new page.new }
 {
     let mut lines = text.lines();
     for end in script {
@@ -167,7 +167,7 @@ fn put_answer<K: Sink, A: Allocator>(
     writer: &mut K,
 )
     requires { MayFail (out K.taken K.failures writer.old page.old) }
-    ensures { Puts (out K.taken K.failures writer.old page.old) (out K.taken K.failures writer.new page.new) (answer_text (option_map text_of answer.entry)) }
+    ensures { PutIn K.taken K.failures writer.old page.old writer.new page.new (answer_text (option_map text_of answer.entry)) }
 {
     match answer {
         Some(body) => {
@@ -186,7 +186,7 @@ fn put_ends_spans<K: Sink, A: Allocator>(
     writer: &mut K,
 )
     requires { MayFail (out K.taken K.failures writer.old page.old) }
-    ensures { PutsOutput (Mode.EndsSpans script.entry) (text_of text.entry) (out K.taken K.failures writer.old page.old) (out K.taken K.failures writer.new page.new) }
+    ensures { OutputIn (Mode.EndsSpans script.entry) (text_of text.entry) K.taken K.failures writer.old page.old writer.new page.new }
 {
     let mut lines = text.line_spans();
     for end in script {
@@ -198,7 +198,7 @@ fn put_ends_spans<K: Sink, A: Allocator>(
 /// between, and LF; or `-` and LF.
 fn put_span<K: Sink, A: Allocator>(answer: Option<LineSpan<'_>>, page: &mut Page<A>, writer: &mut K)
     requires { MayFail (out K.taken K.failures writer.old page.old) }
-    ensures { Puts (out K.taken K.failures writer.old page.old) (out K.taken K.failures writer.new page.new) (span_text (option_map line_in answer.entry)) }
+    ensures { PutIn K.taken K.failures writer.old page.old writer.new page.new (span_text (option_map line_in answer.entry)) }
 {
     let Some(span) = answer else {
         return page.put(writer, b"-\n");

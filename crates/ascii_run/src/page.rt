@@ -3,7 +3,7 @@
 ghost use Rattle.std.specs.Prelude.{◌≡◌, ◌+◌, ◌<◌, ◌≤◌, ◌++◌, IfErr, IfOk, OnOk, [], false, length};
 ghost use Rattle.std.specs.Io.KnownBytes.{Appends};
 ghost use Rattle.ascii_run.specs.Engine.{AppendsFront, write_failures};
-ghost use Rattle.ascii_run.specs.Outgoing.{FinishesBy, MayFail, Puts, out};
+ghost use Rattle.ascii_run.specs.Outgoing.{FinishesBy, MayFail, PutIn, out};
 
 use crate::devices::Sink;
 use crate::faults::EngineFault;
@@ -47,7 +47,7 @@ impl<A: Allocator> Page<A> {
     #[inline]
     pub(crate) fn put<K: Sink>(&mut self, writer: &mut K, bytes: &[u8])
         requires { MayFail (out K.taken K.failures writer.old self.old) }
-        ensures { Puts (out K.taken K.failures writer.old self.old) (out K.taken K.failures writer.new self.new) bytes.now }
+        ensures { PutIn K.taken K.failures writer.old self.old writer.new self.new bytes.now }
     {
         if bytes.len() <= PAGE - self.held.len() {
             self.hold(bytes);
@@ -71,7 +71,7 @@ impl<A: Allocator> Page<A> {
     fn pass<K: Sink>(&mut self, writer: &mut K, bytes: &[u8])
         requires fail { MayFail (out K.taken K.failures writer.old self.old) }
         requires empty { self.old.bytes ≡ [] }
-        ensures { Puts (out K.taken K.failures writer.old self.old) (out K.taken K.failures writer.new self.new) bytes.now }
+        ensures { PutIn K.taken K.failures writer.old self.old writer.new self.new bytes.now }
     {
         if bytes.len() <= PAGE {
             self.hold(bytes);
@@ -84,7 +84,7 @@ impl<A: Allocator> Page<A> {
     #[inline(never)]
     fn send<K: Sink>(&mut self, writer: &mut K)
         requires { MayFail (out K.taken K.failures writer.old self.old) }
-        ensures puts { Puts (out K.taken K.failures writer.old self.old) (out K.taken K.failures writer.new self.new) [] }
+        ensures puts { PutIn K.taken K.failures writer.old self.old writer.new self.new [] }
         ensures empty { self.new.bytes ≡ [] }
     {
         if !self.is_broken {
