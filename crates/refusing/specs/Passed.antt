@@ -1,0 +1,5 @@
+-- The allocator that the calls are passed on to.
+use Rattle.refusing.specs.declared.Refusing.{Refusing}
+
+abbrev pub inner_of : {B : Type 0} → Refusing B → B
+inner_of heap = heap.inner

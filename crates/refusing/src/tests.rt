@@ -1,0 +1,32 @@
+//! One growth is refused, and none before or behind it.
+
+use crate::Refusing;
+use std::test::Fail;
+
+#[test]
+fn refuses_one(rt: HostRuntime) -> Result<(), Fail> {
+    for left in 0..4u64 {
+        let heap = Refusing::new(rt.alloc(), left);
+        for growth in 0..4u64 {
+            assert_eq!(rt; heap.met(), left < growth, "{heap:?}");
+            let block: Result<Vec<u8, _>, _> = Vec::with_capacity(&heap, 5);
+            assert_eq!(rt; block.is_err(), growth == left, "{heap:?}");
+        }
+        assert!(rt; heap.met());
+    }
+    Ok(())
+}
+
+#[test]
+fn counts_blocks_that_grow(rt: HostRuntime) -> Result<(), Fail> {
+    let heap = Refusing::new(rt.alloc(), 1);
+    let mut bytes = Vec::with_capacity(&heap, 2)?;
+    bytes.push(7u8)?;
+    bytes.push(8)?;
+    assert!(rt; bytes.push(9).is_err());
+    assert!(rt; heap.met());
+    assert_eq!(rt; bytes.as_slice(), [7, 8].as_slice());
+    bytes.push(9)?;
+    assert_eq!(rt; bytes.as_slice(), [7, 8, 9].as_slice());
+    Ok(())
+}
