@@ -1,0 +1,194 @@
+//! One byte a call, with each call refused in turn.
+
+use super::devices::{Giving, KINDS, Step, Taking};
+use ascii::iter::End;
+use ascii::{AsciiStr, text};
+use ascii_run::{Cmd, EngineFault, Input, Mode, Output, Sink, Source, engine};
+use std::alloc::{AllocError, Global};
+use std::process::Abort;
+use std::test::Fail;
+
+const INPUT: &[u8] = b"a\tb\n\nc\r";
+
+const SCRIPT: [End; 3] = [End::Back, End::Front, End::Front];
+
+/// The view of a text, which is empty where the text is not ASCII.
+fn view(source: &str) -> AsciiStr<'_> {
+    text::as_ascii_str(source).unwrap_or_default()
+}
+
+/// As many calls that move one byte, and then a step.
+fn steps(alloc: Global, before: usize, step: Step) -> Result<Vec<Step>, AllocError> {
+    steps_of(alloc, 1, before, step)
+}
+
+/// As many calls that move `most` bytes, and then a step.
+fn steps_of(
+    alloc: Global,
+    most: usize,
+    before: usize,
+    step: Step,
+) -> Result<Vec<Step>, AllocError> {
+    let mut steps = vec![in alloc; Step::Moves(most); before]?;
+    steps.push(step)?;
+    Ok(steps)
+}
+
+/// What a mode writes for an input over devices that do not fail.
+fn written(alloc: Global, mode: Mode<'_>, input: &[u8]) -> Result<Vec<u8>, EngineFault> {
+    let mut reader = Input::new(input);
+    let mut writer = Output::new(Vec::new(alloc));
+    engine(alloc, mode, &mut reader, &mut writer)?;
+    Ok(writer.into_inner())
+}
+
+/// Runs a mode over devices that follow steps, twice, and compares the first answer, the counts and what had
+/// gone out. The second run answers by what the devices then tell: no step is left, so it puts out what the
+/// mode has for the rest of the input.
+fn compare<R: Abort + AllocGlobal>(
+    rt: &R,
+    (mode, input): (Mode<'_>, &[u8]),
+    steps: (&[Step], &[Step]),
+    answer: Result<(), EngineFault>,
+    (output, rest): (&[u8], &[u8]),
+) -> Result<(), Fail> {
+    let alloc = rt.alloc();
+    let mut reader = Input::new(Giving {
+        steps: steps.0,
+        bytes: input,
+    });
+    let mut writer = Output::new(Taking {
+        steps: steps.1,
+        bytes: Vec::new(alloc),
+    });
+    assert_eq!(rt; engine(alloc, mode, &mut reader, &mut writer), answer);
+    let faults = (reader.failures(), writer.failures());
+    let is = |fault: EngineFault| u64::from(answer == Err(fault));
+    assert_eq!(rt; faults, (is(EngineFault::Read), is(EngineFault::Write)));
+    assert!(rt; faults.0 < 2 && faults.1 < 2);
+    assert_eq!(rt; engine(alloc, mode, &mut reader, &mut writer), Ok(()));
+    assert_eq!(rt; (reader.failures(), writer.failures()), faults);
+    let mut all = Vec::from_slice(alloc, output)?;
+    all.extend_from_slice(&written(alloc, mode, rest)?)?;
+    assert_eq!(rt; writer.into_inner().bytes, all);
+    Ok(())
+}
+
+/// The modes, and what each writes for the input.
+fn modes<'a>(cmds: &'a [Cmd<'a>]) -> [(Mode<'a>, &'static [u8]); 8] {
+    [
+        (Mode::Copy, b"a\tb\n\nc\r"),
+        (Mode::Lines, b"a\tb\n\nc\r\n"),
+        (Mode::Tac, b"c\r\n\na\tb\n"),
+        (Mode::Caret, b"a^Ib\n\nc^M"),
+        (Mode::Ends(&SCRIPT), b"+c\r\n+a\tb\n+\n"),
+        (
+            Mode::EndsSpans(&SCRIPT),
+            b"+5 none c\r\n+0 lf a\tb\n+4 lf \n",
+        ),
+        (Mode::Edit(cmds), b"XYA\tB\n\nC\r"),
+        (Mode::Json, b"\"a\\tb\\n\\nc\\r\""),
+    ]
+}
+
+#[test]
+fn one_byte_a_call(rt: HostRuntime) -> Result<(), Fail> {
+    let cmds = [Cmd::InsertStr(0, view("xy")), Cmd::Upper];
+    let bytes = [Step::Moves(1); 40];
+    for (mode, output) in modes(&cmds) {
+        compare(&rt, (mode, INPUT), (&bytes, &[]), Ok(()), (output, b""))?;
+        compare(&rt, (mode, INPUT), (&[], &bytes), Ok(()), (output, b""))?;
+        compare(&rt, (mode, INPUT), (&bytes, &bytes), Ok(()), (output, b""))?;
+    }
+    Ok(())
+}
+
+#[test]
+fn each_read_fails(rt: HostRuntime) -> Result<(), Fail> {
+    let cmds = [Cmd::InsertStr(0, view("xy")), Cmd::Upper];
+    let read = Err(EngineFault::Read);
+    for (mode, _) in modes(&cmds) {
+        for before in 0..INPUT.len() + 1 {
+            for kind in KINDS {
+                let reads = steps(rt.alloc(), before, Step::Fails(kind))?;
+                compare(
+                    &rt,
+                    (mode, INPUT),
+                    (&reads, &[]),
+                    read,
+                    (b"", &INPUT[before..]),
+                )?;
+            }
+        }
+    }
+    Ok(())
+}
+
+#[test]
+fn each_write_fails(rt: HostRuntime) -> Result<(), Fail> {
+    let cmds = [Cmd::InsertStr(0, view("xy")), Cmd::Upper];
+    let write = Err(EngineFault::Write);
+    for (mode, output) in modes(&cmds) {
+        assert!(rt; output.len() < 40);
+        for before in 0..output.len() + 1 {
+            for kind in KINDS {
+                let writes = steps(rt.alloc(), before, Step::Fails(kind))?;
+                compare(
+                    &rt,
+                    (mode, INPUT),
+                    (&[], &writes),
+                    write,
+                    (&output[..before], b""),
+                )?;
+            }
+        }
+        for before in 0..output.len() {
+            let writes = steps(rt.alloc(), before, Step::Moves(0))?;
+            compare(
+                &rt,
+                (mode, INPUT),
+                (&[], &writes),
+                write,
+                (&output[..before], b""),
+            )?;
+        }
+    }
+    Ok(())
+}
+
+#[test]
+fn a_read_of_nothing_is_the_end(rt: HostRuntime) -> Result<(), Fail> {
+    for before in 0..INPUT.len() + 1 {
+        let reads = steps(rt.alloc(), before, Step::Moves(0))?;
+        let (now, later) = INPUT.split_at(before);
+        compare(
+            &rt,
+            (Mode::Copy, INPUT),
+            (&reads, &[]),
+            Ok(()),
+            (now, later),
+        )?;
+    }
+    Ok(())
+}
+
+/// More than two of the chunks that are read at once.
+const LONG: usize = 21_000;
+
+#[test]
+fn far_behind_the_first_call(rt: HostRuntime) -> Result<(), Fail> {
+    let alloc = rt.alloc();
+    let input = vec![in alloc; b'a'; LONG]?;
+    for (kind, before) in KINDS.into_iter().zip(0..8usize) {
+        let fails = steps_of(alloc, 3_000, before, Step::Fails(kind))?;
+        let out = before.saturating_mul(3_000);
+        for mode in [Mode::Copy, Mode::Caret] {
+            let (now, later) = input.split_at(out.min(input.len()));
+            let read = Err(EngineFault::Read);
+            compare(&rt, (mode, &input), (&fails, &[]), read, (b"", later))?;
+            let write = Err(EngineFault::Write);
+            compare(&rt, (mode, &input), (&[], &fails), write, (now, b""))?;
+        }
+    }
+    Ok(())
+}

@@ -1,0 +1,99 @@
+//! With nothing refused, no call gives up past a length. The calls that are not here stand in the tests of
+//! lengths of the crates above.
+
+use ascii::iter::{End, walk_line_spans, walk_split_spans};
+use ascii::{AsciiChar, AsciiStr, AsciiString, CowAsciiStr, bytes};
+use ascii_run::{Input, Mode, Output, engine};
+use std::alloc::Global;
+use std::fmt::Write;
+use std::process::Abort;
+use std::test::Fail;
+
+const LENGTHS: [usize; 4] = [0, 1, 33, 5_000];
+
+/// Makes room in a string of the view, and gives it back.
+fn room<R: Abort + AllocGlobal>(rt: &R, source: AsciiStr<'_>) -> Result<(), Fail> {
+    let length = source.len();
+    let mut string = AsciiString::with_capacity(rt.alloc(), length)?;
+    string.push_str(source)?;
+    assert!(rt; length <= 5_000);
+    string.reserve(length)?;
+    assert!(rt; 2 * length <= string.capacity());
+    string.shrink_to_fit()?;
+    string.reserve_exact(length)?;
+    assert!(rt; 2 * length <= string.capacity());
+    assert_eq!(rt; string.as_ascii_str(), source);
+    Ok(())
+}
+
+/// Lets a string of the view grow by each of the edits.
+fn grown<R: Abort + AllocGlobal>(rt: &R, source: AsciiStr<'_>) -> Result<(), Fail> {
+    let length = source.len();
+    let mut string = source.to_ascii_string(rt.alloc())?;
+    string.shrink_to_fit()?;
+    string.push(AsciiChar::b)?;
+    string.insert(0, AsciiChar::b)?;
+    string.insert_str(1, source)?;
+    string.write_str(source.as_str())?;
+    string.shrink_to_fit()?;
+    string.write_char('b')?;
+    string.extend_chars(source.chars())?;
+    string.extend_strs(source.split(AsciiChar::Comma))?;
+    assert!(rt; length <= 5_000);
+    assert_eq!(rt; string.len(), 5 * length + 3);
+    Ok(())
+}
+
+/// Turns a string of the view into each of the boxes and back.
+fn turned<R: Abort + AllocGlobal>(rt: &R, source: AsciiStr<'_>) -> Result<(), Fail> {
+    let alloc = rt.alloc();
+    let Ok(boxed) = source.to_ascii_string(alloc)?.into_boxed_ascii_str() else {
+        return Err(Fail::from("no box"));
+    };
+    let Ok(string) = boxed.into_ascii_string() else {
+        return Err(Fail::from("no string"));
+    };
+    let Ok(shared) = string.into_rc_ascii_str(alloc) else {
+        return Err(Fail::from("no shared text"));
+    };
+    assert_eq!(rt; shared.clone()?.as_ascii_str(), source);
+    let Ok(owned) = CowAsciiStr::from(source).into_owned(alloc) else {
+        return Err(Fail::from("no owned text"));
+    };
+    assert_eq!(rt; owned.as_ascii_str(), source);
+    Ok(())
+}
+
+/// Walks over the lines and pieces of the view with their places, and the mode that prints them.
+fn spans<R: Abort + AllocGlobal>(rt: &R, source: AsciiStr<'_>) -> Result<(), Fail> {
+    let alloc = rt.alloc();
+    let script = [End::Front; 100];
+    let empty = source.is_empty();
+    let lines = walk_line_spans(alloc, source, &script)?;
+    assert_eq!(rt; lines.first().map(|line| line.is_none()), Some(empty));
+    let pieces = walk_split_spans(alloc, source, AsciiChar::a, &script)?;
+    assert_eq!(rt; pieces.len(), 100);
+    let mut reader = Input::new(source.as_bytes());
+    let mut writer = Output::new(Vec::new(alloc));
+    assert_eq!(rt;
+        engine(alloc, Mode::EndsSpans(&script), &mut reader, &mut writer),
+        Ok(())
+    );
+    let written = writer.into_inner();
+    assert_eq!(rt; written.starts_with(b"+0 none a"), !empty);
+    Ok(())
+}
+
+#[test]
+fn nothing_is_refused(rt: HostRuntime) -> Result<(), Fail> {
+    for length in LENGTHS {
+        let source = vec![in rt.alloc(); b'a'; length]?;
+        let view = bytes::as_ascii_str(&source).unwrap_or_default();
+        assert_eq!(rt; view.len(), length);
+        room(&rt, view)?;
+        grown(&rt, view)?;
+        turned(&rt, view)?;
+        spans(&rt, view)?;
+    }
+    Ok(())
+}

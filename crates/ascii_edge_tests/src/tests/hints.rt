@@ -1,0 +1,51 @@
+//! Iterators that tell nothing of how many items they have, or too much.
+
+ghost use Rattle.std.specs.Prelude.{◌≡◌, IfSome};
+ghost use Rattle.std.specs.Iterator.{UpTo, item_count};
+ghost use Rattle.std.specs.Iterator.SizeHint.{IsWithinCount};
+ghost use Rattle.std.specs.Slice.Iter.{iter_rest};
+
+use ascii::{AsciiChar, AsciiString, text};
+use std::slice;
+use std::test::Fail;
+
+/// The items of a slice, with a bound from above that is told, but is no less than their number.
+#[derive(Drop)]
+struct Loose<'a, T> {
+    items: slice::Iter<'a, T>,
+    most: Option<usize>,
+}
+
+impl<T: Copy + Drop> Iterator for Loose<'_, T> {
+    type Item = T;
+
+    ghost remaining = { item_count (λ loose. iter_rest loose.items) };
+
+    fn next(&mut self) -> Option<T> {
+        self.items.next().copied()
+    }
+
+    fn size_hint(&self) -> (usize, Option<usize>) {
+        let left = self.items.len();
+        (0, self.most.map(|most| most.max(left)))
+    }
+}
+
+const TEXT: &str = "abcdefghijklmnopqrstuvwxyz0123456";
+
+#[test]
+fn all_items_come(rt: HostRuntime) -> Result<(), Fail> {
+    let alloc = rt.alloc();
+    let all = text::as_ascii_str(TEXT)
+        .unwrap_or_default()
+        .to_chars(alloc)?;
+    assert_eq!(rt; all.len(), 33);
+    for most in [None, Some(usize::MAX)] {
+        for length in [0, 3, 33] {
+            let items = all[..length].iter();
+            let mut string = AsciiString::collect_chars(alloc, Loose { items, most })?;
+            assert_eq!(rt; string.as_ascii_str().as_str(), &TEXT[..length]);
+        }
+    }
+    Ok(())
+}

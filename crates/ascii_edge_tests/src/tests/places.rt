@@ -1,0 +1,127 @@
+//! A byte past 127 at every place, alone and with a second one behind it.
+
+use ascii::{AsAsciiStrError, AsciiRange, AsciiStr, CopyError, bytes, string, text, vec};
+use ascii_run::{EngineFault, Input, Mode, Output, engine};
+use std::process::Abort;
+use std::test::Fail;
+
+/// Around the widths of the loops over bytes.
+const LENGTHS: [usize; 8] = [0, 1, 31, 32, 33, 63, 64, 65];
+
+/// The position of a refusal, or `None` where a view was given.
+fn position(answer: Result<AsciiStr<'_>, AsAsciiStrError>) -> Option<usize> {
+    match answer {
+        Ok(_) => None,
+        Err(error) => Some(error.valid_up_to()),
+    }
+}
+
+/// Each way from bytes to a text refuses the source with the place, and accepts what ends before it.
+fn bytes_refused<R: Abort>(rt: &R, source: &[u8], place: usize) {
+    let wanted = Some(place);
+    assert_eq!(rt; position(bytes::as_ascii_str(source)), wanted);
+    assert_eq!(rt; position(bytes::from_ascii(source)), wanted);
+    assert_eq!(rt; bytes::get_ascii(source, place), None);
+    for before in 0..place {
+        let front = bytes::slice_ascii(source, AsciiRange::ToInclusive(before));
+        assert_eq!(rt; position(front), None);
+        let whole = bytes::slice_ascii(source, AsciiRange::From(before));
+        assert_eq!(rt; position(whole), wanted);
+    }
+}
+
+/// Each way from bytes to a string or a view that writes, and the modes, do the same; the source comes back or
+/// stays.
+fn copies_refused<R: Abort + AllocGlobal>(
+    rt: &R,
+    source: &mut [u8],
+    place: usize,
+) -> Result<(), Fail> {
+    let alloc = rt.alloc();
+    let same = Vec::from_slice(alloc, source)?;
+    match bytes::to_ascii_string(alloc, source) {
+        Err(CopyError::NotAscii(error)) => {
+            assert_eq!(rt; error.ascii_error().valid_up_to(), place);
+        }
+        _ => assert!(rt; false),
+    }
+    match vec::into_ascii_string(Vec::from_slice(alloc, source)?) {
+        Err(error) => {
+            assert_eq!(rt; error.ascii_error().valid_up_to(), place);
+            assert_eq!(rt; error.into_source(), same);
+        }
+        Ok(_) => assert!(rt; false),
+    }
+    let mut reader = Input::new(same.as_slice());
+    let mut writer = Output::new(Vec::new(alloc));
+    let answer = engine(alloc, Mode::Copy, &mut reader, &mut writer);
+    assert_eq!(rt; answer, Err(EngineFault::NotAscii(place)));
+    match bytes::as_mut_ascii_str(source) {
+        Ok(_) => assert!(rt; false),
+        Err(error) => assert_eq!(rt; error.valid_up_to(), place),
+    }
+    assert_eq!(rt; &*source, same.as_slice());
+    Ok(())
+}
+
+#[test]
+fn in_bytes(rt: HostRuntime) -> Result<(), Fail> {
+    for length in LENGTHS {
+        let mut source = vec![in rt.alloc(); b'a'; length]?;
+        assert_eq!(rt; position(bytes::as_ascii_str(&source)), None);
+        for (byte, other) in [(128, 255), (255, 128)] {
+            for place in 0..source.len() {
+                source[place] = byte;
+                bytes_refused(&rt, &source, place);
+                copies_refused(&rt, &mut source, place)?;
+                source[place] = b'a';
+            }
+        }
+    }
+    Ok(())
+}
+
+#[test]
+fn in_bytes_with_a_second(rt: HostRuntime) -> Result<(), Fail> {
+    for length in LENGTHS {
+        let mut source = vec![in rt.alloc(); b'a'; length]?;
+        for (byte, other) in [(128, 255), (255, 128), (128, 128)] {
+            for second in 0..source.len() {
+                source[second] = other;
+                for place in 0..second {
+                    source[place] = byte;
+                    bytes_refused(&rt, &source, place);
+                    copies_refused(&rt, &mut source, place)?;
+                    source[place] = b'a';
+                }
+                source[second] = b'a';
+            }
+        }
+    }
+    Ok(())
+}
+
+#[test]
+fn in_text(rt: HostRuntime) -> Result<(), Fail> {
+    let alloc = rt.alloc();
+    for length in LENGTHS {
+        for place in 0..length {
+            for ch in ['\u{80}', 'ÿ'] {
+                let mut source = String::new(alloc);
+                for at in 0..length {
+                    source.push(if at == place { ch } else { 'a' })?;
+                }
+                let wanted = Some(place);
+                assert_eq!(rt; position(text::as_ascii_str(&source)), wanted);
+                assert_eq!(rt; position(text::from_ascii(&source)), wanted);
+                let front = text::slice_ascii(&source, AsciiRange::To(place));
+                assert_eq!(rt; position(front), None);
+                match string::into_ascii_string(source) {
+                    Err(error) => assert_eq!(rt; error.ascii_error().valid_up_to(), place),
+                    Ok(_) => assert!(rt; false),
+                }
+            }
+        }
+    }
+    Ok(())
+}

@@ -1,0 +1,75 @@
+//! Runs of a call with its first growth refused, its second, and so on.
+
+use ascii::{AsciiChar, AsciiStr, AsciiString, text};
+use refusing::Refusing;
+use std::alloc::{AllocError, Allocator, Global};
+use std::fmt;
+use std::process::Abort;
+use std::test::Fail;
+
+/// An allocator that refuses one growth.
+pub type Heap = Refusing<Global>;
+
+/// More growths than any call of these tests makes.
+const MANY: u64 = 200;
+
+/// Runs a call with its first growth refused, then with its second, until a run meets no refusal. What the
+/// runs answer is `wanted`, in this order and each as often as it comes; the last is the answer with ample
+/// memory. A run with an error was refused before its call began, and is passed over.
+pub fn each_growth<R: Abort + AllocGlobal, F>(
+    rt: &R,
+    call: &str,
+    wanted: &[&str],
+    run: F,
+) -> Result<(), Fail>
+where
+    F: Fn(&Heap) -> Result<String, AllocError>,
+    requires { F.IsAlwaysCallable run }
+{
+    let mut wanted = wanted;
+    for left in 0..MANY {
+        let heap = Refusing::new(rt.alloc(), left);
+        match run(&heap) {
+            Ok(answer) => {
+                wanted = from_answer(wanted, answer.as_str());
+                let next = wanted.first().copied();
+                assert_eq!(rt; Some(answer.as_str()), next, "{call}, growth {left}");
+            }
+            Err(_) => assert!(rt; heap.met(), "{call}, growth {left}"),
+        }
+        if !heap.met() {
+            assert_eq!(rt; wanted.len(), 1, "{call}, growth {left}");
+            return Ok(());
+        }
+    }
+    Err(Fail::from("no run without a refusal"))
+}
+
+/// The answers that are left to come, with the one that came at their head.
+fn from_answer<'a, 'b>(wanted: &'a [&'b str], answer: &str) -> &'a [&'b str] {
+    match wanted {
+        [first, rest @ ..] if *first != answer => rest,
+        _ => wanted,
+    }
+}
+
+/// What a call answered.
+pub fn shown<T: fmt::Debug + Drop>(alloc: Global, answer: T) -> Result<String, AllocError> {
+    format!(in alloc; "{answer:?}")
+}
+
+/// What a call answered, the text behind it, and that text once more behind a further growth.
+pub fn told<T: fmt::Debug + Drop, A: Allocator>(
+    alloc: Global,
+    answer: T,
+    string: &mut AsciiString<A>,
+) -> Result<String, AllocError> {
+    let stands = format!(in alloc; "{answer:?} {string}")?;
+    string.push(AsciiChar::z)?;
+    format!(in alloc; "{stands} {string}")
+}
+
+/// The view of a text, which is empty where the text is not ASCII.
+pub fn view(source: &str) -> AsciiStr<'_> {
+    text::as_ascii_str(source).unwrap_or_default()
+}

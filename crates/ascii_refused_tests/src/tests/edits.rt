@@ -1,0 +1,103 @@
+//! Growths of a string.
+
+use super::each_growth::{Heap, each_growth, told, view};
+use ascii::{AsciiChar, AsciiString};
+use std::alloc::{AllocError, Global};
+use std::fmt::Write;
+use std::test::Fail;
+
+/// A call on the string `x`, which has no room left.
+fn edited(alloc: Global, heap: &Heap, call: &str) -> Result<String, AllocError> {
+    let mut string = AsciiString::from_char(heap, AsciiChar::x)?;
+    let pieces = view("a,bbbbbbbbbbbbbbbbbbbb,cccccccccccccccccccccccccccccccccccccccccccccccc");
+    match call {
+        "push" => told(alloc, string.push(AsciiChar::y), &mut string),
+        "push_str" => told(alloc, string.push_str(view("yy")), &mut string),
+        "insert" => told(alloc, string.insert(0, AsciiChar::w), &mut string),
+        "insert_str" => told(alloc, string.insert_str(1, view("yy")), &mut string),
+        "reserve" => told(alloc, string.reserve(100), &mut string),
+        "reserve_exact" => told(alloc, string.reserve_exact(100), &mut string),
+        "shrink_to_fit" => {
+            string.reserve(100)?;
+            told(alloc, string.shrink_to_fit(), &mut string)
+        }
+        "write_str" => told(alloc, string.write_str("yy"), &mut string),
+        "write_char" => told(alloc, string.write_char('y'), &mut string),
+        "write!" => {
+            let written = write!(string, "{}-{}", "yy", "aaaaaaaaaaaaaaaaaaaa");
+            told(alloc, written, &mut string)
+        }
+        "extend_strs" => {
+            let extended = string.extend_strs(pieces.split(AsciiChar::Comma));
+            told(alloc, extended, &mut string)
+        }
+        _ => Err(AllocError),
+    }
+}
+
+#[test]
+fn text_stays(rt: HostRuntime) -> Result<(), Fail> {
+    let alloc = rt.alloc();
+    let rows: [(&str, &[&str]); 9] = [
+        ("push", &["Err(AllocError) x xz", "Ok(()) xy xyz"]),
+        ("push_str", &["Err(AllocError) x xz", "Ok(()) xyy xyyz"]),
+        ("insert", &["Err(AllocError) x xz", "Ok(()) wx wxz"]),
+        ("insert_str", &["Err(AllocError) x xz", "Ok(()) xyy xyyz"]),
+        ("reserve", &["Err(AllocError) x xz", "Ok(()) x xz"]),
+        ("reserve_exact", &["Err(AllocError) x xz", "Ok(()) x xz"]),
+        ("shrink_to_fit", &["Err(AllocError) x xz", "Ok(()) x xz"]),
+        ("write_str", &["Err(Error) x xz", "Ok(()) xyy xyyz"]),
+        ("write_char", &["Err(Error) x xz", "Ok(()) xy xyz"]),
+    ];
+    for (call, wanted) in rows {
+        each_growth(&rt, call, wanted, |heap| edited(alloc, heap, call))?;
+    }
+    Ok(())
+}
+
+#[test]
+fn what_came_before_stays(rt: HostRuntime) -> Result<(), Fail> {
+    let alloc = rt.alloc();
+    let rows: [(&str, &[&str]); 2] = [
+        (
+            "write!",
+            &[
+                "Err(Error) x xz",
+                "Err(Error) xyy- xyy-z",
+                "Ok(()) xyy-aaaaaaaaaaaaaaaaaaaa xyy-aaaaaaaaaaaaaaaaaaaaz",
+            ],
+        ),
+        (
+            "extend_strs",
+            &[
+                "Err(AllocError) x xz",
+                "Err(AllocError) xa xaz",
+                "Err(AllocError) xabbbbbbbbbbbbbbbbbbbb xabbbbbbbbbbbbbbbbbbbbz",
+                "Ok(()) xabbbbbbbbbbbbbbbbbbbbcccccccccccccccccccccccccccccccccccccccccccccccc xabbbbbbbbbbbbbbbbbbbbccccccccccccccccccccccccccccccccccccccccccccccccz",
+            ],
+        ),
+    ];
+    for (call, wanted) in rows {
+        each_growth(&rt, call, wanted, |heap| edited(alloc, heap, call))?;
+    }
+    Ok(())
+}
+
+const LONG: &str = "abcdefghijklmnopqrstuvwxyzabcdefghijklmnopqrstuvwxyzabcdefghijklmnopqrstuvwxyz";
+
+/// What extending the empty string by the characters of `LONG` answers, whether the text behind it is a front
+/// of them that fills its room, and whether it is all of them.
+fn extended(alloc: Global, heap: &Heap) -> Result<String, AllocError> {
+    let mut string = AsciiString::new(heap);
+    let answer = string.extend_chars(view(LONG).chars());
+    let text = string.as_ascii_str().as_str();
+    let front = LONG.starts_with(text) && text.len() == string.capacity();
+    format!(in alloc; "{answer:?} {front} {}", text == LONG)
+}
+
+#[test]
+fn characters_before_stay(rt: HostRuntime) -> Result<(), Fail> {
+    let alloc = rt.alloc();
+    let wanted = ["Err(AllocError) true false", "Ok(()) false true"];
+    each_growth(&rt, "extend_chars", &wanted, |heap| extended(alloc, heap))
+}

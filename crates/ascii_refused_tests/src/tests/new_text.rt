@@ -1,0 +1,115 @@
+//! Calls that make a text, a list of characters or a list of answers: the source stays.
+
+use super::each_growth::{Heap, each_growth, shown, view};
+use ascii::iter::{End, walk_line_spans, walk_lines, walk_split, walk_split_spans};
+use ascii::{AsciiChar, AsciiString, BoxedAsciiStr, RcAsciiStr};
+use std::alloc::{AllocError, Global};
+use std::test::Fail;
+
+/// A call that makes a text.
+fn made(alloc: Global, heap: &Heap, call: &str) -> Result<String, AllocError> {
+    let source = view("aB,c");
+    match call {
+        "with_capacity" => shown(alloc, AsciiString::with_capacity(heap, 10)),
+        "from_char" => shown(alloc, AsciiString::from_char(heap, AsciiChar::a)),
+        "from_chars" => {
+            let chars = [AsciiChar::a, AsciiChar::B];
+            shown(alloc, AsciiString::from_chars(heap, &chars))
+        }
+        "collect_chars" => shown(alloc, AsciiString::collect_chars(heap, source.chars())),
+        "collect_strs" => {
+            let pieces = source.split(AsciiChar::Comma);
+            shown(alloc, AsciiString::collect_strs(heap, pieces))
+        }
+        "to_ascii_string" => shown(alloc, source.to_ascii_string(heap)),
+        "to_ascii_uppercase" => shown(alloc, source.to_ascii_uppercase(heap)),
+        "to_ascii_lowercase" => shown(alloc, source.to_ascii_lowercase(heap)),
+        "to_chars" => shown(alloc, source.to_chars(heap)),
+        "clone" => {
+            let string = source.to_ascii_string(heap)?;
+            let copy: Result<_, _> = string.clone();
+            format!(in alloc; "{copy:?} of {string}")
+        }
+        _ => Err(AllocError),
+    }
+}
+
+#[test]
+fn texts(rt: HostRuntime) -> Result<(), Fail> {
+    let alloc = rt.alloc();
+    for (call, ample) in [
+        ("with_capacity", "Ok(\"\")"),
+        ("from_char", "Ok(\"a\")"),
+        ("from_chars", "Ok(\"aB\")"),
+        ("collect_chars", "Ok(\"aB,c\")"),
+        ("collect_strs", "Ok(\"aBc\")"),
+        ("to_ascii_string", "Ok(\"aB,c\")"),
+        ("to_ascii_uppercase", "Ok(\"AB,C\")"),
+        ("to_ascii_lowercase", "Ok(\"ab,c\")"),
+        ("to_chars", "Ok(['a', 'B', ',', 'c'])"),
+    ] {
+        let wanted = ["Err(AllocError)", ample];
+        each_growth(&rt, call, &wanted, |heap| made(alloc, heap, call))?;
+    }
+    let wanted = ["Err(AllocError) of aB,c", "Ok(\"aB,c\") of aB,c"];
+    each_growth(&rt, "clone", &wanted, |heap| made(alloc, heap, "clone"))
+}
+
+/// A walk from both ends over the pieces or lines of a text.
+fn walked(alloc: Global, heap: &Heap, call: &str) -> Result<String, AllocError> {
+    let source = view("a\r\nb\n");
+    let script = [End::Back, End::Front, End::Front];
+    match call {
+        "walk_lines" => shown(alloc, walk_lines(heap, source, &script)),
+        "walk_line_spans" => shown(alloc, walk_line_spans(heap, source, &script)),
+        "walk_split" => shown(alloc, walk_split(heap, source, AsciiChar::b, &script)),
+        "walk_split_spans" => shown(alloc, walk_split_spans(heap, source, AsciiChar::b, &script)),
+        _ => Err(AllocError),
+    }
+}
+
+#[test]
+fn walks(rt: HostRuntime) -> Result<(), Fail> {
+    let alloc = rt.alloc();
+    for (call, ample) in [
+        ("walk_lines", "Ok([Some(\"b\"), Some(\"a\"), None])"),
+        (
+            "walk_line_spans",
+            "Ok([Some(LineSpan { start: 3, text: \"b\", ending: Lf }), Some(LineSpan { start: 0, text: \"a\", ending: CrLf }), None])",
+        ),
+        ("walk_split", "Ok([Some(\"\\n\"), Some(\"a\\r\\n\"), None])"),
+        (
+            "walk_split_spans",
+            "Ok([Some(SplitSpan { start: 4, text: \"\\n\" }), Some(SplitSpan { start: 0, text: \"a\\r\\n\" }), None])",
+        ),
+    ] {
+        let wanted = ["Err(AllocError)", ample];
+        each_growth(&rt, call, &wanted, |heap| walked(alloc, heap, call))?;
+    }
+    Ok(())
+}
+
+/// A copy of a text in one of the boxes.
+fn boxed(alloc: Global, heap: &Heap, call: &str) -> Result<String, AllocError> {
+    match call {
+        "BoxedAsciiStr" => match BoxedAsciiStr::from_ascii_str(heap, view("abc")) {
+            Ok(text) => shown(alloc, text.as_ascii_str()),
+            Err(error) => shown(alloc, error),
+        },
+        "RcAsciiStr" => match RcAsciiStr::from_ascii_str(heap, view("abc")) {
+            Ok(text) => shown(alloc, text.clone()?.as_ascii_str()),
+            Err(error) => shown(alloc, error),
+        },
+        _ => Err(AllocError),
+    }
+}
+
+#[test]
+fn boxes(rt: HostRuntime) -> Result<(), Fail> {
+    let alloc = rt.alloc();
+    for call in ["BoxedAsciiStr", "RcAsciiStr"] {
+        let wanted = ["AllocError", "\"abc\""];
+        each_growth(&rt, call, &wanted, |heap| boxed(alloc, heap, call))?;
+    }
+    Ok(())
+}

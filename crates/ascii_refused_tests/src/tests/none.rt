@@ -1,0 +1,110 @@
+//! Calls that ask for no memory, with none to be had.
+
+use super::each_growth::{Heap, shown, told, view};
+use ascii::iter::{End, walk_line_spans, walk_lines, walk_split, walk_split_spans};
+use ascii::json::string_from_json;
+use ascii::{AsciiChar, AsciiStr, AsciiString, bytes, text, vec};
+use ascii_run::run;
+use refusing::Refusing;
+use serde_json::Value;
+use std::alloc::{AllocError, Global};
+use std::fmt::Write;
+use std::test::Fail;
+
+/// A call on the empty string.
+fn on_empty(alloc: Global, heap: &Heap, call: &str) -> Result<String, AllocError> {
+    let mut string = AsciiString::new(heap);
+    let none: AsciiStr<'_> = view("");
+    match call {
+        "push_str" => shown(alloc, string.push_str(none)),
+        "insert_str" => shown(alloc, string.insert_str(0, none)),
+        "reserve" => shown(alloc, string.reserve(0)),
+        "reserve_exact" => shown(alloc, string.reserve_exact(0)),
+        "shrink_to_fit" => shown(alloc, string.shrink_to_fit()),
+        "write_str" => shown(alloc, string.write_str("")),
+        "write_str of more" => shown(alloc, string.write_str("bø!")),
+        "write_char of more" => shown(alloc, string.write_char('ø')),
+        "extend_chars" => shown(alloc, string.extend_chars(none.chars())),
+        "extend_strs" => shown(alloc, string.extend_strs(none.split(AsciiChar::a))),
+        "run" => shown(alloc, run(heap, &mut string, &[])),
+        _ => Err(AllocError),
+    }
+}
+
+#[test]
+fn nothing_to_add(rt: HostRuntime) -> Result<(), Fail> {
+    let alloc = rt.alloc();
+    for (call, wanted) in [
+        ("push_str", "Ok(())"),
+        ("insert_str", "Ok(())"),
+        ("reserve", "Ok(())"),
+        ("reserve_exact", "Ok(())"),
+        ("shrink_to_fit", "Ok(())"),
+        ("write_str", "Ok(())"),
+        ("write_str of more", "Err(Error)"),
+        ("write_char of more", "Err(Error)"),
+        ("extend_chars", "Ok(())"),
+        ("extend_strs", "Ok(())"),
+        ("run", "Ok([])"),
+    ] {
+        let heap = Refusing::new(alloc, 0);
+        assert_eq!(rt; on_empty(alloc, &heap, call)?.as_str(), wanted, "{call}");
+        assert!(rt; !heap.met(), "{call}");
+    }
+    Ok(())
+}
+
+/// A call that makes a value out of nothing, or that refuses its source.
+fn made(alloc: Global, heap: &Heap, call: &str) -> Result<String, AllocError> {
+    let none: AsciiStr<'_> = view("");
+    let script: [End; 0] = [];
+    match call {
+        "with_capacity" => shown(alloc, AsciiString::with_capacity(heap, 0)),
+        "to_ascii_string" => shown(alloc, none.to_ascii_string(heap)),
+        "bytes" => shown(alloc, bytes::to_ascii_string(heap, b"")),
+        "text" => shown(alloc, text::to_ascii_string(heap, "")),
+        "bytes of more" => shown(alloc, bytes::to_ascii_string(heap, "bø!".as_bytes())),
+        "text of more" => shown(alloc, text::to_ascii_string(heap, "bø!")),
+        "walk_lines" => shown(alloc, walk_lines(heap, none, &script)),
+        "walk_line_spans" => shown(alloc, walk_line_spans(heap, none, &script)),
+        "walk_split" => shown(alloc, walk_split(heap, none, AsciiChar::a, &script)),
+        "walk_split_spans" => shown(alloc, walk_split_spans(heap, none, AsciiChar::a, &script)),
+        "string_from_json" => shown(alloc, string_from_json(heap, &Value::Bool(true))),
+        _ => Err(AllocError),
+    }
+}
+
+#[test]
+fn nothing_to_make(rt: HostRuntime) -> Result<(), Fail> {
+    let alloc = rt.alloc();
+    for (call, wanted) in [
+        ("with_capacity", "Ok(\"\")"),
+        ("to_ascii_string", "Ok(\"\")"),
+        ("bytes", "Ok(\"\")"),
+        ("text", "Ok(\"\")"),
+        ("bytes of more", "Err(NotAscii(AsAsciiStrError(1)))"),
+        ("text of more", "Err(NotAscii(AsAsciiStrError(1)))"),
+        ("walk_lines", "Ok([])"),
+        ("walk_line_spans", "Ok([])"),
+        ("walk_split", "Ok([])"),
+        ("walk_split_spans", "Ok([])"),
+        ("string_from_json", "Err(NotText)"),
+    ] {
+        let heap = Refusing::new(alloc, 0);
+        assert_eq!(rt; made(alloc, &heap, call)?.as_str(), wanted, "{call}");
+        assert!(rt; !heap.met(), "{call}");
+    }
+    Ok(())
+}
+
+#[test]
+fn buffers_are_kept(rt: HostRuntime) -> Result<(), Fail> {
+    let alloc = rt.alloc();
+    let heap = Refusing::new(alloc, 1);
+    let mut buffer = Vec::with_capacity(&heap, 3)?;
+    buffer.extend_from_slice(b"abc")?;
+    let answer = vec::into_ascii_string(buffer);
+    assert!(rt; !heap.met());
+    assert_eq!(rt; shown(alloc, answer)?.as_str(), "Ok(\"abc\")");
+    Ok(())
+}

@@ -1,0 +1,111 @@
+//! Runs of commands, and the modes from bytes to bytes.
+
+use super::each_growth::{Heap, each_growth, shown, view};
+use ascii::iter::End;
+use ascii::{AsciiChar, AsciiRange, AsciiString};
+use ascii_run::{Cmd, Input, Mode, Output, engine, run};
+use std::alloc::{AllocError, Global};
+use std::test::Fail;
+
+/// The replies of a run on a string with the text `x` and no room, and the text at its end.
+fn ran(alloc: Global, heap: &Heap, cmds: &[Cmd<'_>]) -> Result<String, AllocError> {
+    let mut string = AsciiString::from_char(heap, AsciiChar::x)?;
+    match run(heap, &mut string, cmds) {
+        Ok(replies) => format!(in alloc; "{replies:?} {string}"),
+        Err(error) => format!(in alloc; "{error:?} {string}"),
+    }
+}
+
+#[test]
+fn later_commands_go_on(rt: HostRuntime) -> Result<(), Fail> {
+    let alloc = rt.alloc();
+    let cmds = [
+        Cmd::PushStr(view("bcdefgh")),
+        Cmd::Len,
+        Cmd::Copy(AsciiRange::To(1)),
+        Cmd::Reserve(100),
+        Cmd::Shrink,
+        Cmd::Len,
+    ];
+    let wanted = [
+        "AllocError x",
+        "[NoMemory, Number(1), Text(\"x\"), Done, Done, Number(1)] x",
+        "[Done, Number(8), NoMemory, Done, Done, Number(8)] xbcdefgh",
+        "[Done, Number(8), Text(\"x\"), NoMemory, Done, Number(8)] xbcdefgh",
+        "[Done, Number(8), Text(\"x\"), Done, NoMemory, Number(8)] xbcdefgh",
+        "[Done, Number(8), Text(\"x\"), Done, Done, Number(8)] xbcdefgh",
+    ];
+    each_growth(&rt, "run", &wanted, |heap| ran(alloc, heap, &cmds))?;
+    let cmds = [
+        Cmd::Insert(1, AsciiChar::a),
+        Cmd::Shrink,
+        Cmd::Push(AsciiChar::b),
+        Cmd::Shrink,
+        Cmd::InsertStr(0, view("cc")),
+        Cmd::Pop,
+    ];
+    let wanted = [
+        "AllocError x",
+        "[NoMemory, Done, Done, Done, Done, Char(Some('b'))] ccx",
+        "[Done, NoMemory, Done, Done, Done, Char(Some('b'))] ccxa",
+        "[Done, Done, NoMemory, Done, Done, Char(Some('a'))] ccx",
+        "[Done, Done, Done, NoMemory, Done, Char(Some('b'))] ccxa",
+        "[Done, Done, Done, Done, NoMemory, Char(Some('b'))] xa",
+        "[Done, Done, Done, Done, Done, Char(Some('b'))] ccxa",
+    ];
+    each_growth(&rt, "run", &wanted, |heap| ran(alloc, heap, &cmds))
+}
+
+/// What a mode answers for an input, and what went out.
+fn wrote(alloc: Global, heap: &Heap, mode: Mode<'_>, input: &[u8]) -> Result<String, AllocError> {
+    let mut reader = Input::new(input);
+    let mut writer = Output::new(Vec::new(alloc));
+    let answer = engine(heap, mode, &mut reader, &mut writer);
+    let written = writer.into_inner();
+    match str::from_utf8(&written) {
+        Ok(text) => format!(in alloc; "{answer:?} {text}"),
+        Err(error) => shown(alloc, error),
+    }
+}
+
+const SCRIPT: [End; 3] = [End::Back, End::Front, End::Front];
+
+#[test]
+fn nothing_goes_out(rt: HostRuntime) -> Result<(), Fail> {
+    let alloc = rt.alloc();
+    let cmds = [
+        Cmd::InsertStr(0, view("0123456789012345678901234567890123456789")),
+        Cmd::Copy(AsciiRange::Full),
+        Cmd::Shrink,
+        Cmd::Truncate(3),
+    ];
+    let rows: [(Mode<'_>, &str, &str); 8] = [
+        (Mode::Copy, "copy", "Ok(()) a\tb\n\nc\r"),
+        (Mode::Lines, "lines", "Ok(()) a\tb\n\nc\r\n"),
+        (Mode::Tac, "tac", "Ok(()) c\r\n\na\tb\n"),
+        (Mode::Caret, "caret", "Ok(()) a^Ib\n\nc^M"),
+        (Mode::Ends(&SCRIPT), "ends", "Ok(()) +c\r\n+a\tb\n+\n"),
+        (
+            Mode::EndsSpans(&SCRIPT),
+            "ends -s",
+            "Ok(()) +5 none c\r\n+0 lf a\tb\n+4 lf \n",
+        ),
+        (Mode::Edit(&cmds), "edit", "Ok(()) 012"),
+        (Mode::Json, "json", "Ok(()) \"a\\tb\\n\\nc\\r\""),
+    ];
+    for (mode, name, ample) in rows {
+        let wanted = ["Err(Memory) ", ample];
+        each_growth(&rt, name, &wanted, |heap| {
+            wrote(alloc, heap, mode, b"a\tb\n\nc\r")
+        })?;
+        let wanted = ["Err(Memory) ", "Err(NotAscii(2)) "];
+        each_growth(&rt, name, &wanted, |heap| {
+            wrote(alloc, heap, mode, &[97, 98, 200, 201])
+        })?;
+    }
+    let far = [Cmd::Push(AsciiChar::a), Cmd::Insert(4, AsciiChar::a)];
+    let wanted = ["Err(Memory) ", "Err(Position(1)) "];
+    each_growth(&rt, "edit", &wanted, |heap| {
+        wrote(alloc, heap, Mode::Edit(&far), b"ab")
+    })
+}

@@ -1,0 +1,87 @@
+//! Calls that turn a value into another one: where memory is refused, the value comes back or stays.
+
+use super::each_growth::{Heap, each_growth, shown, view};
+use ascii::json::{JsonError, string_from_json};
+use ascii::{AsciiChar, AsciiString, CowAsciiStr, RcAsciiStr, bytes, text};
+use serde_json::Value;
+use std::alloc::{AllocError, Global};
+use std::test::Fail;
+
+/// A call that takes a value and gives it back where memory is refused.
+fn turned(alloc: Global, heap: &Heap, call: &str) -> Result<String, AllocError> {
+    let source = view("abc");
+    match call {
+        "into_chars" => shown(alloc, source.to_ascii_string(alloc)?.into_chars(heap)),
+        "into_rc_ascii_str" => match source.to_ascii_string(alloc)?.into_rc_ascii_str(heap) {
+            Ok(shared) => format!(in alloc; "Ok({:?})", shared.as_ascii_str()),
+            Err(string) => format!(in alloc; "Err({string:?})"),
+        },
+        "into_owned" => match CowAsciiStr::from(source).into_owned(heap) {
+            Ok(string) => format!(in alloc; "Ok({string:?})"),
+            Err(cow) => format!(in alloc; "Err({:?})", cow.as_ascii_str()),
+        },
+        "into_boxed_ascii_str" => match source.to_ascii_string(heap)?.into_boxed_ascii_str() {
+            Ok(text) => format!(in alloc; "Ok({:?})", text.as_ascii_str()),
+            Err(string) => format!(in alloc; "Err({string:?})"),
+        },
+        "into_ascii_string" => {
+            let Ok(text) = source.to_ascii_string(heap)?.into_boxed_ascii_str() else {
+                return Err(AllocError);
+            };
+            match text.into_ascii_string() {
+                Ok(string) => format!(in alloc; "Ok({string:?})"),
+                Err(text) => format!(in alloc; "Err({:?})", text.as_ascii_str()),
+            }
+        }
+        "into_owned_of_owned" => {
+            let cow = CowAsciiStr::from(source.to_ascii_string(heap)?);
+            match cow.into_owned(heap) {
+                Ok(string) => format!(in alloc; "Ok({string:?})"),
+                Err(cow) => format!(in alloc; "Err({:?})", cow.as_ascii_str()),
+            }
+        }
+        _ => Err(AllocError),
+    }
+}
+
+#[test]
+fn values_come_back(rt: HostRuntime) -> Result<(), Fail> {
+    let alloc = rt.alloc();
+    let rows: [(&str, &[&str]); 6] = [
+        ("into_chars", &["Err(\"abc\")", "Ok(['a', 'b', 'c'])"]),
+        ("into_rc_ascii_str", &["Err(\"abc\")", "Ok(\"abc\")"]),
+        ("into_owned", &["Err(\"abc\")", "Ok(\"abc\")"]),
+        ("into_boxed_ascii_str", &["Ok(\"abc\")"]),
+        ("into_ascii_string", &["Ok(\"abc\")"]),
+        ("into_owned_of_owned", &["Ok(\"abc\")"]),
+    ];
+    for (call, wanted) in rows {
+        each_growth(&rt, call, wanted, |heap| turned(alloc, heap, call))?;
+    }
+    Ok(())
+}
+
+/// A call that copies a text out of a source, which stays.
+fn copied(alloc: Global, heap: &Heap, call: &str) -> Result<String, AllocError> {
+    match call {
+        "bytes" => shown(alloc, bytes::to_ascii_string(heap, b"abc")),
+        "text" => shown(alloc, text::to_ascii_string(heap, "abc")),
+        _ => Err(AllocError),
+    }
+}
+
+#[test]
+fn sources_stay(rt: HostRuntime) -> Result<(), Fail> {
+    let alloc = rt.alloc();
+    for call in ["bytes", "text"] {
+        let wanted = ["Err(Memory(AllocError))", "Ok(\"abc\")"];
+        each_growth(&rt, call, &wanted, |heap| copied(alloc, heap, call))?;
+    }
+    let value = Value::String(String::from_str(alloc, "abc")?);
+    let wanted = ["Err(Memory)", "Ok(\"abc\")"];
+    each_growth(&rt, "string_from_json", &wanted, |heap| {
+        shown(alloc, string_from_json(heap, &value))
+    })?;
+    assert_eq!(rt; value.as_str(), Some("abc"));
+    Ok(())
+}
