@@ -2,6 +2,7 @@
 //! that were made with the Rust crate.
 
 mod both_ends;
+mod copies;
 mod resuming;
 mod small_texts;
 mod spans;

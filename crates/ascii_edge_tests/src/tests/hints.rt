@@ -5,7 +5,7 @@ ghost use Rattle.std.specs.Iterator.{UpTo, item_count};
 ghost use Rattle.std.specs.Iterator.SizeHint.{IsWithinCount};
 ghost use Rattle.std.specs.Slice.Iter.{iter_rest};
 
-use ascii::{AsciiChar, AsciiString, text};
+use ascii::{AsciiChar, AsciiStr, AsciiString, text};
 use std::slice;
 use std::test::Fail;
 
@@ -33,19 +33,45 @@ impl<T: Copy + Drop> Iterator for Loose<'_, T> {
 
 const TEXT: &str = "abcdefghijklmnopqrstuvwxyz0123456";
 
+const PIECES: &str = "a,b,c,d,e,f,g,h,i,j,k,l,m,n,o,p,q,r,s,t,u,v,w,x,y,z,0,1,2,3,4,5,6";
+
 #[test]
-fn all_items_come(rt: HostRuntime) -> Result<(), Fail> {
+fn all_characters_come(rt: HostRuntime) -> Result<(), Fail> {
     let alloc = rt.alloc();
-    let all = text::as_ascii_str(TEXT)
-        .unwrap_or_default()
-        .to_chars(alloc)?;
-    assert_eq!(rt; all.len(), 33);
+    let chars = view(TEXT).to_chars(alloc)?;
+    assert_eq!(rt; chars.len(), 33);
     for most in [None, Some(usize::MAX)] {
         for length in [0, 3, 33] {
-            let items = all[..length].iter();
+            let items = chars[..length].iter();
             let mut string = AsciiString::collect_chars(alloc, Loose { items, most })?;
             assert_eq!(rt; string.as_ascii_str().as_str(), &TEXT[..length]);
+            let items = chars[length..].iter();
+            string.extend_chars(Loose { items, most })?;
+            assert_eq!(rt; string.as_ascii_str().as_str(), TEXT);
         }
     }
     Ok(())
+}
+
+#[test]
+fn all_views_come(rt: HostRuntime) -> Result<(), Fail> {
+    let alloc = rt.alloc();
+    let views: Vec<AsciiStr<'_>> = view(PIECES).split(AsciiChar::Comma).collect(alloc)?;
+    assert_eq!(rt; views.len(), 33);
+    for most in [None, Some(usize::MAX)] {
+        for length in [0, 3, 33] {
+            let items = views[..length].iter();
+            let mut string = AsciiString::collect_strs(alloc, Loose { items, most })?;
+            assert_eq!(rt; string.as_ascii_str().as_str(), &TEXT[..length]);
+            let items = views[length..].iter();
+            string.extend_strs(Loose { items, most })?;
+            assert_eq!(rt; string.as_ascii_str().as_str(), TEXT);
+        }
+    }
+    Ok(())
+}
+
+/// The view of a text, which is empty where the text is not ASCII.
+fn view(source: &str) -> AsciiStr<'_> {
+    text::as_ascii_str(source).unwrap_or_default()
 }

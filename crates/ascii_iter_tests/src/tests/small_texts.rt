@@ -1,7 +1,7 @@
 //! Every text of CR, LF and `a` up to length 6: its pieces and its lines are those that the relation
-//! allows, and every script of seven ends takes them from that list.
+//! allows, and every script of eight ends takes them from that list.
 
-use super::both_ends::small_text;
+use super::both_ends::{scripts, small_text};
 use ascii::iter::{
     End, Ending, LineSpan, SplitSpan, walk_line_spans, walk_lines, walk_split, walk_split_spans,
 };
@@ -81,21 +81,6 @@ fn taken<T: Copy + Drop>(
         }
     }
     Ok(answers)
-}
-
-/// Every script of seven ends.
-fn scripts(alloc: Global) -> Result<Vec<Vec<End>>, AllocError> {
-    let mut all = Vec::new(alloc);
-    for number in 0..128u32 {
-        let mut script = Vec::new(alloc);
-        let mut rest = number;
-        for _ in 0..7 {
-            script.push(if rest % 2 == 0 { End::Front } else { End::Back })?;
-            rest /= 2;
-        }
-        all.push(script)?;
-    }
-    Ok(all)
 }
 
 #[test]
