@@ -69,7 +69,7 @@ fn made(alloc: Global, heap: &Heap, call: &str) -> Result<String, AllocError> {
         "walk_line_spans" => shown(alloc, walk_line_spans(heap, none, &script)),
         "walk_split" => shown(alloc, walk_split(heap, none, AsciiChar::a, &script)),
         "walk_split_spans" => shown(alloc, walk_split_spans(heap, none, AsciiChar::a, &script)),
-        "string_from_json" => shown(alloc, string_from_json(heap, &Value::Bool(true))),
+        "string_from_json" => shown(alloc, string_from_json(heap, &Value::from(7u64))),
         _ => Err(AllocError),
     }
 }

@@ -109,3 +109,42 @@ fn nothing_goes_out(rt: HostRuntime) -> Result<(), Fail> {
         wrote(alloc, heap, Mode::Edit(&far), b"ab")
     })
 }
+
+/// What a mode answers for an input, and how much went out.
+fn wrote_much(
+    alloc: Global,
+    heap: &Heap,
+    mode: Mode<'_>,
+    input: &[u8],
+) -> Result<String, AllocError> {
+    let mut reader = Input::new(input);
+    let mut writer = Output::new(Vec::new(alloc));
+    let answer = engine(heap, mode, &mut reader, &mut writer);
+    format!(in alloc; "{answer:?} {}", writer.into_inner().len())
+}
+
+#[test]
+fn nothing_of_much_goes_out(rt: HostRuntime) -> Result<(), Fail> {
+    let alloc = rt.alloc();
+    let mut input = Vec::new(alloc);
+    for _ in 0..4_000 {
+        input.extend_from_slice(b"ab\tc\n")?;
+    }
+    let rows: [(Mode<'_>, &str, &str); 8] = [
+        (Mode::Copy, "copy", "Ok(()) 20000"),
+        (Mode::Lines, "lines", "Ok(()) 20000"),
+        (Mode::Tac, "tac", "Ok(()) 20000"),
+        (Mode::Caret, "caret", "Ok(()) 24000"),
+        (Mode::Ends(&SCRIPT), "ends", "Ok(()) 18"),
+        (Mode::EndsSpans(&SCRIPT), "ends -s", "Ok(()) 37"),
+        (Mode::Edit(&[Cmd::Upper]), "edit", "Ok(()) 20000"),
+        (Mode::Json, "json", "Ok(()) 28002"),
+    ];
+    for (mode, name, ample) in rows {
+        let wanted = ["Err(Memory) 0", ample];
+        each_growth(&rt, name, &wanted, |heap| {
+            wrote_much(alloc, heap, mode, &input)
+        })?;
+    }
+    Ok(())
+}
