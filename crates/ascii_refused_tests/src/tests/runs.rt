@@ -68,6 +68,8 @@ fn wrote(alloc: Global, heap: &Heap, mode: Mode<'_>, input: &[u8]) -> Result<Str
     }
 }
 
+const INPUT: &[u8] = b"a\tb\n\nc\r";
+
 const SCRIPT: [End; 3] = [End::Back, End::Front, End::Front];
 
 #[test]
@@ -79,7 +81,8 @@ fn nothing_goes_out(rt: HostRuntime) -> Result<(), Fail> {
         Cmd::Shrink,
         Cmd::Truncate(3),
     ];
-    let rows: [(Mode<'_>, &str, &str); 8] = [
+    let far = [Cmd::Push(AsciiChar::a), Cmd::Insert(99, AsciiChar::a)];
+    let rows: [(Mode<'_>, &str, &str); 9] = [
         (Mode::Copy, "copy", "Ok(()) a\tb\n\nc\r"),
         (Mode::Lines, "lines", "Ok(()) a\tb\n\nc\r\n"),
         (Mode::Tac, "tac", "Ok(()) c\r\n\na\tb\n"),
@@ -91,23 +94,18 @@ fn nothing_goes_out(rt: HostRuntime) -> Result<(), Fail> {
             "Ok(()) +5 none c\r\n+0 lf a\tb\n+4 lf \n",
         ),
         (Mode::Edit(&cmds), "edit", "Ok(()) 012"),
+        (Mode::Edit(&far), "edit too far", "Err(Position(1)) "),
         (Mode::Json, "json", "Ok(()) \"a\\tb\\n\\nc\\r\""),
     ];
+    let other: &[u8] = &[97, 98, 200, 201];
     for (mode, name, ample) in rows {
-        let wanted = ["Err(Memory) ", ample];
-        each_growth(&rt, name, &wanted, |heap| {
-            wrote(alloc, heap, mode, b"a\tb\n\nc\r")
-        })?;
-        let wanted = ["Err(Memory) ", "Err(NotAscii(2)) "];
-        each_growth(&rt, name, &wanted, |heap| {
-            wrote(alloc, heap, mode, &[97, 98, 200, 201])
-        })?;
+        for (input, ample) in [(INPUT, ample), (other, "Err(NotAscii(2)) ")] {
+            each_growth(&rt, name, &["Err(Memory) ", ample], |heap| {
+                wrote(alloc, heap, mode, input)
+            })?;
+        }
     }
-    let far = [Cmd::Push(AsciiChar::a), Cmd::Insert(4, AsciiChar::a)];
-    let wanted = ["Err(Memory) ", "Err(Position(1)) "];
-    each_growth(&rt, "edit", &wanted, |heap| {
-        wrote(alloc, heap, Mode::Edit(&far), b"ab")
-    })
+    Ok(())
 }
 
 /// What a mode answers for an input, and how much went out.
