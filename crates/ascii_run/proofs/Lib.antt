@@ -1,5 +1,6 @@
 pub mod CaretLemmas
 pub mod EndsOutputLemmas
+pub mod InlineLemmas
 pub mod JsonTextLemmas
 pub mod PageLemmas
 mod RunExamples

@@ -5,12 +5,12 @@ use Rattle.std.proofs.lemmas.Option.{none-some}
 use Rattle.std.specs.Prelude.{IfSome, Some, slice_get, unwrap_or}
 use Rattle.ascii.specs.Held.{Held}
 use Rattle.ascii_run.specs.declared.commands.Cmd.{Cmd}
-use Rattle.ascii_run.specs.declared.commands.Cmd.TheVariants.{Push, PushStr, Insert, InsertStr, Remove, Pop, Truncate, Clear, Set, Upper, Lower, Reserve, Shrink, Len, First, Last, Get, Copy, EqIgnoreCase}
+use Rattle.ascii_run.specs.declared.commands.Cmd.TheVariants.{Push, PushStr, Insert, InsertStr, Reserve, Shrink}
 use Rattle.ascii_run.specs.declared.faults.EngineFault.{EngineFault}
 use Rattle.ascii_run.specs.declared.faults.EngineFault.TheVariants.{Position, Memory}
 use Rattle.ascii_run.specs.declared.commands.Reply.{Reply}
 use Rattle.ascii_run.specs.Step.{LacksRoom, MayRefuse, Said, Step, after, answer, no_memory, said}
-use Rattle.ascii_run.specs.Run.{HasNoFault, IsFault, IsFaultPlace, IsNoFault, IsPlainRun, IsServed, Run, WantsNone, plain_replies, plain_text}
+use Rattle.ascii_run.specs.Run.{Agree, AreRuns, HasNoFault, IsFault, IsFaultPlace, IsNoFault, IsPlainRun, IsServed, Run, WantsNone, plain_replies, plain_text}
 use Rattle.ascii_run.specs.Edit.{StopsAt, StopsEdits}
 
 -- a run goes on by one step
@@ -56,29 +56,51 @@ run_front {A} sure t (cmd ∷ cmds) (r ∷ replies) t2 (suc k) h some =
     let rest = run_front sure h.0 cmds replies t2 k h.2 (All-tail IsServed r (take k replies) some) in
     rw (step.0, rest, step.1) refl
 
+-- two runs of the same commands from the same text agree
+pub runs_agree : {A B : Type 0} (cmds : List Cmd) (first : List (Reply A)) (t1 : List ℕ) (second : List (Reply B)) (t2 : List ℕ)
+    → AreRuns cmds first t1 second t2 → Agree first t1 second t2
+runs_agree {A} {B} cmds first t1 second t2 runs = record {
+  front = λ k none1 none2.
+      run_front runs.sure1 runs.text cmds first t1 k runs.run1 none1 ∙ sym (run_front runs.sure2 runs.text cmds second t2 k runs.run2 none2);
+  replies = λ none1 none2.
+      (run_plain runs.sure1 runs.text cmds first t1 runs.run1 none1).0 ∙ sym ((run_plain runs.sure2 runs.text cmds second t2 runs.run2 none2).0);
+  text = λ none1 none2.
+      (run_plain runs.sure1 runs.text cmds first t1 runs.run1 none1).1 ∙ sym ((run_plain runs.sure2 runs.text cmds second t2 runs.run2 none2).1);
+}
+
 -- memory that may be wanting past a sure length may be wanting past a smaller one
-may_refuse_less : (sure less : ℕ) (t : List ℕ) (cmd : Cmd) → less ≤ sure → cmd ≢ Shrink
-    → MayRefuse sure t cmd → MayRefuse less t cmd
-may_refuse_less sure less t (Push ch) le ne h = (h.0, omega (arith, h.1))
-may_refuse_less sure less t (PushStr view) le ne h = (h.0, omega (arith, h.1))
-may_refuse_less sure less t (Insert i ch) le ne h = (h.0, (h.1.0, omega (arith, h.1.1)))
-may_refuse_less sure less t (InsertStr i view) le ne h = (h.0, (h.1.0, omega (arith, h.1.1)))
-may_refuse_less sure less t (Reserve n) le ne h = (h.0, (h.1.0, omega (arith, h.1.1)))
-may_refuse_less sure less t Shrink le ne h = absurd (ne refl)
-may_refuse_less sure less t other le ne h = h
+may_refuse_less : (sure less : ℕ) (t : List ℕ) (cmd : Cmd) → less ≤ sure → MayRefuse sure t cmd → MayRefuse less t cmd
+may_refuse_less sure less t (Push ch) le h = (h.0, omega (arith, h.1))
+may_refuse_less sure less t (PushStr view) le h = (h.0, omega (arith, h.1))
+may_refuse_less sure less t (Insert i ch) le h = (h.0, (h.1.0, omega (arith, h.1.1)))
+may_refuse_less sure less t (InsertStr i view) le h = (h.0, (h.1.0, omega (arith, h.1.1)))
+may_refuse_less sure less t (Reserve n) le h = (h.0, (h.1.0, omega (arith, h.1.1)))
+may_refuse_less sure less t Shrink le h = omega arith
+may_refuse_less sure less t other le h = h
 
 -- where room is missing for a command that gives none back, the capacity is a sure length
-lacks_room : (string : Held) (cmd : Cmd) → cmd ≢ Shrink → LacksRoom string cmd → MayRefuse string.capacity string.text cmd
-lacks_room string Shrink ne h = absurd (ne refl)
-lacks_room string other ne h = h
+lacks_room : (sure : ℕ) (held : Held) (cmd : Cmd) → cmd ≢ Shrink → LacksRoom sure held cmd → MayRefuse held.capacity held.text cmd
+lacks_room sure held Shrink ne h = absurd (ne refl)
+lacks_room sure held other ne h = h
+
+-- where room is missing, memory may be wanting past the sure length
+lacks_may_refuse : (sure : ℕ) (held : Held) (cmd : Cmd) → sure ≤ held.capacity → LacksRoom sure held cmd → MayRefuse sure held.text cmd
+lacks_may_refuse sure held Shrink le h = h.0
+lacks_may_refuse sure held other le h = may_refuse_less held.capacity sure held.text other le h
+
+-- a step wants memory past the sure length alone
+pub step_sure : (sure : ℕ) (held : Held) (cmd : Cmd) (r : Said) (t2 : List ℕ)
+    → Step 0 held.text cmd r t2 → (r ≡ no_memory → LacksRoom sure held cmd) → sure ≤ held.capacity → Step sure held.text cmd r t2
+step_sure sure held cmd r t2 (inl plain) lacks le = inl plain
+step_sure sure held cmd r t2 (inr wants) lacks le = inr (wants.0, lacks_may_refuse sure held cmd le (lacks wants.0), wants.2)
 
 -- up to the capacity every length is sure
-pub step_within : (sure : ℕ) (string : Held) (cmd : Cmd) (r : Said) (t2 : List ℕ)
-    → Step 0 string.text cmd r t2 → (r ≡ no_memory → LacksRoom string cmd)
-    → sure ≤ string.capacity → cmd ≢ Shrink → Step sure string.text cmd r t2
-step_within sure string cmd r t2 (inl plain) lacks le ne = inl plain
-step_within sure string cmd r t2 (inr wants) lacks le ne =
-    inr (wants.0, may_refuse_less string.capacity sure string.text cmd le ne (lacks_room string cmd ne (lacks wants.0)), wants.2)
+pub step_within : (sure start : ℕ) (held : Held) (cmd : Cmd) (r : Said) (t2 : List ℕ)
+    → Step 0 held.text cmd r t2 → (r ≡ no_memory → LacksRoom sure held cmd)
+    → start ≤ held.capacity → cmd ≢ Shrink → Step start held.text cmd r t2
+step_within sure start held cmd r t2 (inl plain) lacks le ne = inl plain
+step_within sure start held cmd r t2 (inr wants) lacks le ne =
+    inr (wants.0, may_refuse_less held.capacity start held.text cmd le (lacks_room sure held cmd ne (lacks wants.0)), wants.2)
 
 -- a refusal is not want of memory
 fault_served : (r : Said) → IsFault r → r ≢ no_memory

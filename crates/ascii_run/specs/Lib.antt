@@ -1,6 +1,7 @@
 pub mod Devices
 pub mod Edit
 pub mod Engine
+pub mod Inline
 pub mod JsonText
 pub mod Outgoing
 pub mod Output

@@ -1,9 +1,9 @@
 -- What a run of commands does: one reply a command, in order, and the text at the end.
-use Rattle.std.specs.Prelude.{◌≡◌, ◌≢◌, ℕ, ◌<◌, List, [], ◌∷◌, All, IfSome, IsSomeAnd, map, slice_get}
+use Rattle.std.specs.Prelude.{◌≡◌, ◌≢◌, ℕ, ◌<◌, List, [], ◌∷◌, All, IfSome, IsSomeAnd, map, slice_get, take}
 use Rattle.ascii_run.specs.declared.commands.Cmd.{Cmd}
 use Rattle.ascii_run.specs.declared.commands.Cmd.TheVariants.{Shrink}
 use Rattle.ascii_run.specs.declared.commands.Reply.{Reply}
-use Rattle.ascii_run.specs.Step.{Said, Step, a_char, a_number, a_text, a_truth, after, answer, bad_position, done, no_memory, refused, said, too_many}
+use Rattle.ascii_run.specs.Step.{Said, Step, after, answer, bad_position, no_memory, refused, said, too_many}
 
 -- the replies and the text at the end, step by step
 abbrev pub Run : {A : Type 0} → ℕ → List ℕ → List Cmd → List (Reply A) → List ℕ → Type 0
@@ -42,6 +42,13 @@ pub record AreRuns {A B : Type 0} (cmds : List Cmd) (first : List (Reply A)) (t1
   pub sure2 : ℕ
   pub run1 : Run sure1 text cmds first t1
   pub run2 : Run sure2 text cmds second t2
+
+-- two runs agree: their replies are alike up to the first want of memory of either, and with none in either so are
+-- all replies and the texts at the end
+pub record Agree {A B : Type 0} (first : List (Reply A)) (t1 : List ℕ) (second : List (Reply B)) (t2 : List ℕ) : Type 0 where
+  pub front : (k : ℕ) → WantsNone (take k first) → WantsNone (take k second) → map said (take k first) ≡ map said (take k second)
+  pub replies : WantsNone first → WantsNone second → map said first ≡ map said second
+  pub text : WantsNone first → WantsNone second → t1 ≡ t2
 
 -- no command gives room back
 abbrev pub NeverShrinks : List Cmd → Type 0

@@ -105,8 +105,8 @@ abbrev pub said_of_growth : Result (Unit {0}) AllocError → Said
 said_of_growth (Ok x) = done
 said_of_growth (Err e) = no_memory
 
--- where memory may be wanting for a string with this text and capacity: a growth past the capacity,
--- a shrinking of more room than the text needs, or a copy
-abbrev pub LacksRoom : Held → Cmd → Type 0
-LacksRoom string Shrink = length string.text < string.capacity
-LacksRoom string cmd = MayRefuse string.capacity string.text cmd
+-- where memory may be wanting for a buffer with this sure length that holds this: a growth past the capacity,
+-- a shrinking of more room than the text needs where no length is sure, or a copy
+abbrev pub LacksRoom : ℕ → Held → Cmd → Type 0
+LacksRoom sure held Shrink = (sure ≡ 0) × (length held.text < held.capacity)
+LacksRoom sure held cmd = MayRefuse held.capacity held.text cmd

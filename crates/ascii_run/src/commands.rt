@@ -6,6 +6,7 @@ ghost use Rattle.ascii_run.specs.Edit.{StopsAt, StopsEdits};
 ghost use Rattle.ascii_run.specs.Run.{AreRuns, HasNoFault, IsNoFault, IsPlainRun, IsServed, NeverShrinks, Run, WantsNone, plain_text};
 ghost use Rattle.ascii_run.specs.Step.{LacksRoom, Step, after, answer, no_memory, said, said_of_growth};
 
+use crate::buf::AsciiBuf;
 use crate::faults::EngineFault;
 use ascii::{AsAsciiStrError, AsciiChar, AsciiRange, AsciiStr, AsciiString};
 use std::alloc::{AllocError, Allocator, Global};
@@ -77,18 +78,18 @@ pub enum Reply<A: Allocator = Global> {
     TooMany,
 }
 
-/// Carries out the commands in order, and gives one reply for each. The room for all replies is
-/// taken before the first command, and where it is refused the text stays; with no command it is
-/// not. Where no command gives room back, memory is wanting only for a copy, or for a text or a room
-/// that is over the capacity before.
-pub fn run<A: Allocator + Copy, B: Allocator>(
+/// Carries out the commands in order over a text in any form, and gives one reply for each. The room
+/// for all replies is taken before the first command, and where it is refused the text stays; with no
+/// command it is not. Memory is wanting only for a copy, or for a text or a room that is over the
+/// sure length of the form; where no command gives room back, over the capacity before.
+pub fn run<A: Allocator + Copy, B: AsciiBuf>(
     alloc: A,
-    buf: &mut AsciiString<B>,
+    buf: &mut B,
     cmds: &[Cmd<'_>],
 ) -> Result<Vec<Reply<A>, A>, AllocError>
-    ensures run { IfOk result (λ replies. Run 0 buf.old.text cmds.now replies.items buf.new.text) }
-    ensures within { NeverShrinks cmds.now → IfOk result (λ replies. Run buf.old.capacity buf.old.text cmds.now replies.items buf.new.text) }
-    ensures capacity { NeverShrinks cmds.now → buf.old.capacity ≤ buf.new.capacity }
+    ensures run { IfOk result (λ replies. Run B.sure (B.held buf.old).text cmds.now replies.items (B.held buf.new).text) }
+    ensures within { NeverShrinks cmds.now → IfOk result (λ replies. Run (B.held buf.old).capacity (B.held buf.old).text cmds.now replies.items (B.held buf.new).text) }
+    ensures capacity { NeverShrinks cmds.now → (B.held buf.old).capacity ≤ (B.held buf.new).capacity }
     ensures err { OnErr result (buf.new ≡ buf.old) }
     ensures nothing { cmds.now ≡ [] → IsOk result }
 {
@@ -117,10 +118,10 @@ pub fn runs_agree<A: Allocator, B: Allocator>(
 {}
 
 /// Carries out one command.
-fn step<A: Allocator, B: Allocator>(alloc: A, buf: &mut AsciiString<B>, cmd: Cmd<'_>) -> Reply<A>
-    ensures step { Step 0 buf.old.text cmd.entry (said result) buf.new.text }
-    ensures room { said result ≡ no_memory → LacksRoom buf.old cmd.entry }
-    ensures capacity { cmd.entry ≢ Cmd.Shrink → buf.old.capacity ≤ buf.new.capacity }
+fn step<A: Allocator, B: AsciiBuf>(alloc: A, buf: &mut B, cmd: Cmd<'_>) -> Reply<A>
+    ensures step { Step 0 (B.held buf.old).text cmd.entry (said result) (B.held buf.new).text }
+    ensures room { said result ≡ no_memory → LacksRoom B.sure (B.held buf.old) cmd.entry }
+    ensures capacity { cmd.entry ≢ Cmd.Shrink → (B.held buf.old).capacity ≤ (B.held buf.new).capacity }
 {
     match cmd {
         Cmd::Push(ch) => grown(buf.push(ch)),
@@ -148,7 +149,7 @@ fn step<A: Allocator, B: Allocator>(alloc: A, buf: &mut AsciiString<B>, cmd: Cmd
         }
         Cmd::Reserve(additional) => reserve(buf, additional),
         Cmd::Shrink => grown(buf.shrink_to_fit()),
-        Cmd::Len => Reply::Number(buf.len()),
+        Cmd::Len => Reply::Number(buf.as_ascii_str().len()),
         Cmd::First => Reply::Char(buf.as_ascii_str().first()),
         Cmd::Last => Reply::Char(buf.as_ascii_str().last()),
         Cmd::Get(idx) => Reply::Char(buf.as_ascii_str().get_ascii(idx)),
@@ -169,44 +170,36 @@ fn grown<A: Allocator>(growth: Result<(), AllocError>) -> Reply<A>
 }
 
 /// Puts a character before a position.
-fn insert<A: Allocator, B: Allocator>(
-    buf: &mut AsciiString<B>,
-    idx: usize,
-    ch: AsciiChar,
-) -> Reply<A>
-    ensures step { Step 0 buf.old.text (Cmd.Insert idx ch) (said result) buf.new.text }
-    ensures room { said result ≡ no_memory → LacksRoom buf.old (Cmd.Insert idx ch) }
-    ensures capacity { buf.old.capacity ≤ buf.new.capacity }
+fn insert<A: Allocator, B: AsciiBuf>(buf: &mut B, idx: usize, ch: AsciiChar) -> Reply<A>
+    ensures step { Step 0 (B.held buf.old).text (Cmd.Insert idx ch) (said result) (B.held buf.new).text }
+    ensures room { said result ≡ no_memory → LacksRoom B.sure (B.held buf.old) (Cmd.Insert idx ch) }
+    ensures capacity { (B.held buf.old).capacity ≤ (B.held buf.new).capacity }
 {
-    if idx > buf.len() {
+    if idx > buf.as_ascii_str().len() {
         return Reply::BadPosition;
     }
     grown(buf.insert(idx, ch))
 }
 
 /// Puts a view before a position.
-fn insert_str<A: Allocator, B: Allocator>(
-    buf: &mut AsciiString<B>,
-    idx: usize,
-    view: AsciiStr<'_>,
-) -> Reply<A>
-    ensures step { Step 0 buf.old.text (Cmd.InsertStr idx view.entry) (said result) buf.new.text }
-    ensures room { said result ≡ no_memory → LacksRoom buf.old (Cmd.InsertStr idx view.entry) }
-    ensures capacity { buf.old.capacity ≤ buf.new.capacity }
+fn insert_str<A: Allocator, B: AsciiBuf>(buf: &mut B, idx: usize, view: AsciiStr<'_>) -> Reply<A>
+    ensures step { Step 0 (B.held buf.old).text (Cmd.InsertStr idx view.entry) (said result) (B.held buf.new).text }
+    ensures room { said result ≡ no_memory → LacksRoom B.sure (B.held buf.old) (Cmd.InsertStr idx view.entry) }
+    ensures capacity { (B.held buf.old).capacity ≤ (B.held buf.new).capacity }
 {
-    if idx > buf.len() {
+    if idx > buf.as_ascii_str().len() {
         return Reply::BadPosition;
     }
     grown(buf.insert_str(idx, view))
 }
 
 /// Takes out the character at a position.
-fn remove<A: Allocator, B: Allocator>(buf: &mut AsciiString<B>, idx: usize) -> Reply<A>
-    ensures reply { said result ≡ answer buf.old.text (Cmd.Remove idx) }
-    ensures text { buf.new.text ≡ after buf.old.text (Cmd.Remove idx) }
-    ensures capacity { buf.new.capacity ≡ buf.old.capacity }
+fn remove<A: Allocator, B: AsciiBuf>(buf: &mut B, idx: usize) -> Reply<A>
+    ensures reply { said result ≡ answer (B.held buf.old).text (Cmd.Remove idx) }
+    ensures text { (B.held buf.new).text ≡ after (B.held buf.old).text (Cmd.Remove idx) }
+    ensures capacity { (B.held buf.new).capacity ≡ (B.held buf.old).capacity }
 {
-    if idx < buf.len() {
+    if idx < buf.as_ascii_str().len() {
         Reply::Char(Some(buf.remove(idx)))
     } else {
         Reply::BadPosition
@@ -214,12 +207,12 @@ fn remove<A: Allocator, B: Allocator>(buf: &mut AsciiString<B>, idx: usize) -> R
 }
 
 /// Puts a character in the place of the one at a position.
-fn set<A: Allocator, B: Allocator>(buf: &mut AsciiString<B>, idx: usize, ch: AsciiChar) -> Reply<A>
-    ensures reply { said result ≡ answer buf.old.text (Cmd.Set idx ch) }
-    ensures text { buf.new.text ≡ after buf.old.text (Cmd.Set idx ch) }
-    ensures capacity { buf.new.capacity ≡ buf.old.capacity }
+fn set<A: Allocator, B: AsciiBuf>(buf: &mut B, idx: usize, ch: AsciiChar) -> Reply<A>
+    ensures reply { said result ≡ answer (B.held buf.old).text (Cmd.Set idx ch) }
+    ensures text { (B.held buf.new).text ≡ after (B.held buf.old).text (Cmd.Set idx ch) }
+    ensures capacity { (B.held buf.new).capacity ≡ (B.held buf.old).capacity }
 {
-    if idx < buf.len() {
+    if idx < buf.as_ascii_str().len() {
         buf.set(idx, ch);
         Reply::Done
     } else {
@@ -228,12 +221,12 @@ fn set<A: Allocator, B: Allocator>(buf: &mut AsciiString<B>, idx: usize, ch: Asc
 }
 
 /// Makes room for more characters.
-fn reserve<A: Allocator, B: Allocator>(buf: &mut AsciiString<B>, additional: usize) -> Reply<A>
-    ensures step { Step 0 buf.old.text (Cmd.Reserve additional) (said result) buf.new.text }
-    ensures room { said result ≡ no_memory → LacksRoom buf.old (Cmd.Reserve additional) }
-    ensures capacity { buf.old.capacity ≤ buf.new.capacity }
+fn reserve<A: Allocator, B: AsciiBuf>(buf: &mut B, additional: usize) -> Reply<A>
+    ensures step { Step 0 (B.held buf.old).text (Cmd.Reserve additional) (said result) (B.held buf.new).text }
+    ensures room { said result ≡ no_memory → LacksRoom B.sure (B.held buf.old) (Cmd.Reserve additional) }
+    ensures capacity { (B.held buf.old).capacity ≤ (B.held buf.new).capacity }
 {
-    if additional > usize::MAX - buf.len() {
+    if additional > usize::MAX - buf.as_ascii_str().len() {
         return Reply::TooMany;
     }
     grown(buf.reserve(additional))

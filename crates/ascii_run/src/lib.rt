@@ -1,18 +1,22 @@
 //! Runs over ASCII text: a filter from bytes to bytes in one of several modes.
 #![tactic(auto)]
 
+pub mod buf;
 mod commands;
 mod devices;
 mod faults;
 mod filter;
+mod forms;
 mod modes;
 mod outputs;
 mod page;
 
+pub use buf::{AsciiBuf, SmallAsciiString};
 pub use commands::{Cmd, Reply, plain_run, run, runs_agree};
 pub use devices::{DeviceFault, Input, Output, Sink, Source};
 pub use faults::EngineFault;
 pub use filter::engine;
+pub use forms::{BothRuns, run_both};
 pub use modes::Mode;
 
 #[cfg(test)]

@@ -3,7 +3,7 @@ use Rattle.std.proofs.lemmas.List.{take_more}
 use Rattle.std.proofs.lemmas.List.Elements.{All-get_or}
 use Rattle.ascii_run.specs.declared.commands.Cmd.TheVariants.{Shrink}
 use Rattle.ascii_run.specs.Run.{NeverShrinks}
-use Rattle.ascii_run.proofs.RunsLemmas.{run_more, step_within}
+use Rattle.ascii_run.proofs.RunsLemmas.{run_more, step_sure, step_within}
 use Rattle.ascii_run.proofs.commands.run.Goals as goal
 
 pub loop-cmd-preserved : goal.loop-cmd-preserved
@@ -17,9 +17,10 @@ loop-cmd-preserved g c =
     let keeps : NeverShrinks cmds → item ≢ Shrink =
     λ never. rw c.cmd-item.is (All-get_or (λ cmd. cmd ≢ Shrink) cmds i item lt never) in
     rw (more, c.in_ok-push.ensures.items) record {
-      run = run_more _ _ _ _ _ _ _ _ c.loop-cmd.invariant.run c.step.ensures.step;
+      run = run_more _ _ _ _ _ _ _ _ c.loop-cmd.invariant.run
+          (step_sure _ _ _ _ _ c.step.ensures.step c.step.ensures.room (g.met.B.AsciiBuf.holds_sure c.loop-cmd.buf));
       within = λ never. run_more _ _ _ _ _ _ _ _ (c.loop-cmd.invariant.within never)
-          (step_within _ c.loop-cmd.buf _ _ _ c.step.ensures.step c.step.ensures.room (c.loop-cmd.invariant.capacity never) (keeps never));
+          (step_within _ _ _ _ _ _ c.step.ensures.step c.step.ensures.room (c.loop-cmd.invariant.capacity never) (keeps never));
       capacity = λ never. omega (arith, c.loop-cmd.invariant.capacity never, c.step.ensures.capacity (keeps never));
       len = rw (c.in_ok-push.ensures.len, c.loop-cmd.invariant.len) refl;
       room = omega (arith, c.loop-cmd.invariant.room, c.push.ensures.capacity);

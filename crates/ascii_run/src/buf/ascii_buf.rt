@@ -1,0 +1,171 @@
+//! The edits of a text, in whichever form it is kept.
+
+ghost use Rattle.std.specs.Prelude.{◌≡◌, ℕ, ◌+◌, ◌-◌, ◌<◌, ◌≤◌, [], ◌∷◌, ◌++◌, OnErr, insert, length, map, remove, slice_get, slice_index, slice_set, take};
+ghost use Rattle.std.specs.Option.{option_map};
+ghost use Rattle.ascii_base.specs.Case.{lower_image, upper_image};
+ghost use Rattle.ascii_base.specs.Code.{code_of};
+ghost use Rattle.ascii.specs.Held.{EditsWithin, GrowsTo, Held, MakesRoom};
+ghost use Rattle.ascii.specs.Text.{insert_text};
+ghost use Rattle.ascii.specs.View.{text_of};
+
+use ascii::{AsciiChar, AsciiStr, AsciiString};
+use std::alloc::{AllocError, Allocator};
+
+/// A text that can be edited.
+pub trait AsciiBuf {
+    // The text, and how long it can get with no growth.
+    ghost held: { Self → Held };
+
+    // The sure length: no text up to it wants memory.
+    ghost sure: { ℕ };
+
+    /// A view of the whole text.
+    fn as_ascii_str(&self) -> AsciiStr<'_>
+        ensures { text_of result ≡ (held self.now).text };
+
+    /// Makes room for `additional` more bytes. The text stays, and a refusal of memory comes only
+    /// where the room was missing; room for none never is.
+    fn reserve(&mut self, additional: usize) -> Result<(), AllocError>
+        requires { length (held self.old).text + additional ≤ usize.MAX }
+        ensures { MakesRoom additional (held self.old) (held self.new) result };
+
+    /// Gives back the room that the text does not need. The text stays; a refusal of memory comes
+    /// only where there is such room, and never where some length is sure.
+    fn shrink_to_fit(&mut self) -> Result<(), AllocError>
+        ensures text { (held self.new).text ≡ (held self.old).text }
+        ensures err { OnErr result (length (held self.new).text < (held self.new).capacity) }
+        ensures unsure { OnErr result (sure ≡ 0) }
+        ensures capacity { (held self.new).capacity ≤ (held self.old).capacity }
+        ensures room { length (held self.new).text ≤ (held self.new).capacity };
+
+    /// Appends a character. It is never refused where the longer text fits the capacity; a refusal
+    /// of memory leaves the text.
+    fn push(&mut self, ch: AsciiChar) -> Result<(), AllocError>
+        ensures { GrowsTo ((held self.old).text ++ code_of ch ∷ []) (held self.old) (held self.new) result };
+
+    /// Appends a view. It is never refused where the longer text fits the capacity, as it does with
+    /// the empty view; a refusal of memory leaves the text.
+    fn push_str(&mut self, view: AsciiStr<'_>) -> Result<(), AllocError>
+        ensures { GrowsTo ((held self.old).text ++ text_of view.entry) (held self.old) (held self.new) result };
+
+    /// Puts a character before the position `idx`; at the length it is appended. It is never refused
+    /// where the longer text fits the capacity; a refusal of memory leaves the text.
+    fn insert(&mut self, idx: usize, ch: AsciiChar) -> Result<(), AllocError>
+        requires { idx ≤ length (held self.old).text }
+        ensures { GrowsTo (insert (held self.old).text idx (code_of ch)) (held self.old) (held self.new) result };
+
+    /// Puts a view before the position `idx`; at the length it is appended. It is never refused where
+    /// the longer text fits the capacity, as it does with the empty view; a refusal of memory leaves
+    /// the text.
+    fn insert_str(&mut self, idx: usize, view: AsciiStr<'_>) -> Result<(), AllocError>
+        requires { idx ≤ length (held self.old).text }
+        ensures { GrowsTo (insert_text (held self.old).text idx (text_of view.entry)) (held self.old) (held self.new) result };
+
+    /// Takes out the character at a position from 0 that is under the length.
+    fn remove(&mut self, idx: usize) -> AsciiChar
+        requires { idx < length (held self.old).text }
+        ensures removed { code_of result ≡ slice_index (held self.old).text idx }
+        ensures edits { EditsWithin (remove (held self.old).text idx) (held self.old) (held self.new) };
+
+    /// Takes off the last character, or answers `None` of the empty text.
+    fn pop(&mut self) -> Option<AsciiChar>
+        ensures popped { let text = (held self.old).text in option_map code_of result ≡ slice_get text (length text - 1) }
+        ensures edits { let text = (held self.old).text in EditsWithin (take (length text - 1) text) (held self.old) (held self.new) };
+
+    /// Keeps the first `n` characters, or all where there are fewer.
+    fn truncate(&mut self, n: usize)
+        ensures { EditsWithin (take n (held self.old).text) (held self.old) (held self.new) };
+
+    /// Takes off all characters. The capacity stays.
+    fn clear(&mut self)
+        ensures { EditsWithin [] (held self.old) (held self.new) };
+
+    /// Puts a character in the place of the one at a position from 0 that is under the length.
+    fn set(&mut self, i: usize, ch: AsciiChar)
+        requires { i < length (held self.old).text }
+        ensures { EditsWithin (slice_set (held self.old).text i (code_of ch)) (held self.old) (held self.new) };
+
+    /// Changes `a` to `z` to `A` to `Z`, and leaves every other character.
+    fn make_ascii_uppercase(&mut self)
+        ensures { EditsWithin (map upper_image (held self.old).text) (held self.old) (held self.new) };
+
+    /// Changes `A` to `Z` to `a` to `z`, and leaves every other character.
+    fn make_ascii_lowercase(&mut self)
+        ensures { EditsWithin (map lower_image (held self.old).text) (held self.old) (held self.new) };
+
+    // The sure length is within every capacity.
+    ghost holds_sure: { (buf : Self) → sure ≤ (held buf).capacity };
+}
+
+impl<A: Allocator> AsciiBuf for AsciiString<A> {
+    ghost use Rattle.std.proofs.Common.{rules};
+
+    ghost held = { λ string. string };
+
+    ghost sure = { 0 };
+
+    #[inline]
+    fn as_ascii_str(&self) -> AsciiStr<'_> {
+        self.as_ascii_str()
+    }
+
+    fn reserve(&mut self, additional: usize) -> Result<(), AllocError> {
+        self.reserve(additional)
+    }
+
+    fn shrink_to_fit(&mut self) -> Result<(), AllocError> {
+        self.shrink_to_fit()
+    }
+
+    #[inline]
+    fn push(&mut self, ch: AsciiChar) -> Result<(), AllocError> {
+        self.push(ch)
+    }
+
+    #[inline]
+    fn push_str(&mut self, view: AsciiStr<'_>) -> Result<(), AllocError> {
+        self.push_str(view)
+    }
+
+    fn insert(&mut self, idx: usize, ch: AsciiChar) -> Result<(), AllocError> {
+        self.insert(idx, ch)
+    }
+
+    fn insert_str(&mut self, idx: usize, view: AsciiStr<'_>) -> Result<(), AllocError> {
+        self.insert_str(idx, view)
+    }
+
+    fn remove(&mut self, idx: usize) -> AsciiChar {
+        self.remove(idx)
+    }
+
+    #[inline]
+    fn pop(&mut self) -> Option<AsciiChar> {
+        self.pop()
+    }
+
+    #[inline]
+    fn truncate(&mut self, n: usize) {
+        self.truncate(n);
+    }
+
+    #[inline]
+    fn clear(&mut self) {
+        self.clear();
+    }
+
+    #[inline]
+    fn set(&mut self, i: usize, ch: AsciiChar) {
+        self.set(i, ch);
+    }
+
+    fn make_ascii_uppercase(&mut self) {
+        self.make_ascii_uppercase();
+    }
+
+    fn make_ascii_lowercase(&mut self) {
+        self.make_ascii_lowercase();
+    }
+
+    ghost holds_sure = { Prim.search rules };
+}
