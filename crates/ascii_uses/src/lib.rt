@@ -2,6 +2,7 @@
 //! characters, pieces and lines, edits of a part of a source, and texts as JSON values.
 #![tactic(auto)]
 
+pub mod forms;
 pub mod fronts;
 pub mod iterators;
 pub mod parts;

@@ -1,0 +1,55 @@
+//! Texts in either form: one that keeps short texts inline, and any form that a caller is handed.
+
+ghost use Rattle.std.specs.Prelude.{◌≡◌, ◌+◌, ◌≤◌, ◌++◌, ◌∷◌, [], IfOk, IsOk, OnErr, OnOk, length, map};
+ghost use Rattle.ascii_base.specs.Case.{lower_image};
+ghost use Rattle.ascii_base.specs.Code.{code_of};
+ghost use Rattle.ascii.specs.View.{text_of};
+ghost use Rattle.ascii_run.specs.Inline.{inline_size};
+ghost use Rattle.ascii_run.specs.Run.{NeverShrinks, Run};
+
+use ascii::{AsciiChar, AsciiStr, AsciiString};
+use ascii_run::{AsciiBuf, Cmd, Reply, SmallAsciiString, run};
+use std::alloc::{AllocError, Allocator, Global};
+
+/// The name of a header in lower case. Up to 24 characters it is never refused.
+pub fn header_name(alloc: Global, name: AsciiStr<'_>) -> Result<SmallAsciiString, AllocError>
+    ensures text { IfOk result (λ string. string.text ≡ map lower_image (text_of name.entry)) }
+    ensures succeeds { length (text_of name.entry) ≤ inline_size → IsOk result }
+{
+    let mut string = SmallAsciiString::from_ascii_str(alloc, name)?;
+    string.make_ascii_lowercase();
+    Ok(string)
+}
+
+/// A letter as a text of its own, which takes no memory.
+pub fn letter(alloc: Global, ch: AsciiChar) -> SmallAsciiString
+    ensures { result.text ≡ code_of ch ∷ [] }
+{
+    let mut string = SmallAsciiString::new(alloc);
+    let _never_fails = string.push(ch);
+    string
+}
+
+/// Appends a view to a text in any form. Up to the sure length of the form it is never refused.
+pub fn append<B: AsciiBuf>(buf: &mut B, view: AsciiStr<'_>) -> Result<(), AllocError>
+    ensures ok { OnOk result ((B.held buf.new).text ≡ (B.held buf.old).text ++ text_of view.entry) }
+    ensures err { OnErr result ((B.held buf.new).text ≡ (B.held buf.old).text) }
+    ensures sure { length (B.held buf.old).text + length (text_of view.entry) ≤ B.sure → IsOk result }
+{
+    buf.push_str(view)
+}
+
+/// The commands over an `AsciiString`, for which no length is sure but its capacity.
+pub fn run_over_a_string<A: Allocator + Copy, B: Allocator>(
+    alloc: A,
+    buf: &mut AsciiString<B>,
+    cmds: &[Cmd<'_>],
+) -> Result<Vec<Reply<A>, A>, AllocError>
+    ensures run { IfOk result (λ replies. Run 0 buf.old.text cmds.now replies.items buf.new.text) }
+    ensures within { NeverShrinks cmds.now → IfOk result (λ replies. Run buf.old.capacity buf.old.text cmds.now replies.items buf.new.text) }
+    ensures capacity { NeverShrinks cmds.now → buf.old.capacity ≤ buf.new.capacity }
+    ensures err { OnErr result (buf.new ≡ buf.old) }
+    ensures nothing { cmds.now ≡ [] → IsOk result }
+{
+    run(alloc, buf, cmds)
+}
