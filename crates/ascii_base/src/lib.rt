@@ -7,5 +7,3 @@ pub mod free_functions;
 pub mod kernels;
 mod lanes;
 pub mod range;
-#[cfg(test)]
-mod tests;

@@ -18,6 +18,3 @@ pub use faults::EngineFault;
 pub use filter::engine;
 pub use forms::{BothRuns, run_both};
 pub use modes::Mode;
-
-#[cfg(test)]
-mod tests;

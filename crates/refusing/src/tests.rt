@@ -1,6 +1,7 @@
 //! One growth is refused, and none before or behind it.
 
 use crate::Refusing;
+use ascii::{AsciiChar, AsciiString};
 use std::test::Fail;
 
 #[test]
@@ -28,5 +29,17 @@ fn counts_blocks_that_grow(rt: HostRuntime) -> Result<(), Fail> {
     assert_eq!(rt; bytes.as_slice(), [7, 8].as_slice());
     bytes.push(9)?;
     assert_eq!(rt; bytes.as_slice(), [7, 8, 9].as_slice());
+    Ok(())
+}
+
+#[test]
+fn a_string_keeps_its_text(rt: HostRuntime) -> Result<(), Fail> {
+    let heap = Refusing::new(rt.alloc(), 1);
+    let mut string = AsciiString::from_char(&heap, AsciiChar::a)?;
+    string.shrink_to_fit()?;
+    assert!(rt; string.push(AsciiChar::b).is_err());
+    assert_eq!(rt; string.as_ascii_str().as_str(), "a");
+    string.push(AsciiChar::b)?;
+    assert_eq!(rt; string.as_ascii_str().as_str(), "ab");
     Ok(())
 }

@@ -1,9 +1,9 @@
 //! Runs and modes on long inputs: nothing gives up past a length.
 
 use super::engine::ran;
-use crate::{Cmd, EngineFault, Mode, Output, Reply, engine, run};
 use ascii::iter::End;
 use ascii::{AsciiChar, AsciiRange, AsciiString};
+use ascii_run::{Cmd, EngineFault, Input, Mode, Output, Reply, engine, run};
 use std::alloc::{AllocError, Global};
 use std::io;
 use std::test::Fail;
@@ -69,7 +69,7 @@ impl io::Write for Unflushed {
 fn each_flush(rt: HostRuntime) -> Result<(), Fail> {
     for length in LENGTHS {
         let input = bytes_of(rt.alloc(), "", length, "")?;
-        let mut reader = crate::Input::new(input.as_slice());
+        let mut reader = Input::new(input.as_slice());
         let mut writer = Output::new(Unflushed);
         let answer = engine(rt.alloc(), Mode::Copy, &mut reader, &mut writer);
         assert_eq!(rt; answer, Err(EngineFault::Write), "{length}");

@@ -2,6 +2,8 @@
 
 mod commands;
 mod devices;
+mod each_call;
 mod engine;
 mod lengths;
 mod pages;
+mod scripted;

@@ -1,5 +1,5 @@
-use crate::ascii_char::{AsciiChar, ToAsciiChar, ToAsciiCharError};
-use crate::free_functions::{caret_decode, caret_encode};
+use ascii_base::ascii_char::{AsciiChar, ToAsciiChar, ToAsciiCharError};
+use ascii_base::free_functions::{caret_decode, caret_encode};
 use std::cmp::Ordering;
 use std::collections::HashSet;
 use std::test::Fail;

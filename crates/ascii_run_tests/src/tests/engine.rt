@@ -1,8 +1,8 @@
 //! The modes over memory and over devices that fail.
 
-use crate::{EngineFault, Input, Mode, Output, engine};
 use ascii::bytes;
 use ascii::iter::End;
+use ascii_run::{EngineFault, Input, Mode, Output, engine};
 use std::alloc::{AllocError, Global};
 use std::test::Fail;
 

@@ -1,6 +1,6 @@
 //! Outputs round the size of a page, and writers that fail between two pages.
 
-use crate::{EngineFault, Input, Mode, Output, engine};
+use ascii_run::{EngineFault, Input, Mode, Output, engine};
 use std::alloc::{AllocError, Global};
 use std::io;
 use std::test::Fail;

@@ -1,6 +1,6 @@
 //! The engine over devices that follow a script.
 
-use crate::{DeviceFault, EngineFault, Input, Mode, Output, Sink, Source, engine};
+use ascii_run::{DeviceFault, EngineFault, Input, Mode, Output, Sink, Source, engine};
 use std::alloc::Global;
 use std::io::{self, ErrorKind};
 use std::process::Abort;

@@ -1,8 +1,8 @@
 //! The replies of commands, and edits that stop.
 
-use crate::commands::edit;
-use crate::{Cmd, EngineFault, plain_run, run, runs_agree};
+use super::engine::ran as ran_in;
 use ascii::{AsciiChar, AsciiRange, AsciiStr, text};
+use ascii_run::{Cmd, EngineFault, Mode, plain_run, run, runs_agree};
 use std::alloc::{AllocError, Global};
 use std::test::Fail;
 
@@ -216,20 +216,19 @@ fn copies(rt: HostRuntime) -> Result<(), Fail> {
 
 #[test]
 fn edits(rt: HostRuntime) -> Result<(), Fail> {
-    let mut buf = view("abc").to_ascii_string(rt.alloc())?;
+    let alloc = rt.alloc();
     let stops = [Cmd::Pop, Cmd::Remove(2), Cmd::Set(9, AsciiChar::x)];
-    assert_eq!(rt;
-        edit(rt.alloc(), &mut buf, &stops),
-        Err(EngineFault::Position(1))
-    );
+    let (answer, _) = ran_in(alloc, Mode::Edit(&stops), b"abc");
+    assert_eq!(rt; answer, Err(EngineFault::Position(1)));
     let wants = [Cmd::Reserve(usize::MAX - 2), Cmd::Remove(2)];
-    assert_eq!(rt;
-        edit(rt.alloc(), &mut buf, &wants),
-        Err(EngineFault::Memory)
-    );
+    let (answer, _) = ran_in(alloc, Mode::Edit(&wants), b"ab");
+    assert_eq!(rt; answer, Err(EngineFault::Memory));
     let goes_on = [Cmd::Push(AsciiChar::x), Cmd::Truncate(9), Cmd::Upper];
-    assert_eq!(rt; edit(rt.alloc(), &mut buf, &goes_on), Ok(()));
-    assert_eq!(rt; buf.as_ascii_str().as_str(), "ABX");
-    assert_eq!(rt; edit(rt.alloc(), &mut buf, &[]), Ok(()));
+    let (answer, written) = ran_in(alloc, Mode::Edit(&goes_on), b"ab");
+    assert_eq!(rt; answer, Ok(()));
+    assert_eq!(rt; written.as_slice(), b"ABX".as_slice());
+    let (answer, written) = ran_in(alloc, Mode::Edit(&[]), b"ab");
+    assert_eq!(rt; answer, Ok(()));
+    assert_eq!(rt; written.as_slice(), b"ab".as_slice());
     Ok(())
 }

@@ -1,5 +1,5 @@
-use crate::ascii_char::AsciiChar;
-use crate::free_functions::{caret_decode, caret_encode};
+use ascii_base::ascii_char::AsciiChar;
+use ascii_base::free_functions::{caret_decode, caret_encode};
 
 #[test]
 fn carets(rt: HostRuntime) {

@@ -1,4 +1,4 @@
-use crate::range::AsciiRange;
+use ascii_base::range::AsciiRange;
 
 #[test]
 fn ranges(rt: HostRuntime) {

@@ -1,6 +1,6 @@
 ghost use Rattle.std.specs.Prelude.{◌≤◌};
 
-use crate::kernels;
+use ascii_base::kernels;
 
 #[test]
 fn cases(rt: HostRuntime) {

@@ -1,5 +1,0 @@
-//! The tests of modes over devices that fail, in a crate of their own, since each is proved before it runs.
-#![tactic(auto)]
-
-#[cfg(test)]
-mod tests;
