@@ -227,7 +227,8 @@ fn edits(rt: HostRuntime) -> Result<(), Fail> {
     let (answer, written) = ran_in(alloc, Mode::Edit(&goes_on), b"ab");
     assert_eq!(rt; answer, Ok(()));
     assert_eq!(rt; written.as_slice(), b"ABX".as_slice());
-    let (answer, written) = ran_in(alloc, Mode::Edit(&[]), b"ab");
+    let none: [Cmd<'_>; 0] = [];
+    let (answer, written) = ran_in(alloc, Mode::Edit(&none), b"ab");
     assert_eq!(rt; answer, Ok(()));
     assert_eq!(rt; written.as_slice(), b"ab".as_slice());
     Ok(())
