@@ -11,7 +11,7 @@ use Rattle.ascii_run.specs.Engine.{AppendsFront}
 use Rattle.ascii_run.specs.Output.{IsOutput}
 
 -- the bytes that a page holds back, and whether a write of it has failed
-pub record Held : Type 0 where
+pub record HeldBack : Type 0 where
   pub bytes : List ℕ
   pub is_broken : Bool
 
@@ -19,17 +19,17 @@ pub record Held : Type 0 where
 pub record Outgoing : Type 0 where
   pub taken : Option (List ℕ)
   pub failures : ℕ
-  pub page : Held
+  pub page : HeldBack
 
 -- the state of a writer, told by what it took and how many of its calls failed, and of the page before it
-abbrev pub out : {K : Type 0} → (K → Option (List ℕ)) → (K → ℕ) → K → Held → Outgoing
+abbrev pub out : {K : Type 0} → (K → Option (List ℕ)) → (K → ℕ) → K → HeldBack → Outgoing
 out taken failures writer page = record { taken = taken writer; failures = failures writer; page = page }
 
--- no write has failed yet, and one more can be counted; or one has
+-- a write has failed, or one more failure can be counted
 abbrev pub MayFail : Outgoing → Type 0
 MayFail out = out.page.is_broken ≡ false → out.failures < 2 ^ 64 - 1
 
--- bytes were put in: all but those that are held went out; or a write failed, and a beginning of them did; or nothing, where one had failed
+-- what `Puts` says, by whether a write had failed before and whether one has now
 abbrev pub PutsBy : Bool → Bool → Outgoing → Outgoing → List ℕ → Type 0
 PutsBy false false old new bytes =
     (sent : List ℕ) × Appends old.taken new.taken sent × (sent ++ new.page.bytes ≡ old.page.bytes ++ bytes) × (new.failures ≡ old.failures)
@@ -37,18 +37,19 @@ PutsBy false true old new bytes = AppendsFront old.taken new.taken (old.page.byt
 PutsBy true false old new bytes = ⊥
 PutsBy true true old new bytes = Keeps old.taken new.taken × (new.failures ≡ old.failures)
 
+-- bytes were put in: all but those that are held went out; or a write failed, and a beginning of them did; or nothing, where one had failed
 pub record Puts (old new : Outgoing) (bytes : List ℕ) : Type 0 where
   pub goes : PutsBy old.page.is_broken new.page.is_broken old new bytes
 
 -- the same of a writer and a page before it, as they were and as they are
-abbrev pub PutIn : {K : Type 0} → (K → Option (List ℕ)) → (K → ℕ) → K → Held → K → Held → List ℕ → Type 0
+abbrev pub PutIn : {K : Type 0} → (K → Option (List ℕ)) → (K → ℕ) → K → HeldBack → K → HeldBack → List ℕ → Type 0
 PutIn taken failures writer page writer_now page_now bytes = Puts (out taken failures writer page) (out taken failures writer_now page_now) bytes
 
 -- the output of a mode for a text was put in
 abbrev pub PutsOutput : Mode → List ℕ → Outgoing → Outgoing → Type 0
 PutsOutput mode text old new = (output : List ℕ) × IsOutput mode text output × Puts old new output
 
-abbrev pub OutputIn : {K : Type 0} → Mode → List ℕ → (K → Option (List ℕ)) → (K → ℕ) → K → Held → K → Held → Type 0
+abbrev pub OutputIn : {K : Type 0} → Mode → List ℕ → (K → Option (List ℕ)) → (K → ℕ) → K → HeldBack → K → HeldBack → Type 0
 OutputIn mode text taken failures writer page writer_now page_now =
     PutsOutput mode text (out taken failures writer page) (out taken failures writer_now page_now)
 

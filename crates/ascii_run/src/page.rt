@@ -23,9 +23,9 @@ pub(crate) struct Page<A: Allocator> {
 
 impl<A: Allocator> Model for Page<A> {
     ghost use Rattle.std.specs.Prelude.{◌≤◌, length, vec_capacity};
-    ghost use Rattle.ascii_run.specs.Outgoing.{Held};
+    ghost use Rattle.ascii_run.specs.Outgoing.{HeldBack};
 
-    ghost Value = { Held };
+    ghost Value = { HeldBack };
 
     ghost view = { λ page. record { bytes = page.held.items; is_broken = page.is_broken } };
 
