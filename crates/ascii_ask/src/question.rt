@@ -1,0 +1,158 @@
+//! The words of a question, and how they are read.
+
+use ascii::iter::End;
+use ascii::{AsciiChar, AsciiRange, AsciiString, vec};
+use std::alloc::{AllocError, AllocFailed, Global};
+
+/// Why a question has no answer.
+#[derive(Clone, Copy, Debug, PartialEq, Eq)]
+pub enum Fault {
+    /// It is no question.
+    Bad,
+    /// There was no memory.
+    Memory,
+}
+
+impl From<AllocError> for Fault {
+    fn from(_: AllocError) -> Fault {
+        Fault::Memory
+    }
+}
+
+impl<T: Drop> From<AllocFailed<T>> for Fault {
+    fn from(_: AllocFailed<T>) -> Fault {
+        Fault::Memory
+    }
+}
+
+/// The words behind the name of a call, and where memory is taken.
+#[derive(Clone, Copy)]
+pub struct Question<'a> {
+    pub alloc: Global,
+    pub words: &'a [&'a str],
+}
+
+impl<'a> Question<'a> {
+    /// The word with this number, from 0.
+    pub fn word(&self, n: usize) -> Result<&'a str, Fault> {
+        self.words.get(n).copied().ok_or(Fault::Bad)
+    }
+
+    /// The bytes that a word names.
+    pub fn bytes(&self, n: usize) -> Result<Vec<u8>, Fault> {
+        bytes_of(self.alloc, self.word(n)?)
+    }
+
+    /// The text that a word names.
+    pub fn text(&self, n: usize) -> Result<AsciiString, Fault> {
+        text_named(self.alloc, self.word(n)?)
+    }
+
+    /// The text in UTF-8 that a word names.
+    pub fn utf8(&self, n: usize) -> Result<String, Fault> {
+        String::from_utf8(self.bytes(n)?).ok().ok_or(Fault::Bad)
+    }
+
+    /// The number that a word is.
+    pub fn number(&self, n: usize) -> Result<usize, Fault> {
+        number_of(self.word(n)?)
+    }
+
+    /// The byte whose number a word is.
+    pub fn byte(&self, n: usize) -> Result<u8, Fault> {
+        u8::try_from(self.number(n)?).ok().ok_or(Fault::Bad)
+    }
+
+    /// The character whose code a word is.
+    pub fn char(&self, n: usize) -> Result<AsciiChar, Fault> {
+        AsciiChar::from_ascii(self.byte(n)?).ok().ok_or(Fault::Bad)
+    }
+
+    /// The range that a word is.
+    pub fn range(&self, n: usize) -> Result<AsciiRange, Fault> {
+        range_of(self.word(n)?)
+    }
+
+    /// The ends that a word is a script of.
+    pub fn script(&self, n: usize) -> Result<Vec<End>, Fault> {
+        script_of(self.alloc, self.word(n)?)
+    }
+
+    /// Bytes as an answer shows them.
+    pub fn shown(&self, bytes: &[u8]) -> Result<String, Fault> {
+        shown(self.alloc, bytes)
+    }
+
+    /// A fixed answer.
+    pub fn said(&self, answer: &str) -> Result<String, Fault> {
+        Ok(String::from_str(self.alloc, answer)?)
+    }
+}
+
+/// Bytes in hexadecimal; the empty list is `-`.
+pub fn shown(alloc: Global, bytes: &[u8]) -> Result<String, Fault> {
+    if bytes.is_empty() {
+        Ok(String::from_str(alloc, "-")?)
+    } else {
+        Ok(hex::encode(alloc, bytes)?)
+    }
+}
+
+/// The bytes that a word names.
+pub fn bytes_of(alloc: Global, word: &str) -> Result<Vec<u8>, Fault> {
+    if word == "-" {
+        return Ok(Vec::new(alloc));
+    }
+    hex::decode(alloc, word).ok().ok_or(Fault::Bad)
+}
+
+/// The text that a word names.
+pub fn text_named(alloc: Global, word: &str) -> Result<AsciiString, Fault> {
+    vec::into_ascii_string(bytes_of(alloc, word)?)
+        .ok()
+        .ok_or(Fault::Bad)
+}
+
+/// The number that a word is.
+pub fn number_of(word: &str) -> Result<usize, Fault> {
+    word.parse::<usize>().ok().ok_or(Fault::Bad)
+}
+
+/// The range that a word is.
+pub fn range_of(word: &str) -> Result<AsciiRange, Fault> {
+    let (start, end) = word.split_once("..").ok_or(Fault::Bad)?;
+    if let Some(end) = end.strip_prefix('=') {
+        let end = number_of(end)?;
+        return match start {
+            "" => Ok(AsciiRange::ToInclusive(end)),
+            _ => Ok(AsciiRange::Inclusive(number_of(start)?, end)),
+        };
+    }
+    match (start.is_empty(), end.is_empty()) {
+        (true, true) => Ok(AsciiRange::Full),
+        (true, false) => Ok(AsciiRange::To(number_of(end)?)),
+        (false, true) => Ok(AsciiRange::From(number_of(start)?)),
+        (false, false) => Ok(AsciiRange::Range(number_of(start)?, number_of(end)?)),
+    }
+}
+
+/// The ends that a word is a script of.
+fn script_of(alloc: Global, word: &str) -> Result<Vec<End>, Fault> {
+    let mut ends = Vec::new(alloc);
+    if word == "-" {
+        return Ok(ends);
+    }
+    for letter in word.as_bytes() {
+        ends.push(end_of(*letter)?)?;
+    }
+    Ok(ends)
+}
+
+/// The end that a letter names.
+fn end_of(letter: u8) -> Result<End, Fault> {
+    match letter {
+        b'F' => Ok(End::Front),
+        b'B' => Ok(End::Back),
+        _ => Err(Fault::Bad),
+    }
+}

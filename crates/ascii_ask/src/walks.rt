@@ -1,0 +1,202 @@
+//! Walks over a text from both ends. The answers of the iterator stand apart by spaces, and for the empty script
+//! there is none; a piece or a line is `TEXT`, one with its start `START:TEXT`, where there is none `none`.
+//!
+//! - `walk_split CODE TEXT SCRIPT`, `walk_lines TEXT SCRIPT`: the pieces at a separator, the lines;
+//! - `walk_splitrests CODE TEXT SCRIPT`, `walk_linerests TEXT SCRIPT`: each answer with `/` and what is left then;
+//! - `walk_splitspans FROM CODE TEXT SCRIPT`, `walk_linespans FROM TEXT SCRIPT`: the same with starts, of a text
+//!   that starts at a place; behind a line stands how it ends, `:lf`, `:crlf` or `:none`;
+//! - `walk_chars TEXT SCRIPT`: each code with `/` and what is left.
+
+use crate::question::{Fault, Question, shown};
+use ascii::AsciiStr;
+use ascii::iter::{Ending, LineSpan, SplitSpan, take_end};
+use std::alloc::Global;
+
+pub fn reply(question: &Question<'_>, call: &str) -> Result<String, Fault> {
+    match call {
+        "split" => split(question),
+        "lines" => lines(question),
+        "splitrests" => split_rests(question),
+        "linerests" => line_rests(question),
+        "splitspans" => split_spans(question),
+        "linespans" => line_spans(question),
+        "chars" => chars(question),
+        _ => Err(Fault::Bad),
+    }
+}
+
+/// The answers of a walk, one behind the other.
+#[derive(Drop)]
+struct Answers {
+    alloc: Global,
+    said: String,
+}
+
+impl Answers {
+    fn new(alloc: Global) -> Answers {
+        Answers {
+            alloc,
+            said: String::new(alloc),
+        }
+    }
+
+    /// Begins an answer.
+    fn next(&mut self) -> Result<(), Fault> {
+        if !self.said.is_empty() {
+            self.said.push(' ')?;
+        }
+        Ok(())
+    }
+
+    fn view(&mut self, view: Option<AsciiStr<'_>>) -> Result<(), Fault> {
+        match view {
+            Some(view) => {
+                let text = shown(self.alloc, view.as_bytes())?;
+                self.said.push_str(text.as_str())?;
+            }
+            None => self.said.push_str("none")?,
+        }
+        Ok(())
+    }
+
+    fn placed(&mut self, placed: Option<(usize, AsciiStr<'_>)>) -> Result<(), Fault> {
+        match placed {
+            Some((start, view)) => {
+                let start = format!(in self.alloc; "{start}:")?;
+                self.said.push_str(start.as_str())?;
+                self.view(Some(view))
+            }
+            None => self.view(None),
+        }
+    }
+
+    fn text(&mut self, text: &str) -> Result<(), Fault> {
+        Ok(self.said.push_str(text)?)
+    }
+}
+
+fn split(question: &Question<'_>) -> Result<String, Fault> {
+    let on = question.char(0)?;
+    let source = question.text(1)?;
+    let mut answers = Answers::new(question.alloc);
+    let mut pieces = source.as_ascii_str().split(on);
+    for end in &question.script(2)? {
+        answers.next()?;
+        answers.view(take_end(&mut pieces, *end))?;
+    }
+    Ok(answers.said)
+}
+
+fn lines(question: &Question<'_>) -> Result<String, Fault> {
+    let source = question.text(0)?;
+    let mut answers = Answers::new(question.alloc);
+    let mut lines = source.as_ascii_str().lines();
+    for end in &question.script(1)? {
+        answers.next()?;
+        answers.view(take_end(&mut lines, *end))?;
+    }
+    Ok(answers.said)
+}
+
+fn split_rests(question: &Question<'_>) -> Result<String, Fault> {
+    let on = question.char(0)?;
+    let source = question.text(1)?;
+    let mut answers = Answers::new(question.alloc);
+    let mut pieces = source.as_ascii_str().split(on);
+    for end in &question.script(2)? {
+        answers.next()?;
+        answers.view(take_end(&mut pieces, *end))?;
+        answers.text("/")?;
+        answers.view(pieces.remainder())?;
+    }
+    Ok(answers.said)
+}
+
+fn line_rests(question: &Question<'_>) -> Result<String, Fault> {
+    let source = question.text(0)?;
+    let mut answers = Answers::new(question.alloc);
+    let mut lines = source.as_ascii_str().lines();
+    for end in &question.script(1)? {
+        answers.next()?;
+        answers.view(take_end(&mut lines, *end))?;
+        answers.text("/")?;
+        answers.view(lines.remainder())?;
+    }
+    Ok(answers.said)
+}
+
+fn split_spans(question: &Question<'_>) -> Result<String, Fault> {
+    let from = question.number(0)?;
+    let on = question.char(1)?;
+    let source = question.text(2)?;
+    let view = source.as_ascii_str();
+    if usize::MAX - from < view.len() {
+        return Err(Fault::Bad);
+    }
+    let mut answers = Answers::new(question.alloc);
+    let mut spans = view.split_spans_from(on, from);
+    for end in &question.script(3)? {
+        answers.next()?;
+        answers.placed(piece_parts(take_end(&mut spans, *end)))?;
+        answers.text("/")?;
+        answers.placed(spans.remainder())?;
+    }
+    Ok(answers.said)
+}
+
+fn piece_parts<'a>(span: Option<SplitSpan<'a>>) -> Option<(usize, AsciiStr<'a>)> {
+    let span = span?;
+    Some((span.start, span.text))
+}
+
+fn line_spans(question: &Question<'_>) -> Result<String, Fault> {
+    let from = question.number(0)?;
+    let source = question.text(1)?;
+    let view = source.as_ascii_str();
+    if usize::MAX - from < view.len() {
+        return Err(Fault::Bad);
+    }
+    let mut answers = Answers::new(question.alloc);
+    let mut spans = view.line_spans_from(from);
+    for end in &question.script(2)? {
+        let span = take_end(&mut spans, *end);
+        answers.next()?;
+        answers.placed(line_parts(span))?;
+        answers.text(ending(span))?;
+        answers.text("/")?;
+        answers.placed(spans.remainder())?;
+    }
+    Ok(answers.said)
+}
+
+fn line_parts<'a>(span: Option<LineSpan<'a>>) -> Option<(usize, AsciiStr<'a>)> {
+    let span = span?;
+    Some((span.start, span.text))
+}
+
+/// How a line ends.
+fn ending(span: Option<LineSpan<'_>>) -> &'static str {
+    match span {
+        Some(line) => match line.ending {
+            Ending::Lf => ":lf",
+            Ending::CrLf => ":crlf",
+            Ending::Absent => ":none",
+        },
+        None => "",
+    }
+}
+
+fn chars(question: &Question<'_>) -> Result<String, Fault> {
+    let source = question.text(0)?;
+    let mut answers = Answers::new(question.alloc);
+    let mut chars = source.as_ascii_str().chars();
+    for end in &question.script(1)? {
+        let ch = take_end(&mut chars, *end);
+        answers.next()?;
+        let code = ch.map_or(128, |ch| u32::from(ch.as_byte()));
+        let code = format!(in question.alloc; "{code}/")?;
+        answers.text(code.as_str())?;
+        answers.view(Some(chars.as_str()))?;
+    }
+    Ok(answers.said)
+}
