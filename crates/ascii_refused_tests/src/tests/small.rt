@@ -1,0 +1,244 @@
+//! The form that keeps short texts inline, whose memory is the program's, and runs over both forms.
+
+use super::each_block::{Left, Scarce, each_block};
+use super::each_growth::view;
+use ascii::{AsciiChar, AsciiRange};
+use ascii_run::{AsciiBuf, BothRuns, Cmd, SmallAsciiString, run, run_both};
+use linked_list_allocator::LocalHeap;
+use refusing::Refusing;
+use std::alloc::{AllocError, Global};
+use std::fmt::Write;
+use std::test::Fail;
+
+/// A text that just fits inline, and one in an allocation that is full.
+const STARTS: [&str; 2] = [
+    "abcdefghijklmnopqrstuvwx",
+    "abcdefghijklmnopqrstuvwxabcdefghijklmnopqrstuvwx",
+];
+
+/// A growth of a text past its room.
+fn grown(alloc: Global, start: &str, call: &str, left: Left) -> Result<String, AllocError> {
+    let mut string = SmallAsciiString::from_ascii_str(alloc, view(start))?;
+    let scarce = Scarce::but(alloc, left)?;
+    match call {
+        "push" => scarce.told(string.push(AsciiChar::y), &mut string),
+        "push_str" => scarce.told(string.push_str(view("yy")), &mut string),
+        "insert" => scarce.told(string.insert(0, AsciiChar::w), &mut string),
+        "insert_str" => scarce.told(string.insert_str(0, view("ww")), &mut string),
+        "reserve" if string.len() <= 100 => scarce.told(string.reserve(100), &mut string),
+        "write_str" => scarce.told(string.write_str("yy"), &mut string),
+        "write_char" => scarce.told(string.write_char('y'), &mut string),
+        _ => Err(AllocError),
+    }
+}
+
+#[test]
+fn text_stays(rt: HostRuntime) -> Result<(), Fail> {
+    let alloc = rt.alloc();
+    let rows: [(&str, &str, &str, &str); 7] = [
+        ("push", "AllocError", "", "y"),
+        ("push_str", "AllocError", "", "yy"),
+        ("insert", "AllocError", "w", ""),
+        ("insert_str", "AllocError", "ww", ""),
+        ("reserve", "AllocError", "", ""),
+        ("write_str", "Error", "", "yy"),
+        ("write_char", "Error", "", "y"),
+    ];
+    for start in STARTS {
+        for (call, refusal, before, behind) in rows {
+            let refused = format!(in alloc; "Err({refusal}) {start} {start}z")?;
+            let text = format!(in alloc; "{before}{start}{behind}")?;
+            let ample = format!(in alloc; "Ok(()) {text} {text}z")?;
+            let wanted = [refused.as_str(), ample.as_str()];
+            each_block(&rt, call, &wanted, |left| grown(alloc, start, call, left))?;
+        }
+    }
+    Ok(())
+}
+
+/// A call that makes a text out of another one, which stays or comes back.
+fn made(alloc: Global, start: &str, call: &str, left: Left) -> Result<String, AllocError> {
+    let string = SmallAsciiString::from_ascii_str(alloc, view(start))?;
+    let scarce = Scarce::but(alloc, left)?;
+    match call {
+        "from_ascii_str" => scarce.shown(SmallAsciiString::from_ascii_str(alloc, view(start))),
+        "clone" => {
+            let copy: Result<SmallAsciiString, _> = string.clone();
+            scarce.shown((copy, string))
+        }
+        "into_ascii_string" => scarce.shown(string.into_ascii_string()),
+        _ => Err(AllocError),
+    }
+}
+
+#[test]
+fn sources_stay(rt: HostRuntime) -> Result<(), Fail> {
+    let alloc = rt.alloc();
+    let [full, long] = STARTS;
+    let ample = format!(in alloc; "Ok({long:?})")?;
+    let wanted = ["Err(AllocError)", ample.as_str()];
+    each_block(&rt, "from_ascii_str", &wanted, |left| {
+        made(alloc, long, "from_ascii_str", left)
+    })?;
+    let refused = format!(in alloc; "(Err(AllocError), {long:?})")?;
+    let ample = format!(in alloc; "(Ok({long:?}), {long:?})")?;
+    each_block(&rt, "clone", &[refused.as_str(), ample.as_str()], |left| {
+        made(alloc, long, "clone", left)
+    })?;
+    let refused = format!(in alloc; "Err({full:?})")?;
+    let ample = format!(in alloc; "Ok({full:?})")?;
+    each_block(
+        &rt,
+        "into_ascii_string",
+        &[refused.as_str(), ample.as_str()],
+        |left| { made(alloc, full, "into_ascii_string", left) },
+    )
+}
+
+#[test]
+fn no_memory_for_short_texts(rt: HostRuntime) -> Result<(), Fail> {
+    let alloc = rt.alloc();
+    let [full, long] = STARTS;
+    let short = &full[..22];
+    for (call, before, behind) in [
+        ("push", "", "y"),
+        ("push_str", "", "yy"),
+        ("insert", "w", ""),
+        ("insert_str", "ww", ""),
+        ("write_str", "", "yy"),
+        ("write_char", "", "y"),
+    ] {
+        let text = format!(in alloc; "{before}{short}{behind}")?;
+        let ample = format!(in alloc; "Ok(()) {text} {text}z")?;
+        each_block(
+            &rt,
+            call,
+            &[ample.as_str()],
+            |left| grown(alloc, short, call, left),
+        )?;
+    }
+    for (call, start, ample) in [
+        ("from_ascii_str", full, format!(in alloc; "Ok({full:?})")?),
+        (
+            "clone",
+            full,
+            format!(in alloc; "(Ok({full:?}), {full:?})")?,
+        ),
+        (
+            "into_ascii_string",
+            long,
+            format!(in alloc; "Ok({long:?})")?,
+        ),
+    ] {
+        each_block(
+            &rt,
+            call,
+            &[ample.as_str()],
+            |left| made(alloc, start, call, left),
+        )?;
+    }
+    Ok(())
+}
+
+/// The replies of a run over a text that just fits inline, and the text at its end. The replies and copies have
+/// another heap, which refuses the growth behind `growths` others.
+fn ran(alloc: Global, cmds: &[Cmd<'_>], growths: u64, left: Left) -> Result<String, AllocError> {
+    let heap = Refusing::new(LocalHeap::new(alloc, 4096)?, growths);
+    let mut string = SmallAsciiString::from_ascii_str(alloc, view("aaaaaaaaaaaaaaaaaaaaaaaa"))?;
+    let scarce = Scarce::but(alloc, left)?;
+    let answer = run(&heap, &mut string, cmds);
+    scarce.told(answer, &mut string)
+}
+
+#[test]
+fn runs_go_on(rt: HostRuntime) -> Result<(), Fail> {
+    let alloc = rt.alloc();
+    let cmds = [
+        Cmd::Push(AsciiChar::b),
+        Cmd::Len,
+        Cmd::Pop,
+        Cmd::Push(AsciiChar::c),
+        Cmd::Len,
+    ];
+    let wanted = [
+        "Ok([NoMemory, Number(24), Char(Some('a')), Done, Number(24)]) aaaaaaaaaaaaaaaaaaaaaaac aaaaaaaaaaaaaaaaaaaaaaacz",
+        "Ok([Done, Number(25), Char(Some('b')), Done, Number(25)]) aaaaaaaaaaaaaaaaaaaaaaaac aaaaaaaaaaaaaaaaaaaaaaaacz",
+    ];
+    each_block(&rt, "run", &wanted, |left| ran(alloc, &cmds, 9, left))?;
+    let wanted = ["Err(AllocError) aaaaaaaaaaaaaaaaaaaaaaaa aaaaaaaaaaaaaaaaaaaaaaaaz"];
+    each_block(&rt, "run", &wanted, |left| ran(alloc, &cmds, 0, left))
+}
+
+#[test]
+fn runs_go_on_behind_each_growth(rt: HostRuntime) -> Result<(), Fail> {
+    let alloc = rt.alloc();
+    let cmds = [
+        Cmd::InsertStr(0, view("b")),
+        Cmd::Copy(AsciiRange::To(1)),
+        Cmd::Reserve(100),
+        Cmd::Shrink,
+        Cmd::Truncate(2),
+        Cmd::PushStr(view("c")),
+    ];
+    let wanted = [
+        "Ok([NoMemory, Text(\"a\"), NoMemory, Done, Done, Done]) aac aacz",
+        "Ok([NoMemory, Text(\"a\"), Done, Done, Done, Done]) aac aacz",
+        "Ok([Done, Text(\"b\"), NoMemory, Done, Done, Done]) bac bacz",
+        "Ok([Done, Text(\"b\"), Done, Done, Done, Done]) bac bacz",
+    ];
+    each_block(&rt, "run", &wanted, |left| ran(alloc, &cmds, 9, left))?;
+    let wanted = [
+        "Ok([NoMemory, NoMemory, NoMemory, Done, Done, Done]) aac aacz",
+        "Ok([NoMemory, NoMemory, Done, Done, Done, Done]) aac aacz",
+        "Ok([Done, NoMemory, NoMemory, Done, Done, Done]) bac bacz",
+        "Ok([Done, NoMemory, Done, Done, Done, Done]) bac bacz",
+    ];
+    each_block(&rt, "run", &wanted, |left| ran(alloc, &cmds, 1, left))
+}
+
+/// The replies and texts of a run over both forms.
+fn both_ran(alloc: Global, cmds: &[Cmd<'_>], left: Left) -> Result<String, AllocError> {
+    let scarce = Scarce::but(alloc, left)?;
+    match run_both(alloc, view("aaaaaaaaaaaaaaaaaaaaaaaa"), cmds) {
+        Ok(both) => {
+            let BothRuns {
+                replies,
+                string,
+                small_replies,
+                small,
+            } = both;
+            scarce.shown((replies, string, small_replies, small))
+        }
+        Err(error) => scarce.shown(error),
+    }
+}
+
+#[test]
+fn both_forms_go_on(rt: HostRuntime) -> Result<(), Fail> {
+    let alloc = rt.alloc();
+    let cmds = [
+        Cmd::Reserve(2_000),
+        Cmd::Pop,
+        Cmd::Push(AsciiChar::b),
+        Cmd::Len,
+    ];
+    let done = "[Done, Char(Some('a')), Done, Number(24)], \"aaaaaaaaaaaaaaaaaaaaaaab\"";
+    let refused = "[NoMemory, Char(Some('a')), Done, Number(24)], \"aaaaaaaaaaaaaaaaaaaaaaab\"";
+    let ample = format!(in alloc; "({done}, {done})")?;
+    let neither = format!(in alloc; "({refused}, {refused})")?;
+    let inline_refused = format!(in alloc; "({done}, {refused})")?;
+    let heap_refused = format!(in alloc; "({refused}, {done})")?;
+    let wanted = [
+        "AllocError",
+        neither.as_str(),
+        inline_refused.as_str(),
+        heap_refused.as_str(),
+        ample.as_str(),
+    ];
+    each_block(
+        &rt,
+        "run_both",
+        &wanted,
+        |left| both_ran(alloc, &cmds, left),
+    )
+}
