@@ -2,8 +2,8 @@
 //! lengths of the crates above.
 
 use ascii::iter::{End, walk_line_spans, walk_split_spans};
-use ascii::{AsciiChar, AsciiStr, AsciiString, CowAsciiStr, bytes};
-use ascii_run::{Input, Mode, Output, engine};
+use ascii::{AsciiChar, AsciiRange, AsciiStr, AsciiString, CowAsciiStr, bytes};
+use ascii_run::{AsciiBuf, Cmd, Input, Mode, Output, Reply, SmallAsciiString, engine, run_both};
 use std::alloc::Global;
 use std::fmt::Write;
 use std::process::Abort;
@@ -84,6 +84,58 @@ fn spans<R: Abort + AllocGlobal>(rt: &R, source: AsciiStr<'_>) -> Result<(), Fai
     Ok(())
 }
 
+/// Lets the inline form of the view grow by each of the edits, and turns it into a string.
+fn small<R: Abort + AllocGlobal>(rt: &R, source: AsciiStr<'_>) -> Result<(), Fail> {
+    let length = source.len();
+    assert!(rt; length <= 5_000);
+    let mut string = SmallAsciiString::from_ascii_str(rt.alloc(), source)?;
+    string.push(AsciiChar::b)?;
+    string.push_str(source)?;
+    string.insert(0, AsciiChar::b)?;
+    string.insert_str(0, source)?;
+    string.write_str(source.as_str())?;
+    string.write_char('b')?;
+    let grown = string.len();
+    assert_eq!(rt; grown, 4 * length + 3);
+    string.reserve(length)?;
+    assert!(rt; grown + length <= string.capacity());
+    let copy: SmallAsciiString = string.clone()?;
+    let Ok(owned) = copy.into_ascii_string() else {
+        return Err(Fail::from("no string"));
+    };
+    assert_eq!(rt; owned.as_ascii_str(), string.as_ascii_str());
+    Ok(())
+}
+
+/// Runs commands over both forms of the view, few with long texts and as many as the view is long.
+fn both<R: Abort + AllocGlobal>(rt: &R, source: AsciiStr<'_>) -> Result<(), Fail> {
+    let alloc = rt.alloc();
+    let length = source.len();
+    assert!(rt; length <= 5_000);
+    let few = [
+        Cmd::InsertStr(0, source),
+        Cmd::Insert(0, AsciiChar::b),
+        Cmd::Reserve(length),
+        Cmd::Shrink,
+        Cmd::Copy(AsciiRange::Full),
+    ];
+    let both = run_both(alloc, source, &few)?;
+    assert_eq!(rt;
+        (both.string.len(), both.small.len()),
+        (2 * length + 1, 2 * length + 1)
+    );
+    for replies in [&both.replies, &both.small_replies] {
+        assert!(rt; !replies.iter().any(|reply| matches!(reply, Reply::NoMemory)));
+    }
+    let many = vec![in alloc; Cmd::Push(AsciiChar::b); length]?;
+    let both = run_both(alloc, source, &many)?;
+    assert_eq!(rt;
+        (both.string.len(), both.small.len()),
+        (2 * length, 2 * length)
+    );
+    Ok(())
+}
+
 #[test]
 fn nothing_is_refused(rt: HostRuntime) -> Result<(), Fail> {
     for length in LENGTHS {
@@ -94,6 +146,8 @@ fn nothing_is_refused(rt: HostRuntime) -> Result<(), Fail> {
         grown(&rt, view)?;
         turned(&rt, view)?;
         spans(&rt, view)?;
+        small(&rt, view)?;
+        both(&rt, view)?;
     }
     Ok(())
 }
