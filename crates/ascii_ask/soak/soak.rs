@@ -29,7 +29,12 @@ struct Counts {
 
 /// Puts out batches of questions until the time is over. A batch is told before it is written, so that its answers
 /// are read while it is.
-fn ask(seed: u64, time: Duration, tell: Sender<Vec<Asked>>, mut questions: impl Write) -> std::io::Result<()> {
+fn ask(
+    seed: u64,
+    time: Duration,
+    tell: Sender<Vec<Asked>>,
+    mut questions: impl Write,
+) -> std::io::Result<()> {
     let mut random = Random::new(seed);
     let begin = Instant::now();
     while begin.elapsed() < time {

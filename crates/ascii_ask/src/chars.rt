@@ -12,6 +12,7 @@ use crate::question::{Fault, Question};
 use crate::slices::found;
 use ascii::{AsciiChar, ToAsciiChar, caret_decode, caret_encode};
 
+/// The answer to a question whose first word ends in `call`.
 pub fn reply(question: &Question<'_>, call: &str) -> Result<String, Fault> {
     match call {
         "from" => from(question),

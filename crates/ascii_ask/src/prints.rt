@@ -4,6 +4,7 @@
 use crate::question::{Fault, Question};
 use std::fmt;
 
+/// The answer to a question whose first word ends in `call`.
 pub fn reply(question: &Question<'_>, call: &str) -> Result<String, Fault> {
     let form = question.word(0)?;
     let printed = match call {

@@ -9,6 +9,7 @@
 use crate::question::{Fault, Question};
 use ascii::{AsAsciiStrError, AsciiChar, AsciiStr, bytes, text};
 
+/// The answer to a question whose first word ends in `call`.
 pub fn reply(question: &Question<'_>, call: &str) -> Result<String, Fault> {
     match call {
         "bytes" => of_bytes(question),

@@ -8,6 +8,7 @@
 use crate::question::{Fault, Question};
 use std::cmp::Ordering;
 
+/// The answer to a question whose first word ends in `call`.
 pub fn reply(question: &Question<'_>, call: &str) -> Result<String, Fault> {
     let source = question.text(0)?;
     let view = source.as_ascii_str();

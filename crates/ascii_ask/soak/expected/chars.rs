@@ -11,7 +11,10 @@ pub fn asked(random: &mut Random) -> (String, String) {
         2 => digit(random),
         3 => {
             let byte = random.below(256) as u8;
-            (format!("char_caret {byte}"), format!("{} {}", found(caret_encode(byte)), found(caret_decode(byte))))
+            (
+                format!("char_caret {byte}"),
+                format!("{} {}", found(caret_encode(byte)), found(caret_decode(byte))),
+            )
         }
         4 => case(random),
         _ => {
@@ -73,7 +76,8 @@ fn digit(random: &mut Random) -> (String, String) {
 
 fn case(random: &mut Random) -> (String, String) {
     let (first, second) = (char_of(random), char_of(random));
-    let second = if random.below(2) == 0 { second } else { AsciiChar::from_ascii(first.as_byte() ^ 0x20).unwrap() };
+    let second =
+        if random.below(2) == 0 { second } else { AsciiChar::from_ascii(first.as_byte() ^ 0x20).unwrap() };
     let (upper, lower) = (first.to_ascii_uppercase(), first.to_ascii_lowercase());
     let equal = first.eq_ignore_ascii_case(&second);
     let wanted = format!("{} {} {equal}", upper.as_byte(), lower.as_byte());

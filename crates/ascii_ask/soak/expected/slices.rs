@@ -32,7 +32,11 @@ fn range_word(form: usize, a: usize, b: usize) -> String {
 /// Two places, mostly in order.
 pub fn places_of(random: &mut Random, length: usize) -> (usize, usize) {
     let (a, b) = (random.place(length), random.place(length));
-    if a > b && random.below(8) > 0 { (b, a) } else { (a, b) }
+    if a > b && random.below(8) > 0 {
+        (b, a)
+    } else {
+        (a, b)
+    }
 }
 
 fn outcome(answer: Result<&AsciiStr, AsAsciiStrError>) -> String {

@@ -60,7 +60,11 @@ fn other(random: &mut Random, first: &[u8]) -> Vec<u8> {
     second
 }
 
-fn compared(random: &mut Random, call: &str, answer: impl Fn(&AsciiStr, &AsciiStr) -> String) -> (String, String) {
+fn compared(
+    random: &mut Random,
+    call: &str,
+    answer: impl Fn(&AsciiStr, &AsciiStr) -> String,
+) -> (String, String) {
     let first = random.text();
     let second = other(random, &first);
     let wanted = answer(first.as_ascii_str().unwrap(), second.as_ascii_str().unwrap());
@@ -79,7 +83,8 @@ pub fn compare(random: &mut Random) -> (String, String) {
     compared(random, "compare", |a, b| format!("{:?}", a.cmp(b)).to_lowercase())
 }
 
-const FORMS: [&str; 11] = ["-", ":?", ":7", ":>20", ":<20", ":*^33", ":.5", ":.0", ":10.3", ":->12.40", ":^1"];
+const FORMS: [&str; 11] =
+    ["-", ":?", ":7", ":>20", ":<20", ":*^33", ":.5", ":.0", ":10.3", ":->12.40", ":^1"];
 
 fn printed<T: Display + Debug + ?Sized>(form: &str, value: &T) -> String {
     let printed = match form {

@@ -8,11 +8,19 @@ use std::collections::VecDeque;
 
 /// A character that often stands in the text.
 fn separator(random: &mut Random, text: &[u8]) -> u8 {
-    if text.is_empty() || random.below(8) == 0 { random.below(128) as u8 } else { *random.pick(text) }
+    if text.is_empty() || random.below(8) == 0 {
+        random.below(128) as u8
+    } else {
+        *random.pick(text)
+    }
 }
 
 fn script_word(script: &str) -> &str {
-    if script.is_empty() { "-" } else { script }
+    if script.is_empty() {
+        "-"
+    } else {
+        script
+    }
 }
 
 fn taken<'a>(items: &mut impl DoubleEndedIterator<Item = &'a AsciiStr>, end: char) -> String {
@@ -75,7 +83,11 @@ fn lines_in(text: &[u8]) -> VecDeque<Item> {
 }
 
 /// Takes an item, and gives it with what is left then: where that starts, and its bytes.
-fn step<'a>(text: &'a [u8], items: &mut VecDeque<Item>, end: char) -> (Option<Item>, Option<(usize, &'a [u8])>) {
+fn step<'a>(
+    text: &'a [u8],
+    items: &mut VecDeque<Item>,
+    end: char,
+) -> (Option<Item>, Option<(usize, &'a [u8])>) {
     let item = if end == 'F' { items.pop_front() } else { items.pop_back() };
     let rest = match (items.front(), items.back()) {
         (Some(first), Some(last)) => Some((first.start, &text[first.start..last.behind])),
@@ -108,13 +120,22 @@ pub fn line_rests(random: &mut Random) -> (String, String) {
 }
 
 /// The same with starts, of a text that starts at a place.
-fn spans(text: &[u8], mut items: VecDeque<Item>, script: &str, from: usize, ending: fn(&[u8], Item) -> &'static str) -> String {
+fn spans(
+    text: &[u8],
+    mut items: VecDeque<Item>,
+    script: &str,
+    from: usize,
+    ending: fn(&[u8], Item) -> &'static str,
+) -> String {
     let said = script.chars().map(|end| {
         let (item, rest) = step(text, &mut items, end);
         let item = item.map_or("none".into(), |item| {
             format!("{}:{}{}", from + item.start, hex(&text[item.start..item.end]), ending(text, item))
         });
-        format!("{item}/{}", rest.map_or("none".into(), |(start, rest)| format!("{}:{}", from + start, hex(rest))))
+        format!(
+            "{item}/{}",
+            rest.map_or("none".into(), |(start, rest)| format!("{}:{}", from + start, hex(rest)))
+        )
     });
     said.collect::<Vec<String>>().join(" ")
 }
