@@ -1,0 +1,175 @@
+//! Calls that bench/ measures, for a driver that is not Rattle. Each goes through all of its bytes in one
+//! call, so that what it takes is the loop and not the way into the library.
+#![tactic(auto)]
+
+ghost use Rattle.std.specs.Prelude.{◌≡◌, ◌↔◌, ℕ, IsTrue, List, length, map};
+ghost use Rattle.std.specs.Str.{IsAscii};
+ghost use Rattle.ascii_base.specs.Case.{lower_image, upper_image};
+ghost use Rattle.ascii.specs.Trim.{Trims};
+
+use ascii::{AsciiChar, AsciiStr, AsciiString, bytes};
+use ascii_run::{AsciiBuf, SmallAsciiString};
+use std::alloc::{AllocError, Global};
+
+/// Whether all bytes are ASCII.
+#[unsafe(no_mangle)]
+pub extern "C" fn ascii_bench_accept(source: &[u8]) -> bool
+    ensures { IsTrue result ↔ IsAscii source.now }
+{
+    bytes::as_ascii_str(source).is_ok()
+}
+
+/// Changes the letters of a text to upper case.
+#[unsafe(no_mangle)]
+pub extern "C" fn ascii_bench_upper(source: &mut [u8])
+    requires { IsAscii source.old }
+    ensures { source.new ≡ map upper_image source.old }
+{
+    bytes::as_mut_ascii_str_unchecked(source).make_ascii_uppercase();
+}
+
+/// Whether two texts are equal when the case of letters does not count.
+#[unsafe(no_mangle)]
+pub extern "C" fn ascii_bench_equal(first: &[u8], second: &[u8]) -> bool
+    requires first { IsAscii first.now }
+    requires second { IsAscii second.now }
+    ensures { IsTrue result ↔ (map lower_image first.now ≡ map lower_image second.now) }
+{
+    bytes::as_ascii_str_unchecked(first).eq_ignore_ascii_case(bytes::as_ascii_str_unchecked(second))
+}
+
+/// The length of a text without the white space at its ends.
+#[unsafe(no_mangle)]
+pub extern "C" fn ascii_bench_trim(source: &[u8]) -> usize
+    requires { IsAscii source.now }
+    ensures { (trimmed : List ℕ) × Trims source.now trimmed × (result ≡ length trimmed) }
+{
+    bytes::as_ascii_str_unchecked(source).trim().len()
+}
+
+/// The lengths of the lines of a text, mixed in the order in which they are met.
+#[unsafe(no_mangle)]
+pub extern "C" fn ascii_bench_lines(source: &[u8], from_back: bool) -> usize
+    requires { IsAscii source.now }
+{
+    let view = bytes::as_ascii_str_unchecked(source);
+    let mut sum: usize = 0;
+    if from_back {
+        for line in view.lines().rev() {
+            sum = mixed(sum, line.len());
+        }
+    } else {
+        for line in view.lines() {
+            sum = mixed(sum, line.len());
+        }
+    }
+    sum
+}
+
+/// The lengths of the pieces of a text between commas, mixed in their order.
+#[unsafe(no_mangle)]
+pub extern "C" fn ascii_bench_split(source: &[u8]) -> usize
+    requires { IsAscii source.now }
+{
+    let mut sum: usize = 0;
+    for piece in bytes::as_ascii_str_unchecked(source).split(AsciiChar::Comma) {
+        sum = mixed(sum, piece.len());
+    }
+    sum
+}
+
+/// The sum of the codes of a text.
+#[unsafe(no_mangle)]
+pub extern "C" fn ascii_bench_chars(source: &[u8]) -> usize
+    requires { IsAscii source.now }
+{
+    let mut sum: usize = 0;
+    for ch in bytes::as_ascii_str_unchecked(source).chars() {
+        sum = sum.wrapping_add(ch.as_byte() as usize);
+    }
+    sum
+}
+
+/// A text out of the characters of another, in upper case: its mark, or 0 where memory is refused.
+#[unsafe(no_mangle)]
+pub extern "C" fn ascii_bench_collect(alloc: Global, source: &[u8]) -> usize
+    requires { IsAscii source.now }
+{
+    let chars = bytes::as_ascii_str_unchecked(source).chars();
+    match AsciiString::collect_chars(alloc, chars.map(|ch| ch.to_ascii_uppercase())) {
+        Ok(string) => mark(string.as_ascii_str()),
+        Err(_) => 0,
+    }
+}
+
+/// A text to which the characters of another are pushed one by one, on the heap or inline while it is
+/// short: its mark, or 0 where memory is refused.
+#[unsafe(no_mangle)]
+pub extern "C" fn ascii_bench_push(alloc: Global, source: &[u8], inline: bool) -> usize
+    requires { IsAscii source.now }
+{
+    let view = bytes::as_ascii_str_unchecked(source);
+    if inline {
+        pushed(SmallAsciiString::new(alloc), view)
+    } else {
+        pushed(AsciiString::new(alloc), view)
+    }
+}
+
+/// Copies in lower case of the pieces of a text between commas, each made and let go in turn, on the
+/// heap or inline while it is short: their marks, mixed, with 0 where memory is refused.
+#[unsafe(no_mangle)]
+pub extern "C" fn ascii_bench_names(alloc: Global, source: &[u8], inline: bool) -> usize
+    requires { IsAscii source.now }
+{
+    let pieces = bytes::as_ascii_str_unchecked(source).split(AsciiChar::Comma);
+    let mut sum: usize = 0;
+    if inline {
+        for piece in pieces {
+            sum = mixed(sum, lowered(SmallAsciiString::from_ascii_str(alloc, piece)));
+        }
+    } else {
+        for piece in pieces {
+            sum = mixed(sum, lowered(piece.to_ascii_string(alloc)));
+        }
+    }
+    sum
+}
+
+/// The mark of a text with the characters of a view behind it, or 0 where memory is refused.
+#[inline(always)]
+fn pushed<B: AsciiBuf + Drop>(buf: B, view: AsciiStr<'_>) -> usize {
+    let mut buf = buf;
+    for ch in view.chars() {
+        if buf.push(ch).is_err() {
+            return 0;
+        }
+    }
+    mark(buf.as_ascii_str())
+}
+
+/// The mark of a text in lower case, or 0 where it was refused memory.
+#[inline(always)]
+fn lowered<B: AsciiBuf + Drop>(made: Result<B, AllocError>) -> usize {
+    match made {
+        Ok(buf) => {
+            let mut buf = buf;
+            buf.make_ascii_lowercase();
+            mark(buf.as_ascii_str())
+        }
+        Err(_) => 0,
+    }
+}
+
+/// The length and the last code of a text in one number, for which the whole text has to be made.
+#[inline(always)]
+fn mark(view: AsciiStr<'_>) -> usize {
+    let last = view.last().map_or(0, |ch| ch.as_byte());
+    view.len().wrapping_mul(128).wrapping_add(last as usize)
+}
+
+/// A sum with one number more, in which the order counts.
+#[inline(always)]
+fn mixed(sum: usize, number: usize) -> usize {
+    sum.wrapping_mul(31).wrapping_add(number)
+}
