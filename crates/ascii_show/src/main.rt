@@ -8,15 +8,17 @@ ghost use Rattle.ascii_show.specs.Status.{status_of};
 
 mod arguments;
 mod failure;
+mod words;
 
 use arguments::request_of;
 use arrayvec::ArrayString;
 use ascii_run::{EngineFault, Input, Output, engine};
 use failure::Failure;
-use std::alloc::{AllocError, Allocator};
+use std::alloc::Allocator;
 use std::fmt::Write as _;
+use std::io;
 use std::process::ExitCode;
-use std::{env, io};
+use words::read_words;
 
 /// Runs the words after the program's name: reads `input`, writes `output`, and writes one line to
 /// `errors` where it fails. The answer is the status: 0 done, 1 not ASCII, 2 a fault in the words,
@@ -69,17 +71,8 @@ fn run_words<A: Allocator + Copy, I: io::Read + Drop, O: io::Write + Drop>(
     Ok(())
 }
 
-/// The words after the program's name. Words that are no text are taken as none.
-fn words(rt: &HostRuntime) -> Result<Vec<String>, AllocError> {
-    match env::args(rt) {
-        Ok(args) => args.skip(1).collect(rt.alloc()),
-        Err(e) if e.kind() == io::ErrorKind::OutOfMemory => Err(AllocError),
-        Err(_) => Ok(Vec::new(rt.alloc())),
-    }
-}
-
 fn main(rt: HostRuntime) -> ExitCode {
-    let status = match words(&rt) {
+    let status = match read_words(&rt) {
         Ok(words) => show(
             rt.alloc(),
             &words,
