@@ -1,0 +1,254 @@
+//! Measures single calls, and writes a line for each: what is called, the number of bytes, the side,
+//! nanoseconds.
+//! usage: calls ROUNDS MICROSECONDS SIZE,..
+//!
+//! A round lasts so many microseconds at least, and the least of the rounds counts.
+
+mod peers;
+mod texts;
+
+use peers::{by_crate, by_memchr, by_std, memory, ours};
+use std::hint::black_box;
+use std::time::{Duration, Instant};
+
+/// One side of a comparison: its name, its answer, and a loop over its call.
+struct Side<'a> {
+    name: &'static str,
+    answer: usize,
+    repeat: Box<dyn FnMut(usize) + 'a>,
+}
+
+impl<'a> Side<'a> {
+    /// A call that reads, and gives its answer each time.
+    fn reads(name: &'static str, call: impl Fn() -> usize + 'a) -> Side<'a> {
+        Side {
+            name,
+            answer: call(),
+            repeat: Box::new(move |times| {
+                for _ in 0..times {
+                    black_box(call());
+                }
+            }),
+        }
+    }
+
+    /// A call that writes into a copy of a text of its own; the answer is what stands there after the
+    /// first time.
+    fn writes(name: &'static str, text: &[u8], call: impl Fn(&mut [u8]) + 'a) -> Side<'a> {
+        let mut target = text.to_vec();
+        call(&mut target);
+        Side {
+            name,
+            answer: target.iter().fold(0, |sum, byte| {
+                sum.wrapping_mul(31).wrapping_add(*byte as usize)
+            }),
+            repeat: Box::new(move |times| {
+                for _ in 0..times {
+                    call(black_box(&mut target));
+                }
+            }),
+        }
+    }
+}
+
+/// How the sides are measured.
+struct Clock {
+    rounds: usize,
+    least: Duration,
+}
+
+impl Clock {
+    /// How often the call is repeated, so that a round lasts long enough.
+    fn times(&self, side: &mut Side) -> usize {
+        let mut times = 1;
+        loop {
+            let start = Instant::now();
+            (side.repeat)(times);
+            if start.elapsed() >= self.least {
+                return times;
+            }
+            times *= 2;
+        }
+    }
+
+    /// Compares the answers, and measures the sides in turn, round by round.
+    fn compare(&self, call: &str, size: usize, mut sides: Vec<Side>) {
+        for side in &sides {
+            if side.answer != sides[0].answer {
+                eprintln!(
+                    "calls: {call}, {size} bytes: {} answers otherwise than {}",
+                    side.name, sides[0].name
+                );
+                std::process::exit(1);
+            }
+        }
+        let times: Vec<usize> = sides.iter_mut().map(|side| self.times(side)).collect();
+        let mut best = vec![f64::MAX; sides.len()];
+        for _ in 0..self.rounds {
+            for (place, side) in sides.iter_mut().enumerate() {
+                let start = Instant::now();
+                (side.repeat)(times[place]);
+                best[place] =
+                    best[place].min(start.elapsed().as_nanos() as f64 / times[place] as f64);
+            }
+        }
+        for (side, nanoseconds) in sides.iter().zip(best) {
+            println!("{call}\t{size}\t{}\t{nanoseconds:.2}", side.name);
+        }
+    }
+}
+
+/// The same function of several sides over one text, as a list.
+macro_rules! sides {
+    ($text:ident: $($name:literal $side:ident::$call:ident),*) => {
+        vec![$(Side::reads($name, || $side::$call(black_box($text)))),*]
+    };
+}
+
+fn checks(clock: &Clock, size: usize) {
+    let text = &texts::letters(size)[..];
+    clock.compare(
+        "accept",
+        size,
+        sides![text: "ours" ours::accept, "crate" by_crate::accept, "std" by_std::accept],
+    );
+    let mut refused = text.to_vec();
+    refused[size - 1] = 200;
+    let text = &refused[..];
+    clock.compare(
+        "accept, last byte refused",
+        size,
+        sides![text:
+        "ours" ours::accept, "crate" by_crate::accept, "std" by_std::accept],
+    );
+}
+
+fn cases(clock: &Clock, size: usize) {
+    let text = &texts::letters(size)[..];
+    clock.compare(
+        "upper",
+        size,
+        vec![
+            Side::writes("ours", text, ours::upper),
+            Side::writes("crate", text, by_crate::upper),
+            Side::writes("std", text, by_std::upper),
+        ],
+    );
+    clock.compare(
+        "memcpy",
+        size,
+        vec![Side::writes("memcpy", text, |target| {
+            memory::copy(black_box(text), target)
+        })],
+    );
+    let raised = &text.to_ascii_uppercase()[..];
+    clock.compare(
+        "equal",
+        size,
+        vec![
+            Side::reads("ours", || ours::equal(black_box(text), black_box(raised))),
+            Side::reads("crate", || {
+                by_crate::equal(black_box(text), black_box(raised))
+            }),
+            Side::reads("std", || by_std::equal(black_box(text), black_box(raised))),
+        ],
+    );
+    let mut other = raised.to_vec();
+    other[0] = b'%';
+    let other = &other[..];
+    clock.compare(
+        "equal, first byte differs",
+        size,
+        vec![
+            Side::reads("ours", || ours::equal(black_box(text), black_box(other))),
+            Side::reads("crate", || {
+                by_crate::equal(black_box(text), black_box(other))
+            }),
+            Side::reads("std", || by_std::equal(black_box(text), black_box(other))),
+        ],
+    );
+    let text = &texts::blank_but_the_middle(size)[..];
+    clock.compare(
+        "trim",
+        size,
+        sides![text: "ours" ours::trim, "crate" by_crate::trim, "std" by_std::trim],
+    );
+}
+
+fn walks(clock: &Clock, size: usize) {
+    for mean in [10, 60, 1000] {
+        if size < mean {
+            continue;
+        }
+        let text = &texts::marked(size, mean as u64, b'\n')[..];
+        clock.compare(&format!("lines of {mean}"), size, sides![text:
+            "ours" ours::lines, "crate" by_crate::lines, "std" by_std::lines, "memchr" by_memchr::lines]);
+        clock.compare(
+            &format!("lines of {mean}, from the back"),
+            size,
+            sides![text:
+            "ours" ours::lines_back, "crate" by_crate::lines_back, "std" by_std::lines_back,
+            "memchr" by_memchr::lines_back],
+        );
+    }
+    let text = &texts::marked(size, 9, b',')[..];
+    clock.compare("split", size, sides![text:
+        "ours" ours::split, "crate" by_crate::split, "std" by_std::split, "memchr" by_memchr::split]);
+    clock.compare(
+        "chars",
+        size,
+        sides![text: "ours" ours::chars, "crate" by_crate::chars, "std" by_std::chars],
+    );
+}
+
+fn owned(clock: &Clock, size: usize) {
+    let text = &texts::marked(size, 9, b',')[..];
+    clock.compare(
+        "collect",
+        size,
+        sides![text:
+        "ours" ours::collect, "crate" by_crate::collect, "std" by_std::collect],
+    );
+    clock.compare(
+        "push",
+        size,
+        sides![text: "ours" ours::push, "crate" by_crate::push, "std" by_std::push],
+    );
+    clock.compare(
+        "push, inline",
+        size,
+        sides![text:
+        "ours" ours::push_inline, "crate" by_crate::push, "std" by_std::push],
+    );
+    clock.compare(
+        "names",
+        size,
+        sides![text: "ours" ours::names, "crate" by_crate::names, "std" by_std::names],
+    );
+    clock.compare(
+        "names, inline",
+        size,
+        sides![text:
+        "ours" ours::names_inline, "crate" by_crate::names, "std" by_std::names],
+    );
+}
+
+fn main() {
+    let words: Vec<String> = std::env::args().collect();
+    let [_, rounds, microseconds, sizes] = &words[..] else {
+        eprintln!("usage: calls ROUNDS MICROSECONDS SIZE,..");
+        std::process::exit(2);
+    };
+    let number = |word: &str| word.parse::<usize>().expect("a number");
+    let clock = Clock {
+        rounds: number(rounds),
+        least: Duration::from_micros(number(microseconds) as u64),
+    };
+    for size in sizes.split(',').map(number) {
+        eprintln!("calls over {size} bytes");
+        checks(&clock, size);
+        cases(&clock, size);
+        walks(&clock, size);
+        owned(&clock, size);
+    }
+}

@@ -1,0 +1,337 @@
+//! What is measured, by the library of this repository, the Rust crate, std and the crate memchr. A function
+//! of one name does the same work and gives the same answer on each side. Each is called and not inlined, as
+//! those of our library are, and goes through all of its bytes in one call. A text is taken as checked on
+//! every side.
+
+/// A sum with one number more, in which the order counts.
+fn mixed(sum: usize, number: usize) -> usize {
+    sum.wrapping_mul(31).wrapping_add(number)
+}
+
+/// The length and the last byte of a text in one number.
+fn mark(text: &[u8]) -> usize {
+    text.len()
+        .wrapping_mul(128)
+        .wrapping_add(text.last().map_or(0, |byte| *byte as usize))
+}
+
+pub mod ours {
+    //! The exports of crates/ascii_bench.
+
+    mod exports {
+        extern "C" {
+            pub fn ascii_bench_accept(source: *const u8, length: usize) -> bool;
+            pub fn ascii_bench_upper(source: *mut u8, length: usize);
+            pub fn ascii_bench_equal(
+                first: *const u8,
+                length: usize,
+                second: *const u8,
+                length: usize,
+            ) -> bool;
+            pub fn ascii_bench_trim(source: *const u8, length: usize) -> usize;
+            pub fn ascii_bench_lines(source: *const u8, length: usize, from_back: bool) -> usize;
+            pub fn ascii_bench_split(source: *const u8, length: usize) -> usize;
+            pub fn ascii_bench_chars(source: *const u8, length: usize) -> usize;
+            pub fn ascii_bench_collect(source: *const u8, length: usize) -> usize;
+            pub fn ascii_bench_push(source: *const u8, length: usize, inline: bool) -> usize;
+            pub fn ascii_bench_names(source: *const u8, length: usize, inline: bool) -> usize;
+        }
+    }
+
+    use exports::*;
+
+    #[inline(always)]
+    pub fn accept(source: &[u8]) -> usize {
+        unsafe { ascii_bench_accept(source.as_ptr(), source.len()) as usize }
+    }
+
+    #[inline(always)]
+    pub fn upper(source: &mut [u8]) {
+        unsafe { ascii_bench_upper(source.as_mut_ptr(), source.len()) }
+    }
+
+    #[inline(always)]
+    pub fn equal(first: &[u8], second: &[u8]) -> usize {
+        unsafe {
+            ascii_bench_equal(first.as_ptr(), first.len(), second.as_ptr(), second.len()) as usize
+        }
+    }
+
+    #[inline(always)]
+    pub fn trim(source: &[u8]) -> usize {
+        unsafe { ascii_bench_trim(source.as_ptr(), source.len()) }
+    }
+
+    #[inline(always)]
+    pub fn lines(source: &[u8]) -> usize {
+        unsafe { ascii_bench_lines(source.as_ptr(), source.len(), false) }
+    }
+
+    #[inline(always)]
+    pub fn lines_back(source: &[u8]) -> usize {
+        unsafe { ascii_bench_lines(source.as_ptr(), source.len(), true) }
+    }
+
+    #[inline(always)]
+    pub fn split(source: &[u8]) -> usize {
+        unsafe { ascii_bench_split(source.as_ptr(), source.len()) }
+    }
+
+    #[inline(always)]
+    pub fn chars(source: &[u8]) -> usize {
+        unsafe { ascii_bench_chars(source.as_ptr(), source.len()) }
+    }
+
+    #[inline(always)]
+    pub fn collect(source: &[u8]) -> usize {
+        unsafe { ascii_bench_collect(source.as_ptr(), source.len()) }
+    }
+
+    #[inline(always)]
+    pub fn push(source: &[u8]) -> usize {
+        unsafe { ascii_bench_push(source.as_ptr(), source.len(), false) }
+    }
+
+    #[inline(always)]
+    pub fn push_inline(source: &[u8]) -> usize {
+        unsafe { ascii_bench_push(source.as_ptr(), source.len(), true) }
+    }
+
+    #[inline(always)]
+    pub fn names(source: &[u8]) -> usize {
+        unsafe { ascii_bench_names(source.as_ptr(), source.len(), false) }
+    }
+
+    #[inline(always)]
+    pub fn names_inline(source: &[u8]) -> usize {
+        unsafe { ascii_bench_names(source.as_ptr(), source.len(), true) }
+    }
+}
+
+pub mod by_crate {
+    //! The Rust crate `ascii`.
+
+    use super::{mark, mixed};
+    use ascii::{AsAsciiStr, AsMutAsciiStr, AsciiChar, AsciiStr, AsciiString};
+
+    fn text(source: &[u8]) -> &AsciiStr {
+        unsafe { AsciiStr::from_ascii_unchecked(source) }
+    }
+
+    #[inline(never)]
+    pub fn accept(source: &[u8]) -> usize {
+        source.as_ascii_str().is_ok() as usize
+    }
+
+    #[inline(never)]
+    pub fn upper(source: &mut [u8]) {
+        unsafe { source.as_mut_ascii_str_unchecked() }.make_ascii_uppercase()
+    }
+
+    #[inline(never)]
+    pub fn equal(first: &[u8], second: &[u8]) -> usize {
+        text(first).eq_ignore_ascii_case(text(second)) as usize
+    }
+
+    #[inline(never)]
+    pub fn trim(source: &[u8]) -> usize {
+        text(source).trim().len()
+    }
+
+    #[inline(never)]
+    pub fn lines(source: &[u8]) -> usize {
+        text(source)
+            .lines()
+            .fold(0, |sum, line| mixed(sum, line.len()))
+    }
+
+    #[inline(never)]
+    pub fn lines_back(source: &[u8]) -> usize {
+        text(source)
+            .lines()
+            .rev()
+            .fold(0, |sum, line| mixed(sum, line.len()))
+    }
+
+    #[inline(never)]
+    pub fn split(source: &[u8]) -> usize {
+        text(source)
+            .split(AsciiChar::Comma)
+            .fold(0, |sum, piece| mixed(sum, piece.len()))
+    }
+
+    #[inline(never)]
+    pub fn chars(source: &[u8]) -> usize {
+        text(source)
+            .chars()
+            .fold(0, |sum, ch| sum.wrapping_add(ch.as_byte() as usize))
+    }
+
+    #[inline(never)]
+    pub fn collect(source: &[u8]) -> usize {
+        let made: AsciiString = text(source)
+            .chars()
+            .map(|ch| ch.to_ascii_uppercase())
+            .collect();
+        mark(made.as_bytes())
+    }
+
+    #[inline(never)]
+    pub fn push(source: &[u8]) -> usize {
+        let mut made = AsciiString::new();
+        for ch in text(source).chars() {
+            made.push(ch);
+        }
+        mark(made.as_bytes())
+    }
+
+    #[inline(never)]
+    pub fn names(source: &[u8]) -> usize {
+        let pieces = text(source).split(AsciiChar::Comma);
+        pieces.fold(0, |sum, piece| {
+            mixed(sum, mark(piece.to_ascii_lowercase().as_bytes()))
+        })
+    }
+}
+
+pub mod by_std {
+    //! std: slices of bytes, `str` and `String`.
+
+    use super::{mark, mixed};
+
+    fn text(source: &[u8]) -> &str {
+        unsafe { std::str::from_utf8_unchecked(source) }
+    }
+
+    #[inline(never)]
+    pub fn accept(source: &[u8]) -> usize {
+        source.is_ascii() as usize
+    }
+
+    #[inline(never)]
+    pub fn upper(source: &mut [u8]) {
+        source.make_ascii_uppercase()
+    }
+
+    #[inline(never)]
+    pub fn equal(first: &[u8], second: &[u8]) -> usize {
+        first.eq_ignore_ascii_case(second) as usize
+    }
+
+    #[inline(never)]
+    pub fn trim(source: &[u8]) -> usize {
+        text(source)
+            .trim_matches([' ', '\t', '\n', '\x0b', '\x0c', '\r'])
+            .len()
+    }
+
+    #[inline(never)]
+    pub fn lines(source: &[u8]) -> usize {
+        text(source)
+            .lines()
+            .fold(0, |sum, line| mixed(sum, line.len()))
+    }
+
+    #[inline(never)]
+    pub fn lines_back(source: &[u8]) -> usize {
+        text(source)
+            .lines()
+            .rev()
+            .fold(0, |sum, line| mixed(sum, line.len()))
+    }
+
+    #[inline(never)]
+    pub fn split(source: &[u8]) -> usize {
+        text(source)
+            .split(',')
+            .fold(0, |sum, piece| mixed(sum, piece.len()))
+    }
+
+    #[inline(never)]
+    pub fn chars(source: &[u8]) -> usize {
+        text(source)
+            .bytes()
+            .fold(0, |sum, byte| sum.wrapping_add(byte as usize))
+    }
+
+    #[inline(never)]
+    pub fn collect(source: &[u8]) -> usize {
+        let made: String = text(source)
+            .chars()
+            .map(|ch| ch.to_ascii_uppercase())
+            .collect();
+        mark(made.as_bytes())
+    }
+
+    #[inline(never)]
+    pub fn push(source: &[u8]) -> usize {
+        let mut made = String::new();
+        for ch in text(source).chars() {
+            made.push(ch);
+        }
+        mark(made.as_bytes())
+    }
+
+    #[inline(never)]
+    pub fn names(source: &[u8]) -> usize {
+        let pieces = text(source).split(',');
+        pieces.fold(0, |sum, piece| {
+            mixed(sum, mark(piece.to_ascii_lowercase().as_bytes()))
+        })
+    }
+}
+
+pub mod by_memchr {
+    //! Bare loops over the Rust crate `memchr`.
+
+    use super::mixed;
+    use memchr::{memchr, memrchr};
+
+    #[inline(never)]
+    pub fn lines(source: &[u8]) -> usize {
+        let (mut sum, mut rest) = (0, source);
+        while !rest.is_empty() {
+            let (line, others) = match memchr(b'\n', rest) {
+                Some(place) => (&rest[..place], &rest[place + 1..]),
+                None => (rest, &rest[rest.len()..]),
+            };
+            let has_cr = others.len() + line.len() < rest.len() && line.last() == Some(&b'\r');
+            sum = mixed(sum, line.len() - has_cr as usize);
+            rest = others;
+        }
+        sum
+    }
+
+    #[inline(never)]
+    pub fn lines_back(source: &[u8]) -> usize {
+        let (mut sum, mut rest) = (0, source);
+        while let Some((last, front)) = rest.split_last() {
+            let is_ended = *last == b'\n';
+            let line = if is_ended { front } else { rest };
+            let start = memrchr(b'\n', line).map_or(0, |place| place + 1);
+            let has_cr = is_ended && line[start..].last() == Some(&b'\r');
+            sum = mixed(sum, line.len() - start - has_cr as usize);
+            rest = &rest[..start];
+        }
+        sum
+    }
+
+    #[inline(never)]
+    pub fn split(source: &[u8]) -> usize {
+        let (mut sum, mut rest) = (0, source);
+        while let Some(place) = memchr(b',', rest) {
+            sum = mixed(sum, place);
+            rest = &rest[place + 1..];
+        }
+        mixed(sum, rest.len())
+    }
+}
+
+pub mod memory {
+    //! The C library's `memcpy`, as the limit of what goes through memory once.
+
+    #[inline(never)]
+    pub fn copy(source: &[u8], target: &mut [u8]) {
+        target.copy_from_slice(source)
+    }
+}

@@ -1,0 +1,208 @@
+//! Measures whole programs over a text on standard input, and writes a line for each: the mode, the mean
+//! length of a line, the program, milliseconds of processor time (user and system), kilobytes of memory at
+//! the peak.
+//! usage: programs ROUNDS BYTES FOLDER OURS BY_CRATE [cat] [tac] [iconv] [jq]
+//!
+//! The memory of a program that is started counts from what its starter had, so this one goes through texts
+//! and outputs by small parts.
+
+#[allow(dead_code)] // the texts of calls.rs are whole, these are written as they are made
+mod texts;
+
+use std::fs::File;
+use std::io::{BufReader, BufWriter, Read, Write};
+use std::process::{exit, Command, Stdio};
+
+/// What the C library tells of a process that has ended (`struct rusage`): times as seconds and microseconds.
+#[repr(C)]
+struct Usage {
+    user: [i64; 2],
+    system: [i64; 2],
+    peak: i64,
+    others: [i64; 13],
+}
+
+extern "C" {
+    fn wait4(process: i32, status: *mut i32, options: i32, usage: *mut Usage) -> i32;
+}
+
+/// A program with its words.
+struct Program {
+    mode: &'static str,
+    name: String,
+    command: Vec<String>,
+    best: f64,
+    peak: i64,
+}
+
+impl Program {
+    fn new(mode: &'static str, name: &str, command: &[&str]) -> Program {
+        let command = command.iter().map(|word| word.to_string()).collect();
+        Program {
+            mode,
+            name: name.to_string(),
+            command,
+            best: f64::MAX,
+            peak: 0,
+        }
+    }
+
+    /// Runs the program over the text: milliseconds of processor time, and kilobytes at the peak.
+    fn run(&self, text: &str, output: Stdio) -> (f64, i64) {
+        let input = File::open(text).expect("the text is there");
+        let mut command = Command::new(&self.command[0]);
+        let child = command
+            .args(&self.command[1..])
+            .stdin(input)
+            .stdout(output)
+            .spawn();
+        let child = child.unwrap_or_else(|error| self.give_up(&error.to_string()));
+        let mut usage = Usage {
+            user: [0; 2],
+            system: [0; 2],
+            peak: 0,
+            others: [0; 13],
+        };
+        let mut status = 0;
+        let waited = unsafe { wait4(child.id() as i32, &mut status, 0, &mut usage) };
+        if waited < 0 || status != 0 {
+            self.give_up("it did not end well");
+        }
+        let seconds = (usage.user[0] + usage.system[0]) as f64;
+        (
+            seconds * 1e3 + (usage.user[1] + usage.system[1]) as f64 / 1e3,
+            usage.peak,
+        )
+    }
+
+    fn give_up(&self, why: &str) -> ! {
+        eprintln!("programs: {}: {why}", self.command.join(" "));
+        exit(1)
+    }
+}
+
+/// A text of lines: letters, a LF for one in `mean`, an escape character for one in 1,000, and a LF at the
+/// end.
+fn write_text(path: &str, bytes: usize, mean: u64) -> std::io::Result<()> {
+    let mut numbers = texts::Numbers::new(mean);
+    let mut file = BufWriter::new(File::create(path)?);
+    let mut left = numbers.under(2 * mean - 1);
+    for _ in 1..bytes {
+        let byte = match left {
+            0 => b'\n',
+            _ if numbers.under(1000) == 0 => 27,
+            _ => numbers.letter(),
+        };
+        left = if left == 0 {
+            numbers.under(2 * mean - 1)
+        } else {
+            left - 1
+        };
+        file.write_all(&[byte])?;
+    }
+    file.write_all(b"\n")?;
+    file.flush()
+}
+
+/// Whether two files are equal, but for one LF that may stand at the end of the second.
+fn agree(first: &str, second: &str) -> std::io::Result<bool> {
+    let (mut first, mut second) = (
+        BufReader::new(File::open(first)?),
+        BufReader::new(File::open(second)?),
+    );
+    let (mut mine, mut theirs) = ([0; 4096], [0; 4096]);
+    loop {
+        let length = first.read(&mut mine)?;
+        if length == 0 {
+            let rest = second.read(&mut theirs)?;
+            return Ok(rest == 0 || theirs[..rest] == *b"\n");
+        }
+        if second.read_exact(&mut theirs[..length]).is_err() || mine[..length] != theirs[..length] {
+            return Ok(false);
+        }
+    }
+}
+
+/// The programs that are compared, by mode; ours stands first in each.
+fn programs(ours: &str, by_crate: &str, tools: &[String]) -> Vec<Program> {
+    let peers: [(&str, &[&str]); 5] = [
+        ("copy", &["cat"]),
+        ("copy", &["iconv", "-f", "ascii", "-t", "utf-8"]),
+        ("tac", &["tac"]),
+        ("caret", &["cat", "-v"]),
+        ("json", &["jq", "-Rs", "."]),
+    ];
+    let mut programs = Vec::new();
+    for mode in ["copy", "lines", "tac", "caret", "json"] {
+        programs.push(Program::new(
+            mode,
+            &format!("ascii_show {mode}"),
+            &[ours, mode],
+        ));
+        programs.push(Program::new(mode, "by the Rust crate", &[by_crate, mode]));
+        for (of, command) in peers {
+            if of == mode && tools.iter().any(|tool| tool == command[0]) {
+                programs.push(Program::new(mode, &command.join(" "), command));
+            }
+        }
+    }
+    programs
+}
+
+/// Runs each program once into a file, and ends where an output is not that of ours in the same mode.
+fn compare_outputs(programs: &[Program], text: &str, folder: &str) {
+    let (ours, theirs) = (
+        format!("{folder}/output_of_ours"),
+        format!("{folder}/output_of_peer"),
+    );
+    let mut mode = "";
+    for program in programs {
+        let path = if program.mode == mode { &theirs } else { &ours };
+        mode = program.mode;
+        program.run(
+            text,
+            File::create(path)
+                .expect("the folder can be written")
+                .into(),
+        );
+        if path == &theirs && !agree(&ours, &theirs).expect("the outputs can be read") {
+            program.give_up(&format!(
+                "its output over {text} is not that of ascii_show {mode}"
+            ));
+        }
+    }
+}
+
+fn main() {
+    let words: Vec<String> = std::env::args().collect();
+    let [_, rounds, bytes, folder, ours, by_crate, tools @ ..] = &words[..] else {
+        eprintln!("usage: programs ROUNDS BYTES FOLDER OURS BY_CRATE [cat] [tac] [iconv] [jq]");
+        exit(2);
+    };
+    let rounds: usize = rounds.parse().expect("a number of rounds");
+    for mean in [10, 60, 1000] {
+        eprintln!("programs over lines of {mean} bytes");
+        let text = format!("{folder}/lines_of_{mean}");
+        write_text(&text, bytes.parse().expect("a number of bytes"), mean)
+            .expect("the folder can be written");
+        let mut programs = programs(ours, by_crate, tools);
+        compare_outputs(&programs, &text, folder);
+        for _ in 0..rounds {
+            for program in &mut programs {
+                let (milliseconds, peak) = program.run(&text, Stdio::null());
+                program.best = program.best.min(milliseconds);
+                program.peak = program.peak.max(peak);
+            }
+        }
+        for program in &programs {
+            println!(
+                "{}\t{mean}\t{}\t{:.1}\t{}",
+                program.mode, program.name, program.best, program.peak
+            );
+        }
+        std::fs::remove_file(&text).expect("the text can be removed");
+    }
+    for name in ["output_of_ours", "output_of_peer"] {
+        std::fs::remove_file(format!("{folder}/{name}")).expect("the outputs can be removed");
+    }
+}

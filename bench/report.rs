@@ -1,0 +1,293 @@
+//! Writes PERFORMANCE.md and performance.svg out of what was measured.
+//! usage: report FOLDER PAGES  (FOLDER has facts, calls.tsv and programs.tsv)
+
+use std::collections::HashMap;
+use std::fmt::Write;
+
+/// The rows of a file, cut at tabs.
+fn rows(path: String) -> Vec<Vec<String>> {
+    let text = std::fs::read_to_string(&path).unwrap_or_else(|error| panic!("{path}: {error}"));
+    text.lines()
+        .map(|line| line.split('\t').map(str::to_string).collect())
+        .collect()
+}
+
+/// Each item once, in the order in which it comes first.
+fn each_once<T: PartialEq>(items: impl Iterator<Item = T>) -> Vec<T> {
+    let mut once = Vec::new();
+    for item in items {
+        if !once.contains(&item) {
+            once.push(item);
+        }
+    }
+    once
+}
+
+/// The calls that were measured: nanoseconds by call, size and side.
+struct Calls {
+    calls: Vec<String>,
+    sizes: Vec<usize>,
+    nanoseconds: HashMap<(String, usize, String), f64>,
+}
+
+impl Calls {
+    fn read(path: String) -> Calls {
+        let rows = rows(path);
+        let size = |row: &Vec<String>| row[1].parse().expect("a size");
+        let sizes: Vec<usize> = each_once(rows.iter().map(size));
+        // Short texts have no long lines, so the longest one has each call in its place.
+        let longest = rows.iter().filter(|row| Some(&size(row)) == sizes.last());
+        Calls {
+            calls: each_once(longest.map(|row| row[0].clone())),
+            nanoseconds: rows
+                .iter()
+                .map(|row| {
+                    (
+                        (row[0].clone(), size(row), row[2].clone()),
+                        row[3].parse().expect("a time"),
+                    )
+                })
+                .collect(),
+            sizes,
+        }
+    }
+
+    fn time(&self, call: &str, size: usize, side: &str) -> Option<f64> {
+        self.nanoseconds
+            .get(&(call.to_string(), size, side.to_string()))
+            .copied()
+    }
+
+    /// How many times as fast as a peer ours is.
+    fn ratio(&self, call: &str, size: usize, peer: &str) -> Option<f64> {
+        Some(self.time(call, size, peer)? / self.time(call, size, "ours")?)
+    }
+
+    /// A table with a row for each call that has a cell at any size.
+    fn table(&self, cell: impl Fn(&str, usize) -> Option<String>) -> String {
+        let mut table = String::from("| Bytes |");
+        for size in &self.sizes {
+            write!(table, " {} |", bytes(*size)).unwrap();
+        }
+        write!(table, "\n|---|{}\n", "--:|".repeat(self.sizes.len())).unwrap();
+        for call in &self.calls {
+            let cells: Vec<Option<String>> =
+                self.sizes.iter().map(|size| cell(call, *size)).collect();
+            if cells.iter().any(Option::is_some) {
+                let cells: Vec<String> = cells.into_iter().map(Option::unwrap_or_default).collect();
+                writeln!(table, "| {call} | {} |", cells.join(" | ")).unwrap();
+            }
+        }
+        table
+    }
+}
+
+fn bytes(size: usize) -> String {
+    match size {
+        0..=1023 => size.to_string(),
+        1024..=1048575 => format!("{} KiB", size >> 10),
+        _ => format!("{} MiB", size >> 20),
+    }
+}
+
+fn as_ratio(ratio: f64) -> String {
+    match ratio {
+        ..9.995 => format!("{ratio:.2}"),
+        ..99.95 => format!("{ratio:.1}"),
+        _ => format!("{ratio:.0}"),
+    }
+}
+
+fn as_time(nanoseconds: f64) -> String {
+    match nanoseconds {
+        ..999.5 => format!("{} ns", as_ratio(nanoseconds)),
+        ..999.5e3 => format!("{} µs", as_ratio(nanoseconds / 1e3)),
+        _ => format!("{} ms", as_ratio(nanoseconds / 1e6)),
+    }
+}
+
+/// A table of whole programs: milliseconds and MiB for each text.
+fn programs(rows: &[Vec<String>]) -> String {
+    let means = each_once(rows.iter().map(|row| &row[1]));
+    let mut table = String::from("| Mode | Program |");
+    for mean in &means {
+        write!(table, " lines of {mean}: ms | MiB |").unwrap();
+    }
+    write!(table, "\n|---|---|{}\n", "--:|--:|".repeat(means.len())).unwrap();
+    for (mode, name) in each_once(rows.iter().map(|row| (&row[0], &row[2]))) {
+        write!(table, "| {mode} | {name} |").unwrap();
+        for row in rows.iter().filter(|row| (&row[0], &row[2]) == (mode, name)) {
+            let peak: f64 = row[4].parse().expect("kilobytes");
+            write!(table, " {} | {:.1} |", row[3], peak / 1024.0).unwrap();
+        }
+        table.push('\n');
+    }
+    table
+}
+
+const CHART_SIZE: usize = 1024;
+
+/// The calls of the chart, with how it names them.
+const CHART: [(&str, &str); 7] = [
+    ("accept", "accept"),
+    ("upper", "upper case"),
+    ("equal", "equal without case"),
+    ("lines of 60", "lines of 60 bytes"),
+    ("split", "split, 1 in 9"),
+    ("names, inline", "short texts, inline"),
+    ("chars", "characters"),
+];
+
+/// A chart of bars from 1, on a scale of powers of two: to the right where ours is faster.
+fn chart(calls: &Calls, ascii: &str) -> String {
+    let (one, octave, left, right) = (230.0, 88.0, 142.0, 684.0);
+    let mut bars = String::new();
+    let mut y = 64.0;
+    for (call, name) in CHART {
+        writeln!(
+            bars,
+            r##"<text x="134" y="{}" text-anchor="end">{name}</text>"##,
+            y + 19.0
+        )
+        .unwrap();
+        for (peer, colour) in [("crate", "#8fb8de"), ("std", "#f2c48d")] {
+            let Some(ratio) = calls.ratio(call, CHART_SIZE, peer) else {
+                continue;
+            };
+            let end = (one + octave * ratio.log2()).clamp(left, right);
+            let (x, width) = (end.min(one), (end - one).abs().max(1.0));
+            writeln!(
+                bars,
+                r##"<rect x="{x:.1}" y="{y}" width="{width:.1}" height="13" rx="2" fill="{colour}"/>
+<text x="{:.1}" y="{}" font-size="11">{}</text>"##,
+                end.max(one) + 5.0,
+                y + 10.5,
+                as_ratio(ratio)
+            )
+            .unwrap();
+            y += 15.0;
+        }
+        y += 9.0;
+    }
+    let mut lines = String::new();
+    for (power, name) in [
+        (-1.0, "½"),
+        (0.0, "1"),
+        (1.0, "2"),
+        (2.0, "4"),
+        (3.0, "8"),
+        (4.0, "16"),
+        (5.0, "32"),
+    ] {
+        let x = one + octave * power;
+        let colour = if power == 0.0 { "#5b6470" } else { "#e1e5ea" };
+        writeln!(
+            lines,
+            r##"<line x1="{x}" y1="56" x2="{x}" y2="{y}" stroke="{colour}"/>
+<text x="{x}" y="{}" text-anchor="middle" font-size="11" fill="#5b6470">{name}</text>"##,
+            y + 14.0
+        )
+        .unwrap();
+    }
+    let height = y + 26.0;
+    format!(
+        r##"<svg xmlns="http://www.w3.org/2000/svg" width="740" height="{height}" viewBox="0 0 740 {height}"
+ font-family="system-ui, sans-serif" font-size="12.5" fill="#2b323b" role="img"
+ aria-label="Times as fast as the Rust crate and as std">
+<rect width="740" height="{height}" rx="8" fill="#fafbfc"/>
+<text x="20" y="24" font-size="15" font-weight="600">Times as fast, over 1 KiB (right: ours is faster)</text>
+<rect x="20" y="35" width="11" height="11" rx="2" fill="#8fb8de"/>
+<text x="36" y="45">as the Rust crate ascii {ascii}</text>
+<rect x="230" y="35" width="11" height="11" rx="2" fill="#f2c48d"/>
+<text x="246" y="45">as std</text>
+{lines}{bars}</svg>
+"##
+    )
+}
+
+fn page(facts: &HashMap<String, String>, calls: &Calls, programs: &str) -> String {
+    let fact = |name: &str| facts.get(name).map_or("", String::as_str);
+    let beside = |peer| calls.table(|call, size| calls.ratio(call, size, peer).map(as_ratio));
+    let times = calls.table(|call, size| {
+        calls
+            .time(call, size, "ours")
+            .or(calls.time(call, size, "memcpy"))
+            .map(as_time)
+    });
+    let missing = match fact("missing") {
+        "" => String::new(),
+        names => format!("\nNot on this machine, and left out: {names}.\n"),
+    };
+    format!(
+        "# Performance
+
+`bench/run` measured this and wrote it; [bench/README.md](../bench/README.md) says how, and what each name
+means. Numbers beside a peer are how many times as fast ours is: the peer's time divided by ours. Over 1 ours
+is faster.
+
+![Times as fast as the Rust crate and as std](performance.svg)
+
+| | |
+|---|---|
+| Command | `{command}`, {rounds} rounds |
+| Date | {date} |
+| Machine | {machine} |
+| Ours | {rattle}, for {cpu} |
+| Peers | {rustc}, for x86-64; ascii {ascii}, memchr {memchr} |
+| Programs | {tools} |
+{missing}
+## Beside the Rust crate
+
+{by_crate}
+## Beside std
+
+{by_std}
+## Beside a bare loop over the Rust crate `memchr`
+
+{by_memchr}
+## Time of a call
+
+Ours, and `memcpy` as the limit of what goes through memory once.
+
+{times}
+## Whole programs
+
+Over {text} of text: processor time, user and system together, and memory at the peak.
+
+{programs}",
+        command = fact("command"),
+        rounds = fact("rounds"),
+        date = fact("date"),
+        machine = fact("machine"),
+        rattle = fact("rattle"),
+        cpu = fact("cpu"),
+        rustc = fact("rustc"),
+        ascii = fact("ascii"),
+        memchr = fact("memchr"),
+        tools = fact("programs").replace(';', "; "),
+        by_crate = beside("crate"),
+        by_std = beside("std"),
+        by_memchr = beside("memchr"),
+        text = bytes(fact("bytes").parse().unwrap_or(0)),
+    )
+}
+
+fn main() {
+    let words: Vec<String> = std::env::args().collect();
+    let [_, folder, pages] = &words[..] else {
+        eprintln!("usage: report FOLDER PAGES");
+        std::process::exit(2);
+    };
+    let facts: HashMap<String, String> = rows(format!("{folder}/facts"))
+        .into_iter()
+        .map(|row| (row[0].clone(), row[1].clone()))
+        .collect();
+    let calls = Calls::read(format!("{folder}/calls.tsv"));
+    let programs = programs(&rows(format!("{folder}/programs.tsv")));
+    let write = |name: &str, text: String| {
+        let path = format!("{pages}/{name}");
+        std::fs::write(&path, text).unwrap_or_else(|error| panic!("{path}: {error}"));
+    };
+    write("PERFORMANCE.md", page(&facts, &calls, &programs));
+    write("performance.svg", chart(&calls, &facts["ascii"]));
+}
