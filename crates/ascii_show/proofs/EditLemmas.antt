@@ -1,15 +1,11 @@
 -- The words of an edit, one after another.
-use Rattle.std.proofs.Common.{◌≡◌, ℕ, ◌+◌, ◌<◌, List, [], ◌∷◌, ◌++◌, length, get_or, take, drop, sym, ap, ◌∙◌, arith, add-one, All}
+use Rattle.std.proofs.Common.{◌≡◌, ℕ, ◌+◌, ◌<◌, List, [], ◌∷◌, ◌++◌, length, get_or, take, drop, arith, add-one, All}
 use Rattle.std.specs.List.{AllZip}
-use Rattle.std.specs.Prelude.{String}
-use Rattle.std.specs.String.{string_bytes}
-use Rattle.std.specs.declared.alloc.Global.{Global}
 use Rattle.std.proofs.Math.Seq.{drop-cons, take-suc}
 use Rattle.std.proofs.lemmas.Grind.{common_steps}
-use Rattle.std.proofs.lemmas.List.{get_or-map, take-append-drop, length-take-le}
+use Rattle.std.proofs.lemmas.List.{take-append-drop, length-take-le}
 use Rattle.std.proofs.lemmas.List.Elements.{All-cons, All-nil}
 use Rattle.ascii_run.specs.declared.commands.Cmd.{Cmd}
-use Rattle.ascii_show.specs.Call.{words_of}
 use Rattle.ascii_show.specs.Words.{IsFirstBadWord, IsWord, IsWordOf}
 
 push_zip : {A B : Type 0} (R : A → B → Type 0) (xs : List A) (ys : List B) (x : A) (y : B) → AllZip R xs ys → R x y → AllZip R (xs ++ x ∷ []) (ys ++ y ∷ [])
@@ -43,7 +39,3 @@ first_bad_word words cmds i word inside is all bad = record {
   good = all_words (take i words) cmds all;
   bad = bad;
 }
-
--- the bytes of a word
-pub word_at : (args : List (String Global)) (i : ℕ) (arg : String Global) → i < length args → arg ≡ get_or args i arg → get_or (words_of args) i [] ≡ string_bytes arg
-word_at args i arg inside is = get_or-map string_bytes args i arg [] inside ∙ ap string_bytes (sym is)

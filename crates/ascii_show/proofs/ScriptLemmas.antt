@@ -1,12 +1,11 @@
 -- The letters of ends.
-use Rattle.std.proofs.Common.{◌≡◌, ◌≢◌, ◌∙◌, ℕ, ◌<◌, List, [], ◌∷◌, length, get_or, arith, ap, refl, subst, sym, inl, inr}
-use Rattle.std.specs.Prelude.{String, codes}
-use Rattle.std.specs.String.{string_bytes}
-use Rattle.std.specs.declared.alloc.Global.{Global}
+use Rattle.std.proofs.Common.{◌≡◌, ◌≢◌, ◌∙◌, ℕ, ◌<◌, List, [], ◌∷◌, length, get_or, arith, ap, ap₂, refl, subst, sym, inl, inr}
+use Rattle.std.specs.Prelude.{codes}
+use Rattle.std.specs.Borrow.{Bor}
 use Rattle.std.proofs.lemmas.List.{get_or-map, length-map}
 use Rattle.ascii.specs.declared.iter.walks.End.{End}
 use Rattle.ascii.specs.declared.iter.walks.End.TheVariants.{Back, Front}
-use Rattle.ascii_show.specs.Call.{HasScript, IsCall, IsScriptFault, IsWordsFault, words_of}
+use Rattle.ascii_show.specs.Call.{HasScript, IsCall, IsScriptFault, IsWordsFault, bytes_of, words_of}
 use Rattle.ascii_run.specs.declared.faults.EngineFault.TheVariants.{Memory}
 use Rattle.ascii_show.specs.declared.failure.Failure.{Failure}
 use Rattle.ascii_show.specs.declared.failure.Failure.TheVariants.{BadWord, Run}
@@ -25,13 +24,18 @@ no_letter_is_minus Back is = omega (arith, is)
 pub letters_are_no_option : (letters : List ℕ) (script : List End) → AreEndsOf letters script → letters ≢ codes "-s"
 letters_are_no_option letters script are option = no_script (codes "-s") 0 (omega arith) no_letter_is_minus (script, are ∙ option)
 
--- two arguments as words
-pub two_words : (args : List (String Global)) (a b : String Global) → length args ≡ 2 → a ≡ get_or args 0 a → b ≡ get_or args 1 b
-    → words_of args ≡ string_bytes a ∷ (string_bytes b ∷ [])
-two_words [] a b two first second = absurd (omega (arith, two))
-two_words (x ∷ []) a b two first second = absurd (omega (arith, two))
-two_words (x ∷ y ∷ []) a b two first second = ap (λ v. string_bytes v ∷ (string_bytes y ∷ [])) (sym first) ∙ ap (λ v. string_bytes a ∷ (string_bytes v ∷ [])) (sym second)
-two_words (x ∷ y ∷ z ∷ zs) a b two first second = absurd (omega (arith, two))
+-- one word, and two words
+pub one_word : (args : List (Bor (List ℕ))) (none : Bor (List ℕ)) → length args ≡ 1 → words_of args ≡ (get_or args 0 none).now ∷ []
+one_word [] none one = absurd (omega (arith, one))
+one_word (x ∷ []) none one = refl
+one_word (x ∷ y ∷ zs) none one = absurd (omega (arith, one))
+
+pub two_words : (args : List (Bor (List ℕ))) (none : Bor (List ℕ)) → length args ≡ 2 → (first last : List ℕ)
+    → (get_or args 0 none).now ≡ first → (get_or args 1 none).now ≡ last → words_of args ≡ first ∷ (last ∷ [])
+two_words [] none two first last is_first is_last = absurd (omega (arith, two))
+two_words (x ∷ []) none two first last is_first is_last = absurd (omega (arith, two))
+two_words (x ∷ y ∷ []) none two first last is_first is_last = ap₂ (λ (a : List ℕ) (b : List ℕ). a ∷ (b ∷ [])) is_first is_last
+two_words (x ∷ y ∷ z ∷ zs) none two first last is_first is_last = absurd (omega (arith, two))
 
 -- words behind `ends` that have no script are no call
 no_ends : (words : List (List ℕ)) → ((script : List ℕ) (n : ℕ) → ¬ (HasScript words script n)) → ¬ (IsCall (codes "ends" ∷ words))
@@ -43,25 +47,12 @@ no_ends words none (inl (inr (inr (inr (inr is))), _)) = omega (arith, ap (λ wo
 no_ends words none (inr (inl (_, has))) = none has.0 has.1 has.2
 no_ends words none (inr (inr is)) = omega (arith, ap (λ word. get_or word 1 0) is)
 
--- `-s` alone, two words of which the first is another one, and any other number of words
-pub option_alone : (args : List (String Global)) (a : String Global) → length args ≡ 1 → a ≡ get_or args 0 a → string_bytes a ≡ codes "-s"
+-- `-s` alone is no call
+pub option_alone : (args : List (Bor (List ℕ))) (none : Bor (List ℕ)) → length args ≡ 1 → (get_or args 0 none).now ≡ codes "-s"
     → ¬ (IsCall (codes "ends" ∷ words_of args))
-option_alone args a one first is = no_ends (words_of args) (λ script n has. elim has [
-  | inl alone ↦ alone.1 (sym (ap (λ words. get_or words 0 []) alone.0) ∙ (get_or-map string_bytes args 0 a [] (omega (arith, one)) ∙ (ap string_bytes (sym first) ∙ is)))
-  | inr behind ↦ omega (arith, one, ap length behind.0, length-map args string_bytes)
-])
-
-pub other_option : (args : List (String Global)) (a : String Global) → length args ≡ 2 → a ≡ get_or args 0 a → string_bytes a ≢ codes "-s"
-    → ¬ (IsCall (codes "ends" ∷ words_of args))
-other_option args a two first other = no_ends (words_of args) (λ script n has. elim has [
-  | inl alone ↦ omega (arith, two, ap length alone.0, length-map args string_bytes)
-  | inr behind ↦ other (ap string_bytes first ∙ (sym (get_or-map string_bytes args 0 a [] (omega (arith, two))) ∙ ap (λ words. get_or words 0 []) behind.0))
-])
-
-pub other_number : (args : List (String Global)) → length args ≢ 1 → length args ≢ 2 → ¬ (IsCall (codes "ends" ∷ words_of args))
-other_number args not_one not_two = no_ends (words_of args) (λ script n has. elim has [
-  | inl alone ↦ not_one (sym (length-map args string_bytes) ∙ ap length alone.0)
-  | inr behind ↦ not_two (sym (length-map args string_bytes) ∙ ap length behind.0)
+option_alone args none one is = no_ends (words_of args) (λ script n has. elim has [
+  | inl alone ↦ alone.1 (sym (ap (λ words. get_or words 0 []) alone.0) ∙ (ap (λ words. get_or words 0 []) (one_word args none one) ∙ is))
+  | inr behind ↦ omega (arith, one, ap length behind.0, length-map args bytes_of)
 ])
 
 -- why a script behind `ends` gives no ends is why the words ask for nothing

@@ -1,17 +1,20 @@
 -- What words after the program's name are a call.
-use Rattle.std.specs.Prelude.{◌≡◌, ◌≢◌, ◌⊎◌, ⊤, ℕ, List, [], ◌∷◌, map, codes, String}
-use Rattle.std.specs.String.{string_bytes}
+use Rattle.std.specs.Prelude.{◌≡◌, ◌≢◌, ◌⊎◌, ⊤, ℕ, List, [], ◌∷◌, map, codes}
+use Rattle.std.specs.Borrow.{Bor}
 use Rattle.std.specs.List.{AllZip}
-use Rattle.std.specs.declared.alloc.Global.{Global}
 use Rattle.ascii_run.specs.declared.faults.EngineFault.TheVariants.{Memory}
 use Rattle.ascii_show.specs.Asked.{Asked, copy, lines, tac, caret, ends, ends_spans, edit, json}
 use Rattle.ascii_show.specs.declared.failure.Failure.{Failure}
 use Rattle.ascii_show.specs.declared.failure.Failure.TheVariants.{Usage, BadWord, Run}
 use Rattle.ascii_show.specs.Words.{AreEndsOf, IsFirstBadWord, IsNoScript, IsWordOf}
 
+-- the bytes of a word
+abbrev pub bytes_of : Bor (List ℕ) → List ℕ
+bytes_of word = word.now
+
 -- the words as bytes
-abbrev pub words_of : List (String Global) → List (List ℕ)
-words_of args = map string_bytes args
+abbrev pub words_of : List (Bor (List ℕ)) → List (List ℕ)
+words_of args = map bytes_of args
 
 -- a mode that takes no further word
 abbrev pub StandsAlone : List ℕ → Type 0

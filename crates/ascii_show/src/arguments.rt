@@ -38,13 +38,13 @@ impl<'a, A: Allocator> Request<'a, A> {
 }
 
 /// What the words ask for. The number of words is looked at before any word behind the mode.
-pub fn request_of<'a, A: Allocator>(alloc: A, args: &'a [String]) -> Result<Request<'a, A>, Failure>
+pub fn request_of<'a, A: Allocator>(alloc: A, args: &[&'a str]) -> Result<Request<'a, A>, Failure>
     ensures { MatchResult result (λ request. AskFor (words_of args.now) (asked_by request)) (IsWordsFault (words_of args.now)) }
 {
     let Some((mode, others)) = args.split_first() else {
         return Err(Failure::Usage);
     };
-    match mode.as_str() {
+    match *mode {
         "ends" => ends_request(alloc, others),
         "edit" => {
             let cmds = commands_of(alloc, others)?;
@@ -73,24 +73,20 @@ fn plain_mode(name: &str) -> Option<Mode<'static>>
 }
 
 /// What the words behind `ends` ask for: a script alone, or `-s` and a script.
-#[tactic(auto, using(crate::proofs::ScriptLemmas::two_words))]
-fn ends_request<'a, A: Allocator>(alloc: A, others: &'a [String]) -> Result<Request<'a, A>, Failure>
+fn ends_request<'a, A: Allocator>(alloc: A, others: &[&'a str]) -> Result<Request<'a, A>, Failure>
     ensures { MatchResult result (λ request. AskFor (codes "ends" ∷ words_of others.now) (asked_by request)) (IsWordsFault (codes "ends" ∷ words_of others.now)) }
 {
-    match others.len() {
-        1 => {
-            if others[0].as_str() == "-s" {
+    match others {
+        [script] => {
+            if *script == "-s" {
                 return Err(Failure::Usage);
             }
-            let script = script_of(alloc, others[0].as_bytes(), 1)?;
-            Ok(Request::Ends(script))
+            let ends = script_of(alloc, script.as_bytes(), 1)?;
+            Ok(Request::Ends(ends))
         }
-        2 => {
-            if others[0].as_str() != "-s" {
-                return Err(Failure::Usage);
-            }
-            let script = script_of(alloc, others[1].as_bytes(), 2)?;
-            Ok(Request::EndsSpans(script))
+        ["-s", script] => {
+            let ends = script_of(alloc, script.as_bytes(), 2)?;
+            Ok(Request::EndsSpans(ends))
         }
         _ => Err(Failure::Usage),
     }
@@ -123,12 +119,12 @@ fn end_of(letter: u8) -> Option<End>
 }
 
 /// The commands that the words of an edit name.
-fn commands_of<'a, A: Allocator>(alloc: A, words: &'a [String]) -> Result<Vec<Cmd<'a>, A>, Failure>
+fn commands_of<'a, A: Allocator>(alloc: A, words: &[&'a str]) -> Result<Vec<Cmd<'a>, A>, Failure>
     ensures { MatchResult result (λ cmds. AllZip IsWordOf (words_of words.now) cmds.items) (IsEditsFault (words_of words.now)) }
 {
     let mut cmds = Vec::with_capacity(alloc, words.len())?;
     for (i, word) in words.iter().enumerate() {
-        let Some(cmd) = command_of(word.as_str()) else {
+        let Some(cmd) = command_of(*word) else {
             return Err(Failure::BadWord(i + 1));
         };
         cmds.push(cmd)?;

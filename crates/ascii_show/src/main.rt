@@ -14,18 +14,18 @@ use arguments::request_of;
 use arrayvec::ArrayString;
 use ascii_run::{EngineFault, Input, Output, engine};
 use failure::Failure;
-use std::alloc::Allocator;
+use std::alloc::{AllocError, Allocator};
 use std::fmt::Write as _;
 use std::io;
 use std::process::ExitCode;
-use words::read_words;
+use words::Words;
 
 /// Runs the words after the program's name: reads `input`, writes `output`, and writes one line to
 /// `errors` where it fails. The answer is the status: 0 done, 1 not ASCII, 2 a fault in the words,
 /// 3 no memory or a failing device. A failure of `errors` changes no status.
 pub fn show<A: Allocator + Copy, I: io::Read + Drop, O: io::Write + Drop, E: io::Write + Drop>(
     alloc: A,
-    args: &[String],
+    args: &[&str],
     input: I,
     output: O,
     errors: E,
@@ -55,7 +55,7 @@ fn report<E: io::Write + Drop>(failure: Failure, mut errors: E) -> u8
 /// The words are read before any input is.
 fn run_words<A: Allocator + Copy, I: io::Read + Drop, O: io::Write + Drop>(
     alloc: A,
-    args: &[String],
+    args: &[&str],
     input: I,
     output: O,
 ) -> Result<(), Failure>
@@ -71,15 +71,16 @@ fn run_words<A: Allocator + Copy, I: io::Read + Drop, O: io::Write + Drop>(
     Ok(())
 }
 
+/// Runs the words after the program's name over the standard streams.
+fn show_words(rt: &HostRuntime) -> Result<u8, AllocError> {
+    let words = Words::read(rt)?;
+    let args = words.views(rt.alloc())?;
+    Ok(show(rt.alloc(), &args, rt.reader(), io::writer(rt), rt.stderr()))
+}
+
 fn main(rt: HostRuntime) -> ExitCode {
-    let status = match read_words(&rt) {
-        Ok(words) => show(
-            rt.alloc(),
-            &words,
-            rt.reader(),
-            io::writer(&rt),
-            rt.stderr(),
-        ),
+    let status = match show_words(&rt) {
+        Ok(status) => status,
         Err(_) => report(Failure::Run(EngineFault::Memory), rt.stderr()),
     };
     ExitCode::from(status)

@@ -15,13 +15,9 @@ fn shown(
     words: &[&str],
     input: &[u8],
 ) -> Result<(u8, Vec<u8>, Vec<u8>), AllocError> {
-    let mut args = Vec::new(alloc);
-    for word in words {
-        args.push(String::from_str(alloc, *word)?)?;
-    }
     let mut output = Vec::new(alloc);
     let mut errors = Vec::new(alloc);
-    let status = show(alloc, &args, input, &mut output, &mut errors);
+    let status = show(alloc, words, input, &mut output, &mut errors);
     Ok((status, output, errors))
 }
 

@@ -1,49 +1,65 @@
 //! The words after the program's name, as the system hands them over.
 
-use std::alloc::AllocError;
-use std::env::{Env, FillError, VarError};
-use std::str;
+use std::alloc::{AllocError, Global};
+use std::env::{Env, FillError};
 
-/// The words in their order, each in as much memory as its bytes take. Words that are no text are
-/// taken as none.
-pub fn read_words(rt: &HostRuntime) -> Result<Vec<String>, AllocError> {
-    let count = word_count(rt);
-    let mut words = Vec::with_capacity(rt.alloc(), count)?;
-    let mut buffer = Vec::new(rt.alloc());
-    for before in 0..count {
-        match read_word(rt, before + 1, &mut buffer) {
-            Ok(word) => words.push(word)?,
-            Err(VarError::OutOfMemory) => return Err(AllocError),
-            Err(VarError::NotPresent | VarError::NotUnicode) => return Ok(Vec::new(rt.alloc())),
-        }
-    }
-    Ok(words)
+/// The words, one behind the other.
+#[derive(Drop)]
+pub struct Words {
+    /// each word and a NUL, which no word has in it
+    text: String,
+    /// how many words there are
+    count: usize,
 }
 
-/// The number of words.
-fn word_count(rt: &HostRuntime) -> usize {
-    for before in 0..usize::MAX {
-        if let Err(FillError::NotPresent) = rt.arg(before + 1, &mut []) {
-            return before;
+impl Words {
+    /// Reads the words. Words that are no text are taken as none.
+    pub fn read(rt: &HostRuntime) -> Result<Words, AllocError> {
+        let mut bytes = Vec::new(rt.alloc());
+        let mut count = 0;
+        for before in 0..usize::MAX {
+            if !append_word(rt, before + 1, &mut bytes)? {
+                break;
+            }
+            count = before + 1;
+        }
+        match String::from_utf8(bytes) {
+            Ok(text) => Ok(Words { text, count }),
+            Err(_) => Ok(Words {
+                text: String::new(rt.alloc()),
+                count: 0,
+            }),
         }
     }
-    usize::MAX
+
+    /// The words in their order.
+    pub fn views(&self, alloc: Global) -> Result<Vec<&str>, AllocError> {
+        let mut views = Vec::with_capacity(alloc, self.count)?;
+        for word in self.text.split('\0').take(self.count) {
+            views.push(word)?;
+        }
+        Ok(views)
+    }
 }
 
-/// The word of a number from 1, read into a buffer that gets longer where the word needs it.
-fn read_word(rt: &HostRuntime, number: usize, buffer: &mut Vec<u8>) -> Result<String, VarError> {
+/// Appends the word of a number from 1 and a NUL, and says whether there is such a word.
+fn append_word(rt: &HostRuntime, number: usize, bytes: &mut Vec<u8>) -> Result<bool, AllocError> {
+    let start = bytes.len();
+    let mut room = 256usize;
     for _ in 0..usize::BITS {
-        match rt.arg(number, buffer.as_mut_slice()) {
+        bytes.resize(start.saturating_add(room), 0u8)?;
+        match rt.arg(number, &mut bytes[start..]) {
             Ok(length) => {
-                let word = str::from_utf8(&buffer[..length]).map_err(|_| VarError::NotUnicode)?;
-                return Ok(String::from_str(rt.alloc(), word)?);
+                bytes.truncate(start + length);
+                bytes.push(0)?;
+                return Ok(true);
             }
-            Err(FillError::NotPresent) => return Err(VarError::NotPresent),
-            Err(FillError::TooLong) => {
-                let longer = buffer.len().saturating_add(buffer.len()).max(256);
-                buffer.resize(longer, 0u8)?;
+            Err(FillError::NotPresent) => {
+                bytes.truncate(start);
+                return Ok(false);
             }
+            Err(FillError::TooLong) => room = room.saturating_add(room),
         }
     }
-    Err(VarError::OutOfMemory)
+    Err(AllocError)
 }

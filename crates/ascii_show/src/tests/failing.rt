@@ -7,15 +7,6 @@ use std::io::{self, ErrorKind};
 use std::process::Abort;
 use std::test::Fail;
 
-/// The words of a call.
-fn words(alloc: Global, words: &[&str]) -> Result<Vec<String>, AllocError> {
-    let mut args = Vec::new(alloc);
-    for word in words {
-        args.push(String::from_str(alloc, *word)?)?;
-    }
-    Ok(args)
-}
-
 /// A reader that gives `abc` and then fails.
 #[derive(Drop)]
 struct Breaking {
@@ -56,7 +47,7 @@ impl io::Write for Full {
 #[test]
 fn failing_devices(rt: HostRuntime) -> Result<(), Fail> {
     let alloc = rt.alloc();
-    let args = words(alloc, &["copy"])?;
+    let args = ["copy"];
     let mut output = Vec::new(alloc);
     let mut errors = Vec::new(alloc);
     let reader = Breaking { given: false };
@@ -80,10 +71,9 @@ fn unheard<R: Abort + AllocGlobal>(
     status: u8,
 ) -> Result<(), Fail> {
     let alloc = rt.alloc();
-    let args = words(alloc, call)?;
     let mut output = Vec::new(alloc);
     let errors = Full { taken: true };
-    assert_eq!(rt; show(alloc, &args, input, &mut output, errors), status);
+    assert_eq!(rt; show(alloc, call, input, &mut output, errors), status);
     assert_eq!(rt; output.len(), 0);
     Ok(())
 }
@@ -124,10 +114,9 @@ fn told<R: Abort + AllocGlobal>(
     line: &'static [u8],
 ) -> Result<(), Fail> {
     let alloc = rt.alloc();
-    let args = words(alloc, call)?;
     let mut input: &[u8] = b"abc";
     let mut errors = OneLine { wanted: line };
-    let got = show(alloc, &args, &mut input, Vec::new(alloc), &mut errors);
+    let got = show(alloc, call, &mut input, Vec::new(alloc), &mut errors);
     assert_eq!(rt; got, status);
     assert_eq!(rt; errors.wanted.len(), 0);
     assert_eq!(rt; input, b"abc".as_slice());
@@ -146,19 +135,16 @@ fn words_leave_the_input(rt: HostRuntime) -> Result<(), Fail> {
 #[test]
 fn numbers_of_two_digits(rt: HostRuntime) -> Result<(), Fail> {
     let alloc = rt.alloc();
-    let args = words(
-        alloc,
-        &[
-            "edit", "u", "u", "u", "u", "u", "u", "u", "u", "u", "u", "r9",
-        ],
-    )?;
+    let args = [
+        "edit", "u", "u", "u", "u", "u", "u", "u", "u", "u", "u", "r9",
+    ];
     let mut errors = OneLine {
         wanted: b"bad position in word 11\n",
     };
     let input: &[u8] = b"abc";
     assert_eq!(rt; show(alloc, &args, input, Vec::new(alloc), &mut errors), 2);
     assert_eq!(rt; errors.wanted.len(), 0);
-    let args = words(alloc, &["tac"])?;
+    let args = ["tac"];
     let mut errors = OneLine {
         wanted: b"the byte at index 12 is not ASCII\n",
     };
@@ -173,13 +159,14 @@ fn no_memory(rt: HostRuntime) -> Result<(), Fail> {
     let alloc = rt.alloc();
     let heap = LocalHeap::new(alloc, 64)?;
     let call = ["edit", "u", "u", "u", "u"];
-    for args in [words(alloc, &["copy"])?, words(alloc, &call)?] {
+    let calls: [&[&str]; 2] = [&["copy"], &call];
+    for args in calls {
         let mut errors = OneLine {
             wanted: b"no memory\n",
         };
         let input = vec![in alloc; b'a'; 1_000]?;
         let mut output = Vec::new(alloc);
-        let status = show(&heap, &args, input.as_slice(), &mut output, &mut errors);
+        let status = show(&heap, args, input.as_slice(), &mut output, &mut errors);
         assert_eq!(rt; status, 3);
         assert_eq!(rt; output.len(), 0);
         assert_eq!(rt; errors.wanted.len(), 0);
