@@ -231,7 +231,7 @@ is faster.
 |---|---|
 | Command | `{command}`, {rounds} rounds |
 | Date | {date} |
-| Machine | {machine} |
+| Machine | {machine}, with a load of {load} before the run |
 | Ours | {rattle}, for {cpu} |
 | Peers | {rustc}, for x86-64; ascii {ascii}, memchr {memchr} |
 | Programs | {tools} |
@@ -259,6 +259,7 @@ Over {text} of text: processor time, user and system together, and memory at the
         rounds = fact("rounds"),
         date = fact("date"),
         machine = fact("machine"),
+        load = fact("load"),
         rattle = fact("rattle"),
         cpu = fact("cpu"),
         rustc = fact("rustc"),
