@@ -1,8 +1,8 @@
 //! The searches and maps over bytes, each equal to its plain definition at every length.
 //!
 //! Each goes through the bytes in chunks of 32, the comparison by two at once. What is left behind the last
-//! whole chunk takes two steps of 16 or of 8 bytes, the second of which may take bytes again, and fewer than
-//! 8 go one by one.
+//! whole chunk takes a step or two of 32, 16, 8 or 4 bytes, the last of which may take bytes again, and fewer
+//! go one by one.
 
 ghost use Rattle.std.specs.Prelude.{◌≡◌, ◌↔◌, ◌+◌, ◌<◌, ◌≤◌, IsTrue, length, map, take, drop, ◌++◌, All, MatchOption};
 ghost use Rattle.std.specs.Str.{IsAscii};
@@ -23,18 +23,18 @@ const NEAR: usize = 8;
 pub fn first_other(bytes: &[u8]) -> Option<usize>
     ensures { MatchOption result (IsAscii bytes.now) (FirstOther bytes.now 0 (length bytes.now)) }
 {
-    let mut at = 0;
-    if bytes.len() >= LANES {
-        at = quiet_front(bytes);
-        while bytes.len() - at >= LANES {
-            let found = other_in::<LANES>(bytes, at);
-            if found.is_some() {
-                return found;
-            }
-            at += LANES;
-        }
+    if bytes.len() < LANES {
+        return other_in_short(bytes);
     }
-    other_in_rest(bytes, at)
+    let mut at = quiet_front(bytes);
+    while bytes.len() - at >= LANES {
+        let found = other_in::<LANES>(bytes, at);
+        if found.is_some() {
+            return found;
+        }
+        at += LANES;
+    }
+    other_in::<LANES>(bytes, bytes.len() - LANES)
 }
 
 /// Changes each byte of `a` to `z` to that of `A` to `Z`. Every other byte stays.
@@ -141,44 +141,48 @@ fn other_in<const N: usize>(bytes: &[u8], at: usize) -> Option<usize>
     }
 }
 
-/// The first byte over 127 of a rest of at least `N` bytes and at most twice as many: its first `N`
-/// bytes and its last `N`.
+/// The first byte over 127 of at least `N` bytes and at most twice as many: its first `N` bytes and its
+/// last `N`, under one test where there is none.
 #[inline(always)]
-fn other_in_two<const N: usize>(bytes: &[u8], at: usize) -> Option<usize>
+fn other_in_two<const N: usize>(bytes: &[u8]) -> Option<usize>
     requires lanes { N ≤ 64 }
-    requires room { at + N ≤ length bytes.now }
-    requires short { length bytes.now ≤ at + N + N }
-    requires before { AllBefore (λ byte. byte < 128) bytes.now at }
+    requires room { N ≤ length bytes.now }
+    requires short { length bytes.now ≤ N + N }
     ensures { FindsFirstNot (λ byte. byte < 128) bytes.now (length bytes.now) result }
 {
-    match other_in::<N>(bytes, at) {
-        None => other_in::<N>(bytes, bytes.len() - N),
+    let last = bytes.len() - N;
+    if others::<N>(bytes, 0) | others::<N>(bytes, last) == 0 {
+        return None;
+    }
+    match other_in::<N>(bytes, 0) {
+        None => other_in::<N>(bytes, last),
         found => found,
     }
 }
 
-/// The first byte over 127 of a rest of fewer than 32 bytes.
+/// The first byte over 127 of fewer than 32 bytes.
 #[inline(always)]
-fn other_in_rest(bytes: &[u8], at: usize) -> Option<usize>
-    requires inside { at ≤ length bytes.now }
-    requires short { length bytes.now ≤ at + LANES }
-    requires before { AllBefore (λ byte. byte < 128) bytes.now at }
+fn other_in_short(bytes: &[u8]) -> Option<usize>
+    requires { length bytes.now ≤ LANES }
     ensures { FindsFirstNot (λ byte. byte < 128) bytes.now (length bytes.now) result }
 {
-    match bytes.len() - at {
-        0..=7 => other_one_by_one(bytes, at),
-        8..=15 => other_in_two::<8>(bytes, at),
-        _ => other_in_two::<16>(bytes, at),
+    if bytes.len() >= 16 {
+        other_in_two::<16>(bytes)
+    } else if bytes.len() >= 8 {
+        other_in_two::<8>(bytes)
+    } else if bytes.len() >= 4 {
+        other_in_two::<4>(bytes)
+    } else {
+        other_one_by_one(bytes)
     }
 }
 
-/// The first byte over 127 from `at` on, byte by byte.
+/// The first byte over 127, byte by byte.
 #[inline(always)]
-fn other_one_by_one(bytes: &[u8], from: usize) -> Option<usize>
-    requires before { AllBefore (λ byte. byte < 128) bytes.now from }
+fn other_one_by_one(bytes: &[u8]) -> Option<usize>
     ensures { FindsFirstNot (λ byte. byte < 128) bytes.now (length bytes.now) result }
 {
-    for at in from..bytes.len() {
+    for at in 0..bytes.len() {
         if bytes[at] >= 128 {
             return Some(at);
         }
@@ -259,7 +263,8 @@ fn same_in_rest(first: &[u8], second: &[u8], at: usize) -> bool
     ensures { IsTrue result ↔ (map lower_image first.now ≡ map lower_image second.now) }
 {
     match first.len() - at {
-        0..=7 => same_one_by_one(first, second, at),
+        0..=3 => same_one_by_one(first, second, at),
+        4..=7 => same_in_two::<4>(first, second, at),
         8..=15 => same_in_two::<8>(first, second, at),
         16..=31 => same_in_two::<16>(first, second, at),
         _ => same_in_two::<LANES>(first, second, at),
