@@ -9,3 +9,11 @@ mod uses_of_spans;
 mod vectors;
 mod views;
 mod writing_views;
+
+use std::fmt::Debug;
+use std::process::Abort;
+
+/// Fails the test where what was got is not what is wanted, and shows both.
+fn same<T: PartialEq + Debug + Drop>(rt: &impl Abort, got: T, want: T) {
+    assert_eq!(rt; got, want);
+}

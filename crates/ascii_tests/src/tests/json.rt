@@ -1,5 +1,6 @@
 //! Characters and texts as JSON values.
 
+use super::same;
 use super::views::ascii;
 use ascii::AsciiChar;
 use ascii::json::{JsonError, char_from_json, char_to_json, str_from_json, string_from_json};
@@ -24,7 +25,7 @@ fn characters(rt: HostRuntime) -> Result<(), Fail> {
         assert!(rt; char_from_json(&value) == want, "of {source}");
     }
     let value = char_to_json(alloc, AsciiChar::Quotation)?;
-    assert_eq!(rt; value.to_string(alloc)?.as_str(), "\"\\\"\"");
+    same(&rt, value.to_string(alloc)?.as_str(), "\"\\\"\"");
     assert!(rt; char_from_json(&value) == Ok(AsciiChar::Quotation));
     Ok(())
 }
@@ -35,12 +36,12 @@ fn texts(rt: HostRuntime) -> Result<(), Fail> {
     for source in ["Francais", "", "a\"b\n", "\u{0}\u{7f}"] {
         let value = ascii(source).to_json(alloc)?;
         match str_from_json(&value) {
-            Ok(view) => assert_eq!(rt; view.as_str(), source),
+            Ok(view) => same(&rt, view.as_str(), source),
             Err(_) => assert!(rt; false, "of {source}"),
         }
         match string_from_json(alloc, &value) {
             Ok(string) => {
-                assert_eq!(rt; string.as_ascii_str().as_str(), source);
+                same(&rt, string.as_ascii_str().as_str(), source);
                 match through_json(alloc, &string) {
                     Ok(copy) => assert!(rt; copy == string),
                     Err(_) => assert!(rt; false, "of {source}"),
@@ -60,13 +61,13 @@ fn texts(rt: HostRuntime) -> Result<(), Fail> {
             Err(JsonError::NotText) => None,
             _ => Some(99),
         };
-        assert_eq!(rt; found, place, "of {source}");
+        same(&rt, found, place);
         let copied = match string_from_json(alloc, &value) {
             Err(JsonError::NotAscii(e)) => Some(e.valid_up_to()),
             Err(JsonError::NotText) => None,
             _ => Some(99),
         };
-        assert_eq!(rt; copied, place, "of {source}");
+        same(&rt, copied, place);
     }
     Ok(())
 }

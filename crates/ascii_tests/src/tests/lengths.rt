@@ -1,5 +1,6 @@
 //! Each call that takes memory, on texts of 0, 1, 33 and 5,000 bytes: nothing gives up past a length.
 
+use super::same;
 use ascii::iter::{End, walk_lines, walk_split};
 use ascii::json::{char_from_json, char_to_json, string_from_json};
 use ascii::{AsciiChar, AsciiString, BoxedAsciiStr, RcAsciiStr, bytes, text};
@@ -23,22 +24,24 @@ fn copies(rt: HostRuntime) -> Result<(), Fail> {
     for length in LENGTHS {
         let string = long(alloc, length)?;
         let view = string.as_ascii_str();
-        assert_eq!(rt; view.len(), length);
+        same(&rt, view.len(), length);
         assert!(rt; view.to_ascii_string(alloc)? == string);
         assert!(rt; string.clone()? == string);
         assert!(rt; view.to_ascii_lowercase(alloc)? == string);
         let upper = view.to_ascii_uppercase(alloc)?;
         assert!(rt; upper.as_ascii_str().eq_ignore_ascii_case(view));
-        assert_eq!(rt; upper == string, length == 0);
+        same(&rt, upper == string, length == 0);
         assert!(rt; bytes::to_ascii_string(alloc, view.as_bytes()).is_ok());
         assert!(rt; text::to_ascii_string(alloc, view.as_str()).is_ok());
-        assert_eq!(rt;
+        same(
+            &rt,
             BoxedAsciiStr::from_ascii_str(alloc, view)?.as_ascii_str(),
-            view
+            view,
         );
-        assert_eq!(rt;
+        same(
+            &rt,
             RcAsciiStr::from_ascii_str(alloc, view)?.as_ascii_str(),
-            view
+            view,
         );
     }
     Ok(())
@@ -51,18 +54,18 @@ fn collected(rt: HostRuntime) -> Result<(), Fail> {
         let string = long(alloc, length)?;
         let view = string.as_ascii_str();
         let chars = view.to_chars(alloc)?;
-        assert_eq!(rt; chars.len(), length);
+        same(&rt, chars.len(), length);
         assert!(rt; AsciiString::from_chars(alloc, &chars)? == string);
         assert!(rt; AsciiString::collect_chars(alloc, view.chars())? == string);
         assert!(rt; AsciiString::collect_strs(alloc, view.split(AsciiChar::Comma))? == string);
         let mut twice = AsciiString::collect_strs(alloc, view.lines())?;
         twice.extend_chars(view.chars())?;
         twice.extend_strs(view.lines())?;
-        assert_eq!(rt; twice.len(), 3 * length);
+        same(&rt, twice.len(), 3 * length);
         let Ok(chars) = string.into_chars(alloc) else {
             return Err(Fail::from("refused"));
         };
-        assert_eq!(rt; chars.len(), length);
+        same(&rt, chars.len(), length);
     }
     Ok(())
 }
@@ -84,9 +87,9 @@ fn walks(rt: HostRuntime) -> Result<(), Fail> {
         let view = string.as_ascii_str();
         let script = fronts(alloc, length)?;
         let answers = walk_split(alloc, view, AsciiChar::a, &script)?;
-        assert_eq!(rt; answers.len(), length);
+        same(&rt, answers.len(), length);
         assert!(rt; answers.iter().all(|answer| answer.is_some()));
-        assert_eq!(rt; walk_lines(alloc, view, &script)?.len(), length);
+        same(&rt, walk_lines(alloc, view, &script)?.len(), length);
     }
     Ok(())
 }

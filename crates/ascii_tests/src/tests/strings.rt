@@ -1,5 +1,6 @@
 //! Owned text: edits, conversions, collecting and printing.
 
+use super::same;
 use super::views::ascii;
 use ascii::{
     AsciiChar, AsciiStr, AsciiString, BoxedAsciiStr, CopyError, CowAsciiStr, RcAsciiStr, bytes,
@@ -26,17 +27,17 @@ fn edits(rt: HostRuntime) -> Result<(), Fail> {
     let mut string = owned(rt.alloc(), "abc")?;
     assert!(rt; 1 <= string.len());
     string.insert_str(1, ascii("def"))?;
-    assert_eq!(rt; shown(&string), "adefbc");
+    same(&rt, shown(&string), "adefbc");
     assert!(rt; 6 <= string.len());
     string.insert(6, AsciiChar::x)?;
-    assert_eq!(rt; shown(&string), "adefbcx");
+    same(&rt, shown(&string), "adefbcx");
     string.truncate(9);
     string.push_str(ascii(""))?;
-    assert_eq!(rt; shown(&string), "adefbcx");
+    same(&rt, shown(&string), "adefbcx");
     string.make_ascii_uppercase();
-    assert_eq!(rt; shown(&string), "ADEFBCX");
+    same(&rt, shown(&string), "ADEFBCX");
     string.make_ascii_lowercase();
-    assert_eq!(rt; shown(&string), "adefbcx");
+    same(&rt, shown(&string), "adefbcx");
     Ok(())
 }
 
@@ -44,26 +45,26 @@ fn edits(rt: HostRuntime) -> Result<(), Fail> {
 fn single_edits(rt: HostRuntime) -> Result<(), Fail> {
     let mut string = AsciiString::new(rt.alloc());
     assert!(rt; string.is_empty());
-    assert_eq!(rt; string.pop(), None);
+    same(&rt, string.pop(), None);
     string.push(AsciiChar::x)?;
-    assert_eq!(rt; shown(&string), "x");
-    assert_eq!(rt; string.pop(), Some(AsciiChar::x));
+    same(&rt, shown(&string), "x");
+    same(&rt, string.pop(), Some(AsciiChar::x));
     let mut string = owned(rt.alloc(), "foo")?;
     for (place, want) in [(0, AsciiChar::f), (1, AsciiChar::o), (0, AsciiChar::o)] {
         assert!(rt; place < string.len());
-        assert_eq!(rt; string.remove(place), want);
+        same(&rt, string.remove(place), want);
     }
     let mut string = owned(rt.alloc(), "foo")?;
     assert!(rt; 2 <= string.len());
     string.insert(2, AsciiChar::b)?;
-    assert_eq!(rt; shown(&string), "fobo");
+    same(&rt, shown(&string), "fobo");
     let mut string = owned(rt.alloc(), "hello")?;
     string.truncate(2);
-    assert_eq!(rt; shown(&string), "he");
+    same(&rt, shown(&string), "he");
     let mut string = owned(rt.alloc(), "hello world\0")?;
     assert!(rt; 0 < string.len());
     string.set(0, AsciiChar::H);
-    assert_eq!(rt; shown(&string), "Hello world\0");
+    same(&rt, shown(&string), "Hello world\0");
     Ok(())
 }
 
@@ -74,21 +75,21 @@ fn capacities(rt: HostRuntime) -> Result<(), Fail> {
     for _ in 0..10 {
         string.push(AsciiChar::a)?;
     }
-    assert_eq!(rt; shown(&string), "aaaaaaaaaa");
+    same(&rt, shown(&string), "aaaaaaaaaa");
     let capacity = string.capacity();
     string.clear();
-    assert_eq!(rt; string.capacity(), capacity);
+    same(&rt, string.capacity(), capacity);
     assert!(rt; string.is_empty());
     string.push_str(ascii("ab"))?;
     assert!(rt; string.len() <= 2);
     string.reserve(100)?;
     assert!(rt; 102 <= string.capacity());
     string.shrink_to_fit()?;
-    assert_eq!(rt; string.capacity(), 2);
+    same(&rt, string.capacity(), 2);
     assert!(rt; string.len() <= 2);
     string.reserve_exact(3)?;
     assert!(rt; 5 <= string.capacity());
-    assert_eq!(rt; shown(&string), "ab");
+    same(&rt, shown(&string), "ab");
     Ok(())
 }
 
@@ -100,23 +101,23 @@ fn taken_over(rt: HostRuntime) -> Result<(), Fail> {
         let Err(refusal) = string::into_ascii_string(given) else {
             return Err(Fail::from("accepted"));
         };
-        assert_eq!(rt; refusal.ascii_error().valid_up_to(), position);
+        same(&rt, refusal.ascii_error().valid_up_to(), position);
         let Err(again) = string::from_ascii(refusal.into_source()) else {
             return Err(Fail::from("accepted"));
         };
-        assert_eq!(rt; again.into_source().as_str(), source);
+        same(&rt, again.into_source().as_str(), source);
         let Err(CopyError::NotAscii(refusal)) = text::to_ascii_string(rt.alloc(), source) else {
             return Err(Fail::from("accepted"));
         };
-        assert_eq!(rt; refusal.ascii_error().valid_up_to(), position);
-        assert_eq!(rt; refusal.into_source(), source);
+        same(&rt, refusal.ascii_error().valid_up_to(), position);
+        same(&rt, refusal.into_source(), source);
         let Err(CopyError::NotAscii(refusal)) = bytes::to_ascii_string(
             rt.alloc(),
             source.as_bytes(),
         ) else {
             return Err(Fail::from("accepted"));
         };
-        assert_eq!(rt; refusal.into_source(), source.as_bytes());
+        same(&rt, refusal.into_source(), source.as_bytes());
     }
     Ok(())
 }
@@ -126,18 +127,24 @@ fn refused_bytes(rt: HostRuntime) -> Result<(), Fail> {
     let Err(refusal) = vec::into_ascii_string(vec![in rt.alloc(); 127, 128, 255]?) else {
         return Err(Fail::from("accepted"));
     };
-    assert_eq!(rt;
+    same(
+        &rt,
         format!(in rt.alloc(); "{refusal}")?.as_str(),
-        "the byte at index 1 is not ASCII"
+        "the byte at index 1 is not ASCII",
     );
-    assert_eq!(rt;
+    same(
+        &rt,
         format!(in rt.alloc(); "{refusal:?}")?.as_str(),
-        "AsAsciiStrError(1)"
+        "AsAsciiStrError(1)",
     );
     let Err(again) = vec::from_ascii(refusal.into_source()) else {
         return Err(Fail::from("accepted"));
     };
-    assert_eq!(rt; again.into_source().as_slice(), [127, 128, 255].as_slice());
+    same(
+        &rt,
+        again.into_source().as_slice(),
+        [127, 128, 255].as_slice(),
+    );
     Ok(())
 }
 
@@ -146,23 +153,23 @@ fn kept_buffers(rt: HostRuntime) -> Result<(), Fail> {
     let Ok(kept) = vec::into_ascii_string(vec![in rt.alloc(); 40, 32, 59]?) else {
         return Err(Fail::from("refused"));
     };
-    assert_eq!(rt; shown(&kept), "( ;");
+    same(&rt, shown(&kept), "( ;");
     let codes: Vec<u8> = kept.into();
-    assert_eq!(rt; codes.as_slice(), [40, 32, 59].as_slice());
+    same(&rt, codes.as_slice(), [40, 32, 59].as_slice());
     let Ok(kept) = vec::from_ascii(codes) else {
         return Err(Fail::from("refused"));
     };
     let given: String = kept.into();
-    assert_eq!(rt; given.as_str(), "( ;");
+    same(&rt, given.as_str(), "( ;");
     let Ok(kept) = string::into_ascii_string(given) else {
         return Err(Fail::from("refused"));
     };
     let Ok(kept) = string::from_ascii(kept.into()) else {
         return Err(Fail::from("refused"));
     };
-    assert_eq!(rt; shown(&kept), "( ;");
+    same(&rt, shown(&kept), "( ;");
     let unchecked = AsciiString::from_ascii_unchecked(vec![in rt.alloc(); 65, 66]?);
-    assert_eq!(rt; shown(&unchecked), "AB");
+    same(&rt, shown(&unchecked), "AB");
     Ok(())
 }
 
@@ -171,43 +178,46 @@ fn conversions(rt: HostRuntime) -> Result<(), Fail> {
     let Ok(copy) = text::to_ascii_string(rt.alloc(), "abc") else {
         return Err(Fail::from("refused"));
     };
-    assert_eq!(rt; shown(&copy), "abc");
+    same(&rt, shown(&copy), "abc");
     let Ok(copy) = bytes::to_ascii_string(rt.alloc(), b"abc") else {
         return Err(Fail::from("refused"));
     };
     let Ok(boxed) = copy.into_boxed_ascii_str() else {
         return Err(Fail::from("refused"));
     };
-    assert_eq!(rt; boxed.as_ascii_str().as_str(), "abc");
+    same(&rt, boxed.as_ascii_str().as_str(), "abc");
     let Ok(copy) = boxed.into_ascii_string() else {
         return Err(Fail::from("refused"));
     };
     let Ok(shared) = copy.into_rc_ascii_str(rt.alloc()) else {
         return Err(Fail::from("refused"));
     };
-    assert_eq!(rt; shared.clone()?.as_ascii_str().as_str(), "abc");
-    assert_eq!(rt; shared.as_ascii_str().as_str(), "abc");
+    same(&rt, shared.clone()?.as_ascii_str().as_str(), "abc");
+    same(&rt, shared.as_ascii_str().as_str(), "abc");
     let view = ascii("abc");
-    assert_eq!(rt;
+    same(
+        &rt,
         RcAsciiStr::from_ascii_str(rt.alloc(), view)?.as_ascii_str(),
-        view
+        view,
     );
     let boxed = BoxedAsciiStr::from_ascii_str(rt.alloc(), view)?;
-    assert_eq!(rt; boxed.into_boxed_str().as_str(), "abc");
+    same(&rt, boxed.into_boxed_str().as_str(), "abc");
     let chars = view.to_chars(rt.alloc())?;
-    assert_eq!(rt;
+    same(
+        &rt,
         chars.as_slice(),
-        [AsciiChar::a, AsciiChar::b, AsciiChar::c].as_slice()
+        [AsciiChar::a, AsciiChar::b, AsciiChar::c].as_slice(),
     );
     let copy = AsciiString::from_chars(rt.alloc(), &chars)?;
-    assert_eq!(rt; shown(&copy), "abc");
+    same(&rt, shown(&copy), "abc");
     let Ok(chars) = copy.into_chars(rt.alloc()) else {
         return Err(Fail::from("refused"));
     };
-    assert_eq!(rt; chars.len(), 3);
-    assert_eq!(rt;
+    same(&rt, chars.len(), 3);
+    same(
+        &rt,
         shown(&AsciiString::from_char(rt.alloc(), AsciiChar::A)?),
-        "A"
+        "A",
     );
     Ok(())
 }
@@ -216,16 +226,16 @@ fn conversions(rt: HostRuntime) -> Result<(), Fail> {
 fn borrowed_or_owned(rt: HostRuntime) -> Result<(), Fail> {
     let view = ascii("abc");
     let borrowed: CowAsciiStr = view.into();
-    assert_eq!(rt; borrowed.as_ascii_str().as_str(), "abc");
+    same(&rt, borrowed.as_ascii_str().as_str(), "abc");
     let Ok(copy) = borrowed.into_owned(rt.alloc()) else {
         return Err(Fail::from("refused"));
     };
     let held: CowAsciiStr = copy.into();
-    assert_eq!(rt; held.as_ascii_str().as_str(), "abc");
+    same(&rt, held.as_ascii_str().as_str(), "abc");
     let Ok(copy) = held.into_owned(rt.alloc()) else {
         return Err(Fail::from("refused"));
     };
-    assert_eq!(rt; shown(&copy), "abc");
+    same(&rt, shown(&copy), "abc");
     Ok(())
 }
 
@@ -236,13 +246,13 @@ fn compared(rt: HostRuntime) -> Result<(), Fail> {
         for (j, other) in rising.iter().enumerate() {
             let one = owned(rt.alloc(), *one)?;
             let other = owned(rt.alloc(), *other)?;
-            assert_eq!(rt; one == other, i == j);
-            assert_eq!(rt; one.cmp(&other), i.cmp(&j));
-            assert_eq!(rt; one.partial_cmp(&other), Some(i.cmp(&j)));
+            same(&rt, one == other, i == j);
+            same(&rt, one.cmp(&other), i.cmp(&j));
+            same(&rt, one.partial_cmp(&other), Some(i.cmp(&j)));
         }
     }
     let string = owned(rt.alloc(), "abc")?;
-    assert_eq!(rt; string.clone()?.cmp(&string), Ordering::Equal);
+    same(&rt, string.clone()?.cmp(&string), Ordering::Equal);
     let mut strings = HashSet::new(rt.alloc());
     strings.insert(string.clone()?)?;
     assert!(rt; strings.contains(&string));
@@ -259,9 +269,9 @@ fn collected(rt: HostRuntime) -> Result<(), Fail> {
     let view = ascii("abc");
     let mut string = AsciiString::collect_chars(rt.alloc(), view.chars())?;
     string.extend_chars(view.into_iter())?;
-    assert_eq!(rt; shown(&string), "abcabc");
+    same(&rt, shown(&string), "abcabc");
     string.extend_strs(ascii("one\ntwo\nthree").lines())?;
-    assert_eq!(rt; shown(&string), "abcabconetwothree");
+    same(&rt, shown(&string), "abcabconetwothree");
     let pieces: Vec<AsciiStr<'_>> = ascii("ASCII Ascii ascii")
         .split(AsciiChar::Space)
         .collect(rt.alloc())?;
@@ -269,9 +279,9 @@ fn collected(rt: HostRuntime) -> Result<(), Fail> {
         string.push_str(piece.to_ascii_uppercase(rt.alloc())?.as_ascii_str())?;
     }
     string.push(AsciiChar::LineFeed)?;
-    assert_eq!(rt; shown(&string), "abcabconetwothreeASCIIASCIIASCII\n");
+    same(&rt, shown(&string), "abcabconetwothreeASCIIASCIIASCII\n");
     let joined = AsciiString::collect_strs(rt.alloc(), ascii("a,b,,c").split(AsciiChar::Comma))?;
-    assert_eq!(rt; shown(&joined), "abc");
+    same(&rt, shown(&joined), "abc");
     Ok(())
 }
 
@@ -281,31 +291,34 @@ fn printed(rt: HostRuntime) -> Result<(), Fail> {
     string.write_str("ab")?;
     assert!(rt; string.write_str("cé").is_err());
     assert!(rt; string.write_char('é').is_err());
-    assert_eq!(rt; shown(&string), "ab");
+    same(&rt, shown(&string), "ab");
     string.write_char('c')?;
-    assert_eq!(rt; shown(&string), "abc");
+    same(&rt, shown(&string), "abc");
     let mut counted = AsciiString::new(rt.alloc());
     write!(counted, "Hello {} {}", "World", 9)?;
-    assert_eq!(rt; shown(&counted), "Hello World 9");
+    same(&rt, shown(&counted), "Hello World 9");
     let view = string.as_ascii_str();
-    assert_eq!(rt;
+    same(
+        &rt,
         format!(in rt.alloc(); "{view}{string}")?.as_str(),
-        "abcabc"
+        "abcabc",
     );
-    assert_eq!(rt;
+    same(
+        &rt,
         format!(in rt.alloc(); "{view:>5}{string:>5}")?.as_str(),
-        "  abc  abc"
+        "  abc  abc",
     );
-    assert_eq!(rt;
+    same(
+        &rt,
         format!(in rt.alloc(); "{view:?}{string:?}")?.as_str(),
-        "\"abc\"\"abc\""
+        "\"abc\"\"abc\"",
     );
     for (source, want) in [
         ("\0\t'\\\x7f", "\"\\0\\t'\\\\\\u{7f}\""),
         ("a\"b", "\"a\\\"b\""),
     ] {
         let view = ascii(source);
-        assert_eq!(rt; format!(in rt.alloc(); "{view:?}")?.as_str(), want);
+        same(&rt, format!(in rt.alloc(); "{view:?}")?.as_str(), want);
     }
     Ok(())
 }

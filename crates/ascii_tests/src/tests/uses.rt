@@ -1,5 +1,6 @@
 //! The callers of the iterators, each once.
 
+use super::same;
 use super::views::ascii;
 use ascii::{AsciiChar, AsciiString};
 use ascii_uses::iterators::{
@@ -15,19 +16,19 @@ use std::test::Fail;
 #[test]
 fn counts_and_lengths(rt: HostRuntime) -> Result<(), Fail> {
     let view = ascii("foo;bar;;a");
-    assert_eq!(rt; piece_count(view, AsciiChar::Semicolon), 4);
+    same(&rt, piece_count(view, AsciiChar::Semicolon), 4);
     let lengths = piece_lengths(rt.alloc(), view, AsciiChar::Semicolon)?;
-    assert_eq!(rt; lengths.as_slice(), &[3, 3, 0, 1][..]);
+    same(&rt, lengths.as_slice(), &[3, 3, 0, 1][..]);
     let view = ascii("foo\r\nba\n\nx");
     let lengths = line_lengths(rt.alloc(), view)?;
-    assert_eq!(rt; lengths.as_slice(), &[3, 2, 0, 1][..]);
+    same(&rt, lengths.as_slice(), &[3, 2, 0, 1][..]);
     let bodies = bodies_reversed(rt.alloc(), view)?;
     let mut joined = AsciiString::new(rt.alloc());
     for body in &bodies {
         joined.push_str(*body)?;
         joined.push(AsciiChar::VerticalBar)?;
     }
-    assert_eq!(rt; joined.as_ascii_str().as_str(), "x||ba|foo|");
+    same(&rt, joined.as_ascii_str().as_str(), "x||ba|foo|");
     Ok(())
 }
 
@@ -35,15 +36,16 @@ fn counts_and_lengths(rt: HostRuntime) -> Result<(), Fail> {
 fn texts(rt: HostRuntime) -> Result<(), Fail> {
     let mut string = AsciiString::new(rt.alloc());
     push_upper(&mut string, ascii("aB1"))?;
-    assert_eq!(rt; string.as_ascii_str().as_str(), "AB1");
+    same(&rt, string.as_ascii_str().as_str(), "AB1");
     let text = without(rt.alloc(), ascii("a,b,,c"), AsciiChar::Comma)?;
-    assert_eq!(rt; text.as_ascii_str().as_str(), "abc");
+    same(&rt, text.as_ascii_str().as_str(), "abc");
     let text = unbroken(rt.alloc(), ascii("foo\r\nba\r\rx\n"))?;
-    assert_eq!(rt; text.as_ascii_str().as_str(), "fooba\r\rx");
-    assert_eq!(rt; bracketed(rt.alloc(), ascii("ab"))?.as_str(), "[ab]");
-    assert_eq!(rt;
+    same(&rt, text.as_ascii_str().as_str(), "fooba\r\rx");
+    same(&rt, bracketed(rt.alloc(), ascii("ab"))?.as_str(), "[ab]");
+    same(
+        &rt,
         quoted(rt.alloc(), ascii("a\"\t"))?.as_str(),
-        "\"a\\\"\\t\""
+        "\"a\\\"\\t\"",
     );
     Ok(())
 }
@@ -53,24 +55,28 @@ fn written_again(rt: HostRuntime) -> Result<(), Fail> {
     let mut string = ascii("abcd").to_ascii_string(rt.alloc())?;
     assert!(rt; 0 < string.len());
     replace_last(&mut string, AsciiChar::x)?;
-    assert_eq!(rt; string.as_ascii_str().as_str(), "abcx");
+    same(&rt, string.as_ascii_str().as_str(), "abcx");
     assert!(rt; 1 < string.len());
     move_to_the_end(&mut string, 1)?;
-    assert_eq!(rt; string.as_ascii_str().as_str(), "acxb");
+    same(&rt, string.as_ascii_str().as_str(), "acxb");
     assert!(rt; 2 < string.len());
     cut_with(&mut string, 2, AsciiChar::Tilde)?;
-    assert_eq!(rt; string.as_ascii_str().as_str(), "ac~");
+    same(&rt, string.as_ascii_str().as_str(), "ac~");
     assert!(rt; 0 < string.len());
     begin_anew(&mut string, AsciiChar::z)?;
     write_nothing(&mut string)?;
-    assert_eq!(rt; string.as_ascii_str().as_str(), "z");
-    assert_eq!(rt; spare_room(&string), string.capacity().saturating_sub(1));
+    same(&rt, string.as_ascii_str().as_str(), "z");
+    same(
+        &rt,
+        spare_room(&string),
+        string.capacity().saturating_sub(1),
+    );
     assert!(rt; string.len() < string.capacity());
-    assert_eq!(rt; ended_bytes(string, 10)?.as_slice(), b"z\n".as_slice());
+    same(&rt, ended_bytes(string, 10)?.as_slice(), b"z\n".as_slice());
     let mut string = AsciiString::with_capacity(rt.alloc(), 2)?;
     string.push(AsciiChar::a)?;
     assert!(rt; string.len() < string.capacity());
-    assert_eq!(rt; ended_text(string)?.as_str(), "a.");
-    assert_eq!(rt; blank(), AsciiChar::Null);
+    same(&rt, ended_text(string)?.as_str(), "a.");
+    same(&rt, blank(), AsciiChar::Null);
     Ok(())
 }

@@ -1,5 +1,6 @@
 //! The callers of the iterators with starts, fronts and remainders, each once.
 
+use super::same;
 use super::views::ascii;
 use ascii::AsciiChar;
 use ascii::iter::{End, Ending, LineSpan, SplitSpan};
@@ -22,40 +23,56 @@ fn loops_and_chains(rt: HostRuntime) -> Result<(), Fail> {
     let alloc = rt.alloc();
     let on = AsciiChar::Comma;
     let view = ascii("ab,,c");
-    assert_eq!(rt; piece_span_count(view, on), 3);
-    assert_eq!(rt; piece_starts(alloc, view, on)?.as_slice(), &[0, 3, 4][..]);
-    assert_eq!(rt;
-        piece_starts_by_for(alloc, view, on)?.as_slice(),
-        &[0, 3, 4][..]
+    same(&rt, piece_span_count(view, on), 3);
+    same(
+        &rt,
+        piece_starts(alloc, view, on)?.as_slice(),
+        &[0, 3, 4][..],
     );
-    assert_eq!(rt;
+    same(
+        &rt,
+        piece_starts_by_for(alloc, view, on)?.as_slice(),
+        &[0, 3, 4][..],
+    );
+    same(
+        &rt,
         piece_lengths_by_map(alloc, view, on)?.as_slice(),
-        &[2, 0, 1][..]
+        &[2, 0, 1][..],
     );
     let last = SplitSpan {
         start: 4,
         text: ascii("c"),
     };
-    assert_eq!(rt; piece_spans_reversed(alloc, view, on)?.first(), Some(&last));
-    assert_eq!(rt;
+    same(
+        &rt,
+        piece_spans_reversed(alloc, view, on)?.first(),
+        Some(&last),
+    );
+    same(
+        &rt,
         pieces_reversed(alloc, view, on)?.first(),
-        Some(&ascii("c"))
+        Some(&ascii("c")),
     );
     let view = ascii("ab\r\n\nc");
-    assert_eq!(rt; line_count(view), 3);
-    assert_eq!(rt; line_span_count(view), 3);
-    assert_eq!(rt; line_starts(alloc, view)?.as_slice(), &[0, 4, 5][..]);
-    assert_eq!(rt; line_starts_by_for(alloc, view)?.as_slice(), &[0, 4, 5][..]);
-    assert_eq!(rt;
+    same(&rt, line_count(view), 3);
+    same(&rt, line_span_count(view), 3);
+    same(&rt, line_starts(alloc, view)?.as_slice(), &[0, 4, 5][..]);
+    same(
+        &rt,
+        line_starts_by_for(alloc, view)?.as_slice(),
+        &[0, 4, 5][..],
+    );
+    same(
+        &rt,
         line_lengths_by_for(alloc, view)?.as_slice(),
-        &[2, 0, 1][..]
+        &[2, 0, 1][..],
     );
     let last = LineSpan {
         start: 5,
         text: ascii("c"),
         ending: Ending::Absent,
     };
-    assert_eq!(rt; line_spans_reversed(alloc, view)?.first(), Some(&last));
+    same(&rt, line_spans_reversed(alloc, view)?.first(), Some(&last));
     Ok(())
 }
 
@@ -64,23 +81,28 @@ fn fronts(rt: HostRuntime) -> Result<(), Fail> {
     let alloc = rt.alloc();
     let on = AsciiChar::Comma;
     let view = ascii("ab,,c");
-    assert_eq!(rt; first_pieces(alloc, view, on, 2)?.last(), Some(&ascii("")));
+    same(
+        &rt,
+        first_pieces(alloc, view, on, 2)?.last(),
+        Some(&ascii("")),
+    );
     let second = SplitSpan {
         start: 3,
         text: ascii(""),
     };
-    assert_eq!(rt;
+    same(
+        &rt,
         first_piece_spans(alloc, view, on, 2)?.last(),
-        Some(&second)
+        Some(&second),
     );
     let view = ascii("ab\r\n\nc");
-    assert_eq!(rt; first_bodies(alloc, view, 9)?.len(), 3);
+    same(&rt, first_bodies(alloc, view, 9)?.len(), 3);
     let first = LineSpan {
         start: 0,
         text: ascii("ab"),
         ending: Ending::CrLf,
     };
-    assert_eq!(rt; first_line_spans(alloc, view, 1)?.last(), Some(&first));
+    same(&rt, first_line_spans(alloc, view, 1)?.last(), Some(&first));
     Ok(())
 }
 
@@ -89,27 +111,27 @@ fn stopped_and_resumed(rt: HostRuntime) -> Result<(), Fail> {
     let alloc = rt.alloc();
     let on = AsciiChar::Comma;
     let view = ascii("ab,,c");
-    assert_eq!(rt; count_behind_first(view, on), 2);
-    assert_eq!(rt; behind_two(view, on), Some(ascii("c")));
+    same(&rt, count_behind_first(view, on), 2);
+    same(&rt, behind_two(view, on), Some(ascii("c")));
     let mut split = view.split(on);
     split.next();
     let again = split_again(&split, on).and_then(|mut again| again.next_back());
-    assert_eq!(rt; again, Some(ascii("c")));
-    assert_eq!(rt; lengths_left(alloc, split)?.as_slice(), &[0, 1][..]);
+    same(&rt, again, Some(ascii("c")));
+    same(&rt, lengths_left(alloc, split)?.as_slice(), &[0, 1][..]);
     let mut split = view.split_spans(on);
     split.next();
     let again = split_spans_again(&split, on).and_then(|mut again| again.next());
-    assert_eq!(rt; again, split.next());
+    same(&rt, again, split.next());
     let view = ascii("ab\r\n\nc");
-    assert_eq!(rt; count_before_last(view), 2);
+    same(&rt, count_before_last(view), 2);
     let (count, mut lines) = counted_lines(view)?;
-    assert_eq!(rt; count, 3);
+    same(&rt, count, 3);
     lines.next();
     let again = lines_again(&lines).and_then(|mut again| again.next());
-    assert_eq!(rt; again, lines.next());
+    same(&rt, again, lines.next());
     let mut lines = view.line_spans();
     lines.next();
     let again = line_spans_again(&lines).and_then(|mut again| again.next_back());
-    assert_eq!(rt; again, take_line_span(&mut lines, End::Back));
+    same(&rt, again, take_line_span(&mut lines, End::Back));
     Ok(())
 }

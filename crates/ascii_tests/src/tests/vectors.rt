@@ -1,5 +1,6 @@
 //! Vectors that were made with the Rust crate.
 
+use super::same;
 use super::views::{ascii, outcome};
 use ascii::{AsciiChar, AsciiRange, bytes, text};
 use std::alloc::{AllocError, Global};
@@ -60,14 +61,14 @@ fn length_of(slice: Result<&str, usize>) -> Result<usize, usize> {
 #[test]
 fn every_form_at_its_edges(rt: HostRuntime) -> Result<(), Fail> {
     let whole = ascii("@ABCDEFGHIJKLMNOPQRSTUVWXYZ[\\]^_`");
-    assert_eq!(rt; whole.len(), 33);
-    for (length, letters) in OUTCOMES {
+    same(&rt, whole.len(), 33);
+    for &(length, letters) in &OUTCOMES {
         let Ok(view) = whole.slice_ascii(AsciiRange::To(length)) else {
             return Err(Fail::from("too long"));
         };
         let source = view.as_str();
         let all = ranges(rt.alloc(), length)?;
-        assert_eq!(rt; all.len(), letters.len());
+        same(&rt, all.len(), letters.len());
         for (range, letter) in all.iter().zip(letters.bytes()) {
             let want = match letter {
                 b'w' => Ok(source),
@@ -75,18 +76,19 @@ fn every_form_at_its_edges(rt: HostRuntime) -> Result<(), Fail> {
                 b'f' => Ok("@"),
                 _ => Err(length),
             };
-            assert_eq!(rt; outcome(view.slice_ascii(*range)), want);
-            assert_eq!(rt; outcome(text::slice_ascii(source, *range)), want);
-            assert_eq!(rt;
+            same(&rt, outcome(view.slice_ascii(*range)), want);
+            same(&rt, outcome(text::slice_ascii(source, *range)), want);
+            same(
+                &rt,
                 outcome(bytes::slice_ascii(source.as_bytes(), *range)),
-                want
+                want,
             );
-            assert_eq!(rt; range.fits(length), want.is_ok());
+            same(&rt, range.fits(length), want.is_ok());
             let mut copy = [0; 33];
             let Some(part) = copy.get_mut(..length) else {
                 return Err(Fail::from("too long"));
             };
-            assert_eq!(rt; length_for_writing(part, *range), length_of(want));
+            same(&rt, length_for_writing(part, *range), length_of(want));
         }
     }
     Ok(())
@@ -204,25 +206,27 @@ static TRIMS: [(&str, &str, &str, &str, &str, &str); 20] = [
 
 #[test]
 fn trims(rt: HostRuntime) {
-    for (source, start, end, both, _, _) in TRIMS {
+    for &(source, start, end, both, _, _) in &TRIMS {
         let view = ascii(source);
-        assert_eq!(rt; view.trim_start().as_str(), start);
-        assert_eq!(rt; view.trim_end().as_str(), end);
-        assert_eq!(rt; view.trim().as_str(), both);
+        same(&rt, view.trim_start().as_str(), start);
+        same(&rt, view.trim_end().as_str(), end);
+        same(&rt, view.trim().as_str(), both);
     }
 }
 
 #[test]
 fn cases(rt: HostRuntime) -> Result<(), Fail> {
-    for (source, _, _, _, upper, lower) in TRIMS {
+    for &(source, _, _, _, upper, lower) in &TRIMS {
         let view = ascii(source);
-        assert_eq!(rt;
+        same(
+            &rt,
             view.to_ascii_uppercase(rt.alloc())?.as_ascii_str().as_str(),
-            upper
+            upper,
         );
-        assert_eq!(rt;
+        same(
+            &rt,
             view.to_ascii_lowercase(rt.alloc())?.as_ascii_str().as_str(),
-            lower
+            lower,
         );
     }
     Ok(())
@@ -258,13 +262,9 @@ static COMPARISONS: [(&str, &str, Ordering, bool); 24] = [
 
 #[test]
 fn comparisons(rt: HostRuntime) {
-    for (one, other, order, is_equal) in COMPARISONS {
-        assert_eq!(rt; ascii(one).cmp(&ascii(other)), order, "{one} {other}");
-        assert_eq!(rt;
-            ascii(one).eq_ignore_ascii_case(ascii(other)),
-            is_equal,
-            "{one} {other}"
-        );
+    for &(one, other, order, is_equal) in &COMPARISONS {
+        same(&rt, ascii(one).cmp(&ascii(other)), order);
+        same(&rt, ascii(one).eq_ignore_ascii_case(ascii(other)), is_equal);
     }
 }
 
@@ -400,15 +400,23 @@ static DEBUGS: [&str; 128] = [
     "\"\\u{7f}\"",
 ];
 
+/// What `{:?}` writes of a text of one byte, as a view and as a string.
+fn debug_of(alloc: Global, code: u8) -> Result<(String, String), Fail> {
+    let source = [code];
+    let view = bytes::as_ascii_str(source.as_slice()).unwrap_or_default();
+    let string = view.to_ascii_string(alloc)?;
+    Ok((
+        format!(in alloc; "{view:?}")?,
+        format!(in alloc; "{string:?}")?,
+    ))
+}
+
 #[test]
 fn debug_of_each_code(rt: HostRuntime) -> Result<(), Fail> {
-    for (code, want) in (0..128).zip(DEBUGS) {
-        let source = [code];
-        let view = bytes::as_ascii_str(source.as_slice()).unwrap_or_default();
-        assert_eq!(rt; view.len(), 1);
-        assert_eq!(rt; format!(in rt.alloc(); "{view:?}")?.as_str(), want);
-        let string = view.to_ascii_string(rt.alloc())?;
-        assert_eq!(rt; format!(in rt.alloc(); "{string:?}")?.as_str(), want);
+    for (code, want) in (0..128).zip(&DEBUGS) {
+        let (view, string) = debug_of(rt.alloc(), code)?;
+        same(&rt, view.as_str(), *want);
+        same(&rt, string.as_str(), *want);
     }
     Ok(())
 }

@@ -1,5 +1,6 @@
 //! Views: slices, reads, trims and comparisons.
 
+use super::same;
 use ascii::{AsAsciiStrError, AsciiChar, AsciiRange, AsciiStr, bytes, text};
 use std::cmp::Ordering;
 use std::test::Fail;
@@ -38,11 +39,11 @@ fn slices_of_text(rt: HostRuntime) {
         ("zoä华", AsciiRange::Full, Err(2)),
         ("( ;", AsciiRange::Full, Ok("( ;")),
     ] {
-        assert_eq!(rt; outcome(text::slice_ascii(source, range)), want, "{source}");
-        assert_eq!(rt;
+        same(&rt, outcome(text::slice_ascii(source, range)), want);
+        same(
+            &rt,
             outcome(bytes::slice_ascii(source.as_bytes(), range)),
             want,
-            "{source}"
         );
     }
     for (source, want) in [
@@ -51,18 +52,20 @@ fn slices_of_text(rt: HostRuntime) {
         ("( ;", Ok("( ;")),
         ("", Ok("")),
     ] {
-        assert_eq!(rt; outcome(text::as_ascii_str(source)), want);
-        assert_eq!(rt; outcome(text::from_ascii(source)), want);
-        assert_eq!(rt; outcome(bytes::as_ascii_str(source.as_bytes())), want);
-        assert_eq!(rt; outcome(bytes::from_ascii(source.as_bytes())), want);
+        same(&rt, outcome(text::as_ascii_str(source)), want);
+        same(&rt, outcome(text::from_ascii(source)), want);
+        same(&rt, outcome(bytes::as_ascii_str(source.as_bytes())), want);
+        same(&rt, outcome(bytes::from_ascii(source.as_bytes())), want);
     }
-    assert_eq!(rt;
+    same(
+        &rt,
         outcome(bytes::as_ascii_str([127, 128, 255].as_slice())),
-        Err(1)
+        Err(1),
     );
-    assert_eq!(rt;
+    same(
+        &rt,
         outcome(bytes::slice_ascii([0xc4, 0x8d].as_slice(), AsciiRange::Range(1, 1))),
-        Ok("")
+        Ok(""),
     );
 }
 
@@ -70,14 +73,20 @@ fn slices_of_text(rt: HostRuntime) {
 fn a_byte_past_127_behind_32(rt: HostRuntime) {
     let mut source = [b'a'; 33];
     source[32] = 128;
-    assert_eq!(rt; outcome(bytes::as_ascii_str(source.as_slice())), Err(32));
-    assert_eq!(rt;
-        outcome(bytes::slice_ascii(source.as_slice(), AsciiRange::From(1))),
-        Err(32)
+    same(
+        &rt,
+        outcome(bytes::as_ascii_str(source.as_slice())),
+        Err(32),
     );
-    assert_eq!(rt;
+    same(
+        &rt,
+        outcome(bytes::slice_ascii(source.as_slice(), AsciiRange::From(1))),
+        Err(32),
+    );
+    same(
+        &rt,
         outcome(bytes::slice_ascii(source.as_slice(), AsciiRange::To(32))),
-        Ok("aaaaaaaaaaaaaaaaaaaaaaaaaaaaaaaa")
+        Ok("aaaaaaaaaaaaaaaaaaaaaaaaaaaaaaaa"),
     );
 }
 
@@ -91,33 +100,29 @@ fn characters_of_sources(rt: HostRuntime) {
         ("", 0, None),
         ("ab", usize::MAX, None),
     ] {
-        assert_eq!(rt; text::get_ascii(source, i), want, "{source} at {i}");
-        assert_eq!(rt;
-            bytes::get_ascii(source.as_bytes(), i),
-            want,
-            "{source} at {i}"
-        );
+        same(&rt, text::get_ascii(source, i), want);
+        same(&rt, bytes::get_ascii(source.as_bytes(), i), want);
     }
     let view = ascii("abc");
-    assert_eq!(rt; view.first(), Some(AsciiChar::a));
-    assert_eq!(rt; view.last(), Some(AsciiChar::c));
-    assert_eq!(rt; view.get_ascii(1), Some(AsciiChar::b));
-    assert_eq!(rt; view.get_ascii(3), None);
-    assert_eq!(rt; view.len(), 3);
+    same(&rt, view.first(), Some(AsciiChar::a));
+    same(&rt, view.last(), Some(AsciiChar::c));
+    same(&rt, view.get_ascii(1), Some(AsciiChar::b));
+    same(&rt, view.get_ascii(3), None);
+    same(&rt, view.len(), 3);
     assert!(rt; !view.is_empty());
     let empty = AsciiStr::default();
     assert!(rt; empty.is_empty());
-    assert_eq!(rt; empty.first(), None);
-    assert_eq!(rt; empty.last(), None);
+    same(&rt, empty.first(), None);
+    same(&rt, empty.last(), None);
 }
 
 #[test]
 fn parts_of_views(rt: HostRuntime) {
     let view = bytes::as_ascii_str_unchecked(b"ABCD");
-    assert_eq!(rt; view, text::as_ascii_str_unchecked("ABCD"));
-    assert_eq!(rt; view, bytes::from_ascii_unchecked(b"ABCD"));
-    assert_eq!(rt; view, text::from_ascii_unchecked("ABCD"));
-    assert_eq!(rt; outcome(view.as_ascii_str()), Ok("ABCD"));
+    same(&rt, view, text::as_ascii_str_unchecked("ABCD"));
+    same(&rt, view, bytes::from_ascii_unchecked(b"ABCD"));
+    same(&rt, view, text::from_ascii_unchecked("ABCD"));
+    same(&rt, outcome(view.as_ascii_str()), Ok("ABCD"));
     for (range, want) in [
         (AsciiRange::Full, "ABCD"),
         (AsciiRange::To(4), "ABCD"),
@@ -132,17 +137,17 @@ fn parts_of_views(rt: HostRuntime) {
         (AsciiRange::Inclusive(0, 2), "ABC"),
     ] {
         assert!(rt; range.fits(view.len()));
-        assert_eq!(rt; view.slice(range).as_str(), want);
-        assert_eq!(rt; outcome(view.slice_ascii(range)), Ok(want));
+        same(&rt, view.slice(range).as_str(), want);
+        same(&rt, outcome(view.slice_ascii(range)), Ok(want));
     }
-    assert_eq!(rt; outcome(view.slice_ascii(AsciiRange::To(5))), Err(4));
+    same(&rt, outcome(view.slice_ascii(AsciiRange::To(5))), Err(4));
     assert!(rt; 1 < view.len());
-    assert_eq!(rt; view.char_at(1).as_char(), 'B');
+    same(&rt, view.char_at(1).as_char(), 'B');
     let lent: &str = view.into();
-    assert_eq!(rt; lent, "ABCD");
+    same(&rt, lent, "ABCD");
     let codes: &[u8] = view.into();
-    assert_eq!(rt; codes, b"ABCD".as_slice());
-    assert_eq!(rt; view.as_bytes(), b"ABCD".as_slice());
+    same(&rt, codes, b"ABCD".as_slice());
+    same(&rt, view.as_bytes(), b"ABCD".as_slice());
 }
 
 #[test]
@@ -161,9 +166,9 @@ fn trims(rt: HostRuntime) {
         ("\x1fa\x00", "\x1fa\x00", "\x1fa\x00", "\x1fa\x00"),
     ] {
         let view = ascii(source);
-        assert_eq!(rt; view.trim_start().as_str(), start);
-        assert_eq!(rt; view.trim_end().as_str(), end);
-        assert_eq!(rt; view.trim().as_str(), both);
+        same(&rt, view.trim_start().as_str(), start);
+        same(&rt, view.trim_end().as_str(), end);
+        same(&rt, view.trim().as_str(), both);
     }
 }
 
@@ -178,36 +183,24 @@ fn comparisons(rt: HostRuntime) {
         ("a", "ab", false),
         ("", "", true),
     ] {
-        assert_eq!(rt;
-            ascii(one).eq_ignore_ascii_case(ascii(other)),
-            want,
-            "{one} {other}"
-        );
-        assert_eq!(rt;
-            ascii(other).eq_ignore_ascii_case(ascii(one)),
-            want,
-            "{other} {one}"
-        );
+        same(&rt, ascii(one).eq_ignore_ascii_case(ascii(other)), want);
+        same(&rt, ascii(other).eq_ignore_ascii_case(ascii(one)), want);
     }
     let rising = ["", "Z", "a", "ab", "abc", "b"];
     for (i, one) in rising.iter().enumerate() {
         for (j, other) in rising.iter().enumerate() {
-            assert_eq!(rt; ascii(*one).cmp(&ascii(*other)), i.cmp(&j), "{one} {other}");
-            assert_eq!(rt; ascii(*one) == ascii(*other), i == j, "{one} {other}");
-            assert_eq!(rt;
+            same(&rt, ascii(*one).cmp(&ascii(*other)), i.cmp(&j));
+            same(&rt, ascii(*one) == ascii(*other), i == j);
+            same(
+                &rt,
                 ascii(*one).partial_cmp(&ascii(*other)),
                 Some(i.cmp(&j)),
-                "{one} {other}"
             );
-            assert_eq!(rt; ascii(*one).eq_str(*other), i == j, "{one} {other}");
-            assert_eq!(rt;
-                ascii(*one).eq_bytes(other.as_bytes()),
-                i == j,
-                "{one} {other}"
-            );
+            same(&rt, ascii(*one).eq_str(*other), i == j);
+            same(&rt, ascii(*one).eq_bytes(other.as_bytes()), i == j);
         }
     }
-    assert_eq!(rt; ascii("abc").cmp(&ascii("abd")), Ordering::Less);
+    same(&rt, ascii("abc").cmp(&ascii("abd")), Ordering::Less);
     assert!(rt; !ascii("abc").eq_str("abč"));
 }
 
@@ -216,14 +209,16 @@ fn printed_refusals(rt: HostRuntime) -> Result<(), Fail> {
     let Err(error) = text::as_ascii_str("zoä华") else {
         return Err(Fail::from("accepted"));
     };
-    assert_eq!(rt; error.description(), "one or more bytes are not ASCII");
-    assert_eq!(rt;
+    same(&rt, error.description(), "one or more bytes are not ASCII");
+    same(
+        &rt,
         format!(in rt.alloc(); "{error}")?.as_str(),
-        "the byte at index 2 is not ASCII"
+        "the byte at index 2 is not ASCII",
     );
-    assert_eq!(rt;
+    same(
+        &rt,
         format!(in rt.alloc(); "{error:?}")?.as_str(),
-        "AsAsciiStrError(2)"
+        "AsAsciiStrError(2)",
     );
     assert!(rt; Err(error) == bytes::as_ascii_str("zoä华".as_bytes()));
     Ok(())

@@ -1,5 +1,6 @@
 //! Views that write, and what they leave of their source.
 
+use super::same;
 use ascii::{AsciiChar, AsciiRange, bytes};
 use ascii_uses::parts::{raise_in, upper_in};
 
@@ -12,14 +13,14 @@ fn a_view_edits_its_part_alone(rt: HostRuntime) {
         Ok(view) => {
             let mut view = view;
             view.make_ascii_lowercase();
-            assert_eq!(rt; view.as_ascii_str().as_str(), "bb");
+            same(&rt, view.as_ascii_str().as_str(), "bb");
             assert!(rt; !view.as_ascii_str().is_empty());
             view.set(0, AsciiChar::Z);
-            assert_eq!(rt; view.as_ascii_str().as_str(), "Zb");
+            same(&rt, view.as_ascii_str().as_str(), "Zb");
         }
         Err(_) => assert!(rt; false),
     }
-    assert_eq!(rt; source, [0x61, 0xc4, 0x8d, 0x5a, 0x62]);
+    same(&rt, source, [0x61, 0xc4, 0x8d, 0x5a, 0x62]);
 }
 
 #[test]
@@ -33,16 +34,16 @@ fn a_refused_source_is_unchanged(rt: HostRuntime) {
         let mut source = SOURCE;
         match bytes::slice_ascii_mut(&mut source[..], range) {
             Ok(_) => assert!(rt; false),
-            Err(error) => assert_eq!(rt; error.valid_up_to(), position),
+            Err(error) => same(&rt, error.valid_up_to(), position),
         }
-        assert_eq!(rt; source, SOURCE);
+        same(&rt, source, SOURCE);
     }
     let mut source = SOURCE;
     match bytes::as_mut_ascii_str(&mut source[..]) {
         Ok(_) => assert!(rt; false),
-        Err(error) => assert_eq!(rt; error.valid_up_to(), 1),
+        Err(error) => same(&rt, error.valid_up_to(), 1),
     }
-    assert_eq!(rt; source, SOURCE);
+    same(&rt, source, SOURCE);
 }
 
 #[test]
@@ -52,14 +53,14 @@ fn a_whole_source_is_edited(rt: HostRuntime) {
         Ok(view) => {
             let mut view = view;
             view.make_ascii_uppercase();
-            assert_eq!(rt; view.as_ascii_str().as_str(), "`ABZ{");
+            same(&rt, view.as_ascii_str().as_str(), "`ABZ{");
         }
         Err(_) => assert!(rt; false),
     }
     assert_eq!(rt; source, *b"`ABZ{");
     let mut view = bytes::as_mut_ascii_str_unchecked(&mut source[..]);
     view.make_ascii_lowercase();
-    assert_eq!(rt; source, *b"`abz{");
+    same(&rt, source, *b"`abz{");
 }
 
 #[test]
@@ -77,9 +78,9 @@ fn a_part_is_raised(rt: HostRuntime) {
         let mut first = SOURCE;
         let mut second = SOURCE;
         let is_done = upper_in(&mut first[..], range).is_ok();
-        assert_eq!(rt; raise_in(&mut second[..], range).is_ok(), is_done);
-        assert_eq!(rt; is_done, edited.is_some());
-        assert_eq!(rt; first, edited.unwrap_or(SOURCE));
-        assert_eq!(rt; second, first);
+        same(&rt, raise_in(&mut second[..], range).is_ok(), is_done);
+        same(&rt, is_done, edited.is_some());
+        same(&rt, first, edited.unwrap_or(SOURCE));
+        same(&rt, second, first);
     }
 }
