@@ -1,3 +1,3 @@
 mod CaseLemmas
 mod Examples
-mod LanesLemmas
+pub mod LanesLemmas

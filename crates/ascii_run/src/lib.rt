@@ -3,6 +3,7 @@
 
 pub mod buf;
 mod commands;
+mod controls;
 mod devices;
 mod faults;
 mod filter;

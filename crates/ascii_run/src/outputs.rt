@@ -1,9 +1,8 @@
 //! The output of each mode for a text.
 
-ghost use Rattle.std.specs.Prelude.{◌≡◌, ◌↔◌, ◌<◌, ◌++◌, IfErr, IfOk, IsTrue, MatchOption, OnErr, OnOk, codes, length};
+ghost use Rattle.std.specs.Prelude.{◌≡◌, ◌↔◌, ◌<◌, ◌++◌, IfErr, IfOk, OnErr, OnOk, codes};
 ghost use Rattle.std.specs.Option.{option_map};
-ghost use Rattle.ascii_base.specs.Bytes.{IsFirstNot};
-ghost use Rattle.std.specs.List.{All, flat_map};
+ghost use Rattle.std.specs.List.{flat_map};
 ghost use Rattle.ascii.specs.Spans.{line_in};
 ghost use Rattle.ascii.specs.View.{text_of};
 ghost use Rattle.ascii_run.specs.Engine.{StopsOutput, WritesOutput, write_failures};
@@ -13,6 +12,7 @@ ghost use Rattle.ascii_run.specs.Run.{HasNoFault, plain_text};
 ghost use Rattle.ascii_run.specs.JsonText.{json_text};
 
 use crate::commands::{Cmd, edit};
+use crate::controls::first_control;
 use crate::devices::Sink;
 use crate::faults::EngineFault;
 use crate::modes::Mode;
@@ -111,26 +111,6 @@ fn put_caret<K: Sink, A: Allocator>(text: AsciiStr<'_>, page: &mut Page<A>, writ
         rest = &rest[place + 1..];
     }
     page.put(writer, rest);
-}
-
-/// The place of the first control character other than LF.
-fn first_control(bytes: &[u8]) -> Option<usize>
-    ensures { MatchOption result (All IsShown bytes.now) (IsFirstNot IsShown bytes.now 0 (length bytes.now)) }
-{
-    for at in 0..bytes.len() {
-        if !is_shown(bytes[at]) {
-            return Some(at);
-        }
-    }
-    None
-}
-
-/// Whether `caret` shows the code as itself.
-#[inline]
-fn is_shown(code: u8) -> bool
-    ensures { IsTrue result ↔ IsShown code }
-{
-    code == b'\n' || code >= 32 && code != 127
 }
 
 /// Puts in a control character other than LF: `^` and its caret letter.

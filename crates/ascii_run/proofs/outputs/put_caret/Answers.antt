@@ -1,4 +1,4 @@
-use Rattle.std.proofs.Common.{◌+◌, ◌++◌, ◌-◌, length, take, drop, get_or}
+use Rattle.std.proofs.Common.{◌+◌, ◌++◌, take, get_or}
 use Rattle.std.proofs.lemmas.Str.{IsAscii-drop, IsAscii-take}
 use Rattle.std.specs.List.{flat_map}
 use Rattle.ascii.specs.View.{text_of}

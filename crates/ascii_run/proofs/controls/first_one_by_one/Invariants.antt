@@ -1,6 +1,6 @@
 use Rattle.std.proofs.Common.{ℕ, ◌<◌, slice_index}
 use Rattle.ascii_run.specs.Output.{IsShown}
-use Rattle.ascii_run.proofs.outputs.first_control.Given as goal
+use Rattle.ascii_run.proofs.controls.first_one_by_one.Given as goal
 
 -- the codes before `at` are shown as themselves
 abbrev pub invariant-loop-at : goal.invariant-loop-at
