@@ -1,3 +1,4 @@
+use super::same;
 use ascii_base::ascii_char::{AsciiChar, ToAsciiChar, ToAsciiCharError};
 use ascii_base::free_functions::{caret_decode, caret_encode};
 use std::cmp::Ordering;
@@ -171,32 +172,34 @@ fn every_code(rt: HostRuntime) -> Result<(), Fail> {
     for code in 0..128u8 {
         let (bits, radix, upper, lower, shown, written, read, debug) = ROWS[code as usize];
         let ch = AsciiChar::new(code as char);
-        assert_eq!(rt; ch.as_byte(), code);
-        assert_eq!(rt; ch.as_char(), code as char);
-        assert_eq!(rt; u8::from(ch), code);
-        assert_eq!(rt; char::from(ch), code as char);
-        assert_eq!(rt; AsciiChar::from_ascii_unchecked(code), ch);
-        assert_eq!(rt; code.to_ascii_char(), Ok(ch));
-        assert_eq!(rt; classes(ch), bits, "classes of {code}");
+        same(&rt, ch.as_byte(), code);
+        same(&rt, ch.as_char(), code as char);
+        same(&rt, u8::from(ch), code);
+        same(&rt, char::from(ch), code as char);
+        same(&rt, AsciiChar::from_ascii_unchecked(code), ch);
+        same(&rt, code.to_ascii_char(), Ok(ch));
+        same(&rt, classes(ch), bits);
         for tried in 2..37u32 {
-            assert_eq!(rt;
-                ch.is_digit(tried),
-                tried >= radix,
-                "{code} in radix {tried}"
-            );
+            same(&rt, ch.is_digit(tried), tried >= radix);
         }
-        assert_eq!(rt; ch.to_ascii_uppercase().as_byte(), upper);
-        assert_eq!(rt; ch.to_ascii_lowercase().as_byte(), lower);
-        assert_eq!(rt; ch.as_printable_char() as u32, shown);
-        assert_eq!(rt;
+        same(&rt, ch.to_ascii_uppercase().as_byte(), upper);
+        same(&rt, ch.to_ascii_lowercase().as_byte(), lower);
+        same(&rt, ch.as_printable_char() as u32, shown);
+        same(
+            &rt,
             caret_encode(code).map(|partner| partner.as_byte()),
-            written
+            written,
         );
-        assert_eq!(rt; caret_decode(code).map(|control| control.as_byte()), read);
-        assert_eq!(rt; format!(in rt.alloc(); "{ch:?}")?.as_str(), debug);
-        assert_eq!(rt;
+        same(
+            &rt,
+            caret_decode(code).map(|control| control.as_byte()),
+            read,
+        );
+        same(&rt, format!(in rt.alloc(); "{ch:?}")?.as_str(), debug);
+        same(
+            &rt,
             format!(in rt.alloc(); "{ch}")?.as_bytes(),
-            [code].as_slice()
+            [code].as_slice(),
         );
     }
     Ok(())
@@ -224,7 +227,7 @@ fn counts(rt: HostRuntime) {
             Ok(ch) => classes(ch) & bits == bits,
             Err(_) => false,
         });
-        assert_eq!(rt; held.count(), count, "classes {bits:x}");
+        same(&rt, held.count(), count);
     }
 }
 
@@ -247,10 +250,10 @@ fn acceptance(rt: HostRuntime) -> Result<(), Fail> {
         accepted('λ'),
         accepted('\u{80}'),
     ] {
-        assert_eq!(rt; refused, None);
+        same(&rt, refused, None);
     }
-    assert_eq!(rt; 127_i8.to_ascii_char(), Ok(AsciiChar::DEL));
-    assert_eq!(rt; 0_i8.to_ascii_char_unchecked(), AsciiChar::Null);
+    same(&rt, 127_i8.to_ascii_char(), Ok(AsciiChar::DEL));
+    same(&rt, 0_i8.to_ascii_char_unchecked(), AsciiChar::Null);
     for letter in [
         accepted(AsciiChar::A),
         accepted(65_i8),
@@ -265,7 +268,7 @@ fn acceptance(rt: HostRuntime) -> Result<(), Fail> {
         Some(65_u32.to_ascii_char_unchecked()),
         Some('A'.to_ascii_char_unchecked()),
     ] {
-        assert_eq!(rt; letter, Some(AsciiChar::A));
+        same(&rt, letter, Some(AsciiChar::A));
     }
     Ok(())
 }
@@ -277,14 +280,16 @@ fn refusal_texts(rt: HostRuntime) -> Result<(), Fail> {
     };
     let again: ToAsciiCharError = refusal;
     assert!(rt; refusal == again);
-    assert_eq!(rt; refusal.description(), "not an ASCII character");
-    assert_eq!(rt;
+    same(&rt, refusal.description(), "not an ASCII character");
+    same(
+        &rt,
         format!(in rt.alloc(); "{refusal}")?.as_str(),
-        "not an ASCII character"
+        "not an ASCII character",
     );
-    assert_eq!(rt;
+    same(
+        &rt,
         format!(in rt.alloc(); "{refusal:?}")?.as_str(),
-        "not an ASCII character"
+        "not an ASCII character",
     );
     Ok(())
 }
@@ -298,7 +303,7 @@ fn digits_in_strange_radixes(rt: HostRuntime) {
         (AsciiChar::z, 35, false),
         (AsciiChar::z, 36, true),
     ] {
-        assert_eq!(rt; is_digit(ch, radix), want, "{ch} in radix {radix}");
+        same(&rt, is_digit(ch, radix), want);
     }
 }
 
@@ -321,13 +326,14 @@ fn cases(rt: HostRuntime) {
         let mut changed = (ch, ch);
         changed.0.make_ascii_uppercase();
         changed.1.make_ascii_lowercase();
-        assert_eq!(rt; changed, (upper, lower));
-        assert_eq!(rt;
+        same(&rt, changed, (upper, lower));
+        same(
+            &rt,
             (ch.to_ascii_uppercase(), ch.to_ascii_lowercase()),
-            (upper, lower)
+            (upper, lower),
         );
     }
-    for (one, other, same) in [
+    for (one, other, want) in [
         (AsciiChar::LineFeed, AsciiChar::LineFeed, true),
         (AsciiChar::LineFeed, AsciiChar::CarriageReturn, false),
         (AsciiChar::z, AsciiChar::Z, true),
@@ -339,11 +345,7 @@ fn cases(rt: HostRuntime) {
         (AsciiChar::Grave, AsciiChar::At, false),
         (AsciiChar::Grave, AsciiChar::DEL, false),
     ] {
-        assert_eq!(rt;
-            one.eq_ignore_ascii_case(&other),
-            same,
-            "{one:?} and {other:?}"
-        );
+        same(&rt, one.eq_ignore_ascii_case(&other), want);
     }
 }
 
@@ -355,39 +357,49 @@ fn printed(rt: HostRuntime) -> Result<(), Fail> {
         (AsciiChar::DEL, 0x2421),
         (AsciiChar::Space, 0x20),
     ] {
-        assert_eq!(rt; ch.as_printable_char() as u32, shown);
+        same(&rt, ch.as_printable_char() as u32, shown);
     }
-    assert_eq!(rt; format!(in rt.alloc(); "{}", AsciiChar::t)?.as_str(), "t");
-    assert_eq!(rt;
+    same(
+        &rt,
+        format!(in rt.alloc(); "{}", AsciiChar::t)?.as_str(),
+        "t",
+    );
+    same(
+        &rt,
         format!(in rt.alloc(); "{:?}", AsciiChar::t)?.as_str(),
-        "'t'"
+        "'t'",
     );
-    assert_eq!(rt;
+    same(
+        &rt,
         format!(in rt.alloc(); "{}", AsciiChar::LineFeed)?.as_str(),
-        "\n"
+        "\n",
     );
-    assert_eq!(rt;
+    same(
+        &rt,
         format!(in rt.alloc(); "{:?}", AsciiChar::LineFeed)?.as_str(),
-        "'\\n'"
+        "'\\n'",
     );
-    assert_eq!(rt;
+    same(
+        &rt,
         format!(in rt.alloc(); "[{:>3}]", AsciiChar::t)?.as_str(),
-        "[  t]"
+        "[  t]",
     );
-    assert_eq!(rt;
+    same(
+        &rt,
         format!(in rt.alloc(); "[{:*^4}]", AsciiChar::t)?.as_str(),
-        "[*t**]"
+        "[*t**]",
     );
     Ok(())
 }
 
 #[test]
 fn order_and_hash(rt: HostRuntime) -> Result<(), Fail> {
-    assert_eq!(rt; AsciiChar::default(), AsciiChar::Null);
-    assert_eq!(rt; AsciiChar::A.cmp(&AsciiChar::a), Ordering::Less);
-    assert_eq!(rt;
+    same(&rt, AsciiChar::default(), AsciiChar::Null);
+    same(&rt, AsciiChar::A.cmp(&AsciiChar::a), Ordering::Less);
+    same(
+        &rt,
         AsciiChar::a.partial_cmp(&AsciiChar::A),
-        Some(Ordering::Greater)
+        Some(Ordering::Greater),
     );
     assert!(rt; AsciiChar::DEL > AsciiChar::Tilde);
     let mut seen = HashSet::new(rt.alloc());

@@ -1,3 +1,4 @@
+use super::same;
 use ascii_base::ascii_char::AsciiChar;
 use ascii_base::free_functions::{caret_decode, caret_encode};
 
@@ -11,7 +12,7 @@ fn carets(rt: HostRuntime) {
         (255, None),
     ];
     for (byte, partner) in written {
-        assert_eq!(rt; caret_encode(byte), partner, "{byte} written");
+        same(&rt, caret_encode(byte), partner);
     }
     let read = [
         (63, Some(AsciiChar::DEL)),
@@ -20,14 +21,14 @@ fn carets(rt: HostRuntime) {
         (96, None),
     ];
     for (byte, control) in read {
-        assert_eq!(rt; caret_decode(byte), control, "{byte} read");
+        same(&rt, caret_decode(byte), control);
     }
 }
 
 #[test]
 fn counts(rt: HostRuntime) {
     let written = (0..256u32).filter(|code| caret_encode((*code & 0xff) as u8).is_some());
-    assert_eq!(rt; written.count(), 33);
+    same(&rt, written.count(), 33);
     let read = (0..256u32).filter(|code| caret_decode((*code & 0xff) as u8).is_some());
-    assert_eq!(rt; read.count(), 33);
+    same(&rt, read.count(), 33);
 }

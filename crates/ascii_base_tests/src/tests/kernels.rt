@@ -1,22 +1,23 @@
 ghost use Rattle.std.specs.Prelude.{◌≤◌};
 
+use super::same;
 use ascii_base::kernels;
 
 #[test]
 fn cases(rt: HostRuntime) {
     let mut text = [0x60, 0x61, 0x7a, 0x7b, 0xe1];
     kernels::upper_in_place(&mut text);
-    assert_eq!(rt; text, [0x60, 0x41, 0x5a, 0x7b, 0xe1]);
+    same(&rt, text, [0x60, 0x41, 0x5a, 0x7b, 0xe1]);
     let mut text = [0x40, 0x41, 0x5a, 0x5b, 0xc1];
     kernels::lower_in_place(&mut text);
-    assert_eq!(rt; text, [0x40, 0x61, 0x7a, 0x5b, 0xc1]);
-    for (first, second, same) in [
+    same(&rt, text, [0x40, 0x61, 0x7a, 0x5b, 0xc1]);
+    for (first, second, want) in [
         ([0xc1, 0x41], [0xe1, 0x41], false),
         ([0x5b, 0x41], [0x7b, 0x41], false),
         ([0x41, 0x7a], [0x61, 0x5a], true),
         ([0x41, 0x5a], [0x61, 0x7f], false),
     ] {
-        assert_eq!(rt; kernels::eq_ignore_case(&first, &second), same);
+        same(&rt, kernels::eq_ignore_case(&first, &second), want);
     }
     assert!(rt; !kernels::eq_ignore_case(b"aZ", b"Azz"));
     assert!(rt; kernels::eq_ignore_case(b"", b""));
@@ -33,19 +34,19 @@ fn ends(rt: HostRuntime) {
         (b"\x0ba\x0b", Some(1), Some(1)),
     ];
     for (text, first, last) in texts {
-        assert_eq!(rt; kernels::first_not_whitespace(text), first);
-        assert_eq!(rt; kernels::last_not_whitespace(text), last);
+        same(&rt, kernels::first_not_whitespace(text), first);
+        same(&rt, kernels::last_not_whitespace(text), last);
     }
 }
 
 #[test]
 fn others(rt: HostRuntime) {
     let mut text = [0x7f; 64];
-    assert_eq!(rt; kernels::first_other(&text), None);
+    same(&rt, kernels::first_other(&text), None);
     text[63] = 0x80;
-    assert_eq!(rt; kernels::first_other(&text), Some(63));
+    same(&rt, kernels::first_other(&text), Some(63));
     text[31] = 0x80;
-    assert_eq!(rt; kernels::first_other(&text), Some(31));
+    same(&rt, kernels::first_other(&text), Some(31));
 }
 
 // Texts of each length up to past the widest step, with a byte of another kind at each place: what a
@@ -74,17 +75,9 @@ fn searches_at_each_place(rt: HostRuntime) {
             let text = &text[..length];
             let first = text.iter().position(|byte| *byte > 127);
             let last = text.iter().rposition(|byte| *byte > 127);
-            assert_eq!(rt; kernels::first_other(text), first, "{place} of {length}");
-            assert_eq!(rt;
-                kernels::first_not_whitespace(text),
-                first,
-                "{place} of {length}"
-            );
-            assert_eq!(rt;
-                kernels::last_not_whitespace(text),
-                last,
-                "{place} of {length}"
-            );
+            same(&rt, kernels::first_other(text), first);
+            same(&rt, kernels::first_not_whitespace(text), first);
+            same(&rt, kernels::last_not_whitespace(text), last);
         }
     }
 }

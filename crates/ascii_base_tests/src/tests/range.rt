@@ -1,3 +1,4 @@
+use super::same;
 use ascii_base::range::AsciiRange;
 
 #[test]
@@ -18,9 +19,9 @@ fn ranges(rt: HostRuntime) {
         (AsciiRange::ToInclusive(3), 3, false),
         (AsciiRange::ToInclusive(usize::MAX), usize::MAX, false),
     ] {
-        assert_eq!(rt; range.fits(len), fits);
+        same(&rt, range.fits(len), fits);
     }
-    assert_eq!(rt; AsciiRange::Inclusive(1, 2).start(), 1);
-    assert_eq!(rt; AsciiRange::Inclusive(1, 2).end(3), 3);
-    assert_eq!(rt; AsciiRange::Full.end(3), 3);
+    same(&rt, AsciiRange::Inclusive(1, 2).start(), 1);
+    same(&rt, AsciiRange::Inclusive(1, 2).end(3), 3);
+    same(&rt, AsciiRange::Full.end(3), 3);
 }

@@ -2,6 +2,7 @@
 
 use super::edit_table::RAN;
 use super::picks::{Picks, view};
+use super::same;
 use ascii_run::{Cmd, Reply, run_both};
 use std::alloc::{AllocError, Global};
 use std::test::Fail;
@@ -58,12 +59,12 @@ fn as_the_rust_crate(rt: HostRuntime) -> Result<(), Fail> {
         let mut shown = taken(alloc, &both.replies)?;
         shown.push(':')?;
         shown.push_str(both.string.as_ascii_str().as_str())?;
-        assert_eq!(rt; shown.as_str(), line, "list {number}");
+        same(&rt, shown.as_str(), line);
         let mut shown = taken(alloc, &both.small_replies)?;
         shown.push(':')?;
         shown.push_str(both.small.as_ascii_str().as_str())?;
-        assert_eq!(rt; shown.as_str(), line, "list {number}, inline");
+        same(&rt, shown.as_str(), line);
     }
-    assert_eq!(rt; number, 200);
+    same(&rt, number, 200);
     Ok(())
 }

@@ -1,6 +1,7 @@
 //! Runs of all kinds of commands over both forms, against each other.
 
 use super::picks::{Picks, view};
+use super::same;
 use ascii::{AsciiChar, AsciiRange};
 use ascii_run::{Cmd, Reply, run_both};
 use std::alloc::{AllocError, Global};
@@ -67,15 +68,15 @@ fn of_all_kinds(rt: HostRuntime) -> Result<(), Fail> {
             cmds.push(any_command(&mut picks))?;
         }
         let both = run_both(alloc, view("Some"), &cmds)?;
-        assert_eq!(rt;
+        same(
+            &rt,
             shown(alloc, &both.small_replies)?.as_str(),
             shown(alloc, &both.replies)?.as_str(),
-            "list {number}"
         );
-        assert_eq!(rt;
+        same(
+            &rt,
             both.small.as_ascii_str().as_str(),
             both.string.as_ascii_str().as_str(),
-            "list {number}"
         );
     }
     Ok(())

@@ -1,6 +1,7 @@
 //! The callers over either form, each once.
 
 use super::picks::view;
+use super::same;
 use ascii::{AsciiChar, AsciiString};
 use ascii_run::{Cmd, Reply, SmallAsciiString};
 use ascii_uses::forms::{append, header_name, letter, run_over_a_string};
@@ -11,12 +12,12 @@ fn names_and_letters(rt: HostRuntime) -> Result<(), Fail> {
     let mut name = header_name(rt.alloc(), view("Content-Type"))?;
     assert!(rt; name.is_inline());
     append(&mut name, view("; q=1"))?;
-    assert_eq!(rt; name.as_ascii_str().as_str(), "content-type; q=1");
+    same(&rt, name.as_ascii_str().as_str(), "content-type; q=1");
     let mut string = AsciiString::new(rt.alloc());
     append(&mut string, view("abc"))?;
-    assert_eq!(rt; string.as_ascii_str().as_str(), "abc");
+    same(&rt, string.as_ascii_str().as_str(), "abc");
     let x: SmallAsciiString = letter(rt.alloc(), AsciiChar::x);
-    assert_eq!(rt; x.as_ascii_str().as_str(), "x");
+    same(&rt, x.as_ascii_str().as_str(), "x");
     Ok(())
 }
 
@@ -25,8 +26,8 @@ fn a_run_over_a_string(rt: HostRuntime) -> Result<(), Fail> {
     let mut string = AsciiString::new(rt.alloc());
     let cmds = [Cmd::PushStr(view("abc")), Cmd::Len];
     let replies = run_over_a_string(rt.alloc(), &mut string, &cmds)?;
-    assert_eq!(rt; replies.len(), 2);
+    same(&rt, replies.len(), 2);
     assert!(rt; matches!(replies.as_slice().last(), Some(Reply::Number(3))));
-    assert_eq!(rt; string.as_ascii_str().as_str(), "abc");
+    same(&rt, string.as_ascii_str().as_str(), "abc");
     Ok(())
 }

@@ -1,5 +1,6 @@
 //! Characters, pieces and lines from both ends.
 
+use super::same;
 use ascii::iter::{End, walk_lines, walk_split};
 use ascii::{AsciiChar, AsciiStr, AsciiString, text};
 use std::alloc::{AllocError, Global};
@@ -66,10 +67,10 @@ fn walked_pieces(rt: HostRuntime) -> Result<(), Fail> {
     ] {
         let script = ends(rt.alloc(), script)?;
         let answers = walk_split(rt.alloc(), ascii(source), on, &script)?;
-        assert_eq!(rt;
+        same(
+            &rt,
             joined(rt.alloc(), &answers)?.as_ascii_str().as_str(),
             want,
-            "{source}"
         );
     }
     Ok(())
@@ -95,7 +96,11 @@ fn walked_lines(rt: HostRuntime) -> Result<(), Fail> {
     ] {
         let script = ends(rt.alloc(), script)?;
         let answers = walk_lines(rt.alloc(), ascii(source), &script)?;
-        assert_eq!(rt; joined(rt.alloc(), &answers)?.as_ascii_str().as_str(), want);
+        same(
+            &rt,
+            joined(rt.alloc(), &answers)?.as_ascii_str().as_str(),
+            want,
+        );
     }
     Ok(())
 }
@@ -103,47 +108,48 @@ fn walked_lines(rt: HostRuntime) -> Result<(), Fail> {
 #[test]
 fn characters_from_both_ends(rt: HostRuntime) -> Result<(), Fail> {
     let mut chars = ascii("abc").chars();
-    assert_eq!(rt; chars.size_hint(), (3, Some(3)));
-    assert_eq!(rt; chars.next(), Some(AsciiChar::a));
-    assert_eq!(rt; chars.next_back(), Some(AsciiChar::c));
-    assert_eq!(rt; chars.as_str().as_str(), "b");
-    assert_eq!(rt; chars.len(), 1);
+    same(&rt, chars.size_hint(), (3, Some(3)));
+    same(&rt, chars.next(), Some(AsciiChar::a));
+    same(&rt, chars.next_back(), Some(AsciiChar::c));
+    same(&rt, chars.as_str().as_str(), "b");
+    same(&rt, chars.len(), 1);
     let mut again = chars.clone()?;
-    assert_eq!(rt; chars.next_back(), Some(AsciiChar::b));
-    assert_eq!(rt; chars.next(), None);
-    assert_eq!(rt; chars.next_back(), None);
-    assert_eq!(rt; again.next(), Some(AsciiChar::b));
+    same(&rt, chars.next_back(), Some(AsciiChar::b));
+    same(&rt, chars.next(), None);
+    same(&rt, chars.next_back(), None);
+    same(&rt, again.next(), Some(AsciiChar::b));
     let mut chars = ascii("xyz").into_iter();
-    assert_eq!(rt; chars.size_hint(), (3, Some(3)));
-    assert_eq!(rt; chars.next_back(), Some(AsciiChar::z));
-    assert_eq!(rt; chars.next(), Some(AsciiChar::x));
-    assert_eq!(rt; chars.as_str().as_str(), "y");
+    same(&rt, chars.size_hint(), (3, Some(3)));
+    same(&rt, chars.next_back(), Some(AsciiChar::z));
+    same(&rt, chars.next(), Some(AsciiChar::x));
+    same(&rt, chars.as_str().as_str(), "y");
     let mut again = chars.clone()?;
-    assert_eq!(rt; again.next(), Some(AsciiChar::y));
-    assert_eq!(rt; again.next(), None);
-    assert_eq!(rt; chars.size_hint(), (1, Some(1)));
+    same(&rt, again.next(), Some(AsciiChar::y));
+    same(&rt, again.next(), None);
+    same(&rt, chars.size_hint(), (1, Some(1)));
     let source = b"hello world\0";
     let mut codes = source.iter();
     for ch in ascii("hello world\0") {
-        assert_eq!(rt; Some(&ch.as_byte()), codes.next());
+        same(&rt, Some(&ch.as_byte()), codes.next());
     }
-    assert_eq!(rt; codes.next(), None);
-    assert_eq!(rt;
+    same(&rt, codes.next(), None);
+    same(
+        &rt,
         ascii("hello world\0").chars().rev().last(),
-        Some(AsciiChar::h)
+        Some(AsciiChar::h),
     );
     let mut pieces = ascii("a-b-c").split(AsciiChar::Minus);
-    assert_eq!(rt; pieces.next(), Some(ascii("a")));
+    same(&rt, pieces.next(), Some(ascii("a")));
     let rest = pieces.clone()?;
     let left: Vec<AsciiStr<'_>> = pieces.collect(rt.alloc())?;
-    assert_eq!(rt; left.len(), 2);
-    assert_eq!(rt; rest.last(), Some(ascii("c")));
+    same(&rt, left.len(), 2);
+    same(&rt, rest.last(), Some(ascii("c")));
     let mut lines = ascii("a\nb\r\nc").lines();
-    assert_eq!(rt; lines.next_back(), Some(ascii("c")));
+    same(&rt, lines.next_back(), Some(ascii("c")));
     let rest = lines.clone()?;
     let left: Vec<AsciiStr<'_>> = lines.collect(rt.alloc())?;
-    assert_eq!(rt; left.len(), 2);
-    assert_eq!(rt; rest.last(), Some(ascii("b")));
+    same(&rt, left.len(), 2);
+    same(&rt, rest.last(), Some(ascii("b")));
     Ok(())
 }
 

@@ -27,9 +27,9 @@ where
     for (at, (end, answer)) in script.iter().zip(&answers).enumerate() {
         let mut copy = items.clone()?;
         for (end, answer) in script.iter().zip(&answers).skip(at) {
-            assert_eq!(rt; take_end(&mut copy, *end), *answer);
+            assert!(rt; take_end(&mut copy, *end) == *answer);
         }
-        assert_eq!(rt; take_end(&mut items, *end), *answer);
+        assert!(rt; take_end(&mut items, *end) == *answer);
     }
     Ok(())
 }

@@ -2,6 +2,7 @@
 //! allows, and every script of eight ends takes them from that list.
 
 use super::both_ends::{scripts, small_text};
+use super::same;
 use ascii::iter::{
     End, Ending, LineSpan, SplitSpan, walk_line_spans, walk_lines, walk_split, walk_split_spans,
 };
@@ -95,13 +96,15 @@ fn lines_of_every_small_text(rt: HostRuntime) -> Result<(), Fail> {
             let bodies: Vec<AsciiStr<'_>> = lines.iter().map(|line| line.text).collect(alloc)?;
             assert!(rt; are_lines_of(&text, &lines));
             for script in &scripts {
-                assert_eq!(rt;
+                same(
+                    &rt,
                     walk_line_spans(alloc, view, script)?,
-                    taken(alloc, script, &lines)?
+                    taken(alloc, script, &lines)?,
                 );
-                assert_eq!(rt;
+                same(
+                    &rt,
                     walk_lines(alloc, view, script)?,
-                    taken(alloc, script, &bodies)?
+                    taken(alloc, script, &bodies)?,
                 );
             }
         }
@@ -123,10 +126,11 @@ fn pieces_of_every_small_text(rt: HostRuntime) -> Result<(), Fail> {
             assert!(rt; are_pieces_of(&text, b'a', &pieces));
             for script in &scripts {
                 let answers = walk_split_spans(alloc, view, on, script)?;
-                assert_eq!(rt; answers, taken(alloc, script, &pieces)?);
-                assert_eq!(rt;
+                same(&rt, answers, taken(alloc, script, &pieces)?);
+                same(
+                    &rt,
                     walk_split(alloc, view, on, script)?,
-                    taken(alloc, script, &texts)?
+                    taken(alloc, script, &texts)?,
                 );
             }
         }

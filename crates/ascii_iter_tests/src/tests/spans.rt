@@ -1,6 +1,7 @@
 //! Pieces and lines with their starts, and what is left of them.
 
 use super::both_ends::{ascii, ends};
+use super::same;
 use ascii::iter::{End, Ending, LineSpan, SplitSpan, take_end, walk_line_spans, walk_split_spans};
 use ascii::{AsciiChar, AsciiStr};
 use std::alloc::{AllocError, Global};
@@ -56,7 +57,7 @@ fn walked_line_spans(rt: HostRuntime) -> Result<(), Fail> {
     ] {
         let script = ends(rt.alloc(), script)?;
         let answers = walk_line_spans(rt.alloc(), ascii(source), &script)?;
-        assert_eq!(rt; shown_lines(rt.alloc(), &answers)?.as_str(), want);
+        same(&rt, shown_lines(rt.alloc(), &answers)?.as_str(), want);
     }
     Ok(())
 }
@@ -76,7 +77,7 @@ fn walked_piece_spans(rt: HostRuntime) -> Result<(), Fail> {
     ] {
         let script = ends(rt.alloc(), script)?;
         let answers = walk_split_spans(rt.alloc(), ascii(source), on, &script)?;
-        assert_eq!(rt; shown_pieces(rt.alloc(), &answers)?.as_str(), want);
+        same(&rt, shown_pieces(rt.alloc(), &answers)?.as_str(), want);
     }
     Ok(())
 }
@@ -101,12 +102,13 @@ fn rests_of_pieces(rt: HostRuntime) -> Result<(), Fail> {
             take_end(&mut spans, *end);
             take_end(&mut split, *end);
         }
-        assert_eq!(rt;
+        same(
+            &rt,
             spans.remainder(),
-            want.map(|(start, text)| (start, ascii(text)))
+            want.map(|(start, text)| (start, ascii(text))),
         );
-        assert_eq!(rt; split.remainder(), want.map(|(_, text)| ascii(text)));
-        assert_eq!(rt; split.remainder(), want.map(|(_, text)| ascii(text)));
+        same(&rt, split.remainder(), want.map(|(_, text)| ascii(text)));
+        same(&rt, split.remainder(), want.map(|(_, text)| ascii(text)));
     }
     Ok(())
 }
@@ -126,12 +128,13 @@ fn rests_of_lines(rt: HostRuntime) -> Result<(), Fail> {
             take_end(&mut spans, *end);
             take_end(&mut lines, *end);
         }
-        assert_eq!(rt;
+        same(
+            &rt,
             spans.remainder(),
-            want.map(|(start, text)| (start, ascii(text)))
+            want.map(|(start, text)| (start, ascii(text))),
         );
-        assert_eq!(rt; lines.remainder(), want.map(|(_, text)| ascii(text)));
-        assert_eq!(rt; lines.remainder(), want.map(|(_, text)| ascii(text)));
+        same(&rt, lines.remainder(), want.map(|(_, text)| ascii(text)));
+        same(&rt, lines.remainder(), want.map(|(_, text)| ascii(text)));
     }
     Ok(())
 }
@@ -142,9 +145,10 @@ fn offsets(rt: HostRuntime) -> Result<(), Fail> {
         .line_spans_from(5)
         .map(Some)
         .collect(rt.alloc())?;
-    assert_eq!(rt;
+    same(
+        &rt,
         shown_lines(rt.alloc(), &lines)?.as_str(),
-        "5 lf bar|9 lf |"
+        "5 lf bar|9 lf |",
     );
     Ok(())
 }
@@ -158,12 +162,16 @@ fn pieces_at_the_largest_place(rt: HostRuntime) {
         text: AsciiStr::default(),
     };
     let mut split = view.split_spans_from(AsciiChar::Comma, usize::MAX - 2);
-    assert_eq!(rt; split.next_back(), Some(last));
-    assert_eq!(rt; split.remainder(), Some((usize::MAX - 2, ascii("a"))));
+    same(&rt, split.next_back(), Some(last));
+    same(&rt, split.remainder(), Some((usize::MAX - 2, ascii("a"))));
     let mut split = view.split_spans_from(AsciiChar::Comma, usize::MAX - 2);
     split.next();
-    assert_eq!(rt; split.remainder(), Some((usize::MAX, AsciiStr::default())));
-    assert_eq!(rt; split.next(), Some(last));
+    same(
+        &rt,
+        split.remainder(),
+        Some((usize::MAX, AsciiStr::default())),
+    );
+    same(&rt, split.next(), Some(last));
 }
 
 #[test]
@@ -172,11 +180,11 @@ fn lines_at_the_largest_place(rt: HostRuntime) {
     assert!(rt; view.len() <= 3);
     let mut lines = view.line_spans_from(usize::MAX - 3);
     lines.next();
-    assert_eq!(rt; lines.remainder(), Some((usize::MAX - 1, ascii("b"))));
+    same(&rt, lines.remainder(), Some((usize::MAX - 1, ascii("b"))));
     lines.next();
-    assert_eq!(rt; lines.remainder(), None);
-    assert_eq!(rt; lines.next_back(), None);
+    same(&rt, lines.remainder(), None);
+    same(&rt, lines.next_back(), None);
     let none = AsciiStr::default();
     assert!(rt; none.is_empty());
-    assert_eq!(rt; none.line_spans_from(usize::MAX).remainder(), None);
+    same(&rt, none.line_spans_from(usize::MAX).remainder(), None);
 }

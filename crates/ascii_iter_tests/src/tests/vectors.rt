@@ -1,6 +1,7 @@
 //! Walks that were made with the Rust crate.
 
 use super::both_ends::{ascii, ends, joined};
+use super::same;
 use ascii::AsciiChar;
 use ascii::iter::{walk_lines, walk_split};
 use std::test::Fail;
@@ -63,20 +64,28 @@ static LINES: [(&str, &str, &str); 24] = [
 
 #[test]
 fn walked_pieces(rt: HostRuntime) -> Result<(), Fail> {
-    for (source, script, want) in SPLITS {
+    for &(source, script, want) in &SPLITS {
         let script = ends(rt.alloc(), script)?;
         let answers = walk_split(rt.alloc(), ascii(source), AsciiChar::Comma, &script)?;
-        assert_eq!(rt; joined(rt.alloc(), &answers)?.as_ascii_str().as_str(), want);
+        same(
+            &rt,
+            joined(rt.alloc(), &answers)?.as_ascii_str().as_str(),
+            want,
+        );
     }
     Ok(())
 }
 
 #[test]
 fn walked_lines(rt: HostRuntime) -> Result<(), Fail> {
-    for (source, script, want) in LINES {
+    for &(source, script, want) in &LINES {
         let script = ends(rt.alloc(), script)?;
         let answers = walk_lines(rt.alloc(), ascii(source), &script)?;
-        assert_eq!(rt; joined(rt.alloc(), &answers)?.as_ascii_str().as_str(), want);
+        same(
+            &rt,
+            joined(rt.alloc(), &answers)?.as_ascii_str().as_str(),
+            want,
+        );
     }
     Ok(())
 }

@@ -1,6 +1,7 @@
 //! The replies of commands, and edits that stop.
 
 use super::engine::ran as ran_in;
+use super::same;
 use ascii::{AsciiChar, AsciiRange, AsciiStr, text};
 use ascii_run::{Cmd, EngineFault, Mode, plain_run, run, runs_agree};
 use std::alloc::{AllocError, Global};
@@ -46,8 +47,8 @@ fn one_of_each_reply(rt: HostRuntime) -> Result<(), Fail> {
     let wanted = "BadPosition; Done; BadPosition; Char(Some('a')); BadPosition; Done; Done; \
         Truth(true); Refused(AsAsciiStrError(1)); Text(\"\"); TooMany; Number(1); \
         Char(Some('B')); Char(None); ";
-    assert_eq!(rt; ran(rt.alloc(), "abc", &cmds)?.as_str(), wanted);
-    assert_eq!(rt; ran(rt.alloc(), "abc", &[])?.as_str(), "abc");
+    same(&rt, ran(rt.alloc(), "abc", &cmds)?.as_str(), wanted);
+    same(&rt, ran(rt.alloc(), "abc", &[])?.as_str(), "abc");
     Ok(())
 }
 
@@ -102,7 +103,7 @@ fn edits_by_position(rt: HostRuntime) -> Result<(), Fail> {
     for (i, n) in positions.iter().enumerate() {
         for (cmd, want) in by_position(*n).iter().zip(wanted.iter()) {
             let shown = ran(rt.alloc(), "abc", &[*cmd])?;
-            assert_eq!(rt; shown.as_str(), want[i], "at {n}");
+            same(&rt, shown.as_str(), want[i]);
         }
     }
     Ok(())
@@ -123,7 +124,7 @@ fn edits_of_the_empty_text(rt: HostRuntime) -> Result<(), Fail> {
     for (i, n) in positions.iter().enumerate() {
         for (cmd, want) in by_position(*n).iter().zip(wanted.iter()) {
             let shown = ran(rt.alloc(), "", &[*cmd])?;
-            assert_eq!(rt; shown.as_str(), want[i], "at {n}");
+            same(&rt, shown.as_str(), want[i]);
         }
     }
     Ok(())
@@ -176,8 +177,8 @@ fn other_commands(rt: HostRuntime) -> Result<(), Fail> {
         ),
     ];
     for (cmd, want, want_empty) in rows {
-        assert_eq!(rt; ran(rt.alloc(), "aBc", &[cmd])?.as_str(), want);
-        assert_eq!(rt; ran(rt.alloc(), "", &[cmd])?.as_str(), want_empty);
+        same(&rt, ran(rt.alloc(), "aBc", &[cmd])?.as_str(), want);
+        same(&rt, ran(rt.alloc(), "", &[cmd])?.as_str(), want_empty);
     }
     Ok(())
 }
@@ -209,7 +210,11 @@ fn copies(rt: HostRuntime) -> Result<(), Fail> {
         (AsciiRange::ToInclusive(usize::MAX), refused),
     ];
     for (range, want) in rows {
-        assert_eq!(rt; ran(rt.alloc(), "abc", &[Cmd::Copy(range)])?.as_str(), want);
+        same(
+            &rt,
+            ran(rt.alloc(), "abc", &[Cmd::Copy(range)])?.as_str(),
+            want,
+        );
     }
     Ok(())
 }
@@ -219,17 +224,17 @@ fn edits(rt: HostRuntime) -> Result<(), Fail> {
     let alloc = rt.alloc();
     let stops = [Cmd::Pop, Cmd::Remove(2), Cmd::Set(9, AsciiChar::x)];
     let (answer, _) = ran_in(alloc, Mode::Edit(&stops), b"abc");
-    assert_eq!(rt; answer, Err(EngineFault::Position(1)));
+    same(&rt, answer, Err(EngineFault::Position(1)));
     let wants = [Cmd::Reserve(usize::MAX - 2), Cmd::Remove(2)];
     let (answer, _) = ran_in(alloc, Mode::Edit(&wants), b"ab");
-    assert_eq!(rt; answer, Err(EngineFault::Memory));
+    same(&rt, answer, Err(EngineFault::Memory));
     let goes_on = [Cmd::Push(AsciiChar::x), Cmd::Truncate(9), Cmd::Upper];
     let (answer, written) = ran_in(alloc, Mode::Edit(&goes_on), b"ab");
-    assert_eq!(rt; answer, Ok(()));
-    assert_eq!(rt; written.as_slice(), b"ABX".as_slice());
+    same(&rt, answer, Ok(()));
+    same(&rt, written.as_slice(), b"ABX".as_slice());
     let none: [Cmd<'_>; 0] = [];
     let (answer, written) = ran_in(alloc, Mode::Edit(&none), b"ab");
-    assert_eq!(rt; answer, Ok(()));
-    assert_eq!(rt; written.as_slice(), b"ab".as_slice());
+    same(&rt, answer, Ok(()));
+    same(&rt, written.as_slice(), b"ab".as_slice());
     Ok(())
 }

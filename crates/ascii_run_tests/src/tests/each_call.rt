@@ -1,6 +1,7 @@
 //! One byte a call, with each call refused in turn.
 
 use super::devices::{Giving, KINDS, Step, Taking};
+use super::same;
 use ascii::iter::End;
 use ascii::{AsciiStr, text};
 use ascii_run::{Cmd, EngineFault, Input, Mode, Output, Sink, Source, engine};
@@ -61,16 +62,16 @@ fn compare<R: Abort + AllocGlobal>(
         steps: steps.1,
         bytes: Vec::new(alloc),
     });
-    assert_eq!(rt; engine(alloc, mode, &mut reader, &mut writer), answer);
+    same(&rt, engine(alloc, mode, &mut reader, &mut writer), answer);
     let faults = (reader.failures(), writer.failures());
     let is = |fault: EngineFault| u64::from(answer == Err(fault));
-    assert_eq!(rt; faults, (is(EngineFault::Read), is(EngineFault::Write)));
+    same(&rt, faults, (is(EngineFault::Read), is(EngineFault::Write)));
     assert!(rt; faults.0 < 2 && faults.1 < 2);
-    assert_eq!(rt; engine(alloc, mode, &mut reader, &mut writer), Ok(()));
-    assert_eq!(rt; (reader.failures(), writer.failures()), faults);
+    same(&rt, engine(alloc, mode, &mut reader, &mut writer), Ok(()));
+    same(&rt, (reader.failures(), writer.failures()), faults);
     let mut all = Vec::from_slice(alloc, output)?;
     all.extend_from_slice(&written(alloc, mode, rest)?)?;
-    assert_eq!(rt; writer.into_inner().bytes, all);
+    same(&rt, writer.into_inner().bytes, all);
     Ok(())
 }
 

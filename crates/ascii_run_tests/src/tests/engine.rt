@@ -1,5 +1,6 @@
 //! The modes over memory and over devices that fail.
 
+use super::same;
 use ascii::bytes;
 use ascii::iter::End;
 use ascii_run::{EngineFault, Input, Mode, Output, engine};
@@ -30,11 +31,11 @@ fn modes_over_memory(rt: HostRuntime) -> Result<(), Fail> {
     ];
     for (mode, input, output) in rows {
         let (answer, written) = ran(alloc, mode, input);
-        assert_eq!(rt; answer, Ok(()));
-        assert_eq!(rt; written.as_slice(), output);
+        same(&rt, answer, Ok(()));
+        same(&rt, written.as_slice(), output);
         let (answer, written) = ran(alloc, mode, &[97, 98, 200, 201]);
-        assert_eq!(rt; answer, Err(EngineFault::NotAscii(2)));
-        assert_eq!(rt; written.len(), 0);
+        same(&rt, answer, Err(EngineFault::NotAscii(2)));
+        same(&rt, written.len(), 0);
     }
     Ok(())
 }
@@ -63,15 +64,15 @@ fn json_of_every_code(rt: HostRuntime) -> Result<(), Fail> {
     for code in 0..128u8 {
         let source = [code];
         let (answer, written) = ran(alloc, Mode::Json, &source);
-        assert_eq!(rt; answer, Ok(()));
+        same(&rt, answer, Ok(()));
         let wanted = json_text(alloc, code)?;
-        assert_eq!(rt; written.as_slice(), wanted.as_bytes(), "of {code}");
+        same(&rt, written.as_slice(), wanted.as_bytes());
         let Ok(view) = bytes::as_ascii_str(&source) else {
             return Err(Fail::from("no text"));
         };
         let value = view.to_json(alloc)?;
         let printed = value.to_string(alloc)?;
-        assert_eq!(rt; written.as_slice(), printed.as_bytes(), "of {code}");
+        same(&rt, written.as_slice(), printed.as_bytes());
     }
     Ok(())
 }

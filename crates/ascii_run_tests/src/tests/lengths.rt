@@ -1,6 +1,7 @@
 //! Runs and modes on long inputs: nothing gives up past a length.
 
 use super::engine::ran;
+use super::same;
 use ascii::iter::End;
 use ascii::{AsciiChar, AsciiRange, AsciiString};
 use ascii_run::{Cmd, EngineFault, Input, Mode, Output, Reply, engine, run};
@@ -41,12 +42,35 @@ fn each_mode(rt: HostRuntime) -> Result<(), Fail> {
         ];
         for (mode, front, back) in rows {
             let (outcome, written) = ran(alloc, mode, &input);
-            assert_eq!(rt; outcome, Ok(()), "{length}");
+            same(&rt, outcome, Ok(()));
             assert!(rt;
                 written == bytes_of(alloc, front, length, back)?,
                 "{length}"
             );
         }
+    }
+    Ok(())
+}
+
+/// `caret` of as many bytes `a` with a control at a place, and how it is shown.
+fn is_caret_at(alloc: Global, place: usize, code: u8, shown: &str) -> Result<bool, AllocError> {
+    let mut input = bytes_of(alloc, "", place, "")?;
+    input.push(code)?;
+    input.extend_from_slice(bytes_of(alloc, "", 40, "")?.as_slice())?;
+    let (_, written) = ran(alloc, Mode::Caret, &input);
+    let mut wanted = bytes_of(alloc, "", place, shown)?;
+    wanted.extend_from_slice(bytes_of(alloc, "", 40, "")?.as_slice())?;
+    Ok(written == wanted)
+}
+
+#[test]
+fn a_control_at_each_place(rt: HostRuntime) -> Result<(), Fail> {
+    for place in 0..70 {
+        assert!(rt; is_caret_at(rt.alloc(), place, 0, "^@")?);
+        assert!(rt; is_caret_at(rt.alloc(), place, 31, "^_")?);
+        assert!(rt; is_caret_at(rt.alloc(), place, 127, "^?")?);
+        assert!(rt; is_caret_at(rt.alloc(), place, 10, "\n")?);
+        assert!(rt; is_caret_at(rt.alloc(), place, 32, " ")?);
     }
     Ok(())
 }
@@ -72,7 +96,7 @@ fn each_flush(rt: HostRuntime) -> Result<(), Fail> {
         let mut reader = Input::new(input.as_slice());
         let mut writer = Output::new(Unflushed);
         let answer = engine(rt.alloc(), Mode::Copy, &mut reader, &mut writer);
-        assert_eq!(rt; answer, Err(EngineFault::Write), "{length}");
+        same(&rt, answer, Err(EngineFault::Write));
     }
     Ok(())
 }
@@ -87,7 +111,7 @@ fn many_commands(rt: HostRuntime) -> Result<(), Fail> {
     }
     let replies = run(alloc, &mut buf, &cmds)?;
     assert!(rt; replies.iter().all(|reply| matches!(reply, Reply::Done)));
-    assert_eq!(rt; replies.len(), 5_000);
+    same(&rt, replies.len(), 5_000);
     let long = buf.clone()?;
     let insert = [
         Cmd::InsertStr(1, long.as_ascii_str()),
@@ -98,9 +122,10 @@ fn many_commands(rt: HostRuntime) -> Result<(), Fail> {
         [Reply::Done, Reply::Text(copy)] => assert!(rt; *copy == buf),
         _ => assert!(rt; false),
     }
-    assert_eq!(rt;
+    same(
+        &rt,
         buf.as_ascii_str().as_bytes(),
-        bytes_of(alloc, "", 10_000, "")?.as_slice()
+        bytes_of(alloc, "", 10_000, "")?.as_slice(),
     );
     Ok(())
 }
@@ -113,7 +138,7 @@ fn room_is_made_and_given_back(rt: HostRuntime) -> Result<(), Fail> {
     assert!(rt; 10_001 <= buf.capacity());
     let replies = run(rt.alloc(), &mut buf, &[Cmd::Shrink])?;
     assert!(rt; matches!(replies.as_slice(), [Reply::Done]));
-    assert_eq!(rt; buf.capacity(), 1);
-    assert_eq!(rt; buf.as_ascii_str().as_str(), "x");
+    same(&rt, buf.capacity(), 1);
+    same(&rt, buf.as_ascii_str().as_str(), "x");
     Ok(())
 }

@@ -1,5 +1,6 @@
 //! Outputs round the size of a page, and writers that fail between two pages.
 
+use super::same;
 use ascii_run::{EngineFault, Input, Mode, Output, engine};
 use std::alloc::{AllocError, Global};
 use std::io;
@@ -58,8 +59,8 @@ fn lines_round_a_page(rt: HostRuntime) -> Result<(), Fail> {
             let mut writer = Output::new(Counting::new(rt.alloc(), usize::MAX));
             let answer = engine(rt.alloc(), mode, &mut reader, &mut writer);
             let counting = writer.into_inner();
-            assert_eq!(rt; answer, Ok(()), "{count}");
-            assert_eq!(rt; counting.calls, calls, "{count}");
+            same(&rt, answer, Ok(()));
+            same(&rt, counting.calls, calls);
             assert!(rt; counting.taken == input, "{count}");
         }
     }
@@ -75,9 +76,9 @@ fn writers_that_fail_at_a_page(rt: HostRuntime) -> Result<(), Fail> {
         let mut writer = Output::new(Counting::new(rt.alloc(), fails_at));
         let answer = engine(rt.alloc(), Mode::Lines, &mut reader, &mut writer);
         let counting = writer.into_inner();
-        assert_eq!(rt; answer, Err(EngineFault::Write), "{fails_at}");
-        assert_eq!(rt; counting.calls, fails_at, "{fails_at}");
-        assert_eq!(rt; counting.taken.len(), taken, "{fails_at}");
+        same(&rt, answer, Err(EngineFault::Write));
+        same(&rt, counting.calls, fails_at);
+        same(&rt, counting.taken.len(), taken);
     }
     Ok(())
 }

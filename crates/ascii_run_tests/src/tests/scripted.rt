@@ -1,5 +1,6 @@
 //! The engine over devices that follow a script.
 
+use super::same;
 use ascii_run::{DeviceFault, EngineFault, Input, Mode, Output, Sink, Source, engine};
 use std::alloc::Global;
 use std::io::{self, ErrorKind};
@@ -87,16 +88,22 @@ fn compare<R: Abort + AllocGlobal>(
         taken: Vec::new(alloc),
         flush,
     });
-    assert_eq!(rt; engine(alloc, Mode::Copy, &mut reader, &mut writer), answer);
-    assert_eq!(rt;
+    same(
+        &rt,
+        engine(alloc, Mode::Copy, &mut reader, &mut writer),
+        answer,
+    );
+    same(
+        &rt,
         reader.failures(),
-        u64::from(answer == Err(EngineFault::Read))
+        u64::from(answer == Err(EngineFault::Read)),
     );
-    assert_eq!(rt;
+    same(
+        &rt,
         writer.failures(),
-        u64::from(answer == Err(EngineFault::Write))
+        u64::from(answer == Err(EngineFault::Write)),
     );
-    assert_eq!(rt; writer.into_inner().taken.as_slice(), written);
+    same(&rt, writer.into_inner().taken.as_slice(), written);
 }
 
 const WHOLE: &[Turn] = &[Turn::Gives(b"abcdef")];
@@ -162,21 +169,21 @@ fn each_kind_of_error(rt: HostRuntime) {
 fn device_calls(rt: HostRuntime) -> Result<(), Fail> {
     let mut source = Input::new(b"abcde".as_slice());
     let mut buf = [0u8; 3];
-    assert_eq!(rt; source.failures(), 0);
-    assert_eq!(rt; source.read(&mut buf), Ok(3));
-    assert_eq!(rt; buf.as_slice(), b"abc".as_slice());
-    assert_eq!(rt; source.into_inner(), b"de".as_slice());
+    same(&rt, source.failures(), 0);
+    same(&rt, source.read(&mut buf), Ok(3));
+    same(&rt, buf.as_slice(), b"abc".as_slice());
+    same(&rt, source.into_inner(), b"de".as_slice());
 
     let mut sink = Output::new(Taking {
         turns: &[Turn::Takes(2), Turn::Fails(ErrorKind::Other)],
         taken: Vec::new(rt.alloc()),
         flush: None,
     });
-    assert_eq!(rt; sink.write(b"xyz"), Ok(2));
-    assert_eq!(rt; sink.failures(), 0);
-    assert_eq!(rt; sink.write(b"z"), Err(DeviceFault));
-    assert_eq!(rt; sink.failures(), 1);
-    assert_eq!(rt; sink.flush(), Ok(()));
-    assert_eq!(rt; sink.into_inner().taken.as_slice(), b"xy".as_slice());
+    same(&rt, sink.write(b"xyz"), Ok(2));
+    same(&rt, sink.failures(), 0);
+    same(&rt, sink.write(b"z"), Err(DeviceFault));
+    same(&rt, sink.failures(), 1);
+    same(&rt, sink.flush(), Ok(()));
+    same(&rt, sink.into_inner().taken.as_slice(), b"xy".as_slice());
     Ok(())
 }
