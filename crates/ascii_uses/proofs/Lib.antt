@@ -1,2 +1,3 @@
+pub mod LastLinesLemmas
 pub mod Relent
 pub mod TakenLemmas

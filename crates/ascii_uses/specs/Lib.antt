@@ -1,1 +1,2 @@
+pub mod LastLines
 pub mod Raised

@@ -1,0 +1,42 @@
+//! Giving the last lines of a text, as `tail -n` does, without a walk over those before them.
+
+ghost use Rattle.std.specs.Prelude.{◌≡◌, ◌++◌, List, ℕ};
+ghost use Rattle.ascii.specs.Lines.{LinesOf};
+ghost use Rattle.ascii.specs.View.{text_of};
+ghost use Rattle.ascii_uses.specs.LastLines.{HasLastLines, HasLinesBefore};
+
+use ascii::AsciiStr;
+use ascii::iter::Lines;
+use ascii_base::range::AsciiRange;
+
+/// The end of a view that has its last `n` lines, with their endings: the whole view where it has fewer, and
+/// nothing where `n` is 0. Of `a\nb\r\nc` the last 2 lines are `b\r\nc`.
+pub fn last_lines<'a>(view: AsciiStr<'a>, n: usize) -> AsciiStr<'a>
+    ensures lines { HasLastLines n (text_of view.entry) (text_of result) }
+    ensures suffix { (front : List ℕ) × (front ++ text_of result ≡ text_of view.entry) }
+{
+    let front = without_last_lines(view, n);
+    view.slice(AsciiRange::From(front.len()))
+}
+
+/// The front of a view up to its last `n` lines, as `head -n -N` gives it: nothing where it has no more lines
+/// than that. Of `a\nb\r\nc` without the last 2 lines `a\n` is left.
+pub fn without_last_lines<'a>(view: AsciiStr<'a>, n: usize) -> AsciiStr<'a>
+    ensures lines { HasLinesBefore n (text_of view.entry) (text_of result) }
+    ensures prefix { (rest : List ℕ) × (text_of result ++ rest ≡ text_of view.entry) }
+{
+    let mut lines = view.lines();
+    for _ in 0..n {
+        if lines.next_back().is_none() {
+            break;
+        }
+    }
+    rest_of(&lines)
+}
+
+/// The lines that an iterator still owes, as a view: an empty one where it owes none.
+fn rest_of<'a>(lines: &Lines<'a>) -> AsciiStr<'a>
+    ensures { LinesOf (text_of result) lines.now }
+{
+    lines.remainder().unwrap_or_default()
+}

@@ -1,0 +1,17 @@
+//! Each public call of the cookbook's readers, on texts that are written out by hand.
+
+mod last_lines;
+
+use ascii::{AsciiStr, text};
+use std::fmt::Debug;
+use std::process::Abort;
+
+/// The view of a text that is ASCII.
+fn ascii(source: &str) -> AsciiStr<'_> {
+    text::as_ascii_str(source).unwrap_or_default()
+}
+
+/// Fails the test where what was got is not what is wanted, and shows both.
+fn same<T: PartialEq + Debug + Drop>(rt: &impl Abort, got: T, want: T) {
+    assert_eq!(rt; got, want);
+}
