@@ -1,3 +1,5 @@
 pub mod LastLinesLemmas
 pub mod Relent
+pub mod RowLemmas
 pub mod TakenLemmas
+pub mod WalkLemmas

@@ -1,2 +1,3 @@
 pub mod LastLines
 pub mod Raised
+pub mod Rows

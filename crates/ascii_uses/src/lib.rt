@@ -10,4 +10,5 @@ pub mod parts;
 pub mod resuming;
 pub mod spans;
 pub mod strings;
+pub mod table;
 pub mod values;
