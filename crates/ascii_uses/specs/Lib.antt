@@ -1,3 +1,5 @@
+pub mod Cuts
 pub mod LastLines
 pub mod Raised
 pub mod Rows
+pub mod Settings

@@ -2,12 +2,14 @@
 //! characters, pieces and lines, edits of a part of a source, and texts as JSON values.
 #![tactic(auto)]
 
+pub mod cuts;
 pub mod forms;
 pub mod fronts;
 pub mod iterators;
 pub mod last_lines;
 pub mod parts;
 pub mod resuming;
+pub mod settings;
 pub mod spans;
 pub mod strings;
 pub mod table;

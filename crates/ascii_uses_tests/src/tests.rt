@@ -1,6 +1,7 @@
 //! Each public call of the cookbook's readers, on texts that are written out by hand.
 
 mod last_lines;
+mod settings;
 mod table;
 
 use ascii::{AsciiStr, text};

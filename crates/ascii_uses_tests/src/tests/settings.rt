@@ -1,0 +1,53 @@
+//! Lines of a file of settings.
+
+use super::{ascii, same};
+use ascii_uses::settings::{Setting, SettingFault, read_setting};
+
+/// Lines with a setting, its key and its value.
+static GOOD: [(&str, &str, &str); 7] = [
+    ("mode=fast", "mode", "fast"),
+    (" mode = fast # or slow", "mode", "fast"),
+    ("\tmax size\t=\t12 kB\t", "max size", "12 kB"),
+    ("a=b=c", "a", "b=c"),
+    ("a=", "a", ""),
+    ("a = # none", "a", ""),
+    ("a=b # c=d", "a", "b"),
+];
+
+/// Lines that say nothing.
+static BLANK: [&str; 5] = ["", "  \t", "#", " # mode = fast", "\r"];
+
+/// Lines that are refused, and why.
+static BAD: [(&str, SettingFault); 6] = [
+    ("mode", SettingFault::NoEquals(0)),
+    ("  mode fast  # =", SettingFault::NoEquals(2)),
+    ("=", SettingFault::NoKey(0)),
+    ("  = fast", SettingFault::NoKey(2)),
+    ("==", SettingFault::NoKey(0)),
+    ("\t=# a=b", SettingFault::NoKey(1)),
+];
+
+#[test]
+fn settings(rt: HostRuntime) {
+    for &(line, key, value) in &GOOD {
+        let wanted = Setting {
+            key: ascii(key),
+            value: ascii(value),
+        };
+        same(&rt, read_setting(ascii(line)), Ok(Some(wanted)));
+    }
+}
+
+#[test]
+fn blanks(rt: HostRuntime) {
+    for &line in &BLANK {
+        same(&rt, read_setting(ascii(line)), Ok(None));
+    }
+}
+
+#[test]
+fn refusals(rt: HostRuntime) {
+    for &(line, fault) in &BAD {
+        same(&rt, read_setting(ascii(line)), Err(fault));
+    }
+}
