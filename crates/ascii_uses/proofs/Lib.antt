@@ -1,3 +1,5 @@
+pub mod FirstLemmas
+pub mod HostLemmas
 pub mod LastLinesLemmas
 pub mod Relent
 pub mod RowLemmas

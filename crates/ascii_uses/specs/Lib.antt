@@ -1,4 +1,6 @@
+pub mod Cases
 pub mod Cuts
+pub mod Hosts
 pub mod LastLines
 pub mod Raised
 pub mod Rows

@@ -1,5 +1,6 @@
 //! Each public call of the cookbook's readers, on texts that are written out by hand.
 
+mod hosts;
 mod last_lines;
 mod settings;
 mod table;

@@ -1,0 +1,18 @@
+-- Texts in which the case of letters does not count.
+use Rattle.std.specs.Prelude.{◌≡◌, ℕ, List, map}
+use Rattle.std.specs.Cmp.Lexicographic.{slice_cmp}
+use Rattle.std.specs.Ordering.{nat_cmp}
+use Rattle.std.specs.declared.cmp.Ordering.{Ordering}
+use Rattle.ascii_base.specs.Case.{lower_image}
+
+-- a text in lower case
+abbrev pub lowered : List ℕ → List ℕ
+lowered text = map lower_image text
+
+-- two texts differ at most in case
+abbrev pub SameButCase : List ℕ → List ℕ → Type 0
+SameButCase a b = lowered a ≡ lowered b
+
+-- the order of two texts in lower case
+abbrev pub order_but_case : List ℕ → List ℕ → Ordering
+order_but_case a b = slice_cmp nat_cmp (lowered a) (lowered b)

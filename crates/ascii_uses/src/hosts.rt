@@ -1,0 +1,132 @@
+//! Holding the name of a host: labels of letters, digits and hyphens, joined by dots. Case does not count.
+
+ghost use Rattle.std.specs.Prelude.{◌≡◌, ◌+◌, ◌≤◌, ◌↔◌, IfErr, IfOk, IsTrue, MatchResult, OnOk, length};
+ghost use Rattle.ascii_base.specs.Code.{code_of};
+ghost use Rattle.ascii.specs.Spans.{piece_in};
+ghost use Rattle.ascii.specs.View.{text_of};
+ghost use Rattle.ascii_uses.specs.Cases.{SameButCase, lowered, order_but_case};
+ghost use Rattle.ascii_uses.specs.Cuts.{FindsOther};
+ghost use Rattle.ascii_uses.specs.Hosts.{FailsByMemory, IsHost, IsHostFault, IsLabel, IsLabelCode, IsLabelFault, host_text};
+
+use ascii::iter::SplitSpan;
+use ascii::{AsciiChar, AsciiStr};
+use ascii_run::{AsciiBuf, SmallAsciiString};
+use std::alloc::{AllocError, Global};
+use std::cmp::Ordering;
+
+/// The name of a host. It is kept in lower case, so that `==`, the order and the hash, which are those of what is
+/// kept, do not count case; names of at most 24 characters take no memory.
+#[derive(PartialEq, Eq, PartialOrd, Ord, Hash, Debug, Drop)]
+pub struct Host {
+    name: SmallAsciiString,
+}
+
+/// Why a name was refused. A place is that of a byte from the start of the name.
+#[derive(Clone, Copy, PartialEq, Eq, Debug)]
+pub enum HostFault {
+    /// The name has more than 253 characters.
+    TooLong,
+    /// The label that should start at this place is empty.
+    EmptyLabel(usize),
+    /// The label that starts at this place has more than 63 characters.
+    LongLabel(usize),
+    /// The character at this place is no letter, digit, hyphen or dot.
+    Character(usize),
+    /// The hyphen at this place is the first or the last character of its label.
+    Hyphen(usize),
+    /// Memory was refused for a name of more than 24 characters.
+    Memory,
+}
+
+impl From<AllocError> for HostFault {
+    ghost use Rattle.ascii_uses.specs.declared.hosts.HostFault.TheVariants.{Memory};
+
+    ghost from_gives = { λ _ fault. fault ≡ Memory };
+
+    fn from(_: AllocError) -> HostFault {
+        HostFault::Memory
+    }
+}
+
+impl Host {
+    /// The host of a name, or why the name is none: the first label that is wrong, and in it first its length.
+    pub fn parse(alloc: Global, name: AsciiStr<'_>) -> Result<Host, HostFault>
+        ensures host { OnOk result (IsHost (text_of name.entry)) }
+        ensures text { IfOk result (λ host. host_text host ≡ lowered (text_of name.entry)) }
+        ensures fault { IfErr result (IsHostFault (text_of name.entry)) }
+        ensures exact { IsHost (text_of name.entry) → FailsByMemory result }
+    {
+        if name.len() > 253 {
+            return Err(HostFault::TooLong);
+        }
+        for label in name.split_spans(AsciiChar::Dot) {
+            check_label(label)?;
+        }
+        let mut kept = SmallAsciiString::from_ascii_str(alloc, name)?;
+        kept.make_ascii_lowercase();
+        Ok(Host { name: kept })
+    }
+
+    /// The name in lower case.
+    pub fn as_ascii_str(&self) -> AsciiStr<'_>
+        ensures { text_of result ≡ host_text self.now }
+    {
+        self.name.as_ascii_str()
+    }
+}
+
+/// Whether two names are those of one host.
+pub fn same_host(alloc: Global, a: AsciiStr<'_>, b: AsciiStr<'_>) -> Result<bool, HostFault>
+    ensures same { IfOk result (λ same. IsTrue same ↔ SameButCase (text_of a.entry) (text_of b.entry)) }
+    ensures hosts { OnOk result (IsHost (text_of a.entry) × IsHost (text_of b.entry)) }
+    ensures exact { IsHost (text_of a.entry) → IsHost (text_of b.entry) → FailsByMemory result }
+{
+    Ok(Host::parse(alloc, a)? == Host::parse(alloc, b)?)
+}
+
+/// The order of the hosts of two names.
+pub fn host_order(alloc: Global, a: AsciiStr<'_>, b: AsciiStr<'_>) -> Result<Ordering, HostFault>
+    ensures order { IfOk result (λ order. order ≡ order_but_case (text_of a.entry) (text_of b.entry)) }
+    ensures hosts { OnOk result (IsHost (text_of a.entry) × IsHost (text_of b.entry)) }
+    ensures exact { IsHost (text_of a.entry) → IsHost (text_of b.entry) → FailsByMemory result }
+{
+    Ok(Host::parse(alloc, a)?.cmp(&Host::parse(alloc, b)?))
+}
+
+/// Refuses what is no label.
+fn check_label(label: SplitSpan<'_>) -> Result<(), HostFault>
+    requires { label.start + length (text_of label.text) ≤ usize.MAX }
+    ensures { MatchResult result (λ _. IsLabel (text_of label.entry.text)) (IsLabelFault (piece_in label.entry)) }
+{
+    let SplitSpan { start, text } = label;
+    if text.is_empty() {
+        return Err(HostFault::EmptyLabel(start));
+    }
+    if text.len() > 63 {
+        return Err(HostFault::LongLabel(start));
+    }
+    if let Some(i) = first_other(text) {
+        return Err(HostFault::Character(start + i));
+    }
+    if text.first() == Some(AsciiChar::Minus) {
+        return Err(HostFault::Hyphen(start));
+    }
+    if text.last() == Some(AsciiChar::Minus) {
+        return Err(HostFault::Hyphen(start + text.len() - 1));
+    }
+    Ok(())
+}
+
+/// The place of the first character that no label has.
+fn first_other(text: AsciiStr<'_>) -> Option<usize>
+    ensures { FindsOther IsLabelCode (text_of text.entry) result }
+{
+    text.chars().position(|ch| !is_in_label(ch))
+}
+
+/// Whether a label may have the character.
+fn is_in_label(ch: AsciiChar) -> bool
+    ensures { IsTrue result ↔ IsLabelCode (code_of ch) }
+{
+    ch.is_alphanumeric() || ch == AsciiChar::Minus
+}

@@ -1,0 +1,112 @@
+//! Names of hosts.
+
+use super::{ascii, same};
+use ascii::{AsciiChar, AsciiString};
+use ascii_uses::hosts::{Host, HostFault, host_order, same_host};
+use std::cmp::Ordering;
+use std::test::Fail;
+
+/// A label of 62 characters.
+const LABEL: &str = "abcdefghijklmnopqrstuvwxyz-0123456789-abcdefghijklmnopqrstuvwx";
+
+/// Names, and the same in lower case.
+static GOOD: [(&str, &str); 6] = [
+    ("a", "a"),
+    ("Example.ORG", "example.org"),
+    ("xn--a.b-c.9", "xn--a.b-c.9"),
+    ("1.2.3.4", "1.2.3.4"),
+    (
+        "A-name-of-a-HOST.with-more-than.24-characters",
+        "a-name-of-a-host.with-more-than.24-characters",
+    ),
+    ("Z0", "z0"),
+];
+
+/// Names that are refused, and why.
+static BAD: [(&str, HostFault); 14] = [
+    ("", HostFault::EmptyLabel(0)),
+    (".", HostFault::EmptyLabel(0)),
+    ("a.", HostFault::EmptyLabel(2)),
+    ("ab..c", HostFault::EmptyLabel(3)),
+    ("ab.c_d", HostFault::Character(4)),
+    ("ab.c d", HostFault::Character(4)),
+    ("@", HostFault::Character(0)),
+    ("a.b[", HostFault::Character(3)),
+    ("-a", HostFault::Hyphen(0)),
+    ("a-", HostFault::Hyphen(1)),
+    ("ab.-", HostFault::Hyphen(3)),
+    ("ab.cd-.e", HostFault::Hyphen(5)),
+    ("ab.-c-", HostFault::Hyphen(3)),
+    ("a_.b..c", HostFault::Character(1)),
+];
+
+#[test]
+fn names(rt: HostRuntime) -> Result<(), Fail> {
+    for &(name, wanted) in &GOOD {
+        let host = Host::parse(rt.alloc(), ascii(name))?;
+        same(&rt, host.as_ascii_str(), ascii(wanted));
+    }
+    Ok(())
+}
+
+#[test]
+fn refusals(rt: HostRuntime) {
+    for &(name, fault) in &BAD {
+        same(&rt, Host::parse(rt.alloc(), ascii(name)).err(), Some(fault));
+    }
+}
+
+#[test]
+fn lengths(rt: HostRuntime) -> Result<(), Fail> {
+    let alloc = rt.alloc();
+    let mut name = AsciiString::new(alloc);
+    name.push_str(ascii(LABEL))?;
+    name.push(AsciiChar::Z)?;
+    // a label of 63 characters, and of 64
+    same(&rt, Host::parse(alloc, name.as_ascii_str()).err(), None);
+    name.push(AsciiChar::Z)?;
+    let long = Some(HostFault::LongLabel(0));
+    same(&rt, Host::parse(alloc, name.as_ascii_str()).err(), long);
+    Ok(())
+}
+
+#[test]
+fn long_names(rt: HostRuntime) -> Result<(), Fail> {
+    let alloc = rt.alloc();
+    let mut name = AsciiString::new(alloc);
+    for _ in 0..4 {
+        name.push_str(ascii(LABEL))?;
+        name.push(AsciiChar::Dot)?;
+    }
+    // four labels of 62, each with its dot, and one of 1 are 253 characters
+    name.push(AsciiChar::Z)?;
+    same(&rt, Host::parse(alloc, name.as_ascii_str()).err(), None);
+    name.push(AsciiChar::Minus)?;
+    let long = Some(HostFault::TooLong);
+    same(&rt, Host::parse(alloc, name.as_ascii_str()).err(), long);
+    Ok(())
+}
+
+#[test]
+fn case(rt: HostRuntime) {
+    let alloc = rt.alloc();
+    let upper = ascii("WWW.EXAMPLE.ORG");
+    let lower = ascii("www.example.org");
+    let other = ascii("www.example.net");
+    same(&rt, same_host(alloc, upper, lower), Ok(true));
+    same(&rt, same_host(alloc, upper, other), Ok(false));
+    same(&rt, host_order(alloc, upper, other), Ok(Ordering::Greater));
+    same(&rt, host_order(alloc, other, upper), Ok(Ordering::Less));
+    same(&rt, host_order(alloc, lower, upper), Ok(Ordering::Equal));
+    let bad = ascii("a..b");
+    same(
+        &rt,
+        same_host(alloc, lower, bad),
+        Err(HostFault::EmptyLabel(2)),
+    );
+    same(
+        &rt,
+        host_order(alloc, bad, lower),
+        Err(HostFault::EmptyLabel(2)),
+    );
+}
