@@ -1,4 +1,5 @@
 pub mod FirstLemmas
+pub mod HeaderLemmas
 pub mod HostLemmas
 pub mod LastLinesLemmas
 pub mod Relent

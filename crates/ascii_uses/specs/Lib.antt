@@ -1,5 +1,6 @@
 pub mod Cases
 pub mod Cuts
+pub mod Headers
 pub mod Hosts
 pub mod LastLines
 pub mod Raised

@@ -5,6 +5,7 @@
 pub mod cuts;
 pub mod forms;
 pub mod fronts;
+pub mod headers;
 pub mod hosts;
 pub mod iterators;
 pub mod last_lines;

@@ -1,5 +1,6 @@
 //! Each public call of the cookbook's readers, on texts that are written out by hand.
 
+mod headers;
 mod hosts;
 mod last_lines;
 mod settings;

@@ -1,0 +1,130 @@
+//! Reading the header lines of a message: a name, a colon and a value. Names are found without regard to case.
+//!
+//! White space around a value is that of `trim`: beside space and tab also vertical tab, form feed and carriage
+//! return, which no value of a well-formed message has.
+
+ghost use Rattle.std.specs.Prelude.{◌≡◌, ◌↔◌, IsTrue, codes};
+ghost use Rattle.std.specs.List.{Contains};
+ghost use Rattle.ascii_base.specs.Code.{code_of};
+ghost use Rattle.ascii.specs.View.{text_of};
+ghost use Rattle.ascii_uses.specs.Cuts.{FindsOther};
+ghost use Rattle.ascii_uses.specs.Headers.{FindsHeader, IsTokenCode, ReadsHeader, ReadsHeaders};
+
+use crate::cuts::split_once;
+use ascii::{AsciiChar, AsciiStr};
+use std::alloc::{AllocFailed, Global};
+
+/// A header line.
+#[derive(Clone, Copy, PartialEq, Eq, Debug)]
+pub struct Header<'a> {
+    /// What stands before the first colon, in the case that the line has.
+    pub name: AsciiStr<'a>,
+    /// What stands behind the first colon, without white space around it.
+    pub value: AsciiStr<'a>,
+}
+
+/// Why a line is no header.
+#[derive(Clone, Copy, PartialEq, Eq, Debug)]
+pub enum HeaderFault {
+    /// The line has no colon.
+    NoColon,
+    /// Nothing stands before the colon.
+    NoName,
+    /// The character at this place of the line is the first before the colon that no name has.
+    NotToken(usize),
+}
+
+/// Why a block of lines was refused.
+#[derive(Clone, Copy, PartialEq, Eq, Debug)]
+pub enum BlockFault {
+    /// The line of this number, counted from 0, is the first that is no header; it starts at this place of the
+    /// block.
+    InLine {
+        number: usize,
+        start: usize,
+        fault: HeaderFault,
+    },
+    /// A growth of the list of headers was refused.
+    Memory,
+}
+
+impl<T: Drop> From<AllocFailed<T>> for BlockFault {
+    ghost use Rattle.ascii_uses.specs.declared.headers.BlockFault.TheVariants.{Memory};
+
+    ghost from_gives = { λ _ fault. fault ≡ Memory };
+
+    fn from(_: AllocFailed<T>) -> BlockFault {
+        BlockFault::Memory
+    }
+}
+
+/// The headers of a block of lines, in order. An empty line is no header: end the block before it.
+pub fn read_headers<'a>(alloc: Global, block: AsciiStr<'a>) -> Result<Vec<Header<'a>>, BlockFault>
+    ensures { ReadsHeaders (text_of block.entry) result }
+{
+    let mut headers = Vec::new(alloc);
+    for line in block.line_spans() {
+        match read_header(line.text) {
+            Ok(header) => headers.push(header)?,
+            Err(fault) => {
+                let number = headers.len();
+                let start = line.start;
+                return Err(BlockFault::InLine {
+                    number,
+                    start,
+                    fault,
+                });
+            }
+        }
+    }
+    Ok(headers)
+}
+
+/// The header of one line without its ending: `Host: a.example` has the name `Host` and the value `a.example`.
+pub fn read_header<'a>(line: AsciiStr<'a>) -> Result<Header<'a>, HeaderFault>
+    ensures { ReadsHeader (text_of line.entry) result }
+{
+    let Some((name, behind)) = split_once(line, AsciiChar::Colon) else {
+        return Err(HeaderFault::NoColon);
+    };
+    if name.is_empty() {
+        return Err(HeaderFault::NoName);
+    }
+    if let Some(place) = first_other(name) {
+        return Err(HeaderFault::NotToken(place));
+    }
+    let value = behind.trim();
+    Ok(Header { name, value })
+}
+
+/// The first header of a name, where case does not count.
+pub fn find_header<'a>(headers: &[Header<'a>], name: AsciiStr<'_>) -> Option<Header<'a>>
+    ensures { FindsHeader headers.now (text_of name.entry) result }
+{
+    headers
+        .iter()
+        .find(|header| header.name.eq_ignore_ascii_case(name))
+        .copied()
+}
+
+/// The place of the first character that no name has.
+fn first_other(text: AsciiStr<'_>) -> Option<usize>
+    ensures { FindsOther IsTokenCode (text_of text.entry) result }
+{
+    text.chars().position(|ch| !is_in_name(ch))
+}
+
+/// Whether a name may have the character.
+#[tactic(auto, unfolding(crate::specs::Headers::IsTokenCode))]
+fn is_in_name(ch: AsciiChar) -> bool
+    ensures { IsTrue result ↔ IsTokenCode (code_of ch) }
+{
+    ch.is_alphanumeric() || is_mark(ch)
+}
+
+/// Whether the character is one of the marks that a name may have.
+fn is_mark(ch: AsciiChar) -> bool
+    ensures { IsTrue result ↔ Contains (codes "!#$%&'*+-.^_`|~") (code_of ch) }
+{
+    b"!#$%&'*+-.^_`|~".contains(&ch.as_byte())
+}
