@@ -4,5 +4,6 @@ pub mod HostLemmas
 pub mod LastLinesLemmas
 pub mod Relent
 pub mod RowLemmas
+pub mod SettingLemmas
 pub mod TakenLemmas
 pub mod WalkLemmas

@@ -58,7 +58,7 @@ impl<T: Drop> From<AllocFailed<T>> for BlockFault {
     }
 }
 
-/// The headers of a block of lines, in order. An empty line is no header: end the block before it.
+/// The headers of a block of lines, in order. An empty line is no header, so the block has to end before it.
 pub fn read_headers<'a>(alloc: Global, block: AsciiStr<'a>) -> Result<Vec<Header<'a>>, BlockFault>
     ensures { ReadsHeaders (text_of block.entry) result }
 {
@@ -97,7 +97,7 @@ pub fn read_header<'a>(line: AsciiStr<'a>) -> Result<Header<'a>, HeaderFault>
     Ok(Header { name, value })
 }
 
-/// The first header of a name, where case does not count.
+/// The first header of a name, where case does not count: `HOST` finds `Host: a.example`.
 pub fn find_header<'a>(headers: &[Header<'a>], name: AsciiStr<'_>) -> Option<Header<'a>>
     ensures { FindsHeader headers.now (text_of name.entry) result }
 {

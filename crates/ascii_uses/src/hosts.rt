@@ -50,6 +50,7 @@ impl From<AllocError> for HostFault {
 
 impl Host {
     /// The host of a name, or why the name is none: the first label that is wrong, and in it first its length.
+    /// `Example.ORG` is kept as `example.org`; `a..b` is refused with `EmptyLabel(2)`.
     pub fn parse(alloc: Global, name: AsciiStr<'_>) -> Result<Host, HostFault>
         ensures host { OnOk result (IsHost (text_of name.entry)) }
         ensures text { IfOk result (λ host. host_text host ≡ lowered (text_of name.entry)) }
@@ -75,7 +76,7 @@ impl Host {
     }
 }
 
-/// Whether two names are those of one host.
+/// Whether two names are those of one host: `WWW.a.example` and `www.A.example` are.
 pub fn same_host(alloc: Global, a: AsciiStr<'_>, b: AsciiStr<'_>) -> Result<bool, HostFault>
     ensures same { IfOk result (λ same. IsTrue same ↔ SameButCase (text_of a.entry) (text_of b.entry)) }
     ensures hosts { OnOk result (IsHost (text_of a.entry) × IsHost (text_of b.entry)) }
@@ -84,7 +85,7 @@ pub fn same_host(alloc: Global, a: AsciiStr<'_>, b: AsciiStr<'_>) -> Result<bool
     Ok(Host::parse(alloc, a)? == Host::parse(alloc, b)?)
 }
 
-/// The order of the hosts of two names.
+/// The order of the hosts of two names: that of the names in lower case.
 pub fn host_order(alloc: Global, a: AsciiStr<'_>, b: AsciiStr<'_>) -> Result<Ordering, HostFault>
     ensures order { IfOk result (λ order. order ≡ order_but_case (text_of a.entry) (text_of b.entry)) }
     ensures hosts { OnOk result (IsHost (text_of a.entry) × IsHost (text_of b.entry)) }

@@ -25,7 +25,7 @@ pub enum SettingFault {
 }
 
 /// What a line says: `None` where it has nothing but white space and a comment, else its setting. Of
-/// ` mode = fast # or slow` the key is `mode` and the value `fast`.
+/// ` mode = fast # or slow` the key is `mode` and the value `fast`. White space is that of `trim`.
 pub fn read_setting<'a>(line: AsciiStr<'a>) -> Result<Option<Setting<'a>>, SettingFault>
     ensures { ReadsSetting (text_of line.entry) result }
 {

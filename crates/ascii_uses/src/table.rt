@@ -30,7 +30,8 @@ impl<T: Drop> From<AllocFailed<T>> for RowFault {
     }
 }
 
-/// The fields of a row that has just as many as the table has columns, none of them empty.
+/// The fields of a row that has just as many as the table has columns, none of them empty: a row `Ann<tab>Rome`
+/// of 2 columns gives `Ann` and `Rome`. A row `Ann<tab>` is refused with `Empty { field: 1, start: 4 }`.
 pub fn read_row<'a>(
     alloc: Global,
     row: AsciiStr<'a>,
