@@ -27,6 +27,8 @@ impl<'a> AsciiStr<'a> {
     ghost use Rattle.ascii.specs.View.{text_of};
 
     /// The characters of the view as text. Nothing is checked or copied.
+    ///
+    ///     view("foo").as_str() // "foo"
     #[inline]
     pub fn as_str(self) -> &'a str
         ensures { result.now ≡ text_of self.entry }
@@ -35,6 +37,8 @@ impl<'a> AsciiStr<'a> {
     }
 
     /// The codes of the view, a byte each.
+    ///
+    ///     view("foo").as_bytes() // [102, 111, 111]
     #[inline]
     pub fn as_bytes(self) -> &'a [u8]
         ensures codes { result.now ≡ text_of self.entry }
@@ -44,6 +48,8 @@ impl<'a> AsciiStr<'a> {
     }
 
     /// The number of characters, which is the number of bytes.
+    ///
+    ///     view("foo").len() // 3
     #[inline]
     pub fn len(self) -> usize
         ensures { result ≡ length (text_of self.entry) }
@@ -52,6 +58,8 @@ impl<'a> AsciiStr<'a> {
     }
 
     /// Whether the view has no character.
+    ///
+    ///     view("").is_empty() // true
     #[inline]
     pub fn is_empty(self) -> bool
         ensures { IsTrue result ↔ (text_of self.entry ≡ []) }
@@ -60,6 +68,8 @@ impl<'a> AsciiStr<'a> {
     }
 
     /// The first character, or `None` of the empty view.
+    ///
+    ///     view("foo").first() // Some('f')
     #[inline]
     pub fn first(self) -> Option<AsciiChar>
         ensures { option_map code_of result ≡ slice_get (text_of self.entry) 0 }
@@ -68,6 +78,8 @@ impl<'a> AsciiStr<'a> {
     }
 
     /// The last character, or `None` of the empty view.
+    ///
+    ///     view("foo").last() // Some('o')
     #[inline]
     pub fn last(self) -> Option<AsciiChar>
         ensures { option_map code_of result ≡ slice_get (text_of self.entry) (length (text_of self.entry) - 1) }
@@ -76,6 +88,9 @@ impl<'a> AsciiStr<'a> {
     }
 
     /// The character at a position from 0, or `None` past the end.
+    ///
+    ///     view("foo").get_ascii(0) // Some('f')
+    ///     view("foo").get_ascii(3) // None
     #[inline]
     pub fn get_ascii(self, i: usize) -> Option<AsciiChar>
         ensures { option_map code_of result ≡ slice_get (text_of self.entry) i }
@@ -88,6 +103,8 @@ impl<'a> AsciiStr<'a> {
     }
 
     /// The character at a position from 0 that is under the length.
+    ///
+    ///     view("foo").char_at(0) // 'f'
     #[inline]
     pub fn char_at(self, i: usize) -> AsciiChar
         requires { i < length (text_of self) }
@@ -97,6 +114,8 @@ impl<'a> AsciiStr<'a> {
     }
 
     /// The view itself: a view never has to be checked again.
+    ///
+    ///     view("foo").as_ascii_str() // Ok("foo")
     #[inline]
     pub fn as_ascii_str(self) -> Result<AsciiStr<'a>, AsAsciiStrError>
         ensures { IsOkAnd result (λ view. text_of view ≡ text_of self.entry) }
@@ -106,6 +125,9 @@ impl<'a> AsciiStr<'a> {
 
     /// The part of the view that the range names, or the length of the view where the range does
     /// not fit.
+    ///
+    ///     view("foo").slice_ascii(AsciiRange::To(2)) // Ok("fo")
+    ///     view("foo").slice_ascii(AsciiRange::To(4)) // Err(AsAsciiStrError(3))
     #[inline]
     pub fn slice_ascii(self, range: AsciiRange) -> Result<AsciiStr<'a>, AsAsciiStrError>
         ensures outcome { SliceOutcome (text_of self.entry) range result }
@@ -120,6 +142,8 @@ impl<'a> AsciiStr<'a> {
     }
 
     /// The part of the view that a range names which fits it.
+    ///
+    ///     view("foo").slice(AsciiRange::From(1)) // "oo"
     #[inline]
     pub fn slice(self, range: AsciiRange) -> AsciiStr<'a>
         requires { Fits range (length (text_of self)) }
@@ -134,6 +158,8 @@ impl<'a> AsciiStr<'a> {
 
     /// The view without the white space at both of its ends: space, tab, line feed, vertical tab,
     /// form feed and carriage return.
+    ///
+    ///     view(" a b\r\n").trim() // "a b"
     pub fn trim(self) -> AsciiStr<'a>
         ensures { Trims (text_of self.entry) (text_of result) }
     {
@@ -141,6 +167,8 @@ impl<'a> AsciiStr<'a> {
     }
 
     /// The view without the white space at its front.
+    ///
+    ///     view(" a b ").trim_start() // "a b "
     pub fn trim_start(self) -> AsciiStr<'a>
         ensures { TrimsStart (text_of self.entry) (text_of result) }
     {
@@ -151,6 +179,8 @@ impl<'a> AsciiStr<'a> {
     }
 
     /// The view without the white space at its back.
+    ///
+    ///     view(" a b ").trim_end() // " a b"
     pub fn trim_end(self) -> AsciiStr<'a>
         ensures { TrimsEnd (text_of self.entry) (text_of result) }
     {
@@ -161,6 +191,8 @@ impl<'a> AsciiStr<'a> {
     }
 
     /// Whether two views are equal when the case of letters does not count.
+    ///
+    ///     view("Host").eq_ignore_ascii_case(view("HOST")) // true
     #[inline]
     pub fn eq_ignore_ascii_case(self, other: AsciiStr<'_>) -> bool
         ensures { IsTrue result ↔ (map lower_image (text_of self.entry) ≡ map lower_image (text_of other.entry)) }
@@ -169,6 +201,8 @@ impl<'a> AsciiStr<'a> {
     }
 
     /// Whether the view has the bytes of a text.
+    ///
+    ///     view("foo").eq_str("foo") // true
     #[inline]
     pub fn eq_str(self, other: &str) -> bool
         ensures { IsTrue result ↔ (text_of self.entry ≡ other.now) }
@@ -177,6 +211,8 @@ impl<'a> AsciiStr<'a> {
     }
 
     /// Whether the view has these bytes.
+    ///
+    ///     view("foo").eq_bytes(b"foo") // true
     #[inline]
     pub fn eq_bytes(self, other: &[u8]) -> bool
         ensures { IsTrue result ↔ (text_of self.entry ≡ other.now) }
@@ -191,6 +227,8 @@ impl Default for AsciiStr<'_> {
     ghost is_default = { λ view. text_of view ≡ [] };
 
     /// The empty view.
+    ///
+    ///     AsciiStr::default() // ""
     fn default() -> Self {
         AsciiStr { bytes: &[] }
     }
@@ -201,6 +239,7 @@ impl<'a> From<AsciiStr<'a>> for &'a str {
 
     ghost from_gives = { λ view text. text.now ≡ text_of view };
 
+    ///     <&str>::from(view("foo")) // "foo"
     fn from(view: AsciiStr<'a>) -> &'a str {
         view.as_str()
     }
@@ -211,6 +250,7 @@ impl<'a> From<AsciiStr<'a>> for &'a [u8] {
 
     ghost from_gives = { λ view bytes. bytes.now ≡ text_of view };
 
+    ///     <&[u8]>::from(view("foo")) // [102, 111, 111]
     fn from(view: AsciiStr<'a>) -> &'a [u8] {
         view.as_bytes()
     }
@@ -224,6 +264,7 @@ impl fmt::Display for AsciiStr<'_> {
 
     ghost styled_output = { λ view spec. Some (styled_text spec (text_of view)) };
 
+    ///     format!(in alloc; "{}", view("a\"b"))? // "a\"b"
     fn fmt<W: fmt::Write>(&self, f: &mut fmt::Formatter<W>) -> fmt::Result {
         fmt::Display::fmt(&self.as_str(), f)
     }
@@ -235,6 +276,7 @@ impl fmt::Debug for AsciiStr<'_> {
 
     ghost debug_output = { λ view. Some (debug_text (text_of view)) };
 
+    ///     format!(in alloc; "{:?}", view("a\"b"))? // "\"a\\\"b\""
     fn fmt<W: fmt::Write>(&self, f: &mut fmt::Formatter<W>) -> fmt::Result {
         fmt::Debug::fmt(&self.as_str(), f)
     }
@@ -251,6 +293,8 @@ impl AsAsciiStrError {
 
     /// The position in the source of the first byte of the range that is over 127, counted from 0;
     /// the length of the source where the range does not fit.
+    ///
+    ///     bytes::as_ascii_str(b"ab\xc4").map_err(AsAsciiStrError::valid_up_to) // Err(2)
     #[inline]
     pub fn valid_up_to(self) -> usize
         ensures { result ≡ position_of self }
@@ -259,6 +303,8 @@ impl AsAsciiStrError {
     }
 
     /// What went wrong, without the position.
+    ///
+    ///     bytes::as_ascii_str(b"ab\xc4").map_err(|e| e.description()) // Err("one or more bytes are not ASCII")
     pub fn description(&self) -> &'static str
         ensures { result.now ≡ codes "one or more bytes are not ASCII" }
     {
@@ -271,6 +317,7 @@ impl fmt::Display for AsAsciiStrError {
 
     ghost output = { λ e. Some (codes "the byte at index " ++ decimal (position_of e) ++ codes " is not ASCII") };
 
+    ///     bytes::as_ascii_str(b"ab\xc4").map_err(|e| e.to_string(alloc)) // Err(Ok("the byte at index 2 is not ASCII"))
     fn fmt<W: fmt::Write>(&self, f: &mut fmt::Formatter<W>) -> fmt::Result {
         let position = self.valid_up_to;
         write!(f, "the byte at index {position} is not ASCII")
@@ -278,6 +325,7 @@ impl fmt::Display for AsAsciiStrError {
 }
 
 impl fmt::Debug for AsAsciiStrError {
+    ///     bytes::as_ascii_str(b"ab\xc4") // Err(AsAsciiStrError(2))
     fn fmt<W: fmt::Write>(&self, f: &mut fmt::Formatter<W>) -> fmt::Result {
         f.debug_tuple("AsAsciiStrError")
             .field(&self.valid_up_to)

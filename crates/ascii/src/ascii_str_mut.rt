@@ -28,6 +28,10 @@ impl AsciiStrMut<'_> {
     ghost use Rattle.ascii.specs.WritingView.{EditsTo, mut_text_of};
 
     /// Puts `ch` at position `i` of the text, counted from 0. The rest of the text stays.
+    ///
+    ///     let mut source = *b"foo";
+    ///     bytes::as_mut_ascii_str_unchecked(&mut source).set(0, AsciiChar::z);
+    ///     source == *b"zoo" // true
     #[inline]
     pub fn set(&mut self, i: usize, ch: AsciiChar)
         requires { i < length (mut_text_of self.old) }
@@ -38,6 +42,10 @@ impl AsciiStrMut<'_> {
 
     /// Changes each character `a` to `z` of the text to that of `A` to `Z`. The rest of the text
     /// stays.
+    ///
+    ///     let mut source = *b"foo";
+    ///     bytes::as_mut_ascii_str_unchecked(&mut source).make_ascii_uppercase();
+    ///     source == *b"FOO" // true
     #[tactic(auto, using(std::proofs::lemmas::Slice::overwrites, crate::proofs::WritingViewLemmas::keeps_ascii))]
     pub fn make_ascii_uppercase(&mut self)
         ensures { EditsTo (map upper_image (mut_text_of self.old)) self.old self.new }
@@ -47,6 +55,10 @@ impl AsciiStrMut<'_> {
 
     /// Changes each character `A` to `Z` of the text to that of `a` to `z`. The rest of the text
     /// stays.
+    ///
+    ///     let mut source = *b"FOO";
+    ///     bytes::as_mut_ascii_str_unchecked(&mut source).make_ascii_lowercase();
+    ///     source == *b"foo" // true
     #[tactic(auto, using(std::proofs::lemmas::Slice::overwrites, crate::proofs::WritingViewLemmas::keeps_ascii))]
     pub fn make_ascii_lowercase(&mut self)
         ensures { EditsTo (map lower_image (mut_text_of self.old)) self.old self.new }
@@ -55,6 +67,9 @@ impl AsciiStrMut<'_> {
     }
 
     /// A view of the text, to read it.
+    ///
+    ///     let mut source = *b"foo";
+    ///     bytes::as_mut_ascii_str_unchecked(&mut source).as_ascii_str().len() // 3
     #[inline]
     pub fn as_ascii_str(&self) -> AsciiStr<'_>
         ensures { text_of result ≡ mut_text_of self.now }

@@ -41,6 +41,8 @@ impl<A: Allocator> AsciiString<A> {
     ghost use Rattle.std.specs.Str.{IsAscii};
 
     /// The empty text. It takes no memory.
+    ///
+    ///     AsciiString::new(alloc).len() // 0
     #[inline]
     pub fn new(alloc: A) -> AsciiString<A>
         ensures { result.text ≡ [] }
@@ -51,6 +53,8 @@ impl<A: Allocator> AsciiString<A> {
     }
 
     /// The empty text, with room for at least `capacity` bytes.
+    ///
+    ///     AsciiString::with_capacity(alloc, 10)?.capacity() >= 10 // true
     pub fn with_capacity(alloc: A, capacity: usize) -> Result<AsciiString<A>, AllocError>
         ensures text { IfOk result (λ string. string.text ≡ []) }
         ensures capacity { IfOk result (λ string. capacity ≤ string.capacity) }
@@ -62,6 +66,8 @@ impl<A: Allocator> AsciiString<A> {
     }
 
     /// The text of bytes that are known to be under 128. The buffer is kept, and so is its capacity.
+    ///
+    ///     AsciiString::from_ascii_unchecked(Vec::from_slice(alloc, b"foo")?) // "foo"
     #[inline]
     pub fn from_ascii_unchecked(bytes: Vec<u8, A>) -> AsciiString<A>
         requires { IsAscii bytes.items }
@@ -72,6 +78,8 @@ impl<A: Allocator> AsciiString<A> {
     }
 
     /// A view of the whole text.
+    ///
+    ///     view("foo").to_ascii_string(alloc)?.as_ascii_str() // "foo"
     #[inline]
     pub fn as_ascii_str(&self) -> AsciiStr<'_>
         ensures { text_of result ≡ self.now.text }
@@ -82,6 +90,8 @@ impl<A: Allocator> AsciiString<A> {
     }
 
     /// The number of bytes that the text can have before it has to grow, at least its length.
+    ///
+    ///     AsciiString::new(alloc).capacity() // 0
     #[inline]
     pub fn capacity(&self) -> usize
         ensures capacity { result ≡ self.now.capacity }
@@ -92,6 +102,10 @@ impl<A: Allocator> AsciiString<A> {
 
     /// Makes room for `additional` more bytes. The text stays, and a refusal of memory comes only
     /// where the room was missing; room for none never is.
+    ///
+    ///     let mut text = view("foo").to_ascii_string(alloc)?;
+    ///     text.reserve(10) // Ok(())
+    ///     text.capacity() >= 13 // true
     pub fn reserve(&mut self, additional: usize) -> Result<(), AllocError>
         requires { length self.old.text + additional ≤ usize.MAX }
         ensures { MakesRoom additional self.old self.new result }
@@ -101,6 +115,10 @@ impl<A: Allocator> AsciiString<A> {
 
     /// Makes room for `additional` more bytes and asks for no more than that. The text stays, and a
     /// refusal of memory comes only where the room was missing; room for none never is.
+    ///
+    ///     let mut text = view("foo").to_ascii_string(alloc)?;
+    ///     text.reserve_exact(10) // Ok(())
+    ///     text.capacity() >= 13 // true
     pub fn reserve_exact(&mut self, additional: usize) -> Result<(), AllocError>
         requires { length self.old.text + additional ≤ usize.MAX }
         ensures { MakesRoom additional self.old self.new result }
@@ -110,6 +128,10 @@ impl<A: Allocator> AsciiString<A> {
 
     /// Gives back the room that the text does not need. The text stays; a refusal of memory leaves
     /// the room too, and comes only where there was some.
+    ///
+    ///     let mut text = AsciiString::with_capacity(alloc, 10)?;
+    ///     text.shrink_to_fit() // Ok(())
+    ///     text.capacity() // 0
     pub fn shrink_to_fit(&mut self) -> Result<(), AllocError>
         ensures text { self.new.text ≡ self.old.text }
         ensures ok { OnOk result (self.new.capacity ≡ length self.new.text) }
@@ -126,6 +148,10 @@ impl<A: Allocator> AsciiString<A> {
 
     /// Appends a character. It is never refused where the longer text fits the capacity; a refusal
     /// of memory leaves the text.
+    ///
+    ///     let mut text = view("fo").to_ascii_string(alloc)?;
+    ///     text.push(AsciiChar::o) // Ok(())
+    ///     text // "foo"
     #[inline]
     pub fn push(&mut self, ch: AsciiChar) -> Result<(), AllocError>
         ensures { GrowsTo (self.old.text ++ code_of ch ∷ []) self.old self.new result }
@@ -136,6 +162,10 @@ impl<A: Allocator> AsciiString<A> {
 
     /// Appends a view. It is never refused where the longer text fits the capacity, as it does with
     /// the empty view; a refusal of memory leaves the text.
+    ///
+    ///     let mut text = view("foo").to_ascii_string(alloc)?;
+    ///     text.push_str(view("bar")) // Ok(())
+    ///     text // "foobar"
     #[inline]
     pub fn push_str(&mut self, view: AsciiStr<'_>) -> Result<(), AllocError>
         ensures { GrowsTo (self.old.text ++ text_of view.entry) self.old self.new result }
@@ -145,6 +175,10 @@ impl<A: Allocator> AsciiString<A> {
 
     /// Puts a character before the position `idx`; at the length it is appended. It is never refused
     /// where the longer text fits the capacity; a refusal of memory leaves the text.
+    ///
+    ///     let mut text = view("fo").to_ascii_string(alloc)?;
+    ///     text.insert(0, AsciiChar::z) // Ok(())
+    ///     text // "zfo"
     pub fn insert(&mut self, idx: usize, ch: AsciiChar) -> Result<(), AllocError>
         requires { idx ≤ length self.old.text }
         ensures { GrowsTo (insert self.old.text idx (code_of ch)) self.old self.new result }
@@ -156,6 +190,10 @@ impl<A: Allocator> AsciiString<A> {
     /// Puts a view before the position `idx`; at the length it is appended. It is never refused where
     /// the longer text fits the capacity, as it does with the empty view; a refusal of memory leaves
     /// the text.
+    ///
+    ///     let mut text = view("fo").to_ascii_string(alloc)?;
+    ///     text.insert_str(1, view("lo")) // Ok(())
+    ///     text // "floo"
     pub fn insert_str(&mut self, idx: usize, view: AsciiStr<'_>) -> Result<(), AllocError>
         requires { idx ≤ length self.old.text }
         ensures { GrowsTo (insert_text self.old.text idx (text_of view.entry)) self.old self.new result }
@@ -165,6 +203,10 @@ impl<A: Allocator> AsciiString<A> {
     }
 
     /// Takes out the character at a position from 0 that is under the length.
+    ///
+    ///     let mut text = view("foo").to_ascii_string(alloc)?;
+    ///     text.remove(0) // 'f'
+    ///     text // "oo"
     pub fn remove(&mut self, idx: usize) -> AsciiChar
         requires { idx < length self.old.text }
         ensures removed { code_of result ≡ slice_index self.old.text idx }
@@ -174,6 +216,10 @@ impl<A: Allocator> AsciiString<A> {
     }
 
     /// Takes off the last character, or answers `None` of the empty text.
+    ///
+    ///     let mut text = view("fo").to_ascii_string(alloc)?;
+    ///     text.pop() // Some('o')
+    ///     text // "f"
     #[inline]
     pub fn pop(&mut self) -> Option<AsciiChar>
         ensures popped { option_map code_of result ≡ slice_get self.old.text (length self.old.text - 1) }
@@ -184,6 +230,10 @@ impl<A: Allocator> AsciiString<A> {
     }
 
     /// Keeps the first `n` characters, or all where there are fewer.
+    ///
+    ///     let mut text = view("foo").to_ascii_string(alloc)?;
+    ///     text.truncate(2);
+    ///     text // "fo"
     #[inline]
     pub fn truncate(&mut self, n: usize)
         ensures { EditsWithin (take n self.old.text) self.old self.new }
@@ -192,6 +242,10 @@ impl<A: Allocator> AsciiString<A> {
     }
 
     /// Takes off all characters. The capacity stays.
+    ///
+    ///     let mut text = view("foo").to_ascii_string(alloc)?;
+    ///     text.clear();
+    ///     text // ""
     #[inline]
     pub fn clear(&mut self)
         ensures { EditsWithin [] self.old self.new }
@@ -200,6 +254,10 @@ impl<A: Allocator> AsciiString<A> {
     }
 
     /// Puts a character in the place of the one at a position from 0 that is under the length.
+    ///
+    ///     let mut text = view("foo").to_ascii_string(alloc)?;
+    ///     text.set(0, AsciiChar::z);
+    ///     text // "zoo"
     #[inline]
     pub fn set(&mut self, i: usize, ch: AsciiChar)
         requires { i < length self.old.text }
@@ -209,6 +267,10 @@ impl<A: Allocator> AsciiString<A> {
     }
 
     /// Changes `a` to `z` to `A` to `Z`, and leaves every other character.
+    ///
+    ///     let mut text = view("foo").to_ascii_string(alloc)?;
+    ///     text.make_ascii_uppercase();
+    ///     text // "FOO"
     pub fn make_ascii_uppercase(&mut self)
         ensures { EditsWithin (map upper_image self.old.text) self.old self.new }
     {
@@ -216,6 +278,10 @@ impl<A: Allocator> AsciiString<A> {
     }
 
     /// Changes `A` to `Z` to `a` to `z`, and leaves every other character.
+    ///
+    ///     let mut text = view("FOO").to_ascii_string(alloc)?;
+    ///     text.make_ascii_lowercase();
+    ///     text // "foo"
     pub fn make_ascii_lowercase(&mut self)
         ensures { EditsWithin (map lower_image self.old.text) self.old self.new }
     {
@@ -223,6 +289,8 @@ impl<A: Allocator> AsciiString<A> {
     }
 
     /// The number of characters, which is the number of bytes.
+    ///
+    ///     view("foo").to_ascii_string(alloc)?.len() // 3
     #[inline]
     pub fn len(&self) -> usize
         ensures { result ≡ length self.now.text }
@@ -231,6 +299,8 @@ impl<A: Allocator> AsciiString<A> {
     }
 
     /// Whether the text has no character.
+    ///
+    ///     view("foo").to_ascii_string(alloc)?.is_empty() // false
     #[inline]
     pub fn is_empty(&self) -> bool
         ensures { IsTrue result ↔ (self.now.text ≡ []) }
@@ -261,6 +331,8 @@ impl<A: Allocator + Clone> Clone for AsciiString<A> {
     ghost is_clone = { λ string copy. copy.text ≡ string.text };
 
     /// The same text in memory of its own.
+    ///
+    ///     view("foo").to_ascii_string(alloc)?.clone()? // "foo"
     fn clone(&self) -> Result<AsciiString<A>, AllocError> {
         Ok(AsciiString {
             bytes: self.bytes.clone()?,
@@ -279,6 +351,7 @@ impl<A: Allocator> PartialEq for AsciiString<A> {
 
     ghost laws = { Prim.search (comparing, rules) };
 
+    ///     view("foo").to_ascii_string(alloc)? == view("foo").to_ascii_string(alloc)? // true
     fn eq(&self, other: &AsciiString<A>) -> bool {
         self.as_ascii_str() == other.as_ascii_str()
     }
@@ -302,6 +375,7 @@ impl<A: Allocator> PartialOrd for AsciiString<A> {
 
     ghost laws = { partial_order_from_own_ties (Prim.search (comparing, rules)) (Prim.search (comparing, rules)) };
 
+    ///     view("foo").to_ascii_string(alloc)? < view("fop").to_ascii_string(alloc)? // true
     fn partial_cmp(&self, other: &AsciiString<A>) -> Option<Ordering> {
         Some(self.cmp(other))
     }
@@ -321,6 +395,7 @@ impl<A: Allocator> Ord for AsciiString<A> {
 
     ghost matches_eq = { Prim.search (comparing, rules) };
 
+    ///     view("foo").to_ascii_string(alloc)?.cmp(&view("fo").to_ascii_string(alloc)?) // Greater
     fn cmp(&self, other: &AsciiString<A>) -> Ordering {
         self.as_ascii_str().cmp(&other.as_ascii_str())
     }
@@ -335,6 +410,9 @@ impl<A: Allocator> Hash for AsciiString<A> {
 
     ghost respects_eq = { Prim.search (hashing, rules) };
 
+    ///     let mut seen = HashSet::new(alloc);
+    ///     seen.insert(view("foo").to_ascii_string(alloc)?)?;
+    ///     seen.contains(&view("foo").to_ascii_string(alloc)?) // true
     fn hash<H: Hasher>(&self, state: &mut H) {
         self.as_ascii_str().as_str().hash(state);
     }
@@ -348,6 +426,7 @@ impl<A: Allocator> fmt::Display for AsciiString<A> {
 
     ghost styled_output = { λ string spec. Some (styled_text spec string.text) };
 
+    ///     format!(in alloc; "{}", view("foo").to_ascii_string(alloc)?)? // "foo"
     fn fmt<W: fmt::Write>(&self, f: &mut fmt::Formatter<W>) -> fmt::Result {
         fmt::Display::fmt(&self.as_ascii_str(), f)
     }
@@ -359,6 +438,7 @@ impl<A: Allocator> fmt::Debug for AsciiString<A> {
 
     ghost debug_output = { λ string. Some (debug_text string.text) };
 
+    ///     format!(in alloc; "{:?}", view("foo").to_ascii_string(alloc)?)? // "\"foo\""
     fn fmt<W: fmt::Write>(&self, f: &mut fmt::Formatter<W>) -> fmt::Result {
         fmt::Debug::fmt(&self.as_ascii_str(), f)
     }
@@ -368,6 +448,11 @@ impl<A: Allocator> AsciiString<A> {
     ghost use Rattle.std.specs.Str.{IsAscii};
 
     /// Appends a character. One past 127, or a refusal of memory, is an error and leaves the text.
+    ///
+    ///     let mut text = view("foo").to_ascii_string(alloc)?;
+    ///     text.write_char('d') // Ok(())
+    ///     text.write_char('č') // Err(Error)
+    ///     text // "food"
     pub fn write_char(&mut self, ch: char) -> fmt::Result
         ensures { Writes (ch ∷ []) self.old self.new result }
     {
@@ -386,6 +471,10 @@ impl<A: Allocator> fmt::Write for AsciiString<A> {
 
     /// Appends a text. One with a character past 127, or a refusal of memory, is an error and leaves
     /// the text: no part of it goes in.
+    ///
+    ///     let mut text = view("foo").to_ascii_string(alloc)?;
+    ///     write!(text, "{}", 7) // Ok(())
+    ///     text // "foo7"
     fn write_str(&mut self, s: &str) -> fmt::Result
         ensures ok { IsOk result → self.new.text ≡ self.old.text ++ s.now }
         ensures writes { Writes s.now self.old self.new result }
@@ -402,6 +491,8 @@ impl<A: Allocator> From<AsciiString<A>> for Vec<u8, A> {
     ghost from_gives = { λ string bytes. (bytes.items ≡ string.text) × (vec_capacity bytes ≡ string.capacity) };
 
     /// The bytes of the text, in the buffer that it had.
+    ///
+    ///     Vec::from(view("foo").to_ascii_string(alloc)?) // [102, 111, 111]
     fn from(string: AsciiString<A>) -> Vec<u8, A> {
         string.bytes
     }
@@ -413,6 +504,8 @@ impl<A: Allocator> From<AsciiString<A>> for String<A> {
     ghost from_gives = { λ string text. (string_bytes text ≡ string.text) × (string_capacity text ≡ string.capacity) };
 
     /// The text as a `String`, in the buffer that it had.
+    ///
+    ///     String::from(view("foo").to_ascii_string(alloc)?) // "foo"
     fn from(string: AsciiString<A>) -> String<A> {
         unsafe { String::from_utf8_unchecked(string.bytes) }
     }

@@ -31,6 +31,8 @@ impl<A: Allocator> Model for BoxedAsciiStr<A> {
 
 impl<A: Allocator> BoxedAsciiStr<A> {
     /// A copy of a view.
+    ///
+    ///     BoxedAsciiStr::from_ascii_str(alloc, view("foo"))?.as_ascii_str() // "foo"
     pub fn from_ascii_str(alloc: A, view: AsciiStr<'_>) -> Result<BoxedAsciiStr<A>, AllocError>
         ensures { IfOk result (λ boxed. boxed ≡ text_of view.entry) }
     {
@@ -40,6 +42,8 @@ impl<A: Allocator> BoxedAsciiStr<A> {
     }
 
     /// A view of the text.
+    ///
+    ///     BoxedAsciiStr::from_ascii_str(alloc, view("foo"))?.as_ascii_str().len() // 3
     #[inline]
     pub fn as_ascii_str(&self) -> AsciiStr<'_>
         ensures { text_of result ≡ self.now }
@@ -50,6 +54,8 @@ impl<A: Allocator> BoxedAsciiStr<A> {
     }
 
     /// The text as a string that can grow, in the memory that it has. It is never refused.
+    ///
+    ///     BoxedAsciiStr::from_ascii_str(alloc, view("foo"))?.into_ascii_string().ok() // Some("foo")
     pub fn into_ascii_string(self) -> Result<AsciiString<A>, BoxedAsciiStr<A>>
         ensures { IsOkAnd result (λ string. string.text ≡ self) }
     {
@@ -58,6 +64,8 @@ impl<A: Allocator> BoxedAsciiStr<A> {
     }
 
     /// The text as a boxed `str`, in the memory that it has.
+    ///
+    ///     BoxedAsciiStr::from_ascii_str(alloc, view("foo"))?.into_boxed_str() // "foo"
     pub fn into_boxed_str(self) -> BoxedStr<A>
         ensures { boxed_str_bytes result ≡ self }
     {
@@ -85,6 +93,8 @@ impl<A: Allocator> Model for RcAsciiStr<A> {
 
 impl<A: Allocator> RcAsciiStr<A> {
     /// A copy of a view.
+    ///
+    ///     RcAsciiStr::from_ascii_str(alloc, view("foo"))?.as_ascii_str() // "foo"
     pub fn from_ascii_str(alloc: A, view: AsciiStr<'_>) -> Result<RcAsciiStr<A>, AllocError>
     where
         A: Clone,
@@ -96,6 +106,8 @@ impl<A: Allocator> RcAsciiStr<A> {
     }
 
     /// A view of the text.
+    ///
+    ///     RcAsciiStr::from_ascii_str(alloc, view("foo"))?.as_ascii_str().len() // 3
     #[inline]
     pub fn as_ascii_str(&self) -> AsciiStr<'_>
         ensures { text_of result ≡ self.now }
@@ -110,6 +122,8 @@ impl<A: Allocator> Clone for RcAsciiStr<A> {
     ghost is_clone = { λ shared copy. copy ≡ shared };
 
     /// One more owner of the same text.
+    ///
+    ///     RcAsciiStr::from_ascii_str(alloc, view("foo"))?.clone()?.as_ascii_str() // "foo"
     fn clone(&self) -> Result<RcAsciiStr<A>, AllocError> {
         Ok(RcAsciiStr {
             text: self.text.clone()?,
@@ -119,6 +133,8 @@ impl<A: Allocator> Clone for RcAsciiStr<A> {
 
 impl<A: Allocator> AsciiString<A> {
     /// The text in a box, in the memory that it has. It is never refused.
+    ///
+    ///     view("foo").to_ascii_string(alloc)?.into_boxed_ascii_str().is_ok() // true
     pub fn into_boxed_ascii_str(self) -> Result<BoxedAsciiStr<A>, AsciiString<A>>
         ensures { IsOkAnd result (λ boxed. boxed ≡ self.text) }
     {
@@ -127,6 +143,8 @@ impl<A: Allocator> AsciiString<A> {
     }
 
     /// A shared copy of the text. Where memory is refused the string comes back.
+    ///
+    ///     view("foo").to_ascii_string(alloc)?.into_rc_ascii_str(alloc).is_ok() // true
     pub fn into_rc_ascii_str<B: Allocator + Clone>(
         self,
         alloc: B,
@@ -151,6 +169,9 @@ impl<'a, A: Allocator> CowAsciiStr<'a, A> {
     ghost use Rattle.ascii.specs.Cow.{OwnedStays, cow_text};
 
     /// A view of the text.
+    ///
+    ///     let cow: CowAsciiStr = view("foo").into();
+    ///     cow.as_ascii_str() // "foo"
     pub fn as_ascii_str(&self) -> AsciiStr<'_>
         ensures { text_of result ≡ cow_text self.now }
     {
@@ -162,6 +183,9 @@ impl<'a, A: Allocator> CowAsciiStr<'a, A> {
 
     /// The text as a string: the owned one itself, which is never refused, or a copy of the borrowed
     /// one. Where memory is refused the value comes back.
+    ///
+    ///     let cow: CowAsciiStr = view("foo").into();
+    ///     cow.into_owned(alloc).ok() // Some("foo")
     pub fn into_owned(self, alloc: A) -> Result<AsciiString<A>, CowAsciiStr<'a, A>>
         ensures ok { IfOk result (λ string. string.text ≡ cow_text self.entry) }
         ensures owned { OwnedStays self.entry result }
@@ -181,6 +205,8 @@ impl<'a, A: Allocator> From<AsciiStr<'a>> for CowAsciiStr<'a, A> {
 
     ghost from_gives = { λ view cow. cow ≡ Borrowed view };
 
+    ///     let cow: CowAsciiStr = view("foo").into();
+    ///     cow.as_ascii_str() // "foo"
     fn from(view: AsciiStr<'a>) -> CowAsciiStr<'a, A> {
         CowAsciiStr::Borrowed(view)
     }
@@ -191,6 +217,8 @@ impl<'a, A: Allocator> From<AsciiString<A>> for CowAsciiStr<'a, A> {
 
     ghost from_gives = { λ string cow. cow ≡ Owned string };
 
+    ///     let cow: CowAsciiStr = view("foo").to_ascii_string(alloc)?.into();
+    ///     cow.as_ascii_str() // "foo"
     fn from(string: AsciiString<A>) -> CowAsciiStr<'a, A> {
         CowAsciiStr::Owned(string)
     }

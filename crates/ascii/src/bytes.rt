@@ -20,6 +20,9 @@ use ascii_base::range::AsciiRange;
 use std::alloc::Allocator;
 
 /// The whole source as ASCII text, or the position of its first byte over 127.
+///
+///     bytes::as_ascii_str(b"foo") // Ok("foo")
+///     bytes::as_ascii_str(b"ab\xc4") // Err(AsAsciiStrError(2))
 pub fn as_ascii_str(source: &[u8]) -> Result<AsciiStr<'_>, AsAsciiStrError>
     ensures outcome { SliceOutcome source.now AsciiRange.Full result }
     ensures ascii { OnOk result (IsAscii source.now) }
@@ -28,6 +31,8 @@ pub fn as_ascii_str(source: &[u8]) -> Result<AsciiStr<'_>, AsAsciiStrError>
 }
 
 /// The same as `as_ascii_str`.
+///
+///     bytes::from_ascii(b"foo") // Ok("foo")
 pub fn from_ascii(source: &[u8]) -> Result<AsciiStr<'_>, AsAsciiStrError>
     ensures outcome { SliceOutcome source.now AsciiRange.Full result }
     ensures ascii { OnOk result (IsAscii source.now) }
@@ -38,6 +43,10 @@ pub fn from_ascii(source: &[u8]) -> Result<AsciiStr<'_>, AsAsciiStrError>
 /// The part of the source that the range names, as ASCII text. A range that does not fit is refused
 /// with the length of the source, and one that fits with the position in the source of its first
 /// byte over 127. Bytes outside the range do not matter.
+///
+///     bytes::slice_ascii(b"ab\xc4d", AsciiRange::From(3)) // Ok("d")
+///     bytes::slice_ascii(b"ab\xc4d", AsciiRange::From(1)) // Err(AsAsciiStrError(2))
+///     bytes::slice_ascii(b"ab\xc4d", AsciiRange::From(5)) // Err(AsAsciiStrError(4))
 pub fn slice_ascii(source: &[u8], range: AsciiRange) -> Result<AsciiStr<'_>, AsAsciiStrError>
     ensures outcome { SliceOutcome source.now range result }
     ensures ascii { OnOk result (AsciiBetween source.now (start_of range) (end_of range (length source.now))) }
@@ -49,6 +58,9 @@ pub fn slice_ascii(source: &[u8], range: AsciiRange) -> Result<AsciiStr<'_>, AsA
 }
 
 /// The character at a position from 0: `None` past the end, and where the byte is over 127.
+///
+///     bytes::get_ascii(b"ab\xc4", 1) // Some('b')
+///     bytes::get_ascii(b"ab\xc4", 2) // None
 pub fn get_ascii(source: &[u8], i: usize) -> Option<AsciiChar>
     ensures { GetsAscii source.now i result }
 {
@@ -56,6 +68,8 @@ pub fn get_ascii(source: &[u8], i: usize) -> Option<AsciiChar>
 }
 
 /// The whole source as ASCII text. Nothing is checked.
+///
+///     bytes::as_ascii_str_unchecked(b"foo") // "foo"
 #[inline]
 pub fn as_ascii_str_unchecked(source: &[u8]) -> AsciiStr<'_>
     requires { IsAscii source.now }
@@ -65,6 +79,8 @@ pub fn as_ascii_str_unchecked(source: &[u8]) -> AsciiStr<'_>
 }
 
 /// The same as `as_ascii_str_unchecked`.
+///
+///     bytes::from_ascii_unchecked(b"foo") // "foo"
 #[inline]
 pub fn from_ascii_unchecked(source: &[u8]) -> AsciiStr<'_>
     requires { IsAscii source.now }
@@ -75,6 +91,8 @@ pub fn from_ascii_unchecked(source: &[u8]) -> AsciiStr<'_>
 
 /// A copy of the source, or the position of its first byte over 127 with the source itself. The
 /// bytes are checked before memory is asked for; that of no bytes is never refused.
+///
+///     bytes::to_ascii_string(alloc, b"foo") // Ok("foo")
 pub fn to_ascii_string<A: Allocator>(
     alloc: A,
     source: &[u8],

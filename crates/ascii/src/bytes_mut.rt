@@ -14,6 +14,10 @@ use crate::bounds::checked_bounds;
 use ascii_base::range::AsciiRange;
 
 /// The part of the source that the range names, for writing. Nothing is checked.
+///
+///     let mut source = *b"foo";
+///     bytes::slice_ascii_mut_unchecked(&mut source, AsciiRange::From(1)).make_ascii_uppercase();
+///     source == *b"fOO" // true
 #[inline]
 pub fn slice_ascii_mut_unchecked(source: &mut [u8], range: AsciiRange) -> AsciiStrMut<'_>
     requires fits { Fits range (length source.old) }
@@ -30,6 +34,10 @@ pub fn slice_ascii_mut_unchecked(source: &mut [u8], range: AsciiRange) -> AsciiS
 }
 
 /// The whole source, for writing. Nothing is checked.
+///
+///     let mut source = *b"foo";
+///     bytes::as_mut_ascii_str_unchecked(&mut source).make_ascii_uppercase();
+///     source == *b"FOO" // true
 #[inline]
 pub fn as_mut_ascii_str_unchecked(source: &mut [u8]) -> AsciiStrMut<'_>
     requires { IsAscii source.old }
@@ -42,6 +50,12 @@ pub fn as_mut_ascii_str_unchecked(source: &mut [u8]) -> AsciiStrMut<'_>
 /// The part of the source that the range names, for writing. A range that does not fit is refused
 /// with the length of the source, and one that fits with the position in the source of its first
 /// byte over 127. A refused source is unchanged, and bytes outside the range do not matter.
+///
+///     let mut source = *b"foo\xc4";
+///     if let Ok(mut view) = bytes::slice_ascii_mut(&mut source, AsciiRange::To(2)) {
+///         view.make_ascii_uppercase();
+///     }
+///     source == *b"FOo\xc4" // true
 pub fn slice_ascii_mut(
     source: &mut [u8],
     range: AsciiRange,
@@ -61,6 +75,12 @@ pub fn slice_ascii_mut(
 
 /// The whole source for writing, or the position of its first byte over 127. A refused source is
 /// unchanged.
+///
+///     let mut source = *b"foo";
+///     if let Ok(mut view) = bytes::as_mut_ascii_str(&mut source) {
+///         view.make_ascii_uppercase();
+///     }
+///     source == *b"FOO" // true
 pub fn as_mut_ascii_str(source: &mut [u8]) -> Result<AsciiStrMut<'_>, AsAsciiStrError>
     ensures outcome { MutSliceOutcome source.old AsciiRange.Full result }
     ensures lender { IfOk result (λ v. lender_of v ≡ source.entry.ghost_name) }

@@ -17,6 +17,10 @@ use std::alloc::{AllocError, Allocator};
 impl<A: Allocator> AsciiString<A> {
     /// Appends the characters of an iterator that ends, one by one. Where memory is refused, those
     /// before the refused one stay. It is never refused where all of them fit the capacity.
+    ///
+    ///     let mut text = view("foo").to_ascii_string(alloc)?;
+    ///     text.extend_chars(view("bar").chars()) // Ok(())
+    ///     text // "foobar"
     pub fn extend_chars<I: Iterator<Item = AsciiChar> + Drop>(
         &mut self,
         iter: I,
@@ -35,6 +39,10 @@ impl<A: Allocator> AsciiString<A> {
     /// Appends the views of an iterator that ends, one by one. Where memory is refused, those before
     /// the refused one stay, and no part of that one. It is never refused where all of them fit the
     /// capacity.
+    ///
+    ///     let mut text = view("a").to_ascii_string(alloc)?;
+    ///     text.extend_strs(view("b,c").split(AsciiChar::Comma)) // Ok(())
+    ///     text // "abc"
     pub fn extend_strs<'a, I: Iterator<Item = AsciiStr<'a>> + Drop>(
         &mut self,
         iter: I,
@@ -51,6 +59,8 @@ impl<A: Allocator> AsciiString<A> {
     }
 
     /// The text of the characters of an iterator that ends.
+    ///
+    ///     AsciiString::collect_chars(alloc, view("foo").chars().rev())? // "oof"
     pub fn collect_chars<I: Iterator<Item = AsciiChar> + Drop>(
         alloc: A,
         iter: I,
@@ -65,6 +75,8 @@ impl<A: Allocator> AsciiString<A> {
     }
 
     /// The text of the views of an iterator that ends, one after the other.
+    ///
+    ///     AsciiString::collect_strs(alloc, view("b,c").split(AsciiChar::Comma))? // "bc"
     pub fn collect_strs<'a, I: Iterator<Item = AsciiStr<'a>> + Drop>(
         alloc: A,
         iter: I,

@@ -12,6 +12,8 @@ use std::alloc::{AllocError, Allocator};
 
 impl AsciiStr<'_> {
     /// A copy of the view. That of the empty view is never refused.
+    ///
+    ///     view("foo").to_ascii_string(alloc)? // "foo"
     pub fn to_ascii_string<A: Allocator>(self, alloc: A) -> Result<AsciiString<A>, AllocError>
         ensures text { IfOk result (λ string. string.text ≡ text_of self.entry) }
         ensures empty { text_of self.entry ≡ [] → IsOk result }
@@ -22,6 +24,8 @@ impl AsciiStr<'_> {
     }
 
     /// A copy in upper case.
+    ///
+    ///     view("foo").to_ascii_uppercase(alloc)? // "FOO"
     pub fn to_ascii_uppercase<A: Allocator>(self, alloc: A) -> Result<AsciiString<A>, AllocError>
         ensures { IfOk result (λ string. string.text ≡ map upper_image (text_of self.entry)) }
     {
@@ -31,6 +35,8 @@ impl AsciiStr<'_> {
     }
 
     /// A copy in lower case.
+    ///
+    ///     view("FOO").to_ascii_lowercase(alloc)? // "foo"
     pub fn to_ascii_lowercase<A: Allocator>(self, alloc: A) -> Result<AsciiString<A>, AllocError>
         ensures { IfOk result (λ string. string.text ≡ map lower_image (text_of self.entry)) }
     {
@@ -40,6 +46,8 @@ impl AsciiStr<'_> {
     }
 
     /// The characters of the view, in order.
+    ///
+    ///     view("ab").to_chars(alloc)? // ['a', 'b']
     pub fn to_chars<A: Allocator>(self, alloc: A) -> Result<Vec<AsciiChar, A>, AllocError>
         ensures { IfOk result (λ chars. map code_of chars.items ≡ text_of self.entry) }
     {
@@ -54,6 +62,8 @@ impl AsciiStr<'_> {
 
 impl<A: Allocator> AsciiString<A> {
     /// The text of one character.
+    ///
+    ///     AsciiString::from_char(alloc, AsciiChar::a)? // "a"
     pub fn from_char(alloc: A, ch: AsciiChar) -> Result<AsciiString<A>, AllocError>
         ensures { IfOk result (λ string. string.text ≡ code_of ch ∷ []) }
     {
@@ -63,6 +73,8 @@ impl<A: Allocator> AsciiString<A> {
     }
 
     /// The text of a list of characters.
+    ///
+    ///     AsciiString::from_chars(alloc, &[AsciiChar::a, AsciiChar::b])? // "ab"
     pub fn from_chars(alloc: A, chars: &[AsciiChar]) -> Result<AsciiString<A>, AllocError>
         ensures { IfOk result (λ string. string.text ≡ map code_of chars.now) }
     {
@@ -74,6 +86,8 @@ impl<A: Allocator> AsciiString<A> {
     }
 
     /// The characters of the text, in order. Where memory is refused the string comes back.
+    ///
+    ///     view("ab").to_ascii_string(alloc)?.into_chars(alloc) // Ok(['a', 'b'])
     pub fn into_chars<B: Allocator>(self, alloc: B) -> Result<Vec<AsciiChar, B>, AsciiString<A>>
         ensures ok { IfOk result (λ chars. map code_of chars.items ≡ self.text) }
         ensures err { IfErr result (λ string. string ≡ self) }

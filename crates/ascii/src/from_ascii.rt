@@ -18,6 +18,8 @@ impl<O> FromAsciiError<O> {
     ghost use Rattle.ascii.specs.Refusal.{ascii_error_of, source_of};
 
     /// Why the source was refused: the position of its first byte over 127.
+    ///
+    ///     vec::into_ascii_string(Vec::from_slice(alloc, b"ab\xc4")?).map_err(|e| e.ascii_error()) // Err(AsAsciiStrError(2))
     #[inline]
     pub fn ascii_error(&self) -> AsAsciiStrError
         ensures { result ≡ ascii_error_of self.now }
@@ -26,6 +28,8 @@ impl<O> FromAsciiError<O> {
     }
 
     /// The source, unchanged.
+    ///
+    ///     vec::into_ascii_string(Vec::from_slice(alloc, b"ab\xc4")?).map_err(|e| e.into_source()) // Err([97, 98, 196])
     #[inline]
     pub fn into_source(self) -> O
         ensures { result ≡ source_of self }
@@ -41,12 +45,14 @@ impl<O> fmt::Display for FromAsciiError<O> {
 
     ghost output = { λ e. Some (codes "the byte at index " ++ decimal (position_of (ascii_error_of e)) ++ codes " is not ASCII") };
 
+    ///     vec::into_ascii_string(Vec::from_slice(alloc, b"ab\xc4")?).map_err(|e| e.to_string(alloc)) // Err(Ok("the byte at index 2 is not ASCII"))
     fn fmt<W: fmt::Write>(&self, f: &mut fmt::Formatter<W>) -> fmt::Result {
         fmt::Display::fmt(&self.error, f)
     }
 }
 
 impl<O> fmt::Debug for FromAsciiError<O> {
+    ///     vec::into_ascii_string(Vec::from_slice(alloc, b"ab\xc4")?) // Err(AsAsciiStrError(2))
     fn fmt<W: fmt::Write>(&self, f: &mut fmt::Formatter<W>) -> fmt::Result {
         fmt::Debug::fmt(&self.error, f)
     }

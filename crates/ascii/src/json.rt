@@ -31,6 +31,8 @@ pub enum JsonError {
 
 impl AsciiStr<'_> {
     /// The view as a JSON string.
+    ///
+    ///     view("a\"b").to_json(alloc)?.to_string(alloc)? // "\"a\\\"b\""
     pub fn to_json(self, alloc: Global) -> Result<Value, AllocError>
         ensures { IfOk result (λ value. view value ≡ string (text_of self.entry)) }
     {
@@ -40,6 +42,8 @@ impl AsciiStr<'_> {
 
 impl<A: Allocator> AsciiString<A> {
     /// The text as a JSON string.
+    ///
+    ///     view("foo").to_ascii_string(alloc)?.to_json(alloc)?.to_string(alloc)? // "\"foo\""
     pub fn to_json(&self, alloc: Global) -> Result<Value, AllocError>
         ensures { IfOk result (λ value. view value ≡ string self.now.text) }
     {
@@ -48,6 +52,8 @@ impl<A: Allocator> AsciiString<A> {
 }
 
 /// The character as a JSON string of one byte.
+///
+///     char_to_json(alloc, AsciiChar::a)?.to_string(alloc)? // "\"a\""
 pub fn char_to_json(alloc: Global, ch: AsciiChar) -> Result<Value, AllocError>
     ensures { IfOk result (λ value. view value ≡ string (code_of ch ∷ [])) }
 {
@@ -57,6 +63,9 @@ pub fn char_to_json(alloc: Global, ch: AsciiChar) -> Result<Value, AllocError>
 }
 
 /// The character of a JSON string of one byte.
+///
+///     char_from_json(&Value::from_str(alloc, "\"a\"")?) // Ok('a')
+///     char_from_json(&Value::from_str(alloc, "\"ab\"")?) // Err(NotOneByte)
 pub fn char_from_json(value: &Value) -> Result<AsciiChar, JsonError>
     ensures { MatchResult result (λ ch. as_str (view value.now) ≡ Some (code_of ch ∷ [])) (RefusesChar (view value.now)) }
 {
@@ -69,6 +78,9 @@ pub fn char_from_json(value: &Value) -> Result<AsciiChar, JsonError>
 }
 
 /// A view of the text of a JSON string, in the value's own memory.
+///
+///     str_from_json(&Value::from_str(alloc, "\"foo\"")?) // Ok("foo")
+///     str_from_json(&Value::from_str(alloc, "7")?) // Err(NotText)
 pub fn str_from_json(value: &Value) -> Result<AsciiStr<'_>, JsonError>
     ensures { MatchResult result (λ text. as_str (view value.now) ≡ Some (text_of text)) (RefusesText (view value.now)) }
 {
@@ -77,6 +89,8 @@ pub fn str_from_json(value: &Value) -> Result<AsciiStr<'_>, JsonError>
 }
 
 /// A copy of the text of a JSON string. Memory is asked for after every other test.
+///
+///     string_from_json(alloc, &Value::from_str(alloc, "\"foo\"")?) // Ok("foo")
 pub fn string_from_json<A: Allocator>(alloc: A, value: &Value) -> Result<AsciiString<A>, JsonError>
     ensures { MatchResult result (λ string. as_str (view value.now) ≡ Some string.text) (RefusesTextCopy (view value.now)) }
 {

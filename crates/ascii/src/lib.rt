@@ -1,5 +1,8 @@
 //! Text that can hold nothing but ASCII: views over bytes, checked once and read without a copy,
 //! and owned strings.
+//!
+//! In an example `view("ab")` is the view of that text, `alloc` an allocator, and behind `//` stands what `{:?}`
+//! prints of the value.
 #![tactic(auto)]
 
 pub mod ascii_str;

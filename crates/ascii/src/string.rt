@@ -12,6 +12,8 @@ use std::alloc::Allocator;
 
 /// The string as a text in the same buffer, or the position of its first byte over 127 with the
 /// string itself. It takes no memory.
+///
+///     string::into_ascii_string(String::from_str(alloc, "foo")?) // Ok("foo")
 pub fn into_ascii_string<A: Allocator>(
     string: String<A>,
 ) -> Result<AsciiString<A>, FromAsciiError<String<A>>>
@@ -27,6 +29,8 @@ pub fn into_ascii_string<A: Allocator>(
 }
 
 /// The same as `into_ascii_string`.
+///
+///     string::from_ascii(String::from_str(alloc, "foo")?) // Ok("foo")
 pub fn from_ascii<A: Allocator>(
     string: String<A>,
 ) -> Result<AsciiString<A>, FromAsciiError<String<A>>>

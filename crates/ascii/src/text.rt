@@ -15,6 +15,9 @@ use ascii_base::range::AsciiRange;
 use std::alloc::Allocator;
 
 /// The whole source as ASCII text, or the position of its first byte over 127.
+///
+///     text::as_ascii_str("foo") // Ok("foo")
+///     text::as_ascii_str("abč") // Err(AsAsciiStrError(2))
 pub fn as_ascii_str(source: &str) -> Result<AsciiStr<'_>, AsAsciiStrError>
     ensures { SliceOutcome source.now AsciiRange.Full result }
 {
@@ -22,6 +25,8 @@ pub fn as_ascii_str(source: &str) -> Result<AsciiStr<'_>, AsAsciiStrError>
 }
 
 /// The same as `as_ascii_str`.
+///
+///     text::from_ascii("foo") // Ok("foo")
 pub fn from_ascii(source: &str) -> Result<AsciiStr<'_>, AsAsciiStrError>
     ensures { SliceOutcome source.now AsciiRange.Full result }
 {
@@ -31,6 +36,9 @@ pub fn from_ascii(source: &str) -> Result<AsciiStr<'_>, AsAsciiStrError>
 /// The part of the source that the range of bytes names, as ASCII text. A range that does not fit is
 /// refused with the number of bytes of the source, and one that fits with the position in the source
 /// of its first byte over 127. Bytes outside the range do not matter.
+///
+///     text::slice_ascii("abčd", AsciiRange::From(4)) // Ok("d")
+///     text::slice_ascii("abčd", AsciiRange::To(3)) // Err(AsAsciiStrError(2))
 pub fn slice_ascii(source: &str, range: AsciiRange) -> Result<AsciiStr<'_>, AsAsciiStrError>
     ensures { SliceOutcome source.now range result }
 {
@@ -38,6 +46,9 @@ pub fn slice_ascii(source: &str, range: AsciiRange) -> Result<AsciiStr<'_>, AsAs
 }
 
 /// The character at a position in bytes from 0: `None` past the end, and where the byte is over 127.
+///
+///     text::get_ascii("abč", 1) // Some('b')
+///     text::get_ascii("abč", 2) // None
 pub fn get_ascii(source: &str, i: usize) -> Option<AsciiChar>
     ensures { GetsAscii source.now i result }
 {
@@ -45,6 +56,8 @@ pub fn get_ascii(source: &str, i: usize) -> Option<AsciiChar>
 }
 
 /// The whole source as ASCII text. Nothing is checked.
+///
+///     text::as_ascii_str_unchecked("foo") // "foo"
 #[inline]
 pub fn as_ascii_str_unchecked(source: &str) -> AsciiStr<'_>
     requires { IsAscii source.now }
@@ -54,6 +67,8 @@ pub fn as_ascii_str_unchecked(source: &str) -> AsciiStr<'_>
 }
 
 /// The same as `as_ascii_str_unchecked`.
+///
+///     text::from_ascii_unchecked("foo") // "foo"
 #[inline]
 pub fn from_ascii_unchecked(source: &str) -> AsciiStr<'_>
     requires { IsAscii source.now }
@@ -64,6 +79,8 @@ pub fn from_ascii_unchecked(source: &str) -> AsciiStr<'_>
 
 /// A copy of the source, or the position of its first byte over 127 with the source itself. The
 /// bytes are checked before memory is asked for; that of the empty text is never refused.
+///
+///     text::to_ascii_string(alloc, "foo") // Ok("foo")
 pub fn to_ascii_string<A: Allocator>(
     alloc: A,
     source: &str,

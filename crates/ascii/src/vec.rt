@@ -11,6 +11,8 @@ use std::alloc::Allocator;
 
 /// The bytes as a text in the same buffer, or the position of the first byte over 127 with the
 /// vector itself. It takes no memory.
+///
+///     vec::into_ascii_string(Vec::from_slice(alloc, b"foo")?) // Ok("foo")
 pub fn into_ascii_string<A: Allocator>(
     bytes: Vec<u8, A>,
 ) -> Result<AsciiString<A>, FromAsciiError<Vec<u8, A>>>
@@ -26,6 +28,8 @@ pub fn into_ascii_string<A: Allocator>(
 }
 
 /// The same as `into_ascii_string`.
+///
+///     vec::from_ascii(Vec::from_slice(alloc, b"foo")?) // Ok("foo")
 pub fn from_ascii<A: Allocator>(
     bytes: Vec<u8, A>,
 ) -> Result<AsciiString<A>, FromAsciiError<Vec<u8, A>>>

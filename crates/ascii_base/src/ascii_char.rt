@@ -17,9 +17,7 @@ use std::hash::{Hash, Hasher};
 /// abbreviation. Three abbreviations differ from those of US-ASCII: 2 is `SOX` (there STX), 14 is `SI`
 /// (there SO) and 15 is `SO` (there SI).
 ///
-/// ```text
-/// AsciiChar::A.as_byte()    // 65
-/// ```
+///     AsciiChar::A.as_byte() // 65
 #[derive(Clone, Copy)]
 pub enum AsciiChar {
     Null = 0,
@@ -154,6 +152,9 @@ pub enum AsciiChar {
 
 impl AsciiChar {
     /// The character of a value, or the refusal of one that is no code: `ch.to_ascii_char()`.
+    ///
+    ///     AsciiChar::from_ascii(b'a') // Ok('a')
+    ///     AsciiChar::from_ascii('č') // Err(not an ASCII character)
     #[inline]
     pub fn from_ascii<C: ToAsciiChar>(ch: C) -> Result<AsciiChar, ToAsciiCharError>
         ensures { MatchResult result (HasCode (C.code ch)) (λ _. IsNotAscii (C.code ch)) }
@@ -162,6 +163,8 @@ impl AsciiChar {
     }
 
     /// The character of a `char` that is known to be under 128.
+    ///
+    ///     AsciiChar::new('!') // '!'
     #[inline]
     pub fn new(ch: char) -> AsciiChar
         requires { ch < 128 }
@@ -171,6 +174,8 @@ impl AsciiChar {
     }
 
     /// The character of a byte that is known to be under 128.
+    ///
+    ///     AsciiChar::from_ascii_unchecked(0x61) // 'a'
     #[inline]
     pub fn from_ascii_unchecked(ch: u8) -> AsciiChar
         requires { ch < 128 }
@@ -180,6 +185,8 @@ impl AsciiChar {
     }
 
     /// The code of the character, 0 to 127.
+    ///
+    ///     AsciiChar::LineFeed.as_byte() // 10
     #[inline]
     pub fn as_byte(self) -> u8
         ensures code { result ≡ code_of self }
@@ -189,6 +196,8 @@ impl AsciiChar {
     }
 
     /// The character as a `char`, under 128.
+    ///
+    ///     AsciiChar::Slash.as_char() // '/'
     #[inline]
     pub fn as_char(self) -> char
         ensures code { result ≡ code_of self }
@@ -207,6 +216,8 @@ impl AsciiChar {
     }
 
     /// Whether the character is a letter, `A` to `Z` or `a` to `z`.
+    ///
+    ///     AsciiChar::a.is_alphabetic() // true
     #[inline]
     pub fn is_alphabetic(self) -> bool
         ensures { IsTrue result ↔ IsAlphabetic (code_of self) }
@@ -215,6 +226,8 @@ impl AsciiChar {
     }
 
     /// Whether the character is a letter, `A` to `Z` or `a` to `z`.
+    ///
+    ///     AsciiChar::_7.is_ascii_alphabetic() // false
     #[inline]
     pub fn is_ascii_alphabetic(&self) -> bool
         ensures { IsTrue result ↔ IsAlphabetic (code_of self.now) }
@@ -224,6 +237,9 @@ impl AsciiChar {
 
     /// Whether the character is a digit in a radix of at most 36: `0` to `9` count for 0 to 9, the
     /// letters of either case for 10 to 35. In radix 0 there is no digit, in radix 1 only `0`.
+    ///
+    ///     AsciiChar::f.is_digit(16) // true
+    ///     AsciiChar::f.is_digit(10) // false
     #[inline]
     pub fn is_digit(self, radix: u32) -> bool
         requires { radix ≤ 36 }
@@ -238,6 +254,8 @@ impl AsciiChar {
     }
 
     /// Whether the character is a decimal digit, `0` to `9`.
+    ///
+    ///     AsciiChar::_7.is_ascii_digit() // true
     #[inline]
     pub fn is_ascii_digit(&self) -> bool
         ensures { IsTrue result ↔ IsDigit (code_of self.now) }
@@ -246,6 +264,8 @@ impl AsciiChar {
     }
 
     /// Whether the character is a letter or a decimal digit.
+    ///
+    ///     AsciiChar::UnderScore.is_alphanumeric() // false
     #[inline]
     pub fn is_alphanumeric(self) -> bool
         ensures { IsTrue result ↔ IsAlphanumeric (code_of self) }
@@ -254,6 +274,8 @@ impl AsciiChar {
     }
 
     /// Whether the character is a letter or a decimal digit.
+    ///
+    ///     AsciiChar::_7.is_ascii_alphanumeric() // true
     #[inline]
     pub fn is_ascii_alphanumeric(&self) -> bool
         ensures { IsTrue result ↔ IsAlphanumeric (code_of self.now) }
@@ -262,6 +284,9 @@ impl AsciiChar {
     }
 
     /// Whether the character is space or tab.
+    ///
+    ///     AsciiChar::Tab.is_ascii_blank() // true
+    ///     AsciiChar::LineFeed.is_ascii_blank() // false
     #[inline]
     pub fn is_ascii_blank(&self) -> bool
         ensures { IsTrue result ↔ IsBlank (code_of self.now) }
@@ -270,6 +295,8 @@ impl AsciiChar {
     }
 
     /// Whether the character is space, tab, line feed, vertical tab, form feed or carriage return.
+    ///
+    ///     AsciiChar::VT.is_whitespace() // true
     #[inline]
     pub fn is_whitespace(self) -> bool
         ensures { IsTrue result ↔ IsWhitespace (code_of self) }
@@ -279,6 +306,8 @@ impl AsciiChar {
 
     /// Whether the character is space, tab, line feed, form feed or carriage return: vertical tab is
     /// not among them.
+    ///
+    ///     AsciiChar::VT.is_ascii_whitespace() // false
     #[inline]
     pub fn is_ascii_whitespace(&self) -> bool
         ensures { IsTrue result ↔ IsAsciiWhitespace (code_of self.now) }
@@ -290,6 +319,8 @@ impl AsciiChar {
     }
 
     /// Whether the character is a control character, 0 to 31 or 127.
+    ///
+    ///     AsciiChar::DEL.is_ascii_control() // true
     #[inline]
     pub fn is_ascii_control(&self) -> bool
         ensures { IsTrue result ↔ IsControl (code_of self.now) }
@@ -298,6 +329,8 @@ impl AsciiChar {
     }
 
     /// Whether the character leaves ink: neither a control character nor space.
+    ///
+    ///     AsciiChar::Space.is_ascii_graphic() // false
     #[inline]
     pub fn is_ascii_graphic(&self) -> bool
         ensures { IsTrue result ↔ IsGraphic (code_of self.now) }
@@ -306,6 +339,8 @@ impl AsciiChar {
     }
 
     /// Whether the character leaves ink or is space: it is no control character.
+    ///
+    ///     AsciiChar::Space.is_ascii_printable() // true
     #[inline]
     pub fn is_ascii_printable(&self) -> bool
         ensures { IsTrue result ↔ IsPrintable (code_of self.now) }
@@ -314,6 +349,8 @@ impl AsciiChar {
     }
 
     /// Whether the character is a lower case letter, `a` to `z`.
+    ///
+    ///     AsciiChar::a.is_lowercase() // true
     #[inline]
     pub fn is_lowercase(self) -> bool
         ensures { IsTrue result ↔ IsLowercase (code_of self) }
@@ -322,6 +359,8 @@ impl AsciiChar {
     }
 
     /// Whether the character is a lower case letter, `a` to `z`.
+    ///
+    ///     AsciiChar::A.is_ascii_lowercase() // false
     #[inline]
     pub fn is_ascii_lowercase(&self) -> bool
         ensures { IsTrue result ↔ IsLowercase (code_of self.now) }
@@ -330,6 +369,8 @@ impl AsciiChar {
     }
 
     /// Whether the character is an upper case letter, `A` to `Z`.
+    ///
+    ///     AsciiChar::A.is_uppercase() // true
     #[inline]
     pub fn is_uppercase(self) -> bool
         ensures { IsTrue result ↔ IsUppercase (code_of self) }
@@ -338,6 +379,8 @@ impl AsciiChar {
     }
 
     /// Whether the character is an upper case letter, `A` to `Z`.
+    ///
+    ///     AsciiChar::_7.is_ascii_uppercase() // false
     #[inline]
     pub fn is_ascii_uppercase(&self) -> bool
         ensures { IsTrue result ↔ IsUppercase (code_of self.now) }
@@ -346,6 +389,8 @@ impl AsciiChar {
     }
 
     /// Whether the character leaves ink and is neither a letter nor a digit.
+    ///
+    ///     AsciiChar::Dollar.is_ascii_punctuation() // true
     #[inline]
     pub fn is_ascii_punctuation(&self) -> bool
         ensures { IsTrue result ↔ IsPunctuation (code_of self.now) }
@@ -354,6 +399,8 @@ impl AsciiChar {
     }
 
     /// Whether the character is a hexadecimal digit, in either case.
+    ///
+    ///     AsciiChar::F.is_ascii_hexdigit() // true
     #[inline]
     pub fn is_ascii_hexdigit(&self) -> bool
         ensures { IsTrue result ↔ IsHexdigit (code_of self.now) }
@@ -363,6 +410,9 @@ impl AsciiChar {
 
     /// A `char` that shows the character: the pictures from U+2400 on for the codes 0 to 31, U+2421
     /// for delete, and the character itself for all others.
+    ///
+    ///     AsciiChar::LineFeed.as_printable_char() // '␊'
+    ///     AsciiChar::a.as_printable_char() // 'a'
     #[inline]
     pub fn as_printable_char(self) -> char
         ensures { result ≡ printable_of (code_of self) }
@@ -375,6 +425,10 @@ impl AsciiChar {
     }
 
     /// Changes `a` to `z` to `A` to `Z`, and leaves every other character.
+    ///
+    ///     let mut ch = AsciiChar::a;
+    ///     ch.make_ascii_uppercase();
+    ///     ch // 'A'
     #[inline]
     pub fn make_ascii_uppercase(&mut self)
         ensures { code_of self.new ≡ upper_image (code_of self.old) }
@@ -383,6 +437,10 @@ impl AsciiChar {
     }
 
     /// Changes `A` to `Z` to `a` to `z`, and leaves every other character.
+    ///
+    ///     let mut ch = AsciiChar::A;
+    ///     ch.make_ascii_lowercase();
+    ///     ch // 'a'
     #[inline]
     pub fn make_ascii_lowercase(&mut self)
         ensures { code_of self.new ≡ lower_image (code_of self.old) }
@@ -391,6 +449,8 @@ impl AsciiChar {
     }
 
     /// The upper case letter of `a` to `z`, and every other character itself.
+    ///
+    ///     AsciiChar::a.to_ascii_uppercase() // 'A'
     #[inline]
     pub fn to_ascii_uppercase(&self) -> AsciiChar
         ensures { code_of result ≡ upper_image (code_of self.now) }
@@ -403,6 +463,8 @@ impl AsciiChar {
     }
 
     /// The lower case letter of `A` to `Z`, and every other character itself.
+    ///
+    ///     AsciiChar::A.to_ascii_lowercase() // 'a'
     #[inline]
     pub fn to_ascii_lowercase(&self) -> AsciiChar
         ensures { code_of result ≡ lower_image (code_of self.now) }
@@ -415,6 +477,8 @@ impl AsciiChar {
     }
 
     /// Whether two characters are equal when the case of letters doesn't count.
+    ///
+    ///     AsciiChar::a.eq_ignore_ascii_case(&AsciiChar::A) // true
     #[inline]
     pub fn eq_ignore_ascii_case(&self, other: &AsciiChar) -> bool
         ensures { IsTrue result ↔ (lower_image (code_of self.now) ≡ lower_image (code_of other.now)) }
@@ -427,6 +491,7 @@ impl AsciiChar {
 impl Default for AsciiChar {
     ghost is_default = { λ ch. code_of ch ≡ 0 };
 
+    ///     AsciiChar::default() // '\0'
     #[inline]
     fn default() -> AsciiChar {
         AsciiChar::Null
@@ -442,6 +507,7 @@ impl PartialEq for AsciiChar {
 
     ghost laws = { partial_equiv_from_equiv (on_equiv code_of nat_eq_equiv) };
 
+    ///     AsciiChar::a == AsciiChar::A // false
     #[inline]
     fn eq(&self, other: &AsciiChar) -> bool {
         self.as_byte() == other.as_byte()
@@ -462,6 +528,7 @@ impl PartialOrd for AsciiChar {
 
     ghost laws = { on_po code_of unsigned_po };
 
+    ///     AsciiChar::A < AsciiChar::a // true
     #[inline]
     fn partial_cmp(&self, other: &AsciiChar) -> Option<Ordering> {
         Some(self.cmp(other))
@@ -481,6 +548,7 @@ impl Ord for AsciiChar {
 
     ghost matches_eq = { λ x y. unsigned_ties (code_of x) (code_of y) };
 
+    ///     AsciiChar::a.cmp(&AsciiChar::A) // Greater
     #[inline]
     fn cmp(&self, other: &AsciiChar) -> Ordering {
         self.as_byte().cmp(&other.as_byte())
@@ -496,6 +564,9 @@ impl Hash for AsciiChar {
 
     ghost respects_eq = { Prim.search (hashing, rules) };
 
+    ///     let mut seen = HashSet::new(alloc);
+    ///     seen.insert(AsciiChar::a)?;
+    ///     seen.contains(&AsciiChar::a) // true
     #[inline]
     fn hash<H: Hasher>(&self, state: &mut H) {
         state.write_u8(self.as_byte());
@@ -510,6 +581,7 @@ impl fmt::Display for AsciiChar {
 
     ghost styled_output = { λ ch spec. Some (styled_text spec (code_of ch ∷ [])) };
 
+    ///     format!(in alloc; "{}", AsciiChar::a)? // "a"
     #[inline]
     fn fmt<W: fmt::Write>(&self, f: &mut fmt::Formatter<W>) -> fmt::Result {
         fmt::Display::fmt(&self.as_char(), f)
@@ -523,6 +595,7 @@ impl fmt::Debug for AsciiChar {
     // the escaped character between single quotes
     ghost debug_output = { λ ch. Some (39 ∷ (debug_escape 39 (code_of ch) ++ 39 ∷ [])) };
 
+    ///     format!(in alloc; "{:?}", AsciiChar::a)? // "'a'"
     #[inline]
     fn fmt<W: fmt::Write>(&self, f: &mut fmt::Formatter<W>) -> fmt::Result {
         fmt::Debug::fmt(&self.as_char(), f)
@@ -532,6 +605,7 @@ impl fmt::Debug for AsciiChar {
 impl From<AsciiChar> for u8 {
     ghost from_gives = { λ ch byte. byte ≡ code_of ch };
 
+    ///     u8::from(AsciiChar::a) // 97
     #[inline]
     fn from(ch: AsciiChar) -> u8 {
         ch.as_byte()
@@ -541,6 +615,7 @@ impl From<AsciiChar> for u8 {
 impl From<AsciiChar> for char {
     ghost from_gives = { λ ch point. point ≡ code_of ch };
 
+    ///     char::from(AsciiChar::a) // 'a'
     #[inline]
     fn from(ch: AsciiChar) -> char {
         ch.as_char()
@@ -555,6 +630,8 @@ const MESSAGE: &str = "not an ASCII character";
 
 impl ToAsciiCharError {
     /// What the refusal says: `not an ASCII character`.
+    ///
+    ///     200u8.to_ascii_char().map_err(|e| e.description()) // Err("not an ASCII character")
     #[inline]
     pub fn description(&self) -> &'static str
         ensures { result.now ≡ not_ascii_text }
@@ -568,6 +645,7 @@ impl fmt::Debug for ToAsciiCharError {
 
     ghost debug_output = { λ _. Some not_ascii_text };
 
+    ///     200u8.to_ascii_char() // Err(not an ASCII character)
     #[inline]
     fn fmt<W: fmt::Write>(&self, f: &mut fmt::Formatter<W>) -> fmt::Result {
         fmt::Display::fmt(self, f)
@@ -582,6 +660,7 @@ impl fmt::Display for ToAsciiCharError {
     // no option of a hole changes the text
     ghost styled_output = { λ _ _. Some not_ascii_text };
 
+    ///     200u8.to_ascii_char().map_err(|e| e.to_string(alloc)) // Err(Ok("not an ASCII character"))
     #[inline]
     fn fmt<W: fmt::Write>(&self, f: &mut fmt::Formatter<W>) -> fmt::Result {
         f.write_str(self.description())
@@ -589,6 +668,10 @@ impl fmt::Display for ToAsciiCharError {
 }
 
 /// Values that may be characters, each seen as a whole number, `code`.
+///
+///     200u8.to_ascii_char() // Err(not an ASCII character)
+///     'a'.to_ascii_char() // Ok('a')
+///     97u32.to_ascii_char_unchecked() // 'a'
 pub trait ToAsciiChar: Sized {
     ghost code: { Self → ℤ };
 

@@ -9,6 +9,9 @@ use crate::ascii_char::AsciiChar;
 
 /// The partner that stands behind the caret for a control character: of the bytes 0 to 31 the
 /// character 64 higher, of 127 the question mark. Every other byte has none.
+///
+///     caret_encode(b'\n') // Some('J')
+///     caret_encode(b'a') // None
 #[inline]
 pub fn caret_encode(c: u8) -> Option<AsciiChar>
     ensures pair { IfSome result (λ partner. IsCaretPair c (code_of partner)) }
@@ -23,6 +26,8 @@ pub fn caret_encode(c: u8) -> Option<AsciiChar>
 
 /// The control character that a partner stands for: of the bytes 64 to 95 the character 64 lower, of
 /// the question mark 127. Every other byte stands for none.
+///
+///     caret_decode(b'J') // Some('\n')
 #[inline]
 pub fn caret_decode(c: u8) -> Option<AsciiChar>
     ensures pair { IfSome result (λ control. IsCaretPair (code_of control) c) }

@@ -20,6 +20,8 @@ use std::simd::prelude::*;
 const NEAR: usize = 8;
 
 /// The position of the first byte over 127, or `None` where every byte is under 128.
+///
+///     first_other(b"ab\xc4") // Some(2)
 pub fn first_other(bytes: &[u8]) -> Option<usize>
     ensures { MatchOption result (IsAscii bytes.now) (FirstOther bytes.now 0 (length bytes.now)) }
 {
@@ -38,6 +40,10 @@ pub fn first_other(bytes: &[u8]) -> Option<usize>
 }
 
 /// Changes each byte of `a` to `z` to that of `A` to `Z`. Every other byte stays.
+///
+///     let mut bytes = *b"ab-7";
+///     upper_in_place(&mut bytes);
+///     bytes == *b"AB-7" // true
 pub fn upper_in_place(bytes: &mut [u8])
     ensures { bytes.new ≡ map upper_image bytes.old }
 {
@@ -46,6 +52,10 @@ pub fn upper_in_place(bytes: &mut [u8])
 }
 
 /// Changes each byte of `A` to `Z` to that of `a` to `z`. Every other byte stays.
+///
+///     let mut bytes = *b"AB-7";
+///     lower_in_place(&mut bytes);
+///     bytes == *b"ab-7" // true
 pub fn lower_in_place(bytes: &mut [u8])
     ensures { bytes.new ≡ map lower_image bytes.old }
 {
@@ -55,6 +65,8 @@ pub fn lower_in_place(bytes: &mut [u8])
 
 /// Whether two lists of bytes have the same length and are equal byte by byte when the case of the
 /// letters of ASCII doesn't count.
+///
+///     eq_ignore_case(b"Host", b"HOST") // true
 pub fn eq_ignore_case(first: &[u8], second: &[u8]) -> bool
     ensures { IsTrue result ↔ (map lower_image first.now ≡ map lower_image second.now) }
 {
@@ -73,6 +85,9 @@ pub fn eq_ignore_case(first: &[u8], second: &[u8]) -> bool
 
 /// The position of the first byte that is no whitespace, or `None` where every byte is whitespace:
 /// space, tab, line feed, vertical tab, form feed or carriage return.
+///
+///     first_not_whitespace(b" \tab") // Some(2)
+///     first_not_whitespace(b"  ") // None
 pub fn first_not_whitespace(bytes: &[u8]) -> Option<usize>
     ensures { MatchOption result (All IsWhitespace bytes.now)
         (IsFirstNot IsWhitespace bytes.now 0 (length bytes.now)) }
@@ -94,6 +109,8 @@ pub fn first_not_whitespace(bytes: &[u8]) -> Option<usize>
 
 /// The position of the last byte that is no whitespace, or `None` where every byte is whitespace:
 /// space, tab, line feed, vertical tab, form feed or carriage return.
+///
+///     last_not_whitespace(b"ab \n") // Some(1)
 pub fn last_not_whitespace(bytes: &[u8]) -> Option<usize>
     ensures { MatchOption result (All IsWhitespace bytes.now) (IsLastNot IsWhitespace bytes.now) }
 {

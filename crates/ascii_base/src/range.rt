@@ -24,6 +24,9 @@ pub enum AsciiRange {
 impl AsciiRange {
     /// Whether the range lies within `n` bytes: its start is not past its end, nor its end past `n`.
     /// An inclusive form that ends at the largest number never fits.
+    ///
+    ///     AsciiRange::Range(1, 3).fits(3) // true
+    ///     AsciiRange::Range(4, 2).fits(5) // false
     #[inline]
     pub fn fits(self, n: usize) -> bool
         ensures { IsTrue result ↔ Fits self n }
@@ -39,6 +42,8 @@ impl AsciiRange {
     }
 
     /// The position of the first byte of the range.
+    ///
+    ///     AsciiRange::From(4).start() // 4
     #[inline]
     pub fn start(self) -> usize
         ensures { result ≡ start_of self }
@@ -52,6 +57,8 @@ impl AsciiRange {
     }
 
     /// The position past the last byte of a range that fits `n` bytes.
+    ///
+    ///     AsciiRange::From(4).end(7) // 7
     #[inline]
     pub fn end(self, n: usize) -> usize
         requires { Fits self n }

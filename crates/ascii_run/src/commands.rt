@@ -82,6 +82,10 @@ pub enum Reply<A: Allocator = Global> {
 /// for all replies is taken before the first command, and where it is refused the text stays; with no
 /// command it is not. Memory is wanting only for a copy, or for a text or a room that is over the
 /// sure length of the form; where no command gives room back, over the capacity before.
+///
+///     let mut text = view("foo").to_ascii_string(alloc)?;
+///     run(alloc, &mut text, &[Cmd::Pop, Cmd::Len])? // [Char(Some('o')), Number(2)]
+///     text // "fo"
 pub fn run<A: Allocator + Copy, B: AsciiBuf>(
     alloc: A,
     buf: &mut B,
@@ -102,12 +106,20 @@ pub fn run<A: Allocator + Copy, B: AsciiBuf>(
 
 /// A law, and no work: the replies of a run in which no memory is wanting, and its text at the end,
 /// are those that the text before and the commands alone decide.
+///
+///     let mut text = view("foo").to_ascii_string(alloc)?;
+///     let replies = run(alloc, &mut text, &[Cmd::Len])?;
+///     plain_run(&[Cmd::Len], &replies) // ()
 pub fn plain_run<A: Allocator>(cmds: &[Cmd<'_>], replies: &[Reply<A>])
     ensures { (sure : ℕ) → (t t2 : List ℕ) → Run sure t cmds.now replies.now t2 → WantsNone replies.now → IsPlainRun t cmds.now replies.now t2 }
 {}
 
 /// A law, and no work: two runs of the same commands from the same text have the same replies up to
 /// the first want of memory of either, and with none in either they have the same text at the end.
+///
+///     let mut text = view("foo").to_ascii_string(alloc)?;
+///     let replies = run(alloc, &mut text, &[Cmd::Len])?;
+///     runs_agree(&[Cmd::Len], &replies, &replies) // ()
 pub fn runs_agree<A: Allocator, B: Allocator>(
     cmds: &[Cmd<'_>],
     first: &[Reply<A>],

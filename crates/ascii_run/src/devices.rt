@@ -20,11 +20,18 @@ pub trait Source {
     ghost failures: { Self → ℕ };
 
     /// How many calls have failed.
+    ///
+    ///     Input::new(b"ab".as_slice()).failures() // 0
     fn failures(&self) -> u64
         ensures { result ≡ failures self.now };
 
     /// Moves bytes from the front of the rest to the front of `buf`, and gives their number, which
     /// is 0 only where no byte is left.
+    ///
+    ///     let mut input = Input::new(b"ab".as_slice());
+    ///     let mut buffer = [0; 3];
+    ///     input.read(&mut buffer) // Ok(2)
+    ///     input.read(&mut buffer) // Ok(0)
     fn read(&mut self, buf: &mut [u8]) -> Result<usize, DeviceFault>
         requires room { 0 < length buf.old }
         requires count { failures self.old < u64.MAX }
@@ -42,10 +49,16 @@ pub trait Sink {
     ghost failures: { Self → ℕ };
 
     /// How many calls have failed.
+    ///
+    ///     Output::new(Vec::new(alloc)).failures() // 0
     fn failures(&self) -> u64
         ensures { result ≡ failures self.now };
 
     /// Appends bytes from the front of `bytes`, at least one, and gives their number.
+    ///
+    ///     let mut output = Output::new(Vec::new(alloc));
+    ///     output.write(b"ab") // Ok(2)
+    ///     output.into_inner() // [97, 98]
     fn write(&mut self, bytes: &[u8]) -> Result<usize, DeviceFault>
         requires some { 0 < length bytes.now }
         requires count { failures self.old < u64.MAX }
@@ -56,6 +69,8 @@ pub trait Sink {
         ensures count { CountsFault (failures self.old) (failures self.new) result };
 
     /// Passes on what is held back. The bytes that were taken stay.
+    ///
+    ///     Output::new(Vec::new(alloc)).flush() // Ok(())
     fn flush(&mut self) -> Result<(), DeviceFault>
         requires count { failures self.old < u64.MAX }
         ensures bytes { Keeps (taken self.old) (taken self.new) }
@@ -73,6 +88,8 @@ impl<R: io::Read> Input<R> {
     ghost use Rattle.ascii_run.specs.Wrapped.{reader_of, input_failures};
 
     /// A source over the reader, with no failure so far.
+    ///
+    ///     Input::new(b"ab".as_slice()).failures() // 0
     pub fn new(reader: R) -> Input<R>
         ensures reader { reader_of result ≡ reader }
         ensures failures { input_failures result ≡ 0 }
@@ -84,6 +101,8 @@ impl<R: io::Read> Input<R> {
     }
 
     /// The reader.
+    ///
+    ///     Input::new(b"ab".as_slice()).into_inner() // [97, 98]
     pub fn into_inner(self) -> R
         ensures { result ≡ reader_of self }
     {
@@ -130,6 +149,8 @@ impl<W: io::Write> Output<W> {
     ghost use Rattle.ascii_run.specs.Wrapped.{writer_of, output_failures};
 
     /// A sink over the writer, with no failure so far.
+    ///
+    ///     Output::new(Vec::new(alloc)).failures() // 0
     pub fn new(writer: W) -> Output<W>
         ensures writer { writer_of result ≡ writer }
         ensures failures { output_failures result ≡ 0 }
@@ -141,6 +162,10 @@ impl<W: io::Write> Output<W> {
     }
 
     /// The writer.
+    ///
+    ///     let mut output = Output::new(Vec::new(alloc));
+    ///     output.write(b"ab") // Ok(2)
+    ///     output.into_inner() // [97, 98]
     pub fn into_inner(self) -> W
         ensures { result ≡ writer_of self }
     {

@@ -26,6 +26,7 @@ impl From<AllocError> for EngineFault {
 
     ghost from_gives = { λ _ fault. fault ≡ Memory };
 
+    ///     EngineFault::from(AllocError) // Memory
     fn from(_: AllocError) -> EngineFault {
         EngineFault::Memory
     }
@@ -37,6 +38,7 @@ impl From<AsAsciiStrError> for EngineFault {
 
     ghost from_gives = { λ e fault. fault ≡ NotAscii (position_of e) };
 
+    ///     bytes::as_ascii_str(b"ab\xc4").map_err(EngineFault::from) // Err(NotAscii(2))
     fn from(e: AsAsciiStrError) -> EngineFault {
         EngineFault::NotAscii(e.valid_up_to())
     }

@@ -13,6 +13,10 @@ use std::alloc::Allocator;
 /// Reads the input to its end, and then writes the output of the mode and flushes it. All growth is
 /// made before the first byte goes out. After `NotAscii`, `Position`, `Memory` and `Read` nothing was
 /// written; after `Write` a beginning of the output went out.
+///
+///     let mut output = Output::new(Vec::new(alloc));
+///     engine(alloc, Mode::Tac, &mut Input::new(b"x\ny\n".as_slice()), &mut output) // Ok(())
+///     output.into_inner() // [121, 10, 120, 10]
 pub fn engine<S: Source, K: Sink, A: Allocator + Copy>(
     alloc: A,
     mode: Mode<'_>,

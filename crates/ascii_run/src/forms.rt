@@ -27,6 +27,8 @@ pub struct BothRuns {
 /// first want of memory of either the replies are alike, and with none in either all replies and the
 /// texts at the end are. Up to 24 characters the small form wants memory for a copy alone, or for a
 /// room past them. A refusal comes for want of memory for the copies of the view or for the replies.
+///
+///     run_both(alloc, view("foo"), &[Cmd::Upper, Cmd::Pop])?.small // "FO"
 pub fn run_both(alloc: Global, view: AsciiStr<'_>, cmds: &[Cmd<'_>]) -> Result<BothRuns, AllocError>
     ensures string { IfOk result (λ both. Run 0 (text_of view.entry) cmds.now both.replies.items both.string.text) }
     ensures small { IfOk result (λ both. Run inline_size (text_of view.entry) cmds.now both.small_replies.items both.small.text) }

@@ -34,6 +34,10 @@ impl<'a> Model for Chars<'a> {
 
 impl<'a> Chars<'a> {
     /// The view of the characters that are left.
+    ///
+    ///     let mut chars = view("foo").chars();
+    ///     chars.next() // Some('f')
+    ///     chars.as_str() // "oo"
     #[inline]
     pub fn as_str(&self) -> AsciiStr<'a>
         ensures { text_of result ≡ self.now }
@@ -50,6 +54,11 @@ impl Clone for Chars<'_> {
     ghost is_infallible = { λ _. Unit {0} };
 
     /// An iterator over the same characters. It is never refused.
+    ///
+    ///     let mut chars = view("foo").chars();
+    ///     let copy = chars.clone()?;
+    ///     chars.next() // Some('f')
+    ///     copy.as_str() // "foo"
     fn clone(&self) -> Result<Self, AllocError> {
         Ok(self.as_str().chars())
     }
@@ -62,6 +71,7 @@ impl<'a> Iterator for Chars<'a> {
 
     ghost remaining = { item_count (λ chars. chars) };
 
+    ///     view("foo").chars().next() // Some('f')
     #[inline]
     fn next(&mut self) -> Option<AsciiChar> {
         let first = self.bytes.next()?;
@@ -69,6 +79,8 @@ impl<'a> Iterator for Chars<'a> {
     }
 
     /// The number of characters that are left, twice.
+    ///
+    ///     view("foo").chars().size_hint() // (3, Some(3))
     #[inline]
     fn size_hint(&self) -> (usize, Option<usize>)
         ensures lower { IsWithinCount result.0 (item_count (λ chars. chars) self.now) }
@@ -82,6 +94,7 @@ impl<'a> Iterator for Chars<'a> {
 impl<'a> DoubleEndedIterator for Chars<'a> {
     ghost next_back_gives = { YieldsLastBy code_of (λ chars. chars) };
 
+    ///     view("foo").chars().next_back() // Some('o')
     #[inline]
     fn next_back(&mut self) -> Option<AsciiChar> {
         let last = self.bytes.next_back()?;
@@ -90,6 +103,7 @@ impl<'a> DoubleEndedIterator for Chars<'a> {
 }
 
 impl ExactSizeIterator for Chars<'_> {
+    ///     view("foo").chars().len() // 3
     #[inline]
     fn len(&self) -> usize {
         self.bytes.len()
@@ -114,6 +128,8 @@ impl<'a> Model for CharsRef<'a> {
 
 impl<'a> CharsRef<'a> {
     /// The view of the characters that are left.
+    ///
+    ///     view("foo").into_iter().as_str() // "foo"
     #[inline]
     pub fn as_str(&self) -> AsciiStr<'a>
         ensures { text_of result ≡ self.now }
@@ -128,6 +144,8 @@ impl Clone for CharsRef<'_> {
     ghost is_infallible = { λ _. Unit {0} };
 
     /// An iterator over the same characters. It is never refused.
+    ///
+    ///     view("foo").into_iter().clone()?.as_str() // "foo"
     fn clone(&self) -> Result<Self, AllocError> {
         Ok(CharsRef {
             chars: self.as_str().chars(),
@@ -142,12 +160,15 @@ impl<'a> Iterator for CharsRef<'a> {
 
     ghost remaining = { item_count (λ chars. chars) };
 
+    ///     view("foo").into_iter().next() // Some('f')
     #[inline]
     fn next(&mut self) -> Option<AsciiChar> {
         self.chars.next()
     }
 
     /// The number of characters that are left, twice.
+    ///
+    ///     view("foo").into_iter().size_hint() // (3, Some(3))
     #[inline]
     fn size_hint(&self) -> (usize, Option<usize>)
         ensures lower { IsWithinCount result.0 (item_count (λ chars. chars) self.now) }
@@ -161,6 +182,7 @@ impl<'a> Iterator for CharsRef<'a> {
 impl<'a> DoubleEndedIterator for CharsRef<'a> {
     ghost next_back_gives = { YieldsLastBy code_of (λ chars. chars) };
 
+    ///     view("foo").into_iter().next_back() // Some('o')
     #[inline]
     fn next_back(&mut self) -> Option<AsciiChar> {
         self.chars.next_back()
@@ -176,6 +198,11 @@ impl<'a> IntoIterator for AsciiStr<'a> {
 
     ghost into_iter_gives = { λ view chars. chars ≡ text_of view };
 
+    ///     let mut digit = false;
+    ///     for ch in view("f7") {
+    ///         digit = digit || ch.is_ascii_digit();
+    ///     }
+    ///     digit // true
     #[inline]
     fn into_iter(self) -> CharsRef<'a> {
         CharsRef {
@@ -186,6 +213,10 @@ impl<'a> IntoIterator for AsciiStr<'a> {
 
 impl<'a> AsciiStr<'a> {
     /// The characters of the view.
+    ///
+    ///     let mut chars = view("foo").chars();
+    ///     chars.next() // Some('f')
+    ///     chars.next_back() // Some('o')
     #[inline]
     pub fn chars(self) -> Chars<'a>
         ensures { result ≡ text_of self.entry }

@@ -101,6 +101,8 @@ impl Clone for LineSpans<'_> {
     ghost is_infallible = { λ _. Unit {0} };
 
     /// An iterator that owes the same lines with the same starts. It is never refused.
+    ///
+    ///     view("x\ny").line_spans().clone()?.remainder() // Some((0, "x\ny"))
     fn clone(&self) -> Result<Self, AllocError> {
         Ok(LineSpans { rest: self.rest })
     }
@@ -113,6 +115,7 @@ impl<'a> Iterator for LineSpans<'a> {
 
     ghost remaining = { item_count (λ lines. lines) };
 
+    ///     view("x\ny").line_spans().next() // Some(LineSpan { start: 0, text: "x", ending: Lf })
     #[inline(always)]
     fn next(&mut self) -> Option<LineSpan<'a>> {
         let (first, others) = self.rest.first_line()?;
@@ -124,6 +127,7 @@ impl<'a> Iterator for LineSpans<'a> {
 impl<'a> DoubleEndedIterator for LineSpans<'a> {
     ghost next_back_gives = { YieldsLastAnd line_in (λ lines. lines) DropsLast };
 
+    ///     view("x\ny").line_spans().next_back() // Some(LineSpan { start: 2, text: "y", ending: Absent })
     #[inline(always)]
     fn next_back(&mut self) -> Option<LineSpan<'a>> {
         let (last, others) = self.rest.last_line()?;
@@ -137,6 +141,10 @@ impl FusedIterator for LineSpans<'_> {}
 impl<'a> LineSpans<'a> {
     /// The lines that are left, with their endings, behind the place where the first one starts.
     /// `None` where none is left; the iterator stays as it is.
+    ///
+    ///     let mut spans = view("x\r\ny").line_spans();
+    ///     spans.next() // Some(LineSpan { start: 0, text: "x", ending: CrLf })
+    ///     spans.remainder() // Some((3, "y"))
     pub fn remainder(&self) -> Option<(usize, AsciiStr<'a>)>
         ensures rest { IsRestOfLineSpans self.now result }
         ensures fits { IfSome result (λ rest. rest.0 + length (text_of rest.1) ≤ usize.MAX) }
@@ -170,6 +178,8 @@ impl Clone for Lines<'_> {
     ghost is_infallible = { λ _. Unit {0} };
 
     /// An iterator that owes the same lines. It is never refused.
+    ///
+    ///     view("x\ny").lines().clone()?.remainder() // Some("x\ny")
     fn clone(&self) -> Result<Self, AllocError> {
         Ok(Lines {
             spans: self.spans.clone()?,
@@ -184,6 +194,7 @@ impl<'a> Iterator for Lines<'a> {
 
     ghost remaining = { item_count bodies };
 
+    ///     view("\nx").lines().next() // Some("")
     #[inline(always)]
     fn next(&mut self) -> Option<AsciiStr<'a>> {
         let span = self.spans.next()?;
@@ -194,6 +205,7 @@ impl<'a> Iterator for Lines<'a> {
 impl<'a> DoubleEndedIterator for Lines<'a> {
     ghost next_back_gives = { YieldsLastAnd text_of bodies DropsLast };
 
+    ///     view("x\n").lines().next_back() // Some("x")
     #[inline(always)]
     fn next_back(&mut self) -> Option<AsciiStr<'a>> {
         let span = self.spans.next_back()?;
@@ -206,6 +218,10 @@ impl FusedIterator for Lines<'_> {}
 impl<'a> Lines<'a> {
     /// The lines that are left, with their endings. `None` where none is left; the iterator stays
     /// as it is.
+    ///
+    ///     let mut lines = view("x\r\ny").lines();
+    ///     lines.next() // Some("x")
+    ///     lines.remainder() // Some("y")
     #[tactic(auto, using(crate::proofs::SpansLemmas::items_some))]
     pub fn remainder(&self) -> Option<AsciiStr<'a>>
         ensures { IsRestOfLines self.now result }
@@ -218,6 +234,12 @@ impl<'a> Lines<'a> {
 impl<'a> AsciiStr<'a> {
     /// The lines of the view, without their endings. A line ends in LF or in CR LF; a CR before that
     /// stays in its line, and so does a last CR with no LF behind it. A last LF makes no further line.
+    ///
+    ///     let mut lines = view("x\r\ny\nz").lines();
+    ///     lines.next() // Some("x")
+    ///     lines.next_back() // Some("z")
+    ///     lines.next_back() // Some("y")
+    ///     lines.next() // None
     #[tactic(auto, using(crate::proofs::SpansLemmas::same_lines))]
     pub fn lines(self) -> Lines<'a>
         ensures lines { LinesOf (text_of self.entry) result }
@@ -232,6 +254,10 @@ impl<'a> AsciiStr<'a> {
     }
 
     /// The lines of the view, each with its ending and the place in the view where it starts.
+    ///
+    ///     let mut spans = view("x\r\ny").line_spans();
+    ///     spans.next() // Some(LineSpan { start: 0, text: "x", ending: CrLf })
+    ///     spans.next() // Some(LineSpan { start: 3, text: "y", ending: Absent })
     pub fn line_spans(self) -> LineSpans<'a>
         ensures spans { LineSpansOf 0 (text_of self.entry) result }
         ensures only { (spans : List (Placed Line)) → LineSpansOf 0 (text_of self.entry) spans → spans ≡ result }
@@ -244,6 +270,8 @@ impl<'a> AsciiStr<'a> {
 
     /// The same for a view that starts at an offset: each place is larger by the offset. The offset
     /// and the length together are at most `usize::MAX`.
+    ///
+    ///     view("x\r\ny").line_spans_from(10).next_back() // Some(LineSpan { start: 13, text: "y", ending: Absent })
     pub fn line_spans_from(self, offset: usize) -> LineSpans<'a>
         requires { offset + length (text_of self) ≤ usize.MAX }
         ensures spans { LineSpansOf offset (text_of self.entry) result }

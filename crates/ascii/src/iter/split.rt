@@ -78,6 +78,8 @@ impl Clone for SplitSpans<'_> {
     ghost is_infallible = { λ _. Unit {0} };
 
     /// An iterator that owes the same pieces with the same starts. It is never refused.
+    ///
+    ///     view("foo;bar").split_spans(AsciiChar::Semicolon).clone()?.remainder() // Some((0, "foo;bar"))
     fn clone(&self) -> Result<Self, AllocError> {
         Ok(SplitSpans {
             rest: self.rest,
@@ -93,6 +95,7 @@ impl<'a> Iterator for SplitSpans<'a> {
 
     ghost remaining = { item_count (λ split. split.spans) };
 
+    ///     view(";foo").split_spans(AsciiChar::Semicolon).next() // Some(SplitSpan { start: 0, text: "" })
     #[inline(always)]
     fn next(&mut self) -> Option<SplitSpan<'a>> {
         let (first, others) = self.rest?.first_piece(self.on);
@@ -104,6 +107,7 @@ impl<'a> Iterator for SplitSpans<'a> {
 impl<'a> DoubleEndedIterator for SplitSpans<'a> {
     ghost next_back_gives = { YieldsLastAnd piece_in (λ split. split.spans) KeepsSpansOn };
 
+    ///     view(";foo").split_spans(AsciiChar::Semicolon).next_back() // Some(SplitSpan { start: 1, text: "foo" })
     #[inline(always)]
     fn next_back(&mut self) -> Option<SplitSpan<'a>> {
         let (last, others) = self.rest?.last_piece(self.on);
@@ -117,6 +121,10 @@ impl FusedIterator for SplitSpans<'_> {}
 impl<'a> SplitSpans<'a> {
     /// The pieces that are left, joined by the separator, behind the place where the first one
     /// starts. `None` where none is left; the iterator stays as it is.
+    ///
+    ///     let mut spans = view("foo;bar").split_spans(AsciiChar::Semicolon);
+    ///     spans.next() // Some(SplitSpan { start: 0, text: "foo" })
+    ///     spans.remainder() // Some((4, "bar"))
     pub fn remainder(&self) -> Option<(usize, AsciiStr<'a>)>
         ensures rest { IsRestOfPieceSpans self.now result }
         ensures fits { IfSome result (λ rest. rest.0 + length (text_of rest.1) ≤ usize.MAX) }
@@ -147,6 +155,11 @@ impl Clone for Split<'_> {
     ghost is_infallible = { λ _. Unit {0} };
 
     /// An iterator that owes the same pieces. It is never refused.
+    ///
+    ///     let mut pieces = view("foo;bar").split(AsciiChar::Semicolon);
+    ///     let copy = pieces.clone()?;
+    ///     pieces.next() // Some("foo")
+    ///     copy.remainder() // Some("foo;bar")
     fn clone(&self) -> Result<Self, AllocError> {
         Ok(Split {
             spans: self.spans.clone()?,
@@ -161,6 +174,7 @@ impl<'a> Iterator for Split<'a> {
 
     ghost remaining = { item_count (λ split. split.pieces) };
 
+    ///     view(";foo").split(AsciiChar::Semicolon).next() // Some("")
     #[inline(always)]
     fn next(&mut self) -> Option<AsciiStr<'a>> {
         let span = self.spans.next()?;
@@ -171,6 +185,7 @@ impl<'a> Iterator for Split<'a> {
 impl<'a> DoubleEndedIterator for Split<'a> {
     ghost next_back_gives = { YieldsLastAnd text_of (λ split. split.pieces) KeepsOn };
 
+    ///     view(";foo").split(AsciiChar::Semicolon).next_back() // Some("foo")
     #[inline(always)]
     fn next_back(&mut self) -> Option<AsciiStr<'a>> {
         let span = self.spans.next_back()?;
@@ -183,6 +198,10 @@ impl FusedIterator for Split<'_> {}
 impl<'a> Split<'a> {
     /// The pieces that are left, joined by the separator. `None` where none is left; the iterator
     /// stays as it is.
+    ///
+    ///     let mut pieces = view("foo;bar;baz").split(AsciiChar::Semicolon);
+    ///     pieces.next() // Some("foo")
+    ///     pieces.remainder() // Some("bar;baz")
     pub fn remainder(&self) -> Option<AsciiStr<'a>>
         ensures { IsRestOfPieces self.now result }
     {
@@ -194,6 +213,12 @@ impl<'a> Split<'a> {
 impl<'a> AsciiStr<'a> {
     /// The pieces of the view at each separator: at least one, none of which has the separator. A
     /// separator at an end makes an empty piece there.
+    ///
+    ///     let mut pieces = view("foo;bar;baz").split(AsciiChar::Semicolon);
+    ///     pieces.next() // Some("foo")
+    ///     pieces.next_back() // Some("baz")
+    ///     pieces.next() // Some("bar")
+    ///     pieces.next() // None
     #[tactic(auto, using(crate::proofs::SpansLemmas::same_pieces))]
     pub fn split(self, on: AsciiChar) -> Split<'a>
         ensures pieces { Pieces (text_of self.entry) (code_of on) result.pieces }
@@ -209,6 +234,9 @@ impl<'a> AsciiStr<'a> {
     }
 
     /// The pieces of the view at each separator, each with the place in the view where it starts.
+    ///
+    ///     let mut spans = view("foo;bar").split_spans(AsciiChar::Semicolon);
+    ///     spans.next_back() // Some(SplitSpan { start: 4, text: "bar" })
     pub fn split_spans(self, on: AsciiChar) -> SplitSpans<'a>
         ensures spans { PieceSpans 0 (text_of self.entry) (code_of on) result.spans }
         ensures only { (spans : List (Placed (List ℕ))) → PieceSpans 0 (text_of self.entry) (code_of on) spans → spans ≡ result.spans }
@@ -222,6 +250,9 @@ impl<'a> AsciiStr<'a> {
 
     /// The same for a view that starts at an offset: each place is larger by the offset. The offset
     /// and the length together are at most `usize::MAX`.
+    ///
+    ///     let mut spans = view("foo;bar").split_spans_from(AsciiChar::Semicolon, 10);
+    ///     spans.next_back() // Some(SplitSpan { start: 14, text: "bar" })
     pub fn split_spans_from(self, on: AsciiChar, offset: usize) -> SplitSpans<'a>
         requires { offset + length (text_of self) ≤ usize.MAX }
         ensures spans { PieceSpans offset (text_of self.entry) (code_of on) result.spans }

@@ -25,6 +25,8 @@ pub enum End {
 }
 
 /// Takes from an end of an iterator: `next` at the front, `next_back` at the back.
+///
+///     take_end(&mut view("x\ny").lines(), End::Back) // Some("y")
 #[inline]
 pub fn take_end<I: DoubleEndedIterator>(items: &mut I, end: End) -> Option<I::Item>
     requires can_next { I.can_next items.old }
@@ -59,6 +61,8 @@ where
 
 /// The answers of a split to a script of ends, one for each end of the script, in order. Where memory
 /// is refused nothing is given; the empty script takes none.
+///
+///     walk_split(alloc, view("a,b"), AsciiChar::Comma, &[End::Back, End::Front, End::Back])? // [Some("b"), Some("a"), None]
 pub fn walk_split<'a, A: Allocator>(
     alloc: A,
     view: AsciiStr<'a>,
@@ -72,6 +76,8 @@ pub fn walk_split<'a, A: Allocator>(
 }
 
 /// The same for the lines of a view: each answer is a body.
+///
+///     walk_lines(alloc, view("a\nb"), &[End::Back, End::Front])? // [Some("b"), Some("a")]
 pub fn walk_lines<'a, A: Allocator>(
     alloc: A,
     view: AsciiStr<'a>,
@@ -84,6 +90,8 @@ pub fn walk_lines<'a, A: Allocator>(
 }
 
 /// The same for the pieces of a view with their starts.
+///
+///     walk_split_spans(alloc, view("a,b"), AsciiChar::Comma, &[End::Back])? // [Some(SplitSpan { start: 2, text: "b" })]
 pub fn walk_split_spans<'a, A: Allocator>(
     alloc: A,
     view: AsciiStr<'a>,
@@ -97,6 +105,8 @@ pub fn walk_split_spans<'a, A: Allocator>(
 }
 
 /// The same for the lines of a view with their starts and endings.
+///
+///     walk_line_spans(alloc, view("a\nb"), &[End::Front])? // [Some(LineSpan { start: 0, text: "a", ending: Lf })]
 pub fn walk_line_spans<'a, A: Allocator>(
     alloc: A,
     view: AsciiStr<'a>,

@@ -20,17 +20,26 @@ pub trait AsciiBuf {
     ghost sure: { ℕ };
 
     /// A view of the whole text.
+    ///
+    ///     AsciiBuf::as_ascii_str(&SmallAsciiString::new(alloc)) // ""
     fn as_ascii_str(&self) -> AsciiStr<'_>
         ensures { text_of result ≡ (held self.now).text };
 
     /// Makes room for `additional` more bytes. The text stays, and a refusal of memory comes only
     /// where the room was missing; room for none never is.
+    ///
+    ///     let mut text = SmallAsciiString::new(alloc);
+    ///     text.reserve(24) // Ok(())
     fn reserve(&mut self, additional: usize) -> Result<(), AllocError>
         requires { length (held self.old).text + additional ≤ usize.MAX }
         ensures { MakesRoom additional (held self.old) (held self.new) result };
 
     /// Gives back the room that the text does not need. The text stays; a refusal of memory comes
     /// only where there is such room, and never where some length is sure.
+    ///
+    ///     let mut text = view("foo").to_ascii_string(alloc)?;
+    ///     AsciiBuf::shrink_to_fit(&mut text) // Ok(())
+    ///     text // "foo"
     fn shrink_to_fit(&mut self) -> Result<(), AllocError>
         ensures text { (held self.new).text ≡ (held self.old).text }
         ensures err { OnErr result (length (held self.new).text < (held self.new).capacity) }
@@ -40,16 +49,28 @@ pub trait AsciiBuf {
 
     /// Appends a character. It is never refused where the longer text fits the capacity; a refusal
     /// of memory leaves the text.
+    ///
+    ///     let mut text = SmallAsciiString::new(alloc);
+    ///     text.push(AsciiChar::a) // Ok(())
+    ///     text // "a"
     fn push(&mut self, ch: AsciiChar) -> Result<(), AllocError>
         ensures { GrowsTo ((held self.old).text ++ code_of ch ∷ []) (held self.old) (held self.new) result };
 
     /// Appends a view. It is never refused where the longer text fits the capacity, as it does with
     /// the empty view; a refusal of memory leaves the text.
+    ///
+    ///     let mut text = SmallAsciiString::new(alloc);
+    ///     text.push_str(view("foo")) // Ok(())
+    ///     text // "foo"
     fn push_str(&mut self, view: AsciiStr<'_>) -> Result<(), AllocError>
         ensures { GrowsTo ((held self.old).text ++ text_of view.entry) (held self.old) (held self.new) result };
 
     /// Puts a character before the position `idx`; at the length it is appended. It is never refused
     /// where the longer text fits the capacity; a refusal of memory leaves the text.
+    ///
+    ///     let mut text = SmallAsciiString::from_ascii_str(alloc, view("fo"))?;
+    ///     text.insert(0, AsciiChar::z) // Ok(())
+    ///     text // "zfo"
     fn insert(&mut self, idx: usize, ch: AsciiChar) -> Result<(), AllocError>
         requires { idx ≤ length (held self.old).text }
         ensures { GrowsTo (insert (held self.old).text idx (code_of ch)) (held self.old) (held self.new) result };
@@ -57,39 +78,71 @@ pub trait AsciiBuf {
     /// Puts a view before the position `idx`; at the length it is appended. It is never refused where
     /// the longer text fits the capacity, as it does with the empty view; a refusal of memory leaves
     /// the text.
+    ///
+    ///     let mut text = SmallAsciiString::from_ascii_str(alloc, view("fo"))?;
+    ///     text.insert_str(1, view("lo")) // Ok(())
+    ///     text // "floo"
     fn insert_str(&mut self, idx: usize, view: AsciiStr<'_>) -> Result<(), AllocError>
         requires { idx ≤ length (held self.old).text }
         ensures { GrowsTo (insert_text (held self.old).text idx (text_of view.entry)) (held self.old) (held self.new) result };
 
     /// Takes out the character at a position from 0 that is under the length.
+    ///
+    ///     let mut text = SmallAsciiString::from_ascii_str(alloc, view("foo"))?;
+    ///     text.remove(0) // 'f'
+    ///     text // "oo"
     fn remove(&mut self, idx: usize) -> AsciiChar
         requires { idx < length (held self.old).text }
         ensures removed { code_of result ≡ slice_index (held self.old).text idx }
         ensures edits { EditsWithin (remove (held self.old).text idx) (held self.old) (held self.new) };
 
     /// Takes off the last character, or answers `None` of the empty text.
+    ///
+    ///     let mut text = SmallAsciiString::from_ascii_str(alloc, view("fo"))?;
+    ///     text.pop() // Some('o')
+    ///     text // "f"
     fn pop(&mut self) -> Option<AsciiChar>
         ensures popped { let text = (held self.old).text in option_map code_of result ≡ slice_get text (length text - 1) }
         ensures edits { let text = (held self.old).text in EditsWithin (take (length text - 1) text) (held self.old) (held self.new) };
 
     /// Keeps the first `n` characters, or all where there are fewer.
+    ///
+    ///     let mut text = SmallAsciiString::from_ascii_str(alloc, view("foo"))?;
+    ///     text.truncate(2);
+    ///     text // "fo"
     fn truncate(&mut self, n: usize)
         ensures { EditsWithin (take n (held self.old).text) (held self.old) (held self.new) };
 
     /// Takes off all characters. The capacity stays.
+    ///
+    ///     let mut text = SmallAsciiString::from_ascii_str(alloc, view("foo"))?;
+    ///     text.clear();
+    ///     text // ""
     fn clear(&mut self)
         ensures { EditsWithin [] (held self.old) (held self.new) };
 
     /// Puts a character in the place of the one at a position from 0 that is under the length.
+    ///
+    ///     let mut text = SmallAsciiString::from_ascii_str(alloc, view("foo"))?;
+    ///     text.set(0, AsciiChar::z);
+    ///     text // "zoo"
     fn set(&mut self, i: usize, ch: AsciiChar)
         requires { i < length (held self.old).text }
         ensures { EditsWithin (slice_set (held self.old).text i (code_of ch)) (held self.old) (held self.new) };
 
     /// Changes `a` to `z` to `A` to `Z`, and leaves every other character.
+    ///
+    ///     let mut text = SmallAsciiString::from_ascii_str(alloc, view("foo"))?;
+    ///     text.make_ascii_uppercase();
+    ///     text // "FOO"
     fn make_ascii_uppercase(&mut self)
         ensures { EditsWithin (map upper_image (held self.old).text) (held self.old) (held self.new) };
 
     /// Changes `A` to `Z` to `a` to `z`, and leaves every other character.
+    ///
+    ///     let mut text = SmallAsciiString::from_ascii_str(alloc, view("FOO"))?;
+    ///     text.make_ascii_lowercase();
+    ///     text // "foo"
     fn make_ascii_lowercase(&mut self)
         ensures { EditsWithin (map lower_image (held self.old).text) (held self.old) (held self.new) };
 

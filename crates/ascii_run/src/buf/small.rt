@@ -37,6 +37,8 @@ impl Model for SmallAsciiString {
 
 impl SmallAsciiString {
     /// The empty text. It takes no memory.
+    ///
+    ///     SmallAsciiString::new(alloc).len() // 0
     #[inline]
     pub fn new(alloc: Global) -> SmallAsciiString
         ensures text { result.text ≡ [] }
@@ -48,6 +50,8 @@ impl SmallAsciiString {
     }
 
     /// A copy of a view. Up to 24 characters it is inline and takes no memory.
+    ///
+    ///     SmallAsciiString::from_ascii_str(alloc, view("foo"))? // "foo"
     pub fn from_ascii_str(alloc: Global, view: AsciiStr<'_>) -> Result<SmallAsciiString, AllocError>
         ensures text { IfOk result (λ string. string.text ≡ text_of view.entry) }
         ensures inline { length (text_of view.entry) ≤ inline_size → IfOk result (λ string. string.capacity ≡ inline_size) }
@@ -61,6 +65,8 @@ impl SmallAsciiString {
     }
 
     /// A view of the whole text.
+    ///
+    ///     SmallAsciiString::from_ascii_str(alloc, view("foo"))?.as_ascii_str() // "foo"
     #[inline]
     pub fn as_ascii_str(&self) -> AsciiStr<'_>
         ensures { text_of result ≡ self.now.text }
@@ -69,6 +75,8 @@ impl SmallAsciiString {
     }
 
     /// Whether the text stands in the value itself. One that grew into an allocation stays there.
+    ///
+    ///     SmallAsciiString::from_ascii_str(alloc, view("foo"))?.is_inline() // true
     #[inline]
     pub fn is_inline(&self) -> bool
         ensures { IsTrue result ↔ (self.now.capacity ≡ inline_size) }
@@ -77,6 +85,8 @@ impl SmallAsciiString {
     }
 
     /// The number of characters, which is the number of bytes.
+    ///
+    ///     SmallAsciiString::from_ascii_str(alloc, view("foo"))?.len() // 3
     #[inline]
     pub fn len(&self) -> usize
         ensures { result ≡ length self.now.text }
@@ -85,6 +95,8 @@ impl SmallAsciiString {
     }
 
     /// Whether the text has no character.
+    ///
+    ///     SmallAsciiString::new(alloc).is_empty() // true
     #[inline]
     pub fn is_empty(&self) -> bool
         ensures { IsTrue result ↔ (self.now.text ≡ []) }
@@ -93,6 +105,8 @@ impl SmallAsciiString {
     }
 
     /// The number of bytes that the text can have before it has to grow, at least its length and 24.
+    ///
+    ///     SmallAsciiString::new(alloc).capacity() // 24
     #[inline]
     pub fn capacity(&self) -> usize
         ensures capacity { result ≡ self.now.capacity }
@@ -104,6 +118,8 @@ impl SmallAsciiString {
 
     /// The text as an `AsciiString`. One in an allocation keeps it, and is never refused; an inline
     /// one is copied, and where memory is refused it comes back.
+    ///
+    ///     SmallAsciiString::from_ascii_str(alloc, view("foo"))?.into_ascii_string().ok() // Some("foo")
     pub fn into_ascii_string(self) -> Result<AsciiString, SmallAsciiString>
         ensures ok { IfOk result (λ string. string.text ≡ self.text) }
         ensures err { IfErr result (λ string. string ≡ self) }
@@ -136,6 +152,10 @@ impl AsciiBuf for SmallAsciiString {
     }
 
     /// Does nothing, and is never refused.
+    ///
+    ///     let mut text = SmallAsciiString::from_ascii_str(alloc, view("foo"))?;
+    ///     text.shrink_to_fit() // Ok(())
+    ///     text.capacity() // 24
     fn shrink_to_fit(&mut self) -> Result<(), AllocError>
         ensures ok { IsOk result }
         ensures unchanged { self.new ≡ self.old }
@@ -215,6 +235,8 @@ impl Clone for SmallAsciiString {
     ghost is_infallible = { λ string. length string.text ≤ inline_size };
 
     /// The same text. Up to 24 characters it is inline and takes no memory.
+    ///
+    ///     SmallAsciiString::from_ascii_str(alloc, view("foo"))?.clone()? // "foo"
     fn clone(&self) -> Result<SmallAsciiString, AllocError>
         ensures cases { MatchResult result (λ copy. copy.text ≡ self.now.text) (λ _. ¬ (length self.now.text ≤ inline_size)) }
         ensures inline { length self.now.text ≤ inline_size → IfOk result (λ copy. copy.capacity ≡ inline_size) }
@@ -234,6 +256,7 @@ impl PartialEq for SmallAsciiString {
 
     ghost laws = { Prim.search (comparing, rules) };
 
+    ///     SmallAsciiString::new(alloc) == SmallAsciiString::from_ascii_str(alloc, view("foo"))? // false
     fn eq(&self, other: &SmallAsciiString) -> bool {
         self.as_ascii_str() == other.as_ascii_str()
     }
@@ -257,6 +280,7 @@ impl PartialOrd for SmallAsciiString {
 
     ghost laws = { partial_order_from_own_ties (Prim.search (comparing, rules)) (Prim.search (comparing, rules)) };
 
+    ///     SmallAsciiString::new(alloc) < SmallAsciiString::from_ascii_str(alloc, view("foo"))? // true
     fn partial_cmp(&self, other: &SmallAsciiString) -> Option<Ordering> {
         Some(self.cmp(other))
     }
@@ -276,6 +300,7 @@ impl Ord for SmallAsciiString {
 
     ghost matches_eq = { Prim.search (comparing, rules) };
 
+    ///     SmallAsciiString::new(alloc).cmp(&SmallAsciiString::from_ascii_str(alloc, view("foo"))?) // Less
     fn cmp(&self, other: &SmallAsciiString) -> Ordering {
         self.as_ascii_str().cmp(&other.as_ascii_str())
     }
@@ -290,6 +315,9 @@ impl Hash for SmallAsciiString {
 
     ghost respects_eq = { Prim.search (hashing, rules) };
 
+    ///     let mut seen = HashSet::new(alloc);
+    ///     seen.insert(SmallAsciiString::new(alloc))?;
+    ///     seen.contains(&SmallAsciiString::new(alloc)) // true
     fn hash<H: Hasher>(&self, state: &mut H) {
         self.as_ascii_str().as_str().hash(state);
     }
@@ -303,6 +331,7 @@ impl fmt::Display for SmallAsciiString {
 
     ghost styled_output = { λ string spec. Some (styled_text spec string.text) };
 
+    ///     format!(in alloc; "{}", SmallAsciiString::from_ascii_str(alloc, view("foo"))?)? // "foo"
     fn fmt<W: fmt::Write>(&self, f: &mut fmt::Formatter<W>) -> fmt::Result {
         fmt::Display::fmt(&self.as_ascii_str(), f)
     }
@@ -314,6 +343,7 @@ impl fmt::Debug for SmallAsciiString {
 
     ghost debug_output = { λ string. Some (debug_text string.text) };
 
+    ///     format!(in alloc; "{:?}", SmallAsciiString::from_ascii_str(alloc, view("foo"))?)? // "\"foo\""
     fn fmt<W: fmt::Write>(&self, f: &mut fmt::Formatter<W>) -> fmt::Result {
         fmt::Debug::fmt(&self.as_ascii_str(), f)
     }
@@ -323,6 +353,11 @@ impl SmallAsciiString {
     ghost use Rattle.std.specs.Str.{IsAscii};
 
     /// Appends a character. One past 127, or a refusal of memory, is an error and leaves the text.
+    ///
+    ///     let mut text = SmallAsciiString::new(alloc);
+    ///     text.write_char('a') // Ok(())
+    ///     text.write_char('č') // Err(Error)
+    ///     text // "a"
     pub fn write_char(&mut self, ch: char) -> fmt::Result
         ensures { Writes (ch ∷ []) (with_inline_room self.old) (with_inline_room self.new) result }
     {
@@ -341,6 +376,10 @@ impl fmt::Write for SmallAsciiString {
 
     /// Appends a text. One with a character past 127, or a refusal of memory, is an error and leaves
     /// the text: no part of it goes in.
+    ///
+    ///     let mut text = SmallAsciiString::new(alloc);
+    ///     write!(text, "foo{}", 7) // Ok(())
+    ///     text // "foo7"
     fn write_str(&mut self, s: &str) -> fmt::Result
         ensures ok { IsOk result → self.new.text ≡ self.old.text ++ s.now }
         ensures writes { Writes s.now (with_inline_room self.old) (with_inline_room self.new) result }

@@ -1,0 +1,1419 @@
+//! The examples in the documentation of `ascii`, made by `bin/examples`.
+
+use super::{shows, view};
+use ascii::iter::{End, take_end, walk_line_spans, walk_lines, walk_split, walk_split_spans};
+use ascii::json::{char_from_json, char_to_json, str_from_json, string_from_json};
+use ascii::{
+    AsAsciiStrError, AsciiStr, AsciiString, BoxedAsciiStr, CowAsciiStr, RcAsciiStr, bytes, string,
+    text, vec,
+};
+use ascii_base::ascii_char::AsciiChar;
+use ascii_base::range::AsciiRange;
+use serde_json::Value;
+use std::collections::HashSet;
+use std::fmt::Write;
+use std::test::Fail;
+
+#[test]
+fn ascii_str_1(rt: HostRuntime) -> Result<(), Fail> {
+    let alloc = rt.alloc();
+    // AsciiStr::as_str
+    shows(&rt, alloc, &view("foo").as_str(), "\"foo\"");
+    // AsciiStr::as_bytes
+    shows(&rt, alloc, &view("foo").as_bytes(), "[102, 111, 111]");
+    // AsciiStr::len
+    shows(&rt, alloc, &view("foo").len(), "3");
+    // AsciiStr::is_empty
+    shows(&rt, alloc, &view("").is_empty(), "true");
+    // AsciiStr::first
+    shows(&rt, alloc, &view("foo").first(), "Some('f')");
+    // AsciiStr::last
+    shows(&rt, alloc, &view("foo").last(), "Some('o')");
+    Ok(())
+}
+
+#[test]
+fn ascii_str_2(rt: HostRuntime) -> Result<(), Fail> {
+    let alloc = rt.alloc();
+    // AsciiStr::get_ascii
+    shows(&rt, alloc, &view("foo").get_ascii(0), "Some('f')");
+    shows(&rt, alloc, &view("foo").get_ascii(3), "None");
+    // AsciiStr::char_at
+    shows(&rt, alloc, &view("foo").char_at(0), "'f'");
+    // AsciiStr::as_ascii_str
+    shows(&rt, alloc, &view("foo").as_ascii_str(), "Ok(\"foo\")");
+    // AsciiStr::slice_ascii
+    shows(
+        &rt,
+        alloc,
+        &view("foo").slice_ascii(AsciiRange::To(2)),
+        "Ok(\"fo\")",
+    );
+    shows(
+        &rt,
+        alloc,
+        &view("foo").slice_ascii(AsciiRange::To(4)),
+        "Err(AsAsciiStrError(3))",
+    );
+    // AsciiStr::slice
+    shows(
+        &rt,
+        alloc,
+        &view("foo").slice(AsciiRange::From(1)),
+        "\"oo\"",
+    );
+    // AsciiStr::trim
+    shows(&rt, alloc, &view(" a b\r\n").trim(), "\"a b\"");
+    Ok(())
+}
+
+#[test]
+fn ascii_str_3(rt: HostRuntime) -> Result<(), Fail> {
+    let alloc = rt.alloc();
+    // AsciiStr::trim_start
+    shows(&rt, alloc, &view(" a b ").trim_start(), "\"a b \"");
+    // AsciiStr::trim_end
+    shows(&rt, alloc, &view(" a b ").trim_end(), "\" a b\"");
+    // AsciiStr::eq_ignore_ascii_case
+    shows(
+        &rt,
+        alloc,
+        &view("Host").eq_ignore_ascii_case(view("HOST")),
+        "true",
+    );
+    // AsciiStr::eq_str
+    shows(&rt, alloc, &view("foo").eq_str("foo"), "true");
+    // AsciiStr::eq_bytes
+    shows(&rt, alloc, &view("foo").eq_bytes(b"foo"), "true");
+    // Default for AsciiStr::default
+    shows(&rt, alloc, &AsciiStr::default(), "\"\"");
+    Ok(())
+}
+
+#[test]
+fn ascii_str_4(rt: HostRuntime) -> Result<(), Fail> {
+    let alloc = rt.alloc();
+    // Display for AsciiStr::fmt
+    shows(
+        &rt,
+        alloc,
+        &format!(in alloc; "{}", view("a\"b"))?,
+        "\"a\\\"b\"",
+    );
+    // Debug for AsciiStr::fmt
+    shows(
+        &rt,
+        alloc,
+        &format!(in alloc; "{:?}", view("a\"b"))?,
+        "\"\\\"a\\\\\\\"b\\\"\"",
+    );
+    Ok(())
+}
+
+#[test]
+fn ascii_str_5(rt: HostRuntime) -> Result<(), Fail> {
+    let alloc = rt.alloc();
+    // AsciiStr::to_ascii_string
+    shows(&rt, alloc, &view("foo").to_ascii_string(alloc)?, "\"foo\"");
+    // AsciiStr::to_ascii_uppercase
+    shows(
+        &rt,
+        alloc,
+        &view("foo").to_ascii_uppercase(alloc)?,
+        "\"FOO\"",
+    );
+    // AsciiStr::to_ascii_lowercase
+    shows(
+        &rt,
+        alloc,
+        &view("FOO").to_ascii_lowercase(alloc)?,
+        "\"foo\"",
+    );
+    Ok(())
+}
+
+#[test]
+fn ascii_str_6(rt: HostRuntime) -> Result<(), Fail> {
+    let alloc = rt.alloc();
+    // AsciiStr::to_chars
+    shows(&rt, alloc, &view("ab").to_chars(alloc)?, "['a', 'b']");
+    Ok(())
+}
+
+#[test]
+fn ascii_str_7(rt: HostRuntime) -> Result<(), Fail> {
+    let alloc = rt.alloc();
+    // IntoIterator for AsciiStr::into_iter
+    {
+        let mut digit = false;
+        for ch in view("f7") {
+            digit = digit || ch.is_ascii_digit();
+        }
+        shows(&rt, alloc, &digit, "true");
+    }
+    Ok(())
+}
+
+#[test]
+fn ascii_str_8(rt: HostRuntime) -> Result<(), Fail> {
+    let alloc = rt.alloc();
+    // AsciiStr::chars
+    {
+        let mut chars = view("foo").chars();
+        shows(&rt, alloc, &chars.next(), "Some('f')");
+        shows(&rt, alloc, &chars.next_back(), "Some('o')");
+    }
+    // AsciiStr::lines
+    {
+        let mut lines = view("x\r\ny\nz").lines();
+        shows(&rt, alloc, &lines.next(), "Some(\"x\")");
+        shows(&rt, alloc, &lines.next_back(), "Some(\"z\")");
+        shows(&rt, alloc, &lines.next_back(), "Some(\"y\")");
+        shows(&rt, alloc, &lines.next(), "None");
+    }
+    // AsciiStr::line_spans
+    {
+        let mut spans = view("x\r\ny").line_spans();
+        shows(
+            &rt,
+            alloc,
+            &spans.next(),
+            "Some(LineSpan { start: 0, text: \"x\", ending: CrLf })",
+        );
+        shows(
+            &rt,
+            alloc,
+            &spans.next(),
+            "Some(LineSpan { start: 3, text: \"y\", ending: Absent })",
+        );
+    }
+    Ok(())
+}
+
+#[test]
+fn ascii_str_9(rt: HostRuntime) -> Result<(), Fail> {
+    let alloc = rt.alloc();
+    // AsciiStr::line_spans_from
+    shows(
+        &rt,
+        alloc,
+        &view("x\r\ny").line_spans_from(10).next_back(),
+        "Some(LineSpan { start: 13, text: \"y\", ending: Absent })",
+    );
+    // AsciiStr::split
+    {
+        let mut pieces = view("foo;bar;baz").split(AsciiChar::Semicolon);
+        shows(&rt, alloc, &pieces.next(), "Some(\"foo\")");
+        shows(&rt, alloc, &pieces.next_back(), "Some(\"baz\")");
+        shows(&rt, alloc, &pieces.next(), "Some(\"bar\")");
+        shows(&rt, alloc, &pieces.next(), "None");
+    }
+    // AsciiStr::split_spans
+    {
+        let mut spans = view("foo;bar").split_spans(AsciiChar::Semicolon);
+        shows(
+            &rt,
+            alloc,
+            &spans.next_back(),
+            "Some(SplitSpan { start: 4, text: \"bar\" })",
+        );
+    }
+    Ok(())
+}
+
+#[test]
+fn ascii_str_10(rt: HostRuntime) -> Result<(), Fail> {
+    let alloc = rt.alloc();
+    // AsciiStr::split_spans_from
+    {
+        let mut spans = view("foo;bar").split_spans_from(AsciiChar::Semicolon, 10);
+        shows(
+            &rt,
+            alloc,
+            &spans.next_back(),
+            "Some(SplitSpan { start: 14, text: \"bar\" })",
+        );
+    }
+    // AsciiStr::to_json
+    shows(
+        &rt,
+        alloc,
+        &view("a\"b").to_json(alloc)?.to_string(alloc)?,
+        "\"\\\"a\\\\\\\"b\\\"\"",
+    );
+    Ok(())
+}
+
+#[test]
+fn str_1(rt: HostRuntime) -> Result<(), Fail> {
+    let alloc = rt.alloc();
+    // From<AsciiStr> for &str::from
+    shows(&rt, alloc, &<&str>::from(view("foo")), "\"foo\"");
+    Ok(())
+}
+
+#[test]
+fn u8_1(rt: HostRuntime) -> Result<(), Fail> {
+    let alloc = rt.alloc();
+    // From<AsciiStr> for &[u8]::from
+    shows(&rt, alloc, &<&[u8]>::from(view("foo")), "[102, 111, 111]");
+    Ok(())
+}
+
+#[test]
+fn as_ascii_str_error_1(rt: HostRuntime) -> Result<(), Fail> {
+    let alloc = rt.alloc();
+    // AsAsciiStrError::valid_up_to
+    shows(
+        &rt,
+        alloc,
+        &bytes::as_ascii_str(b"ab\xc4").map_err(AsAsciiStrError::valid_up_to),
+        "Err(2)",
+    );
+    // AsAsciiStrError::description
+    shows(
+        &rt,
+        alloc,
+        &bytes::as_ascii_str(b"ab\xc4").map_err(|e| e.description()),
+        "Err(\"one or more bytes are not ASCII\")",
+    );
+    // Display for AsAsciiStrError::fmt
+    shows(
+        &rt,
+        alloc,
+        &bytes::as_ascii_str(b"ab\xc4").map_err(|e| e.to_string(alloc)),
+        "Err(Ok(\"the byte at index 2 is not ASCII\"))",
+    );
+    // Debug for AsAsciiStrError::fmt
+    shows(
+        &rt,
+        alloc,
+        &bytes::as_ascii_str(b"ab\xc4"),
+        "Err(AsAsciiStrError(2))",
+    );
+    Ok(())
+}
+
+#[test]
+fn ascii_str_mut_1(rt: HostRuntime) -> Result<(), Fail> {
+    let alloc = rt.alloc();
+    // AsciiStrMut::set
+    {
+        let mut source = *b"foo";
+        bytes::as_mut_ascii_str_unchecked(&mut source).set(0, AsciiChar::z);
+        shows(&rt, alloc, &(source == *b"zoo"), "true");
+    }
+    // AsciiStrMut::make_ascii_uppercase
+    {
+        let mut source = *b"foo";
+        bytes::as_mut_ascii_str_unchecked(&mut source).make_ascii_uppercase();
+        shows(&rt, alloc, &(source == *b"FOO"), "true");
+    }
+    Ok(())
+}
+
+#[test]
+fn ascii_str_mut_2(rt: HostRuntime) -> Result<(), Fail> {
+    let alloc = rt.alloc();
+    // AsciiStrMut::make_ascii_lowercase
+    {
+        let mut source = *b"FOO";
+        bytes::as_mut_ascii_str_unchecked(&mut source).make_ascii_lowercase();
+        shows(&rt, alloc, &(source == *b"foo"), "true");
+    }
+    // AsciiStrMut::as_ascii_str
+    {
+        let mut source = *b"foo";
+        shows(
+            &rt,
+            alloc,
+            &bytes::as_mut_ascii_str_unchecked(&mut source)
+                .as_ascii_str()
+                .len(),
+            "3",
+        );
+    }
+    Ok(())
+}
+
+#[test]
+fn ascii_string_1(rt: HostRuntime) -> Result<(), Fail> {
+    let alloc = rt.alloc();
+    // AsciiString::new
+    shows(&rt, alloc, &AsciiString::new(alloc).len(), "0");
+    // AsciiString::with_capacity
+    shows(
+        &rt,
+        alloc,
+        &(AsciiString::with_capacity(alloc, 10)?.capacity() >= 10),
+        "true",
+    );
+    // AsciiString::from_ascii_unchecked
+    shows(
+        &rt,
+        alloc,
+        &AsciiString::from_ascii_unchecked(Vec::from_slice(alloc, b"foo")?),
+        "\"foo\"",
+    );
+    Ok(())
+}
+
+#[test]
+fn ascii_string_2(rt: HostRuntime) -> Result<(), Fail> {
+    let alloc = rt.alloc();
+    // AsciiString::as_ascii_str
+    shows(
+        &rt,
+        alloc,
+        &view("foo").to_ascii_string(alloc)?.as_ascii_str(),
+        "\"foo\"",
+    );
+    // AsciiString::capacity
+    shows(&rt, alloc, &AsciiString::new(alloc).capacity(), "0");
+    // AsciiString::reserve
+    {
+        let mut text = view("foo").to_ascii_string(alloc)?;
+        shows(&rt, alloc, &text.reserve(10), "Ok(())");
+        shows(&rt, alloc, &(text.capacity() >= 13), "true");
+    }
+    Ok(())
+}
+
+#[test]
+fn ascii_string_3(rt: HostRuntime) -> Result<(), Fail> {
+    let alloc = rt.alloc();
+    // AsciiString::reserve_exact
+    {
+        let mut text = view("foo").to_ascii_string(alloc)?;
+        shows(&rt, alloc, &text.reserve_exact(10), "Ok(())");
+        shows(&rt, alloc, &(text.capacity() >= 13), "true");
+    }
+    // AsciiString::shrink_to_fit
+    {
+        let mut text = AsciiString::with_capacity(alloc, 10)?;
+        shows(&rt, alloc, &text.shrink_to_fit(), "Ok(())");
+        shows(&rt, alloc, &text.capacity(), "0");
+    }
+    Ok(())
+}
+
+#[test]
+fn ascii_string_4(rt: HostRuntime) -> Result<(), Fail> {
+    let alloc = rt.alloc();
+    // AsciiString::push
+    {
+        let mut text = view("fo").to_ascii_string(alloc)?;
+        shows(&rt, alloc, &text.push(AsciiChar::o), "Ok(())");
+        shows(&rt, alloc, &text, "\"foo\"");
+    }
+    // AsciiString::push_str
+    {
+        let mut text = view("foo").to_ascii_string(alloc)?;
+        shows(&rt, alloc, &text.push_str(view("bar")), "Ok(())");
+        shows(&rt, alloc, &text, "\"foobar\"");
+    }
+    Ok(())
+}
+
+#[test]
+fn ascii_string_5(rt: HostRuntime) -> Result<(), Fail> {
+    let alloc = rt.alloc();
+    // AsciiString::insert
+    {
+        let mut text = view("fo").to_ascii_string(alloc)?;
+        shows(&rt, alloc, &text.insert(0, AsciiChar::z), "Ok(())");
+        shows(&rt, alloc, &text, "\"zfo\"");
+    }
+    // AsciiString::insert_str
+    {
+        let mut text = view("fo").to_ascii_string(alloc)?;
+        shows(&rt, alloc, &text.insert_str(1, view("lo")), "Ok(())");
+        shows(&rt, alloc, &text, "\"floo\"");
+    }
+    Ok(())
+}
+
+#[test]
+fn ascii_string_6(rt: HostRuntime) -> Result<(), Fail> {
+    let alloc = rt.alloc();
+    // AsciiString::remove
+    {
+        let mut text = view("foo").to_ascii_string(alloc)?;
+        shows(&rt, alloc, &text.remove(0), "'f'");
+        shows(&rt, alloc, &text, "\"oo\"");
+    }
+    // AsciiString::pop
+    {
+        let mut text = view("fo").to_ascii_string(alloc)?;
+        shows(&rt, alloc, &text.pop(), "Some('o')");
+        shows(&rt, alloc, &text, "\"f\"");
+    }
+    Ok(())
+}
+
+#[test]
+fn ascii_string_7(rt: HostRuntime) -> Result<(), Fail> {
+    let alloc = rt.alloc();
+    // AsciiString::truncate
+    {
+        let mut text = view("foo").to_ascii_string(alloc)?;
+        text.truncate(2);
+        shows(&rt, alloc, &text, "\"fo\"");
+    }
+    Ok(())
+}
+
+#[test]
+fn ascii_string_8(rt: HostRuntime) -> Result<(), Fail> {
+    let alloc = rt.alloc();
+    // AsciiString::clear
+    {
+        let mut text = view("foo").to_ascii_string(alloc)?;
+        text.clear();
+        shows(&rt, alloc, &text, "\"\"");
+    }
+    Ok(())
+}
+
+#[test]
+fn ascii_string_9(rt: HostRuntime) -> Result<(), Fail> {
+    let alloc = rt.alloc();
+    // AsciiString::set
+    {
+        let mut text = view("foo").to_ascii_string(alloc)?;
+        text.set(0, AsciiChar::z);
+        shows(&rt, alloc, &text, "\"zoo\"");
+    }
+    Ok(())
+}
+
+#[test]
+fn ascii_string_10(rt: HostRuntime) -> Result<(), Fail> {
+    let alloc = rt.alloc();
+    // AsciiString::make_ascii_uppercase
+    {
+        let mut text = view("foo").to_ascii_string(alloc)?;
+        text.make_ascii_uppercase();
+        shows(&rt, alloc, &text, "\"FOO\"");
+    }
+    Ok(())
+}
+
+#[test]
+fn ascii_string_11(rt: HostRuntime) -> Result<(), Fail> {
+    let alloc = rt.alloc();
+    // AsciiString::make_ascii_lowercase
+    {
+        let mut text = view("FOO").to_ascii_string(alloc)?;
+        text.make_ascii_lowercase();
+        shows(&rt, alloc, &text, "\"foo\"");
+    }
+    // AsciiString::len
+    shows(&rt, alloc, &view("foo").to_ascii_string(alloc)?.len(), "3");
+    Ok(())
+}
+
+#[test]
+fn ascii_string_12(rt: HostRuntime) -> Result<(), Fail> {
+    let alloc = rt.alloc();
+    // AsciiString::is_empty
+    shows(
+        &rt,
+        alloc,
+        &view("foo").to_ascii_string(alloc)?.is_empty(),
+        "false",
+    );
+    // Clone for AsciiString::clone
+    shows(
+        &rt,
+        alloc,
+        &view("foo").to_ascii_string(alloc)?.clone()?,
+        "\"foo\"",
+    );
+    Ok(())
+}
+
+#[test]
+fn ascii_string_13(rt: HostRuntime) -> Result<(), Fail> {
+    let alloc = rt.alloc();
+    // PartialEq for AsciiString::eq
+    shows(
+        &rt,
+        alloc,
+        &(view("foo").to_ascii_string(alloc)? == view("foo").to_ascii_string(alloc)?),
+        "true",
+    );
+    // PartialOrd for AsciiString::partial_cmp
+    shows(
+        &rt,
+        alloc,
+        &(view("foo").to_ascii_string(alloc)? < view("fop").to_ascii_string(alloc)?),
+        "true",
+    );
+    Ok(())
+}
+
+#[test]
+fn ascii_string_14(rt: HostRuntime) -> Result<(), Fail> {
+    let alloc = rt.alloc();
+    // Ord for AsciiString::cmp
+    shows(
+        &rt,
+        alloc,
+        &view("foo")
+            .to_ascii_string(alloc)?
+            .cmp(&view("fo").to_ascii_string(alloc)?),
+        "Greater",
+    );
+    Ok(())
+}
+
+#[test]
+fn ascii_string_15(rt: HostRuntime) -> Result<(), Fail> {
+    let alloc = rt.alloc();
+    // Hash for AsciiString::hash
+    {
+        let mut seen = HashSet::new(alloc);
+        seen.insert(view("foo").to_ascii_string(alloc)?)?;
+        shows(
+            &rt,
+            alloc,
+            &seen.contains(&view("foo").to_ascii_string(alloc)?),
+            "true",
+        );
+    }
+    Ok(())
+}
+
+#[test]
+fn ascii_string_16(rt: HostRuntime) -> Result<(), Fail> {
+    let alloc = rt.alloc();
+    // Display for AsciiString::fmt
+    shows(
+        &rt,
+        alloc,
+        &format!(in alloc; "{}", view("foo").to_ascii_string(alloc)?)?,
+        "\"foo\"",
+    );
+    Ok(())
+}
+
+#[test]
+fn ascii_string_17(rt: HostRuntime) -> Result<(), Fail> {
+    let alloc = rt.alloc();
+    // Debug for AsciiString::fmt
+    shows(
+        &rt,
+        alloc,
+        &format!(in alloc; "{:?}", view("foo").to_ascii_string(alloc)?)?,
+        "\"\\\"foo\\\"\"",
+    );
+    Ok(())
+}
+
+#[test]
+fn ascii_string_18(rt: HostRuntime) -> Result<(), Fail> {
+    let alloc = rt.alloc();
+    // AsciiString::write_char
+    {
+        let mut text = view("foo").to_ascii_string(alloc)?;
+        shows(&rt, alloc, &text.write_char('d'), "Ok(())");
+        shows(&rt, alloc, &text.write_char('č'), "Err(Error)");
+        shows(&rt, alloc, &text, "\"food\"");
+    }
+    // Write for AsciiString::write_str
+    {
+        let mut text = view("foo").to_ascii_string(alloc)?;
+        shows(&rt, alloc, &write!(text, "{}", 7), "Ok(())");
+        shows(&rt, alloc, &text, "\"foo7\"");
+    }
+    Ok(())
+}
+
+#[test]
+fn ascii_string_19(rt: HostRuntime) -> Result<(), Fail> {
+    let alloc = rt.alloc();
+    // AsciiString::into_boxed_ascii_str
+    shows(
+        &rt,
+        alloc,
+        &view("foo")
+            .to_ascii_string(alloc)?
+            .into_boxed_ascii_str()
+            .is_ok(),
+        "true",
+    );
+    // AsciiString::into_rc_ascii_str
+    shows(
+        &rt,
+        alloc,
+        &view("foo")
+            .to_ascii_string(alloc)?
+            .into_rc_ascii_str(alloc)
+            .is_ok(),
+        "true",
+    );
+    Ok(())
+}
+
+#[test]
+fn ascii_string_20(rt: HostRuntime) -> Result<(), Fail> {
+    let alloc = rt.alloc();
+    // AsciiString::extend_chars
+    {
+        let mut text = view("foo").to_ascii_string(alloc)?;
+        shows(
+            &rt,
+            alloc,
+            &text.extend_chars(view("bar").chars()),
+            "Ok(())",
+        );
+        shows(&rt, alloc, &text, "\"foobar\"");
+    }
+    // AsciiString::extend_strs
+    {
+        let mut text = view("a").to_ascii_string(alloc)?;
+        shows(
+            &rt,
+            alloc,
+            &text.extend_strs(view("b,c").split(AsciiChar::Comma)),
+            "Ok(())",
+        );
+        shows(&rt, alloc, &text, "\"abc\"");
+    }
+    Ok(())
+}
+
+#[test]
+fn ascii_string_21(rt: HostRuntime) -> Result<(), Fail> {
+    let alloc = rt.alloc();
+    // AsciiString::collect_chars
+    shows(
+        &rt,
+        alloc,
+        &AsciiString::collect_chars(alloc, view("foo").chars().rev())?,
+        "\"oof\"",
+    );
+    // AsciiString::collect_strs
+    shows(
+        &rt,
+        alloc,
+        &AsciiString::collect_strs(alloc, view("b,c").split(AsciiChar::Comma))?,
+        "\"bc\"",
+    );
+    // AsciiString::from_char
+    shows(
+        &rt,
+        alloc,
+        &AsciiString::from_char(alloc, AsciiChar::a)?,
+        "\"a\"",
+    );
+    Ok(())
+}
+
+#[test]
+fn ascii_string_22(rt: HostRuntime) -> Result<(), Fail> {
+    let alloc = rt.alloc();
+    // AsciiString::from_chars
+    shows(
+        &rt,
+        alloc,
+        &AsciiString::from_chars(alloc, &[AsciiChar::a, AsciiChar::b])?,
+        "\"ab\"",
+    );
+    // AsciiString::into_chars
+    shows(
+        &rt,
+        alloc,
+        &view("ab").to_ascii_string(alloc)?.into_chars(alloc),
+        "Ok(['a', 'b'])",
+    );
+    Ok(())
+}
+
+#[test]
+fn ascii_string_23(rt: HostRuntime) -> Result<(), Fail> {
+    let alloc = rt.alloc();
+    // AsciiString::to_json
+    shows(
+        &rt,
+        alloc,
+        &view("foo")
+            .to_ascii_string(alloc)?
+            .to_json(alloc)?
+            .to_string(alloc)?,
+        "\"\\\"foo\\\"\"",
+    );
+    Ok(())
+}
+
+#[test]
+fn vec_1(rt: HostRuntime) -> Result<(), Fail> {
+    let alloc = rt.alloc();
+    // From<AsciiString> for Vec::from
+    shows(
+        &rt,
+        alloc,
+        &Vec::from(view("foo").to_ascii_string(alloc)?),
+        "[102, 111, 111]",
+    );
+    // vec::into_ascii_string
+    shows(
+        &rt,
+        alloc,
+        &vec::into_ascii_string(Vec::from_slice(alloc, b"foo")?),
+        "Ok(\"foo\")",
+    );
+    // vec::from_ascii
+    shows(
+        &rt,
+        alloc,
+        &vec::from_ascii(Vec::from_slice(alloc, b"foo")?),
+        "Ok(\"foo\")",
+    );
+    Ok(())
+}
+
+#[test]
+fn string_1(rt: HostRuntime) -> Result<(), Fail> {
+    let alloc = rt.alloc();
+    // From<AsciiString> for String::from
+    shows(
+        &rt,
+        alloc,
+        &String::from(view("foo").to_ascii_string(alloc)?),
+        "\"foo\"",
+    );
+    // string::into_ascii_string
+    shows(
+        &rt,
+        alloc,
+        &string::into_ascii_string(String::from_str(alloc, "foo")?),
+        "Ok(\"foo\")",
+    );
+    // string::from_ascii
+    shows(
+        &rt,
+        alloc,
+        &string::from_ascii(String::from_str(alloc, "foo")?),
+        "Ok(\"foo\")",
+    );
+    Ok(())
+}
+
+#[test]
+fn boxed_ascii_str_1(rt: HostRuntime) -> Result<(), Fail> {
+    let alloc = rt.alloc();
+    // BoxedAsciiStr::from_ascii_str
+    shows(
+        &rt,
+        alloc,
+        &BoxedAsciiStr::from_ascii_str(alloc, view("foo"))?.as_ascii_str(),
+        "\"foo\"",
+    );
+    // BoxedAsciiStr::as_ascii_str
+    shows(
+        &rt,
+        alloc,
+        &BoxedAsciiStr::from_ascii_str(alloc, view("foo"))?
+            .as_ascii_str()
+            .len(),
+        "3",
+    );
+    // BoxedAsciiStr::into_ascii_string
+    shows(
+        &rt,
+        alloc,
+        &BoxedAsciiStr::from_ascii_str(alloc, view("foo"))?
+            .into_ascii_string()
+            .ok(),
+        "Some(\"foo\")",
+    );
+    Ok(())
+}
+
+#[test]
+fn boxed_ascii_str_2(rt: HostRuntime) -> Result<(), Fail> {
+    let alloc = rt.alloc();
+    // BoxedAsciiStr::into_boxed_str
+    shows(
+        &rt,
+        alloc,
+        &BoxedAsciiStr::from_ascii_str(alloc, view("foo"))?.into_boxed_str(),
+        "\"foo\"",
+    );
+    Ok(())
+}
+
+#[test]
+fn rc_ascii_str_1(rt: HostRuntime) -> Result<(), Fail> {
+    let alloc = rt.alloc();
+    // RcAsciiStr::from_ascii_str
+    shows(
+        &rt,
+        alloc,
+        &RcAsciiStr::from_ascii_str(alloc, view("foo"))?.as_ascii_str(),
+        "\"foo\"",
+    );
+    // RcAsciiStr::as_ascii_str
+    shows(
+        &rt,
+        alloc,
+        &RcAsciiStr::from_ascii_str(alloc, view("foo"))?
+            .as_ascii_str()
+            .len(),
+        "3",
+    );
+    Ok(())
+}
+
+#[test]
+fn rc_ascii_str_2(rt: HostRuntime) -> Result<(), Fail> {
+    let alloc = rt.alloc();
+    // Clone for RcAsciiStr::clone
+    shows(
+        &rt,
+        alloc,
+        &RcAsciiStr::from_ascii_str(alloc, view("foo"))?
+            .clone()?
+            .as_ascii_str(),
+        "\"foo\"",
+    );
+    Ok(())
+}
+
+#[test]
+fn cow_ascii_str_1(rt: HostRuntime) -> Result<(), Fail> {
+    let alloc = rt.alloc();
+    // CowAsciiStr::as_ascii_str
+    {
+        let cow: CowAsciiStr = view("foo").into();
+        shows(&rt, alloc, &cow.as_ascii_str(), "\"foo\"");
+    }
+    // CowAsciiStr::into_owned
+    {
+        let cow: CowAsciiStr = view("foo").into();
+        shows(&rt, alloc, &cow.into_owned(alloc).ok(), "Some(\"foo\")");
+    }
+    // From<AsciiStr> for CowAsciiStr::from
+    {
+        let cow: CowAsciiStr = view("foo").into();
+        shows(&rt, alloc, &cow.as_ascii_str(), "\"foo\"");
+    }
+    Ok(())
+}
+
+#[test]
+fn cow_ascii_str_2(rt: HostRuntime) -> Result<(), Fail> {
+    let alloc = rt.alloc();
+    // From<AsciiString> for CowAsciiStr::from
+    {
+        let cow: CowAsciiStr = view("foo").to_ascii_string(alloc)?.into();
+        shows(&rt, alloc, &cow.as_ascii_str(), "\"foo\"");
+    }
+    Ok(())
+}
+
+#[test]
+fn bytes_1(rt: HostRuntime) -> Result<(), Fail> {
+    let alloc = rt.alloc();
+    // bytes::as_ascii_str
+    shows(&rt, alloc, &bytes::as_ascii_str(b"foo"), "Ok(\"foo\")");
+    shows(
+        &rt,
+        alloc,
+        &bytes::as_ascii_str(b"ab\xc4"),
+        "Err(AsAsciiStrError(2))",
+    );
+    // bytes::from_ascii
+    shows(&rt, alloc, &bytes::from_ascii(b"foo"), "Ok(\"foo\")");
+    // bytes::slice_ascii
+    shows(
+        &rt,
+        alloc,
+        &bytes::slice_ascii(b"ab\xc4d", AsciiRange::From(3)),
+        "Ok(\"d\")",
+    );
+    shows(
+        &rt,
+        alloc,
+        &bytes::slice_ascii(b"ab\xc4d", AsciiRange::From(1)),
+        "Err(AsAsciiStrError(2))",
+    );
+    shows(
+        &rt,
+        alloc,
+        &bytes::slice_ascii(b"ab\xc4d", AsciiRange::From(5)),
+        "Err(AsAsciiStrError(4))",
+    );
+    // bytes::get_ascii
+    shows(&rt, alloc, &bytes::get_ascii(b"ab\xc4", 1), "Some('b')");
+    shows(&rt, alloc, &bytes::get_ascii(b"ab\xc4", 2), "None");
+    // bytes::as_ascii_str_unchecked
+    shows(
+        &rt,
+        alloc,
+        &bytes::as_ascii_str_unchecked(b"foo"),
+        "\"foo\"",
+    );
+    // bytes::from_ascii_unchecked
+    shows(&rt, alloc, &bytes::from_ascii_unchecked(b"foo"), "\"foo\"");
+    Ok(())
+}
+
+#[test]
+fn bytes_2(rt: HostRuntime) -> Result<(), Fail> {
+    let alloc = rt.alloc();
+    // bytes::to_ascii_string
+    shows(
+        &rt,
+        alloc,
+        &bytes::to_ascii_string(alloc, b"foo"),
+        "Ok(\"foo\")",
+    );
+    // bytes::slice_ascii_mut_unchecked
+    {
+        let mut source = *b"foo";
+        bytes::slice_ascii_mut_unchecked(&mut source, AsciiRange::From(1)).make_ascii_uppercase();
+        shows(&rt, alloc, &(source == *b"fOO"), "true");
+    }
+    Ok(())
+}
+
+#[test]
+fn bytes_3(rt: HostRuntime) -> Result<(), Fail> {
+    let alloc = rt.alloc();
+    // bytes::as_mut_ascii_str_unchecked
+    {
+        let mut source = *b"foo";
+        bytes::as_mut_ascii_str_unchecked(&mut source).make_ascii_uppercase();
+        shows(&rt, alloc, &(source == *b"FOO"), "true");
+    }
+    Ok(())
+}
+
+#[test]
+fn bytes_4(rt: HostRuntime) -> Result<(), Fail> {
+    let alloc = rt.alloc();
+    // bytes::slice_ascii_mut
+    {
+        let mut source = *b"foo\xc4";
+        if let Ok(mut view) = bytes::slice_ascii_mut(&mut source, AsciiRange::To(2)) {
+            view.make_ascii_uppercase();
+        }
+        shows(&rt, alloc, &(source == *b"FOo\xc4"), "true");
+    }
+    Ok(())
+}
+
+#[test]
+fn bytes_5(rt: HostRuntime) -> Result<(), Fail> {
+    let alloc = rt.alloc();
+    // bytes::as_mut_ascii_str
+    {
+        let mut source = *b"foo";
+        if let Ok(mut view) = bytes::as_mut_ascii_str(&mut source) {
+            view.make_ascii_uppercase();
+        }
+        shows(&rt, alloc, &(source == *b"FOO"), "true");
+    }
+    Ok(())
+}
+
+#[test]
+fn from_ascii_error_1(rt: HostRuntime) -> Result<(), Fail> {
+    let alloc = rt.alloc();
+    // FromAsciiError::ascii_error
+    shows(
+        &rt,
+        alloc,
+        &vec::into_ascii_string(Vec::from_slice(alloc, b"ab\xc4")?).map_err(|e| e.ascii_error()),
+        "Err(AsAsciiStrError(2))",
+    );
+    // FromAsciiError::into_source
+    shows(
+        &rt,
+        alloc,
+        &vec::into_ascii_string(Vec::from_slice(alloc, b"ab\xc4")?).map_err(|e| e.into_source()),
+        "Err([97, 98, 196])",
+    );
+    // Display for FromAsciiError::fmt
+    shows(
+        &rt,
+        alloc,
+        &vec::into_ascii_string(Vec::from_slice(alloc, b"ab\xc4")?).map_err(|e| e.to_string(alloc)),
+        "Err(Ok(\"the byte at index 2 is not ASCII\"))",
+    );
+    Ok(())
+}
+
+#[test]
+fn from_ascii_error_2(rt: HostRuntime) -> Result<(), Fail> {
+    let alloc = rt.alloc();
+    // Debug for FromAsciiError::fmt
+    shows(
+        &rt,
+        alloc,
+        &vec::into_ascii_string(Vec::from_slice(alloc, b"ab\xc4")?),
+        "Err(AsAsciiStrError(2))",
+    );
+    Ok(())
+}
+
+#[test]
+fn chars_1(rt: HostRuntime) -> Result<(), Fail> {
+    let alloc = rt.alloc();
+    // Chars::as_str
+    {
+        let mut chars = view("foo").chars();
+        shows(&rt, alloc, &chars.next(), "Some('f')");
+        shows(&rt, alloc, &chars.as_str(), "\"oo\"");
+    }
+    // Clone for Chars::clone
+    {
+        let mut chars = view("foo").chars();
+        let copy = chars.clone()?;
+        shows(&rt, alloc, &chars.next(), "Some('f')");
+        shows(&rt, alloc, &copy.as_str(), "\"foo\"");
+    }
+    Ok(())
+}
+
+#[test]
+fn chars_2(rt: HostRuntime) -> Result<(), Fail> {
+    let alloc = rt.alloc();
+    // Iterator for Chars::next
+    shows(&rt, alloc, &view("foo").chars().next(), "Some('f')");
+    // Iterator for Chars::size_hint
+    shows(&rt, alloc, &view("foo").chars().size_hint(), "(3, Some(3))");
+    // DoubleEndedIterator for Chars::next_back
+    shows(&rt, alloc, &view("foo").chars().next_back(), "Some('o')");
+    // ExactSizeIterator for Chars::len
+    shows(&rt, alloc, &view("foo").chars().len(), "3");
+    Ok(())
+}
+
+#[test]
+fn chars_ref_1(rt: HostRuntime) -> Result<(), Fail> {
+    let alloc = rt.alloc();
+    // CharsRef::as_str
+    shows(&rt, alloc, &view("foo").into_iter().as_str(), "\"foo\"");
+    // Clone for CharsRef::clone
+    shows(
+        &rt,
+        alloc,
+        &view("foo").into_iter().clone()?.as_str(),
+        "\"foo\"",
+    );
+    // Iterator for CharsRef::next
+    shows(&rt, alloc, &view("foo").into_iter().next(), "Some('f')");
+    // Iterator for CharsRef::size_hint
+    shows(
+        &rt,
+        alloc,
+        &view("foo").into_iter().size_hint(),
+        "(3, Some(3))",
+    );
+    // DoubleEndedIterator for CharsRef::next_back
+    shows(
+        &rt,
+        alloc,
+        &view("foo").into_iter().next_back(),
+        "Some('o')",
+    );
+    Ok(())
+}
+
+#[test]
+fn line_spans_1(rt: HostRuntime) -> Result<(), Fail> {
+    let alloc = rt.alloc();
+    // Clone for LineSpans::clone
+    shows(
+        &rt,
+        alloc,
+        &view("x\ny").line_spans().clone()?.remainder(),
+        "Some((0, \"x\\ny\"))",
+    );
+    // Iterator for LineSpans::next
+    shows(
+        &rt,
+        alloc,
+        &view("x\ny").line_spans().next(),
+        "Some(LineSpan { start: 0, text: \"x\", ending: Lf })",
+    );
+    // DoubleEndedIterator for LineSpans::next_back
+    shows(
+        &rt,
+        alloc,
+        &view("x\ny").line_spans().next_back(),
+        "Some(LineSpan { start: 2, text: \"y\", ending: Absent })",
+    );
+    // LineSpans::remainder
+    {
+        let mut spans = view("x\r\ny").line_spans();
+        shows(
+            &rt,
+            alloc,
+            &spans.next(),
+            "Some(LineSpan { start: 0, text: \"x\", ending: CrLf })",
+        );
+        shows(&rt, alloc, &spans.remainder(), "Some((3, \"y\"))");
+    }
+    Ok(())
+}
+
+#[test]
+fn lines_1(rt: HostRuntime) -> Result<(), Fail> {
+    let alloc = rt.alloc();
+    // Clone for Lines::clone
+    shows(
+        &rt,
+        alloc,
+        &view("x\ny").lines().clone()?.remainder(),
+        "Some(\"x\\ny\")",
+    );
+    // Iterator for Lines::next
+    shows(&rt, alloc, &view("\nx").lines().next(), "Some(\"\")");
+    // DoubleEndedIterator for Lines::next_back
+    shows(&rt, alloc, &view("x\n").lines().next_back(), "Some(\"x\")");
+    // Lines::remainder
+    {
+        let mut lines = view("x\r\ny").lines();
+        shows(&rt, alloc, &lines.next(), "Some(\"x\")");
+        shows(&rt, alloc, &lines.remainder(), "Some(\"y\")");
+    }
+    Ok(())
+}
+
+#[test]
+fn split_spans_1(rt: HostRuntime) -> Result<(), Fail> {
+    let alloc = rt.alloc();
+    // Clone for SplitSpans::clone
+    shows(
+        &rt,
+        alloc,
+        &view("foo;bar")
+            .split_spans(AsciiChar::Semicolon)
+            .clone()?
+            .remainder(),
+        "Some((0, \"foo;bar\"))",
+    );
+    // Iterator for SplitSpans::next
+    shows(
+        &rt,
+        alloc,
+        &view(";foo").split_spans(AsciiChar::Semicolon).next(),
+        "Some(SplitSpan { start: 0, text: \"\" })",
+    );
+    // DoubleEndedIterator for SplitSpans::next_back
+    shows(
+        &rt,
+        alloc,
+        &view(";foo").split_spans(AsciiChar::Semicolon).next_back(),
+        "Some(SplitSpan { start: 1, text: \"foo\" })",
+    );
+    // SplitSpans::remainder
+    {
+        let mut spans = view("foo;bar").split_spans(AsciiChar::Semicolon);
+        shows(
+            &rt,
+            alloc,
+            &spans.next(),
+            "Some(SplitSpan { start: 0, text: \"foo\" })",
+        );
+        shows(&rt, alloc, &spans.remainder(), "Some((4, \"bar\"))");
+    }
+    Ok(())
+}
+
+#[test]
+fn split_1(rt: HostRuntime) -> Result<(), Fail> {
+    let alloc = rt.alloc();
+    // Clone for Split::clone
+    {
+        let mut pieces = view("foo;bar").split(AsciiChar::Semicolon);
+        let copy = pieces.clone()?;
+        shows(&rt, alloc, &pieces.next(), "Some(\"foo\")");
+        shows(&rt, alloc, &copy.remainder(), "Some(\"foo;bar\")");
+    }
+    // Iterator for Split::next
+    shows(
+        &rt,
+        alloc,
+        &view(";foo").split(AsciiChar::Semicolon).next(),
+        "Some(\"\")",
+    );
+    // DoubleEndedIterator for Split::next_back
+    shows(
+        &rt,
+        alloc,
+        &view(";foo").split(AsciiChar::Semicolon).next_back(),
+        "Some(\"foo\")",
+    );
+    Ok(())
+}
+
+#[test]
+fn split_2(rt: HostRuntime) -> Result<(), Fail> {
+    let alloc = rt.alloc();
+    // Split::remainder
+    {
+        let mut pieces = view("foo;bar;baz").split(AsciiChar::Semicolon);
+        shows(&rt, alloc, &pieces.next(), "Some(\"foo\")");
+        shows(&rt, alloc, &pieces.remainder(), "Some(\"bar;baz\")");
+    }
+    Ok(())
+}
+
+#[test]
+fn iter_1(rt: HostRuntime) -> Result<(), Fail> {
+    let alloc = rt.alloc();
+    // iter::take_end
+    shows(
+        &rt,
+        alloc,
+        &take_end(&mut view("x\ny").lines(), End::Back),
+        "Some(\"y\")",
+    );
+    // iter::walk_split
+    shows(
+        &rt,
+        alloc,
+        &walk_split(
+            alloc,
+            view("a,b"),
+            AsciiChar::Comma,
+            &[End::Back, End::Front, End::Back],
+        )?,
+        "[Some(\"b\"), Some(\"a\"), None]",
+    );
+    // iter::walk_lines
+    shows(
+        &rt,
+        alloc,
+        &walk_lines(alloc, view("a\nb"), &[End::Back, End::Front])?,
+        "[Some(\"b\"), Some(\"a\")]",
+    );
+    Ok(())
+}
+
+#[test]
+fn iter_2(rt: HostRuntime) -> Result<(), Fail> {
+    let alloc = rt.alloc();
+    // iter::walk_split_spans
+    shows(
+        &rt,
+        alloc,
+        &walk_split_spans(alloc, view("a,b"), AsciiChar::Comma, &[End::Back])?,
+        "[Some(SplitSpan { start: 2, text: \"b\" })]",
+    );
+    // iter::walk_line_spans
+    shows(
+        &rt,
+        alloc,
+        &walk_line_spans(alloc, view("a\nb"), &[End::Front])?,
+        "[Some(LineSpan { start: 0, text: \"a\", ending: Lf })]",
+    );
+    Ok(())
+}
+
+#[test]
+fn json_1(rt: HostRuntime) -> Result<(), Fail> {
+    let alloc = rt.alloc();
+    // json::char_to_json
+    shows(
+        &rt,
+        alloc,
+        &char_to_json(alloc, AsciiChar::a)?.to_string(alloc)?,
+        "\"\\\"a\\\"\"",
+    );
+    // json::char_from_json
+    shows(
+        &rt,
+        alloc,
+        &char_from_json(&Value::from_str(alloc, "\"a\"")?),
+        "Ok('a')",
+    );
+    shows(
+        &rt,
+        alloc,
+        &char_from_json(&Value::from_str(alloc, "\"ab\"")?),
+        "Err(NotOneByte)",
+    );
+    Ok(())
+}
+
+#[test]
+fn json_2(rt: HostRuntime) -> Result<(), Fail> {
+    let alloc = rt.alloc();
+    // json::str_from_json
+    shows(
+        &rt,
+        alloc,
+        &str_from_json(&Value::from_str(alloc, "\"foo\"")?),
+        "Ok(\"foo\")",
+    );
+    shows(
+        &rt,
+        alloc,
+        &str_from_json(&Value::from_str(alloc, "7")?),
+        "Err(NotText)",
+    );
+    // json::string_from_json
+    shows(
+        &rt,
+        alloc,
+        &string_from_json(alloc, &Value::from_str(alloc, "\"foo\"")?),
+        "Ok(\"foo\")",
+    );
+    Ok(())
+}
+
+#[test]
+fn text_1(rt: HostRuntime) -> Result<(), Fail> {
+    let alloc = rt.alloc();
+    // text::as_ascii_str
+    shows(&rt, alloc, &text::as_ascii_str("foo"), "Ok(\"foo\")");
+    shows(
+        &rt,
+        alloc,
+        &text::as_ascii_str("abč"),
+        "Err(AsAsciiStrError(2))",
+    );
+    // text::from_ascii
+    shows(&rt, alloc, &text::from_ascii("foo"), "Ok(\"foo\")");
+    // text::slice_ascii
+    shows(
+        &rt,
+        alloc,
+        &text::slice_ascii("abčd", AsciiRange::From(4)),
+        "Ok(\"d\")",
+    );
+    shows(
+        &rt,
+        alloc,
+        &text::slice_ascii("abčd", AsciiRange::To(3)),
+        "Err(AsAsciiStrError(2))",
+    );
+    // text::get_ascii
+    shows(&rt, alloc, &text::get_ascii("abč", 1), "Some('b')");
+    shows(&rt, alloc, &text::get_ascii("abč", 2), "None");
+    // text::as_ascii_str_unchecked
+    shows(&rt, alloc, &text::as_ascii_str_unchecked("foo"), "\"foo\"");
+    // text::from_ascii_unchecked
+    shows(&rt, alloc, &text::from_ascii_unchecked("foo"), "\"foo\"");
+    Ok(())
+}
+
+#[test]
+fn text_2(rt: HostRuntime) -> Result<(), Fail> {
+    let alloc = rt.alloc();
+    // text::to_ascii_string
+    shows(
+        &rt,
+        alloc,
+        &text::to_ascii_string(alloc, "foo"),
+        "Ok(\"foo\")",
+    );
+    Ok(())
+}

@@ -1,0 +1,479 @@
+//! The examples in the documentation of `ascii_run`, made by `bin/examples`.
+
+use super::{shows, view};
+use ascii::bytes;
+use ascii_base::ascii_char::AsciiChar;
+use ascii_run::{
+    AsciiBuf, Cmd, EngineFault, Input, Mode, Output, Sink, SmallAsciiString, Source, engine,
+    plain_run, run, run_both, runs_agree,
+};
+use std::alloc::AllocError;
+use std::collections::HashSet;
+use std::fmt::Write;
+use std::test::Fail;
+
+#[test]
+fn ascii_buf_1(rt: HostRuntime) -> Result<(), Fail> {
+    let alloc = rt.alloc();
+    // AsciiBuf::as_ascii_str
+    shows(
+        &rt,
+        alloc,
+        &AsciiBuf::as_ascii_str(&SmallAsciiString::new(alloc)),
+        "\"\"",
+    );
+    // AsciiBuf::reserve
+    {
+        let mut text = SmallAsciiString::new(alloc);
+        shows(&rt, alloc, &text.reserve(24), "Ok(())");
+    }
+    // AsciiBuf::shrink_to_fit
+    {
+        let mut text = view("foo").to_ascii_string(alloc)?;
+        shows(&rt, alloc, &AsciiBuf::shrink_to_fit(&mut text), "Ok(())");
+        shows(&rt, alloc, &text, "\"foo\"");
+    }
+    Ok(())
+}
+
+#[test]
+fn ascii_buf_2(rt: HostRuntime) -> Result<(), Fail> {
+    let alloc = rt.alloc();
+    // AsciiBuf::push
+    {
+        let mut text = SmallAsciiString::new(alloc);
+        shows(&rt, alloc, &text.push(AsciiChar::a), "Ok(())");
+        shows(&rt, alloc, &text, "\"a\"");
+    }
+    // AsciiBuf::push_str
+    {
+        let mut text = SmallAsciiString::new(alloc);
+        shows(&rt, alloc, &text.push_str(view("foo")), "Ok(())");
+        shows(&rt, alloc, &text, "\"foo\"");
+    }
+    Ok(())
+}
+
+#[test]
+fn ascii_buf_3(rt: HostRuntime) -> Result<(), Fail> {
+    let alloc = rt.alloc();
+    // AsciiBuf::insert
+    {
+        let mut text = SmallAsciiString::from_ascii_str(alloc, view("fo"))?;
+        shows(&rt, alloc, &text.insert(0, AsciiChar::z), "Ok(())");
+        shows(&rt, alloc, &text, "\"zfo\"");
+    }
+    // AsciiBuf::insert_str
+    {
+        let mut text = SmallAsciiString::from_ascii_str(alloc, view("fo"))?;
+        shows(&rt, alloc, &text.insert_str(1, view("lo")), "Ok(())");
+        shows(&rt, alloc, &text, "\"floo\"");
+    }
+    Ok(())
+}
+
+#[test]
+fn ascii_buf_4(rt: HostRuntime) -> Result<(), Fail> {
+    let alloc = rt.alloc();
+    // AsciiBuf::remove
+    {
+        let mut text = SmallAsciiString::from_ascii_str(alloc, view("foo"))?;
+        shows(&rt, alloc, &text.remove(0), "'f'");
+        shows(&rt, alloc, &text, "\"oo\"");
+    }
+    // AsciiBuf::pop
+    {
+        let mut text = SmallAsciiString::from_ascii_str(alloc, view("fo"))?;
+        shows(&rt, alloc, &text.pop(), "Some('o')");
+        shows(&rt, alloc, &text, "\"f\"");
+    }
+    Ok(())
+}
+
+#[test]
+fn ascii_buf_5(rt: HostRuntime) -> Result<(), Fail> {
+    let alloc = rt.alloc();
+    // AsciiBuf::truncate
+    {
+        let mut text = SmallAsciiString::from_ascii_str(alloc, view("foo"))?;
+        text.truncate(2);
+        shows(&rt, alloc, &text, "\"fo\"");
+    }
+    Ok(())
+}
+
+#[test]
+fn ascii_buf_6(rt: HostRuntime) -> Result<(), Fail> {
+    let alloc = rt.alloc();
+    // AsciiBuf::clear
+    {
+        let mut text = SmallAsciiString::from_ascii_str(alloc, view("foo"))?;
+        text.clear();
+        shows(&rt, alloc, &text, "\"\"");
+    }
+    Ok(())
+}
+
+#[test]
+fn ascii_buf_7(rt: HostRuntime) -> Result<(), Fail> {
+    let alloc = rt.alloc();
+    // AsciiBuf::set
+    {
+        let mut text = SmallAsciiString::from_ascii_str(alloc, view("foo"))?;
+        text.set(0, AsciiChar::z);
+        shows(&rt, alloc, &text, "\"zoo\"");
+    }
+    Ok(())
+}
+
+#[test]
+fn ascii_buf_8(rt: HostRuntime) -> Result<(), Fail> {
+    let alloc = rt.alloc();
+    // AsciiBuf::make_ascii_uppercase
+    {
+        let mut text = SmallAsciiString::from_ascii_str(alloc, view("foo"))?;
+        text.make_ascii_uppercase();
+        shows(&rt, alloc, &text, "\"FOO\"");
+    }
+    Ok(())
+}
+
+#[test]
+fn ascii_buf_9(rt: HostRuntime) -> Result<(), Fail> {
+    let alloc = rt.alloc();
+    // AsciiBuf::make_ascii_lowercase
+    {
+        let mut text = SmallAsciiString::from_ascii_str(alloc, view("FOO"))?;
+        text.make_ascii_lowercase();
+        shows(&rt, alloc, &text, "\"foo\"");
+    }
+    Ok(())
+}
+
+#[test]
+fn small_ascii_string_1(rt: HostRuntime) -> Result<(), Fail> {
+    let alloc = rt.alloc();
+    // SmallAsciiString::new
+    shows(&rt, alloc, &SmallAsciiString::new(alloc).len(), "0");
+    // SmallAsciiString::from_ascii_str
+    shows(
+        &rt,
+        alloc,
+        &SmallAsciiString::from_ascii_str(alloc, view("foo"))?,
+        "\"foo\"",
+    );
+    // SmallAsciiString::as_ascii_str
+    shows(
+        &rt,
+        alloc,
+        &SmallAsciiString::from_ascii_str(alloc, view("foo"))?.as_ascii_str(),
+        "\"foo\"",
+    );
+    Ok(())
+}
+
+#[test]
+fn small_ascii_string_2(rt: HostRuntime) -> Result<(), Fail> {
+    let alloc = rt.alloc();
+    // SmallAsciiString::is_inline
+    shows(
+        &rt,
+        alloc,
+        &SmallAsciiString::from_ascii_str(alloc, view("foo"))?.is_inline(),
+        "true",
+    );
+    // SmallAsciiString::len
+    shows(
+        &rt,
+        alloc,
+        &SmallAsciiString::from_ascii_str(alloc, view("foo"))?.len(),
+        "3",
+    );
+    // SmallAsciiString::is_empty
+    shows(&rt, alloc, &SmallAsciiString::new(alloc).is_empty(), "true");
+    // SmallAsciiString::capacity
+    shows(&rt, alloc, &SmallAsciiString::new(alloc).capacity(), "24");
+    Ok(())
+}
+
+#[test]
+fn small_ascii_string_3(rt: HostRuntime) -> Result<(), Fail> {
+    let alloc = rt.alloc();
+    // SmallAsciiString::into_ascii_string
+    shows(
+        &rt,
+        alloc,
+        &SmallAsciiString::from_ascii_str(alloc, view("foo"))?
+            .into_ascii_string()
+            .ok(),
+        "Some(\"foo\")",
+    );
+    // AsciiBuf for SmallAsciiString::shrink_to_fit
+    {
+        let mut text = SmallAsciiString::from_ascii_str(alloc, view("foo"))?;
+        shows(&rt, alloc, &text.shrink_to_fit(), "Ok(())");
+        shows(&rt, alloc, &text.capacity(), "24");
+    }
+    Ok(())
+}
+
+#[test]
+fn small_ascii_string_4(rt: HostRuntime) -> Result<(), Fail> {
+    let alloc = rt.alloc();
+    // Clone for SmallAsciiString::clone
+    shows(
+        &rt,
+        alloc,
+        &SmallAsciiString::from_ascii_str(alloc, view("foo"))?.clone()?,
+        "\"foo\"",
+    );
+    // PartialEq for SmallAsciiString::eq
+    shows(
+        &rt,
+        alloc,
+        &(SmallAsciiString::new(alloc) == SmallAsciiString::from_ascii_str(alloc, view("foo"))?),
+        "false",
+    );
+    Ok(())
+}
+
+#[test]
+fn small_ascii_string_5(rt: HostRuntime) -> Result<(), Fail> {
+    let alloc = rt.alloc();
+    // PartialOrd for SmallAsciiString::partial_cmp
+    shows(
+        &rt,
+        alloc,
+        &(SmallAsciiString::new(alloc) < SmallAsciiString::from_ascii_str(alloc, view("foo"))?),
+        "true",
+    );
+    // Ord for SmallAsciiString::cmp
+    shows(
+        &rt,
+        alloc,
+        &SmallAsciiString::new(alloc).cmp(&SmallAsciiString::from_ascii_str(alloc, view("foo"))?),
+        "Less",
+    );
+    Ok(())
+}
+
+#[test]
+fn small_ascii_string_6(rt: HostRuntime) -> Result<(), Fail> {
+    let alloc = rt.alloc();
+    // Hash for SmallAsciiString::hash
+    {
+        let mut seen = HashSet::new(alloc);
+        seen.insert(SmallAsciiString::new(alloc))?;
+        shows(
+            &rt,
+            alloc,
+            &seen.contains(&SmallAsciiString::new(alloc)),
+            "true",
+        );
+    }
+    Ok(())
+}
+
+#[test]
+fn small_ascii_string_7(rt: HostRuntime) -> Result<(), Fail> {
+    let alloc = rt.alloc();
+    // Display for SmallAsciiString::fmt
+    shows(
+        &rt,
+        alloc,
+        &format!(in alloc; "{}", SmallAsciiString::from_ascii_str(alloc, view("foo"))?)?,
+        "\"foo\"",
+    );
+    Ok(())
+}
+
+#[test]
+fn small_ascii_string_8(rt: HostRuntime) -> Result<(), Fail> {
+    let alloc = rt.alloc();
+    // Debug for SmallAsciiString::fmt
+    shows(
+        &rt,
+        alloc,
+        &format!(in alloc;
+            "{:?}",
+            SmallAsciiString::from_ascii_str(alloc, view("foo"))?
+        )?,
+        "\"\\\"foo\\\"\"",
+    );
+    // SmallAsciiString::write_char
+    {
+        let mut text = SmallAsciiString::new(alloc);
+        shows(&rt, alloc, &text.write_char('a'), "Ok(())");
+        shows(&rt, alloc, &text.write_char('č'), "Err(Error)");
+        shows(&rt, alloc, &text, "\"a\"");
+    }
+    Ok(())
+}
+
+#[test]
+fn small_ascii_string_9(rt: HostRuntime) -> Result<(), Fail> {
+    let alloc = rt.alloc();
+    // Write for SmallAsciiString::write_str
+    {
+        let mut text = SmallAsciiString::new(alloc);
+        shows(&rt, alloc, &write!(text, "foo{}", 7), "Ok(())");
+        shows(&rt, alloc, &text, "\"foo7\"");
+    }
+    Ok(())
+}
+
+#[test]
+fn run_1(rt: HostRuntime) -> Result<(), Fail> {
+    let alloc = rt.alloc();
+    // run
+    {
+        let mut text = view("foo").to_ascii_string(alloc)?;
+        shows(
+            &rt,
+            alloc,
+            &run(alloc, &mut text, &[Cmd::Pop, Cmd::Len])?,
+            "[Char(Some('o')), Number(2)]",
+        );
+        shows(&rt, alloc, &text, "\"fo\"");
+    }
+    Ok(())
+}
+
+#[test]
+fn plain_run_1(rt: HostRuntime) -> Result<(), Fail> {
+    let alloc = rt.alloc();
+    // plain_run
+    {
+        let mut text = view("foo").to_ascii_string(alloc)?;
+        let replies = run(alloc, &mut text, &[Cmd::Len])?;
+        shows(&rt, alloc, &plain_run(&[Cmd::Len], &replies), "()");
+    }
+    Ok(())
+}
+
+#[test]
+fn runs_agree_1(rt: HostRuntime) -> Result<(), Fail> {
+    let alloc = rt.alloc();
+    // runs_agree
+    {
+        let mut text = view("foo").to_ascii_string(alloc)?;
+        let replies = run(alloc, &mut text, &[Cmd::Len])?;
+        shows(
+            &rt,
+            alloc,
+            &runs_agree(&[Cmd::Len], &replies, &replies),
+            "()",
+        );
+    }
+    Ok(())
+}
+
+#[test]
+fn source_1(rt: HostRuntime) -> Result<(), Fail> {
+    let alloc = rt.alloc();
+    // Source::failures
+    shows(&rt, alloc, &Input::new(b"ab".as_slice()).failures(), "0");
+    // Source::read
+    {
+        let mut input = Input::new(b"ab".as_slice());
+        let mut buffer = [0; 3];
+        shows(&rt, alloc, &input.read(&mut buffer), "Ok(2)");
+        shows(&rt, alloc, &input.read(&mut buffer), "Ok(0)");
+    }
+    Ok(())
+}
+
+#[test]
+fn sink_1(rt: HostRuntime) -> Result<(), Fail> {
+    let alloc = rt.alloc();
+    // Sink::failures
+    shows(&rt, alloc, &Output::new(Vec::new(alloc)).failures(), "0");
+    // Sink::write
+    {
+        let mut output = Output::new(Vec::new(alloc));
+        shows(&rt, alloc, &output.write(b"ab"), "Ok(2)");
+        shows(&rt, alloc, &output.into_inner(), "[97, 98]");
+    }
+    // Sink::flush
+    shows(&rt, alloc, &Output::new(Vec::new(alloc)).flush(), "Ok(())");
+    Ok(())
+}
+
+#[test]
+fn input_1(rt: HostRuntime) -> Result<(), Fail> {
+    let alloc = rt.alloc();
+    // Input::new
+    shows(&rt, alloc, &Input::new(b"ab".as_slice()).failures(), "0");
+    // Input::into_inner
+    shows(
+        &rt,
+        alloc,
+        &Input::new(b"ab".as_slice()).into_inner(),
+        "[97, 98]",
+    );
+    Ok(())
+}
+
+#[test]
+fn output_1(rt: HostRuntime) -> Result<(), Fail> {
+    let alloc = rt.alloc();
+    // Output::new
+    shows(&rt, alloc, &Output::new(Vec::new(alloc)).failures(), "0");
+    // Output::into_inner
+    {
+        let mut output = Output::new(Vec::new(alloc));
+        shows(&rt, alloc, &output.write(b"ab"), "Ok(2)");
+        shows(&rt, alloc, &output.into_inner(), "[97, 98]");
+    }
+    Ok(())
+}
+
+#[test]
+fn engine_fault_1(rt: HostRuntime) -> Result<(), Fail> {
+    let alloc = rt.alloc();
+    // From<AllocError> for EngineFault::from
+    shows(&rt, alloc, &EngineFault::from(AllocError), "Memory");
+    // From<AsAsciiStrError> for EngineFault::from
+    shows(
+        &rt,
+        alloc,
+        &bytes::as_ascii_str(b"ab\xc4").map_err(EngineFault::from),
+        "Err(NotAscii(2))",
+    );
+    Ok(())
+}
+
+#[test]
+fn engine_1(rt: HostRuntime) -> Result<(), Fail> {
+    let alloc = rt.alloc();
+    // engine
+    {
+        let mut output = Output::new(Vec::new(alloc));
+        shows(
+            &rt,
+            alloc,
+            &engine(
+                alloc,
+                Mode::Tac,
+                &mut Input::new(b"x\ny\n".as_slice()),
+                &mut output,
+            ),
+            "Ok(())",
+        );
+        shows(&rt, alloc, &output.into_inner(), "[121, 10, 120, 10]");
+    }
+    Ok(())
+}
+
+#[test]
+fn run_both_1(rt: HostRuntime) -> Result<(), Fail> {
+    let alloc = rt.alloc();
+    // run_both
+    shows(
+        &rt,
+        alloc,
+        &run_both(alloc, view("foo"), &[Cmd::Upper, Cmd::Pop])?.small,
+        "\"FO\"",
+    );
+    Ok(())
+}
