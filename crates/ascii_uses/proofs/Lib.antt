@@ -5,5 +5,6 @@ pub mod LastLinesLemmas
 pub mod Relent
 pub mod RowLemmas
 pub mod SettingLemmas
+pub mod ScreenLemmas
 pub mod TakenLemmas
 pub mod WalkLemmas

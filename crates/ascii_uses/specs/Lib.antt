@@ -5,4 +5,5 @@ pub mod Hosts
 pub mod LastLines
 pub mod Raised
 pub mod Rows
+pub mod Screen
 pub mod Settings

@@ -11,6 +11,7 @@ pub mod iterators;
 pub mod last_lines;
 pub mod parts;
 pub mod resuming;
+pub mod screen;
 pub mod settings;
 pub mod spans;
 pub mod strings;

@@ -3,6 +3,7 @@
 mod headers;
 mod hosts;
 mod last_lines;
+mod screen;
 mod settings;
 mod table;
 
