@@ -4,7 +4,7 @@ pub mod HostLemmas
 pub mod LastLinesLemmas
 pub mod Relent
 pub mod RowLemmas
-pub mod SettingLemmas
 pub mod ScreenLemmas
+pub mod SettingLemmas
 pub mod TakenLemmas
 pub mod WalkLemmas

@@ -1,5 +1,5 @@
 -- What a screen shows: no control but LF, no line wider than the screen, and a text that needs no change as it is.
-use Rattle.std.proofs.Common.{◌≡◌, ◌≢◌, ℕ, ◌+◌, ◌-◌, ◌%◌, ◌<◌, ◌≤◌, ◌⊎◌, inl, inr, ⊎_elim, zero, suc, List, [], ◌∷◌, ◌++◌, length, take, min, refl, sym, ap, subst, ◌∙◌, arith, append_assoc, append-nil, length-append, length-take}
+use Rattle.std.proofs.Common.{◌≡◌, ◌≢◌, ℕ, ◌+◌, ◌-◌, ◌%◌, ◌<◌, ◌≤◌, ◌⊎◌, inl, inr, ⊎_elim, zero, suc, List, [], ◌∷◌, ◌++◌, length, min, refl, sym, ap, subst, ◌∙◌, arith, append_assoc, append-nil, length-append, length-take}
 use Rattle.std.specs.Prelude.{codes, ⊤}
 use Rattle.std.specs.List.{All}
 use Rattle.std.proofs.lemmas.Bool.{cases_eq, cases_lt}
@@ -131,10 +131,10 @@ good_shown_by w c n wide inside (inl is) fit = subst (λ m. IsGood w c (shown w 
 })
 good_shown_by w c n wide inside (inr other) (inl full) = subst (IsGood w c) (sym (shown_next w c n other full)) (
     let rest : IsGood w 0 (cell w 0 n) = good_inked w 0 (cell w 0 n) (cell_inked w 0 n other) (omega (arith, cell_fits_by w n wide (cases_eq n 9))) in record {
-  within = inl (refl, rest.within);
-  column = rest.column;
-  quiet = All-cons IsShown 10 (cell w 0 n) (inl refl) rest.quiet;
-})
+      within = inl (refl, rest.within);
+      column = rest.column;
+      quiet = All-cons IsShown 10 (cell w 0 n) (inl refl) rest.quiet;
+    })
 good_shown_by w c n wide inside (inr other) (inr fits) =
     subst (IsGood w c) (sym (shown_here w c n other fits)) (good_inked w c (cell w c n) (cell_inked w c n other) fits)
 
@@ -180,15 +180,18 @@ shown_narrow w text wide before part behind joined free =
 narrow_within : (w c : ℕ) (line text : List ℕ) → length line ≡ c → All (λ code. code ≢ 10) line → IsNoWider w (line ++ text) → Within w c text
 narrow_within w c line [] size free narrow = tt
 narrow_within w c line (x ∷ text) size free narrow = ⊎_elim
-    (λ is. inl (is, narrow_within w 0 [] text refl (All-nil (λ code. code ≢ 10))
-        (λ before part behind joined. narrow (line ++ x ∷ before) part behind (append_assoc line (x ∷ before) (part ++ behind) ∙ ap (λ t. line ++ x ∷ t) joined))))
+    (λ is. inl (
+      is,
+      narrow_within w 0 [] text refl (All-nil (λ code. code ≢ 10))
+          (λ before part behind joined. narrow (line ++ x ∷ before) part behind (append_assoc line (x ∷ before) (part ++ behind) ∙ ap (λ t. line ++ x ∷ t) joined)),
+    ))
     (λ other.
-        let longer : All (λ code. code ≢ 10) (line ++ x ∷ []) =
-            All-append (λ code. code ≢ 10) line (x ∷ []) free (All-cons (λ code. code ≢ 10) x [] other (All-nil (λ code. code ≢ 10))) in
-        let joined : (line ++ x ∷ []) ++ text ≡ line ++ x ∷ text = append_assoc line (x ∷ []) text in
-        let length_is : length (line ++ x ∷ []) ≡ c + 1 = omega (arith, length-append line (x ∷ []), size) in
-        let fits : length (line ++ x ∷ []) ≤ w = narrow [] (line ++ x ∷ []) text joined longer in
-        inr (other, omega (arith, length_is, fits), narrow_within w (c + 1) (line ++ x ∷ []) text length_is longer (subst (IsNoWider w) (sym joined) narrow)))
+    let longer : All (λ code. code ≢ 10) (line ++ x ∷ []) =
+    All-append (λ code. code ≢ 10) line (x ∷ []) free (All-cons (λ code. code ≢ 10) x [] other (All-nil (λ code. code ≢ 10))) in
+    let joined : (line ++ x ∷ []) ++ text ≡ line ++ x ∷ text = append_assoc line (x ∷ []) text in
+    let length_is : length (line ++ x ∷ []) ≡ c + 1 = omega (arith, length-append line (x ∷ []), size) in
+    let fits : length (line ++ x ∷ []) ≤ w = narrow [] (line ++ x ∷ []) text joined longer in
+    inr (other, omega (arith, length_is, fits), narrow_within w (c + 1) (line ++ x ∷ []) text length_is longer (subst (IsNoWider w) (sym joined) narrow)))
     (cases_eq x 10)
 
 plain_cell_by : (w c n : ℕ) → 32 ≤ n → (n ≡ 127 → ⊥) → cell w c n ≡ n ∷ []
@@ -230,7 +233,7 @@ pub record IsOnTheWay (w : ℕ) (text out : List ℕ) (c : ℕ) (rest : List ℕ
   pub shown : out ++ shown_text w c rest ≡ shown_text w 0 text
 
 pub begins : (w : ℕ) (text : List ℕ) → IsOnTheWay w text [] 0 text
-begins w text = record { column = refl; inside = omega arith; shown = refl; }
+begins w text = record { column = refl; inside = omega arith; shown = refl }
 
 pub goes_on : (w : ℕ) (text out : List ℕ) (c n next : ℕ) (rest : List ℕ) → 2 ≤ w → IsOnTheWay w text out c (n ∷ rest) → next ≡ column_after c (shown w c n)
     → IsOnTheWay w text (out ++ shown w c n) next rest

@@ -1,9 +1,9 @@
-use Rattle.std.proofs.Common.{rules, ◌≡◌, ◌++◌, ℕ, List, [], sym, subst, ◌∙◌}
+use Rattle.std.proofs.Common.{rules, ◌≡◌, ℕ, List, [], sym, subst, ◌∙◌}
 use Rattle.std.specs.List.{All}
 use Rattle.ascii_base.specs.Code.{code_of}
 use Rattle.ascii_run.specs.Output.{IsShown}
 use Rattle.ascii.specs.View.{text_of}
-use Rattle.ascii_uses.specs.Screen.{IsNoWider, shown, shown_text}
+use Rattle.ascii_uses.specs.Screen.{IsNoWider}
 use Rattle.ascii_uses.proofs.ScreenLemmas.{IsOnTheWay, arrives, begins, goes_on, plain_shown, shown_narrow, shown_quiet}
 use Rattle.ascii_uses.proofs.screen.show_on_screen.Goals as goal
 
@@ -21,13 +21,13 @@ loop-ch-preserved c =
     let way = subst (IsOnTheWay c.args.width (text_of c.args.view) c.loop-ch.text.text c.loop-ch.column) c.in-Some.ensures.steps c.loop-ch.invariant in
     let put = c.in_ok-column.ensures in
     subst (λ out. IsOnTheWay c.args.width (text_of c.args.view) out c.in_ok-column.column c.next.new.self) (sym put.text)
-        (goes_on c.args.width (text_of c.args.view) c.loop-ch.text.text c.loop-ch.column (code_of c.in-Some.ch) c.in_ok-column.column c.next.new.self c.requires way put.column)
+    (goes_on c.args.width (text_of c.args.view) c.loop-ch.text.text c.loop-ch.column (code_of c.in-Some.ch) c.in_ok-column.column c.next.new.self c.requires way put.column)
 
 pub returns-clause-each : goal.returns-clause-each
 returns-clause-each c =
     let done : c.loop-ch.ch-iterator ≡ [] = search rules in
     arrives c.args.width (text_of c.args.view) c.loop-ch.text.text c.loop-ch.column
-        (subst (IsOnTheWay c.args.width (text_of c.args.view) c.loop-ch.text.text c.loop-ch.column) done c.loop-ch.invariant)
+    (subst (IsOnTheWay c.args.width (text_of c.args.view) c.loop-ch.text.text c.loop-ch.column) done c.loop-ch.invariant)
 
 pub returns-clause-column : goal.returns-clause-column
 returns-clause-column c = c.loop-ch.invariant.column

@@ -1,0 +1,34 @@
+//! What screens of some widths show of texts.
+
+use super::{ascii, same};
+use ascii_uses::screen::show_on_screen;
+use std::test::Fail;
+
+/// A text, a width, what goes out, and the column behind it.
+static ROWS: [(&str, usize, &str, usize); 13] = [
+    ("", 2, "", 0),
+    ("ab", 2, "ab", 2),
+    ("abc", 2, "ab\nc", 1),
+    ("ab\n", 2, "ab\n", 0),
+    ("ab\ncd", 2, "ab\ncd", 2),
+    ("\u{7f}\0", 4, "^?^@", 4),
+    ("a\u{7f}\0", 4, "a^?\n^@", 2),
+    ("\r\n", 2, "^M\n", 0),
+    ("a\tb\u{1}", 10, "a       b\n^A", 2),
+    ("a\tb\u{1}", 11, "a       b^A", 11),
+    ("\t\tx", 10, "          \nx", 1),
+    ("a\tb", 4, "a   \nb", 1),
+    ("1234567\t9\t", 80, "1234567 9       ", 16),
+];
+
+#[test]
+fn rows(rt: HostRuntime) -> Result<(), Fail> {
+    for &(source, width, text, column) in &ROWS {
+        if width >= 2 {
+            let shown = show_on_screen(rt.alloc(), ascii(source), width)?;
+            same(&rt, shown.text.as_ascii_str(), ascii(text));
+            same(&rt, shown.column, column);
+        }
+    }
+    Ok(())
+}
