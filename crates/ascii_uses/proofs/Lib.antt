@@ -1,2 +1,4 @@
+pub mod LineReaderLemmas
 pub mod Relent
 pub mod TakenLemmas
+pub mod WindowLemmas

@@ -1,1 +1,3 @@
+pub mod LineReader
 pub mod Raised
+pub mod Window

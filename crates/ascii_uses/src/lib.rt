@@ -5,6 +5,7 @@
 pub mod forms;
 pub mod fronts;
 pub mod iterators;
+pub mod line_reader;
 pub mod parts;
 pub mod resuming;
 pub mod spans;
