@@ -1,3 +1,4 @@
+pub mod KeptLines
 pub mod LineReader
 pub mod Raised
 pub mod Window

@@ -7,7 +7,7 @@ use Rattle.std.specs.declared.option.Option.{Option}
 use Rattle.std.specs.declared.result.Result.{Result}
 use Rattle.ascii.specs.declared.iter.spans.Ending.TheVariants.{Absent}
 use Rattle.ascii.specs.Lines.{Line}
-use Rattle.ascii.specs.Spans.{LineSpansOf, Placed}
+use Rattle.ascii.specs.Spans.{LineSpansOf, Placed, line_size}
 use Rattle.ascii.specs.View.{text_of}
 use Rattle.ascii_base.specs.Bytes.{FirstOther}
 use Rattle.ascii_uses.specs.Window.{Buffered, EndsLine, FreeUpTo}
@@ -64,23 +64,23 @@ pub record IsDone (reading : Reading) : Type 0 where
   pub none : reading.held ≡ []
   pub left : IsAtEnd reading.rest
 
--- from one state to a later one these lines were handed out: they are the lines of the bytes up to those that are held now, and each has
--- an ending, or it was the last
+-- from one state to a later one these lines were handed out: they are the lines of the bytes up to those that are held now; each has an
+-- ending and the reader goes on, or all was handed out
 pub record Hands (old : Reading) (lines : List (Placed Line)) (new : Reading) : Type 0 where
   pub handed : List ℕ
   pub text : IsText old.held old.rest new.rest (handed ++ new.held)
   pub exact : LineSpansOf old.start handed lines
   pub start : new.start ≡ old.start + length handed
-  pub whole : All (λ span. span.item.ending ≢ Absent) lines ⊎ IsDone new
+  pub whole : ((new.stage ≡ Open) × All (λ span. span.item.ending ≢ Absent) lines) ⊎ IsDone new
   pub size : new.size ≡ old.size
 
 -- a text that starts at a place is refused before its first line, with a buffer of this size: the first byte over 127 stands in that line
--- and in the buffer; the line has more bytes than the buffer; the text goes past the last place
+-- and in the buffer; the line has more bytes than the buffer; bytes of that line are past the last place
 abbrev pub Refuses : ℕ → ℕ → List ℕ → LineFault → Type 0
 Refuses start size text (NotAscii place) =
     (i : ℕ) × (place ≡ start + i) × (i < size) × FirstOther text 0 (length text) i × FreeUpTo text i
 Refuses start size text (TooLong place) = (place ≡ start) × (size < length text) × IsAscii (take size text) × FreeUpTo text size
-Refuses start size text TooFar = 18446744073709551615 < start + length text
+Refuses start size text TooFar = (n : ℕ) × (n ≤ length text) × FreeUpTo text (n - 1) × (18446744073709551615 < start + n)
 Refuses start size text Read = ⊤
 
 -- why a reader stops; where its source failed it is untold what that took
@@ -93,9 +93,9 @@ abbrev pub failures_after : {T : Type 0} → ℕ → Result T LineFault → ℕ
 failures_after n (Err Read) = n + 1
 failures_after n other = n
 
--- the next line of an open reader, none at its end, or a refusal
+-- the next line of an open reader, which fits in the buffer, none at its end, or a refusal
 abbrev pub HandsNext : Reading → Result (Option ReadLine) LineFault → Reading → Type 0
-HandsNext old (Ok (Some line)) new = Hands old (read_line_in line ∷ []) new
+HandsNext old (Ok (Some line)) new = Hands old (read_line_in line ∷ []) new × (line_size (read_line_in line).item ≤ old.size)
 HandsNext old (Ok None) new = Hands old [] new × IsDone new
 HandsNext old (Err fault) new = (new.stage ≡ Refused fault) × Stops old.start old.size old.held old.rest new.rest fault
 
@@ -140,7 +140,7 @@ pub record Takes (start : ℕ) (old new : Buffered) (rest left : Option (List �
 abbrev pub Advances : Reading → Result Bool LineFault → Reading → List ℕ → Type 0
 Advances old (Ok true) new given =
     IsText old.held old.rest new.rest (given ++ new.held) × (new.start ≡ old.start + length given) × (new.size ≡ old.size)
-    × IsOneLine given × (EndsLine given (length given) ⊎ IsDone new)
+    × IsOneLine given × (length given ≤ old.size) × (((new.stage ≡ Open) × EndsLine given (length given)) ⊎ IsDone new)
 Advances old (Ok false) new given = Hands old [] new × IsDone new
 Advances old (Err fault) new given = (new.stage ≡ Refused fault) × Stops old.start old.size old.held old.rest new.rest fault
 

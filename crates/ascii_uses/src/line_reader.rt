@@ -1,9 +1,9 @@
 //! A reader of lines over any source, through one buffer of fixed size.
 
-ghost use Rattle.std.specs.Prelude.{◌≡◌, ◌≢◌, ◌⊎◌, ◌<◌, ◌∷◌, [], IfErr, IfOk, None, OnOk, length, ℕ};
+ghost use Rattle.std.specs.Prelude.{◌≡◌, ◌≢◌, ◌⊎◌, ◌<◌, ◌≤◌, ◌∷◌, [], IfErr, IfOk, None, OnOk, length, ℕ};
 ghost use Rattle.std.specs.Io.KnownBytes.{Consumes, IsAtEnd};
 ghost use Rattle.std.specs.Str.{IsAscii};
-ghost use Rattle.ascii.specs.Spans.{LineSpansOf};
+ghost use Rattle.ascii.specs.Spans.{LineSpansOf, line_size};
 ghost use Rattle.ascii_uses.specs.LineReader.{Finds, IsOneLine, IsText, Stops, Takes, failures_after, read_line_in, refusal_at};
 ghost use Rattle.ascii_uses.specs.Window.{EndsLine};
 
@@ -13,6 +13,7 @@ use ascii::{AsciiStr, bytes};
 use ascii_run::Source;
 use std::alloc::{AllocError, Allocator, Global};
 
+pub mod kept;
 mod window;
 
 /// Why a reader hands out no line.
@@ -139,6 +140,7 @@ fn take_line<S: Source, A: Allocator>(
     ensures err { IfErr result (Stops start window.old.size window.old.held (S.rest source.old) (S.rest source.new)) }
     ensures count { S.failures source.new ≡ failures_after (S.failures source.old) result }
     ensures size { window.new.size ≡ window.old.size }
+    ensures within { OnOk result (length window.new.given ≤ window.old.size) }
 {
     let found = seek(window, source, start)?;
     let n = found.unwrap_or(window.len());
@@ -212,6 +214,7 @@ fn line_at(start: u64, line: &[u8]) -> ReadLine<'_>
     requires ascii { IsAscii line.now }
     requires one { IsOneLine line.now }
     ensures line { LineSpansOf start line.now (read_line_in result ∷ []) }
+    ensures size { line_size (read_line_in result).item ≡ length line.now }
     ensures ended { EndsLine line.now (length line.now) → result.ending ≢ Ending.Absent }
 {
     match line {

@@ -121,6 +121,7 @@ impl<A: Allocator> Window<A> {
         ensures given { self.new.given ≡ take n self.old.held }
         ensures held { self.new.held ≡ drop n self.old.held }
         ensures size { self.new.size ≡ self.old.size }
+        ensures within { length self.new.given ≤ self.new.size }
     {
         self.given = self.from;
         self.from += n;
