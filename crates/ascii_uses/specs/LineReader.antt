@@ -1,5 +1,5 @@
 -- What a reader of lines reads, hands out and refuses.
-use Rattle.std.specs.Prelude.{◌≡◌, ◌≢◌, ◌⊎◌, ℕ, ◌+◌, ◌-◌, ◌<◌, ◌≤◌, Bool, true, false, List, [], ◌∷◌, ◌++◌, ⊤, if◌then◌else◌, nat_lt, length, take, Ok, Err, None, Some}
+use Rattle.std.specs.Prelude.{◌≡◌, ◌≢◌, ◌⊎◌, ℕ, ◌+◌, ◌-◌, ◌<◌, ◌≤◌, Bool, true, false, List, [], ◌∷◌, ◌++◌, ⊤, if◌then◌else◌, nat_lt, length, min, take, Ok, Err, None, Some}
 use Rattle.std.specs.Io.KnownBytes.{Consumes, IsAtEnd}
 use Rattle.std.specs.List.{All}
 use Rattle.std.specs.Str.{IsAscii}
@@ -88,9 +88,9 @@ abbrev pub Stops : ℕ → ℕ → List ℕ → Option (List ℕ) → Option (Li
 Stops start size held rest left Read = ⊤
 Stops start size held rest left fault = (text : List ℕ) × IsText held rest left text × Refuses start size text fault
 
--- the failures of the source after an answer: one more at `Read` alone
+-- the failures of the source after an answer: one more at `Read` alone, up to the last number, at which the source is not called
 abbrev pub failures_after : {T : Type 0} → ℕ → Result T LineFault → ℕ
-failures_after n (Err Read) = n + 1
+failures_after n (Err Read) = min (n + 1) 18446744073709551615
 failures_after n other = n
 
 -- the next line of an open reader, which fits in the buffer, none at its end, or a refusal

@@ -61,7 +61,7 @@ pub struct LineReader<S, A: Allocator = Global> {
 impl<S: Source, A: Allocator> LineReader<S, A> {
     ghost use Rattle.std.specs.Borrow.{sem};
     ghost use Rattle.std.specs.Io.BufRead.{Rests};
-    ghost use Rattle.ascii_uses.specs.LineReader.{AdvancesFrom, IsFresh, IsOpen, Next, reading_of, source_of};
+    ghost use Rattle.ascii_uses.specs.LineReader.{AdvancesFrom, IsFresh, Next, reading_of, source_of};
     ghost use Rattle.ascii_uses.specs.contracts.line_reader.LineReader.{the_row};
 
     /// A reader over a source, with a buffer of this many bytes. No more memory is taken later.
@@ -90,7 +90,6 @@ impl<S: Source, A: Allocator> LineReader<S, A> {
     /// The next line, lent until the next call, or `None` where the input has ended. A refusal stands for
     /// good, and so does `None`: the source is not called again.
     pub fn next_line(&mut self) -> Result<Option<ReadLine<'_>>, LineFault>
-        requires { IsOpen self.old → S.failures (source_of self.old) < u64.MAX }
         ensures* next { sem 𝓛 (Rests (the_row S.row A.row A.Allocator) self.entry (Next S.rest S.failures self.old result)) }
     {
         let start = self.start;
@@ -103,7 +102,6 @@ impl<S: Source, A: Allocator> LineReader<S, A> {
 
     /// Takes the next line.
     fn advance(&mut self) -> Result<bool, LineFault>
-        requires { IsOpen self.old → S.failures (source_of self.old) < u64.MAX }
         ensures { AdvancesFrom S.rest S.failures self.old.stage self.old result self.new }
     {
         match self.stage {
@@ -135,7 +133,6 @@ fn take_line<S: Source, A: Allocator>(
     source: &mut S,
     start: u64,
 ) -> Result<(u64, bool), LineFault>
-    requires { S.failures source.old < u64.MAX }
     ensures ok { IfOk result (λ taken. Takes start window.old window.new (S.rest source.old) (S.rest source.new) taken.0 taken.1) }
     ensures err { IfErr result (Stops start window.old.size window.old.held (S.rest source.old) (S.rest source.new)) }
     ensures count { S.failures source.new ≡ failures_after (S.failures source.old) result }
@@ -157,7 +154,6 @@ fn seek<S: Source, A: Allocator>(
     source: &mut S,
     start: u64,
 ) -> Result<Option<usize>, LineFault>
-    requires { S.failures source.old < u64.MAX }
     ensures text { OnOk result (IsText window.old.held (S.rest source.old) (S.rest source.new) window.new.held) }
     ensures found { IfOk result (Finds window.new (S.rest source.new)) }
     ensures err { IfErr result (Stops start window.old.size window.old.held (S.rest source.old) (S.rest source.new)) }
@@ -170,6 +166,9 @@ fn seek<S: Source, A: Allocator>(
         }
         if let Some(place) = window.other() {
             return Err(other_at(start, place));
+        }
+        if source.failures() == u64::MAX {
+            return Err(LineFault::Read);
         }
         if window.is_full() {
             return past_full(source, start);

@@ -2,7 +2,7 @@
 
 ghost use Rattle.std.specs.Prelude.{◌≡◌, ◌<◌, IfOk, map};
 ghost use Rattle.ascii_uses.specs.KeptLines.{AreFirst, RunsTo, kept_line_in};
-ghost use Rattle.ascii_uses.specs.LineReader.{IsOpen, read_line_in, reading_of, source_of};
+ghost use Rattle.ascii_uses.specs.LineReader.{IsOpen, read_line_in, reading_of};
 
 use crate::line_reader::{LineFault, LineReader, ReadLine};
 use ascii::AsciiString;
@@ -36,8 +36,7 @@ pub fn keep_lines<S: Source, A: Allocator>(
     alloc: Global,
     reader: &mut LineReader<S, A>,
 ) -> Result<KeptLines, AllocError>
-    requires open { IsOpen reader.old }
-    requires count { S.failures (source_of reader.old) < u64.MAX }
+    requires { IsOpen reader.old }
     ensures runs { IfOk result (λ kept. RunsTo (reading_of S.rest S.failures reader.old) (map kept_line_in kept.lines.items) kept.fault (reading_of S.rest S.failures reader.new)) }
     ensures first { IfOk result (λ kept. AreFirst (reading_of S.rest S.failures reader.old) (map kept_line_in kept.lines.items) kept.fault) }
 {
