@@ -1,9 +1,9 @@
 -- What a reader of lines has read and handed out.
-use Rattle.std.proofs.Common.{◌≡◌, ◌≢◌, ◌⊎◌, ℕ, ◌+◌, ◌-◌, ◌<◌, ◌≤◌, List, [], ◌∷◌, ◌++◌, length, get_or, take, None, Some, Ok, Err, Option, Result, IfErr, refl, sym, ap, subst, ◌∙◌, arith, inl, inr, length-append, append_assoc, append-nil, add-zero, map}
+use Rattle.std.proofs.Common.{◌≡◌, ◌≢◌, ◌⊎◌, ℕ, ◌+◌, ◌-◌, List, [], ◌∷◌, ◌++◌, length, take, None, Some, Ok, Err, Option, Result, IfErr, refl, sym, ap, subst, ◌∙◌, arith, inl, inr, length-append, append_assoc, append-nil, add-zero}
 use Rattle.std.specs.Io.KnownBytes.{Consumes, IsAtEnd}
 use Rattle.std.specs.Str.{IsAscii}
 use Rattle.std.specs.List.{All, Contains, flat_map}
-use Rattle.std.proofs.KnownBytes.{Consumes-nil, Consumes-trans}
+use Rattle.std.proofs.KnownBytes.{Consumes-trans}
 use Rattle.std.proofs.Math.ListN.{get_or-append}
 use Rattle.std.proofs.Math.Seq.{take-append-add}
 use Rattle.std.proofs.lemmas.Grind.{flat_map-append}
@@ -17,7 +17,7 @@ use Rattle.ascii_uses.specs.declared.line_reader.LineFault.{LineFault}
 use Rattle.ascii_uses.specs.declared.line_reader.LineFault.TheVariants.{TooLong, Read}
 use Rattle.ascii_uses.specs.declared.line_reader.LineReader.{LineReader}
 use Rattle.ascii_uses.specs.declared.line_reader.ReadLine.{ReadLine}
-use Rattle.ascii_uses.specs.declared.line_reader.Stage.TheVariants.{Open, Ended, Refused}
+use Rattle.ascii_uses.specs.declared.line_reader.Stage.TheVariants.{Open, Ended}
 use Rattle.ascii_uses.specs.LineReader.{Hands, IsDone, IsText, Next, NextFrom, Reading, Stops, read_line_in, reading_of}
 use Rattle.ascii_uses.specs.Window.{FreeUpTo}
 

@@ -1,5 +1,5 @@
 //! What users write over the library, proved from its public contracts: loops and adapters over
-//! characters, pieces and lines, edits of a part of a source, and texts as JSON values.
+//! characters, pieces and lines, a reader of lines, edits of a part of a source, and texts as JSON values.
 #![tactic(auto)]
 
 pub mod forms;

@@ -16,16 +16,18 @@ use std::alloc::{AllocError, Allocator, Global};
 pub mod kept;
 mod window;
 
-/// Why a reader hands out no line.
+/// Why a reader hands out no line. The lines before were handed out.
 #[derive(Clone, Copy, PartialEq, Eq, Debug)]
 pub enum LineFault {
-    /// The byte at this place of the input is the first over 127.
+    /// The byte at this place of the input, from 0, is the first over 127, and it stands among the bytes of
+    /// its line that fit in the buffer.
     NotAscii(u64),
-    /// The line that starts at this place has more bytes, with its ending, than the buffer.
+    /// The line that starts at this place of the input, from 0, has more bytes, with its ending, than the
+    /// buffer.
     TooLong(u64),
-    /// A place is past `u64::MAX`.
+    /// The next line ends past the place `u64::MAX`, or its first byte over 127 stands there.
     TooFar,
-    /// The source failed.
+    /// The source failed, or has failed `u64::MAX` times before.
     Read,
 }
 
@@ -43,12 +45,17 @@ pub struct ReadLine<'a> {
 /// Whether a reader goes on.
 #[derive(Clone, Copy)]
 enum Stage {
+    /// It does.
     Open,
+    /// All was handed out.
     Ended,
+    /// This was answered, and is from then on.
     Refused(LineFault),
 }
 
-/// A reader of lines. It reads its source into one buffer, and lends each line out of it.
+/// A reader of lines. It reads its source into one buffer, and lends each line out of it. Each byte is
+/// checked once and searched once for LF; where the buffer is filled again, the beginning of a line that has
+/// not ended moves to its front, and nothing else is copied.
 #[derive(Drop)]
 pub struct LineReader<S, A: Allocator = Global> {
     source: S,
@@ -64,7 +71,9 @@ impl<S: Source, A: Allocator> LineReader<S, A> {
     ghost use Rattle.ascii_uses.specs.LineReader.{AdvancesFrom, IsFresh, Next, reading_of, source_of};
     ghost use Rattle.ascii_uses.specs.contracts.line_reader.LineReader.{the_row};
 
-    /// A reader over a source, with a buffer of this many bytes. No more memory is taken later.
+    /// A reader over a source, with a buffer of this many bytes; no more memory is taken later. A line is
+    /// refused that is longer, with its ending, so with 0 bytes each line is. Where memory is refused the
+    /// source is let go.
     pub fn new(alloc: A, source: S, size: usize) -> Result<LineReader<S, A>, AllocError>
     where
         S: Drop,
@@ -80,17 +89,21 @@ impl<S: Source, A: Allocator> LineReader<S, A> {
         })
     }
 
-    /// The source.
+    /// The source, without the bytes that were read of it.
     pub fn into_source(self) -> S
         ensures { result ≡ source_of self }
     {
         self.source
     }
 
-    /// The next line, lent until the next call, or `None` where the input has ended. A refusal stands for
-    /// good, and so does `None`: the source is not called again.
+    /// The next line with its start and its ending, lent until the next call, or `None` where the input has
+    /// ended. What `LineFault` names is refused behind the lines before it. A refusal is answered for good, and
+    /// so is `None`: the source is not called again.
+    ///
+    /// `"ab\r\n\nc"` has `ab` at 0 with CR LF, the empty body at 4 with LF, and `c` at 5 with no ending.
     pub fn next_line(&mut self) -> Result<Option<ReadLine<'_>>, LineFault>
-        ensures* next { sem 𝓛 (Rests (the_row S.row A.row A.Allocator) self.entry (Next S.rest S.failures self.old result)) }
+        ensures* next { sem 𝓛 (Rests (the_row S.row A.row A.Allocator) self.entry
+            (Next S.rest S.failures self.old result)) }
     {
         let start = self.start;
         if self.advance()? {
@@ -100,7 +113,7 @@ impl<S: Source, A: Allocator> LineReader<S, A> {
         }
     }
 
-    /// Takes the next line.
+    /// Takes the bytes of the next line, and answers whether there is one.
     fn advance(&mut self) -> Result<bool, LineFault>
         ensures { AdvancesFrom S.rest S.failures self.old.stage self.old result self.new }
     {
@@ -133,8 +146,10 @@ fn take_line<S: Source, A: Allocator>(
     source: &mut S,
     start: u64,
 ) -> Result<(u64, bool), LineFault>
-    ensures ok { IfOk result (λ taken. Takes start window.old window.new (S.rest source.old) (S.rest source.new) taken.0 taken.1) }
-    ensures err { IfErr result (Stops start window.old.size window.old.held (S.rest source.old) (S.rest source.new)) }
+    ensures ok { IfOk result (λ taken. Takes start window.old window.new
+        (S.rest source.old) (S.rest source.new) taken.0 taken.1) }
+    ensures err { IfErr result (Stops start window.old.size window.old.held
+        (S.rest source.old) (S.rest source.new)) }
     ensures count { S.failures source.new ≡ failures_after (S.failures source.old) result }
     ensures size { window.new.size ≡ window.old.size }
     ensures within { OnOk result (length window.new.given ≤ window.old.size) }
@@ -156,7 +171,8 @@ fn seek<S: Source, A: Allocator>(
 ) -> Result<Option<usize>, LineFault>
     ensures text { OnOk result (IsText window.old.held (S.rest source.old) (S.rest source.new) window.new.held) }
     ensures found { IfOk result (Finds window.new (S.rest source.new)) }
-    ensures err { IfErr result (Stops start window.old.size window.old.held (S.rest source.old) (S.rest source.new)) }
+    ensures err { IfErr result (Stops start window.old.size window.old.held
+        (S.rest source.old) (S.rest source.new)) }
     ensures count { S.failures source.new ≡ failures_after (S.failures source.old) result }
     ensures size { window.new.size ≡ window.old.size }
 {
@@ -195,8 +211,10 @@ fn other_at(start: u64, place: usize) -> LineFault
 /// Whether the source has ended, where a line without LF fills the buffer.
 fn past_full<S: Source>(source: &mut S, start: u64) -> Result<Option<usize>, LineFault>
     requires { S.failures source.old < u64.MAX }
-    ensures ok { IfOk result (λ found. (found ≡ None) × IsAtEnd (S.rest source.new) × Consumes (S.rest source.old) (S.rest source.new) []) }
-    ensures err { IfErr result (λ fault. (fault ≡ LineFault.Read) ⊎ ((fault ≡ LineFault.TooLong start) × ((byte : ℕ) × Consumes (S.rest source.old) (S.rest source.new) (byte ∷ [])))) }
+    ensures ok { IfOk result (λ found. (found ≡ None) × IsAtEnd (S.rest source.new)
+        × Consumes (S.rest source.old) (S.rest source.new) []) }
+    ensures err { IfErr result (λ fault. (fault ≡ LineFault.Read) ⊎ ((fault ≡ LineFault.TooLong start)
+        × ((byte : ℕ) × Consumes (S.rest source.old) (S.rest source.new) (byte ∷ [])))) }
     ensures count { S.failures source.new ≡ failures_after (S.failures source.old) result }
 {
     let mut next = [0];

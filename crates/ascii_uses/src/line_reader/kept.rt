@@ -1,7 +1,7 @@
 //! The lines of a source as texts of their own.
 
-ghost use Rattle.std.specs.Prelude.{◌≡◌, ◌<◌, IfOk, map};
-ghost use Rattle.ascii_uses.specs.KeptLines.{AreFirst, RunsTo, kept_line_in};
+ghost use Rattle.std.specs.Prelude.{◌≡◌, IfOk};
+ghost use Rattle.ascii_uses.specs.KeptLines.{AreFirst, RunsTo, kept_line_in, kept_lines_in};
 ghost use Rattle.ascii_uses.specs.LineReader.{IsOpen, read_line_in, reading_of};
 
 use crate::line_reader::{LineFault, LineReader, ReadLine};
@@ -31,14 +31,19 @@ pub struct KeptLines {
     pub fault: Option<LineFault>,
 }
 
-/// All lines that a reader has left, up to the end of the input or to a refusal.
+/// All lines that an open reader has left, up to the end of the input or to a refusal. Of all bytes that
+/// its source tells they are the first lines, and where there is no refusal they are all of them.
+///
+/// Of `"ab\n\xff"` these are `ab` at 0 with LF, and then `NotAscii(3)`.
 pub fn keep_lines<S: Source, A: Allocator>(
     alloc: Global,
     reader: &mut LineReader<S, A>,
 ) -> Result<KeptLines, AllocError>
     requires { IsOpen reader.old }
-    ensures runs { IfOk result (λ kept. RunsTo (reading_of S.rest S.failures reader.old) (map kept_line_in kept.lines.items) kept.fault (reading_of S.rest S.failures reader.new)) }
-    ensures first { IfOk result (λ kept. AreFirst (reading_of S.rest S.failures reader.old) (map kept_line_in kept.lines.items) kept.fault) }
+    ensures runs { IfOk result (λ kept. RunsTo (reading_of S.rest S.failures reader.old)
+        (kept_lines_in kept) kept.fault (reading_of S.rest S.failures reader.new)) }
+    ensures first { IfOk result (λ kept. AreFirst (reading_of S.rest S.failures reader.old)
+        (kept_lines_in kept) kept.fault) }
 {
     let mut lines = Vec::new(alloc);
     'lines: loop {

@@ -1,6 +1,6 @@
 use Rattle.std.proofs.Common.{◌≡◌, ◌-◌, ◌^◌, map, vec_len}
 use Rattle.ascii_uses.specs.KeptLines.{kept_line_in}
-use Rattle.ascii_uses.specs.LineReader.{Hands, IsOpen, reading_of}
+use Rattle.ascii_uses.specs.LineReader.{Hands, reading_of}
 use Rattle.ascii_uses.proofs.line_reader.kept.keep_lines.Given as goal
 
 -- the lines so far were handed out, the reader goes on where it was, and no read has failed
