@@ -1,4 +1,5 @@
 pub mod LineReaderLemmas
+pub mod LinesLemmas
 pub mod Relent
 pub mod TakenLemmas
 pub mod WindowLemmas

@@ -10,7 +10,7 @@ use Rattle.std.proofs.lemmas.Grind.{flat_map-append}
 use Rattle.std.proofs.lemmas.List.{map-append, take_at}
 use Rattle.std.proofs.lemmas.List.Elements.{All-append, All-map, All-nil, All-take}
 use Rattle.ascii.specs.declared.iter.spans.Ending.TheVariants.{Absent}
-use Rattle.ascii.proofs.LinesLemmas.{LinesOf-lines_of}
+use Rattle.ascii_uses.proofs.LinesLemmas.{some_lines}
 use Rattle.ascii.specs.Lines.{Line, LinesOf, MayStandBehind, line_text}
 use Rattle.ascii.specs.Spans.{LineSpansOf, Placed, items_of, line_size, placed}
 use Rattle.ascii_uses.specs.declared.line_reader.LineFault.{LineFault}
@@ -134,10 +134,6 @@ told_parts : (old left : Option (List ℕ)) (read told : List ℕ) → old ≡ S
 told_parts None left read told is gave = absurd (let e : None ≡ Some told = is in cc)
 told_parts (Some xs) None read told is gave = absurd gave
 told_parts (Some xs) (Some ys) read told is gave = (ys, (let e : Some xs ≡ Some told = is in let same : xs ≡ told = cc in sym same ∙ gave), λ none. none)
-
--- some lines of a text that starts at a place
-some_lines : (text : List ℕ) → (lines : List Line) × LinesOf text lines
-some_lines text = (_, LinesOf-lines_of text)
 
 items-placed : (s : ℕ) (lines : List Line) → items_of (placed line_size s lines) ≡ lines
 items-placed s [] = refl
