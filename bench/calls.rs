@@ -190,6 +190,14 @@ fn walks(clock: &Clock, size: usize) {
             "ours" ours::lines_back, "crate" by_crate::lines_back, "std" by_std::lines_back,
             "memchr" by_memchr::lines_back],
         );
+        // Through a buffer of 64 KiB, which shorter texts do not fill again.
+        if size >= 1 << 20 {
+            clock.compare(
+                &format!("reader, lines of {mean}"),
+                size,
+                sides![text: "ours" ours::read_lines, "std" by_std::read_lines],
+            );
+        }
     }
     let text = &texts::marked(size, 9, b',')[..];
     clock.compare("split", size, sides![text:

@@ -30,6 +30,7 @@ pub mod ours {
             ) -> bool;
             pub fn ascii_bench_trim(source: *const u8, length: usize) -> usize;
             pub fn ascii_bench_lines(source: *const u8, length: usize, from_back: bool) -> usize;
+            pub fn ascii_bench_read_lines(source: *const u8, length: usize) -> usize;
             pub fn ascii_bench_split(source: *const u8, length: usize) -> usize;
             pub fn ascii_bench_chars(source: *const u8, length: usize) -> usize;
             pub fn ascii_bench_collect(source: *const u8, length: usize) -> usize;
@@ -70,6 +71,11 @@ pub mod ours {
     #[inline(always)]
     pub fn lines_back(source: &[u8]) -> usize {
         unsafe { ascii_bench_lines(source.as_ptr(), source.len(), true) }
+    }
+
+    #[inline(always)]
+    pub fn read_lines(source: &[u8]) -> usize {
+        unsafe { ascii_bench_read_lines(source.as_ptr(), source.len()) }
     }
 
     #[inline(always)]
@@ -198,6 +204,7 @@ pub mod by_std {
     //! std: slices of bytes, `str` and `String`.
 
     use super::{mark, mixed};
+    use std::io::{BufRead, BufReader};
 
     fn text(source: &[u8]) -> &str {
         unsafe { std::str::from_utf8_unchecked(source) }
@@ -230,6 +237,29 @@ pub mod by_std {
         text(source)
             .lines()
             .fold(0, |sum, line| mixed(sum, line.len()))
+    }
+
+    /// A line without its ending.
+    fn body(line: &[u8]) -> &[u8] {
+        match line {
+            [body @ .., b'\r', b'\n'] | [body @ .., b'\n'] => body,
+            _ => line,
+        }
+    }
+
+    #[inline(never)]
+    pub fn read_lines(source: &[u8]) -> usize {
+        let mut reader = BufReader::with_capacity(65_536, source);
+        let mut line = Vec::new();
+        let mut sum = 0;
+        loop {
+            line.clear();
+            match reader.read_until(b'\n', &mut line) {
+                Ok(0) => return sum,
+                Ok(_) if line.is_ascii() => sum = mixed(sum, body(&line).len()),
+                _ => return 0,
+            }
+        }
     }
 
     #[inline(never)]

@@ -8,7 +8,8 @@ ghost use Rattle.ascii_base.specs.Case.{lower_image, upper_image};
 ghost use Rattle.ascii.specs.Trim.{Trims};
 
 use ascii::{AsciiChar, AsciiStr, AsciiString, bytes};
-use ascii_run::{AsciiBuf, SmallAsciiString};
+use ascii_run::{AsciiBuf, Input, SmallAsciiString};
+use ascii_uses::line_reader::LineReader;
 use std::alloc::{AllocError, Global};
 
 /// Whether all bytes are ASCII.
@@ -61,6 +62,25 @@ pub extern "C" fn ascii_bench_lines(source: &[u8], from_back: bool) -> usize
     } else {
         for line in view.lines() {
             sum = mixed(sum, line.len());
+        }
+    }
+    sum
+}
+
+/// The lengths of the lines of an input, mixed in their order, which is read through a buffer of 64 KiB; 0
+/// where a line is refused, or memory.
+#[unsafe(no_mangle)]
+pub extern "C" fn ascii_bench_read_lines(alloc: Global, source: &[u8]) -> usize {
+    let Ok(reader) = LineReader::new(alloc, Input::new(source), 65_536) else {
+        return 0;
+    };
+    let mut reader = reader;
+    let mut sum: usize = 0;
+    for _ in 0..u64::MAX {
+        match reader.next_line() {
+            Ok(Some(line)) => sum = mixed(sum, line.text.len()),
+            Ok(None) => return sum,
+            Err(_) => return 0,
         }
     }
     sum

@@ -3,4 +3,5 @@
 
 mod ample;
 mod hints;
+mod line_reader;
 mod places;

@@ -2,8 +2,11 @@ pub mod Cases
 pub mod Cuts
 pub mod Headers
 pub mod Hosts
+pub mod KeptLines
 pub mod LastLines
+pub mod LineReader
 pub mod Raised
 pub mod Rows
 pub mod Screen
 pub mod Settings
+pub mod Window

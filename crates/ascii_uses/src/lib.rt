@@ -1,5 +1,6 @@
-//! What users write over the library, proved from its public contracts: loops and adapters over
-//! characters, pieces and lines, edits of a part of a source, and texts as JSON values.
+//! What users write over the library, proved from its public contracts: readers of a protocol by lines, of headers,
+//! hosts, settings and tables; the last lines of a text, and what a screen shows of it; loops and adapters over
+//! characters, pieces and lines; edits of a part of a source, and texts as JSON values.
 #![tactic(auto)]
 
 pub mod cuts;
@@ -9,6 +10,7 @@ pub mod headers;
 pub mod hosts;
 pub mod iterators;
 pub mod last_lines;
+pub mod line_reader;
 pub mod parts;
 pub mod resuming;
 pub mod screen;

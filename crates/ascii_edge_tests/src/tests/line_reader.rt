@@ -1,0 +1,299 @@
+//! A reader of lines over sources that give little at a call, that fail, and that hold what it refuses.
+
+use ascii::iter::Ending;
+use ascii_run::Input;
+use ascii_uses::line_reader::kept::{KeptLine, KeptLines, keep_lines};
+use ascii_uses::line_reader::{LineFault, LineReader};
+use std::alloc::{AllocError, Global};
+use std::fmt::Debug;
+use std::io::{self, ErrorKind};
+use std::process::Abort;
+use std::test::Fail;
+
+/// Fails the test where what was got is not what is wanted, and shows both.
+fn same<T: PartialEq + Debug + Drop>(rt: &impl Abort, got: T, want: T) {
+    assert_eq!(rt; got, want);
+}
+
+/// A reader of bytes that gives so many at a call, fails at one call, and counts its calls.
+#[derive(Drop)]
+struct Counted<'a> {
+    bytes: &'a [u8],
+    most: usize,
+    fails: u64,
+    calls: u64,
+}
+
+/// A reader that never fails.
+fn giving(bytes: &[u8], most: usize) -> Input<Counted<'_>> {
+    failing(bytes, most, u64::MAX)
+}
+
+/// A reader that fails at this call, from 0.
+fn failing(bytes: &[u8], most: usize, fails: u64) -> Input<Counted<'_>> {
+    Input::new(Counted {
+        bytes,
+        most,
+        fails,
+        calls: 0,
+    })
+}
+
+impl io::Read for Counted<'_> {
+    fn read(&mut self, buf: &mut [u8]) -> io::Result<usize> {
+        let call = self.calls;
+        self.calls = call.saturating_add(1);
+        if call == self.fails {
+            return Err(io::Error::from(ErrorKind::Interrupted));
+        }
+        let n = self.most.min(buf.len()).min(self.bytes.len());
+        let (now, later) = self.bytes.split_at(n);
+        buf[..n].copy_from_slice(now);
+        self.bytes = later;
+        Ok(n)
+    }
+}
+
+/// What a reader with a buffer of this size keeps of a source.
+fn kept(alloc: Global, source: Input<Counted<'_>>, size: usize) -> Result<KeptLines, AllocError> {
+    let mut reader = LineReader::new(alloc, source, size)?;
+    keep_lines(alloc, &mut reader)
+}
+
+/// Compares a line with its start, its body and its ending.
+fn compare<R: Abort>(rt: &R, line: Option<&KeptLine>, start: u64, body: &str, ending: Ending) {
+    match line {
+        Some(line) => {
+            same(rt, line.start, start);
+            same(rt, line.text.as_ascii_str().as_str(), body);
+            same(rt, line.ending, ending);
+        }
+        None => assert!(rt; false),
+    }
+}
+
+/// The text of a number: LF, CR or `a` for each of its digits to the base 3.
+fn text_of(alloc: Global, number: u32, length: usize) -> Result<Vec<u8>, AllocError> {
+    let mut text = Vec::new(alloc);
+    let mut rest = number;
+    for _ in 0..length {
+        text.push(match rest % 3 {
+            0 => b'\n',
+            1 => b'\r',
+            _ => b'a',
+        })?;
+        rest /= 3;
+    }
+    Ok(text)
+}
+
+/// The bytes of lines that may stand in this order, each where it starts; `Absent` stands at the end alone.
+fn joined<R: Abort>(rt: &R, alloc: Global, lines: &[KeptLine]) -> Result<Vec<u8>, AllocError> {
+    let mut bytes = Vec::new(alloc);
+    let mut has_ended = false;
+    for line in lines {
+        let body = line.text.as_ascii_str().as_str().as_bytes();
+        same(rt, line.start, bytes.len() as u64);
+        same(rt, body.contains(&b'\n'), false);
+        same(rt, has_ended, false);
+        bytes.extend_from_slice(body)?;
+        match line.ending {
+            Ending::Lf => {
+                same(rt, body.last() == Some(&b'\r'), false);
+                bytes.push(b'\n')?;
+            }
+            Ending::CrLf => bytes.extend_from_slice(b"\r\n")?,
+            Ending::Absent => {
+                same(rt, body.is_empty(), false);
+                has_ended = true;
+            }
+        }
+    }
+    Ok(bytes)
+}
+
+/// The lines of a text in a buffer of this size are the text; or the first line that was not handed out has no
+/// LF in so many bytes, and has more.
+fn related<R: Abort>(
+    rt: &R,
+    alloc: Global,
+    text: &[u8],
+    size: usize,
+    most: usize,
+) -> Result<(), Fail> {
+    let kept = kept(alloc, giving(text, most), size)?;
+    let front = joined(rt, alloc, &kept.lines)?;
+    assert!(rt; text.starts_with(&front));
+    let rest = &text[front.len()..];
+    match kept.fault {
+        None => same(rt, rest.len(), 0),
+        fault => {
+            same(rt, fault, Some(LineFault::TooLong(front.len() as u64)));
+            assert!(rt; rest.len() > size);
+            same(rt, rest[..size].contains(&b'\n'), false);
+        }
+    }
+    Ok(())
+}
+
+#[test]
+fn all_short_texts(rt: HostRuntime) -> Result<(), Fail> {
+    let mut count = 1;
+    for length in 0..7 {
+        for number in 0..count {
+            let text = text_of(rt.alloc(), number, length)?;
+            for size in 1..8 {
+                related(&rt, rt.alloc(), &text, size, 1)?;
+                related(&rt, rt.alloc(), &text, size, 100)?;
+            }
+        }
+        count = 3u32.saturating_mul(count);
+    }
+    Ok(())
+}
+
+#[test]
+fn a_cr_in_the_last_place(rt: HostRuntime) -> Result<(), Fail> {
+    let kept = kept(rt.alloc(), giving(b"y\nabc\r\n\rz\r", 100), 6)?;
+    let lines = &kept.lines;
+    same(&rt, lines.len(), 3);
+    compare(&rt, lines.get(0), 0, "y", Ending::Lf);
+    compare(&rt, lines.get(1), 2, "abc", Ending::CrLf);
+    compare(&rt, lines.get(2), 7, "\rz\r", Ending::Absent);
+    same(&rt, kept.fault, None);
+    Ok(())
+}
+
+#[test]
+fn lines_that_just_fit(rt: HostRuntime) -> Result<(), Fail> {
+    for text in [b"abc\r\n".as_slice(), b"abcd\n", b"abcde"] {
+        for most in [1, 5] {
+            let fits = kept(rt.alloc(), giving(text, most), 5)?;
+            same(&rt, fits.lines.len(), 1);
+            same(&rt, fits.fault, None);
+            let less = kept(rt.alloc(), giving(text, most), 4)?;
+            same(&rt, less.lines.len(), 0);
+            same(&rt, less.fault, Some(LineFault::TooLong(0)));
+        }
+    }
+    let second = kept(rt.alloc(), giving(b"x\nabcdef", 100), 5)?;
+    same(&rt, second.lines.len(), 1);
+    same(&rt, second.fault, Some(LineFault::TooLong(2)));
+    let none = kept(rt.alloc(), giving(b"", 100), 0)?;
+    same(&rt, none.fault, None);
+    let empty = kept(rt.alloc(), giving(b"\n", 100), 0)?;
+    same(&rt, empty.fault, Some(LineFault::TooLong(0)));
+    Ok(())
+}
+
+static LINES: &[u8] = b"ab\r\ncd\n\nefg\nh";
+
+/// How many of these lines end before each place.
+static ENDED: [usize; 13] = [0, 0, 0, 0, 1, 1, 1, 2, 3, 3, 3, 3, 4];
+
+#[test]
+fn a_byte_over_127_at_each_place(rt: HostRuntime) -> Result<(), Fail> {
+    for (place, &ended) in ENDED.iter().enumerate() {
+        for other in [128, 255] {
+            let mut text = LINES.to_vec(rt.alloc())?;
+            if let Some(target) = text.get_mut(place) {
+                *target = other;
+            }
+            for (size, most) in [(4, 1), (4, 100), (5, 2), (64, 100)] {
+                let kept = kept(rt.alloc(), giving(&text, most), size)?;
+                same(&rt, kept.lines.len(), ended);
+                same(&rt, kept.fault, Some(LineFault::NotAscii(place as u64)));
+            }
+        }
+    }
+    Ok(())
+}
+
+#[test]
+fn a_failure_at_each_call(rt: HostRuntime) -> Result<(), Fail> {
+    for (call, &ended) in ENDED.iter().enumerate() {
+        let kept = kept(rt.alloc(), failing(LINES, 1, call as u64), 4)?;
+        same(&rt, kept.lines.len(), ended);
+        same(&rt, kept.fault, Some(LineFault::Read));
+    }
+    let last = kept(rt.alloc(), failing(LINES, 1, 13), 4)?;
+    same(&rt, last.lines.len(), 4);
+    same(&rt, last.fault, Some(LineFault::Read));
+    Ok(())
+}
+
+/// The source is called so often before the first answer that is no line, and not once behind it.
+fn stays<R: Abort>(
+    rt: &R,
+    alloc: Global,
+    source: Input<Counted<'_>>,
+    calls: u64,
+    fault: Option<LineFault>,
+) -> Result<(), Fail> {
+    let mut reader = LineReader::new(alloc, source, 3)?;
+    same(rt, keep_lines(alloc, &mut reader)?.fault, fault);
+    for _ in 0..3 {
+        match reader.next_line() {
+            Ok(line) => {
+                assert!(rt; line.is_none());
+                same(rt, fault, None);
+            }
+            Err(again) => same(rt, Some(again), fault),
+        }
+    }
+    same(rt, reader.into_source().into_inner().calls, calls);
+    Ok(())
+}
+
+#[test]
+fn an_answer_for_good(rt: HostRuntime) -> Result<(), Fail> {
+    let alloc = rt.alloc();
+    stays(&rt, alloc, giving(b"a\nb", 1), 4, None)?;
+    stays(&rt, alloc, giving(b"a\n", 1), 3, None)?;
+    stays(
+        &rt,
+        alloc,
+        giving(b"a\nb\xffc", 1),
+        4,
+        Some(LineFault::NotAscii(3)),
+    )?;
+    stays(
+        &rt,
+        alloc,
+        giving(b"a\nbcdef", 1),
+        6,
+        Some(LineFault::TooLong(2)),
+    )?;
+    stays(&rt, alloc, failing(b"a\nb", 1, 2), 3, Some(LineFault::Read))?;
+    stays(
+        &rt,
+        alloc,
+        failing(b"abcdef", 1, 3),
+        4,
+        Some(LineFault::Read),
+    )?;
+    Ok(())
+}
+
+#[test]
+fn one_line_at_a_time(rt: HostRuntime) -> Result<(), Fail> {
+    let source = Input::new(b"GET / \r\n\r\nbody".as_slice());
+    let mut reader = LineReader::new(rt.alloc(), source, 16)?;
+    let first = reader.next_line().ok().flatten().ok_or("a line")?;
+    same(&rt, first.text.as_str(), "GET / ");
+    same(&rt, first.ending, Ending::CrLf);
+    let second = reader.next_line().ok().flatten().ok_or("a line")?;
+    same(&rt, second.start, 8);
+    same(&rt, second.text.len(), 0);
+    let third = reader.next_line().ok().flatten().ok_or("a line")?;
+    same(&rt, third.start, 10);
+    same(&rt, third.ending, Ending::Absent);
+    assert!(rt; matches!(reader.next_line(), Ok(None)));
+    Ok(())
+}
+
+#[test]
+fn no_memory_for_the_buffer(rt: HostRuntime) {
+    let source = Input::new(b"abc".as_slice());
+    assert!(rt; LineReader::new(rt.alloc(), source, usize::MAX).is_err());
+}

@@ -1,0 +1,33 @@
+-- What a buffer of fixed size holds between two fills.
+use Rattle.std.specs.Prelude.{◌≡◌, ◌≢◌, ℕ, ◌-◌, ◌<◌, ◌≤◌, List, length, slice_index}
+
+-- its size, the bytes taken last, those that it holds, how many of these, from the first, are known to be under 128, and the room
+-- behind them
+pub record Buffered : Type 0 where
+  pub size : ℕ
+  pub given : List ℕ
+  pub held : List ℕ
+  pub checked : ℕ
+  pub spare : ℕ
+
+-- none of the first n bytes is LF
+abbrev pub FreeUpTo : List ℕ → ℕ → Type 0
+FreeUpTo bytes n = (k : ℕ) → k < n → slice_index bytes k ≢ 10
+
+-- the first n bytes end in their only LF
+pub record EndsLine (bytes : List ℕ) (n : ℕ) : Type 0 where
+  pub some : 0 < n
+  pub feed : slice_index bytes (n - 1) ≡ 10
+  pub free : FreeUpTo bytes (n - 1)
+
+-- how the bytes lie: those taken last from `given` on, those held from `from` to `filled`, of which those before `searched` are no LF
+-- and those before `checked` are under 128, and the one at `checked` is not
+pub record IsLaidOut (bytes : List ℕ) (given from searched checked filled : ℕ) : Type 0 where
+  pub given_first : given ≤ from
+  pub then_from : from ≤ searched
+  pub then_searched : searched ≤ checked
+  pub then_checked : checked ≤ filled
+  pub inside : filled ≤ length bytes
+  pub free : (k : ℕ) → from ≤ k → k < searched → slice_index bytes k ≢ 10
+  pub ascii : (k : ℕ) → given ≤ k → k < checked → slice_index bytes k < 128
+  pub other : checked < filled → 128 ≤ slice_index bytes checked

@@ -1,0 +1,254 @@
+//! A reader of lines over any source, through one buffer of fixed size.
+
+ghost use Rattle.std.specs.Prelude.{◌≡◌, ◌≢◌, ◌⊎◌, ◌<◌, ◌≤◌, ◌∷◌, [], IfErr, IfOk, None, OnOk, length, ℕ};
+ghost use Rattle.std.specs.Io.KnownBytes.{Consumes, IsAtEnd};
+ghost use Rattle.std.specs.Str.{IsAscii};
+ghost use Rattle.ascii.specs.Spans.{LineSpansOf, line_size};
+ghost use Rattle.ascii_uses.specs.LineReader.{Finds, IsOneLine, IsText, Stops, Takes, failures_after, read_line_in, refusal_at};
+ghost use Rattle.ascii_uses.specs.Window.{EndsLine};
+
+use crate::line_reader::window::Window;
+use ascii::iter::Ending;
+use ascii::{AsciiStr, bytes};
+use ascii_run::Source;
+use std::alloc::{AllocError, Allocator, Global};
+
+pub mod kept;
+mod window;
+
+/// Why a reader hands out no line. The lines before were handed out.
+#[derive(Clone, Copy, PartialEq, Eq, Debug)]
+pub enum LineFault {
+    /// The byte at this place of the input, from 0, is the first over 127, and it stands among the bytes of
+    /// its line that fit in the buffer.
+    NotAscii(u64),
+    /// The line that starts at this place of the input, from 0, has more bytes, with its ending, than the
+    /// buffer.
+    TooLong(u64),
+    /// The next line ends past the place `u64::MAX`, or its first byte over 127 stands there.
+    TooFar,
+    /// The source failed, or has failed `u64::MAX` times before.
+    Read,
+}
+
+/// A line of an input.
+#[derive(Clone, Copy, PartialEq, Eq, Debug)]
+pub struct ReadLine<'a> {
+    /// The place of its first byte in the input, from 0.
+    pub start: u64,
+    /// The body.
+    pub text: AsciiStr<'a>,
+    /// The ending.
+    pub ending: Ending,
+}
+
+/// Whether a reader goes on.
+#[derive(Clone, Copy)]
+enum Stage {
+    /// It does.
+    Open,
+    /// All was handed out.
+    Ended,
+    /// This was answered, and is from then on.
+    Refused(LineFault),
+}
+
+/// A reader of lines. It reads its source into one buffer, and lends each line out of it. Each byte is
+/// checked once and searched once for LF; where the buffer is filled again, the beginning of a line that has
+/// not ended moves to its front, and nothing else is copied.
+#[derive(Drop)]
+pub struct LineReader<S, A: Allocator = Global> {
+    source: S,
+    window: Window<A>,
+    // Where the next line starts.
+    start: u64,
+    stage: Stage,
+}
+
+impl<S: Source, A: Allocator> LineReader<S, A> {
+    ghost use Rattle.std.specs.Borrow.{sem};
+    ghost use Rattle.std.specs.Io.BufRead.{Rests};
+    ghost use Rattle.ascii_uses.specs.LineReader.{AdvancesFrom, IsFresh, Next, reading_of, source_of};
+    ghost use Rattle.ascii_uses.specs.contracts.line_reader.LineReader.{the_row};
+
+    /// A reader over a source, with a buffer of this many bytes; no more memory is taken later. A line is
+    /// refused that is longer, with its ending, so with 0 bytes each line is. Where memory is refused the
+    /// source is let go.
+    pub fn new(alloc: A, source: S, size: usize) -> Result<LineReader<S, A>, AllocError>
+    where
+        S: Drop,
+        ensures fresh { IfOk result (λ reader. IsFresh size (reading_of S.rest S.failures reader)) }
+        ensures source { IfOk result (λ reader. source_of reader ≡ source) }
+    {
+        let window = Window::new(alloc, size)?;
+        Ok(LineReader {
+            source,
+            window,
+            start: 0,
+            stage: Stage::Open,
+        })
+    }
+
+    /// The source, without the bytes that were read of it.
+    pub fn into_source(self) -> S
+        ensures { result ≡ source_of self }
+    {
+        self.source
+    }
+
+    /// The next line with its start and its ending, lent until the next call, or `None` where the input has
+    /// ended. What `LineFault` names is refused behind the lines before it. A refusal is answered for good, and
+    /// so is `None`: the source is not called again.
+    ///
+    /// `"ab\r\n\nc"` has `ab` at 0 with CR LF, the empty body at 4 with LF, and `c` at 5 with no ending.
+    pub fn next_line(&mut self) -> Result<Option<ReadLine<'_>>, LineFault>
+        ensures* next { sem 𝓛 (Rests (the_row S.row A.row A.Allocator) self.entry
+            (Next S.rest S.failures self.old result)) }
+    {
+        let start = self.start;
+        if self.advance()? {
+            Ok(Some(line_at(start, self.window.given())))
+        } else {
+            Ok(None)
+        }
+    }
+
+    /// Takes the bytes of the next line, and answers whether there is one.
+    fn advance(&mut self) -> Result<bool, LineFault>
+        ensures { AdvancesFrom S.rest S.failures self.old.stage self.old result self.new }
+    {
+        match self.stage {
+            Stage::Open => {}
+            Stage::Ended => return Ok(false),
+            Stage::Refused(fault) => return Err(fault),
+        }
+        match take_line(&mut self.window, &mut self.source, self.start) {
+            Ok((end, is_last)) => {
+                if is_last {
+                    self.stage = Stage::Ended;
+                }
+                let is_line = self.start < end;
+                self.start = end;
+                Ok(is_line)
+            }
+            Err(fault) => {
+                self.stage = Stage::Refused(fault);
+                Err(fault)
+            }
+        }
+    }
+}
+
+/// Takes the bytes of the next line, or all where no line is left. Gives the place behind them, and
+/// whether the source has ended.
+fn take_line<S: Source, A: Allocator>(
+    window: &mut Window<A>,
+    source: &mut S,
+    start: u64,
+) -> Result<(u64, bool), LineFault>
+    ensures ok { IfOk result (λ taken. Takes start window.old window.new
+        (S.rest source.old) (S.rest source.new) taken.0 taken.1) }
+    ensures err { IfErr result (Stops start window.old.size window.old.held
+        (S.rest source.old) (S.rest source.new)) }
+    ensures count { S.failures source.new ≡ failures_after (S.failures source.old) result }
+    ensures size { window.new.size ≡ window.old.size }
+    ensures within { OnOk result (length window.new.given ≤ window.old.size) }
+{
+    let found = seek(window, source, start)?;
+    let n = found.unwrap_or(window.len());
+    let Some(end) = start.checked_add(n as u64) else {
+        return Err(LineFault::TooFar);
+    };
+    window.take(n);
+    Ok((end, found.is_none()))
+}
+
+/// Reads until a LF is held. Gives the number of bytes up to it, or `None` where the source has ended.
+fn seek<S: Source, A: Allocator>(
+    window: &mut Window<A>,
+    source: &mut S,
+    start: u64,
+) -> Result<Option<usize>, LineFault>
+    ensures text { OnOk result (IsText window.old.held (S.rest source.old) (S.rest source.new) window.new.held) }
+    ensures found { IfOk result (Finds window.new (S.rest source.new)) }
+    ensures err { IfErr result (Stops start window.old.size window.old.held
+        (S.rest source.old) (S.rest source.new)) }
+    ensures count { S.failures source.new ≡ failures_after (S.failures source.old) result }
+    ensures size { window.new.size ≡ window.old.size }
+{
+    'fills: loop {
+        if let Some(n) = window.find_line() {
+            return Ok(Some(n));
+        }
+        if let Some(place) = window.other() {
+            return Err(other_at(start, place));
+        }
+        if source.failures() == u64::MAX {
+            return Err(LineFault::Read);
+        }
+        if window.is_full() {
+            return past_full(source, start);
+        }
+        let Ok(n) = window.refill(source) else {
+            return Err(LineFault::Read);
+        };
+        if n == 0 {
+            return Ok(None);
+        }
+    }
+}
+
+/// The refusal of a byte over 127 that stands this far behind the start of a line.
+fn other_at(start: u64, place: usize) -> LineFault
+    ensures { result ≡ refusal_at start place }
+{
+    match start.checked_add(place as u64) {
+        Some(at) => LineFault::NotAscii(at),
+        None => LineFault::TooFar,
+    }
+}
+
+/// Whether the source has ended, where a line without LF fills the buffer.
+fn past_full<S: Source>(source: &mut S, start: u64) -> Result<Option<usize>, LineFault>
+    requires { S.failures source.old < u64.MAX }
+    ensures ok { IfOk result (λ found. (found ≡ None) × IsAtEnd (S.rest source.new)
+        × Consumes (S.rest source.old) (S.rest source.new) []) }
+    ensures err { IfErr result (λ fault. (fault ≡ LineFault.Read) ⊎ ((fault ≡ LineFault.TooLong start)
+        × ((byte : ℕ) × Consumes (S.rest source.old) (S.rest source.new) (byte ∷ [])))) }
+    ensures count { S.failures source.new ≡ failures_after (S.failures source.old) result }
+{
+    let mut next = [0];
+    match source.read(&mut next) {
+        Ok(0) => Ok(None),
+        Ok(_) => Err(LineFault::TooLong(start)),
+        Err(_) => Err(LineFault::Read),
+    }
+}
+
+/// The line of bytes of which the last alone may be LF.
+#[inline]
+fn line_at(start: u64, line: &[u8]) -> ReadLine<'_>
+    requires ascii { IsAscii line.now }
+    requires one { IsOneLine line.now }
+    ensures line { LineSpansOf start line.now (read_line_in result ∷ []) }
+    ensures size { line_size (read_line_in result).item ≡ length line.now }
+    ensures ended { EndsLine line.now (length line.now) → result.ending ≢ Ending.Absent }
+{
+    match line {
+        [body @ .., b'\r', b'\n'] => ReadLine {
+            start,
+            text: bytes::as_ascii_str_unchecked(body),
+            ending: Ending::CrLf,
+        },
+        [body @ .., b'\n'] => ReadLine {
+            start,
+            text: bytes::as_ascii_str_unchecked(body),
+            ending: Ending::Lf,
+        },
+        _ => ReadLine {
+            start,
+            text: bytes::as_ascii_str_unchecked(line),
+            ending: Ending::Absent,
+        },
+    }
+}

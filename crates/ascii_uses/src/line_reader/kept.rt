@@ -1,0 +1,72 @@
+//! The lines of a source as texts of their own.
+
+ghost use Rattle.std.specs.Prelude.{◌≡◌, IfOk};
+ghost use Rattle.ascii_uses.specs.KeptLines.{AreFirst, RunsTo, kept_line_in, kept_lines_in};
+ghost use Rattle.ascii_uses.specs.LineReader.{IsOpen, read_line_in, reading_of};
+
+use crate::line_reader::{LineFault, LineReader, ReadLine};
+use ascii::AsciiString;
+use ascii::iter::Ending;
+use ascii_run::Source;
+use std::alloc::{AllocError, Allocator, Global};
+
+/// A line as a text of its own.
+#[derive(Drop)]
+pub struct KeptLine {
+    /// The place of its first byte in the input, from 0.
+    pub start: u64,
+    /// The body.
+    pub text: AsciiString,
+    /// The ending.
+    pub ending: Ending,
+}
+
+/// The lines that a reader handed out, in order, and why it stopped before the end of the input, if it
+/// did.
+#[derive(Drop)]
+pub struct KeptLines {
+    /// The lines.
+    pub lines: Vec<KeptLine>,
+    /// The refusal behind them.
+    pub fault: Option<LineFault>,
+}
+
+/// All lines that an open reader has left, up to the end of the input or to a refusal. Of all bytes that
+/// its source tells they are the first lines, and where there is no refusal they are all of them.
+///
+/// Of `"ab\n\xff"` these are `ab` at 0 with LF, and then `NotAscii(3)`.
+pub fn keep_lines<S: Source, A: Allocator>(
+    alloc: Global,
+    reader: &mut LineReader<S, A>,
+) -> Result<KeptLines, AllocError>
+    requires { IsOpen reader.old }
+    ensures runs { IfOk result (λ kept. RunsTo (reading_of S.rest S.failures reader.old)
+        (kept_lines_in kept) kept.fault (reading_of S.rest S.failures reader.new)) }
+    ensures first { IfOk result (λ kept. AreFirst (reading_of S.rest S.failures reader.old)
+        (kept_lines_in kept) kept.fault) }
+{
+    let mut lines = Vec::new(alloc);
+    'lines: loop {
+        match reader.next_line() {
+            Ok(Some(line)) => lines.push(kept_line(alloc, line)?)?,
+            Ok(None) => return Ok(KeptLines { lines, fault: None }),
+            Err(fault) => {
+                return Ok(KeptLines {
+                    lines,
+                    fault: Some(fault),
+                });
+            }
+        }
+    }
+}
+
+/// A copy of a line.
+fn kept_line(alloc: Global, line: ReadLine<'_>) -> Result<KeptLine, AllocError>
+    ensures { IfOk result (λ kept. kept_line_in kept ≡ read_line_in line.entry) }
+{
+    Ok(KeptLine {
+        start: line.start,
+        text: line.text.to_ascii_string(alloc)?,
+        ending: line.ending,
+    })
+}
