@@ -62,10 +62,10 @@ label_of_host name front rest here owed only spans host =
 pub no_label : (label : Placed (List ℕ)) (fault : HostFault) → IsLabelFault label fault → ¬ (IsLabel label.item)
 no_label label (EmptyLabel place) wrong is = is.some wrong.1
 no_label label (LongLabel place) wrong is = let short = is.short in let long = wrong.1 in absurd (omega arith)
-no_label label (Character place) wrong is = wrong.2.other (is.codes wrong.0 0 wrong.2.inside)
-no_label label (Hyphen place) wrong is = elim wrong.3 [
-  | inl first ↦ is.first (subst (λ i. slice_get label.item i ≡ Some 45) first wrong.2)
-  | inr last ↦ let at : wrong.0 ≡ length label.item - 1 = omega (arith, last) in is.last (subst (λ i. slice_get label.item i ≡ Some 45) at wrong.2)
+no_label label (Character place) wrong is = wrong.1.2.other (is.codes wrong.1.0 0 wrong.1.2.inside)
+no_label label (Hyphen place) wrong is = elim wrong.2 [
+  | inl front ↦ is.first front.1
+  | inr back ↦ is.last back.2
 ]
 no_label label TooLong wrong is = wrong
 no_label label Memory wrong is = wrong

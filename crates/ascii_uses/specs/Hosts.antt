@@ -30,22 +30,25 @@ pub record IsHost (name : List ℕ) : Type 0 where
   pub joined : Pieces name 46 labels
   pub each : All IsLabel labels
 
--- what is wrong with a label, and where
+-- what is wrong with a label, and where: its length; or, of a label of a right length, the first character that none has; or, where each
+-- character is right, the hyphen at its front, or else the one at its back
 abbrev pub IsLabelFault : Placed (List ℕ) → HostFault → Type 0
 IsLabelFault label (EmptyLabel place) = (place ≡ label.start) × (label.item ≡ [])
 IsLabelFault label (LongLabel place) = (place ≡ label.start) × (63 < length label.item)
-IsLabelFault label (Character place) =
-    (i : ℕ) × (place ≡ label.start + i) × IsFirstNot IsLabelCode label.item 0 (length label.item) i
-IsLabelFault label (Hyphen place) =
-    (i : ℕ) × (place ≡ label.start + i) × (slice_get label.item i ≡ Some 45) × ((i ≡ 0) ⊎ (i + 1 ≡ length label.item))
+IsLabelFault label (Character place) = (length label.item ≤ 63)
+    × ((i : ℕ) × (place ≡ label.start + i) × IsFirstNot IsLabelCode label.item 0 (length label.item) i)
+IsLabelFault label (Hyphen place) = (length label.item ≤ 63) × All IsLabelCode label.item
+    × (((place ≡ label.start) × (slice_get label.item 0 ≡ Some 45))
+      ⊎ ((place + 1 ≡ label.start + length label.item) × (slice_get label.item 0 ≢ Some 45) × (slice_get label.item (length label.item - 1) ≡ Some 45)))
 IsLabelFault label other = ⊥
 
--- what is wrong with a name: its length, or the first of its labels that is none; or memory was refused for a host
+-- what is wrong with a name: its length, or, of a name of a right length, the first of its labels that is none; or memory was refused
+-- for a host
 abbrev pub IsHostFault : List ℕ → HostFault → Type 0
 IsHostFault name TooLong = 253 < length name
 IsHostFault name Memory = IsHost name × (inline_size < length name)
-IsHostFault name other = (before : List (Placed (List ℕ))) × (label : Placed (List ℕ)) × (behind : List (Placed (List ℕ)))
-    × PieceSpans 0 name 46 (before ++ label ∷ behind) × All IsLabel (items_of before) × IsLabelFault label other
+IsHostFault name other = (length name ≤ 253) × ((before : List (Placed (List ℕ))) × (label : Placed (List ℕ)) × (behind : List (Placed (List ℕ)))
+    × PieceSpans 0 name 46 (before ++ label ∷ behind) × All IsLabel (items_of before) × IsLabelFault label other)
 
 -- the one thing that can go wrong is memory
 abbrev pub FailsByMemory : {T : Type 0} → Result T HostFault → Type 0

@@ -23,7 +23,7 @@ static GOOD: [(&str, &str); 6] = [
 ];
 
 /// Names that are refused, and why.
-static BAD: [(&str, HostFault); 14] = [
+static BAD: [(&str, HostFault); 15] = [
     ("", HostFault::EmptyLabel(0)),
     (".", HostFault::EmptyLabel(0)),
     ("a.", HostFault::EmptyLabel(2)),
@@ -38,6 +38,7 @@ static BAD: [(&str, HostFault); 14] = [
     ("ab.cd-.e", HostFault::Hyphen(5)),
     ("ab.-c-", HostFault::Hyphen(3)),
     ("a_.b..c", HostFault::Character(1)),
+    ("-_-", HostFault::Character(1)),
 ];
 
 #[test]
@@ -65,6 +66,9 @@ fn lengths(rt: HostRuntime) -> Result<(), Fail> {
     // a label of 63 characters, and of 64
     same(&rt, Host::parse(alloc, name.as_ascii_str()).err(), None);
     name.push(AsciiChar::Z)?;
+    let long = Some(HostFault::LongLabel(0));
+    same(&rt, Host::parse(alloc, name.as_ascii_str()).err(), long);
+    name.push(AsciiChar::UnderScore)?;
     let long = Some(HostFault::LongLabel(0));
     same(&rt, Host::parse(alloc, name.as_ascii_str()).err(), long);
     Ok(())

@@ -1,6 +1,8 @@
 //! Lines of a file of settings.
 
 use super::{ascii, same};
+use ascii::AsciiChar;
+use ascii_uses::cuts::split_once;
 use ascii_uses::settings::{Setting, SettingFault, read_setting};
 
 /// Lines with a setting, its key and its value.
@@ -50,4 +52,13 @@ fn refusals(rt: HostRuntime) {
     for &(line, fault) in &BAD {
         same(&rt, read_setting(ascii(line)), Err(fault));
     }
+}
+
+#[test]
+fn cuts(rt: HostRuntime) {
+    let sides = split_once(ascii("a=b=c"), AsciiChar::Equal);
+    same(&rt, sides, Some((ascii("a"), ascii("b=c"))));
+    same(&rt, split_once(ascii("abc"), AsciiChar::Equal), None);
+    let sides = split_once(ascii("="), AsciiChar::Equal);
+    same(&rt, sides, Some((ascii(""), ascii(""))));
 }
