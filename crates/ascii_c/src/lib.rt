@@ -2,13 +2,14 @@
 //! and a length; `ascii.h` declares the calls. Where C has no place to answer, it gets the length.
 #![tactic(auto)]
 
-ghost use Rattle.std.specs.Prelude.{◌≡◌, ◌<◌, ◌≤◌, ◌⊎◌, ◌↔◌, All, IsFalse, IsTrue, length, map, slice_range, take};
+ghost use Rattle.std.specs.Prelude.{◌≡◌, ◌<◌, ◌≤◌, ◌⊎◌, ◌↔◌, IsFalse, IsTrue, length, map, slice_range, take};
 ghost use Rattle.std.specs.Str.{IsAscii};
-ghost use Rattle.ascii_base.specs.Bytes.{FirstOther, IsFirstNot, IsLastNot};
+ghost use Rattle.ascii_base.specs.Bytes.{FirstOther};
 ghost use Rattle.ascii_base.specs.Case.{lower_image, upper_image};
 ghost use Rattle.ascii_base.specs.Class.{IsWhitespace};
 ghost use Rattle.ascii.specs.Trim.{TrimsEnd, TrimsStart};
 ghost use Rattle.ascii_c.specs.Part.{IsPart, IsRefusedAt};
+ghost use Rattle.ascii_c.specs.Places.{IsFirstNotOrEnd, IsLastNotOrEnd};
 
 use ascii::{AsciiRange, bytes};
 use ascii_base::kernels;
@@ -48,7 +49,7 @@ pub extern "C" fn ascii_equal_ignoring_case(first: &[u8], second: &[u8]) -> bool
 /// The position of the first byte that is no white space, or `length` where every byte is. Of ` ab ` it is 1.
 #[unsafe(no_mangle)]
 pub extern "C" fn ascii_first_not_whitespace(bytes: &[u8]) -> usize
-    ensures { IsFirstNot IsWhitespace bytes.now 0 (length bytes.now) result ⊎ (All IsWhitespace bytes.now × (result ≡ length bytes.now)) }
+    ensures { IsFirstNotOrEnd IsWhitespace bytes.now result }
 {
     kernels::first_not_whitespace(bytes).unwrap_or(bytes.len())
 }
@@ -56,7 +57,7 @@ pub extern "C" fn ascii_first_not_whitespace(bytes: &[u8]) -> usize
 /// The position of the last byte that is no white space, or `length` where every byte is. Of ` ab ` it is 2.
 #[unsafe(no_mangle)]
 pub extern "C" fn ascii_last_not_whitespace(bytes: &[u8]) -> usize
-    ensures { IsLastNot IsWhitespace bytes.now result ⊎ (All IsWhitespace bytes.now × (result ≡ length bytes.now)) }
+    ensures { IsLastNotOrEnd IsWhitespace bytes.now result }
 {
     kernels::last_not_whitespace(bytes).unwrap_or(bytes.len())
 }

@@ -39,7 +39,7 @@ IsLabelFault label (Character place) = (length label.item ≤ 63)
     × ((i : ℕ) × (place ≡ label.start + i) × IsFirstNot IsLabelCode label.item 0 (length label.item) i)
 IsLabelFault label (Hyphen place) = (length label.item ≤ 63) × All IsLabelCode label.item
     × (((place ≡ label.start) × (slice_get label.item 0 ≡ Some 45))
-      ⊎ ((place + 1 ≡ label.start + length label.item) × (slice_get label.item 0 ≢ Some 45) × (slice_get label.item (length label.item - 1) ≡ Some 45)))
+    ⊎ ((place + 1 ≡ label.start + length label.item) × (slice_get label.item 0 ≢ Some 45) × (slice_get label.item (length label.item - 1) ≡ Some 45)))
 IsLabelFault label other = ⊥
 
 -- what is wrong with a name: its length, or, of a name of a right length, the first of its labels that is none; or memory was refused

@@ -1,7 +1,7 @@
 -- What a screen of a number of columns shows of a text.
 use Rattle.std.specs.Prelude.{◌≡◌, ◌≢◌, ℕ, ◌+◌, ◌-◌, ◌%◌, ◌≤◌, List, [], ◌∷◌, ◌++◌, ◌==◌, if◌then◌else◌, nat_le, codes, length, min, take}
 use Rattle.std.specs.List.{All}
-use Rattle.ascii_run.specs.Output.{caret_text}
+use Rattle.ascii_run.specs.Output.{IsShown, caret_text}
 
 -- what stands for a character at a column: for a tab spaces up to the next column that 8 divides, or to the edge; else its caret form
 abbrev pub cell : ℕ → ℕ → ℕ → List ℕ
@@ -30,3 +30,7 @@ shown_text width column (code ∷ codes) =
 abbrev pub IsNoWider : ℕ → List ℕ → Type 0
 IsNoWider width out =
     (before part behind : List ℕ) → before ++ (part ++ behind) ≡ out → All (λ code. code ≢ 10) part → length part ≤ width
+
+-- a text that a screen has no need to change: no control but LF, and no line wider than the screen
+abbrev pub IsPlain : ℕ → List ℕ → Type 0
+IsPlain width text = All IsShown text × IsNoWider width text

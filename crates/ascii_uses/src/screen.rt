@@ -1,11 +1,9 @@
 //! Showing a text on a screen of a number of columns: controls in caret form, tabs as spaces, long lines wrapped.
 
 ghost use Rattle.std.specs.Prelude.{◌≡◌, ◌≢◌, ◌+◌, ◌-◌, ◌%◌, ◌≤◌, ◌++◌, IfOk, length, min};
-ghost use Rattle.std.specs.List.{All};
 ghost use Rattle.ascii_base.specs.Code.{code_of};
-ghost use Rattle.ascii_run.specs.Output.{IsShown};
 ghost use Rattle.ascii.specs.View.{text_of};
-ghost use Rattle.ascii_uses.specs.Screen.{IsNoWider, cell, column_after, shown, shown_text};
+ghost use Rattle.ascii_uses.specs.Screen.{IsPlain, cell, column_after, shown, shown_text};
 
 use ascii::{AsciiChar, AsciiStr, AsciiString, caret_encode, text};
 use ascii_base::range::AsciiRange;
@@ -27,9 +25,8 @@ pub fn show_on_screen(alloc: Global, view: AsciiStr<'_>, width: usize) -> Result
     requires { 2 ≤ width }
     ensures each { IfOk result (λ out. out.text.text ≡ shown_text width 0 (text_of view.entry)) }
     ensures column { IfOk result (λ out. out.column ≡ column_after 0 out.text.text) }
-    ensures quiet { IfOk result (λ out. All IsShown out.text.text) }
-    ensures narrow { IfOk result (λ out. IsNoWider width out.text.text) }
-    ensures plain { All IsShown (text_of view.entry) → IsNoWider width (text_of view.entry) → IfOk result (λ out. out.text.text ≡ text_of view.entry) }
+    ensures plain { IfOk result (λ out. IsPlain width out.text.text) }
+    ensures unchanged { IsPlain width (text_of view.entry) → IfOk result (λ out. out.text.text ≡ text_of view.entry) }
 {
     let mut text = AsciiString::new(alloc);
     let mut column = 0;

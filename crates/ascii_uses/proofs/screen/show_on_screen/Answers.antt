@@ -1,9 +1,7 @@
 use Rattle.std.proofs.Common.{rules, ◌≡◌, ℕ, List, [], sym, subst, ◌∙◌}
-use Rattle.std.specs.List.{All}
 use Rattle.ascii_base.specs.Code.{code_of}
-use Rattle.ascii_run.specs.Output.{IsShown}
 use Rattle.ascii.specs.View.{text_of}
-use Rattle.ascii_uses.specs.Screen.{IsNoWider}
+use Rattle.ascii_uses.specs.Screen.{IsPlain}
 use Rattle.ascii_uses.proofs.ScreenLemmas.{IsOnTheWay, arrives, begins, goes_on, plain_shown, shown_narrow, shown_quiet}
 use Rattle.ascii_uses.proofs.screen.show_on_screen.Goals as goal
 
@@ -32,11 +30,9 @@ returns-clause-each c =
 pub returns-clause-column : goal.returns-clause-column
 returns-clause-column c = c.loop-ch.invariant.column
 
-pub returns-clause-quiet : goal.returns-clause-quiet
-returns-clause-quiet c = subst (All IsShown) (sym (returns-clause-each c)) (shown_quiet c.args.width 0 (text_of c.args.view) c.requires (search rules))
-
-pub returns-clause-narrow : goal.returns-clause-narrow
-returns-clause-narrow c = subst (IsNoWider c.args.width) (sym (returns-clause-each c)) (shown_narrow c.args.width (text_of c.args.view) c.requires)
-
 pub returns-clause-plain : goal.returns-clause-plain
-returns-clause-plain c plain narrow = returns-clause-each c ∙ plain_shown c.args.width (text_of c.args.view) plain narrow
+returns-clause-plain c = subst (IsPlain c.args.width) (sym (returns-clause-each c))
+    (shown_quiet c.args.width 0 (text_of c.args.view) c.requires (search rules), shown_narrow c.args.width (text_of c.args.view) c.requires)
+
+pub returns-clause-unchanged : goal.returns-clause-unchanged
+returns-clause-unchanged c plain = returns-clause-each c ∙ plain_shown c.args.width (text_of c.args.view) plain.0 plain.1
