@@ -27,27 +27,7 @@ fn view(source: &str) -> AsciiStr<'_> {
 }
 
 #[test]
-fn one_of_each_reply(rt: HostRuntime) -> Result<(), Fail> {
-    let cmds = [
-        Cmd::Insert(4, AsciiChar::x),
-        Cmd::Insert(3, AsciiChar::x),
-        Cmd::Remove(4),
-        Cmd::Remove(0),
-        Cmd::Set(3, AsciiChar::z),
-        Cmd::Truncate(1),
-        Cmd::Upper,
-        Cmd::EqIgnoreCase(view("b")),
-        Cmd::Copy(AsciiRange::From(2)),
-        Cmd::Copy(AsciiRange::Inclusive(1, 0)),
-        Cmd::Reserve(usize::MAX),
-        Cmd::Len,
-        Cmd::Pop,
-        Cmd::Pop,
-    ];
-    let wanted = "BadPosition; Done; BadPosition; Char(Some('a')); BadPosition; Done; Done; \
-        Truth(true); Refused(AsAsciiStrError(1)); Text(\"\"); TooMany; Number(1); \
-        Char(Some('B')); Char(None); ";
-    same(&rt, ran(rt.alloc(), "abc", &cmds)?.as_str(), wanted);
+fn no_command(rt: HostRuntime) -> Result<(), Fail> {
     same(&rt, ran(rt.alloc(), "abc", &[])?.as_str(), "abc");
     Ok(())
 }
