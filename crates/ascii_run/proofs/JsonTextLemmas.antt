@@ -1,7 +1,10 @@
 -- The compact JSON text of a text is what the kit's writer gives, and is itself a text.
-use Rattle.std.proofs.Common.{◌≡◌, ℕ, ◌<◌, List, [], ◌∷◌, ◌++◌, refl, ap, ◌∙◌, sym, arith, append-nil, nat_lt, Bool, true, false, ◌&&◌, zero, suc, ⊎_elim, get_or}
+use Rattle.std.proofs.Common.{◌≡◌, ℕ, ◌<◌, List, [], ◌∷◌, ◌++◌, refl, ap, ◌∙◌, sym, arith, append-nil, length, map, take, drop, length-append, ◌+◌, ◌-◌, ◌≤◌, subst, nat_lt, Bool, true, false, ◌&&◌, zero, suc, ⊎_elim, get_or}
 use Rattle.std.proofs.lemmas.Bool.Decides.{nat_tests}
 use Rattle.std.proofs.lemmas.Str.Ascii.{All-from_ascii, IsAscii-from_all}
+use Rattle.std.proofs.lemmas.Grind.{common_steps}
+use Rattle.std.proofs.lemmas.List.{get_or-map, get_or_append_left, length-map, map-append}
+use Rattle.std.proofs.Math.Seq.{get_or-append_seam}
 use Rattle.std.proofs.lemmas.List.Elements.{All-append, All-from_get_or, All-cons, All-head, All-nil, All-tail}
 use Rattle.std.proofs.lemmas.Bool.{cases_lt, ltb-true}
 use Rattle.std.proofs.lemmas.List.Sums.{AllPass-from_list_all}
@@ -9,7 +12,7 @@ use Rattle.std.specs.List.{All, AllPass, flat_map, list_all}
 use Rattle.std.specs.Str.{IsAscii}
 use Rattle.json.specs.Print.{escape_byte, print, print_from}
 use Rattle.json.specs.Token.{Token, string}
-use Rattle.ascii_run.specs.JsonText.{json_code, json_text}
+use Rattle.ascii_run.specs.JsonText.{AreForms, json_code, json_text}
 
 -- a test at each number below n
 abbrev all_below : (ℕ → Bool) → ℕ → Bool
@@ -69,3 +72,37 @@ pub printed : (items before : List ℕ) (tokens old : List Token) (t text : List
     → tokens ≡ old ++ string t ∷ [] → old ≡ [] → t ≡ text → items ≡ json_text text
 printed items before tokens old t text is none held empty same =
     is ∙ (ap (λ b. b ++ print tokens) none ∙ (ap print (held ∙ ap (λ o. o ++ string t ∷ []) empty) ∙ (print-string t ∙ ap json_text same)))
+
+-- the form of a code, by its place
+pub form_at : {F : Type 0} (text : F → List ℕ) (forms : List F) (code : ℕ) (form : F) → AreForms 128 (map text forms) → code < 128
+    → form ≡ get_or forms code form → text form ≡ json_text (code ∷ [])
+form_at text forms code form are low is =
+    ap text is ∙ (sym (get_or-map text forms code form [] (omega (arith, length-map forms text, are.0))) ∙ are.1 code low)
+
+-- one form more
+pub form_more : {F : Type 0} (text : F → List ℕ) (forms : List F) (form : F) (n : ℕ) → AreForms n (map text forms) → text form ≡ json_text (n ∷ [])
+    → AreForms (n + 1) (map text (forms ++ form ∷ []))
+form_more text forms form n are is =
+    let texts = map text forms in
+    let more : map text (forms ++ form ∷ []) ≡ texts ++ text form ∷ [] = map-append text forms (form ∷ []) in
+    let last : get_or (texts ++ text form ∷ []) n [] ≡ json_text (n ∷ []) =
+    subst (λ k. get_or (texts ++ text form ∷ []) k [] ≡ json_text (n ∷ [])) are.0 (get_or-append_seam texts (text form) [] [] ∙ is) in
+    subst (AreForms (n + 1)) (sym more) (
+      omega (arith, length-append texts (text form ∷ []), are.0),
+      λ code low.
+          ⊎_elim (λ below. get_or_append_left texts (text form ∷ []) [] code (omega (arith, are.0)) ∙ are.1 code below)
+          (λ high. let e : code ≡ n = omega arith in subst (λ k. get_or (texts ++ text form ∷ []) k [] ≡ json_text (k ∷ [])) (sym e) last) (cases_lt code n),
+    )
+
+-- the JSON string of one character is a quote, its code in a JSON string, and a quote
+form_is : (form : List ℕ) (code : ℕ) → form ≡ json_text (code ∷ []) → form ≡ 34 ∷ (json_code code ++ 34 ∷ [])
+form_is form code is = is ∙ ap (λ xs. 34 ∷ (xs ++ 34 ∷ [])) (append-nil (json_code code))
+
+pub form_long : (form : List ℕ) (code : ℕ) → form ≡ json_text (code ∷ []) → 2 ≤ length form
+form_long form code is = subst (λ xs. 2 ≤ length xs) (sym (form_is form code is)) (omega (arith, length-append (json_code code) (34 ∷ [])))
+
+-- the JSON string of one character without its quotes
+pub form_inner : (form : List ℕ) (code : ℕ) → form ≡ json_text (code ∷ []) → take (length form - 1 - 1) (drop 1 form) ≡ json_code code
+form_inner form code is =
+    subst (λ xs. take (length xs - 1 - 1) (drop 1 xs) ≡ json_code code) (sym (form_is form code is))
+    (grind (arith, common_steps))

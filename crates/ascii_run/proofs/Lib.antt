@@ -1,8 +1,8 @@
-pub mod CaretLemmas
 pub mod EndsOutputLemmas
 pub mod InlineLemmas
 pub mod JsonTextLemmas
 pub mod PageLemmas
+pub mod PlainRunLemmas
 mod RunExamples
 pub mod RunsLemmas
 pub mod SinkLemmas

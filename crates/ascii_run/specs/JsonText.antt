@@ -1,5 +1,5 @@
 -- The compact JSON text of a text: a double quote, its characters one by one, a double quote.
-use Rattle.std.specs.Prelude.{ℕ, ◌/◌, ◌%◌, List, [], ◌∷◌, ◌++◌, if◌then◌else◌, ◌==◌, nat_lt, codes}
+use Rattle.std.specs.Prelude.{◌≡◌, ◌≤◌, ◌<◌, length, get_or, ℕ, ◌/◌, ◌%◌, List, [], ◌∷◌, ◌++◌, if◌then◌else◌, ◌==◌, nat_lt, codes}
 use Rattle.std.specs.Char.{digit_char}
 use Rattle.std.specs.List.{flat_map}
 
@@ -18,3 +18,13 @@ json_code n =
 -- a text as a JSON string
 abbrev pub json_text : List ℕ → List ℕ
 json_text text = codes "\"" ++ (flat_map json_code text ++ codes "\"")
+
+-- What follows no public clause cites.
+
+-- a code that stands as itself in a JSON string
+abbrev pub IsUnescaped : ℕ → Type 0
+IsUnescaped n = (32 ≤ n) × (n ≡ 34 → ⊥) × (n ≡ 92 → ⊥)
+
+-- the JSON strings of the first n characters, each by itself
+abbrev pub AreForms : ℕ → List (List ℕ) → Type 0
+AreForms n texts = (length texts ≡ n) × ((code : ℕ) → code < n → get_or texts code [] ≡ json_text (code ∷ []))

@@ -35,7 +35,7 @@ pub fn engine<S: Source, K: Sink, A: Allocator + Copy>(
 }
 
 /// How many bytes one read asks for.
-const CHUNK: usize = 8192;
+const CHUNK: usize = 32_768;
 
 /// All bytes that the reader has left.
 fn read_all<S: Source, A: Allocator>(alloc: A, reader: &mut S) -> Result<Vec<u8, A>, EngineFault>

@@ -9,18 +9,17 @@ ghost use Rattle.ascii_run.specs.Engine.{StopsOutput, WritesOutput, write_failur
 ghost use Rattle.ascii_run.specs.Outgoing.{MayFail, OutputIn, PutIn, out};
 ghost use Rattle.ascii_run.specs.Output.{IsShown, answer_text, caret_text, ending_word, span_text, with_line_feed};
 ghost use Rattle.ascii_run.specs.Run.{HasNoFault, plain_text};
-ghost use Rattle.ascii_run.specs.JsonText.{json_text};
 
 use crate::commands::{Cmd, edit};
 use crate::controls::first_control;
 use crate::devices::Sink;
 use crate::faults::EngineFault;
+use crate::json_strings::put_json;
 use crate::modes::Mode;
 use crate::page::Page;
 use ascii::iter::{End, Ending, LineSpan, take_end};
 use ascii::{AsciiStr, AsciiString};
 use itoa::Buffer;
-use json::Writer;
 use std::alloc::{AllocError, Allocator};
 
 /// Writes the output of the mode for a text, and flushes. All growth is made before the first byte
@@ -64,7 +63,7 @@ fn put_output<K: Sink, A: Allocator + Copy>(
             writer,
             edit_output(alloc, text, cmds)?.as_ascii_str().as_bytes(),
         ),
-        Mode::Json => page.put(writer, json_output(alloc, text)?.as_ascii_str().as_bytes()),
+        Mode::Json => put_json(alloc, text, page, writer)?,
     }
     Ok(())
 }
@@ -199,15 +198,6 @@ fn word_of_ending(ending: Ending) -> &'static [u8]
         Ending::CrLf => b" crlf ",
         Ending::Absent => b" none ",
     }
-}
-
-/// The text as a compact JSON string.
-fn json_output<A: Allocator>(alloc: A, text: AsciiStr<'_>) -> Result<AsciiString<A>, AllocError>
-    ensures { IfOk result (λ output. output.text ≡ json_text (text_of text.entry)) }
-{
-    let mut writer = Writer::new(Vec::with_capacity(alloc, text.len().saturating_add(2))?);
-    writer.string(text.as_str())?;
-    Ok(AsciiString::from_ascii_unchecked(writer.into_inner()))
 }
 
 /// The text after the commands.

@@ -76,3 +76,22 @@ fn json_of_every_code(rt: HostRuntime) -> Result<(), Fail> {
     }
     Ok(())
 }
+
+#[test]
+fn json_of_every_code_in_a_long_text(rt: HostRuntime) -> Result<(), Fail> {
+    let alloc = rt.alloc();
+    let mut long = Vec::new(alloc);
+    for _ in 0..5_000 {
+        long.push(b'a')?;
+    }
+    for code in 0..128u8 {
+        let mut source = long.clone()?;
+        source.push(code)?;
+        let (answer, written) = ran(alloc, Mode::Json, &source);
+        same(&rt, answer, Ok(()));
+        let wanted = json_text(alloc, code)?;
+        same(&rt, written.len(), wanted.len() + 5_000);
+        same(&rt, written.get(5_001..), wanted.as_bytes().get(1..));
+    }
+    Ok(())
+}

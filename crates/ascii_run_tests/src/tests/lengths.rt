@@ -142,3 +142,26 @@ fn room_is_made_and_given_back(rt: HostRuntime) -> Result<(), Fail> {
     same(&rt, buf.as_ascii_str().as_str(), "x");
     Ok(())
 }
+
+/// `json` of a long text of `a` with a character at a place, and how it stands there.
+fn is_json_at(alloc: Global, place: usize, code: u8, form: &str) -> Result<bool, AllocError> {
+    let mut input = bytes_of(alloc, "", place, "")?;
+    input.push(code)?;
+    input.extend_from_slice(bytes_of(alloc, "", 5_000, "")?.as_slice())?;
+    let (_, written) = ran(alloc, Mode::Json, &input);
+    let mut wanted = bytes_of(alloc, "\"", place, form)?;
+    wanted.extend_from_slice(bytes_of(alloc, "", 5_000, "\"")?.as_slice())?;
+    Ok(written == wanted)
+}
+
+#[test]
+fn an_escape_at_each_place(rt: HostRuntime) -> Result<(), Fail> {
+    for place in 0..70 {
+        assert!(rt; is_json_at(rt.alloc(), place, 10, "\\n")?);
+        assert!(rt; is_json_at(rt.alloc(), place, 31, "\\u001f")?);
+        assert!(rt; is_json_at(rt.alloc(), place, 34, "\\\"")?);
+        assert!(rt; is_json_at(rt.alloc(), place, 92, "\\\\")?);
+        assert!(rt; is_json_at(rt.alloc(), place, 127, "\u{7f}")?);
+    }
+    Ok(())
+}

@@ -2,8 +2,8 @@ use Rattle.std.proofs.Common.{◌+◌, ◌++◌, take, get_or}
 use Rattle.std.proofs.lemmas.Str.{IsAscii-drop, IsAscii-take}
 use Rattle.std.specs.List.{flat_map}
 use Rattle.ascii.specs.View.{text_of}
-use Rattle.ascii_run.specs.Output.{caret_text}
-use Rattle.ascii_run.proofs.CaretLemmas.{shown_all, shown_more}
+use Rattle.ascii_run.specs.Output.{IsShown, caret_text}
+use Rattle.ascii_run.proofs.PlainRunLemmas.{caret_plain, shown_all, shown_more}
 use Rattle.ascii_run.proofs.PageLemmas.{MayFail-still, Puts-is, Puts-trans}
 use Rattle.ascii_run.proofs.SinkLemmas.{sent_more}
 use Rattle.ascii_run.proofs.outputs.put_caret.Goals as goal
@@ -21,7 +21,7 @@ runs-preserved g c =
       (
         done ++ take (place + 1) rest,
         sent_more done rest (text_of c.args.text) (place + 1) c.runs.invariant.2.1,
-        Puts-is (shown_more done rest place c.in-Some.ensures) (Puts-trans (flat_map caret_text done) (run ++ shown) c.runs.invariant.2.2 both),
+        Puts-is (shown_more IsShown caret_text caret_plain done rest place c.in-Some.ensures) (Puts-trans (flat_map caret_text done) (run ++ shown) c.runs.invariant.2.2 both),
       ),
     )
 
@@ -29,5 +29,5 @@ pub returns : goal.returns
 returns g c =
     let done = c.runs.invariant.2.0 in
     let rest = c.runs.rest.now in
-    Puts-is (shown_all done rest (text_of c.args.text) c.in_default.ensures c.runs.invariant.2.1)
+    Puts-is (shown_all IsShown caret_text caret_plain done rest (text_of c.args.text) c.in_default.ensures c.runs.invariant.2.1)
     (Puts-trans (flat_map caret_text done) rest c.runs.invariant.2.2 c.put-2.ensures)

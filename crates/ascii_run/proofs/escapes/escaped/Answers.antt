@@ -1,0 +1,22 @@
+use Rattle.std.proofs.Common.{ℕ, ◌≡◌, ltb, eqb, ◌||◌, true, false, cond, bit_or, refl, rules, arith}
+use Rattle.std.proofs.lemmas.Simd.{zip2_of_maps, zip2_splat, length-chunk}
+use lib.Lanes.{chunk}
+use Rattle.ascii_run.specs.JsonText.{IsUnescaped}
+use Rattle.ascii_base.proofs.LanesLemmas.{marks_of}
+use Rattle.ascii_run.proofs.escapes.escaped.Goals as goal
+
+outside : (x : ℕ) → ltb x 32 || (eqb x 34 || eqb x 92) ≡ true → ¬ (IsUnescaped x)
+outside x t = search rules
+
+within : (x : ℕ) → ltb x 32 || (eqb x 34 || eqb x 92) ≡ false → IsUnescaped x
+within x t = search rules
+
+pub returns : goal.returns
+returns c =
+    let v = chunk c.args.at 32 c.args.bytes.now in
+    let long = length-chunk c.args.at 32 c.args.bytes.now c.requires in
+    marks_of IsUnescaped (λ x. ltb x 32 || (eqb x 34 || eqb x 92)) outside within _ refl
+    c.args.bytes.now c.args.at 32 c.requires (omega arith) c.type_inv.bytes _
+    (zip2_of_maps bit_or _ _ v (zip2_splat {Y = ℕ} (λ a b. cond (ltb a b) 255 0) v 32 32 long)
+    (zip2_of_maps bit_or _ _ v (zip2_splat {Y = ℕ} (λ a b. cond (eqb a b) 255 0) v 32 34 long)
+    (zip2_splat {Y = ℕ} (λ a b. cond (eqb a b) 255 0) v 32 92 long)))

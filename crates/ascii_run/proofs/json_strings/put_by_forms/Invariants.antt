@@ -1,0 +1,17 @@
+use Rattle.std.proofs.Common.{◌≡◌, List, ℕ, ◌++◌, length}
+use Rattle.std.specs.List.{flat_map}
+use Rattle.std.specs.Str.{IsAscii}
+use Rattle.ascii.specs.View.{text_of}
+use Rattle.ascii_run.specs.Outgoing.{MayFail, Puts, out}
+use Rattle.ascii_run.specs.JsonText.{json_code}
+use Rattle.ascii_run.proofs.json_strings.put_by_forms.Given as goal
+
+-- what stands for the codes before the rest was put in
+abbrev pub invariant-runs : goal.invariant-runs
+invariant-runs g l =
+    MayFail (out g.K.Sink.taken g.K.Sink.failures l.writer l.page) × IsAscii l.rest × ((done : List ℕ) × (done ++ l.rest ≡ text_of l.text)
+    × Puts (out g.K.Sink.taken g.K.Sink.failures l.fn.writer l.fn.page) (out g.K.Sink.taken g.K.Sink.failures l.writer l.page) (flat_map json_code done))
+
+-- the codes that are left
+abbrev pub decreases-runs : goal.decreases-runs
+decreases-runs g l = length l.rest

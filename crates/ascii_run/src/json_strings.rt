@@ -1,0 +1,97 @@
+//! The output of `json`.
+
+ghost use Rattle.std.specs.Prelude.{◌≡◌, ◌++◌, ◌<◌, IfOk, OnErr, OnOk, length, map};
+ghost use Rattle.std.specs.List.{flat_map};
+ghost use Rattle.ascii.specs.View.{text_of};
+ghost use Rattle.ascii_run.specs.JsonText.{AreForms, IsUnescaped, json_code, json_text};
+ghost use Rattle.ascii_run.specs.Outgoing.{MayFail, PutIn, out};
+
+use crate::devices::Sink;
+use crate::escapes::first_escaped;
+use crate::page::Page;
+use ascii::{AsciiStr, AsciiString, bytes};
+use json::Writer;
+use std::alloc::{AllocError, Allocator};
+
+/// How long a text may be that is put in as one piece.
+const SHORT: usize = 4_096;
+
+/// Puts in the text as a compact JSON string. All growth is made before; nothing is put in where memory
+/// is refused.
+pub(crate) fn put_json<K: Sink, A: Allocator + Copy>(
+    alloc: A,
+    text: AsciiStr<'_>,
+    page: &mut Page<A>,
+    writer: &mut K,
+) -> Result<(), AllocError>
+    requires { MayFail (out K.taken K.failures writer.old page.old) }
+    ensures ok { OnOk result (PutIn K.taken K.failures writer.old page.old writer.new page.new (json_text (text_of text.entry))) }
+    ensures kept { OnErr result (writer.new ≡ writer.old) }
+{
+    if text.len() <= SHORT {
+        let output = json_string(alloc, text)?;
+        page.put(writer, output.as_ascii_str().as_bytes());
+    } else {
+        let forms = forms(alloc)?;
+        page.put(writer, b"\"");
+        put_by_forms(text, &forms, page, writer);
+        page.put(writer, b"\"");
+    }
+    Ok(())
+}
+
+/// The text as a compact JSON string.
+fn json_string<A: Allocator>(alloc: A, text: AsciiStr<'_>) -> Result<AsciiString<A>, AllocError>
+    ensures { IfOk result (λ output. output.text ≡ json_text (text_of text.entry)) }
+{
+    let mut writer = Writer::new(Vec::with_capacity(alloc, text.len().saturating_add(2))?);
+    writer.string(text.as_str())?;
+    Ok(AsciiString::from_ascii_unchecked(writer.into_inner()))
+}
+
+/// The JSON string of each character by itself, by its code.
+fn forms<A: Allocator + Copy>(alloc: A) -> Result<Vec<AsciiString<A>, A>, AllocError>
+    ensures { IfOk result (λ forms. AreForms 128 (map (λ form. form.text) forms.items)) }
+{
+    let mut forms = Vec::with_capacity(alloc, 128)?;
+    for code in 0..128u8 {
+        forms.push(json_string(alloc, bytes::as_ascii_str_unchecked(&[code]))?)?;
+    }
+    Ok(forms)
+}
+
+/// Puts in each character by its form. What stands between two that are escaped goes in as one run.
+fn put_by_forms<K: Sink, A: Allocator>(
+    text: AsciiStr<'_>,
+    forms: &[AsciiString<A>],
+    page: &mut Page<A>,
+    writer: &mut K,
+)
+    requires fail { MayFail (out K.taken K.failures writer.old page.old) }
+    requires forms { AreForms 128 (map (λ form. form.text) forms.now) }
+    ensures { PutIn K.taken K.failures writer.old page.old writer.new page.new (flat_map json_code (text_of text.entry)) }
+{
+    let mut rest = text.as_bytes();
+    'runs: while let Some(place) = first_escaped(rest) {
+        page.put(writer, &rest[..place]);
+        put_form(rest[place], forms, page, writer);
+        rest = &rest[place + 1..];
+    }
+    page.put(writer, rest);
+}
+
+/// Puts in a character as it stands in a JSON string.
+fn put_form<K: Sink, A: Allocator>(
+    code: u8,
+    forms: &[AsciiString<A>],
+    page: &mut Page<A>,
+    writer: &mut K,
+)
+    requires fail { MayFail (out K.taken K.failures writer.old page.old) }
+    requires forms { AreForms 128 (map (λ form. form.text) forms.now) }
+    requires ascii { code < 128 }
+    ensures { PutIn K.taken K.failures writer.old page.old writer.new page.new (json_code code) }
+{
+    let form = forms[code as usize].as_ascii_str().as_bytes();
+    page.put(writer, &form[1..form.len() - 1]);
+}
