@@ -11,7 +11,7 @@ use std::test::Fail;
 pub type Heap = Refusing<Global>;
 
 /// More growths than any call of these tests makes.
-const MANY: u64 = 200;
+const MANY: u64 = 400;
 
 /// Runs a call with its first growth refused, then with its second, until a run meets no refusal. What the
 /// runs answer is `wanted`, in this order and each as often as it comes; the last is the answer with ample
