@@ -1,9 +1,9 @@
 //! The output of `json`.
 
-ghost use Rattle.std.specs.Prelude.{◌≡◌, ◌++◌, ◌<◌, IfOk, OnErr, OnOk, length, map};
+ghost use Rattle.std.specs.Prelude.{◌≡◌, ◌<◌, [], ◌∷◌, IfOk, OnErr, OnOk, map};
 ghost use Rattle.std.specs.List.{flat_map};
 ghost use Rattle.ascii.specs.View.{text_of};
-ghost use Rattle.ascii_run.specs.JsonText.{AreForms, IsUnescaped, json_code, json_text};
+ghost use Rattle.ascii_run.specs.JsonText.{AreForms, json_code, json_text};
 ghost use Rattle.ascii_run.specs.Outgoing.{MayFail, PutIn, out};
 
 use crate::devices::Sink;
@@ -92,6 +92,15 @@ fn put_form<K: Sink, A: Allocator>(
     requires ascii { code < 128 }
     ensures { PutIn K.taken K.failures writer.old page.old writer.new page.new (json_code code) }
 {
-    let form = forms[code as usize].as_ascii_str().as_bytes();
+    let form = form_of(code, forms);
     page.put(writer, &form[1..form.len() - 1]);
+}
+
+/// The JSON string of a character.
+fn form_of<A: Allocator>(code: u8, forms: &[AsciiString<A>]) -> &[u8]
+    requires forms { AreForms 128 (map (λ form. form.text) forms.now) }
+    requires ascii { code < 128 }
+    ensures { result.now ≡ json_text (code ∷ []) }
+{
+    forms[code as usize].as_ascii_str().as_bytes()
 }

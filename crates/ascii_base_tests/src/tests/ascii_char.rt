@@ -311,6 +311,20 @@ fn is_digit(ch: AsciiChar, radix: u32) -> bool {
     radix <= 36 && ch.is_digit(radix)
 }
 
+/// Two characters, and whether they are alike without case.
+static PAIRS: [(AsciiChar, AsciiChar, bool); 10] = [
+    (AsciiChar::LineFeed, AsciiChar::LineFeed, true),
+    (AsciiChar::LineFeed, AsciiChar::CarriageReturn, false),
+    (AsciiChar::z, AsciiChar::Z, true),
+    (AsciiChar::Z, AsciiChar::z, true),
+    (AsciiChar::A, AsciiChar::a, true),
+    (AsciiChar::K, AsciiChar::C, false),
+    (AsciiChar::Z, AsciiChar::DEL, false),
+    (AsciiChar::BracketOpen, AsciiChar::CurlyBraceOpen, false),
+    (AsciiChar::Grave, AsciiChar::At, false),
+    (AsciiChar::Grave, AsciiChar::DEL, false),
+];
+
 #[test]
 fn cases(rt: HostRuntime) {
     for (ch, upper, lower) in [
@@ -333,18 +347,7 @@ fn cases(rt: HostRuntime) {
             (upper, lower),
         );
     }
-    for (one, other, want) in [
-        (AsciiChar::LineFeed, AsciiChar::LineFeed, true),
-        (AsciiChar::LineFeed, AsciiChar::CarriageReturn, false),
-        (AsciiChar::z, AsciiChar::Z, true),
-        (AsciiChar::Z, AsciiChar::z, true),
-        (AsciiChar::A, AsciiChar::a, true),
-        (AsciiChar::K, AsciiChar::C, false),
-        (AsciiChar::Z, AsciiChar::DEL, false),
-        (AsciiChar::BracketOpen, AsciiChar::CurlyBraceOpen, false),
-        (AsciiChar::Grave, AsciiChar::At, false),
-        (AsciiChar::Grave, AsciiChar::DEL, false),
-    ] {
+    for &(one, other, want) in &PAIRS {
         same(&rt, one.eq_ignore_ascii_case(&other), want);
     }
 }

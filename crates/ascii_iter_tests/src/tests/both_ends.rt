@@ -38,33 +38,36 @@ pub fn joined(alloc: Global, answers: &[Option<AsciiStr<'_>>]) -> Result<AsciiSt
     Ok(text)
 }
 
+/// A text, where it is split, the ends that are asked, and the answers.
+static PIECES: [(&str, AsciiChar, &str, &str); 13] = [
+    (
+        " foo  bar baz ",
+        AsciiChar::Space,
+        "FBFBBFB",
+        "||foo|baz|bar||~|",
+    ),
+    ("", AsciiChar::NAK, "FF", "|~|"),
+    ("", AsciiChar::NAK, "BB", "|~|"),
+    ("|||", AsciiChar::VerticalBar, "FFFFF", "||||~|"),
+    ("|||", AsciiChar::VerticalBar, "BBBBB", "||||~|"),
+    (
+        "foo;bar;baz;",
+        AsciiChar::Semicolon,
+        "FFFFF",
+        "foo|bar|baz||~|",
+    ),
+    (",", AsciiChar::Comma, "BBF", "||~|"),
+    ("ab", AsciiChar::Comma, "BF", "ab|~|"),
+    ("", AsciiChar::Equal, "FFF", "|~|~|"),
+    ("1,2,3", AsciiChar::Comma, "FFFF", "1|2|3|~|"),
+    (" a  b  c ", AsciiChar::Space, "FFFFFFFF", "|a||b||c||~|"),
+    (" a  b  c ", AsciiChar::Space, "BBBBBBBB", "|c||b||a||~|"),
+    ("ab", AsciiChar::Comma, "", ""),
+];
+
 #[test]
 fn walked_pieces(rt: HostRuntime) -> Result<(), Fail> {
-    for (source, on, script, want) in [
-        (
-            " foo  bar baz ",
-            AsciiChar::Space,
-            "FBFBBFB",
-            "||foo|baz|bar||~|",
-        ),
-        ("", AsciiChar::NAK, "FF", "|~|"),
-        ("", AsciiChar::NAK, "BB", "|~|"),
-        ("|||", AsciiChar::VerticalBar, "FFFFF", "||||~|"),
-        ("|||", AsciiChar::VerticalBar, "BBBBB", "||||~|"),
-        (
-            "foo;bar;baz;",
-            AsciiChar::Semicolon,
-            "FFFFF",
-            "foo|bar|baz||~|",
-        ),
-        (",", AsciiChar::Comma, "BBF", "||~|"),
-        ("ab", AsciiChar::Comma, "BF", "ab|~|"),
-        ("", AsciiChar::Equal, "FFF", "|~|~|"),
-        ("1,2,3", AsciiChar::Comma, "FFFF", "1|2|3|~|"),
-        (" a  b  c ", AsciiChar::Space, "FFFFFFFF", "|a||b||c||~|"),
-        (" a  b  c ", AsciiChar::Space, "BBBBBBBB", "|c||b||a||~|"),
-        ("ab", AsciiChar::Comma, "", ""),
-    ] {
+    for &(source, on, script, want) in &PIECES {
         let script = ends(rt.alloc(), script)?;
         let answers = walk_split(rt.alloc(), ascii(source), on, &script)?;
         same(
@@ -76,24 +79,27 @@ fn walked_pieces(rt: HostRuntime) -> Result<(), Fail> {
     Ok(())
 }
 
+/// A text, the ends that are asked, and the answers.
+static LINES: [(&str, &str, &str); 14] = [
+    ("foo\r\nbar\n\nbaz\n", "FBBFF", "foo|baz||bar|~|"),
+    ("foo\r\nbar\n\nbaz", "FFFFF", "foo|bar||baz|~|"),
+    ("foo\r\nbar\n\nbaz\n", "BBBBB", "baz||bar|foo|~|"),
+    ("\r\r\n", "FF", "\r|~|"),
+    ("\r\r\n", "BB", "\r|~|"),
+    ("a\r", "FF", "a\r|~|"),
+    ("a\r", "BB", "a\r|~|"),
+    ("\n\r\n\n\r\n", "FFFFF", "||||~|"),
+    ("\n\r\n\n\r\n", "BBBBB", "||||~|"),
+    ("\n", "FF", "|~|"),
+    ("", "FF", "~|~|"),
+    ("", "BB", "~|~|"),
+    ("\n\n", "BBFF", "||~|~|"),
+    ("a\r\n\r\nb\r", "BBB", "b\r||a|"),
+];
+
 #[test]
 fn walked_lines(rt: HostRuntime) -> Result<(), Fail> {
-    for (source, script, want) in [
-        ("foo\r\nbar\n\nbaz\n", "FBBFF", "foo|baz||bar|~|"),
-        ("foo\r\nbar\n\nbaz", "FFFFF", "foo|bar||baz|~|"),
-        ("foo\r\nbar\n\nbaz\n", "BBBBB", "baz||bar|foo|~|"),
-        ("\r\r\n", "FF", "\r|~|"),
-        ("\r\r\n", "BB", "\r|~|"),
-        ("a\r", "FF", "a\r|~|"),
-        ("a\r", "BB", "a\r|~|"),
-        ("\n\r\n\n\r\n", "FFFFF", "||||~|"),
-        ("\n\r\n\n\r\n", "BBBBB", "||||~|"),
-        ("\n", "FF", "|~|"),
-        ("", "FF", "~|~|"),
-        ("", "BB", "~|~|"),
-        ("\n\n", "BBFF", "||~|~|"),
-        ("a\r\n\r\nb\r", "BBB", "b\r||a|"),
-    ] {
+    for &(source, script, want) in &LINES {
         let script = ends(rt.alloc(), script)?;
         let answers = walk_lines(rt.alloc(), ascii(source), &script)?;
         same(

@@ -41,20 +41,23 @@ fn shown_lines(alloc: Global, answers: &[Option<LineSpan<'_>>]) -> Result<String
     Ok(text)
 }
 
+/// A text, the ends that are asked, and the answers.
+static LINES: [(&str, &str, &str); 6] = [
+    (
+        "foo\r\nbar\n\nbaz\n",
+        "FBBFF",
+        "0 crlf foo|10 lf baz|9 lf |5 lf bar|~|",
+    ),
+    ("\n\r\n\n\r\n", "FFFF", "0 lf |1 crlf |3 lf |4 crlf |"),
+    ("\r\r\n", "B", "0 crlf \r|"),
+    ("a\r", "B", "0 none a\r|"),
+    ("", "FB", "~|~|"),
+    ("x\r\ny", "FBB", "0 crlf x|3 none y|~|"),
+];
+
 #[test]
 fn walked_line_spans(rt: HostRuntime) -> Result<(), Fail> {
-    for (source, script, want) in [
-        (
-            "foo\r\nbar\n\nbaz\n",
-            "FBBFF",
-            "0 crlf foo|10 lf baz|9 lf |5 lf bar|~|",
-        ),
-        ("\n\r\n\n\r\n", "FFFF", "0 lf |1 crlf |3 lf |4 crlf |"),
-        ("\r\r\n", "B", "0 crlf \r|"),
-        ("a\r", "B", "0 none a\r|"),
-        ("", "FB", "~|~|"),
-        ("x\r\ny", "FBB", "0 crlf x|3 none y|~|"),
-    ] {
+    for &(source, script, want) in &LINES {
         let script = ends(rt.alloc(), script)?;
         let answers = walk_line_spans(rt.alloc(), ascii(source), &script)?;
         same(&rt, shown_lines(rt.alloc(), &answers)?.as_str(), want);
@@ -62,19 +65,22 @@ fn walked_line_spans(rt: HostRuntime) -> Result<(), Fail> {
     Ok(())
 }
 
+/// A text, where it is split, the ends that are asked, and the answers.
+static PIECES: [(&str, AsciiChar, &str, &str); 4] = [
+    (
+        " foo  bar baz ",
+        AsciiChar::Space,
+        "FBFBBFB",
+        "0 |14 |1 foo|10 baz|6 bar|5 |~|",
+    ),
+    ("", AsciiChar::NAK, "BF", "0 |~|"),
+    ("|||", AsciiChar::VerticalBar, "BFBF", "3 |0 |2 |1 |"),
+    (",", AsciiChar::Comma, "BBF", "1 |0 |~|"),
+];
+
 #[test]
 fn walked_piece_spans(rt: HostRuntime) -> Result<(), Fail> {
-    for (source, on, script, want) in [
-        (
-            " foo  bar baz ",
-            AsciiChar::Space,
-            "FBFBBFB",
-            "0 |14 |1 foo|10 baz|6 bar|5 |~|",
-        ),
-        ("", AsciiChar::NAK, "BF", "0 |~|"),
-        ("|||", AsciiChar::VerticalBar, "BFBF", "3 |0 |2 |1 |"),
-        (",", AsciiChar::Comma, "BBF", "1 |0 |~|"),
-    ] {
+    for &(source, on, script, want) in &PIECES {
         let script = ends(rt.alloc(), script)?;
         let answers = walk_split_spans(rt.alloc(), ascii(source), on, &script)?;
         same(&rt, shown_pieces(rt.alloc(), &answers)?.as_str(), want);
@@ -82,20 +88,23 @@ fn walked_piece_spans(rt: HostRuntime) -> Result<(), Fail> {
     Ok(())
 }
 
+/// A text, where it is split, the ends that are asked, and what is left.
+static PIECES_LEFT: [(&str, AsciiChar, &str, Option<(usize, &str)>); 5] = [
+    (
+        " foo  bar baz ",
+        AsciiChar::Space,
+        "FB",
+        Some((1, "foo  bar baz")),
+    ),
+    (" foo  bar baz ", AsciiChar::Space, "FBFBB", Some((5, ""))),
+    (" foo  bar baz ", AsciiChar::Space, "FBFBBF", None),
+    ("a,", AsciiChar::Comma, "F", Some((2, ""))),
+    ("", AsciiChar::Comma, "", Some((0, ""))),
+];
+
 #[test]
 fn rests_of_pieces(rt: HostRuntime) -> Result<(), Fail> {
-    for (source, on, script, want) in [
-        (
-            " foo  bar baz ",
-            AsciiChar::Space,
-            "FB",
-            Some((1, "foo  bar baz")),
-        ),
-        (" foo  bar baz ", AsciiChar::Space, "FBFBB", Some((5, ""))),
-        (" foo  bar baz ", AsciiChar::Space, "FBFBBF", None),
-        ("a,", AsciiChar::Comma, "F", Some((2, ""))),
-        ("", AsciiChar::Comma, "", Some((0, ""))),
-    ] {
+    for &(source, on, script, want) in &PIECES_LEFT {
         let mut spans = ascii(source).split_spans(on);
         let mut split = ascii(source).split(on);
         for end in &ends(rt.alloc(), script)? {
@@ -113,15 +122,18 @@ fn rests_of_pieces(rt: HostRuntime) -> Result<(), Fail> {
     Ok(())
 }
 
+/// A text, the ends that are asked, and what is left.
+static LINES_LEFT: [(&str, &str, Option<(usize, &str)>); 5] = [
+    ("foo\r\nbar\n\nbaz\n", "FB", Some((5, "bar\n\n"))),
+    ("foo\r\nbar\n\nbaz\n", "FBBF", None),
+    ("a\nb\r\n", "F", Some((2, "b\r\n"))),
+    ("a\n\r", "B", Some((0, "a\n"))),
+    ("", "", None),
+];
+
 #[test]
 fn rests_of_lines(rt: HostRuntime) -> Result<(), Fail> {
-    for (source, script, want) in [
-        ("foo\r\nbar\n\nbaz\n", "FB", Some((5, "bar\n\n"))),
-        ("foo\r\nbar\n\nbaz\n", "FBBF", None),
-        ("a\nb\r\n", "F", Some((2, "b\r\n"))),
-        ("a\n\r", "B", Some((0, "a\n"))),
-        ("", "", None),
-    ] {
+    for &(source, script, want) in &LINES_LEFT {
         let mut spans = ascii(source).line_spans();
         let mut lines = ascii(source).lines();
         for end in &ends(rt.alloc(), script)? {

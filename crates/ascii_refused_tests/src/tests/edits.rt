@@ -35,21 +35,23 @@ fn edited(alloc: Global, heap: &Heap, call: &str) -> Result<String, AllocError> 
     }
 }
 
+/// A call on the string `x`, and its answers.
+static EDITS: [(&str, &[&str]); 9] = [
+    ("push", &["Err(AllocError) x xz", "Ok(()) xy xyz"]),
+    ("push_str", &["Err(AllocError) x xz", "Ok(()) xyy xyyz"]),
+    ("insert", &["Err(AllocError) x xz", "Ok(()) wx wxz"]),
+    ("insert_str", &["Err(AllocError) x xz", "Ok(()) xyy xyyz"]),
+    ("reserve", &["Err(AllocError) x xz", "Ok(()) x xz"]),
+    ("reserve_exact", &["Err(AllocError) x xz", "Ok(()) x xz"]),
+    ("shrink_to_fit", &["Err(AllocError) x xz", "Ok(()) x xz"]),
+    ("write_str", &["Err(Error) x xz", "Ok(()) xyy xyyz"]),
+    ("write_char", &["Err(Error) x xz", "Ok(()) xy xyz"]),
+];
+
 #[test]
 fn text_stays(rt: HostRuntime) -> Result<(), Fail> {
     let alloc = rt.alloc();
-    let rows: [(&str, &[&str]); 9] = [
-        ("push", &["Err(AllocError) x xz", "Ok(()) xy xyz"]),
-        ("push_str", &["Err(AllocError) x xz", "Ok(()) xyy xyyz"]),
-        ("insert", &["Err(AllocError) x xz", "Ok(()) wx wxz"]),
-        ("insert_str", &["Err(AllocError) x xz", "Ok(()) xyy xyyz"]),
-        ("reserve", &["Err(AllocError) x xz", "Ok(()) x xz"]),
-        ("reserve_exact", &["Err(AllocError) x xz", "Ok(()) x xz"]),
-        ("shrink_to_fit", &["Err(AllocError) x xz", "Ok(()) x xz"]),
-        ("write_str", &["Err(Error) x xz", "Ok(()) xyy xyyz"]),
-        ("write_char", &["Err(Error) x xz", "Ok(()) xy xyz"]),
-    ];
-    for (call, wanted) in rows {
+    for &(call, wanted) in &EDITS {
         each_growth(&rt, call, wanted, |heap| edited(alloc, heap, call))?;
     }
     Ok(())

@@ -31,22 +31,25 @@ fn on_empty(alloc: Global, heap: &Heap, call: &str) -> Result<String, AllocError
     }
 }
 
+/// A call on the empty string, and its answer.
+static ADDED: [(&str, &str); 11] = [
+    ("push_str", "Ok(())"),
+    ("insert_str", "Ok(())"),
+    ("reserve", "Ok(())"),
+    ("reserve_exact", "Ok(())"),
+    ("shrink_to_fit", "Ok(())"),
+    ("write_str", "Ok(())"),
+    ("write_str of more", "Err(Error)"),
+    ("write_char of more", "Err(Error)"),
+    ("extend_chars", "Ok(())"),
+    ("extend_strs", "Ok(())"),
+    ("run", "Ok([])"),
+];
+
 #[test]
 fn nothing_to_add(rt: HostRuntime) -> Result<(), Fail> {
     let alloc = rt.alloc();
-    for (call, wanted) in [
-        ("push_str", "Ok(())"),
-        ("insert_str", "Ok(())"),
-        ("reserve", "Ok(())"),
-        ("reserve_exact", "Ok(())"),
-        ("shrink_to_fit", "Ok(())"),
-        ("write_str", "Ok(())"),
-        ("write_str of more", "Err(Error)"),
-        ("write_char of more", "Err(Error)"),
-        ("extend_chars", "Ok(())"),
-        ("extend_strs", "Ok(())"),
-        ("run", "Ok([])"),
-    ] {
+    for &(call, wanted) in &ADDED {
         let heap = Refusing::new(alloc, 0);
         assert_eq!(rt; on_empty(alloc, &heap, call)?.as_str(), wanted, "{call}");
         assert!(rt; !heap.met(), "{call}");
@@ -74,22 +77,25 @@ fn made(alloc: Global, heap: &Heap, call: &str) -> Result<String, AllocError> {
     }
 }
 
+/// A call that makes nothing, and its answer.
+static MADE: [(&str, &str); 11] = [
+    ("with_capacity", "Ok(\"\")"),
+    ("to_ascii_string", "Ok(\"\")"),
+    ("bytes", "Ok(\"\")"),
+    ("text", "Ok(\"\")"),
+    ("bytes of more", "Err(NotAscii(AsAsciiStrError(1)))"),
+    ("text of more", "Err(NotAscii(AsAsciiStrError(1)))"),
+    ("walk_lines", "Ok([])"),
+    ("walk_line_spans", "Ok([])"),
+    ("walk_split", "Ok([])"),
+    ("walk_split_spans", "Ok([])"),
+    ("string_from_json", "Err(NotText)"),
+];
+
 #[test]
 fn nothing_to_make(rt: HostRuntime) -> Result<(), Fail> {
     let alloc = rt.alloc();
-    for (call, wanted) in [
-        ("with_capacity", "Ok(\"\")"),
-        ("to_ascii_string", "Ok(\"\")"),
-        ("bytes", "Ok(\"\")"),
-        ("text", "Ok(\"\")"),
-        ("bytes of more", "Err(NotAscii(AsAsciiStrError(1)))"),
-        ("text of more", "Err(NotAscii(AsAsciiStrError(1)))"),
-        ("walk_lines", "Ok([])"),
-        ("walk_line_spans", "Ok([])"),
-        ("walk_split", "Ok([])"),
-        ("walk_split_spans", "Ok([])"),
-        ("string_from_json", "Err(NotText)"),
-    ] {
+    for &(call, wanted) in &MADE {
         let heap = Refusing::new(alloc, 0);
         assert_eq!(rt; made(alloc, &heap, call)?.as_str(), wanted, "{call}");
         assert!(rt; !heap.met(), "{call}");

@@ -32,56 +32,58 @@ fn no_command(rt: HostRuntime) -> Result<(), Fail> {
     Ok(())
 }
 
+/// What each command by position answers over `abc`.
+static OF_ABC: [[&str; 5]; 7] = [
+    [
+        "Done; xabc",
+        "Done; abxc",
+        "Done; abcx",
+        "BadPosition; abc",
+        "BadPosition; abc",
+    ],
+    [
+        "Done; deabc",
+        "Done; abdec",
+        "Done; abcde",
+        "BadPosition; abc",
+        "BadPosition; abc",
+    ],
+    [
+        "Char(Some('a')); bc",
+        "Char(Some('c')); ab",
+        "BadPosition; abc",
+        "BadPosition; abc",
+        "BadPosition; abc",
+    ],
+    [
+        "Done; xbc",
+        "Done; abx",
+        "BadPosition; abc",
+        "BadPosition; abc",
+        "BadPosition; abc",
+    ],
+    ["Done; ", "Done; ab", "Done; abc", "Done; abc", "Done; abc"],
+    [
+        "Char(Some('a')); abc",
+        "Char(Some('c')); abc",
+        "Char(None); abc",
+        "Char(None); abc",
+        "Char(None); abc",
+    ],
+    [
+        "Done; abc",
+        "Done; abc",
+        "Done; abc",
+        "Done; abc",
+        "TooMany; abc",
+    ],
+];
+
 #[test]
 fn edits_by_position(rt: HostRuntime) -> Result<(), Fail> {
     let positions = [0, 2, 3, 4, usize::MAX];
-    let wanted = [
-        [
-            "Done; xabc",
-            "Done; abxc",
-            "Done; abcx",
-            "BadPosition; abc",
-            "BadPosition; abc",
-        ],
-        [
-            "Done; deabc",
-            "Done; abdec",
-            "Done; abcde",
-            "BadPosition; abc",
-            "BadPosition; abc",
-        ],
-        [
-            "Char(Some('a')); bc",
-            "Char(Some('c')); ab",
-            "BadPosition; abc",
-            "BadPosition; abc",
-            "BadPosition; abc",
-        ],
-        [
-            "Done; xbc",
-            "Done; abx",
-            "BadPosition; abc",
-            "BadPosition; abc",
-            "BadPosition; abc",
-        ],
-        ["Done; ", "Done; ab", "Done; abc", "Done; abc", "Done; abc"],
-        [
-            "Char(Some('a')); abc",
-            "Char(Some('c')); abc",
-            "Char(None); abc",
-            "Char(None); abc",
-            "Char(None); abc",
-        ],
-        [
-            "Done; abc",
-            "Done; abc",
-            "Done; abc",
-            "Done; abc",
-            "TooMany; abc",
-        ],
-    ];
     for (i, n) in positions.iter().enumerate() {
-        for (cmd, want) in by_position(*n).iter().zip(wanted.iter()) {
+        for (cmd, want) in by_position(*n).iter().zip(OF_ABC.iter()) {
             let shown = ran(rt.alloc(), "abc", &[*cmd])?;
             same(&rt, shown.as_str(), want[i]);
         }
@@ -89,20 +91,22 @@ fn edits_by_position(rt: HostRuntime) -> Result<(), Fail> {
     Ok(())
 }
 
+/// What each command by position answers over the empty text.
+static OF_NOTHING: [[&str; 3]; 7] = [
+    ["Done; x", "BadPosition; ", "BadPosition; "],
+    ["Done; de", "BadPosition; ", "BadPosition; "],
+    ["BadPosition; ", "BadPosition; ", "BadPosition; "],
+    ["BadPosition; ", "BadPosition; ", "BadPosition; "],
+    ["Done; ", "Done; ", "Done; "],
+    ["Char(None); ", "Char(None); ", "Char(None); "],
+    ["Done; ", "Done; ", "NoMemory; "],
+];
+
 #[test]
 fn edits_of_the_empty_text(rt: HostRuntime) -> Result<(), Fail> {
     let positions = [0, 1, usize::MAX];
-    let wanted = [
-        ["Done; x", "BadPosition; ", "BadPosition; "],
-        ["Done; de", "BadPosition; ", "BadPosition; "],
-        ["BadPosition; ", "BadPosition; ", "BadPosition; "],
-        ["BadPosition; ", "BadPosition; ", "BadPosition; "],
-        ["Done; ", "Done; ", "Done; "],
-        ["Char(None); ", "Char(None); ", "Char(None); "],
-        ["Done; ", "Done; ", "NoMemory; "],
-    ];
     for (i, n) in positions.iter().enumerate() {
-        for (cmd, want) in by_position(*n).iter().zip(wanted.iter()) {
+        for (cmd, want) in by_position(*n).iter().zip(OF_NOTHING.iter()) {
             let shown = ran(rt.alloc(), "", &[*cmd])?;
             same(&rt, shown.as_str(), want[i]);
         }
@@ -163,33 +167,36 @@ fn other_commands(rt: HostRuntime) -> Result<(), Fail> {
     Ok(())
 }
 
+const REFUSED: &str = "Refused(AsAsciiStrError(3)); abc";
+
+/// A range, and what its copy from `abc` answers.
+static COPIES: [(AsciiRange, &str); 21] = [
+    (AsciiRange::Full, "Text(\"abc\"); abc"),
+    (AsciiRange::From(0), "Text(\"abc\"); abc"),
+    (AsciiRange::From(3), "Text(\"\"); abc"),
+    (AsciiRange::From(4), REFUSED),
+    (AsciiRange::From(usize::MAX), REFUSED),
+    (AsciiRange::To(0), "Text(\"\"); abc"),
+    (AsciiRange::To(3), "Text(\"abc\"); abc"),
+    (AsciiRange::To(4), REFUSED),
+    (AsciiRange::To(usize::MAX), REFUSED),
+    (AsciiRange::Range(1, 2), "Text(\"b\"); abc"),
+    (AsciiRange::Range(3, 3), "Text(\"\"); abc"),
+    (AsciiRange::Range(3, 0), REFUSED),
+    (AsciiRange::Range(4, 4), REFUSED),
+    (AsciiRange::Inclusive(0, 2), "Text(\"abc\"); abc"),
+    (AsciiRange::Inclusive(3, 2), "Text(\"\"); abc"),
+    (AsciiRange::Inclusive(0, 3), REFUSED),
+    (AsciiRange::Inclusive(0, usize::MAX), REFUSED),
+    (AsciiRange::ToInclusive(0), "Text(\"a\"); abc"),
+    (AsciiRange::ToInclusive(2), "Text(\"abc\"); abc"),
+    (AsciiRange::ToInclusive(3), REFUSED),
+    (AsciiRange::ToInclusive(usize::MAX), REFUSED),
+];
+
 #[test]
 fn copies(rt: HostRuntime) -> Result<(), Fail> {
-    let refused = "Refused(AsAsciiStrError(3)); abc";
-    let rows = [
-        (AsciiRange::Full, "Text(\"abc\"); abc"),
-        (AsciiRange::From(0), "Text(\"abc\"); abc"),
-        (AsciiRange::From(3), "Text(\"\"); abc"),
-        (AsciiRange::From(4), refused),
-        (AsciiRange::From(usize::MAX), refused),
-        (AsciiRange::To(0), "Text(\"\"); abc"),
-        (AsciiRange::To(3), "Text(\"abc\"); abc"),
-        (AsciiRange::To(4), refused),
-        (AsciiRange::To(usize::MAX), refused),
-        (AsciiRange::Range(1, 2), "Text(\"b\"); abc"),
-        (AsciiRange::Range(3, 3), "Text(\"\"); abc"),
-        (AsciiRange::Range(3, 0), refused),
-        (AsciiRange::Range(4, 4), refused),
-        (AsciiRange::Inclusive(0, 2), "Text(\"abc\"); abc"),
-        (AsciiRange::Inclusive(3, 2), "Text(\"\"); abc"),
-        (AsciiRange::Inclusive(0, 3), refused),
-        (AsciiRange::Inclusive(0, usize::MAX), refused),
-        (AsciiRange::ToInclusive(0), "Text(\"a\"); abc"),
-        (AsciiRange::ToInclusive(2), "Text(\"abc\"); abc"),
-        (AsciiRange::ToInclusive(3), refused),
-        (AsciiRange::ToInclusive(usize::MAX), refused),
-    ];
-    for (range, want) in rows {
+    for &(range, want) in &COPIES {
         same(
             &rt,
             ran(rt.alloc(), "abc", &[Cmd::Copy(range)])?.as_str(),

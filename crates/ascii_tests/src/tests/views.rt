@@ -18,27 +18,30 @@ pub fn outcome(slice: Result<AsciiStr<'_>, AsAsciiStrError>) -> Result<&str, usi
     }
 }
 
+/// A source, a range, and the slice.
+static SLICES: [(&str, AsciiRange, Result<&str, usize>); 17] = [
+    ("abčd", AsciiRange::Full, Err(2)),
+    ("abčd", AsciiRange::To(2), Ok("ab")),
+    ("abčd", AsciiRange::Range(0, 2), Ok("ab")),
+    ("abčd", AsciiRange::ToInclusive(2), Err(2)),
+    ("abčd", AsciiRange::From(4), Ok("d")),
+    ("abčd", AsciiRange::Inclusive(4, 10), Err(5)),
+    ("abčd", AsciiRange::Range(4, 2), Err(5)),
+    ("abc", AsciiRange::Inclusive(3, 2), Ok("")),
+    ("abc", AsciiRange::Inclusive(2, 0), Err(3)),
+    ("abc", AsciiRange::Inclusive(0, usize::MAX), Err(3)),
+    ("'zoä'", AsciiRange::To(3), Ok("'zo")),
+    ("'zoä'", AsciiRange::Range(0, 4), Err(3)),
+    ("'zoä'", AsciiRange::Inclusive(5, 5), Ok("'")),
+    ("'zoä'", AsciiRange::From(4), Err(4)),
+    ("'zoä'", AsciiRange::Range(4, 4), Ok("")),
+    ("zoä华", AsciiRange::Full, Err(2)),
+    ("( ;", AsciiRange::Full, Ok("( ;")),
+];
+
 #[test]
 fn slices_of_text(rt: HostRuntime) {
-    for (source, range, want) in [
-        ("abčd", AsciiRange::Full, Err(2)),
-        ("abčd", AsciiRange::To(2), Ok("ab")),
-        ("abčd", AsciiRange::Range(0, 2), Ok("ab")),
-        ("abčd", AsciiRange::ToInclusive(2), Err(2)),
-        ("abčd", AsciiRange::From(4), Ok("d")),
-        ("abčd", AsciiRange::Inclusive(4, 10), Err(5)),
-        ("abčd", AsciiRange::Range(4, 2), Err(5)),
-        ("abc", AsciiRange::Inclusive(3, 2), Ok("")),
-        ("abc", AsciiRange::Inclusive(2, 0), Err(3)),
-        ("abc", AsciiRange::Inclusive(0, usize::MAX), Err(3)),
-        ("'zoä'", AsciiRange::To(3), Ok("'zo")),
-        ("'zoä'", AsciiRange::Range(0, 4), Err(3)),
-        ("'zoä'", AsciiRange::Inclusive(5, 5), Ok("'")),
-        ("'zoä'", AsciiRange::From(4), Err(4)),
-        ("'zoä'", AsciiRange::Range(4, 4), Ok("")),
-        ("zoä华", AsciiRange::Full, Err(2)),
-        ("( ;", AsciiRange::Full, Ok("( ;")),
-    ] {
+    for &(source, range, want) in &SLICES {
         same(&rt, outcome(text::slice_ascii(source, range)), want);
         same(
             &rt,
@@ -116,6 +119,21 @@ fn characters_of_sources(rt: HostRuntime) {
     same(&rt, empty.last(), None);
 }
 
+/// A range, and that part of `ABCD`.
+static PARTS: [(AsciiRange, &str); 11] = [
+    (AsciiRange::Full, "ABCD"),
+    (AsciiRange::To(4), "ABCD"),
+    (AsciiRange::To(2), "AB"),
+    (AsciiRange::From(4), ""),
+    (AsciiRange::From(3), "D"),
+    (AsciiRange::Range(2, 3), "C"),
+    (AsciiRange::Range(4, 4), ""),
+    (AsciiRange::ToInclusive(3), "ABCD"),
+    (AsciiRange::ToInclusive(0), "A"),
+    (AsciiRange::Inclusive(1, 1), "B"),
+    (AsciiRange::Inclusive(0, 2), "ABC"),
+];
+
 #[test]
 fn parts_of_views(rt: HostRuntime) {
     let view = bytes::as_ascii_str_unchecked(b"ABCD");
@@ -123,19 +141,7 @@ fn parts_of_views(rt: HostRuntime) {
     same(&rt, view, bytes::from_ascii_unchecked(b"ABCD"));
     same(&rt, view, text::from_ascii_unchecked("ABCD"));
     same(&rt, outcome(view.as_ascii_str()), Ok("ABCD"));
-    for (range, want) in [
-        (AsciiRange::Full, "ABCD"),
-        (AsciiRange::To(4), "ABCD"),
-        (AsciiRange::To(2), "AB"),
-        (AsciiRange::From(4), ""),
-        (AsciiRange::From(3), "D"),
-        (AsciiRange::Range(2, 3), "C"),
-        (AsciiRange::Range(4, 4), ""),
-        (AsciiRange::ToInclusive(3), "ABCD"),
-        (AsciiRange::ToInclusive(0), "A"),
-        (AsciiRange::Inclusive(1, 1), "B"),
-        (AsciiRange::Inclusive(0, 2), "ABC"),
-    ] {
+    for &(range, want) in &PARTS {
         assert!(rt; range.fits(view.len()));
         same(&rt, view.slice(range).as_str(), want);
         same(&rt, outcome(view.slice_ascii(range)), Ok(want));
@@ -150,21 +156,24 @@ fn parts_of_views(rt: HostRuntime) {
     same(&rt, view.as_bytes(), b"ABCD".as_slice());
 }
 
+/// A text, and it without the white space at its start, at its end, and at both.
+static TRIMS: [(&str, &str, &str, &str); 6] = [
+    (
+        "  \twhite \tspace  \t",
+        "white \tspace  \t",
+        "  \twhite \tspace",
+        "white \tspace",
+    ),
+    ("\x0ba\x0b", "a\x0b", "\x0ba", "a"),
+    ("   ", "", "", ""),
+    ("", "", "", ""),
+    ("\r\n a\x0c", "a\x0c", "\r\n a", "a"),
+    ("\x1fa\x00", "\x1fa\x00", "\x1fa\x00", "\x1fa\x00"),
+];
+
 #[test]
 fn trims(rt: HostRuntime) {
-    for (source, start, end, both) in [
-        (
-            "  \twhite \tspace  \t",
-            "white \tspace  \t",
-            "  \twhite \tspace",
-            "white \tspace",
-        ),
-        ("\x0ba\x0b", "a\x0b", "\x0ba", "a"),
-        ("   ", "", "", ""),
-        ("", "", "", ""),
-        ("\r\n a\x0c", "a\x0c", "\r\n a", "a"),
-        ("\x1fa\x00", "\x1fa\x00", "\x1fa\x00", "\x1fa\x00"),
-    ] {
+    for &(source, start, end, both) in &TRIMS {
         let view = ascii(source);
         same(&rt, view.trim_start().as_str(), start);
         same(&rt, view.trim_end().as_str(), end);
@@ -172,17 +181,20 @@ fn trims(rt: HostRuntime) {
     }
 }
 
+/// Two texts, and whether they are alike without case.
+static PAIRS: [(&str, &str, bool); 7] = [
+    ("[", "{", false),
+    ("Z", "\x7f", false),
+    ("z", "Z", true),
+    ("a@A", "A@a", true),
+    ("@", "`", false),
+    ("a", "ab", false),
+    ("", "", true),
+];
+
 #[test]
 fn comparisons(rt: HostRuntime) {
-    for (one, other, want) in [
-        ("[", "{", false),
-        ("Z", "\x7f", false),
-        ("z", "Z", true),
-        ("a@A", "A@a", true),
-        ("@", "`", false),
-        ("a", "ab", false),
-        ("", "", true),
-    ] {
+    for &(one, other, want) in &PAIRS {
         same(&rt, ascii(one).eq_ignore_ascii_case(ascii(other)), want);
         same(&rt, ascii(other).eq_ignore_ascii_case(ascii(one)), want);
     }
