@@ -1,6 +1,7 @@
 pub mod EndsOutputLemmas
 pub mod InlineLemmas
 pub mod JsonTextLemmas
+pub mod LineFeedLemmas
 pub mod PageLemmas
 pub mod PlainRunLemmas
 mod RunExamples

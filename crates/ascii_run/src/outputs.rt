@@ -20,6 +20,7 @@ use crate::page::Page;
 use ascii::iter::{End, Ending, LineSpan, take_end};
 use ascii::{AsciiStr, AsciiString};
 use itoa::Buffer;
+use memchr::memmem::Finder;
 use std::alloc::{AllocError, Allocator};
 
 /// Writes the output of the mode for a text, and flushes. All growth is made before the first byte
@@ -68,13 +69,22 @@ fn put_output<K: Sink, A: Allocator + Copy>(
     Ok(())
 }
 
-/// Puts in the body of each line and LF, from the front.
+/// Puts in the body of each line and LF, from the front: the text without each CR that stands before LF, and
+/// LF behind a last line that has none.
 fn put_lines<K: Sink, A: Allocator>(text: AsciiStr<'_>, page: &mut Page<A>, writer: &mut K)
     requires { MayFail (out K.taken K.failures writer.old page.old) }
     ensures { OutputIn Mode.Lines (text_of text.entry) K.taken K.failures writer.old page.old writer.new page.new }
 {
-    for body in text.lines() {
-        put_line(body, page, writer);
+    let ending = Finder::new(b"\r\n");
+    let mut rest = text.as_bytes();
+    'runs: while let Some(place) = ending.find(rest) {
+        let (run, behind) = rest.split_at(place);
+        page.put(writer, run);
+        rest = &behind[1..];
+    }
+    page.put(writer, rest);
+    if !rest.is_empty() && rest[rest.len() - 1] != b'\n' {
+        page.put(writer, b"\n");
     }
 }
 

@@ -1,12 +1,15 @@
-use Rattle.std.proofs.Common.{map}
-use Rattle.std.specs.List.{flat_map}
+use Rattle.std.proofs.Common.{◌≡◌, List, ℕ, ◌++◌, length}
 use Rattle.ascii.specs.View.{text_of}
 use Rattle.ascii_run.specs.Outgoing.{MayFail, Puts, out}
-use Rattle.ascii_run.specs.Output.{with_line_feed}
+use Rattle.ascii_run.proofs.LineFeedLemmas.{with_line_feeds}
 use Rattle.ascii_run.proofs.outputs.put_lines.Given as goal
 
--- what is shown of the items so far was put in
-abbrev pub invariant-loop-body : goal.invariant-loop-body
-invariant-loop-body g l =
-    MayFail (out g.K.Sink.taken g.K.Sink.failures l.writer l.page)
-    × Puts (out g.K.Sink.taken g.K.Sink.failures l.fn.writer l.fn.page) (out g.K.Sink.taken g.K.Sink.failures l.writer l.page) (flat_map with_line_feed (map text_of l.yielded))
+-- what was put in, and what the rest gives, are the output
+abbrev pub invariant-runs : goal.invariant-runs
+invariant-runs g l =
+    MayFail (out g.K.Sink.taken g.K.Sink.failures l.writer l.page) × ((done : List ℕ) × (done ++ with_line_feeds l.rest ≡ with_line_feeds (text_of l.text))
+    × Puts (out g.K.Sink.taken g.K.Sink.failures l.fn.writer l.fn.page) (out g.K.Sink.taken g.K.Sink.failures l.writer l.page) done)
+
+-- the codes that are left
+abbrev pub decreases-runs : goal.decreases-runs
+decreases-runs g l = length l.rest
