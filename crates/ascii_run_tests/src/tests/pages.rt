@@ -39,11 +39,12 @@ impl io::Write for Counting {
     }
 }
 
-/// As many lines of eight bytes.
-fn lines_of(alloc: Global, count: usize) -> Result<Vec<u8>, AllocError> {
+/// As many lines of seven characters, each with this ending.
+fn lines_of(alloc: Global, count: usize, ending: &[u8]) -> Result<Vec<u8>, AllocError> {
     let mut bytes = Vec::new(alloc);
     for _ in 0..count {
-        bytes.extend_from_slice(b"abcdefg\n")?;
+        bytes.extend_from_slice(b"abcdefg")?;
+        bytes.extend_from_slice(ending)?;
     }
     Ok(bytes)
 }
@@ -51,17 +52,18 @@ fn lines_of(alloc: Global, count: usize) -> Result<Vec<u8>, AllocError> {
 #[test]
 fn lines_round_a_page(rt: HostRuntime) -> Result<(), Fail> {
     let rows = [(8_191, 1), (8_192, 1), (8_193, 2), (25_000, 4)];
-    let modes = [Mode::Lines, Mode::Tac];
+    let modes: [(Mode<'static>, &[u8]); 2] = [(Mode::Lines, b"\r\n"), (Mode::Tac, b"\n")];
     for (count, calls) in rows {
-        let input = lines_of(rt.alloc(), count)?;
-        for mode in modes {
+        let output = lines_of(rt.alloc(), count, b"\n")?;
+        for (mode, ending) in modes {
+            let input = lines_of(rt.alloc(), count, ending)?;
             let mut reader = Input::new(input.as_slice());
             let mut writer = Output::new(Counting::new(rt.alloc(), usize::MAX));
             let answer = engine(rt.alloc(), mode, &mut reader, &mut writer);
             let counting = writer.into_inner();
             same(&rt, answer, Ok(()));
             same(&rt, counting.calls, calls);
-            assert!(rt; counting.taken == input, "{count}");
+            assert!(rt; counting.taken == output, "{count}");
         }
     }
     Ok(())
@@ -69,12 +71,12 @@ fn lines_round_a_page(rt: HostRuntime) -> Result<(), Fail> {
 
 #[test]
 fn writers_that_fail_at_a_page(rt: HostRuntime) -> Result<(), Fail> {
-    let input = lines_of(rt.alloc(), 25_000)?;
+    let input = lines_of(rt.alloc(), 25_000, b"\n")?;
     let rows = [(1, 0), (2, 65_536), (3, 131_072), (4, 196_608)];
     for (fails_at, taken) in rows {
         let mut reader = Input::new(input.as_slice());
         let mut writer = Output::new(Counting::new(rt.alloc(), fails_at));
-        let answer = engine(rt.alloc(), Mode::Lines, &mut reader, &mut writer);
+        let answer = engine(rt.alloc(), Mode::Tac, &mut reader, &mut writer);
         let counting = writer.into_inner();
         same(&rt, answer, Err(EngineFault::Write));
         same(&rt, counting.calls, fails_at);
