@@ -3,5 +3,4 @@
 
 mod ample;
 mod hints;
-mod line_reader;
 mod places;

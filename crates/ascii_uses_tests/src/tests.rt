@@ -1,8 +1,10 @@
-//! Each public call of the cookbook's readers, on texts that are written out by hand.
+//! Each public call of the cookbook's readers, on texts that are written out by hand, and over sources that give little
+//! at a call or fail.
 
 mod headers;
 mod hosts;
 mod last_lines;
+mod line_reader;
 mod screen;
 mod settings;
 mod table;

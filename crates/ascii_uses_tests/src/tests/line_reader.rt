@@ -1,19 +1,14 @@
 //! A reader of lines over sources that give little at a call, that fail, and that hold what it refuses.
 
+use super::same;
 use ascii::iter::Ending;
 use ascii_run::Input;
 use ascii_uses::line_reader::kept::{KeptLine, KeptLines, keep_lines};
 use ascii_uses::line_reader::{LineFault, LineReader};
 use std::alloc::{AllocError, Global};
-use std::fmt::Debug;
 use std::io::{self, ErrorKind};
 use std::process::Abort;
 use std::test::Fail;
-
-/// Fails the test where what was got is not what is wanted, and shows both.
-fn same<T: PartialEq + Debug + Drop>(rt: &impl Abort, got: T, want: T) {
-    assert_eq!(rt; got, want);
-}
 
 /// A reader of bytes that gives so many at a call, fails at one call, and counts its calls.
 #[derive(Drop)]
