@@ -12,10 +12,9 @@ use ascii_base::range::AsciiRange;
 use serde_json::Value;
 use std::collections::HashSet;
 use std::fmt::Write;
-use std::test::Fail;
 
 #[test]
-fn ascii_str_1(rt: HostRuntime) -> Result<(), Fail> {
+fn ascii_str_1(rt: HostRuntime) {
     let alloc = rt.alloc();
     // AsciiStr::as_str
     shows(&rt, alloc, &view("foo").as_str(), "\"foo\"");
@@ -29,11 +28,10 @@ fn ascii_str_1(rt: HostRuntime) -> Result<(), Fail> {
     shows(&rt, alloc, &view("foo").first(), "Some('f')");
     // AsciiStr::last
     shows(&rt, alloc, &view("foo").last(), "Some('o')");
-    Ok(())
 }
 
 #[test]
-fn ascii_str_2(rt: HostRuntime) -> Result<(), Fail> {
+fn ascii_str_2(rt: HostRuntime) {
     let alloc = rt.alloc();
     // AsciiStr::get_ascii
     shows(&rt, alloc, &view("foo").get_ascii(0), "Some('f')");
@@ -64,11 +62,10 @@ fn ascii_str_2(rt: HostRuntime) -> Result<(), Fail> {
     );
     // AsciiStr::trim
     shows(&rt, alloc, &view(" a b\r\n").trim(), "\"a b\"");
-    Ok(())
 }
 
 #[test]
-fn ascii_str_3(rt: HostRuntime) -> Result<(), Fail> {
+fn ascii_str_3(rt: HostRuntime) {
     let alloc = rt.alloc();
     // AsciiStr::trim_start
     shows(&rt, alloc, &view(" a b ").trim_start(), "\"a b \"");
@@ -87,61 +84,67 @@ fn ascii_str_3(rt: HostRuntime) -> Result<(), Fail> {
     shows(&rt, alloc, &view("foo").eq_bytes(b"foo"), "true");
     // Default for AsciiStr::default
     shows(&rt, alloc, &AsciiStr::default(), "\"\"");
-    Ok(())
 }
 
 #[test]
-fn ascii_str_4(rt: HostRuntime) -> Result<(), Fail> {
+fn ascii_str_4(rt: HostRuntime) {
     let alloc = rt.alloc();
     // Display for AsciiStr::fmt
     shows(
         &rt,
         alloc,
-        &format!(in alloc; "{}", view("a\"b"))?,
+        &format!(in alloc; "{}", view("a\"b")).expect(&rt, "refused"),
         "\"a\\\"b\"",
     );
     // Debug for AsciiStr::fmt
     shows(
         &rt,
         alloc,
-        &format!(in alloc; "{:?}", view("a\"b"))?,
+        &format!(in alloc; "{:?}", view("a\"b")).expect(&rt, "refused"),
         "\"\\\"a\\\\\\\"b\\\"\"",
     );
-    Ok(())
 }
 
 #[test]
-fn ascii_str_5(rt: HostRuntime) -> Result<(), Fail> {
+fn ascii_str_5(rt: HostRuntime) {
     let alloc = rt.alloc();
     // AsciiStr::to_ascii_string
-    shows(&rt, alloc, &view("foo").to_ascii_string(alloc)?, "\"foo\"");
+    shows(
+        &rt,
+        alloc,
+        &view("foo").to_ascii_string(alloc).expect(&rt, "refused"),
+        "\"foo\"",
+    );
     // AsciiStr::to_ascii_uppercase
     shows(
         &rt,
         alloc,
-        &view("foo").to_ascii_uppercase(alloc)?,
+        &view("foo").to_ascii_uppercase(alloc).expect(&rt, "refused"),
         "\"FOO\"",
     );
     // AsciiStr::to_ascii_lowercase
     shows(
         &rt,
         alloc,
-        &view("FOO").to_ascii_lowercase(alloc)?,
+        &view("FOO").to_ascii_lowercase(alloc).expect(&rt, "refused"),
         "\"foo\"",
     );
-    Ok(())
 }
 
 #[test]
-fn ascii_str_6(rt: HostRuntime) -> Result<(), Fail> {
+fn ascii_str_6(rt: HostRuntime) {
     let alloc = rt.alloc();
     // AsciiStr::to_chars
-    shows(&rt, alloc, &view("ab").to_chars(alloc)?, "['a', 'b']");
-    Ok(())
+    shows(
+        &rt,
+        alloc,
+        &view("ab").to_chars(alloc).expect(&rt, "refused"),
+        "['a', 'b']",
+    );
 }
 
 #[test]
-fn ascii_str_7(rt: HostRuntime) -> Result<(), Fail> {
+fn ascii_str_7(rt: HostRuntime) {
     let alloc = rt.alloc();
     // IntoIterator for AsciiStr::into_iter
     {
@@ -151,11 +154,10 @@ fn ascii_str_7(rt: HostRuntime) -> Result<(), Fail> {
         }
         shows(&rt, alloc, &digit, "true");
     }
-    Ok(())
 }
 
 #[test]
-fn ascii_str_8(rt: HostRuntime) -> Result<(), Fail> {
+fn ascii_str_8(rt: HostRuntime) {
     let alloc = rt.alloc();
     // AsciiStr::chars
     {
@@ -187,11 +189,10 @@ fn ascii_str_8(rt: HostRuntime) -> Result<(), Fail> {
             "Some(LineSpan { start: 3, text: \"y\", ending: Absent })",
         );
     }
-    Ok(())
 }
 
 #[test]
-fn ascii_str_9(rt: HostRuntime) -> Result<(), Fail> {
+fn ascii_str_9(rt: HostRuntime) {
     let alloc = rt.alloc();
     // AsciiStr::line_spans_from
     shows(
@@ -218,11 +219,10 @@ fn ascii_str_9(rt: HostRuntime) -> Result<(), Fail> {
             "Some(SplitSpan { start: 4, text: \"bar\" })",
         );
     }
-    Ok(())
 }
 
 #[test]
-fn ascii_str_10(rt: HostRuntime) -> Result<(), Fail> {
+fn ascii_str_10(rt: HostRuntime) {
     let alloc = rt.alloc();
     // AsciiStr::split_spans_from
     {
@@ -238,30 +238,31 @@ fn ascii_str_10(rt: HostRuntime) -> Result<(), Fail> {
     shows(
         &rt,
         alloc,
-        &view("a\"b").to_json(alloc)?.to_string(alloc)?,
+        &view("a\"b")
+            .to_json(alloc)
+            .expect(&rt, "refused")
+            .to_string(alloc)
+            .expect(&rt, "refused"),
         "\"\\\"a\\\\\\\"b\\\"\"",
     );
-    Ok(())
 }
 
 #[test]
-fn str_1(rt: HostRuntime) -> Result<(), Fail> {
+fn str_1(rt: HostRuntime) {
     let alloc = rt.alloc();
     // From<AsciiStr> for &str::from
     shows(&rt, alloc, &<&str>::from(view("foo")), "\"foo\"");
-    Ok(())
 }
 
 #[test]
-fn u8_1(rt: HostRuntime) -> Result<(), Fail> {
+fn u8_1(rt: HostRuntime) {
     let alloc = rt.alloc();
     // From<AsciiStr> for &[u8]::from
     shows(&rt, alloc, &<&[u8]>::from(view("foo")), "[102, 111, 111]");
-    Ok(())
 }
 
 #[test]
-fn as_ascii_str_error_1(rt: HostRuntime) -> Result<(), Fail> {
+fn as_ascii_str_error_1(rt: HostRuntime) {
     let alloc = rt.alloc();
     // AsAsciiStrError::valid_up_to
     shows(
@@ -291,11 +292,10 @@ fn as_ascii_str_error_1(rt: HostRuntime) -> Result<(), Fail> {
         &bytes::as_ascii_str(b"ab\xc4"),
         "Err(AsAsciiStrError(2))",
     );
-    Ok(())
 }
 
 #[test]
-fn ascii_str_mut_1(rt: HostRuntime) -> Result<(), Fail> {
+fn ascii_str_mut_1(rt: HostRuntime) {
     let alloc = rt.alloc();
     // AsciiStrMut::set
     {
@@ -309,11 +309,10 @@ fn ascii_str_mut_1(rt: HostRuntime) -> Result<(), Fail> {
         bytes::as_mut_ascii_str_unchecked(&mut source).make_ascii_uppercase();
         shows(&rt, alloc, &(source == *b"FOO"), "true");
     }
-    Ok(())
 }
 
 #[test]
-fn ascii_str_mut_2(rt: HostRuntime) -> Result<(), Fail> {
+fn ascii_str_mut_2(rt: HostRuntime) {
     let alloc = rt.alloc();
     // AsciiStrMut::make_ascii_lowercase
     {
@@ -333,11 +332,10 @@ fn ascii_str_mut_2(rt: HostRuntime) -> Result<(), Fail> {
             "3",
         );
     }
-    Ok(())
 }
 
 #[test]
-fn ascii_string_1(rt: HostRuntime) -> Result<(), Fail> {
+fn ascii_string_1(rt: HostRuntime) {
     let alloc = rt.alloc();
     // AsciiString::new
     shows(&rt, alloc, &AsciiString::new(alloc).len(), "0");
@@ -345,300 +343,316 @@ fn ascii_string_1(rt: HostRuntime) -> Result<(), Fail> {
     shows(
         &rt,
         alloc,
-        &(AsciiString::with_capacity(alloc, 10)?.capacity() >= 10),
+        &(AsciiString::with_capacity(alloc, 10)
+            .expect(&rt, "refused")
+            .capacity()
+            >= 10),
         "true",
     );
     // AsciiString::from_ascii_unchecked
     shows(
         &rt,
         alloc,
-        &AsciiString::from_ascii_unchecked(Vec::from_slice(alloc, b"foo")?),
+        &AsciiString::from_ascii_unchecked(Vec::from_slice(alloc, b"foo").expect(&rt, "refused")),
         "\"foo\"",
     );
-    Ok(())
 }
 
 #[test]
-fn ascii_string_2(rt: HostRuntime) -> Result<(), Fail> {
+fn ascii_string_2(rt: HostRuntime) {
     let alloc = rt.alloc();
     // AsciiString::as_ascii_str
     shows(
         &rt,
         alloc,
-        &view("foo").to_ascii_string(alloc)?.as_ascii_str(),
+        &view("foo")
+            .to_ascii_string(alloc)
+            .expect(&rt, "refused")
+            .as_ascii_str(),
         "\"foo\"",
     );
     // AsciiString::capacity
     shows(&rt, alloc, &AsciiString::new(alloc).capacity(), "0");
     // AsciiString::reserve
     {
-        let mut text = view("foo").to_ascii_string(alloc)?;
+        let mut text = view("foo").to_ascii_string(alloc).expect(&rt, "refused");
         shows(&rt, alloc, &text.reserve(10), "Ok(())");
         shows(&rt, alloc, &(text.capacity() >= 13), "true");
     }
-    Ok(())
 }
 
 #[test]
-fn ascii_string_3(rt: HostRuntime) -> Result<(), Fail> {
+fn ascii_string_3(rt: HostRuntime) {
     let alloc = rt.alloc();
     // AsciiString::reserve_exact
     {
-        let mut text = view("foo").to_ascii_string(alloc)?;
+        let mut text = view("foo").to_ascii_string(alloc).expect(&rt, "refused");
         shows(&rt, alloc, &text.reserve_exact(10), "Ok(())");
         shows(&rt, alloc, &(text.capacity() >= 13), "true");
     }
     // AsciiString::shrink_to_fit
     {
-        let mut text = AsciiString::with_capacity(alloc, 10)?;
+        let mut text = AsciiString::with_capacity(alloc, 10).expect(&rt, "refused");
         shows(&rt, alloc, &text.shrink_to_fit(), "Ok(())");
         shows(&rt, alloc, &text.capacity(), "0");
     }
-    Ok(())
 }
 
 #[test]
-fn ascii_string_4(rt: HostRuntime) -> Result<(), Fail> {
+fn ascii_string_4(rt: HostRuntime) {
     let alloc = rt.alloc();
     // AsciiString::push
     {
-        let mut text = view("fo").to_ascii_string(alloc)?;
+        let mut text = view("fo").to_ascii_string(alloc).expect(&rt, "refused");
         shows(&rt, alloc, &text.push(AsciiChar::o), "Ok(())");
         shows(&rt, alloc, &text, "\"foo\"");
     }
     // AsciiString::push_str
     {
-        let mut text = view("foo").to_ascii_string(alloc)?;
+        let mut text = view("foo").to_ascii_string(alloc).expect(&rt, "refused");
         shows(&rt, alloc, &text.push_str(view("bar")), "Ok(())");
         shows(&rt, alloc, &text, "\"foobar\"");
     }
-    Ok(())
 }
 
 #[test]
-fn ascii_string_5(rt: HostRuntime) -> Result<(), Fail> {
+fn ascii_string_5(rt: HostRuntime) {
     let alloc = rt.alloc();
     // AsciiString::insert
     {
-        let mut text = view("fo").to_ascii_string(alloc)?;
+        let mut text = view("fo").to_ascii_string(alloc).expect(&rt, "refused");
         shows(&rt, alloc, &text.insert(0, AsciiChar::z), "Ok(())");
         shows(&rt, alloc, &text, "\"zfo\"");
     }
     // AsciiString::insert_str
     {
-        let mut text = view("fo").to_ascii_string(alloc)?;
+        let mut text = view("fo").to_ascii_string(alloc).expect(&rt, "refused");
         shows(&rt, alloc, &text.insert_str(1, view("lo")), "Ok(())");
         shows(&rt, alloc, &text, "\"floo\"");
     }
-    Ok(())
 }
 
 #[test]
-fn ascii_string_6(rt: HostRuntime) -> Result<(), Fail> {
+fn ascii_string_6(rt: HostRuntime) {
     let alloc = rt.alloc();
     // AsciiString::remove
     {
-        let mut text = view("foo").to_ascii_string(alloc)?;
+        let mut text = view("foo").to_ascii_string(alloc).expect(&rt, "refused");
         shows(&rt, alloc, &text.remove(0), "'f'");
         shows(&rt, alloc, &text, "\"oo\"");
     }
     // AsciiString::pop
     {
-        let mut text = view("fo").to_ascii_string(alloc)?;
+        let mut text = view("fo").to_ascii_string(alloc).expect(&rt, "refused");
         shows(&rt, alloc, &text.pop(), "Some('o')");
         shows(&rt, alloc, &text, "\"f\"");
     }
-    Ok(())
 }
 
 #[test]
-fn ascii_string_7(rt: HostRuntime) -> Result<(), Fail> {
+fn ascii_string_7(rt: HostRuntime) {
     let alloc = rt.alloc();
     // AsciiString::truncate
     {
-        let mut text = view("foo").to_ascii_string(alloc)?;
+        let mut text = view("foo").to_ascii_string(alloc).expect(&rt, "refused");
         text.truncate(2);
         shows(&rt, alloc, &text, "\"fo\"");
     }
-    Ok(())
 }
 
 #[test]
-fn ascii_string_8(rt: HostRuntime) -> Result<(), Fail> {
+fn ascii_string_8(rt: HostRuntime) {
     let alloc = rt.alloc();
     // AsciiString::clear
     {
-        let mut text = view("foo").to_ascii_string(alloc)?;
+        let mut text = view("foo").to_ascii_string(alloc).expect(&rt, "refused");
         text.clear();
         shows(&rt, alloc, &text, "\"\"");
     }
-    Ok(())
 }
 
 #[test]
-fn ascii_string_9(rt: HostRuntime) -> Result<(), Fail> {
+fn ascii_string_9(rt: HostRuntime) {
     let alloc = rt.alloc();
     // AsciiString::set
     {
-        let mut text = view("foo").to_ascii_string(alloc)?;
+        let mut text = view("foo").to_ascii_string(alloc).expect(&rt, "refused");
         text.set(0, AsciiChar::z);
         shows(&rt, alloc, &text, "\"zoo\"");
     }
-    Ok(())
 }
 
 #[test]
-fn ascii_string_10(rt: HostRuntime) -> Result<(), Fail> {
+fn ascii_string_10(rt: HostRuntime) {
     let alloc = rt.alloc();
     // AsciiString::make_ascii_uppercase
     {
-        let mut text = view("foo").to_ascii_string(alloc)?;
+        let mut text = view("foo").to_ascii_string(alloc).expect(&rt, "refused");
         text.make_ascii_uppercase();
         shows(&rt, alloc, &text, "\"FOO\"");
     }
-    Ok(())
 }
 
 #[test]
-fn ascii_string_11(rt: HostRuntime) -> Result<(), Fail> {
+fn ascii_string_11(rt: HostRuntime) {
     let alloc = rt.alloc();
     // AsciiString::make_ascii_lowercase
     {
-        let mut text = view("FOO").to_ascii_string(alloc)?;
+        let mut text = view("FOO").to_ascii_string(alloc).expect(&rt, "refused");
         text.make_ascii_lowercase();
         shows(&rt, alloc, &text, "\"foo\"");
     }
     // AsciiString::len
-    shows(&rt, alloc, &view("foo").to_ascii_string(alloc)?.len(), "3");
-    Ok(())
+    shows(
+        &rt,
+        alloc,
+        &view("foo")
+            .to_ascii_string(alloc)
+            .expect(&rt, "refused")
+            .len(),
+        "3",
+    );
 }
 
 #[test]
-fn ascii_string_12(rt: HostRuntime) -> Result<(), Fail> {
+fn ascii_string_12(rt: HostRuntime) {
     let alloc = rt.alloc();
     // AsciiString::is_empty
     shows(
         &rt,
         alloc,
-        &view("foo").to_ascii_string(alloc)?.is_empty(),
+        &view("foo")
+            .to_ascii_string(alloc)
+            .expect(&rt, "refused")
+            .is_empty(),
         "false",
     );
     // Clone for AsciiString::clone
     shows(
         &rt,
         alloc,
-        &view("foo").to_ascii_string(alloc)?.clone()?,
+        &view("foo")
+            .to_ascii_string(alloc)
+            .expect(&rt, "refused")
+            .clone()
+            .expect(&rt, "refused"),
         "\"foo\"",
     );
-    Ok(())
 }
 
 #[test]
-fn ascii_string_13(rt: HostRuntime) -> Result<(), Fail> {
+fn ascii_string_13(rt: HostRuntime) {
     let alloc = rt.alloc();
     // PartialEq for AsciiString::eq
     shows(
         &rt,
         alloc,
-        &(view("foo").to_ascii_string(alloc)? == view("foo").to_ascii_string(alloc)?),
+        &(view("foo").to_ascii_string(alloc).expect(&rt, "refused")
+            == view("foo").to_ascii_string(alloc).expect(&rt, "refused")),
         "true",
     );
     // PartialOrd for AsciiString::partial_cmp
     shows(
         &rt,
         alloc,
-        &(view("foo").to_ascii_string(alloc)? < view("fop").to_ascii_string(alloc)?),
+        &(view("foo").to_ascii_string(alloc).expect(&rt, "refused")
+            < view("fop").to_ascii_string(alloc).expect(&rt, "refused")),
         "true",
     );
-    Ok(())
 }
 
 #[test]
-fn ascii_string_14(rt: HostRuntime) -> Result<(), Fail> {
+fn ascii_string_14(rt: HostRuntime) {
     let alloc = rt.alloc();
     // Ord for AsciiString::cmp
     shows(
         &rt,
         alloc,
         &view("foo")
-            .to_ascii_string(alloc)?
-            .cmp(&view("fo").to_ascii_string(alloc)?),
+            .to_ascii_string(alloc)
+            .expect(&rt, "refused")
+            .cmp(&view("fo").to_ascii_string(alloc).expect(&rt, "refused")),
         "Greater",
     );
-    Ok(())
 }
 
 #[test]
-fn ascii_string_15(rt: HostRuntime) -> Result<(), Fail> {
+fn ascii_string_15(rt: HostRuntime) {
     let alloc = rt.alloc();
     // Hash for AsciiString::hash
     {
         let mut seen = HashSet::new(alloc);
-        seen.insert(view("foo").to_ascii_string(alloc)?)?;
+        seen.insert(view("foo").to_ascii_string(alloc).expect(&rt, "refused"))
+            .expect(&rt, "refused");
         shows(
             &rt,
             alloc,
-            &seen.contains(&view("foo").to_ascii_string(alloc)?),
+            &seen.contains(&view("foo").to_ascii_string(alloc).expect(&rt, "refused")),
             "true",
         );
     }
-    Ok(())
 }
 
 #[test]
-fn ascii_string_16(rt: HostRuntime) -> Result<(), Fail> {
+fn ascii_string_16(rt: HostRuntime) {
     let alloc = rt.alloc();
     // Display for AsciiString::fmt
     shows(
         &rt,
         alloc,
-        &format!(in alloc; "{}", view("foo").to_ascii_string(alloc)?)?,
+        &format!(in alloc;
+            "{}",
+            view("foo").to_ascii_string(alloc).expect(&rt, "refused")
+        )
+        .expect(&rt, "refused"),
         "\"foo\"",
     );
-    Ok(())
 }
 
 #[test]
-fn ascii_string_17(rt: HostRuntime) -> Result<(), Fail> {
+fn ascii_string_17(rt: HostRuntime) {
     let alloc = rt.alloc();
     // Debug for AsciiString::fmt
     shows(
         &rt,
         alloc,
-        &format!(in alloc; "{:?}", view("foo").to_ascii_string(alloc)?)?,
+        &format!(in alloc;
+            "{:?}",
+            view("foo").to_ascii_string(alloc).expect(&rt, "refused")
+        )
+        .expect(&rt, "refused"),
         "\"\\\"foo\\\"\"",
     );
-    Ok(())
 }
 
 #[test]
-fn ascii_string_18(rt: HostRuntime) -> Result<(), Fail> {
+fn ascii_string_18(rt: HostRuntime) {
     let alloc = rt.alloc();
     // AsciiString::write_char
     {
-        let mut text = view("foo").to_ascii_string(alloc)?;
+        let mut text = view("foo").to_ascii_string(alloc).expect(&rt, "refused");
         shows(&rt, alloc, &text.write_char('d'), "Ok(())");
         shows(&rt, alloc, &text.write_char('č'), "Err(Error)");
         shows(&rt, alloc, &text, "\"food\"");
     }
     // Write for AsciiString::write_str
     {
-        let mut text = view("foo").to_ascii_string(alloc)?;
+        let mut text = view("foo").to_ascii_string(alloc).expect(&rt, "refused");
         shows(&rt, alloc, &write!(text, "{}", 7), "Ok(())");
         shows(&rt, alloc, &text, "\"foo7\"");
     }
-    Ok(())
 }
 
 #[test]
-fn ascii_string_19(rt: HostRuntime) -> Result<(), Fail> {
+fn ascii_string_19(rt: HostRuntime) {
     let alloc = rt.alloc();
     // AsciiString::into_boxed_ascii_str
     shows(
         &rt,
         alloc,
         &view("foo")
-            .to_ascii_string(alloc)?
+            .to_ascii_string(alloc)
+            .expect(&rt, "refused")
             .into_boxed_ascii_str()
             .is_ok(),
         "true",
@@ -648,20 +662,20 @@ fn ascii_string_19(rt: HostRuntime) -> Result<(), Fail> {
         &rt,
         alloc,
         &view("foo")
-            .to_ascii_string(alloc)?
+            .to_ascii_string(alloc)
+            .expect(&rt, "refused")
             .into_rc_ascii_str(alloc)
             .is_ok(),
         "true",
     );
-    Ok(())
 }
 
 #[test]
-fn ascii_string_20(rt: HostRuntime) -> Result<(), Fail> {
+fn ascii_string_20(rt: HostRuntime) {
     let alloc = rt.alloc();
     // AsciiString::extend_chars
     {
-        let mut text = view("foo").to_ascii_string(alloc)?;
+        let mut text = view("foo").to_ascii_string(alloc).expect(&rt, "refused");
         shows(
             &rt,
             alloc,
@@ -672,7 +686,7 @@ fn ascii_string_20(rt: HostRuntime) -> Result<(), Fail> {
     }
     // AsciiString::extend_strs
     {
-        let mut text = view("a").to_ascii_string(alloc)?;
+        let mut text = view("a").to_ascii_string(alloc).expect(&rt, "refused");
         shows(
             &rt,
             alloc,
@@ -681,141 +695,146 @@ fn ascii_string_20(rt: HostRuntime) -> Result<(), Fail> {
         );
         shows(&rt, alloc, &text, "\"abc\"");
     }
-    Ok(())
 }
 
 #[test]
-fn ascii_string_21(rt: HostRuntime) -> Result<(), Fail> {
+fn ascii_string_21(rt: HostRuntime) {
     let alloc = rt.alloc();
     // AsciiString::collect_chars
     shows(
         &rt,
         alloc,
-        &AsciiString::collect_chars(alloc, view("foo").chars().rev())?,
+        &AsciiString::collect_chars(alloc, view("foo").chars().rev()).expect(&rt, "refused"),
         "\"oof\"",
     );
     // AsciiString::collect_strs
     shows(
         &rt,
         alloc,
-        &AsciiString::collect_strs(alloc, view("b,c").split(AsciiChar::Comma))?,
+        &AsciiString::collect_strs(alloc, view("b,c").split(AsciiChar::Comma)).expect(
+            &rt, "refused",
+        ),
         "\"bc\"",
     );
     // AsciiString::from_char
     shows(
         &rt,
         alloc,
-        &AsciiString::from_char(alloc, AsciiChar::a)?,
+        &AsciiString::from_char(alloc, AsciiChar::a).expect(&rt, "refused"),
         "\"a\"",
     );
-    Ok(())
 }
 
 #[test]
-fn ascii_string_22(rt: HostRuntime) -> Result<(), Fail> {
+fn ascii_string_22(rt: HostRuntime) {
     let alloc = rt.alloc();
     // AsciiString::from_chars
     shows(
         &rt,
         alloc,
-        &AsciiString::from_chars(alloc, &[AsciiChar::a, AsciiChar::b])?,
+        &AsciiString::from_chars(alloc, &[AsciiChar::a, AsciiChar::b]).expect(&rt, "refused"),
         "\"ab\"",
     );
     // AsciiString::into_chars
     shows(
         &rt,
         alloc,
-        &view("ab").to_ascii_string(alloc)?.into_chars(alloc),
+        &view("ab")
+            .to_ascii_string(alloc)
+            .expect(&rt, "refused")
+            .into_chars(alloc),
         "Ok(['a', 'b'])",
     );
-    Ok(())
 }
 
 #[test]
-fn ascii_string_23(rt: HostRuntime) -> Result<(), Fail> {
+fn ascii_string_23(rt: HostRuntime) {
     let alloc = rt.alloc();
     // AsciiString::to_json
     shows(
         &rt,
         alloc,
         &view("foo")
-            .to_ascii_string(alloc)?
-            .to_json(alloc)?
-            .to_string(alloc)?,
+            .to_ascii_string(alloc)
+            .expect(&rt, "refused")
+            .to_json(alloc)
+            .expect(&rt, "refused")
+            .to_string(alloc)
+            .expect(&rt, "refused"),
         "\"\\\"foo\\\"\"",
     );
-    Ok(())
 }
 
 #[test]
-fn vec_1(rt: HostRuntime) -> Result<(), Fail> {
+fn vec_1(rt: HostRuntime) {
     let alloc = rt.alloc();
     // From<AsciiString> for Vec::from
     shows(
         &rt,
         alloc,
-        &Vec::from(view("foo").to_ascii_string(alloc)?),
+        &Vec::from(view("foo").to_ascii_string(alloc).expect(&rt, "refused")),
         "[102, 111, 111]",
     );
     // vec::into_ascii_string
     shows(
         &rt,
         alloc,
-        &vec::into_ascii_string(Vec::from_slice(alloc, b"foo")?),
+        &vec::into_ascii_string(Vec::from_slice(alloc, b"foo").expect(&rt, "refused")),
         "Ok(\"foo\")",
     );
     // vec::from_ascii
     shows(
         &rt,
         alloc,
-        &vec::from_ascii(Vec::from_slice(alloc, b"foo")?),
+        &vec::from_ascii(Vec::from_slice(alloc, b"foo").expect(&rt, "refused")),
         "Ok(\"foo\")",
     );
-    Ok(())
 }
 
 #[test]
-fn string_1(rt: HostRuntime) -> Result<(), Fail> {
+fn string_1(rt: HostRuntime) {
     let alloc = rt.alloc();
     // From<AsciiString> for String::from
     shows(
         &rt,
         alloc,
-        &String::from(view("foo").to_ascii_string(alloc)?),
+        &String::from(view("foo").to_ascii_string(alloc).expect(&rt, "refused")),
         "\"foo\"",
     );
     // string::into_ascii_string
     shows(
         &rt,
         alloc,
-        &string::into_ascii_string(String::from_str(alloc, "foo")?),
+        &string::into_ascii_string(String::from_str(alloc, "foo").expect(&rt, "refused")),
         "Ok(\"foo\")",
     );
     // string::from_ascii
     shows(
         &rt,
         alloc,
-        &string::from_ascii(String::from_str(alloc, "foo")?),
+        &string::from_ascii(String::from_str(alloc, "foo").expect(&rt, "refused")),
         "Ok(\"foo\")",
     );
-    Ok(())
 }
 
 #[test]
-fn boxed_ascii_str_1(rt: HostRuntime) -> Result<(), Fail> {
+fn boxed_ascii_str_1(rt: HostRuntime) {
     let alloc = rt.alloc();
     // BoxedAsciiStr::from_ascii_str
     shows(
         &rt,
         alloc,
-        &BoxedAsciiStr::from_ascii_str(alloc, view("foo"))?.as_ascii_str(),
+        &BoxedAsciiStr::from_ascii_str(alloc, view("foo"))
+            .expect(&rt, "refused")
+            .as_ascii_str(),
         "\"foo\"",
     );
     // BoxedAsciiStr::as_ascii_str
     shows(
         &rt,
         alloc,
-        &BoxedAsciiStr::from_ascii_str(alloc, view("foo"))?
+        &BoxedAsciiStr::from_ascii_str(alloc, view("foo"))
+            .expect(&rt, "refused")
             .as_ascii_str()
             .len(),
         "3",
@@ -824,66 +843,70 @@ fn boxed_ascii_str_1(rt: HostRuntime) -> Result<(), Fail> {
     shows(
         &rt,
         alloc,
-        &BoxedAsciiStr::from_ascii_str(alloc, view("foo"))?
+        &BoxedAsciiStr::from_ascii_str(alloc, view("foo"))
+            .expect(&rt, "refused")
             .into_ascii_string()
             .ok(),
         "Some(\"foo\")",
     );
-    Ok(())
 }
 
 #[test]
-fn boxed_ascii_str_2(rt: HostRuntime) -> Result<(), Fail> {
+fn boxed_ascii_str_2(rt: HostRuntime) {
     let alloc = rt.alloc();
     // BoxedAsciiStr::into_boxed_str
     shows(
         &rt,
         alloc,
-        &BoxedAsciiStr::from_ascii_str(alloc, view("foo"))?.into_boxed_str(),
+        &BoxedAsciiStr::from_ascii_str(alloc, view("foo"))
+            .expect(&rt, "refused")
+            .into_boxed_str(),
         "\"foo\"",
     );
-    Ok(())
 }
 
 #[test]
-fn rc_ascii_str_1(rt: HostRuntime) -> Result<(), Fail> {
+fn rc_ascii_str_1(rt: HostRuntime) {
     let alloc = rt.alloc();
     // RcAsciiStr::from_ascii_str
     shows(
         &rt,
         alloc,
-        &RcAsciiStr::from_ascii_str(alloc, view("foo"))?.as_ascii_str(),
+        &RcAsciiStr::from_ascii_str(alloc, view("foo"))
+            .expect(&rt, "refused")
+            .as_ascii_str(),
         "\"foo\"",
     );
     // RcAsciiStr::as_ascii_str
     shows(
         &rt,
         alloc,
-        &RcAsciiStr::from_ascii_str(alloc, view("foo"))?
+        &RcAsciiStr::from_ascii_str(alloc, view("foo"))
+            .expect(&rt, "refused")
             .as_ascii_str()
             .len(),
         "3",
     );
-    Ok(())
 }
 
 #[test]
-fn rc_ascii_str_2(rt: HostRuntime) -> Result<(), Fail> {
+fn rc_ascii_str_2(rt: HostRuntime) {
     let alloc = rt.alloc();
     // Clone for RcAsciiStr::clone
     shows(
         &rt,
         alloc,
-        &RcAsciiStr::from_ascii_str(alloc, view("foo"))?
-            .clone()?
+        &RcAsciiStr::from_ascii_str(alloc, view("foo"))
+            .expect(&rt, "refused")
+            .clone()
+            .expect(&rt, "refused")
             .as_ascii_str(),
         "\"foo\"",
     );
-    Ok(())
 }
 
 #[test]
-fn cow_ascii_str_1(rt: HostRuntime) -> Result<(), Fail> {
+fn cow_ascii_str_1(rt: HostRuntime) {
     let alloc = rt.alloc();
     // CowAsciiStr::as_ascii_str
     {
@@ -900,22 +923,23 @@ fn cow_ascii_str_1(rt: HostRuntime) -> Result<(), Fail> {
         let cow: CowAsciiStr = view("foo").into();
         shows(&rt, alloc, &cow.as_ascii_str(), "\"foo\"");
     }
-    Ok(())
 }
 
 #[test]
-fn cow_ascii_str_2(rt: HostRuntime) -> Result<(), Fail> {
+fn cow_ascii_str_2(rt: HostRuntime) {
     let alloc = rt.alloc();
     // From<AsciiString> for CowAsciiStr::from
     {
-        let cow: CowAsciiStr = view("foo").to_ascii_string(alloc)?.into();
+        let cow: CowAsciiStr = view("foo")
+            .to_ascii_string(alloc)
+            .expect(&rt, "refused")
+            .into();
         shows(&rt, alloc, &cow.as_ascii_str(), "\"foo\"");
     }
-    Ok(())
 }
 
 #[test]
-fn bytes_1(rt: HostRuntime) -> Result<(), Fail> {
+fn bytes_1(rt: HostRuntime) {
     let alloc = rt.alloc();
     // bytes::as_ascii_str
     shows(&rt, alloc, &bytes::as_ascii_str(b"foo"), "Ok(\"foo\")");
@@ -958,11 +982,10 @@ fn bytes_1(rt: HostRuntime) -> Result<(), Fail> {
     );
     // bytes::from_ascii_unchecked
     shows(&rt, alloc, &bytes::from_ascii_unchecked(b"foo"), "\"foo\"");
-    Ok(())
 }
 
 #[test]
-fn bytes_2(rt: HostRuntime) -> Result<(), Fail> {
+fn bytes_2(rt: HostRuntime) {
     let alloc = rt.alloc();
     // bytes::to_ascii_string
     shows(
@@ -977,11 +1000,10 @@ fn bytes_2(rt: HostRuntime) -> Result<(), Fail> {
         bytes::slice_ascii_mut_unchecked(&mut source, AsciiRange::From(1)).make_ascii_uppercase();
         shows(&rt, alloc, &(source == *b"fOO"), "true");
     }
-    Ok(())
 }
 
 #[test]
-fn bytes_3(rt: HostRuntime) -> Result<(), Fail> {
+fn bytes_3(rt: HostRuntime) {
     let alloc = rt.alloc();
     // bytes::as_mut_ascii_str_unchecked
     {
@@ -989,11 +1011,10 @@ fn bytes_3(rt: HostRuntime) -> Result<(), Fail> {
         bytes::as_mut_ascii_str_unchecked(&mut source).make_ascii_uppercase();
         shows(&rt, alloc, &(source == *b"FOO"), "true");
     }
-    Ok(())
 }
 
 #[test]
-fn bytes_4(rt: HostRuntime) -> Result<(), Fail> {
+fn bytes_4(rt: HostRuntime) {
     let alloc = rt.alloc();
     // bytes::slice_ascii_mut
     {
@@ -1003,11 +1024,10 @@ fn bytes_4(rt: HostRuntime) -> Result<(), Fail> {
         }
         shows(&rt, alloc, &(source == *b"FOo\xc4"), "true");
     }
-    Ok(())
 }
 
 #[test]
-fn bytes_5(rt: HostRuntime) -> Result<(), Fail> {
+fn bytes_5(rt: HostRuntime) {
     let alloc = rt.alloc();
     // bytes::as_mut_ascii_str
     {
@@ -1017,51 +1037,54 @@ fn bytes_5(rt: HostRuntime) -> Result<(), Fail> {
         }
         shows(&rt, alloc, &(source == *b"FOO"), "true");
     }
-    Ok(())
 }
 
 #[test]
-fn from_ascii_error_1(rt: HostRuntime) -> Result<(), Fail> {
+fn from_ascii_error_1(rt: HostRuntime) {
     let alloc = rt.alloc();
     // FromAsciiError::ascii_error
     shows(
         &rt,
         alloc,
-        &vec::into_ascii_string(Vec::from_slice(alloc, b"ab\xc4")?).map_err(|e| e.ascii_error()),
+        &vec::into_ascii_string(Vec::from_slice(alloc, b"ab\xc4").expect(&rt, "refused")).map_err(
+            |e| e.ascii_error(),
+        ),
         "Err(AsAsciiStrError(2))",
     );
     // FromAsciiError::into_source
     shows(
         &rt,
         alloc,
-        &vec::into_ascii_string(Vec::from_slice(alloc, b"ab\xc4")?).map_err(|e| e.into_source()),
+        &vec::into_ascii_string(Vec::from_slice(alloc, b"ab\xc4").expect(&rt, "refused")).map_err(
+            |e| e.into_source(),
+        ),
         "Err([97, 98, 196])",
     );
     // Display for FromAsciiError::fmt
     shows(
         &rt,
         alloc,
-        &vec::into_ascii_string(Vec::from_slice(alloc, b"ab\xc4")?).map_err(|e| e.to_string(alloc)),
+        &vec::into_ascii_string(Vec::from_slice(alloc, b"ab\xc4").expect(&rt, "refused")).map_err(
+            |e| e.to_string(alloc),
+        ),
         "Err(Ok(\"the byte at index 2 is not ASCII\"))",
     );
-    Ok(())
 }
 
 #[test]
-fn from_ascii_error_2(rt: HostRuntime) -> Result<(), Fail> {
+fn from_ascii_error_2(rt: HostRuntime) {
     let alloc = rt.alloc();
     // Debug for FromAsciiError::fmt
     shows(
         &rt,
         alloc,
-        &vec::into_ascii_string(Vec::from_slice(alloc, b"ab\xc4")?),
+        &vec::into_ascii_string(Vec::from_slice(alloc, b"ab\xc4").expect(&rt, "refused")),
         "Err(AsAsciiStrError(2))",
     );
-    Ok(())
 }
 
 #[test]
-fn chars_1(rt: HostRuntime) -> Result<(), Fail> {
+fn chars_1(rt: HostRuntime) {
     let alloc = rt.alloc();
     // Chars::as_str
     {
@@ -1072,15 +1095,14 @@ fn chars_1(rt: HostRuntime) -> Result<(), Fail> {
     // Clone for Chars::clone
     {
         let mut chars = view("foo").chars();
-        let copy = chars.clone()?;
+        let copy = chars.clone().expect(&rt, "refused");
         shows(&rt, alloc, &chars.next(), "Some('f')");
         shows(&rt, alloc, &copy.as_str(), "\"foo\"");
     }
-    Ok(())
 }
 
 #[test]
-fn chars_2(rt: HostRuntime) -> Result<(), Fail> {
+fn chars_2(rt: HostRuntime) {
     let alloc = rt.alloc();
     // Iterator for Chars::next
     shows(&rt, alloc, &view("foo").chars().next(), "Some('f')");
@@ -1090,11 +1112,10 @@ fn chars_2(rt: HostRuntime) -> Result<(), Fail> {
     shows(&rt, alloc, &view("foo").chars().next_back(), "Some('o')");
     // ExactSizeIterator for Chars::len
     shows(&rt, alloc, &view("foo").chars().len(), "3");
-    Ok(())
 }
 
 #[test]
-fn chars_ref_1(rt: HostRuntime) -> Result<(), Fail> {
+fn chars_ref_1(rt: HostRuntime) {
     let alloc = rt.alloc();
     // CharsRef::as_str
     shows(&rt, alloc, &view("foo").into_iter().as_str(), "\"foo\"");
@@ -1102,7 +1123,11 @@ fn chars_ref_1(rt: HostRuntime) -> Result<(), Fail> {
     shows(
         &rt,
         alloc,
-        &view("foo").into_iter().clone()?.as_str(),
+        &view("foo")
+            .into_iter()
+            .clone()
+            .expect(&rt, "refused")
+            .as_str(),
         "\"foo\"",
     );
     // Iterator for CharsRef::next
@@ -1121,17 +1146,20 @@ fn chars_ref_1(rt: HostRuntime) -> Result<(), Fail> {
         &view("foo").into_iter().next_back(),
         "Some('o')",
     );
-    Ok(())
 }
 
 #[test]
-fn line_spans_1(rt: HostRuntime) -> Result<(), Fail> {
+fn line_spans_1(rt: HostRuntime) {
     let alloc = rt.alloc();
     // Clone for LineSpans::clone
     shows(
         &rt,
         alloc,
-        &view("x\ny").line_spans().clone()?.remainder(),
+        &view("x\ny")
+            .line_spans()
+            .clone()
+            .expect(&rt, "refused")
+            .remainder(),
         "Some((0, \"x\\ny\"))",
     );
     // Iterator for LineSpans::next
@@ -1159,17 +1187,20 @@ fn line_spans_1(rt: HostRuntime) -> Result<(), Fail> {
         );
         shows(&rt, alloc, &spans.remainder(), "Some((3, \"y\"))");
     }
-    Ok(())
 }
 
 #[test]
-fn lines_1(rt: HostRuntime) -> Result<(), Fail> {
+fn lines_1(rt: HostRuntime) {
     let alloc = rt.alloc();
     // Clone for Lines::clone
     shows(
         &rt,
         alloc,
-        &view("x\ny").lines().clone()?.remainder(),
+        &view("x\ny")
+            .lines()
+            .clone()
+            .expect(&rt, "refused")
+            .remainder(),
         "Some(\"x\\ny\")",
     );
     // Iterator for Lines::next
@@ -1182,11 +1213,10 @@ fn lines_1(rt: HostRuntime) -> Result<(), Fail> {
         shows(&rt, alloc, &lines.next(), "Some(\"x\")");
         shows(&rt, alloc, &lines.remainder(), "Some(\"y\")");
     }
-    Ok(())
 }
 
 #[test]
-fn split_spans_1(rt: HostRuntime) -> Result<(), Fail> {
+fn split_spans_1(rt: HostRuntime) {
     let alloc = rt.alloc();
     // Clone for SplitSpans::clone
     shows(
@@ -1194,7 +1224,8 @@ fn split_spans_1(rt: HostRuntime) -> Result<(), Fail> {
         alloc,
         &view("foo;bar")
             .split_spans(AsciiChar::Semicolon)
-            .clone()?
+            .clone()
+            .expect(&rt, "refused")
             .remainder(),
         "Some((0, \"foo;bar\"))",
     );
@@ -1223,16 +1254,15 @@ fn split_spans_1(rt: HostRuntime) -> Result<(), Fail> {
         );
         shows(&rt, alloc, &spans.remainder(), "Some((4, \"bar\"))");
     }
-    Ok(())
 }
 
 #[test]
-fn split_1(rt: HostRuntime) -> Result<(), Fail> {
+fn split_1(rt: HostRuntime) {
     let alloc = rt.alloc();
     // Clone for Split::clone
     {
         let mut pieces = view("foo;bar").split(AsciiChar::Semicolon);
-        let copy = pieces.clone()?;
+        let copy = pieces.clone().expect(&rt, "refused");
         shows(&rt, alloc, &pieces.next(), "Some(\"foo\")");
         shows(&rt, alloc, &copy.remainder(), "Some(\"foo;bar\")");
     }
@@ -1250,11 +1280,10 @@ fn split_1(rt: HostRuntime) -> Result<(), Fail> {
         &view(";foo").split(AsciiChar::Semicolon).next_back(),
         "Some(\"foo\")",
     );
-    Ok(())
 }
 
 #[test]
-fn split_2(rt: HostRuntime) -> Result<(), Fail> {
+fn split_2(rt: HostRuntime) {
     let alloc = rt.alloc();
     // Split::remainder
     {
@@ -1262,11 +1291,10 @@ fn split_2(rt: HostRuntime) -> Result<(), Fail> {
         shows(&rt, alloc, &pieces.next(), "Some(\"foo\")");
         shows(&rt, alloc, &pieces.remainder(), "Some(\"bar;baz\")");
     }
-    Ok(())
 }
 
 #[test]
-fn iter_1(rt: HostRuntime) -> Result<(), Fail> {
+fn iter_1(rt: HostRuntime) {
     let alloc = rt.alloc();
     // iter::take_end
     shows(
@@ -1284,93 +1312,98 @@ fn iter_1(rt: HostRuntime) -> Result<(), Fail> {
             view("a,b"),
             AsciiChar::Comma,
             &[End::Back, End::Front, End::Back],
-        )?,
+        )
+        .expect(&rt, "refused"),
         "[Some(\"b\"), Some(\"a\"), None]",
     );
     // iter::walk_lines
     shows(
         &rt,
         alloc,
-        &walk_lines(alloc, view("a\nb"), &[End::Back, End::Front])?,
+        &walk_lines(alloc, view("a\nb"), &[End::Back, End::Front]).expect(&rt, "refused"),
         "[Some(\"b\"), Some(\"a\")]",
     );
-    Ok(())
 }
 
 #[test]
-fn iter_2(rt: HostRuntime) -> Result<(), Fail> {
+fn iter_2(rt: HostRuntime) {
     let alloc = rt.alloc();
     // iter::walk_split_spans
     shows(
         &rt,
         alloc,
-        &walk_split_spans(alloc, view("a,b"), AsciiChar::Comma, &[End::Back])?,
+        &walk_split_spans(alloc, view("a,b"), AsciiChar::Comma, &[End::Back]).expect(
+            &rt, "refused",
+        ),
         "[Some(SplitSpan { start: 2, text: \"b\" })]",
     );
     // iter::walk_line_spans
     shows(
         &rt,
         alloc,
-        &walk_line_spans(alloc, view("a\nb"), &[End::Front])?,
+        &walk_line_spans(alloc, view("a\nb"), &[End::Front]).expect(&rt, "refused"),
         "[Some(LineSpan { start: 0, text: \"a\", ending: Lf })]",
     );
-    Ok(())
 }
 
 #[test]
-fn json_1(rt: HostRuntime) -> Result<(), Fail> {
+fn json_1(rt: HostRuntime) {
     let alloc = rt.alloc();
     // json::char_to_json
     shows(
         &rt,
         alloc,
-        &char_to_json(alloc, AsciiChar::a)?.to_string(alloc)?,
+        &char_to_json(alloc, AsciiChar::a)
+            .expect(&rt, "refused")
+            .to_string(alloc)
+            .expect(&rt, "refused"),
         "\"\\\"a\\\"\"",
     );
     // json::char_from_json
     shows(
         &rt,
         alloc,
-        &char_from_json(&Value::from_str(alloc, "\"a\"")?),
+        &char_from_json(&Value::from_str(alloc, "\"a\"").expect(&rt, "refused")),
         "Ok('a')",
     );
     shows(
         &rt,
         alloc,
-        &char_from_json(&Value::from_str(alloc, "\"ab\"")?),
+        &char_from_json(&Value::from_str(alloc, "\"ab\"").expect(&rt, "refused")),
         "Err(NotOneByte)",
     );
-    Ok(())
 }
 
 #[test]
-fn json_2(rt: HostRuntime) -> Result<(), Fail> {
+fn json_2(rt: HostRuntime) {
     let alloc = rt.alloc();
     // json::str_from_json
     shows(
         &rt,
         alloc,
-        &str_from_json(&Value::from_str(alloc, "\"foo\"")?),
+        &str_from_json(&Value::from_str(alloc, "\"foo\"").expect(&rt, "refused")),
         "Ok(\"foo\")",
     );
     shows(
         &rt,
         alloc,
-        &str_from_json(&Value::from_str(alloc, "7")?),
+        &str_from_json(&Value::from_str(alloc, "7").expect(&rt, "refused")),
         "Err(NotText)",
     );
     // json::string_from_json
     shows(
         &rt,
         alloc,
-        &string_from_json(alloc, &Value::from_str(alloc, "\"foo\"")?),
+        &string_from_json(
+            alloc,
+            &Value::from_str(alloc, "\"foo\"").expect(&rt, "refused"),
+        ),
         "Ok(\"foo\")",
     );
-    Ok(())
 }
 
 #[test]
-fn text_1(rt: HostRuntime) -> Result<(), Fail> {
+fn text_1(rt: HostRuntime) {
     let alloc = rt.alloc();
     // text::as_ascii_str
     shows(&rt, alloc, &text::as_ascii_str("foo"), "Ok(\"foo\")");
@@ -1402,11 +1435,10 @@ fn text_1(rt: HostRuntime) -> Result<(), Fail> {
     shows(&rt, alloc, &text::as_ascii_str_unchecked("foo"), "\"foo\"");
     // text::from_ascii_unchecked
     shows(&rt, alloc, &text::from_ascii_unchecked("foo"), "\"foo\"");
-    Ok(())
 }
 
 #[test]
-fn text_2(rt: HostRuntime) -> Result<(), Fail> {
+fn text_2(rt: HostRuntime) {
     let alloc = rt.alloc();
     // text::to_ascii_string
     shows(
@@ -1415,5 +1447,4 @@ fn text_2(rt: HostRuntime) -> Result<(), Fail> {
         &text::to_ascii_string(alloc, "foo"),
         "Ok(\"foo\")",
     );
-    Ok(())
 }

@@ -9,10 +9,9 @@ use ascii_base::kernels::{
 };
 use ascii_base::range::AsciiRange;
 use std::collections::HashSet;
-use std::test::Fail;
 
 #[test]
-fn ascii_char_1(rt: HostRuntime) -> Result<(), Fail> {
+fn ascii_char_1(rt: HostRuntime) {
     let alloc = rt.alloc();
     // ascii_char::AsciiChar
     shows(&rt, alloc, &AsciiChar::A.as_byte(), "65");
@@ -32,11 +31,10 @@ fn ascii_char_1(rt: HostRuntime) -> Result<(), Fail> {
     shows(&rt, alloc, &AsciiChar::LineFeed.as_byte(), "10");
     // AsciiChar::as_char
     shows(&rt, alloc, &AsciiChar::Slash.as_char(), "'/'");
-    Ok(())
 }
 
 #[test]
-fn ascii_char_2(rt: HostRuntime) -> Result<(), Fail> {
+fn ascii_char_2(rt: HostRuntime) {
     let alloc = rt.alloc();
     // AsciiChar::is_alphabetic
     shows(&rt, alloc, &AsciiChar::a.is_alphabetic(), "true");
@@ -56,11 +54,10 @@ fn ascii_char_2(rt: HostRuntime) -> Result<(), Fail> {
     );
     // AsciiChar::is_ascii_alphanumeric
     shows(&rt, alloc, &AsciiChar::_7.is_ascii_alphanumeric(), "true");
-    Ok(())
 }
 
 #[test]
-fn ascii_char_3(rt: HostRuntime) -> Result<(), Fail> {
+fn ascii_char_3(rt: HostRuntime) {
     let alloc = rt.alloc();
     // AsciiChar::is_ascii_blank
     shows(&rt, alloc, &AsciiChar::Tab.is_ascii_blank(), "true");
@@ -75,11 +72,10 @@ fn ascii_char_3(rt: HostRuntime) -> Result<(), Fail> {
     shows(&rt, alloc, &AsciiChar::Space.is_ascii_graphic(), "false");
     // AsciiChar::is_ascii_printable
     shows(&rt, alloc, &AsciiChar::Space.is_ascii_printable(), "true");
-    Ok(())
 }
 
 #[test]
-fn ascii_char_4(rt: HostRuntime) -> Result<(), Fail> {
+fn ascii_char_4(rt: HostRuntime) {
     let alloc = rt.alloc();
     // AsciiChar::is_lowercase
     shows(&rt, alloc, &AsciiChar::a.is_lowercase(), "true");
@@ -98,11 +94,10 @@ fn ascii_char_4(rt: HostRuntime) -> Result<(), Fail> {
     );
     // AsciiChar::is_ascii_hexdigit
     shows(&rt, alloc, &AsciiChar::F.is_ascii_hexdigit(), "true");
-    Ok(())
 }
 
 #[test]
-fn ascii_char_5(rt: HostRuntime) -> Result<(), Fail> {
+fn ascii_char_5(rt: HostRuntime) {
     let alloc = rt.alloc();
     // AsciiChar::as_printable_char
     shows(&rt, alloc, &AsciiChar::LineFeed.as_printable_char(), "'␊'");
@@ -113,11 +108,10 @@ fn ascii_char_5(rt: HostRuntime) -> Result<(), Fail> {
         ch.make_ascii_uppercase();
         shows(&rt, alloc, &ch, "'A'");
     }
-    Ok(())
 }
 
 #[test]
-fn ascii_char_6(rt: HostRuntime) -> Result<(), Fail> {
+fn ascii_char_6(rt: HostRuntime) {
     let alloc = rt.alloc();
     // AsciiChar::make_ascii_lowercase
     {
@@ -136,11 +130,10 @@ fn ascii_char_6(rt: HostRuntime) -> Result<(), Fail> {
         &AsciiChar::a.eq_ignore_ascii_case(&AsciiChar::A),
         "true",
     );
-    Ok(())
 }
 
 #[test]
-fn ascii_char_7(rt: HostRuntime) -> Result<(), Fail> {
+fn ascii_char_7(rt: HostRuntime) {
     let alloc = rt.alloc();
     // Default for AsciiChar::default
     shows(&rt, alloc, &AsciiChar::default(), "'\\0'");
@@ -150,31 +143,34 @@ fn ascii_char_7(rt: HostRuntime) -> Result<(), Fail> {
     shows(&rt, alloc, &(AsciiChar::A < AsciiChar::a), "true");
     // Ord for AsciiChar::cmp
     shows(&rt, alloc, &AsciiChar::a.cmp(&AsciiChar::A), "Greater");
-    Ok(())
 }
 
 #[test]
-fn ascii_char_8(rt: HostRuntime) -> Result<(), Fail> {
+fn ascii_char_8(rt: HostRuntime) {
     let alloc = rt.alloc();
     // Hash for AsciiChar::hash
     {
         let mut seen = HashSet::new(alloc);
-        seen.insert(AsciiChar::a)?;
+        seen.insert(AsciiChar::a).expect(&rt, "refused");
         shows(&rt, alloc, &seen.contains(&AsciiChar::a), "true");
     }
     // Display for AsciiChar::fmt
-    shows(&rt, alloc, &format!(in alloc; "{}", AsciiChar::a)?, "\"a\"");
-    Ok(())
+    shows(
+        &rt,
+        alloc,
+        &format!(in alloc; "{}", AsciiChar::a).expect(&rt, "refused"),
+        "\"a\"",
+    );
 }
 
 #[test]
-fn ascii_char_9(rt: HostRuntime) -> Result<(), Fail> {
+fn ascii_char_9(rt: HostRuntime) {
     let alloc = rt.alloc();
     // Debug for AsciiChar::fmt
     shows(
         &rt,
         alloc,
-        &format!(in alloc; "{:?}", AsciiChar::a)?,
+        &format!(in alloc; "{:?}", AsciiChar::a).expect(&rt, "refused"),
         "\"'a'\"",
     );
     // ascii_char::ToAsciiChar
@@ -186,27 +182,24 @@ fn ascii_char_9(rt: HostRuntime) -> Result<(), Fail> {
     );
     shows(&rt, alloc, &'a'.to_ascii_char(), "Ok('a')");
     shows(&rt, alloc, &97u32.to_ascii_char_unchecked(), "'a'");
-    Ok(())
 }
 
 #[test]
-fn u8_1(rt: HostRuntime) -> Result<(), Fail> {
+fn u8_1(rt: HostRuntime) {
     let alloc = rt.alloc();
     // From<AsciiChar> for u8::from
     shows(&rt, alloc, &u8::from(AsciiChar::a), "97");
-    Ok(())
 }
 
 #[test]
-fn char_1(rt: HostRuntime) -> Result<(), Fail> {
+fn char_1(rt: HostRuntime) {
     let alloc = rt.alloc();
     // From<AsciiChar> for char::from
     shows(&rt, alloc, &char::from(AsciiChar::a), "'a'");
-    Ok(())
 }
 
 #[test]
-fn to_ascii_char_error_1(rt: HostRuntime) -> Result<(), Fail> {
+fn to_ascii_char_error_1(rt: HostRuntime) {
     let alloc = rt.alloc();
     // ToAsciiCharError::description
     shows(
@@ -229,22 +222,20 @@ fn to_ascii_char_error_1(rt: HostRuntime) -> Result<(), Fail> {
         &200u8.to_ascii_char().map_err(|e| e.to_string(alloc)),
         "Err(Ok(\"not an ASCII character\"))",
     );
-    Ok(())
 }
 
 #[test]
-fn free_functions_1(rt: HostRuntime) -> Result<(), Fail> {
+fn free_functions_1(rt: HostRuntime) {
     let alloc = rt.alloc();
     // free_functions::caret_encode
     shows(&rt, alloc, &caret_encode(b'\n'), "Some('J')");
     shows(&rt, alloc, &caret_encode(b'a'), "None");
     // free_functions::caret_decode
     shows(&rt, alloc, &caret_decode(b'J'), "Some('\\n')");
-    Ok(())
 }
 
 #[test]
-fn kernels_1(rt: HostRuntime) -> Result<(), Fail> {
+fn kernels_1(rt: HostRuntime) {
     let alloc = rt.alloc();
     // kernels::first_other
     shows(&rt, alloc, &first_other(b"ab\xc4"), "Some(2)");
@@ -254,11 +245,10 @@ fn kernels_1(rt: HostRuntime) -> Result<(), Fail> {
         upper_in_place(&mut bytes);
         shows(&rt, alloc, &(bytes == *b"AB-7"), "true");
     }
-    Ok(())
 }
 
 #[test]
-fn kernels_2(rt: HostRuntime) -> Result<(), Fail> {
+fn kernels_2(rt: HostRuntime) {
     let alloc = rt.alloc();
     // kernels::lower_in_place
     {
@@ -273,11 +263,10 @@ fn kernels_2(rt: HostRuntime) -> Result<(), Fail> {
     shows(&rt, alloc, &first_not_whitespace(b"  "), "None");
     // kernels::last_not_whitespace
     shows(&rt, alloc, &last_not_whitespace(b"ab \n"), "Some(1)");
-    Ok(())
 }
 
 #[test]
-fn ascii_range_1(rt: HostRuntime) -> Result<(), Fail> {
+fn ascii_range_1(rt: HostRuntime) {
     let alloc = rt.alloc();
     // AsciiRange::fits
     shows(&rt, alloc, &AsciiRange::Range(1, 3).fits(3), "true");
@@ -286,5 +275,4 @@ fn ascii_range_1(rt: HostRuntime) -> Result<(), Fail> {
     shows(&rt, alloc, &AsciiRange::From(4).start(), "4");
     // AsciiRange::end
     shows(&rt, alloc, &AsciiRange::From(4).end(7), "7");
-    Ok(())
 }

@@ -10,10 +10,9 @@ use ascii_run::{
 use std::alloc::AllocError;
 use std::collections::HashSet;
 use std::fmt::Write;
-use std::test::Fail;
 
 #[test]
-fn ascii_buf_1(rt: HostRuntime) -> Result<(), Fail> {
+fn ascii_buf_1(rt: HostRuntime) {
     let alloc = rt.alloc();
     // AsciiBuf::as_ascii_str
     shows(
@@ -29,15 +28,14 @@ fn ascii_buf_1(rt: HostRuntime) -> Result<(), Fail> {
     }
     // AsciiBuf::shrink_to_fit
     {
-        let mut text = view("foo").to_ascii_string(alloc)?;
+        let mut text = view("foo").to_ascii_string(alloc).expect(&rt, "refused");
         shows(&rt, alloc, &AsciiBuf::shrink_to_fit(&mut text), "Ok(())");
         shows(&rt, alloc, &text, "\"foo\"");
     }
-    Ok(())
 }
 
 #[test]
-fn ascii_buf_2(rt: HostRuntime) -> Result<(), Fail> {
+fn ascii_buf_2(rt: HostRuntime) {
     let alloc = rt.alloc();
     // AsciiBuf::push
     {
@@ -51,107 +49,99 @@ fn ascii_buf_2(rt: HostRuntime) -> Result<(), Fail> {
         shows(&rt, alloc, &text.push_str(view("foo")), "Ok(())");
         shows(&rt, alloc, &text, "\"foo\"");
     }
-    Ok(())
 }
 
 #[test]
-fn ascii_buf_3(rt: HostRuntime) -> Result<(), Fail> {
+fn ascii_buf_3(rt: HostRuntime) {
     let alloc = rt.alloc();
     // AsciiBuf::insert
     {
-        let mut text = SmallAsciiString::from_ascii_str(alloc, view("fo"))?;
+        let mut text = SmallAsciiString::from_ascii_str(alloc, view("fo")).expect(&rt, "refused");
         shows(&rt, alloc, &text.insert(0, AsciiChar::z), "Ok(())");
         shows(&rt, alloc, &text, "\"zfo\"");
     }
     // AsciiBuf::insert_str
     {
-        let mut text = SmallAsciiString::from_ascii_str(alloc, view("fo"))?;
+        let mut text = SmallAsciiString::from_ascii_str(alloc, view("fo")).expect(&rt, "refused");
         shows(&rt, alloc, &text.insert_str(1, view("lo")), "Ok(())");
         shows(&rt, alloc, &text, "\"floo\"");
     }
-    Ok(())
 }
 
 #[test]
-fn ascii_buf_4(rt: HostRuntime) -> Result<(), Fail> {
+fn ascii_buf_4(rt: HostRuntime) {
     let alloc = rt.alloc();
     // AsciiBuf::remove
     {
-        let mut text = SmallAsciiString::from_ascii_str(alloc, view("foo"))?;
+        let mut text = SmallAsciiString::from_ascii_str(alloc, view("foo")).expect(&rt, "refused");
         shows(&rt, alloc, &text.remove(0), "'f'");
         shows(&rt, alloc, &text, "\"oo\"");
     }
     // AsciiBuf::pop
     {
-        let mut text = SmallAsciiString::from_ascii_str(alloc, view("fo"))?;
+        let mut text = SmallAsciiString::from_ascii_str(alloc, view("fo")).expect(&rt, "refused");
         shows(&rt, alloc, &text.pop(), "Some('o')");
         shows(&rt, alloc, &text, "\"f\"");
     }
-    Ok(())
 }
 
 #[test]
-fn ascii_buf_5(rt: HostRuntime) -> Result<(), Fail> {
+fn ascii_buf_5(rt: HostRuntime) {
     let alloc = rt.alloc();
     // AsciiBuf::truncate
     {
-        let mut text = SmallAsciiString::from_ascii_str(alloc, view("foo"))?;
+        let mut text = SmallAsciiString::from_ascii_str(alloc, view("foo")).expect(&rt, "refused");
         text.truncate(2);
         shows(&rt, alloc, &text, "\"fo\"");
     }
-    Ok(())
 }
 
 #[test]
-fn ascii_buf_6(rt: HostRuntime) -> Result<(), Fail> {
+fn ascii_buf_6(rt: HostRuntime) {
     let alloc = rt.alloc();
     // AsciiBuf::clear
     {
-        let mut text = SmallAsciiString::from_ascii_str(alloc, view("foo"))?;
+        let mut text = SmallAsciiString::from_ascii_str(alloc, view("foo")).expect(&rt, "refused");
         text.clear();
         shows(&rt, alloc, &text, "\"\"");
     }
-    Ok(())
 }
 
 #[test]
-fn ascii_buf_7(rt: HostRuntime) -> Result<(), Fail> {
+fn ascii_buf_7(rt: HostRuntime) {
     let alloc = rt.alloc();
     // AsciiBuf::set
     {
-        let mut text = SmallAsciiString::from_ascii_str(alloc, view("foo"))?;
+        let mut text = SmallAsciiString::from_ascii_str(alloc, view("foo")).expect(&rt, "refused");
         text.set(0, AsciiChar::z);
         shows(&rt, alloc, &text, "\"zoo\"");
     }
-    Ok(())
 }
 
 #[test]
-fn ascii_buf_8(rt: HostRuntime) -> Result<(), Fail> {
+fn ascii_buf_8(rt: HostRuntime) {
     let alloc = rt.alloc();
     // AsciiBuf::make_ascii_uppercase
     {
-        let mut text = SmallAsciiString::from_ascii_str(alloc, view("foo"))?;
+        let mut text = SmallAsciiString::from_ascii_str(alloc, view("foo")).expect(&rt, "refused");
         text.make_ascii_uppercase();
         shows(&rt, alloc, &text, "\"FOO\"");
     }
-    Ok(())
 }
 
 #[test]
-fn ascii_buf_9(rt: HostRuntime) -> Result<(), Fail> {
+fn ascii_buf_9(rt: HostRuntime) {
     let alloc = rt.alloc();
     // AsciiBuf::make_ascii_lowercase
     {
-        let mut text = SmallAsciiString::from_ascii_str(alloc, view("FOO"))?;
+        let mut text = SmallAsciiString::from_ascii_str(alloc, view("FOO")).expect(&rt, "refused");
         text.make_ascii_lowercase();
         shows(&rt, alloc, &text, "\"foo\"");
     }
-    Ok(())
 }
 
 #[test]
-fn small_ascii_string_1(rt: HostRuntime) -> Result<(), Fail> {
+fn small_ascii_string_1(rt: HostRuntime) {
     let alloc = rt.alloc();
     // SmallAsciiString::new
     shows(&rt, alloc, &SmallAsciiString::new(alloc).len(), "0");
@@ -159,111 +149,122 @@ fn small_ascii_string_1(rt: HostRuntime) -> Result<(), Fail> {
     shows(
         &rt,
         alloc,
-        &SmallAsciiString::from_ascii_str(alloc, view("foo"))?,
+        &SmallAsciiString::from_ascii_str(alloc, view("foo")).expect(&rt, "refused"),
         "\"foo\"",
     );
     // SmallAsciiString::as_ascii_str
     shows(
         &rt,
         alloc,
-        &SmallAsciiString::from_ascii_str(alloc, view("foo"))?.as_ascii_str(),
+        &SmallAsciiString::from_ascii_str(alloc, view("foo"))
+            .expect(&rt, "refused")
+            .as_ascii_str(),
         "\"foo\"",
     );
-    Ok(())
 }
 
 #[test]
-fn small_ascii_string_2(rt: HostRuntime) -> Result<(), Fail> {
+fn small_ascii_string_2(rt: HostRuntime) {
     let alloc = rt.alloc();
     // SmallAsciiString::is_inline
     shows(
         &rt,
         alloc,
-        &SmallAsciiString::from_ascii_str(alloc, view("foo"))?.is_inline(),
+        &SmallAsciiString::from_ascii_str(alloc, view("foo"))
+            .expect(&rt, "refused")
+            .is_inline(),
         "true",
     );
     // SmallAsciiString::len
     shows(
         &rt,
         alloc,
-        &SmallAsciiString::from_ascii_str(alloc, view("foo"))?.len(),
+        &SmallAsciiString::from_ascii_str(alloc, view("foo"))
+            .expect(&rt, "refused")
+            .len(),
         "3",
     );
     // SmallAsciiString::is_empty
     shows(&rt, alloc, &SmallAsciiString::new(alloc).is_empty(), "true");
     // SmallAsciiString::capacity
     shows(&rt, alloc, &SmallAsciiString::new(alloc).capacity(), "24");
-    Ok(())
 }
 
 #[test]
-fn small_ascii_string_3(rt: HostRuntime) -> Result<(), Fail> {
+fn small_ascii_string_3(rt: HostRuntime) {
     let alloc = rt.alloc();
     // SmallAsciiString::into_ascii_string
     shows(
         &rt,
         alloc,
-        &SmallAsciiString::from_ascii_str(alloc, view("foo"))?
+        &SmallAsciiString::from_ascii_str(alloc, view("foo"))
+            .expect(&rt, "refused")
             .into_ascii_string()
             .ok(),
         "Some(\"foo\")",
     );
     // AsciiBuf for SmallAsciiString::shrink_to_fit
     {
-        let mut text = SmallAsciiString::from_ascii_str(alloc, view("foo"))?;
+        let mut text = SmallAsciiString::from_ascii_str(alloc, view("foo")).expect(&rt, "refused");
         shows(&rt, alloc, &text.shrink_to_fit(), "Ok(())");
         shows(&rt, alloc, &text.capacity(), "24");
     }
-    Ok(())
 }
 
 #[test]
-fn small_ascii_string_4(rt: HostRuntime) -> Result<(), Fail> {
+fn small_ascii_string_4(rt: HostRuntime) {
     let alloc = rt.alloc();
     // Clone for SmallAsciiString::clone
     shows(
         &rt,
         alloc,
-        &SmallAsciiString::from_ascii_str(alloc, view("foo"))?.clone()?,
+        &SmallAsciiString::from_ascii_str(alloc, view("foo"))
+            .expect(&rt, "refused")
+            .clone()
+            .expect(&rt, "refused"),
         "\"foo\"",
     );
     // PartialEq for SmallAsciiString::eq
     shows(
         &rt,
         alloc,
-        &(SmallAsciiString::new(alloc) == SmallAsciiString::from_ascii_str(alloc, view("foo"))?),
+        &(SmallAsciiString::new(alloc)
+            == SmallAsciiString::from_ascii_str(alloc, view("foo")).expect(&rt, "refused")),
         "false",
     );
-    Ok(())
 }
 
 #[test]
-fn small_ascii_string_5(rt: HostRuntime) -> Result<(), Fail> {
+fn small_ascii_string_5(rt: HostRuntime) {
     let alloc = rt.alloc();
     // PartialOrd for SmallAsciiString::partial_cmp
     shows(
         &rt,
         alloc,
-        &(SmallAsciiString::new(alloc) < SmallAsciiString::from_ascii_str(alloc, view("foo"))?),
+        &(SmallAsciiString::new(alloc)
+            < SmallAsciiString::from_ascii_str(alloc, view("foo")).expect(&rt, "refused")),
         "true",
     );
     // Ord for SmallAsciiString::cmp
     shows(
         &rt,
         alloc,
-        &SmallAsciiString::new(alloc).cmp(&SmallAsciiString::from_ascii_str(alloc, view("foo"))?),
+        &SmallAsciiString::new(alloc).cmp(&SmallAsciiString::from_ascii_str(
+            alloc,
+            view("foo"),
+        ).expect(&rt, "refused")),
         "Less",
     );
-    Ok(())
 }
 
 #[test]
-fn small_ascii_string_6(rt: HostRuntime) -> Result<(), Fail> {
+fn small_ascii_string_6(rt: HostRuntime) {
     let alloc = rt.alloc();
     // Hash for SmallAsciiString::hash
     {
         let mut seen = HashSet::new(alloc);
-        seen.insert(SmallAsciiString::new(alloc))?;
+        seen.insert(SmallAsciiString::new(alloc))
+            .expect(&rt, "refused");
         shows(
             &rt,
             alloc,
@@ -271,24 +272,26 @@ fn small_ascii_string_6(rt: HostRuntime) -> Result<(), Fail> {
             "true",
         );
     }
-    Ok(())
 }
 
 #[test]
-fn small_ascii_string_7(rt: HostRuntime) -> Result<(), Fail> {
+fn small_ascii_string_7(rt: HostRuntime) {
     let alloc = rt.alloc();
     // Display for SmallAsciiString::fmt
     shows(
         &rt,
         alloc,
-        &format!(in alloc; "{}", SmallAsciiString::from_ascii_str(alloc, view("foo"))?)?,
+        &format!(in alloc;
+            "{}",
+            SmallAsciiString::from_ascii_str(alloc, view("foo")).expect(&rt, "refused")
+        )
+        .expect(&rt, "refused"),
         "\"foo\"",
     );
-    Ok(())
 }
 
 #[test]
-fn small_ascii_string_8(rt: HostRuntime) -> Result<(), Fail> {
+fn small_ascii_string_8(rt: HostRuntime) {
     let alloc = rt.alloc();
     // Debug for SmallAsciiString::fmt
     shows(
@@ -296,8 +299,9 @@ fn small_ascii_string_8(rt: HostRuntime) -> Result<(), Fail> {
         alloc,
         &format!(in alloc;
             "{:?}",
-            SmallAsciiString::from_ascii_str(alloc, view("foo"))?
-        )?,
+            SmallAsciiString::from_ascii_str(alloc, view("foo")).expect(&rt, "refused")
+        )
+        .expect(&rt, "refused"),
         "\"\\\"foo\\\"\"",
     );
     // SmallAsciiString::write_char
@@ -307,11 +311,10 @@ fn small_ascii_string_8(rt: HostRuntime) -> Result<(), Fail> {
         shows(&rt, alloc, &text.write_char('č'), "Err(Error)");
         shows(&rt, alloc, &text, "\"a\"");
     }
-    Ok(())
 }
 
 #[test]
-fn small_ascii_string_9(rt: HostRuntime) -> Result<(), Fail> {
+fn small_ascii_string_9(rt: HostRuntime) {
     let alloc = rt.alloc();
     // Write for SmallAsciiString::write_str
     {
@@ -319,45 +322,42 @@ fn small_ascii_string_9(rt: HostRuntime) -> Result<(), Fail> {
         shows(&rt, alloc, &write!(text, "foo{}", 7), "Ok(())");
         shows(&rt, alloc, &text, "\"foo7\"");
     }
-    Ok(())
 }
 
 #[test]
-fn run_1(rt: HostRuntime) -> Result<(), Fail> {
+fn run_1(rt: HostRuntime) {
     let alloc = rt.alloc();
     // run
     {
-        let mut text = view("foo").to_ascii_string(alloc)?;
+        let mut text = view("foo").to_ascii_string(alloc).expect(&rt, "refused");
         shows(
             &rt,
             alloc,
-            &run(alloc, &mut text, &[Cmd::Pop, Cmd::Len])?,
+            &run(alloc, &mut text, &[Cmd::Pop, Cmd::Len]).expect(&rt, "refused"),
             "[Char(Some('o')), Number(2)]",
         );
         shows(&rt, alloc, &text, "\"fo\"");
     }
-    Ok(())
 }
 
 #[test]
-fn plain_run_1(rt: HostRuntime) -> Result<(), Fail> {
+fn plain_run_1(rt: HostRuntime) {
     let alloc = rt.alloc();
     // plain_run
     {
-        let mut text = view("foo").to_ascii_string(alloc)?;
-        let replies = run(alloc, &mut text, &[Cmd::Len])?;
+        let mut text = view("foo").to_ascii_string(alloc).expect(&rt, "refused");
+        let replies = run(alloc, &mut text, &[Cmd::Len]).expect(&rt, "refused");
         shows(&rt, alloc, &plain_run(&[Cmd::Len], &replies), "()");
     }
-    Ok(())
 }
 
 #[test]
-fn runs_agree_1(rt: HostRuntime) -> Result<(), Fail> {
+fn runs_agree_1(rt: HostRuntime) {
     let alloc = rt.alloc();
     // runs_agree
     {
-        let mut text = view("foo").to_ascii_string(alloc)?;
-        let replies = run(alloc, &mut text, &[Cmd::Len])?;
+        let mut text = view("foo").to_ascii_string(alloc).expect(&rt, "refused");
+        let replies = run(alloc, &mut text, &[Cmd::Len]).expect(&rt, "refused");
         shows(
             &rt,
             alloc,
@@ -365,11 +365,10 @@ fn runs_agree_1(rt: HostRuntime) -> Result<(), Fail> {
             "()",
         );
     }
-    Ok(())
 }
 
 #[test]
-fn source_1(rt: HostRuntime) -> Result<(), Fail> {
+fn source_1(rt: HostRuntime) {
     let alloc = rt.alloc();
     // Source::failures
     shows(&rt, alloc, &Input::new(b"ab".as_slice()).failures(), "0");
@@ -380,11 +379,10 @@ fn source_1(rt: HostRuntime) -> Result<(), Fail> {
         shows(&rt, alloc, &input.read(&mut buffer), "Ok(2)");
         shows(&rt, alloc, &input.read(&mut buffer), "Ok(0)");
     }
-    Ok(())
 }
 
 #[test]
-fn sink_1(rt: HostRuntime) -> Result<(), Fail> {
+fn sink_1(rt: HostRuntime) {
     let alloc = rt.alloc();
     // Sink::failures
     shows(&rt, alloc, &Output::new(Vec::new(alloc)).failures(), "0");
@@ -396,11 +394,10 @@ fn sink_1(rt: HostRuntime) -> Result<(), Fail> {
     }
     // Sink::flush
     shows(&rt, alloc, &Output::new(Vec::new(alloc)).flush(), "Ok(())");
-    Ok(())
 }
 
 #[test]
-fn input_1(rt: HostRuntime) -> Result<(), Fail> {
+fn input_1(rt: HostRuntime) {
     let alloc = rt.alloc();
     // Input::new
     shows(&rt, alloc, &Input::new(b"ab".as_slice()).failures(), "0");
@@ -411,11 +408,10 @@ fn input_1(rt: HostRuntime) -> Result<(), Fail> {
         &Input::new(b"ab".as_slice()).into_inner(),
         "[97, 98]",
     );
-    Ok(())
 }
 
 #[test]
-fn output_1(rt: HostRuntime) -> Result<(), Fail> {
+fn output_1(rt: HostRuntime) {
     let alloc = rt.alloc();
     // Output::new
     shows(&rt, alloc, &Output::new(Vec::new(alloc)).failures(), "0");
@@ -425,11 +421,10 @@ fn output_1(rt: HostRuntime) -> Result<(), Fail> {
         shows(&rt, alloc, &output.write(b"ab"), "Ok(2)");
         shows(&rt, alloc, &output.into_inner(), "[97, 98]");
     }
-    Ok(())
 }
 
 #[test]
-fn engine_fault_1(rt: HostRuntime) -> Result<(), Fail> {
+fn engine_fault_1(rt: HostRuntime) {
     let alloc = rt.alloc();
     // From<AllocError> for EngineFault::from
     shows(&rt, alloc, &EngineFault::from(AllocError), "Memory");
@@ -440,11 +435,10 @@ fn engine_fault_1(rt: HostRuntime) -> Result<(), Fail> {
         &bytes::as_ascii_str(b"ab\xc4").map_err(EngineFault::from),
         "Err(NotAscii(2))",
     );
-    Ok(())
 }
 
 #[test]
-fn engine_1(rt: HostRuntime) -> Result<(), Fail> {
+fn engine_1(rt: HostRuntime) {
     let alloc = rt.alloc();
     // engine
     {
@@ -462,18 +456,18 @@ fn engine_1(rt: HostRuntime) -> Result<(), Fail> {
         );
         shows(&rt, alloc, &output.into_inner(), "[121, 10, 120, 10]");
     }
-    Ok(())
 }
 
 #[test]
-fn run_both_1(rt: HostRuntime) -> Result<(), Fail> {
+fn run_both_1(rt: HostRuntime) {
     let alloc = rt.alloc();
     // run_both
     shows(
         &rt,
         alloc,
-        &run_both(alloc, view("foo"), &[Cmd::Upper, Cmd::Pop])?.small,
+        &run_both(alloc, view("foo"), &[Cmd::Upper, Cmd::Pop])
+            .expect(&rt, "refused")
+            .small,
         "\"FO\"",
     );
-    Ok(())
 }

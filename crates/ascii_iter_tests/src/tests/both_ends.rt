@@ -26,7 +26,7 @@ pub fn ends(alloc: Global, letters: &str) -> Result<Vec<End>, AllocError> {
 }
 
 /// The answers of a walk, each with a bar behind it, and `~` for a `None`.
-pub fn joined(alloc: Global, answers: &[Option<AsciiStr<'_>>]) -> Result<AsciiString, AllocError> {
+fn joined(alloc: Global, answers: &[Option<AsciiStr<'_>>]) -> Result<AsciiString, AllocError> {
     let mut text = AsciiString::new(alloc);
     for answer in answers {
         match answer {
@@ -36,6 +36,25 @@ pub fn joined(alloc: Global, answers: &[Option<AsciiStr<'_>>]) -> Result<AsciiSt
         text.push(AsciiChar::VerticalBar)?;
     }
     Ok(text)
+}
+
+/// The answers of a walk over the pieces of a text, by the ends that letters name.
+pub fn pieces_walked(
+    alloc: Global,
+    source: &str,
+    on: AsciiChar,
+    letters: &str,
+) -> Result<AsciiString, AllocError> {
+    let script = ends(alloc, letters)?;
+    let answers = walk_split(alloc, ascii(source), on, &script)?;
+    joined(alloc, &answers)
+}
+
+/// The answers of a walk over the lines of a text, by the ends that letters name.
+pub fn lines_walked(alloc: Global, source: &str, letters: &str) -> Result<AsciiString, AllocError> {
+    let script = ends(alloc, letters)?;
+    let answers = walk_lines(alloc, ascii(source), &script)?;
+    joined(alloc, &answers)
 }
 
 /// A text, where it is split, the ends that are asked, and the answers.
@@ -68,13 +87,8 @@ static PIECES: [(&str, AsciiChar, &str, &str); 13] = [
 #[test]
 fn walked_pieces(rt: HostRuntime) -> Result<(), Fail> {
     for &(source, on, script, want) in &PIECES {
-        let script = ends(rt.alloc(), script)?;
-        let answers = walk_split(rt.alloc(), ascii(source), on, &script)?;
-        same(
-            &rt,
-            joined(rt.alloc(), &answers)?.as_ascii_str().as_str(),
-            want,
-        );
+        let answers = pieces_walked(rt.alloc(), source, on, script)?;
+        same(&rt, answers.as_ascii_str().as_str(), want);
     }
     Ok(())
 }
@@ -100,13 +114,8 @@ static LINES: [(&str, &str, &str); 14] = [
 #[test]
 fn walked_lines(rt: HostRuntime) -> Result<(), Fail> {
     for &(source, script, want) in &LINES {
-        let script = ends(rt.alloc(), script)?;
-        let answers = walk_lines(rt.alloc(), ascii(source), &script)?;
-        same(
-            &rt,
-            joined(rt.alloc(), &answers)?.as_ascii_str().as_str(),
-            want,
-        );
+        let answers = lines_walked(rt.alloc(), source, script)?;
+        same(&rt, answers.as_ascii_str().as_str(), want);
     }
     Ok(())
 }

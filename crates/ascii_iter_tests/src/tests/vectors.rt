@@ -1,9 +1,8 @@
 //! Walks that were made with the Rust crate.
 
-use super::both_ends::{ascii, ends, joined};
+use super::both_ends::{lines_walked, pieces_walked};
 use super::same;
 use ascii::AsciiChar;
-use ascii::iter::{walk_lines, walk_split};
 use std::test::Fail;
 
 // A text, ends, and what its split at a comma answers to them: a bar behind each, `~` for a `None`.
@@ -65,13 +64,8 @@ static LINES: [(&str, &str, &str); 24] = [
 #[test]
 fn walked_pieces(rt: HostRuntime) -> Result<(), Fail> {
     for &(source, script, want) in &SPLITS {
-        let script = ends(rt.alloc(), script)?;
-        let answers = walk_split(rt.alloc(), ascii(source), AsciiChar::Comma, &script)?;
-        same(
-            &rt,
-            joined(rt.alloc(), &answers)?.as_ascii_str().as_str(),
-            want,
-        );
+        let answers = pieces_walked(rt.alloc(), source, AsciiChar::Comma, script)?;
+        same(&rt, answers.as_ascii_str().as_str(), want);
     }
     Ok(())
 }
@@ -79,13 +73,8 @@ fn walked_pieces(rt: HostRuntime) -> Result<(), Fail> {
 #[test]
 fn walked_lines(rt: HostRuntime) -> Result<(), Fail> {
     for &(source, script, want) in &LINES {
-        let script = ends(rt.alloc(), script)?;
-        let answers = walk_lines(rt.alloc(), ascii(source), &script)?;
-        same(
-            &rt,
-            joined(rt.alloc(), &answers)?.as_ascii_str().as_str(),
-            want,
-        );
+        let answers = lines_walked(rt.alloc(), source, script)?;
+        same(&rt, answers.as_ascii_str().as_str(), want);
     }
     Ok(())
 }

@@ -57,29 +57,31 @@ fn text_stays(rt: HostRuntime) -> Result<(), Fail> {
     Ok(())
 }
 
+/// A call on the string `x` that grows it more than once, and its answers.
+static GROWTHS: [(&str, &[&str]); 2] = [
+    (
+        "write!",
+        &[
+            "Err(Error) x xz",
+            "Err(Error) xyy- xyy-z",
+            "Ok(()) xyy-aaaaaaaaaaaaaaaaaaaa xyy-aaaaaaaaaaaaaaaaaaaaz",
+        ],
+    ),
+    (
+        "extend_strs",
+        &[
+            "Err(AllocError) x xz",
+            "Err(AllocError) xa xaz",
+            "Err(AllocError) xabbbbbbbbbbbbbbbbbbbb xabbbbbbbbbbbbbbbbbbbbz",
+            "Ok(()) xabbbbbbbbbbbbbbbbbbbbcccccccccccccccccccccccccccccccccccccccccccccccc xabbbbbbbbbbbbbbbbbbbbccccccccccccccccccccccccccccccccccccccccccccccccz",
+        ],
+    ),
+];
+
 #[test]
 fn what_came_before_stays(rt: HostRuntime) -> Result<(), Fail> {
     let alloc = rt.alloc();
-    let rows: [(&str, &[&str]); 2] = [
-        (
-            "write!",
-            &[
-                "Err(Error) x xz",
-                "Err(Error) xyy- xyy-z",
-                "Ok(()) xyy-aaaaaaaaaaaaaaaaaaaa xyy-aaaaaaaaaaaaaaaaaaaaz",
-            ],
-        ),
-        (
-            "extend_strs",
-            &[
-                "Err(AllocError) x xz",
-                "Err(AllocError) xa xaz",
-                "Err(AllocError) xabbbbbbbbbbbbbbbbbbbb xabbbbbbbbbbbbbbbbbbbbz",
-                "Ok(()) xabbbbbbbbbbbbbbbbbbbbcccccccccccccccccccccccccccccccccccccccccccccccc xabbbbbbbbbbbbbbbbbbbbccccccccccccccccccccccccccccccccccccccccccccccccz",
-            ],
-        ),
-    ];
-    for (call, wanted) in rows {
+    for &(call, wanted) in &GROWTHS {
         each_growth(&rt, call, wanted, |heap| edited(alloc, heap, call))?;
     }
     Ok(())

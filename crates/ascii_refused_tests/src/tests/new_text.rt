@@ -34,23 +34,28 @@ fn made(alloc: Global, heap: &Heap, call: &str) -> Result<String, AllocError> {
     }
 }
 
+/// A call that makes a text, and its answers.
+static TEXTS: [(&str, &[&str]); 10] = [
+    ("with_capacity", &["Err(AllocError)", "Ok(\"\")"]),
+    ("from_char", &["Err(AllocError)", "Ok(\"a\")"]),
+    ("from_chars", &["Err(AllocError)", "Ok(\"aB\")"]),
+    ("collect_chars", &["Err(AllocError)", "Ok(\"aB,c\")"]),
+    ("collect_strs", &["Err(AllocError)", "Ok(\"aBc\")"]),
+    ("to_ascii_string", &["Err(AllocError)", "Ok(\"aB,c\")"]),
+    ("to_ascii_uppercase", &["Err(AllocError)", "Ok(\"AB,C\")"]),
+    ("to_ascii_lowercase", &["Err(AllocError)", "Ok(\"ab,c\")"]),
+    ("to_chars", &["Err(AllocError)", "Ok(['a', 'B', ',', 'c'])"]),
+    (
+        "clone",
+        &["Err(AllocError) of aB,c", "Ok(\"aB,c\") of aB,c"],
+    ),
+];
+
 #[test]
 fn texts(rt: HostRuntime) -> Result<(), Fail> {
     let alloc = rt.alloc();
-    let refused = "Err(AllocError)";
-    for (call, refused, ample) in [
-        ("with_capacity", refused, "Ok(\"\")"),
-        ("from_char", refused, "Ok(\"a\")"),
-        ("from_chars", refused, "Ok(\"aB\")"),
-        ("collect_chars", refused, "Ok(\"aB,c\")"),
-        ("collect_strs", refused, "Ok(\"aBc\")"),
-        ("to_ascii_string", refused, "Ok(\"aB,c\")"),
-        ("to_ascii_uppercase", refused, "Ok(\"AB,C\")"),
-        ("to_ascii_lowercase", refused, "Ok(\"ab,c\")"),
-        ("to_chars", refused, "Ok(['a', 'B', ',', 'c'])"),
-        ("clone", "Err(AllocError) of aB,c", "Ok(\"aB,c\") of aB,c"),
-    ] {
-        each_growth(&rt, call, &[refused, ample], |heap| made(alloc, heap, call))?;
+    for &(call, wanted) in &TEXTS {
+        each_growth(&rt, call, wanted, |heap| made(alloc, heap, call))?;
     }
     Ok(())
 }
@@ -68,21 +73,24 @@ fn walked(alloc: Global, heap: &Heap, call: &str) -> Result<String, AllocError> 
     }
 }
 
+/// A walk, and its answer with ample memory.
+static WALKS: [(&str, &str); 4] = [
+    ("walk_lines", "Ok([Some(\"b\"), Some(\"a\"), None])"),
+    (
+        "walk_line_spans",
+        "Ok([Some(LineSpan { start: 3, text: \"b\", ending: Lf }), Some(LineSpan { start: 0, text: \"a\", ending: CrLf }), None])",
+    ),
+    ("walk_split", "Ok([Some(\"\\n\"), Some(\"a\\r\\n\"), None])"),
+    (
+        "walk_split_spans",
+        "Ok([Some(SplitSpan { start: 4, text: \"\\n\" }), Some(SplitSpan { start: 0, text: \"a\\r\\n\" }), None])",
+    ),
+];
+
 #[test]
 fn walks(rt: HostRuntime) -> Result<(), Fail> {
     let alloc = rt.alloc();
-    for (call, ample) in [
-        ("walk_lines", "Ok([Some(\"b\"), Some(\"a\"), None])"),
-        (
-            "walk_line_spans",
-            "Ok([Some(LineSpan { start: 3, text: \"b\", ending: Lf }), Some(LineSpan { start: 0, text: \"a\", ending: CrLf }), None])",
-        ),
-        ("walk_split", "Ok([Some(\"\\n\"), Some(\"a\\r\\n\"), None])"),
-        (
-            "walk_split_spans",
-            "Ok([Some(SplitSpan { start: 4, text: \"\\n\" }), Some(SplitSpan { start: 0, text: \"a\\r\\n\" }), None])",
-        ),
-    ] {
+    for &(call, ample) in &WALKS {
         let wanted = ["Err(AllocError)", ample];
         each_growth(&rt, call, &wanted, |heap| walked(alloc, heap, call))?;
     }

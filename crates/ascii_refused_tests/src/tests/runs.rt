@@ -5,6 +5,7 @@ use ascii::iter::End;
 use ascii::{AsciiChar, AsciiRange, AsciiString};
 use ascii_run::{Cmd, Input, Mode, Output, engine, run};
 use std::alloc::{AllocError, Global};
+use std::process::Abort;
 use std::test::Fail;
 
 /// The replies of a run on a string with the text `x` and no room, and the text at its end.
@@ -70,11 +71,51 @@ fn wrote(alloc: Global, heap: &Heap, mode: Mode<'_>, input: &[u8]) -> Result<Str
 
 const INPUT: &[u8] = b"a\tb\n\nc\r";
 
-const SCRIPT: [End; 3] = [End::Back, End::Front, End::Front];
+static SCRIPT: [End; 3] = [End::Back, End::Front, End::Front];
+
+/// The mode of a name.
+fn mode_of(name: &str) -> Mode<'static> {
+    match name {
+        "copy" => Mode::Copy,
+        "lines" => Mode::Lines,
+        "tac" => Mode::Tac,
+        "caret" => Mode::Caret,
+        "ends" => Mode::Ends(&SCRIPT),
+        "ends -s" => Mode::EndsSpans(&SCRIPT),
+        _ => Mode::Json,
+    }
+}
+
+/// Runs a mode over `INPUT` and over bytes that are not all ASCII, with each growth refused in turn.
+fn goes_out<R: Abort + AllocGlobal>(
+    rt: &R,
+    mode: Mode<'_>,
+    name: &str,
+    ample: &str,
+) -> Result<(), Fail> {
+    let alloc = rt.alloc();
+    let other: &[u8] = &[97, 98, 200, 201];
+    for (input, ample) in [(INPUT, ample), (other, "Err(NotAscii(2)) ")] {
+        each_growth(rt, name, &["Err(Memory) ", ample], |heap| {
+            wrote(alloc, heap, mode, input)
+        })?;
+    }
+    Ok(())
+}
+
+/// A mode, and its answer for `INPUT`.
+static MODES: [(&str, &str); 7] = [
+    ("copy", "Ok(()) a\tb\n\nc\r"),
+    ("lines", "Ok(()) a\tb\n\nc\r\n"),
+    ("tac", "Ok(()) c\r\n\na\tb\n"),
+    ("caret", "Ok(()) a^Ib\n\nc^M"),
+    ("ends", "Ok(()) +c\r\n+a\tb\n+\n"),
+    ("ends -s", "Ok(()) +5 none c\r\n+0 lf a\tb\n+4 lf \n"),
+    ("json", "Ok(()) \"a\\tb\\n\\nc\\r\""),
+];
 
 #[test]
 fn nothing_goes_out(rt: HostRuntime) -> Result<(), Fail> {
-    let alloc = rt.alloc();
     let cmds = [
         Cmd::InsertStr(0, view("0123456789012345678901234567890123456789")),
         Cmd::Copy(AsciiRange::Full),
@@ -82,30 +123,11 @@ fn nothing_goes_out(rt: HostRuntime) -> Result<(), Fail> {
         Cmd::Truncate(3),
     ];
     let far = [Cmd::Push(AsciiChar::a), Cmd::Insert(99, AsciiChar::a)];
-    let rows: [(Mode<'_>, &str, &str); 9] = [
-        (Mode::Copy, "copy", "Ok(()) a\tb\n\nc\r"),
-        (Mode::Lines, "lines", "Ok(()) a\tb\n\nc\r\n"),
-        (Mode::Tac, "tac", "Ok(()) c\r\n\na\tb\n"),
-        (Mode::Caret, "caret", "Ok(()) a^Ib\n\nc^M"),
-        (Mode::Ends(&SCRIPT), "ends", "Ok(()) +c\r\n+a\tb\n+\n"),
-        (
-            Mode::EndsSpans(&SCRIPT),
-            "ends -s",
-            "Ok(()) +5 none c\r\n+0 lf a\tb\n+4 lf \n",
-        ),
-        (Mode::Edit(&cmds), "edit", "Ok(()) 012"),
-        (Mode::Edit(&far), "edit too far", "Err(Position(1)) "),
-        (Mode::Json, "json", "Ok(()) \"a\\tb\\n\\nc\\r\""),
-    ];
-    let other: &[u8] = &[97, 98, 200, 201];
-    for (mode, name, ample) in rows {
-        for (input, ample) in [(INPUT, ample), (other, "Err(NotAscii(2)) ")] {
-            each_growth(&rt, name, &["Err(Memory) ", ample], |heap| {
-                wrote(alloc, heap, mode, input)
-            })?;
-        }
+    for &(name, ample) in &MODES {
+        goes_out(&rt, mode_of(name), name, ample)?;
     }
-    Ok(())
+    goes_out(&rt, Mode::Edit(&cmds), "edit", "Ok(()) 012")?;
+    goes_out(&rt, Mode::Edit(&far), "edit too far", "Err(Position(1)) ")
 }
 
 /// What a mode answers for an input, and how much went out.
@@ -121,6 +143,17 @@ fn wrote_much(
     format!(in alloc; "{answer:?} {}", writer.into_inner().len())
 }
 
+/// A mode, and its answer for 20,000 bytes.
+static MUCH: [(&str, &str); 7] = [
+    ("copy", "Ok(()) 20000"),
+    ("lines", "Ok(()) 20000"),
+    ("tac", "Ok(()) 20000"),
+    ("caret", "Ok(()) 24000"),
+    ("ends", "Ok(()) 18"),
+    ("ends -s", "Ok(()) 37"),
+    ("json", "Ok(()) 28002"),
+];
+
 #[test]
 fn nothing_of_much_goes_out(rt: HostRuntime) -> Result<(), Fail> {
     let alloc = rt.alloc();
@@ -128,21 +161,14 @@ fn nothing_of_much_goes_out(rt: HostRuntime) -> Result<(), Fail> {
     for _ in 0..4_000 {
         input.extend_from_slice(b"ab\tc\n")?;
     }
-    let rows: [(Mode<'_>, &str, &str); 8] = [
-        (Mode::Copy, "copy", "Ok(()) 20000"),
-        (Mode::Lines, "lines", "Ok(()) 20000"),
-        (Mode::Tac, "tac", "Ok(()) 20000"),
-        (Mode::Caret, "caret", "Ok(()) 24000"),
-        (Mode::Ends(&SCRIPT), "ends", "Ok(()) 18"),
-        (Mode::EndsSpans(&SCRIPT), "ends -s", "Ok(()) 37"),
-        (Mode::Edit(&[Cmd::Upper]), "edit", "Ok(()) 20000"),
-        (Mode::Json, "json", "Ok(()) 28002"),
-    ];
-    for (mode, name, ample) in rows {
+    for &(name, ample) in &MUCH {
         let wanted = ["Err(Memory) 0", ample];
         each_growth(&rt, name, &wanted, |heap| {
-            wrote_much(alloc, heap, mode, &input)
+            wrote_much(alloc, heap, mode_of(name), &input)
         })?;
     }
-    Ok(())
+    let wanted = ["Err(Memory) 0", "Ok(()) 20000"];
+    each_growth(&rt, "edit", &wanted, |heap| {
+        wrote_much(alloc, heap, Mode::Edit(&[Cmd::Upper]), &input)
+    })
 }

@@ -10,11 +10,11 @@ use std::alloc::{AllocError, Global};
 use std::fmt::Write;
 use std::test::Fail;
 
-/// A text that just fits inline, and one in an allocation that is full.
-const STARTS: [&str; 2] = [
-    "abcdefghijklmnopqrstuvwx",
-    "abcdefghijklmnopqrstuvwxabcdefghijklmnopqrstuvwx",
-];
+/// A text that just fits inline.
+const FULL: &str = "abcdefghijklmnopqrstuvwx";
+
+/// A text in an allocation that is full.
+const LONG: &str = "abcdefghijklmnopqrstuvwxabcdefghijklmnopqrstuvwx";
 
 /// A growth of a text past its room.
 fn grown(alloc: Global, start: &str, call: &str, left: Left) -> Result<String, AllocError> {
@@ -32,23 +32,26 @@ fn grown(alloc: Global, start: &str, call: &str, left: Left) -> Result<String, A
     }
 }
 
+/// A growth of a text, its refusal, and what it puts before the text and behind it.
+static GROWTHS: [(&str, &str, &str, &str); 7] = [
+    ("reserve", "AllocError", "", ""),
+    ("push", "AllocError", "", "y"),
+    ("push_str", "AllocError", "", "yy"),
+    ("insert", "AllocError", "w", ""),
+    ("insert_str", "AllocError", "ww", ""),
+    ("write_str", "Error", "", "yy"),
+    ("write_char", "Error", "", "y"),
+];
+
 #[test]
 fn text_stays(rt: HostRuntime) -> Result<(), Fail> {
     let alloc = rt.alloc();
-    let rows: [(&str, &str, &str, &str); 7] = [
-        ("push", "AllocError", "", "y"),
-        ("push_str", "AllocError", "", "yy"),
-        ("insert", "AllocError", "w", ""),
-        ("insert_str", "AllocError", "ww", ""),
-        ("reserve", "AllocError", "", ""),
-        ("write_str", "Error", "", "yy"),
-        ("write_char", "Error", "", "y"),
-    ];
-    for start in STARTS {
-        for (call, refusal, before, behind) in rows {
+    for &(call, refusal, before, behind) in &GROWTHS {
+        for start in [FULL, LONG] {
             let refused = format!(in alloc; "Err({refusal}) {start} {start}z")?;
-            let text = format!(in alloc; "{before}{start}{behind}")?;
-            let ample = format!(in alloc; "Ok(()) {text} {text}z")?;
+            let ample = format!(in alloc;
+                "Ok(()) {before}{start}{behind} {before}{start}{behind}z"
+            )?;
             let wanted = [refused.as_str(), ample.as_str()];
             each_block(&rt, call, &wanted, |left| grown(alloc, start, call, left))?;
         }
@@ -71,71 +74,69 @@ fn made(alloc: Global, start: &str, call: &str, left: Left) -> Result<String, Al
     }
 }
 
+/// A call, the text that it makes another one of, and its answers: two where it takes memory.
+static MADE: [(&str, &str, &[&str]); 6] = [
+    (
+        "from_ascii_str",
+        FULL,
+        &["Ok(\"abcdefghijklmnopqrstuvwx\")"],
+    ),
+    (
+        "from_ascii_str",
+        LONG,
+        &[
+            "Err(AllocError)",
+            "Ok(\"abcdefghijklmnopqrstuvwxabcdefghijklmnopqrstuvwx\")",
+        ],
+    ),
+    (
+        "clone",
+        FULL,
+        &["(Ok(\"abcdefghijklmnopqrstuvwx\"), \"abcdefghijklmnopqrstuvwx\")"],
+    ),
+    (
+        "clone",
+        LONG,
+        &[
+            "(Err(AllocError), \"abcdefghijklmnopqrstuvwxabcdefghijklmnopqrstuvwx\")",
+            "(Ok(\"abcdefghijklmnopqrstuvwxabcdefghijklmnopqrstuvwx\"), \"abcdefghijklmnopqrstuvwxabcdefghijklmnopqrstuvwx\")",
+        ],
+    ),
+    (
+        "into_ascii_string",
+        FULL,
+        &[
+            "Err(\"abcdefghijklmnopqrstuvwx\")",
+            "Ok(\"abcdefghijklmnopqrstuvwx\")",
+        ],
+    ),
+    (
+        "into_ascii_string",
+        LONG,
+        &["Ok(\"abcdefghijklmnopqrstuvwxabcdefghijklmnopqrstuvwx\")"],
+    ),
+];
+
 #[test]
 fn sources_stay(rt: HostRuntime) -> Result<(), Fail> {
     let alloc = rt.alloc();
-    let [full, long] = STARTS;
-    let ample = format!(in alloc; "Ok({long:?})")?;
-    let wanted = ["Err(AllocError)", ample.as_str()];
-    each_block(&rt, "from_ascii_str", &wanted, |left| {
-        made(alloc, long, "from_ascii_str", left)
-    })?;
-    let refused = format!(in alloc; "(Err(AllocError), {long:?})")?;
-    let ample = format!(in alloc; "(Ok({long:?}), {long:?})")?;
-    each_block(&rt, "clone", &[refused.as_str(), ample.as_str()], |left| {
-        made(alloc, long, "clone", left)
-    })?;
-    let refused = format!(in alloc; "Err({full:?})")?;
-    let ample = format!(in alloc; "Ok({full:?})")?;
-    each_block(
-        &rt,
-        "into_ascii_string",
-        &[refused.as_str(), ample.as_str()],
-        |left| { made(alloc, full, "into_ascii_string", left) },
-    )
+    for &(call, start, wanted) in &MADE {
+        each_block(&rt, call, wanted, |left| made(alloc, start, call, left))?;
+    }
+    Ok(())
 }
+
+/// A text with room inline for two characters more.
+const SHORT: &str = "abcdefghijklmnopqrstuv";
 
 #[test]
 fn no_memory_for_short_texts(rt: HostRuntime) -> Result<(), Fail> {
     let alloc = rt.alloc();
-    let [full, long] = STARTS;
-    let short = &full[..22];
-    for (call, before, behind) in [
-        ("push", "", "y"),
-        ("push_str", "", "yy"),
-        ("insert", "w", ""),
-        ("insert_str", "ww", ""),
-        ("write_str", "", "yy"),
-        ("write_char", "", "y"),
-    ] {
-        let text = format!(in alloc; "{before}{short}{behind}")?;
-        let ample = format!(in alloc; "Ok(()) {text} {text}z")?;
-        each_block(
-            &rt,
-            call,
-            &[ample.as_str()],
-            |left| grown(alloc, short, call, left),
-        )?;
-    }
-    for (call, start, ample) in [
-        ("from_ascii_str", full, format!(in alloc; "Ok({full:?})")?),
-        (
-            "clone",
-            full,
-            format!(in alloc; "(Ok({full:?}), {full:?})")?,
-        ),
-        (
-            "into_ascii_string",
-            long,
-            format!(in alloc; "Ok({long:?})")?,
-        ),
-    ] {
-        each_block(
-            &rt,
-            call,
-            &[ample.as_str()],
-            |left| made(alloc, start, call, left),
-        )?;
+    // All but `reserve`, which asks for more than fits inline.
+    for &(call, _, before, behind) in &GROWTHS[1..] {
+        let ample = format!(in alloc; "Ok(()) {before}{SHORT}{behind} {before}{SHORT}{behind}z")?;
+        let wanted = [ample.as_str()];
+        each_block(&rt, call, &wanted, |left| grown(alloc, SHORT, call, left))?;
     }
     Ok(())
 }

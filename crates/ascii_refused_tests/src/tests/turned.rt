@@ -2,10 +2,15 @@
 
 use super::each_growth::{Heap, each_growth, shown, view};
 use ascii::json::{JsonError, string_from_json};
-use ascii::{AsciiChar, AsciiString, CowAsciiStr, RcAsciiStr, bytes, text};
+use ascii::{AsciiStr, CowAsciiStr, RcAsciiStr, bytes, text};
 use serde_json::Value;
 use std::alloc::{AllocError, Global};
 use std::test::Fail;
+
+/// A text, and whether it came as `Ok` or as `Err`.
+fn came(alloc: Global, word: &str, text: AsciiStr<'_>) -> Result<String, AllocError> {
+    format!(in alloc; "{word}({text:?})")
+}
 
 /// A call that takes a value and gives it back where memory is refused.
 fn turned(alloc: Global, heap: &Heap, call: &str) -> Result<String, AllocError> {
@@ -13,49 +18,51 @@ fn turned(alloc: Global, heap: &Heap, call: &str) -> Result<String, AllocError> 
     match call {
         "into_chars" => shown(alloc, source.to_ascii_string(alloc)?.into_chars(heap)),
         "into_rc_ascii_str" => match source.to_ascii_string(alloc)?.into_rc_ascii_str(heap) {
-            Ok(shared) => format!(in alloc; "Ok({:?})", shared.as_ascii_str()),
-            Err(string) => format!(in alloc; "Err({string:?})"),
+            Ok(shared) => came(alloc, "Ok", shared.as_ascii_str()),
+            Err(string) => came(alloc, "Err", string.as_ascii_str()),
         },
         "into_owned" => match CowAsciiStr::from(source).into_owned(heap) {
-            Ok(string) => format!(in alloc; "Ok({string:?})"),
-            Err(cow) => format!(in alloc; "Err({:?})", cow.as_ascii_str()),
+            Ok(string) => came(alloc, "Ok", string.as_ascii_str()),
+            Err(cow) => came(alloc, "Err", cow.as_ascii_str()),
         },
         "into_boxed_ascii_str" => match source.to_ascii_string(heap)?.into_boxed_ascii_str() {
-            Ok(text) => format!(in alloc; "Ok({:?})", text.as_ascii_str()),
-            Err(string) => format!(in alloc; "Err({string:?})"),
+            Ok(text) => came(alloc, "Ok", text.as_ascii_str()),
+            Err(string) => came(alloc, "Err", string.as_ascii_str()),
         },
         "into_ascii_string" => {
             let Ok(text) = source.to_ascii_string(heap)?.into_boxed_ascii_str() else {
                 return Err(AllocError);
             };
             match text.into_ascii_string() {
-                Ok(string) => format!(in alloc; "Ok({string:?})"),
-                Err(text) => format!(in alloc; "Err({:?})", text.as_ascii_str()),
+                Ok(string) => came(alloc, "Ok", string.as_ascii_str()),
+                Err(text) => came(alloc, "Err", text.as_ascii_str()),
             }
         }
         "into_owned_of_owned" => {
             let cow = CowAsciiStr::from(source.to_ascii_string(heap)?);
             match cow.into_owned(heap) {
-                Ok(string) => format!(in alloc; "Ok({string:?})"),
-                Err(cow) => format!(in alloc; "Err({:?})", cow.as_ascii_str()),
+                Ok(string) => came(alloc, "Ok", string.as_ascii_str()),
+                Err(cow) => came(alloc, "Err", cow.as_ascii_str()),
             }
         }
         _ => Err(AllocError),
     }
 }
 
+/// A call that turns a value into another one, and its answers.
+static TURNED: [(&str, &[&str]); 6] = [
+    ("into_chars", &["Err(\"abc\")", "Ok(['a', 'b', 'c'])"]),
+    ("into_rc_ascii_str", &["Err(\"abc\")", "Ok(\"abc\")"]),
+    ("into_owned", &["Err(\"abc\")", "Ok(\"abc\")"]),
+    ("into_boxed_ascii_str", &["Ok(\"abc\")"]),
+    ("into_ascii_string", &["Ok(\"abc\")"]),
+    ("into_owned_of_owned", &["Ok(\"abc\")"]),
+];
+
 #[test]
 fn values_come_back(rt: HostRuntime) -> Result<(), Fail> {
     let alloc = rt.alloc();
-    let rows: [(&str, &[&str]); 6] = [
-        ("into_chars", &["Err(\"abc\")", "Ok(['a', 'b', 'c'])"]),
-        ("into_rc_ascii_str", &["Err(\"abc\")", "Ok(\"abc\")"]),
-        ("into_owned", &["Err(\"abc\")", "Ok(\"abc\")"]),
-        ("into_boxed_ascii_str", &["Ok(\"abc\")"]),
-        ("into_ascii_string", &["Ok(\"abc\")"]),
-        ("into_owned_of_owned", &["Ok(\"abc\")"]),
-    ];
-    for (call, wanted) in rows {
+    for &(call, wanted) in &TURNED {
         each_growth(&rt, call, wanted, |heap| turned(alloc, heap, call))?;
     }
     Ok(())
