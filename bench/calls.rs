@@ -229,6 +229,17 @@ fn owned(clock: &Clock, size: usize) {
         "ours" ours::push_inline, "crate" by_crate::push, "std" by_std::push],
     );
     clock.compare(
+        "build",
+        size,
+        sides![text: "ours" ours::build, "crate" by_crate::build, "std" by_std::build],
+    );
+    clock.compare(
+        "build, inline",
+        size,
+        sides![text:
+        "ours" ours::build_inline, "crate" by_crate::build, "std" by_std::build],
+    );
+    clock.compare(
         "names",
         size,
         sides![text: "ours" ours::names, "crate" by_crate::names, "std" by_std::names],

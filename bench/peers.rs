@@ -35,6 +35,7 @@ pub mod ours {
             pub fn ascii_bench_chars(source: *const u8, length: usize) -> usize;
             pub fn ascii_bench_collect(source: *const u8, length: usize) -> usize;
             pub fn ascii_bench_push(source: *const u8, length: usize, inline: bool) -> usize;
+            pub fn ascii_bench_build(source: *const u8, length: usize, inline: bool) -> usize;
             pub fn ascii_bench_names(source: *const u8, length: usize, inline: bool) -> usize;
         }
     }
@@ -104,6 +105,16 @@ pub mod ours {
     }
 
     #[inline(always)]
+    pub fn build(source: &[u8]) -> usize {
+        unsafe { ascii_bench_build(source.as_ptr(), source.len(), false) }
+    }
+
+    #[inline(always)]
+    pub fn build_inline(source: &[u8]) -> usize {
+        unsafe { ascii_bench_build(source.as_ptr(), source.len(), true) }
+    }
+
+    #[inline(always)]
     pub fn names(source: &[u8]) -> usize {
         unsafe { ascii_bench_names(source.as_ptr(), source.len(), false) }
     }
@@ -119,6 +130,7 @@ pub mod by_crate {
 
     use super::{mark, mixed};
     use ascii::{AsAsciiStr, AsMutAsciiStr, AsciiChar, AsciiStr, AsciiString};
+    use std::hint::black_box;
 
     fn text(source: &[u8]) -> &AsciiStr {
         unsafe { AsciiStr::from_ascii_unchecked(source) }
@@ -192,6 +204,11 @@ pub mod by_crate {
     }
 
     #[inline(never)]
+    pub fn build(source: &[u8]) -> usize {
+        mark(black_box(text(source).to_ascii_string()).as_bytes())
+    }
+
+    #[inline(never)]
     pub fn names(source: &[u8]) -> usize {
         let pieces = text(source).split(AsciiChar::Comma);
         pieces.fold(0, |sum, piece| {
@@ -204,6 +221,7 @@ pub mod by_std {
     //! std: slices of bytes, `str` and `String`.
 
     use super::{mark, mixed};
+    use std::hint::black_box;
     use std::io::{BufRead, BufReader};
 
     fn text(source: &[u8]) -> &str {
@@ -300,6 +318,11 @@ pub mod by_std {
             made.push(ch);
         }
         mark(made.as_bytes())
+    }
+
+    #[inline(never)]
+    pub fn build(source: &[u8]) -> usize {
+        mark(black_box(text(source).to_owned()).as_bytes())
     }
 
     #[inline(never)]

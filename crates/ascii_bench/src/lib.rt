@@ -136,6 +136,21 @@ pub extern "C" fn ascii_bench_push(alloc: Global, source: &[u8], inline: bool) -
     }
 }
 
+/// A copy of a text, made and let go, on the heap or inline while it is short: its mark, or 0 where memory
+/// is refused.
+#[unsafe(no_mangle)]
+pub extern "C" fn ascii_bench_build(alloc: Global, source: &[u8], inline: bool) -> usize
+    requires { IsAscii source.now }
+{
+    let view = bytes::as_ascii_str_unchecked(source);
+    if inline {
+        SmallAsciiString::from_ascii_str(alloc, view).map_or(0, |made| mark(made.as_ascii_str()))
+    } else {
+        view.to_ascii_string(alloc)
+            .map_or(0, |made| mark(made.as_ascii_str()))
+    }
+}
+
 /// Copies in lower case of the pieces of a text between commas, each made and let go in turn, on the
 /// heap or inline while it is short: their marks, mixed, with 0 where memory is refused.
 #[unsafe(no_mangle)]
