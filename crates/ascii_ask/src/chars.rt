@@ -102,7 +102,7 @@ fn caret(question: &Question<'_>) -> Result<String, Fault> {
     let byte = question.byte(0)?;
     let encoded = found(question, caret_encode(byte))?;
     let decoded = found(question, caret_decode(byte))?;
-    Ok(format!(in question.alloc; "{encoded} {decoded}")?)
+    question.answer(&[encoded.as_str(), decoded.as_str()])
 }
 
 fn case(question: &Question<'_>) -> Result<String, Fault> {
@@ -115,6 +115,6 @@ fn case(question: &Question<'_>) -> Result<String, Fault> {
 }
 
 fn printable(question: &Question<'_>) -> Result<String, Fault> {
-    let number = question.char(0)?.as_printable_char() as u32;
-    Ok(format!(in question.alloc; "{number}")?)
+    let number = question.char(0)?.as_printable_char() as usize;
+    question.decimal(number)
 }

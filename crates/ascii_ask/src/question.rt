@@ -83,6 +83,16 @@ impl<'a> Question<'a> {
         shown(self.alloc, bytes)
     }
 
+    /// A number as an answer shows it.
+    pub fn decimal(&self, n: usize) -> Result<String, Fault> {
+        Ok(n.to_string(self.alloc)?)
+    }
+
+    /// The answer of these words.
+    pub fn answer(&self, words: &[&str]) -> Result<String, Fault> {
+        Ok(words.join(self.alloc, " ")?)
+    }
+
     /// A fixed answer.
     pub fn said(&self, answer: &str) -> Result<String, Fault> {
         Ok(String::from_str(self.alloc, answer)?)
@@ -121,18 +131,24 @@ pub fn number_of(word: &str) -> Result<usize, Fault> {
 /// The range that a word is.
 pub fn range_of(word: &str) -> Result<AsciiRange, Fault> {
     let (start, end) = word.split_once("..").ok_or(Fault::Bad)?;
-    if let Some(end) = end.strip_prefix('=') {
-        let end = number_of(end)?;
-        return match start {
-            "" => Ok(AsciiRange::ToInclusive(end)),
-            _ => Ok(AsciiRange::Inclusive(number_of(start)?, end)),
-        };
+    let last = end.strip_prefix('=');
+    match (bound_of(start)?, bound_of(last.unwrap_or(end))?) {
+        (None, Some(end)) if last.is_some() => Ok(AsciiRange::ToInclusive(end)),
+        (Some(start), Some(end)) if last.is_some() => Ok(AsciiRange::Inclusive(start, end)),
+        _ if last.is_some() => Err(Fault::Bad),
+        (None, None) => Ok(AsciiRange::Full),
+        (None, Some(end)) => Ok(AsciiRange::To(end)),
+        (Some(start), None) => Ok(AsciiRange::From(start)),
+        (Some(start), Some(end)) => Ok(AsciiRange::Range(start, end)),
     }
-    match (start.is_empty(), end.is_empty()) {
-        (true, true) => Ok(AsciiRange::Full),
-        (true, false) => Ok(AsciiRange::To(number_of(end)?)),
-        (false, true) => Ok(AsciiRange::From(number_of(start)?)),
-        (false, false) => Ok(AsciiRange::Range(number_of(start)?, number_of(end)?)),
+}
+
+/// A bound of a range, which may be left out.
+fn bound_of(word: &str) -> Result<Option<usize>, Fault> {
+    if word.is_empty() {
+        Ok(None)
+    } else {
+        Ok(Some(number_of(word)?))
     }
 }
 

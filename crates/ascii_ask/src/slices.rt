@@ -48,11 +48,11 @@ fn outcome(
     match answer {
         Ok(view) => {
             let text = question.shown(view.as_bytes())?;
-            Ok(format!(in question.alloc; "ok {text}")?)
+            question.answer(&["ok", text.as_str()])
         }
         Err(error) => {
-            let place = error.valid_up_to();
-            Ok(format!(in question.alloc; "refused {place}")?)
+            let place = question.decimal(error.valid_up_to())?;
+            question.answer(&["refused", place.as_str()])
         }
     }
 }
@@ -61,23 +61,18 @@ fn to_write(question: &Question<'_>) -> Result<String, Fault> {
     let range = question.range(0)?;
     let mut source = question.bytes(1)?;
     let ch = question.char(2)?;
-    let mut said = match bytes::slice_ascii_mut(&mut source, range) {
+    let written = match bytes::slice_ascii_mut(&mut source, range) {
         Ok(mut part) => {
             part.make_ascii_uppercase();
             if 0 < part.as_ascii_str().len() {
                 part.set(0, ch);
             }
-            let text = question.shown(part.as_ascii_str().as_bytes())?;
-            format!(in question.alloc; "ok {text} ")?
+            outcome(question, Ok(part.as_ascii_str()))
         }
-        Err(error) => {
-            let place = error.valid_up_to();
-            format!(in question.alloc; "refused {place} ")?
-        }
+        Err(error) => outcome(question, Err(error)),
     };
     let whole = question.shown(&source)?;
-    said.push_str(whole.as_str())?;
-    Ok(said)
+    question.answer(&[written?.as_str(), whole.as_str()])
 }
 
 fn place(question: &Question<'_>) -> Result<String, Fault> {
@@ -93,15 +88,15 @@ fn places(question: &Question<'_>) -> Result<String, Fault> {
     let at = found(question, view.get_ascii(i))?;
     let first = found(question, view.first())?;
     let last = found(question, view.last())?;
-    Ok(format!(in question.alloc; "{at} {first} {last}")?)
+    question.answer(&[at.as_str(), first.as_str(), last.as_str()])
 }
 
 /// A character that may be there.
 pub fn found(question: &Question<'_>, ch: Option<AsciiChar>) -> Result<String, Fault> {
     match ch {
         Some(ch) => {
-            let code = ch.as_byte();
-            Ok(format!(in question.alloc; "some {code}")?)
+            let code = question.decimal(usize::from(ch.as_byte()))?;
+            question.answer(&["some", code.as_str()])
         }
         None => question.said("none"),
     }

@@ -60,7 +60,7 @@ fn lower(question: &Question<'_>) -> Result<String, Fault> {
 pub fn both(question: &Question<'_>, first: &[u8], second: &[u8]) -> Result<String, Fault> {
     let first = question.shown(first)?;
     let second = question.shown(second)?;
-    Ok(format!(in question.alloc; "{first} {second}")?)
+    question.answer(&[first.as_str(), second.as_str()])
 }
 
 fn truth(question: &Question<'_>, holds: bool) -> Result<String, Fault> {

@@ -30,12 +30,13 @@ pub fn reply(question: &Question<'_>, call: &str) -> Result<String, Fault> {
 
 fn made(question: &Question<'_>, string: &AsciiString) -> Result<String, Fault> {
     let text = question.shown(string.as_ascii_str().as_bytes())?;
-    Ok(format!(in question.alloc; "ok {text}")?)
+    question.answer(&["ok", text.as_str()])
 }
 
 fn refused(question: &Question<'_>, place: usize, source: &[u8]) -> Result<String, Fault> {
+    let place = question.decimal(place)?;
     let source = question.shown(source)?;
-    Ok(format!(in question.alloc; "refused {place} {source}")?)
+    question.answer(&["refused", place.as_str(), source.as_str()])
 }
 
 fn of_bytes(question: &Question<'_>) -> Result<String, Fault> {
@@ -126,8 +127,7 @@ fn char_written(question: &Question<'_>) -> Result<String, Fault> {
 /// Whether something was written, and the text behind it.
 fn behind(question: &Question<'_>, is_ok: bool, string: &AsciiString) -> Result<String, Fault> {
     let text = question.shown(string.as_ascii_str().as_bytes())?;
-    let answer = if is_ok { "ok" } else { "err" };
-    Ok(format!(in question.alloc; "{answer} {text}")?)
+    question.answer(&[if is_ok { "ok" } else { "err" }, text.as_str()])
 }
 
 fn collected(question: &Question<'_>) -> Result<String, Fault> {

@@ -5,7 +5,6 @@ mod failing;
 use super::*;
 use std::alloc::Global;
 use std::process::Abort;
-use std::test::Fail;
 
 const USAGE: &str = "usage: ascii_show copy|lines|tac|caret|ends [-s] SCRIPT|edit WORD..|json\n";
 
@@ -88,14 +87,13 @@ const COPIES: &[Row] = &[
     },
 ];
 
-fn compare<R: Abort + AllocGlobal>(rt: &R, rows: &[Row]) -> Result<(), Fail> {
+fn compare<R: Abort + AllocGlobal>(rt: &R, rows: &[Row]) {
     for row in rows {
-        let (status, output, line) = shown(rt.alloc(), row.words, row.input)?;
+        let (status, output, line) = shown(rt.alloc(), row.words, row.input).expect(rt, "refused");
         assert_eq!(rt; output.as_slice(), row.output);
         assert_eq!(rt; line.as_slice(), row.line.as_bytes());
         assert_eq!(rt; status, row.status);
     }
-    Ok(())
 }
 
 const MODES: &[Row] = &[
@@ -413,16 +411,16 @@ const EDITS: &[Row] = &[
 ];
 
 #[test]
-fn copies(rt: HostRuntime) -> Result<(), Fail> {
+fn copies(rt: HostRuntime) {
     compare(&rt, COPIES)
 }
 
 #[test]
-fn modes(rt: HostRuntime) -> Result<(), Fail> {
+fn modes(rt: HostRuntime) {
     compare(&rt, MODES)
 }
 
 #[test]
-fn edits(rt: HostRuntime) -> Result<(), Fail> {
+fn edits(rt: HostRuntime) {
     compare(&rt, EDITS)
 }

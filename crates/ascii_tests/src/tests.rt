@@ -17,3 +17,9 @@ use std::process::Abort;
 fn same<T: PartialEq + Debug + Drop>(rt: &impl Abort, got: T, want: T) {
     assert_eq!(rt; got, want);
 }
+
+/// Fails the test where `{:?}` prints another text of the value.
+fn shows<R: Abort + AllocGlobal>(rt: &R, value: &impl Debug, want: &str) {
+    let text = format!(in rt.alloc(); "{value:?}").expect(rt, "refused");
+    assert_eq!(rt; text.as_str(), want);
+}

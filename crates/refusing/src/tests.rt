@@ -2,10 +2,9 @@
 
 use crate::Refusing;
 use ascii::{AsciiChar, AsciiString};
-use std::test::Fail;
 
 #[test]
-fn refuses_one(rt: HostRuntime) -> Result<(), Fail> {
+fn refuses_one(rt: HostRuntime) {
     for left in 0..4u64 {
         let heap = Refusing::new(rt.alloc(), left);
         for growth in 0..4u64 {
@@ -15,31 +14,28 @@ fn refuses_one(rt: HostRuntime) -> Result<(), Fail> {
         }
         assert!(rt; heap.met());
     }
-    Ok(())
 }
 
 #[test]
-fn counts_blocks_that_grow(rt: HostRuntime) -> Result<(), Fail> {
+fn counts_blocks_that_grow(rt: HostRuntime) {
     let heap = Refusing::new(rt.alloc(), 1);
-    let mut bytes = Vec::with_capacity(&heap, 2)?;
-    bytes.push(7u8)?;
-    bytes.push(8)?;
+    let mut bytes = Vec::with_capacity(&heap, 2).expect(&rt, "refused");
+    bytes.push(7u8).expect(&rt, "refused");
+    bytes.push(8).expect(&rt, "refused");
     assert!(rt; bytes.push(9).is_err());
     assert!(rt; heap.met());
     assert_eq!(rt; bytes.as_slice(), [7, 8].as_slice());
-    bytes.push(9)?;
+    bytes.push(9).expect(&rt, "refused");
     assert_eq!(rt; bytes.as_slice(), [7, 8, 9].as_slice());
-    Ok(())
 }
 
 #[test]
-fn a_string_keeps_its_text(rt: HostRuntime) -> Result<(), Fail> {
+fn a_string_keeps_its_text(rt: HostRuntime) {
     let heap = Refusing::new(rt.alloc(), 1);
-    let mut string = AsciiString::from_char(&heap, AsciiChar::a)?;
-    string.shrink_to_fit()?;
+    let mut string = AsciiString::from_char(&heap, AsciiChar::a).expect(&rt, "refused");
+    string.shrink_to_fit().expect(&rt, "refused");
     assert!(rt; string.push(AsciiChar::b).is_err());
     assert_eq!(rt; string.as_ascii_str().as_str(), "a");
-    string.push(AsciiChar::b)?;
+    string.push(AsciiChar::b).expect(&rt, "refused");
     assert_eq!(rt; string.as_ascii_str().as_str(), "ab");
-    Ok(())
 }

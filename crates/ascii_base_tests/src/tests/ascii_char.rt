@@ -3,7 +3,6 @@ use ascii_base::ascii_char::{AsciiChar, ToAsciiChar, ToAsciiCharError};
 use ascii_base::free_functions::{caret_decode, caret_encode};
 use std::cmp::Ordering;
 use std::collections::HashSet;
-use std::test::Fail;
 
 // A line for each code, made with the Rust crate ascii 1.1.0: the class tests that hold, as bits in
 // the order of `classes`; the least radix from 2 on in which the code is a digit, or 37; upper case;
@@ -168,7 +167,7 @@ fn classes(ch: AsciiChar) -> u32 {
 }
 
 #[test]
-fn every_code(rt: HostRuntime) -> Result<(), Fail> {
+fn every_code(rt: HostRuntime) {
     for code in 0..128u8 {
         let (bits, radix, upper, lower, shown, written, read, debug) = ROWS[code as usize];
         let ch = AsciiChar::new(code as char);
@@ -195,14 +194,21 @@ fn every_code(rt: HostRuntime) -> Result<(), Fail> {
             caret_decode(code).map(|control| control.as_byte()),
             read,
         );
-        same(&rt, format!(in rt.alloc(); "{ch:?}")?.as_str(), debug);
         same(
             &rt,
-            format!(in rt.alloc(); "{ch}")?.as_bytes(),
+            format!(in rt.alloc(); "{ch:?}")
+                .expect(&rt, "refused")
+                .as_str(),
+            debug,
+        );
+        same(
+            &rt,
+            format!(in rt.alloc(); "{ch}")
+                .expect(&rt, "refused")
+                .as_bytes(),
             [code].as_slice(),
         );
     }
-    Ok(())
 }
 
 #[test]
@@ -236,7 +242,7 @@ fn accepted<C: ToAsciiChar>(value: C) -> Option<AsciiChar> {
 }
 
 #[test]
-fn acceptance(rt: HostRuntime) -> Result<(), Fail> {
+fn acceptance(rt: HostRuntime) {
     for refused in [
         accepted(-1_i8),
         accepted(-128_i8),
@@ -270,28 +276,30 @@ fn acceptance(rt: HostRuntime) -> Result<(), Fail> {
     ] {
         same(&rt, letter, Some(AsciiChar::A));
     }
-    Ok(())
 }
 
 #[test]
-fn refusal_texts(rt: HostRuntime) -> Result<(), Fail> {
+fn refusal_texts(rt: HostRuntime) {
     let Err(refusal) = 200_u8.to_ascii_char() else {
-        return Err(Fail::from("200 is accepted"));
+        panic!(rt; "200 is accepted");
     };
     let again: ToAsciiCharError = refusal;
     assert!(rt; refusal == again);
     same(&rt, refusal.description(), "not an ASCII character");
     same(
         &rt,
-        format!(in rt.alloc(); "{refusal}")?.as_str(),
+        format!(in rt.alloc(); "{refusal}")
+            .expect(&rt, "refused")
+            .as_str(),
         "not an ASCII character",
     );
     same(
         &rt,
-        format!(in rt.alloc(); "{refusal:?}")?.as_str(),
+        format!(in rt.alloc(); "{refusal:?}")
+            .expect(&rt, "refused")
+            .as_str(),
         "not an ASCII character",
     );
-    Ok(())
 }
 
 #[test]
@@ -353,7 +361,7 @@ fn cases(rt: HostRuntime) {
 }
 
 #[test]
-fn printed(rt: HostRuntime) -> Result<(), Fail> {
+fn printed(rt: HostRuntime) {
     for (ch, shown) in [
         (AsciiChar::Null, 0x2400),
         (AsciiChar::LineFeed, 0x240a),
@@ -364,39 +372,50 @@ fn printed(rt: HostRuntime) -> Result<(), Fail> {
     }
     same(
         &rt,
-        format!(in rt.alloc(); "{}", AsciiChar::t)?.as_str(),
+        format!(in rt.alloc(); "{}", AsciiChar::t)
+            .expect(&rt, "refused")
+            .as_str(),
         "t",
     );
     same(
         &rt,
-        format!(in rt.alloc(); "{:?}", AsciiChar::t)?.as_str(),
+        format!(in rt.alloc(); "{:?}", AsciiChar::t)
+            .expect(&rt, "refused")
+            .as_str(),
         "'t'",
     );
     same(
         &rt,
-        format!(in rt.alloc(); "{}", AsciiChar::LineFeed)?.as_str(),
+        format!(in rt.alloc(); "{}", AsciiChar::LineFeed)
+            .expect(&rt, "refused")
+            .as_str(),
         "\n",
     );
     same(
         &rt,
-        format!(in rt.alloc(); "{:?}", AsciiChar::LineFeed)?.as_str(),
+        format!(in rt.alloc(); "{:?}", AsciiChar::LineFeed)
+            .expect(&rt, "refused")
+            .as_str(),
         "'\\n'",
     );
     same(
         &rt,
-        format!(in rt.alloc(); "[{:>3}]", AsciiChar::t)?.as_str(),
+        format!(in rt.alloc(); "[{:>3}]", AsciiChar::t)
+            .expect(&rt, "refused")
+            .as_str(),
         "[  t]",
     );
     same(
         &rt,
-        format!(in rt.alloc(); "[{:*^4}]", AsciiChar::t)?.as_str(),
+        format!(in rt.alloc(); "[{:*^4}]", AsciiChar::t)
+            .expect(&rt, "refused")
+            .as_str(),
         "[*t**]",
     );
-    Ok(())
 }
 
 #[test]
-fn order_and_hash(rt: HostRuntime) -> Result<(), Fail> {
+fn order_and_hash(rt: HostRuntime) {
     same(&rt, AsciiChar::default(), AsciiChar::Null);
     same(&rt, AsciiChar::A.cmp(&AsciiChar::a), Ordering::Less);
     same(
@@ -406,8 +425,7 @@ fn order_and_hash(rt: HostRuntime) -> Result<(), Fail> {
     );
     assert!(rt; AsciiChar::DEL > AsciiChar::Tilde);
     let mut seen = HashSet::new(rt.alloc());
-    assert!(rt; seen.insert(AsciiChar::A)?);
-    assert!(rt; !seen.insert(AsciiChar::A)?);
-    assert!(rt; seen.insert(AsciiChar::a)?);
-    Ok(())
+    assert!(rt; seen.insert(AsciiChar::A).expect(&rt, "refused"));
+    assert!(rt; !seen.insert(AsciiChar::A).expect(&rt, "refused"));
+    assert!(rt; seen.insert(AsciiChar::a).expect(&rt, "refused"));
 }

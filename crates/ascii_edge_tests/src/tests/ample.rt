@@ -7,71 +7,68 @@ use ascii_run::{AsciiBuf, Cmd, Input, Mode, Output, Reply, SmallAsciiString, eng
 use std::alloc::Global;
 use std::fmt::Write;
 use std::process::Abort;
-use std::test::Fail;
 
 const LENGTHS: [usize; 4] = [0, 1, 33, 5_000];
 
 /// Makes room in a string of the view, and gives it back.
-fn room<R: Abort + AllocGlobal>(rt: &R, source: AsciiStr<'_>) -> Result<(), Fail> {
+fn room<R: Abort + AllocGlobal>(rt: &R, source: AsciiStr<'_>) {
     let length = source.len();
-    let mut string = AsciiString::with_capacity(rt.alloc(), length)?;
-    string.push_str(source)?;
+    let mut string = AsciiString::with_capacity(rt.alloc(), length).expect(rt, "refused");
+    string.push_str(source).expect(rt, "refused");
     assert!(rt; length <= 5_000);
-    string.reserve(length)?;
+    string.reserve(length).expect(rt, "refused");
     assert!(rt; 2 * length <= string.capacity());
-    string.shrink_to_fit()?;
-    string.reserve_exact(length)?;
+    string.shrink_to_fit().expect(rt, "refused");
+    string.reserve_exact(length).expect(rt, "refused");
     assert!(rt; 2 * length <= string.capacity());
     assert_eq!(rt; string.as_ascii_str(), source);
-    Ok(())
 }
 
 /// Lets a string of the view grow by each of the edits.
-fn grown<R: Abort + AllocGlobal>(rt: &R, source: AsciiStr<'_>) -> Result<(), Fail> {
+fn grown<R: Abort + AllocGlobal>(rt: &R, source: AsciiStr<'_>) {
     let length = source.len();
-    let mut string = source.to_ascii_string(rt.alloc())?;
-    string.shrink_to_fit()?;
-    string.push(AsciiChar::b)?;
-    string.insert(0, AsciiChar::b)?;
-    string.insert_str(1, source)?;
-    string.write_str(source.as_str())?;
-    string.shrink_to_fit()?;
-    string.write_char('b')?;
-    string.extend_chars(source.chars())?;
-    string.extend_strs(source.split(AsciiChar::Comma))?;
+    let mut string = source.to_ascii_string(rt.alloc()).expect(rt, "refused");
+    string.shrink_to_fit().expect(rt, "refused");
+    string.push(AsciiChar::b).expect(rt, "refused");
+    string.insert(0, AsciiChar::b).expect(rt, "refused");
+    string.insert_str(1, source).expect(rt, "refused");
+    string.write_str(source.as_str()).expect(rt, "refused");
+    string.shrink_to_fit().expect(rt, "refused");
+    string.write_char('b').expect(rt, "refused");
+    string.extend_chars(source.chars()).expect(rt, "refused");
+    string
+        .extend_strs(source.split(AsciiChar::Comma))
+        .expect(rt, "refused");
     assert!(rt; length <= 5_000);
     assert_eq!(rt; string.len(), 5 * length + 3);
-    Ok(())
 }
 
 /// Turns a string of the view into each of the boxes and back.
-fn turned<R: Abort + AllocGlobal>(rt: &R, source: AsciiStr<'_>) -> Result<(), Fail> {
+fn turned<R: Abort + AllocGlobal>(rt: &R, source: AsciiStr<'_>) {
     let alloc = rt.alloc();
-    let Ok(boxed) = source.to_ascii_string(alloc)?.into_boxed_ascii_str() else {
-        return Err(Fail::from("no box"));
-    };
-    let Ok(string) = boxed.into_ascii_string() else {
-        return Err(Fail::from("no string"));
-    };
-    let Ok(shared) = string.into_rc_ascii_str(alloc) else {
-        return Err(Fail::from("no shared text"));
-    };
-    assert_eq!(rt; shared.clone()?.as_ascii_str(), source);
-    let Ok(owned) = CowAsciiStr::from(source).into_owned(alloc) else {
-        return Err(Fail::from("no owned text"));
-    };
+    let boxed = source
+        .to_ascii_string(alloc)
+        .expect(rt, "refused")
+        .into_boxed_ascii_str()
+        .expect(rt, "refused");
+    let string = boxed.into_ascii_string().ok().expect(rt, "refused");
+    let shared = string.into_rc_ascii_str(alloc).expect(rt, "refused");
+    assert_eq!(rt; shared.clone().expect(rt, "refused").as_ascii_str(), source);
+    let owned = CowAsciiStr::from(source)
+        .into_owned(alloc)
+        .ok()
+        .expect(rt, "refused");
     assert_eq!(rt; owned.as_ascii_str(), source);
-    Ok(())
 }
 
 /// Walks over the lines and pieces of the view with their places, and the mode that prints them.
-fn spans<R: Abort + AllocGlobal>(rt: &R, source: AsciiStr<'_>) -> Result<(), Fail> {
+fn spans<R: Abort + AllocGlobal>(rt: &R, source: AsciiStr<'_>) {
     let alloc = rt.alloc();
     let script = [End::Front; 100];
     let empty = source.is_empty();
-    let lines = walk_line_spans(alloc, source, &script)?;
+    let lines = walk_line_spans(alloc, source, &script).expect(rt, "refused");
     assert_eq!(rt; lines.first().map(|line| line.is_none()), Some(empty));
-    let pieces = walk_split_spans(alloc, source, AsciiChar::a, &script)?;
+    let pieces = walk_split_spans(alloc, source, AsciiChar::a, &script).expect(rt, "refused");
     assert_eq!(rt; pieces.len(), 100);
     let mut reader = Input::new(source.as_bytes());
     let mut writer = Output::new(Vec::new(alloc));
@@ -81,34 +78,30 @@ fn spans<R: Abort + AllocGlobal>(rt: &R, source: AsciiStr<'_>) -> Result<(), Fai
     );
     let written = writer.into_inner();
     assert_eq!(rt; written.starts_with(b"+0 none a"), !empty);
-    Ok(())
 }
 
 /// Lets the inline form of the view grow by each of the edits, and turns it into a string.
-fn small<R: Abort + AllocGlobal>(rt: &R, source: AsciiStr<'_>) -> Result<(), Fail> {
+fn small<R: Abort + AllocGlobal>(rt: &R, source: AsciiStr<'_>) {
     let length = source.len();
     assert!(rt; length <= 5_000);
-    let mut string = SmallAsciiString::from_ascii_str(rt.alloc(), source)?;
-    string.push(AsciiChar::b)?;
-    string.push_str(source)?;
-    string.insert(0, AsciiChar::b)?;
-    string.insert_str(0, source)?;
-    string.write_str(source.as_str())?;
-    string.write_char('b')?;
+    let mut string = SmallAsciiString::from_ascii_str(rt.alloc(), source).expect(rt, "refused");
+    string.push(AsciiChar::b).expect(rt, "refused");
+    string.push_str(source).expect(rt, "refused");
+    string.insert(0, AsciiChar::b).expect(rt, "refused");
+    string.insert_str(0, source).expect(rt, "refused");
+    string.write_str(source.as_str()).expect(rt, "refused");
+    string.write_char('b').expect(rt, "refused");
     let grown = string.len();
     assert_eq!(rt; grown, 4 * length + 3);
-    string.reserve(length)?;
+    string.reserve(length).expect(rt, "refused");
     assert!(rt; grown + length <= string.capacity());
-    let copy: SmallAsciiString = string.clone()?;
-    let Ok(owned) = copy.into_ascii_string() else {
-        return Err(Fail::from("no string"));
-    };
+    let copy: SmallAsciiString = string.clone().expect(rt, "refused");
+    let owned = copy.into_ascii_string().expect(rt, "refused");
     assert_eq!(rt; owned.as_ascii_str(), string.as_ascii_str());
-    Ok(())
 }
 
 /// Runs commands over both forms of the view, few with long texts and as many as the view is long.
-fn both<R: Abort + AllocGlobal>(rt: &R, source: AsciiStr<'_>) -> Result<(), Fail> {
+fn both<R: Abort + AllocGlobal>(rt: &R, source: AsciiStr<'_>) {
     let alloc = rt.alloc();
     let length = source.len();
     assert!(rt; length <= 5_000);
@@ -119,7 +112,7 @@ fn both<R: Abort + AllocGlobal>(rt: &R, source: AsciiStr<'_>) -> Result<(), Fail
         Cmd::Shrink,
         Cmd::Copy(AsciiRange::Full),
     ];
-    let both = run_both(alloc, source, &few)?;
+    let both = run_both(alloc, source, &few).expect(rt, "refused");
     assert_eq!(rt;
         (both.string.len(), both.small.len()),
         (2 * length + 1, 2 * length + 1)
@@ -127,27 +120,25 @@ fn both<R: Abort + AllocGlobal>(rt: &R, source: AsciiStr<'_>) -> Result<(), Fail
     for replies in [&both.replies, &both.small_replies] {
         assert!(rt; !replies.iter().any(|reply| matches!(reply, Reply::NoMemory)));
     }
-    let many = vec![in alloc; Cmd::Push(AsciiChar::b); length]?;
-    let both = run_both(alloc, source, &many)?;
+    let many = vec![in alloc; Cmd::Push(AsciiChar::b); length].expect(rt, "refused");
+    let both = run_both(alloc, source, &many).expect(rt, "refused");
     assert_eq!(rt;
         (both.string.len(), both.small.len()),
         (2 * length, 2 * length)
     );
-    Ok(())
 }
 
 #[test]
-fn nothing_is_refused(rt: HostRuntime) -> Result<(), Fail> {
+fn nothing_is_refused(rt: HostRuntime) {
     for length in LENGTHS {
-        let source = vec![in rt.alloc(); b'a'; length]?;
+        let source = vec![in rt.alloc(); b'a'; length].expect(&rt, "refused");
         let view = bytes::as_ascii_str(&source).unwrap_or_default();
         assert_eq!(rt; view.len(), length);
-        room(&rt, view)?;
-        grown(&rt, view)?;
-        turned(&rt, view)?;
-        spans(&rt, view)?;
-        small(&rt, view)?;
-        both(&rt, view)?;
+        room(&rt, view);
+        grown(&rt, view);
+        turned(&rt, view);
+        spans(&rt, view);
+        small(&rt, view);
+        both(&rt, view);
     }
-    Ok(())
 }

@@ -7,7 +7,6 @@ ghost use Rattle.std.specs.Slice.Iter.{iter_rest};
 
 use ascii::{AsciiChar, AsciiStr, AsciiString, text};
 use std::slice;
-use std::test::Fail;
 
 /// The items of a slice, with a bound from above that is told, but is no less than their number.
 #[derive(Drop)]
@@ -36,39 +35,48 @@ const TEXT: &str = "abcdefghijklmnopqrstuvwxyz0123456";
 const PIECES: &str = "a,b,c,d,e,f,g,h,i,j,k,l,m,n,o,p,q,r,s,t,u,v,w,x,y,z,0,1,2,3,4,5,6";
 
 #[test]
-fn all_characters_come(rt: HostRuntime) -> Result<(), Fail> {
+fn all_characters_come(rt: HostRuntime) {
     let alloc = rt.alloc();
-    let chars = view(TEXT).to_chars(alloc)?;
+    let chars = view(TEXT).to_chars(alloc).expect(&rt, "refused");
     assert_eq!(rt; chars.len(), 33);
     for most in [None, Some(usize::MAX)] {
         for length in [0, 3, 33] {
             let items = chars[..length].iter();
-            let mut string = AsciiString::collect_chars(alloc, Loose { items, most })?;
+            let mut string = AsciiString::collect_chars(alloc, Loose { items, most }).expect(
+                &rt, "refused",
+            );
             assert_eq!(rt; string.as_ascii_str().as_str(), &TEXT[..length]);
             let items = chars[length..].iter();
-            string.extend_chars(Loose { items, most })?;
+            string
+                .extend_chars(Loose { items, most })
+                .expect(&rt, "refused");
             assert_eq!(rt; string.as_ascii_str().as_str(), TEXT);
         }
     }
-    Ok(())
 }
 
 #[test]
-fn all_views_come(rt: HostRuntime) -> Result<(), Fail> {
+fn all_views_come(rt: HostRuntime) {
     let alloc = rt.alloc();
-    let views: Vec<AsciiStr<'_>> = view(PIECES).split(AsciiChar::Comma).collect(alloc)?;
+    let views: Vec<AsciiStr<'_>> = view(PIECES)
+        .split(AsciiChar::Comma)
+        .collect(alloc)
+        .expect(&rt, "refused");
     assert_eq!(rt; views.len(), 33);
     for most in [None, Some(usize::MAX)] {
         for length in [0, 3, 33] {
             let items = views[..length].iter();
-            let mut string = AsciiString::collect_strs(alloc, Loose { items, most })?;
+            let mut string = AsciiString::collect_strs(alloc, Loose { items, most }).expect(
+                &rt, "refused",
+            );
             assert_eq!(rt; string.as_ascii_str().as_str(), &TEXT[..length]);
             let items = views[length..].iter();
-            string.extend_strs(Loose { items, most })?;
+            string
+                .extend_strs(Loose { items, most })
+                .expect(&rt, "refused");
             assert_eq!(rt; string.as_ascii_str().as_str(), TEXT);
         }
     }
-    Ok(())
 }
 
 /// The view of a text, which is empty where the text is not ASCII.

@@ -3,7 +3,6 @@
 use ascii::{AsAsciiStrError, AsciiRange, AsciiStr, CopyError, bytes, string, text, vec};
 use ascii_run::{EngineFault, Input, Mode, Output, engine};
 use std::process::Abort;
-use std::test::Fail;
 
 /// Around the widths of the loops over bytes.
 const LENGTHS: [usize; 8] = [0, 1, 31, 32, 33, 63, 64, 65];
@@ -32,20 +31,16 @@ fn bytes_refused<R: Abort>(rt: &R, source: &[u8], place: usize) {
 
 /// Each way from bytes to a string or a view that writes, and the modes, do the same; the source comes back or
 /// stays.
-fn copies_refused<R: Abort + AllocGlobal>(
-    rt: &R,
-    source: &mut [u8],
-    place: usize,
-) -> Result<(), Fail> {
+fn copies_refused<R: Abort + AllocGlobal>(rt: &R, source: &mut [u8], place: usize) {
     let alloc = rt.alloc();
-    let same = Vec::from_slice(alloc, source)?;
+    let same = Vec::from_slice(alloc, source).expect(rt, "refused");
     match bytes::to_ascii_string(alloc, source) {
         Err(CopyError::NotAscii(error)) => {
             assert_eq!(rt; error.ascii_error().valid_up_to(), place);
         }
         _ => assert!(rt; false),
     }
-    match vec::into_ascii_string(Vec::from_slice(alloc, source)?) {
+    match vec::into_ascii_string(Vec::from_slice(alloc, source).expect(rt, "refused")) {
         Err(error) => {
             assert_eq!(rt; error.ascii_error().valid_up_to(), place);
             assert_eq!(rt; error.into_source(), same);
@@ -61,55 +56,54 @@ fn copies_refused<R: Abort + AllocGlobal>(
         Err(error) => assert_eq!(rt; error.valid_up_to(), place),
     }
     assert_eq!(rt; &*source, same.as_slice());
-    Ok(())
 }
 
 #[test]
-fn in_bytes(rt: HostRuntime) -> Result<(), Fail> {
+fn in_bytes(rt: HostRuntime) {
     for length in LENGTHS {
-        let mut source = vec![in rt.alloc(); b'a'; length]?;
+        let mut source = vec![in rt.alloc(); b'a'; length].expect(&rt, "refused");
         assert_eq!(rt; position(bytes::as_ascii_str(&source)), None);
         for (byte, other) in [(128, 255), (255, 128)] {
             for place in 0..source.len() {
                 source[place] = byte;
                 bytes_refused(&rt, &source, place);
-                copies_refused(&rt, &mut source, place)?;
+                copies_refused(&rt, &mut source, place);
                 source[place] = b'a';
             }
         }
     }
-    Ok(())
 }
 
 #[test]
-fn in_bytes_with_a_second(rt: HostRuntime) -> Result<(), Fail> {
+fn in_bytes_with_a_second(rt: HostRuntime) {
     for length in LENGTHS {
-        let mut source = vec![in rt.alloc(); b'a'; length]?;
+        let mut source = vec![in rt.alloc(); b'a'; length].expect(&rt, "refused");
         for (byte, other) in [(128, 255), (255, 128), (128, 128)] {
             for second in 0..source.len() {
                 source[second] = other;
                 for place in 0..second {
                     source[place] = byte;
                     bytes_refused(&rt, &source, place);
-                    copies_refused(&rt, &mut source, place)?;
+                    copies_refused(&rt, &mut source, place);
                     source[place] = b'a';
                 }
                 source[second] = b'a';
             }
         }
     }
-    Ok(())
 }
 
 #[test]
-fn in_text(rt: HostRuntime) -> Result<(), Fail> {
+fn in_text(rt: HostRuntime) {
     let alloc = rt.alloc();
     for length in LENGTHS {
         for place in 0..length {
             for ch in ['\u{80}', 'ÿ'] {
                 let mut source = String::new(alloc);
                 for at in 0..length {
-                    source.push(if at == place { ch } else { 'a' })?;
+                    source
+                        .push(if at == place { ch } else { 'a' })
+                        .expect(&rt, "refused");
                 }
                 let wanted = Some(place);
                 assert_eq!(rt; position(text::as_ascii_str(&source)), wanted);
@@ -123,5 +117,4 @@ fn in_text(rt: HostRuntime) -> Result<(), Fail> {
             }
         }
     }
-    Ok(())
 }

@@ -5,7 +5,6 @@ use super::picks::{Picks, view};
 use super::same;
 use ascii_run::{Cmd, Reply, run_both};
 use std::alloc::{AllocError, Global};
-use std::test::Fail;
 
 /// As many edits as the list has, from its number alone. Each position is right.
 fn edits(alloc: Global, number: usize) -> Result<Vec<Cmd<'static>>, AllocError> {
@@ -49,22 +48,25 @@ fn taken(alloc: Global, replies: &[Reply]) -> Result<String, AllocError> {
 }
 
 #[test]
-fn as_the_rust_crate(rt: HostRuntime) -> Result<(), Fail> {
+fn as_the_rust_crate(rt: HostRuntime) {
     let alloc = rt.alloc();
     let mut number: usize = 0;
     for line in RAN.lines() {
         number = number.saturating_add(1);
-        let cmds = edits(alloc, number)?;
-        let both = run_both(alloc, view(""), &cmds)?;
-        let mut shown = taken(alloc, &both.replies)?;
-        shown.push(':')?;
-        shown.push_str(both.string.as_ascii_str().as_str())?;
+        let cmds = edits(alloc, number).expect(&rt, "refused");
+        let both = run_both(alloc, view(""), &cmds).expect(&rt, "refused");
+        let mut shown = taken(alloc, &both.replies).expect(&rt, "refused");
+        shown.push(':').expect(&rt, "refused");
+        shown
+            .push_str(both.string.as_ascii_str().as_str())
+            .expect(&rt, "refused");
         same(&rt, shown.as_str(), line);
-        let mut shown = taken(alloc, &both.small_replies)?;
-        shown.push(':')?;
-        shown.push_str(both.small.as_ascii_str().as_str())?;
+        let mut shown = taken(alloc, &both.small_replies).expect(&rt, "refused");
+        shown.push(':').expect(&rt, "refused");
+        shown
+            .push_str(both.small.as_ascii_str().as_str())
+            .expect(&rt, "refused");
         same(&rt, shown.as_str(), line);
     }
     same(&rt, number, 200);
-    Ok(())
 }

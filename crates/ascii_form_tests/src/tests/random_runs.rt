@@ -5,7 +5,6 @@ use super::same;
 use ascii::{AsciiChar, AsciiRange};
 use ascii_run::{Cmd, Reply, run_both};
 use std::alloc::{AllocError, Global};
-use std::test::Fail;
 
 /// A command of the kind of this number. Positions may be past the text.
 fn command(kind: usize, picks: &mut Picks) -> Cmd<'static> {
@@ -56,22 +55,24 @@ fn shown(alloc: Global, replies: &[Reply]) -> Result<String, AllocError> {
 }
 
 #[test]
-fn of_all_kinds(rt: HostRuntime) -> Result<(), Fail> {
+fn of_all_kinds(rt: HostRuntime) {
     let alloc = rt.alloc();
     for number in 0..200 {
         let mut picks = Picks::of(number);
         let mut cmds = Vec::new(alloc);
         for kind in 0..19 {
-            cmds.push(command(kind, &mut picks))?;
+            cmds.push(command(kind, &mut picks)).expect(&rt, "refused");
         }
         for _ in 0..number {
-            cmds.push(any_command(&mut picks))?;
+            cmds.push(any_command(&mut picks)).expect(&rt, "refused");
         }
-        let both = run_both(alloc, view("Some"), &cmds)?;
+        let both = run_both(alloc, view("Some"), &cmds).expect(&rt, "refused");
         same(
             &rt,
-            shown(alloc, &both.small_replies)?.as_str(),
-            shown(alloc, &both.replies)?.as_str(),
+            shown(alloc, &both.small_replies)
+                .expect(&rt, "refused")
+                .as_str(),
+            shown(alloc, &both.replies).expect(&rt, "refused").as_str(),
         );
         same(
             &rt,
@@ -79,5 +80,4 @@ fn of_all_kinds(rt: HostRuntime) -> Result<(), Fail> {
             both.string.as_ascii_str().as_str(),
         );
     }
-    Ok(())
 }

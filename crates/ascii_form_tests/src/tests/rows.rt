@@ -5,7 +5,6 @@ use super::same;
 use ascii::{AsciiChar, AsciiRange, AsciiString};
 use ascii_run::{AsciiBuf, Cmd, SmallAsciiString, run};
 use std::alloc::{AllocError, Global};
-use std::test::Fail;
 
 /// The replies to the commands, each with `; ` behind it, and then the text at the end.
 fn ran<B: AsciiBuf>(alloc: Global, buf: &mut B, cmds: &[Cmd<'_>]) -> Result<String, AllocError> {
@@ -41,7 +40,7 @@ fn both_give(alloc: Global, start: &str, cmds: &[Cmd<'_>], want: &str) -> Result
 const FULL: &str = "aaaaaaaaaaaaaaaaaaaaaaaa";
 
 #[test]
-fn at_the_edge_of_the_inline_room(rt: HostRuntime) -> Result<(), Fail> {
+fn at_the_edge_of_the_inline_room(rt: HostRuntime) {
     let alloc = rt.alloc();
     let over = [
         Cmd::Insert(0, AsciiChar::b),
@@ -51,36 +50,34 @@ fn at_the_edge_of_the_inline_room(rt: HostRuntime) -> Result<(), Fail> {
         Cmd::Len,
     ];
     let want = "Done; Number(25); Done; Done; Number(3); baa";
-    assert!(rt; both_give(alloc, FULL, &over, want)?);
+    assert!(rt; both_give(alloc, FULL, &over, want).expect(&rt, "refused"));
     let most = [Cmd::Reserve(usize::MAX)];
-    assert!(rt; both_give(alloc, "", &most, "NoMemory; ")?);
-    assert!(rt; both_give(alloc, "a", &most, "TooMany; a")?);
+    assert!(rt; both_give(alloc, "", &most, "NoMemory; ").expect(&rt, "refused"));
+    assert!(rt; both_give(alloc, "a", &most, "TooMany; a").expect(&rt, "refused"));
     let reserved = [
         Cmd::Reserve(24),
         Cmd::Push(AsciiChar::a),
         Cmd::Copy(AsciiRange::Full),
     ];
     let want = "Done; Done; Text(\"a\"); a";
-    assert!(rt; both_give(alloc, "", &reserved, want)?);
-    Ok(())
+    assert!(rt; both_give(alloc, "", &reserved, want).expect(&rt, "refused"));
 }
 
 #[test]
-fn a_push_past_the_inline_room(rt: HostRuntime) -> Result<(), Fail> {
+fn a_push_past_the_inline_room(rt: HostRuntime) {
     let alloc = rt.alloc();
     let cmds = [Cmd::Push(AsciiChar::a); 25];
     let mut want = String::new(alloc);
     for _ in 0..25 {
-        want.push_str("Done; ")?;
+        want.push_str("Done; ").expect(&rt, "refused");
     }
-    want.push_str(FULL)?;
-    want.push_str("a")?;
-    assert!(rt; both_give(alloc, "", &cmds, want.as_str())?);
-    Ok(())
+    want.push_str(FULL).expect(&rt, "refused");
+    want.push_str("a").expect(&rt, "refused");
+    assert!(rt; both_give(alloc, "", &cmds, want.as_str()).expect(&rt, "refused"));
 }
 
 #[test]
-fn one_of_each_reply(rt: HostRuntime) -> Result<(), Fail> {
+fn one_of_each_reply(rt: HostRuntime) {
     let cmds = [
         Cmd::Insert(4, AsciiChar::x),
         Cmd::Insert(3, AsciiChar::x),
@@ -100,8 +97,7 @@ fn one_of_each_reply(rt: HostRuntime) -> Result<(), Fail> {
     let want = "BadPosition; Done; BadPosition; Char(Some('a')); BadPosition; Done; Done; \
         Truth(true); Refused(AsAsciiStrError(1)); Text(\"\"); TooMany; Number(1); \
         Char(Some('B')); Char(None); ";
-    assert!(rt; both_give(rt.alloc(), "abc", &cmds, want)?);
-    Ok(())
+    assert!(rt; both_give(rt.alloc(), "abc", &cmds, want).expect(&rt, "refused"));
 }
 
 /// What some edits of `abc` take out, and the texts behind them.
@@ -140,11 +136,22 @@ fn edited<B: AsciiBuf>(alloc: Global, buf: &mut B) -> Result<String, AllocError>
 }
 
 #[test]
-fn each_edit_by_the_trait(rt: HostRuntime) -> Result<(), Fail> {
+fn each_edit_by_the_trait(rt: HostRuntime) {
     let want = "ADEFBCXdaZfbcxy.";
     let mut string = AsciiString::new(rt.alloc());
-    same(&rt, edited(rt.alloc(), &mut string)?.as_str(), want);
+    same(
+        &rt,
+        edited(rt.alloc(), &mut string)
+            .expect(&rt, "refused")
+            .as_str(),
+        want,
+    );
     let mut small = SmallAsciiString::new(rt.alloc());
-    same(&rt, edited(rt.alloc(), &mut small)?.as_str(), want);
-    Ok(())
+    same(
+        &rt,
+        edited(rt.alloc(), &mut small)
+            .expect(&rt, "refused")
+            .as_str(),
+        want,
+    );
 }

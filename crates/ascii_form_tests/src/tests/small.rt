@@ -3,15 +3,14 @@
 use super::picks::view;
 use super::same;
 use ascii_run::{AsciiBuf, SmallAsciiString};
-use std::alloc::Global;
 use std::cmp::Ordering;
 use std::collections::HashSet;
 use std::fmt::Write;
-use std::test::Fail;
+use std::process::Abort;
 
 /// The inline form of a text.
-fn small(alloc: Global, source: &str) -> Result<SmallAsciiString, Fail> {
-    Ok(SmallAsciiString::from_ascii_str(alloc, view(source))?)
+fn small<R: Abort + AllocGlobal>(rt: &R, source: &str) -> SmallAsciiString {
+    SmallAsciiString::from_ascii_str(rt.alloc(), view(source)).expect(rt, "refused")
 }
 
 /// The text of a string.
@@ -25,111 +24,100 @@ fn place_of(string: &SmallAsciiString) -> (bool, usize, usize) {
 }
 
 #[test]
-fn where_it_stands(rt: HostRuntime) -> Result<(), Fail> {
+fn where_it_stands(rt: HostRuntime) {
     same(
         &rt,
         place_of(&SmallAsciiString::new(rt.alloc())),
         (true, 0, 24),
     );
-    let label = small(rt.alloc(), "content-security-policy-")?;
+    let label = small(&rt, "content-security-policy-");
     same(&rt, place_of(&label), (true, 24, 24));
     assert!(rt; !label.is_empty());
-    Ok(())
 }
 
 #[test]
-fn in_an_allocation(rt: HostRuntime) -> Result<(), Fail> {
-    let mut long = small(rt.alloc(), "content-security-policy-x")?;
+fn in_an_allocation(rt: HostRuntime) {
+    let mut long = small(&rt, "content-security-policy-x");
     let (is_inline, len, capacity) = place_of(&long);
     assert!(rt; !is_inline && len == 25 && 25 <= capacity);
     long.truncate(7);
-    long.shrink_to_fit()?;
+    long.shrink_to_fit().expect(&rt, "refused");
     assert!(rt; !long.is_inline());
     same(&rt, shown(&long), "content");
-    Ok(())
 }
 
 #[test]
-fn conversions(rt: HostRuntime) -> Result<(), Fail> {
+fn conversions(rt: HostRuntime) {
     for source in ["", "abc", "abcdefghijklmnopqrstuvwxyz"] {
-        let string = small(rt.alloc(), source)?;
-        let copy = string.clone()?;
+        let string = small(&rt, source);
+        let copy = string.clone().expect(&rt, "refused");
         same(&rt, shown(&copy), source);
-        let Ok(owned) = string.into_ascii_string() else {
-            return Err(Fail::from("refused"));
-        };
+        let owned = string.into_ascii_string().expect(&rt, "refused");
         same(&rt, owned.as_ascii_str().as_str(), source);
     }
-    Ok(())
 }
 
 // Texts in rising order.
 static RISING: [&str; 7] = ["", "Z", "a", "ab", "abc", "abcdefghijklmnopqrstuvwxyz", "b"];
 
 /// How two texts compare, and whether they are equal.
-fn compared(alloc: Global, first: &str, second: &str) -> Result<(Ordering, bool), Fail> {
-    let (first, second) = (small(alloc, first)?, small(alloc, second)?);
+fn compared<R: Abort + AllocGlobal>(rt: &R, first: &str, second: &str) -> (Ordering, bool) {
+    let (first, second) = (small(rt, first), small(rt, second));
     let order = first.cmp(&second);
-    Ok((
-        order,
-        first == second && first.partial_cmp(&second) == Some(order),
-    ))
+    let is_equal = first == second && first.partial_cmp(&second) == Some(order);
+    (order, is_equal)
 }
 
 #[test]
-fn comparisons(rt: HostRuntime) -> Result<(), Fail> {
+fn comparisons(rt: HostRuntime) {
     for (i, first) in RISING.iter().enumerate() {
         for (j, second) in RISING.iter().enumerate() {
-            same(
-                &rt,
-                compared(rt.alloc(), *first, *second)?,
-                (i.cmp(&j), i == j),
-            );
+            same(&rt, compared(&rt, *first, *second), (i.cmp(&j), i == j));
         }
     }
-    Ok(())
 }
 
 #[test]
-fn hashed(rt: HostRuntime) -> Result<(), Fail> {
+fn hashed(rt: HostRuntime) {
     let mut strings = HashSet::new(rt.alloc());
     for text in &RISING {
-        strings.insert(small(rt.alloc(), *text)?)?;
+        strings.insert(small(&rt, *text)).expect(&rt, "refused");
     }
     same(&rt, strings.len(), 7);
-    let mut spilled = small(rt.alloc(), RISING[5])?;
+    let mut spilled = small(&rt, RISING[5]);
     spilled.truncate(2);
     assert!(rt; strings.contains(&spilled));
-    assert!(rt; spilled == small(rt.alloc(), "ab")?);
-    Ok(())
+    assert!(rt; spilled == small(&rt, "ab"));
 }
 
 #[test]
-fn printed(rt: HostRuntime) -> Result<(), Fail> {
-    let string = small(rt.alloc(), "abc")?;
+fn printed(rt: HostRuntime) {
+    let string = small(&rt, "abc");
     same(
         &rt,
-        format!(in rt.alloc(); "{string:>5}")?.as_str(),
+        format!(in rt.alloc(); "{string:>5}")
+            .expect(&rt, "refused")
+            .as_str(),
         "  abc",
     );
-    let string = small(rt.alloc(), "\0\t'\\\x7f")?;
+    let string = small(&rt, "\0\t'\\\x7f");
     same(
         &rt,
-        format!(in rt.alloc(); "{string:?}")?.as_str(),
+        format!(in rt.alloc(); "{string:?}")
+            .expect(&rt, "refused")
+            .as_str(),
         "\"\\0\\t'\\\\\\u{7f}\"",
     );
-    Ok(())
 }
 
 #[test]
-fn written(rt: HostRuntime) -> Result<(), Fail> {
+fn written(rt: HostRuntime) {
     let mut string = SmallAsciiString::new(rt.alloc());
     assert!(rt; string.write_str("ab").is_ok());
     assert!(rt; string.write_str("cé").is_err());
     assert!(rt; string.write_char('λ').is_err());
     same(&rt, shown(&string), "ab");
     assert!(rt; string.write_char('-').is_ok());
-    write!(string, "{} of {:>3}", 1, 20)?;
+    write!(string, "{} of {:>3}", 1, 20).expect(&rt, "refused");
     same(&rt, shown(&string), "ab-1 of  20");
-    Ok(())
 }

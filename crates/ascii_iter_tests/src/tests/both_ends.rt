@@ -4,7 +4,7 @@ use super::same;
 use ascii::iter::{End, walk_lines, walk_split};
 use ascii::{AsciiChar, AsciiStr, AsciiString, text};
 use std::alloc::{AllocError, Global};
-use std::test::Fail;
+use std::process::Abort;
 
 /// The view of a text that is ASCII.
 pub fn ascii(source: &str) -> AsciiStr<'_> {
@@ -85,12 +85,11 @@ static PIECES: [(&str, AsciiChar, &str, &str); 13] = [
 ];
 
 #[test]
-fn walked_pieces(rt: HostRuntime) -> Result<(), Fail> {
+fn walked_pieces(rt: HostRuntime) {
     for &(source, on, script, want) in &PIECES {
-        let answers = pieces_walked(rt.alloc(), source, on, script)?;
+        let answers = pieces_walked(rt.alloc(), source, on, script).expect(&rt, "refused");
         same(&rt, answers.as_ascii_str().as_str(), want);
     }
-    Ok(())
 }
 
 /// A text, the ends that are asked, and the answers.
@@ -112,88 +111,79 @@ static LINES: [(&str, &str, &str); 14] = [
 ];
 
 #[test]
-fn walked_lines(rt: HostRuntime) -> Result<(), Fail> {
+fn walked_lines(rt: HostRuntime) {
     for &(source, script, want) in &LINES {
-        let answers = lines_walked(rt.alloc(), source, script)?;
+        let answers = lines_walked(rt.alloc(), source, script).expect(&rt, "refused");
         same(&rt, answers.as_ascii_str().as_str(), want);
     }
-    Ok(())
 }
 
 #[test]
-fn characters_from_both_ends(rt: HostRuntime) -> Result<(), Fail> {
+fn characters_of_views(rt: HostRuntime) {
     let mut chars = ascii("abc").chars();
     same(&rt, chars.size_hint(), (3, Some(3)));
     same(&rt, chars.next(), Some(AsciiChar::a));
     same(&rt, chars.next_back(), Some(AsciiChar::c));
     same(&rt, chars.as_str().as_str(), "b");
     same(&rt, chars.len(), 1);
-    let mut again = chars.clone()?;
+    let mut again = chars.clone().expect(&rt, "refused");
     same(&rt, chars.next_back(), Some(AsciiChar::b));
     same(&rt, chars.next(), None);
     same(&rt, chars.next_back(), None);
     same(&rt, again.next(), Some(AsciiChar::b));
+    let last = ascii("hello world\0").chars().rev().last();
+    same(&rt, last, Some(AsciiChar::h));
+}
+
+#[test]
+fn characters_by_for(rt: HostRuntime) {
     let mut chars = ascii("xyz").into_iter();
     same(&rt, chars.size_hint(), (3, Some(3)));
     same(&rt, chars.next_back(), Some(AsciiChar::z));
     same(&rt, chars.next(), Some(AsciiChar::x));
     same(&rt, chars.as_str().as_str(), "y");
-    let mut again = chars.clone()?;
+    let mut again = chars.clone().expect(&rt, "refused");
     same(&rt, again.next(), Some(AsciiChar::y));
     same(&rt, again.next(), None);
     same(&rt, chars.size_hint(), (1, Some(1)));
-    let source = b"hello world\0";
-    let mut codes = source.iter();
+    let mut codes = b"hello world\0".iter();
     for ch in ascii("hello world\0") {
         same(&rt, Some(&ch.as_byte()), codes.next());
     }
     same(&rt, codes.next(), None);
-    same(
-        &rt,
-        ascii("hello world\0").chars().rev().last(),
-        Some(AsciiChar::h),
-    );
+}
+
+#[test]
+fn pieces_and_lines_left(rt: HostRuntime) {
     let mut pieces = ascii("a-b-c").split(AsciiChar::Minus);
     same(&rt, pieces.next(), Some(ascii("a")));
-    let rest = pieces.clone()?;
-    let left: Vec<AsciiStr<'_>> = pieces.collect(rt.alloc())?;
-    same(&rt, left.len(), 2);
+    let rest = pieces.clone().expect(&rt, "refused");
+    same(&rt, pieces.count(), 2);
     same(&rt, rest.last(), Some(ascii("c")));
     let mut lines = ascii("a\nb\r\nc").lines();
     same(&rt, lines.next_back(), Some(ascii("c")));
-    let rest = lines.clone()?;
-    let left: Vec<AsciiStr<'_>> = lines.collect(rt.alloc())?;
-    same(&rt, left.len(), 2);
+    let rest = lines.clone().expect(&rt, "refused");
+    same(&rt, lines.count(), 2);
     same(&rt, rest.last(), Some(ascii("b")));
-    Ok(())
 }
 
 /// Every script of eight ends.
-pub fn scripts(alloc: Global) -> Result<Vec<Vec<End>>, AllocError> {
-    let mut all = Vec::new(alloc);
-    for number in 0..256u32 {
-        let mut script = Vec::new(alloc);
-        let mut rest = number;
-        for _ in 0..8 {
-            script.push(if rest % 2 == 0 { End::Front } else { End::Back })?;
-            rest /= 2;
-        }
-        all.push(script)?;
+pub fn scripts<R: Abort + AllocGlobal>(rt: &R) -> Vec<Vec<End>> {
+    let mut all = Vec::new(rt.alloc());
+    for number in 0..256 {
+        all.push(script_of(rt, number)).expect(rt, "refused");
     }
-    Ok(all)
+    all
 }
 
-/// The text of a length over CR, LF and `a` that a number stands for.
-pub fn small_text(alloc: Global, length: u32, number: u32) -> Result<Vec<u8>, AllocError> {
-    let mut text = Vec::new(alloc);
+/// The script of eight ends that a number stands for.
+fn script_of<R: Abort + AllocGlobal>(rt: &R, number: u32) -> Vec<End> {
+    let mut script = Vec::new(rt.alloc());
     let mut rest = number;
-    for _ in 0..length {
-        text.push(match rest % 3 {
-            0 => b'\r',
-            1 => b'\n',
-            _ => b'a',
-        })?;
-        rest /= 3;
+    for _ in 0..8 {
+        let end = if rest % 2 == 0 { End::Front } else { End::Back };
+        script.push(end).expect(rt, "refused");
+        rest /= 2;
     }
-    Ok(text)
+    script
 }

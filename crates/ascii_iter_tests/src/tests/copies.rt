@@ -1,51 +1,61 @@
-//! Iterators that are cloned at each step: the clone and the iterator both go on as the unbroken walk does, and
-//! each clone is let go behind another number of steps.
+//! Iterators that are cloned at each step: the clone and the iterator both go on as the unbroken walk does.
 
 use super::both_ends::{ascii, scripts};
+use super::resuming::cut_at;
+use super::walk_on;
 use ascii::AsciiChar;
-use ascii::iter::{End, take_end};
-use std::fmt;
+use ascii::iter::End;
+use std::fmt::Debug;
 use std::process::Abort;
-use std::test::Fail;
+
+/// The answers of an iterator to a script of ends.
+fn walked<R: Abort + AllocGlobal, I: DoubleEndedIterator + Drop>(
+    rt: &R,
+    items: I,
+    script: &[End],
+) -> Vec<Option<I::Item>>
+where
+    I::Item: Drop,
+    requires { (s : I) → I.can_next s × I.can_next_back s }
+{
+    let mut items = items;
+    let mut answers = Vec::new(rt.alloc());
+    walk_on(rt, &mut items, script, &mut answers);
+    answers
+}
 
 /// Clones an iterator at each step of a script, and walks on with both.
 fn compare<R: Abort + AllocGlobal, I: DoubleEndedIterator + Clone + Drop>(
     rt: &R,
     items: I,
     script: &[End],
-) -> Result<(), Fail>
+)
 where
-    I::Item: PartialEq + fmt::Debug + Drop,
+    I::Item: PartialEq + Debug + Drop,
     requires { (s : I) → I.can_next s × I.can_next_back s }
 {
-    let mut unbroken = items.clone()?;
-    let mut answers = Vec::new(rt.alloc());
-    for end in script {
-        answers.push(take_end(&mut unbroken, *end))?;
+    let whole = walked(rt, items.clone().expect(rt, "refused"), script);
+    for place in 0..=script.len() {
+        let script = cut_at(script, place);
+        let mut items = items.clone().expect(rt, "refused");
+        walk_on(rt, &mut items, script.front, &mut Vec::new(rt.alloc()));
+        let copy = items.clone().expect(rt, "refused");
+        assert!(rt; whole.ends_with(&walked(rt, copy, script.behind)));
+        assert!(rt; whole.ends_with(&walked(rt, items, script.behind)));
     }
-    let mut items = items;
-    for (at, (end, answer)) in script.iter().zip(&answers).enumerate() {
-        let mut copy = items.clone()?;
-        for (end, answer) in script.iter().zip(&answers).skip(at) {
-            assert!(rt; take_end(&mut copy, *end) == *answer);
-        }
-        assert!(rt; take_end(&mut items, *end) == *answer);
-    }
-    Ok(())
 }
 
 #[test]
-fn at_each_step(rt: HostRuntime) -> Result<(), Fail> {
+fn at_each_step(rt: HostRuntime) {
     for source in ["", "\n", "a\r\nb\n\nc\r", " foo  bar baz ", "\r\r\n,a,"] {
         let view = ascii(source);
-        for script in scripts(rt.alloc())? {
-            compare(&rt, view.chars(), &script)?;
-            compare(&rt, view.into_iter(), &script)?;
-            compare(&rt, view.lines(), &script)?;
-            compare(&rt, view.line_spans(), &script)?;
-            compare(&rt, view.split(AsciiChar::Space), &script)?;
-            compare(&rt, view.split_spans(AsciiChar::a), &script)?;
+        for script in &scripts(&rt) {
+            compare(&rt, view.chars(), script);
+            compare(&rt, view.into_iter(), script);
+            compare(&rt, view.lines(), script);
+            compare(&rt, view.line_spans(), script);
+            compare(&rt, view.split(AsciiChar::Space), script);
+            compare(&rt, view.split_spans(AsciiChar::a), script);
         }
     }
-    Ok(())
 }

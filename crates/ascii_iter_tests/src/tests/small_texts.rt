@@ -1,14 +1,13 @@
 //! Every text of CR, LF and `a` up to length 6: its pieces and its lines are those that the relation
 //! allows, and every script of eight ends takes them from that list.
 
-use super::both_ends::{scripts, small_text};
+use super::both_ends::scripts;
 use super::same;
 use ascii::iter::{
     End, Ending, LineSpan, SplitSpan, walk_line_spans, walk_lines, walk_split, walk_split_spans,
 };
 use ascii::{AsciiChar, AsciiStr, bytes};
-use std::alloc::{AllocError, Global};
-use std::test::Fail;
+use std::process::Abort;
 
 /// Whether these are the lines of a text: no body has LF, an ending is one that may stand behind its
 /// body, and the bodies and endings in order, each from its start, are the text.
@@ -61,79 +60,102 @@ fn are_pieces_of(text: &[u8], on: u8, pieces: &[SplitSpan<'_>]) -> bool {
 }
 
 /// The answers to a script of a list that is worked off from both ends.
-fn taken<T: Copy + Drop>(
-    alloc: Global,
+fn taken<T: Copy + Drop, R: Abort + AllocGlobal>(
+    rt: &R,
     script: &[End],
     list: &[T],
-) -> Result<Vec<Option<T>>, AllocError> {
+) -> Vec<Option<T>> {
     let mut left = list;
-    let mut answers = Vec::new(alloc);
+    let mut answers = Vec::new(rt.alloc());
     for end in script {
         let taken = match end {
             End::Front => left.split_first(),
             End::Back => left.split_last(),
         };
-        match taken {
-            Some((item, others)) => {
-                left = others;
-                answers.push(Some(*item))?;
-            }
-            None => answers.push(None)?,
+        if let Some((_, others)) = taken {
+            left = others;
         }
+        answers
+            .push(taken.map(|(item, _)| *item))
+            .expect(rt, "refused");
     }
-    Ok(answers)
+    answers
 }
 
-#[test]
-fn lines_of_every_small_text(rt: HostRuntime) -> Result<(), Fail> {
-    let alloc = rt.alloc();
-    let scripts = scripts(alloc)?;
+/// The text of a length over CR, LF and `a` that a number stands for.
+fn small_text<R: Abort + AllocGlobal>(rt: &R, length: u32, number: u32) -> Vec<u8> {
+    let mut text = Vec::new(rt.alloc());
+    let mut rest = number;
+    for _ in 0..length {
+        let code = match rest % 3 {
+            0 => b'\r',
+            1 => b'\n',
+            _ => b'a',
+        };
+        text.push(code).expect(rt, "refused");
+        rest /= 3;
+    }
+    text
+}
+
+/// Every text of CR, LF and `a` up to length 6.
+fn small_texts<R: Abort + AllocGlobal>(rt: &R) -> Vec<Vec<u8>> {
+    let mut texts = Vec::new(rt.alloc());
     for (length, count) in [(0, 1), (1, 3), (2, 9), (3, 27), (4, 81), (5, 243), (6, 729)] {
         for number in 0..count {
-            let text = small_text(alloc, length, number)?;
-            let view = bytes::as_ascii_str(&text).unwrap_or_default();
-            let lines: Vec<LineSpan<'_>> = view.line_spans().collect(alloc)?;
-            let bodies: Vec<AsciiStr<'_>> = lines.iter().map(|line| line.text).collect(alloc)?;
-            assert!(rt; are_lines_of(&text, &lines));
-            for script in &scripts {
-                same(
-                    &rt,
-                    walk_line_spans(alloc, view, script)?,
-                    taken(alloc, script, &lines)?,
-                );
-                same(
-                    &rt,
-                    walk_lines(alloc, view, script)?,
-                    taken(alloc, script, &bodies)?,
-                );
-            }
+            texts
+                .push(small_text(rt, length, number))
+                .expect(rt, "refused");
         }
     }
-    Ok(())
+    texts
 }
 
-#[test]
-fn pieces_of_every_small_text(rt: HostRuntime) -> Result<(), Fail> {
+/// The lines of a text are those that the relation allows, and every script takes them from that list.
+fn compare_lines<R: Abort + AllocGlobal>(rt: &R, text: &[u8], scripts: &[Vec<End>]) {
+    let alloc = rt.alloc();
+    let view = bytes::as_ascii_str(text).unwrap_or_default();
+    let lines: Vec<LineSpan<'_>> = view.line_spans().collect(alloc).expect(rt, "refused");
+    assert!(rt; are_lines_of(text, &lines));
+    let bodies = lines.iter().map(|line| line.text);
+    let bodies: Vec<AsciiStr<'_>> = bodies.collect(alloc).expect(rt, "refused");
+    for script in scripts {
+        let spans = walk_line_spans(alloc, view, script).expect(rt, "refused");
+        same(rt, spans, taken(rt, script, &lines));
+        let texts = walk_lines(alloc, view, script).expect(rt, "refused");
+        same(rt, texts, taken(rt, script, &bodies));
+    }
+}
+
+/// The same for the pieces of a text.
+fn compare_pieces<R: Abort + AllocGlobal>(rt: &R, text: &[u8], scripts: &[Vec<End>]) {
     let alloc = rt.alloc();
     let on = AsciiChar::a;
-    let scripts = scripts(alloc)?;
-    for (length, count) in [(0, 1), (1, 3), (2, 9), (3, 27), (4, 81), (5, 243), (6, 729)] {
-        for number in 0..count {
-            let text = small_text(alloc, length, number)?;
-            let view = bytes::as_ascii_str(&text).unwrap_or_default();
-            let pieces: Vec<SplitSpan<'_>> = view.split_spans(on).collect(alloc)?;
-            let texts: Vec<AsciiStr<'_>> = pieces.iter().map(|piece| piece.text).collect(alloc)?;
-            assert!(rt; are_pieces_of(&text, b'a', &pieces));
-            for script in &scripts {
-                let answers = walk_split_spans(alloc, view, on, script)?;
-                same(&rt, answers, taken(alloc, script, &pieces)?);
-                same(
-                    &rt,
-                    walk_split(alloc, view, on, script)?,
-                    taken(alloc, script, &texts)?,
-                );
-            }
-        }
+    let view = bytes::as_ascii_str(text).unwrap_or_default();
+    let pieces: Vec<SplitSpan<'_>> = view.split_spans(on).collect(alloc).expect(rt, "refused");
+    assert!(rt; are_pieces_of(text, b'a', &pieces));
+    let bodies = pieces.iter().map(|piece| piece.text);
+    let bodies: Vec<AsciiStr<'_>> = bodies.collect(alloc).expect(rt, "refused");
+    for script in scripts {
+        let spans = walk_split_spans(alloc, view, on, script).expect(rt, "refused");
+        same(rt, spans, taken(rt, script, &pieces));
+        let texts = walk_split(alloc, view, on, script).expect(rt, "refused");
+        same(rt, texts, taken(rt, script, &bodies));
     }
-    Ok(())
+}
+
+#[test]
+fn lines_of_every_small_text(rt: HostRuntime) {
+    let scripts = scripts(&rt);
+    for text in &small_texts(&rt) {
+        compare_lines(&rt, text, &scripts);
+    }
+}
+
+#[test]
+fn pieces_of_every_small_text(rt: HostRuntime) {
+    let scripts = scripts(&rt);
+    for text in &small_texts(&rt) {
+        compare_pieces(&rt, text, &scripts);
+    }
 }

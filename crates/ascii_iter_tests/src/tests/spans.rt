@@ -5,7 +5,6 @@ use super::same;
 use ascii::iter::{End, Ending, LineSpan, SplitSpan, take_end, walk_line_spans, walk_split_spans};
 use ascii::{AsciiChar, AsciiStr};
 use std::alloc::{AllocError, Global};
-use std::test::Fail;
 
 /// The answers of a walk over pieces, each as its start, a space, its text and a bar, or `~|`.
 fn shown_pieces(alloc: Global, answers: &[Option<SplitSpan<'_>>]) -> Result<String, AllocError> {
@@ -28,11 +27,12 @@ fn shown_lines(alloc: Global, answers: &[Option<LineSpan<'_>>]) -> Result<String
             Some(span) => {
                 let start = span.start;
                 let body = span.text;
-                match span.ending {
-                    Ending::Lf => format!(in alloc; "{start} lf {body}|")?,
-                    Ending::CrLf => format!(in alloc; "{start} crlf {body}|")?,
-                    Ending::Absent => format!(in alloc; "{start} none {body}|")?,
-                }
+                let ending = match span.ending {
+                    Ending::Lf => "lf",
+                    Ending::CrLf => "crlf",
+                    Ending::Absent => "none",
+                };
+                format!(in alloc; "{start} {ending} {body}|")?
             }
             None => format!(in alloc; "~|")?,
         };
@@ -56,13 +56,18 @@ static LINES: [(&str, &str, &str); 6] = [
 ];
 
 #[test]
-fn walked_line_spans(rt: HostRuntime) -> Result<(), Fail> {
+fn walked_line_spans(rt: HostRuntime) {
     for &(source, script, want) in &LINES {
-        let script = ends(rt.alloc(), script)?;
-        let answers = walk_line_spans(rt.alloc(), ascii(source), &script)?;
-        same(&rt, shown_lines(rt.alloc(), &answers)?.as_str(), want);
+        let script = ends(rt.alloc(), script).expect(&rt, "refused");
+        let answers = walk_line_spans(rt.alloc(), ascii(source), &script).expect(&rt, "refused");
+        same(
+            &rt,
+            shown_lines(rt.alloc(), &answers)
+                .expect(&rt, "refused")
+                .as_str(),
+            want,
+        );
     }
-    Ok(())
 }
 
 /// A text, where it is split, the ends that are asked, and the answers.
@@ -79,13 +84,20 @@ static PIECES: [(&str, AsciiChar, &str, &str); 4] = [
 ];
 
 #[test]
-fn walked_piece_spans(rt: HostRuntime) -> Result<(), Fail> {
+fn walked_piece_spans(rt: HostRuntime) {
     for &(source, on, script, want) in &PIECES {
-        let script = ends(rt.alloc(), script)?;
-        let answers = walk_split_spans(rt.alloc(), ascii(source), on, &script)?;
-        same(&rt, shown_pieces(rt.alloc(), &answers)?.as_str(), want);
+        let script = ends(rt.alloc(), script).expect(&rt, "refused");
+        let answers = walk_split_spans(rt.alloc(), ascii(source), on, &script).expect(
+            &rt, "refused",
+        );
+        same(
+            &rt,
+            shown_pieces(rt.alloc(), &answers)
+                .expect(&rt, "refused")
+                .as_str(),
+            want,
+        );
     }
-    Ok(())
 }
 
 /// A text, where it is split, the ends that are asked, and what is left.
@@ -103,11 +115,11 @@ static PIECES_LEFT: [(&str, AsciiChar, &str, Option<(usize, &str)>); 5] = [
 ];
 
 #[test]
-fn rests_of_pieces(rt: HostRuntime) -> Result<(), Fail> {
+fn rests_of_pieces(rt: HostRuntime) {
     for &(source, on, script, want) in &PIECES_LEFT {
         let mut spans = ascii(source).split_spans(on);
         let mut split = ascii(source).split(on);
-        for end in &ends(rt.alloc(), script)? {
+        for end in &ends(rt.alloc(), script).expect(&rt, "refused") {
             take_end(&mut spans, *end);
             take_end(&mut split, *end);
         }
@@ -117,9 +129,7 @@ fn rests_of_pieces(rt: HostRuntime) -> Result<(), Fail> {
             want.map(|(start, text)| (start, ascii(text))),
         );
         same(&rt, split.remainder(), want.map(|(_, text)| ascii(text)));
-        same(&rt, split.remainder(), want.map(|(_, text)| ascii(text)));
     }
-    Ok(())
 }
 
 /// A text, the ends that are asked, and what is left.
@@ -132,11 +142,11 @@ static LINES_LEFT: [(&str, &str, Option<(usize, &str)>); 5] = [
 ];
 
 #[test]
-fn rests_of_lines(rt: HostRuntime) -> Result<(), Fail> {
+fn rests_of_lines(rt: HostRuntime) {
     for &(source, script, want) in &LINES_LEFT {
         let mut spans = ascii(source).line_spans();
         let mut lines = ascii(source).lines();
-        for end in &ends(rt.alloc(), script)? {
+        for end in &ends(rt.alloc(), script).expect(&rt, "refused") {
             take_end(&mut spans, *end);
             take_end(&mut lines, *end);
         }
@@ -146,23 +156,23 @@ fn rests_of_lines(rt: HostRuntime) -> Result<(), Fail> {
             want.map(|(start, text)| (start, ascii(text))),
         );
         same(&rt, lines.remainder(), want.map(|(_, text)| ascii(text)));
-        same(&rt, lines.remainder(), want.map(|(_, text)| ascii(text)));
     }
-    Ok(())
 }
 
 #[test]
-fn offsets(rt: HostRuntime) -> Result<(), Fail> {
+fn offsets(rt: HostRuntime) {
     let lines: Vec<Option<LineSpan<'_>>> = ascii("bar\n\n")
         .line_spans_from(5)
         .map(Some)
-        .collect(rt.alloc())?;
+        .collect(rt.alloc())
+        .expect(&rt, "refused");
     same(
         &rt,
-        shown_lines(rt.alloc(), &lines)?.as_str(),
+        shown_lines(rt.alloc(), &lines)
+            .expect(&rt, "refused")
+            .as_str(),
         "5 lf bar|9 lf |",
     );
-    Ok(())
 }
 
 #[test]

@@ -3,7 +3,6 @@
 use super::both_ends::{lines_walked, pieces_walked};
 use super::same;
 use ascii::AsciiChar;
-use std::test::Fail;
 
 // A text, ends, and what its split at a comma answers to them: a bar behind each, `~` for a `None`.
 static SPLITS: [(&str, &str, &str); 24] = [
@@ -62,19 +61,19 @@ static LINES: [(&str, &str, &str); 24] = [
 ];
 
 #[test]
-fn walked_pieces(rt: HostRuntime) -> Result<(), Fail> {
+fn walked_pieces(rt: HostRuntime) {
     for &(source, script, want) in &SPLITS {
-        let answers = pieces_walked(rt.alloc(), source, AsciiChar::Comma, script)?;
+        let answers = pieces_walked(rt.alloc(), source, AsciiChar::Comma, script).expect(
+            &rt, "refused",
+        );
         same(&rt, answers.as_ascii_str().as_str(), want);
     }
-    Ok(())
 }
 
 #[test]
-fn walked_lines(rt: HostRuntime) -> Result<(), Fail> {
+fn walked_lines(rt: HostRuntime) {
     for &(source, script, want) in &LINES {
-        let answers = lines_walked(rt.alloc(), source, script)?;
+        let answers = lines_walked(rt.alloc(), source, script).expect(&rt, "refused");
         same(&rt, answers.as_ascii_str().as_str(), want);
     }
-    Ok(())
 }

@@ -7,7 +7,6 @@ use std::alloc::{AllocError, Global};
 use std::fmt;
 use std::fmt::Write;
 use std::process::Abort;
-use std::test::Fail;
 
 /// More blocks than any call of these tests takes.
 const MANY: usize = 1_000;
@@ -95,23 +94,22 @@ impl Scarce {
 /// Runs a call with no memory left, with one block, with two, and so on, until it answers as with ample memory. Each
 /// run answers one of `wanted`: the first of them with no memory left, and the last with ample memory. Where not all
 /// memory can be taken, there is one run, with ample memory.
-pub fn each_block<R: Abort + AllocGlobal, F>(
-    rt: &R,
-    call: &str,
-    wanted: &[&str],
-    run: F,
-) -> Result<(), Fail>
+pub fn each_block<R: Abort + AllocGlobal, F>(rt: &R, call: &str, wanted: &[&str], run: F)
 where
     F: Fn(Left) -> Result<String, AllocError>,
     requires { F.IsAlwaysCallable run }
 {
     let ample = wanted.last().copied();
     let Ok(_held) = most_memory(rt.alloc()) else {
-        assert_eq!(rt; Some(run(None)?.as_str()), ample, "{call}");
-        return Ok(());
+        assert_eq!(rt;
+            Some(run(None).expect(rt, "refused").as_str()),
+            ample,
+            "{call}"
+        );
+        return;
     };
     for blocks in 0..MANY {
-        let said = run(Some(blocks))?;
+        let said = run(Some(blocks)).expect(rt, "refused");
         let answer = said.as_str();
         assert!(rt;
             wanted.contains(&answer),
@@ -122,8 +120,8 @@ where
             "{call}, no memory: {answer}"
         );
         if ample == Some(answer) {
-            return Ok(());
+            return;
         }
     }
-    Err(Fail::from("no answer as with ample memory in 1,000 blocks"))
+    panic!(rt; "no answer as with ample memory in 1,000 blocks")
 }

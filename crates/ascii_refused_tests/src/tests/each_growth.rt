@@ -5,7 +5,6 @@ use refusing::Refusing;
 use std::alloc::{AllocError, Allocator, Global};
 use std::fmt;
 use std::process::Abort;
-use std::test::Fail;
 
 /// An allocator that refuses one growth.
 pub type Heap = Refusing<Global>;
@@ -16,12 +15,7 @@ const MANY: u64 = 400;
 /// Runs a call with its first growth refused, then with its second, until a run meets no refusal. What the
 /// runs answer is `wanted`, in this order and each as often as it comes; the last is the answer with ample
 /// memory. A run with an error was refused before its call began, and is passed over.
-pub fn each_growth<R: Abort + AllocGlobal, F>(
-    rt: &R,
-    call: &str,
-    wanted: &[&str],
-    run: F,
-) -> Result<(), Fail>
+pub fn each_growth<R: Abort + AllocGlobal, F>(rt: &R, call: &str, wanted: &[&str], run: F)
 where
     F: Fn(&Heap) -> Result<String, AllocError>,
     requires { F.IsAlwaysCallable run }
@@ -43,10 +37,10 @@ where
         }
         if !heap.met() {
             assert_eq!(rt; wanted.len(), 1, "{call}, growth {left}");
-            return Ok(());
+            return;
         }
     }
-    Err(Fail::from("no run without a refusal"))
+    panic!(rt; "no run without a refusal")
 }
 
 /// The answers that are left to come, with the one that came at their head.

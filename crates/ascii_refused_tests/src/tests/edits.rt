@@ -4,7 +4,6 @@ use super::each_growth::{Heap, each_growth, told, view};
 use ascii::{AsciiChar, AsciiString};
 use std::alloc::{AllocError, Global};
 use std::fmt::Write;
-use std::test::Fail;
 
 /// A call on the string `x`, which has no room left.
 fn edited(alloc: Global, heap: &Heap, call: &str) -> Result<String, AllocError> {
@@ -49,12 +48,11 @@ static EDITS: [(&str, &[&str]); 9] = [
 ];
 
 #[test]
-fn text_stays(rt: HostRuntime) -> Result<(), Fail> {
+fn text_stays(rt: HostRuntime) {
     let alloc = rt.alloc();
     for &(call, wanted) in &EDITS {
-        each_growth(&rt, call, wanted, |heap| edited(alloc, heap, call))?;
+        each_growth(&rt, call, wanted, |heap| edited(alloc, heap, call));
     }
-    Ok(())
 }
 
 /// A call on the string `x` that grows it more than once, and its answers.
@@ -79,12 +77,11 @@ static GROWTHS: [(&str, &[&str]); 2] = [
 ];
 
 #[test]
-fn what_came_before_stays(rt: HostRuntime) -> Result<(), Fail> {
+fn what_came_before_stays(rt: HostRuntime) {
     let alloc = rt.alloc();
     for &(call, wanted) in &GROWTHS {
-        each_growth(&rt, call, wanted, |heap| edited(alloc, heap, call))?;
+        each_growth(&rt, call, wanted, |heap| edited(alloc, heap, call));
     }
-    Ok(())
 }
 
 const LONG: &str = "abcdefghijklmnopqrstuvwxyzabcdefghijklmnopqrstuvwxyzabcdefghijklmnopqrstuvwxyz";
@@ -100,7 +97,7 @@ fn extended(alloc: Global, heap: &Heap) -> Result<String, AllocError> {
 }
 
 #[test]
-fn characters_before_stay(rt: HostRuntime) -> Result<(), Fail> {
+fn characters_before_stay(rt: HostRuntime) {
     let alloc = rt.alloc();
     let wanted = ["Err(AllocError) true false", "Ok(()) false true"];
     each_growth(&rt, "extend_chars", &wanted, |heap| extended(alloc, heap))

@@ -9,7 +9,6 @@ use refusing::Refusing;
 use serde_json::Value;
 use std::alloc::{AllocError, Global};
 use std::fmt::Write;
-use std::test::Fail;
 
 /// A call on the empty string.
 fn on_empty(alloc: Global, heap: &Heap, call: &str) -> Result<String, AllocError> {
@@ -47,14 +46,17 @@ static ADDED: [(&str, &str); 11] = [
 ];
 
 #[test]
-fn nothing_to_add(rt: HostRuntime) -> Result<(), Fail> {
+fn nothing_to_add(rt: HostRuntime) {
     let alloc = rt.alloc();
     for &(call, wanted) in &ADDED {
         let heap = Refusing::new(alloc, 0);
-        assert_eq!(rt; on_empty(alloc, &heap, call)?.as_str(), wanted, "{call}");
+        assert_eq!(rt;
+            on_empty(alloc, &heap, call).expect(&rt, "refused").as_str(),
+            wanted,
+            "{call}"
+        );
         assert!(rt; !heap.met(), "{call}");
     }
-    Ok(())
 }
 
 /// A call that makes a value out of nothing, or that refuses its source.
@@ -93,24 +95,29 @@ static MADE: [(&str, &str); 11] = [
 ];
 
 #[test]
-fn nothing_to_make(rt: HostRuntime) -> Result<(), Fail> {
+fn nothing_to_make(rt: HostRuntime) {
     let alloc = rt.alloc();
     for &(call, wanted) in &MADE {
         let heap = Refusing::new(alloc, 0);
-        assert_eq!(rt; made(alloc, &heap, call)?.as_str(), wanted, "{call}");
+        assert_eq!(rt;
+            made(alloc, &heap, call).expect(&rt, "refused").as_str(),
+            wanted,
+            "{call}"
+        );
         assert!(rt; !heap.met(), "{call}");
     }
-    Ok(())
 }
 
 #[test]
-fn buffers_are_kept(rt: HostRuntime) -> Result<(), Fail> {
+fn buffers_are_kept(rt: HostRuntime) {
     let alloc = rt.alloc();
     let heap = Refusing::new(alloc, 1);
-    let mut buffer = Vec::with_capacity(&heap, 3)?;
-    buffer.extend_from_slice(b"abc")?;
+    let mut buffer = Vec::with_capacity(&heap, 3).expect(&rt, "refused");
+    buffer.extend_from_slice(b"abc").expect(&rt, "refused");
     let answer = vec::into_ascii_string(buffer);
     assert!(rt; !heap.met());
-    assert_eq!(rt; shown(alloc, answer)?.as_str(), "Ok(\"abc\")");
-    Ok(())
+    assert_eq!(rt;
+        shown(alloc, answer).expect(&rt, "refused").as_str(),
+        "Ok(\"abc\")"
+    );
 }

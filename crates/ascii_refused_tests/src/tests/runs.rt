@@ -6,7 +6,6 @@ use ascii::{AsciiChar, AsciiRange, AsciiString};
 use ascii_run::{Cmd, Input, Mode, Output, engine, run};
 use std::alloc::{AllocError, Global};
 use std::process::Abort;
-use std::test::Fail;
 
 /// The replies of a run on a string with the text `x` and no room, and the text at its end.
 fn ran(alloc: Global, heap: &Heap, cmds: &[Cmd<'_>]) -> Result<String, AllocError> {
@@ -18,7 +17,7 @@ fn ran(alloc: Global, heap: &Heap, cmds: &[Cmd<'_>]) -> Result<String, AllocErro
 }
 
 #[test]
-fn later_commands_go_on(rt: HostRuntime) -> Result<(), Fail> {
+fn later_commands_go_on(rt: HostRuntime) {
     let alloc = rt.alloc();
     let cmds = [
         Cmd::PushStr(view("bcdefgh")),
@@ -36,7 +35,7 @@ fn later_commands_go_on(rt: HostRuntime) -> Result<(), Fail> {
         "[Done, Number(8), Text(\"x\"), Done, NoMemory, Number(8)] xbcdefgh",
         "[Done, Number(8), Text(\"x\"), Done, Done, Number(8)] xbcdefgh",
     ];
-    each_growth(&rt, "run", &wanted, |heap| ran(alloc, heap, &cmds))?;
+    each_growth(&rt, "run", &wanted, |heap| ran(alloc, heap, &cmds));
     let cmds = [
         Cmd::Insert(1, AsciiChar::a),
         Cmd::Shrink,
@@ -87,20 +86,14 @@ fn mode_of(name: &str) -> Mode<'static> {
 }
 
 /// Runs a mode over `INPUT` and over bytes that are not all ASCII, with each growth refused in turn.
-fn goes_out<R: Abort + AllocGlobal>(
-    rt: &R,
-    mode: Mode<'_>,
-    name: &str,
-    ample: &str,
-) -> Result<(), Fail> {
+fn goes_out<R: Abort + AllocGlobal>(rt: &R, mode: Mode<'_>, name: &str, ample: &str) {
     let alloc = rt.alloc();
     let other: &[u8] = &[97, 98, 200, 201];
     for (input, ample) in [(INPUT, ample), (other, "Err(NotAscii(2)) ")] {
         each_growth(rt, name, &["Err(Memory) ", ample], |heap| {
             wrote(alloc, heap, mode, input)
-        })?;
+        });
     }
-    Ok(())
 }
 
 /// A mode, and its answer for `INPUT`.
@@ -115,7 +108,7 @@ static MODES: [(&str, &str); 7] = [
 ];
 
 #[test]
-fn nothing_goes_out(rt: HostRuntime) -> Result<(), Fail> {
+fn nothing_goes_out(rt: HostRuntime) {
     let cmds = [
         Cmd::InsertStr(0, view("0123456789012345678901234567890123456789")),
         Cmd::Copy(AsciiRange::Full),
@@ -124,9 +117,9 @@ fn nothing_goes_out(rt: HostRuntime) -> Result<(), Fail> {
     ];
     let far = [Cmd::Push(AsciiChar::a), Cmd::Insert(99, AsciiChar::a)];
     for &(name, ample) in &MODES {
-        goes_out(&rt, mode_of(name), name, ample)?;
+        goes_out(&rt, mode_of(name), name, ample);
     }
-    goes_out(&rt, Mode::Edit(&cmds), "edit", "Ok(()) 012")?;
+    goes_out(&rt, Mode::Edit(&cmds), "edit", "Ok(()) 012");
     goes_out(&rt, Mode::Edit(&far), "edit too far", "Err(Position(1)) ")
 }
 
@@ -155,17 +148,17 @@ static MUCH: [(&str, &str); 7] = [
 ];
 
 #[test]
-fn nothing_of_much_goes_out(rt: HostRuntime) -> Result<(), Fail> {
+fn nothing_of_much_goes_out(rt: HostRuntime) {
     let alloc = rt.alloc();
     let mut input = Vec::new(alloc);
     for _ in 0..4_000 {
-        input.extend_from_slice(b"ab\tc\n")?;
+        input.extend_from_slice(b"ab\tc\n").expect(&rt, "refused");
     }
     for &(name, ample) in &MUCH {
         let wanted = ["Err(Memory) 0", ample];
         each_growth(&rt, name, &wanted, |heap| {
             wrote_much(alloc, heap, mode_of(name), &input)
-        })?;
+        });
     }
     let wanted = ["Err(Memory) 0", "Ok(()) 20000"];
     each_growth(&rt, "edit", &wanted, |heap| {

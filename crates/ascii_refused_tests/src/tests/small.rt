@@ -8,7 +8,6 @@ use linked_list_allocator::LocalHeap;
 use refusing::Refusing;
 use std::alloc::{AllocError, Global};
 use std::fmt::Write;
-use std::test::Fail;
 
 /// A text that just fits inline.
 const FULL: &str = "abcdefghijklmnopqrstuvwx";
@@ -44,19 +43,20 @@ static GROWTHS: [(&str, &str, &str, &str); 7] = [
 ];
 
 #[test]
-fn text_stays(rt: HostRuntime) -> Result<(), Fail> {
+fn text_stays(rt: HostRuntime) {
     let alloc = rt.alloc();
     for &(call, refusal, before, behind) in &GROWTHS {
         for start in [FULL, LONG] {
-            let refused = format!(in alloc; "Err({refusal}) {start} {start}z")?;
+            let refused = format!(in alloc; "Err({refusal}) {start} {start}z").expect(
+                &rt, "refused",
+            );
             let ample = format!(in alloc;
                 "Ok(()) {before}{start}{behind} {before}{start}{behind}z"
-            )?;
+            ).expect(&rt, "refused");
             let wanted = [refused.as_str(), ample.as_str()];
-            each_block(&rt, call, &wanted, |left| grown(alloc, start, call, left))?;
+            each_block(&rt, call, &wanted, |left| grown(alloc, start, call, left));
         }
     }
-    Ok(())
 }
 
 /// A call that makes a text out of another one, which stays or comes back.
@@ -118,27 +118,27 @@ static MADE: [(&str, &str, &[&str]); 6] = [
 ];
 
 #[test]
-fn sources_stay(rt: HostRuntime) -> Result<(), Fail> {
+fn sources_stay(rt: HostRuntime) {
     let alloc = rt.alloc();
     for &(call, start, wanted) in &MADE {
-        each_block(&rt, call, wanted, |left| made(alloc, start, call, left))?;
+        each_block(&rt, call, wanted, |left| made(alloc, start, call, left));
     }
-    Ok(())
 }
 
 /// A text with room inline for two characters more.
 const SHORT: &str = "abcdefghijklmnopqrstuv";
 
 #[test]
-fn no_memory_for_short_texts(rt: HostRuntime) -> Result<(), Fail> {
+fn no_memory_for_short_texts(rt: HostRuntime) {
     let alloc = rt.alloc();
     // All but `reserve`, which asks for more than fits inline.
     for &(call, _, before, behind) in &GROWTHS[1..] {
-        let ample = format!(in alloc; "Ok(()) {before}{SHORT}{behind} {before}{SHORT}{behind}z")?;
+        let ample = format!(in alloc;
+            "Ok(()) {before}{SHORT}{behind} {before}{SHORT}{behind}z"
+        ).expect(&rt, "refused");
         let wanted = [ample.as_str()];
-        each_block(&rt, call, &wanted, |left| grown(alloc, SHORT, call, left))?;
+        each_block(&rt, call, &wanted, |left| grown(alloc, SHORT, call, left));
     }
-    Ok(())
 }
 
 /// The replies of a run over a text that just fits inline, and the text at its end. The replies and copies have
@@ -152,7 +152,7 @@ fn ran(alloc: Global, cmds: &[Cmd<'_>], growths: u64, left: Left) -> Result<Stri
 }
 
 #[test]
-fn runs_go_on(rt: HostRuntime) -> Result<(), Fail> {
+fn runs_go_on(rt: HostRuntime) {
     let alloc = rt.alloc();
     let cmds = [
         Cmd::Push(AsciiChar::b),
@@ -165,13 +165,13 @@ fn runs_go_on(rt: HostRuntime) -> Result<(), Fail> {
         "Ok([NoMemory, Number(24), Char(Some('a')), Done, Number(24)]) aaaaaaaaaaaaaaaaaaaaaaac aaaaaaaaaaaaaaaaaaaaaaacz",
         "Ok([Done, Number(25), Char(Some('b')), Done, Number(25)]) aaaaaaaaaaaaaaaaaaaaaaaac aaaaaaaaaaaaaaaaaaaaaaaacz",
     ];
-    each_block(&rt, "run", &wanted, |left| ran(alloc, &cmds, 9, left))?;
+    each_block(&rt, "run", &wanted, |left| ran(alloc, &cmds, 9, left));
     let wanted = ["Err(AllocError) aaaaaaaaaaaaaaaaaaaaaaaa aaaaaaaaaaaaaaaaaaaaaaaaz"];
     each_block(&rt, "run", &wanted, |left| ran(alloc, &cmds, 0, left))
 }
 
 #[test]
-fn runs_go_on_behind_each_growth(rt: HostRuntime) -> Result<(), Fail> {
+fn runs_go_on_behind_each_growth(rt: HostRuntime) {
     let alloc = rt.alloc();
     let cmds = [
         Cmd::InsertStr(0, view("b")),
@@ -187,7 +187,7 @@ fn runs_go_on_behind_each_growth(rt: HostRuntime) -> Result<(), Fail> {
         "Ok([Done, Text(\"b\"), NoMemory, Done, Done, Done]) bac bacz",
         "Ok([Done, Text(\"b\"), Done, Done, Done, Done]) bac bacz",
     ];
-    each_block(&rt, "run", &wanted, |left| ran(alloc, &cmds, 9, left))?;
+    each_block(&rt, "run", &wanted, |left| ran(alloc, &cmds, 9, left));
     let wanted = [
         "Ok([NoMemory, NoMemory, NoMemory, Done, Done, Done]) aac aacz",
         "Ok([NoMemory, NoMemory, Done, Done, Done, Done]) aac aacz",
@@ -215,7 +215,7 @@ fn both_ran(alloc: Global, cmds: &[Cmd<'_>], left: Left) -> Result<String, Alloc
 }
 
 #[test]
-fn both_forms_go_on(rt: HostRuntime) -> Result<(), Fail> {
+fn both_forms_go_on(rt: HostRuntime) {
     let alloc = rt.alloc();
     let cmds = [
         Cmd::Reserve(2_000),
@@ -225,10 +225,10 @@ fn both_forms_go_on(rt: HostRuntime) -> Result<(), Fail> {
     ];
     let done = "[Done, Char(Some('a')), Done, Number(24)], \"aaaaaaaaaaaaaaaaaaaaaaab\"";
     let refused = "[NoMemory, Char(Some('a')), Done, Number(24)], \"aaaaaaaaaaaaaaaaaaaaaaab\"";
-    let ample = format!(in alloc; "({done}, {done})")?;
-    let neither = format!(in alloc; "({refused}, {refused})")?;
-    let inline_refused = format!(in alloc; "({done}, {refused})")?;
-    let heap_refused = format!(in alloc; "({refused}, {done})")?;
+    let ample = format!(in alloc; "({done}, {done})").expect(&rt, "refused");
+    let neither = format!(in alloc; "({refused}, {refused})").expect(&rt, "refused");
+    let inline_refused = format!(in alloc; "({done}, {refused})").expect(&rt, "refused");
+    let heap_refused = format!(in alloc; "({refused}, {done})").expect(&rt, "refused");
     let wanted = [
         "AllocError",
         neither.as_str(),

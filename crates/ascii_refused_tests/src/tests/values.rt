@@ -6,7 +6,6 @@ use ascii::AsciiChar;
 use ascii::json::char_to_json;
 use serde_json::Value;
 use std::alloc::{AllocError, Global};
-use std::test::Fail;
 
 /// The text of a value, or the refusal.
 fn texted(scarce: Scarce, answer: Result<Value, AllocError>) -> Result<String, AllocError> {
@@ -17,35 +16,34 @@ fn texted(scarce: Scarce, answer: Result<Value, AllocError>) -> Result<String, A
 }
 
 #[test]
-fn of_a_view(rt: HostRuntime) -> Result<(), Fail> {
+fn of_a_view(rt: HostRuntime) {
     let alloc = rt.alloc();
     each_block(&rt, "to_json", &["AllocError", "Some(\"abc\")"], |left| {
-        let scarce = Scarce::but(alloc, left)?;
+        let scarce = Scarce::but(alloc, left).expect(&rt, "refused");
         texted(scarce, view("abc").to_json(alloc))
     })
 }
 
 #[test]
-fn of_a_string(rt: HostRuntime) -> Result<(), Fail> {
+fn of_a_string(rt: HostRuntime) {
     let alloc = rt.alloc();
-    let string = view("abc").to_ascii_string(alloc)?;
+    let string = view("abc").to_ascii_string(alloc).expect(&rt, "refused");
     each_block(&rt, "to_json", &["AllocError", "Some(\"abc\")"], |left| {
-        let scarce = Scarce::but(alloc, left)?;
+        let scarce = Scarce::but(alloc, left).expect(&rt, "refused");
         texted(scarce, string.to_json(alloc))
-    })?;
+    });
     assert_eq!(rt; string.as_ascii_str().as_str(), "abc");
-    Ok(())
 }
 
 #[test]
-fn of_a_character(rt: HostRuntime) -> Result<(), Fail> {
+fn of_a_character(rt: HostRuntime) {
     let alloc = rt.alloc();
     each_block(
         &rt,
         "char_to_json",
         &["AllocError", "Some(\"a\")"],
         |left| {
-            let scarce = Scarce::but(alloc, left)?;
+            let scarce = Scarce::but(alloc, left).expect(&rt, "refused");
             texted(scarce, char_to_json(alloc, AsciiChar::a))
         },
     )

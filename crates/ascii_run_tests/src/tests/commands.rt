@@ -5,7 +5,6 @@ use super::same;
 use ascii::{AsciiChar, AsciiRange, AsciiStr, text};
 use ascii_run::{Cmd, EngineFault, Mode, plain_run, run, runs_agree};
 use std::alloc::{AllocError, Global};
-use std::test::Fail;
 
 /// The replies to the commands, each with `; ` behind it, and then the text at the end.
 fn ran(alloc: Global, start: &str, cmds: &[Cmd<'_>]) -> Result<String, AllocError> {
@@ -27,9 +26,12 @@ fn view(source: &str) -> AsciiStr<'_> {
 }
 
 #[test]
-fn no_command(rt: HostRuntime) -> Result<(), Fail> {
-    same(&rt, ran(rt.alloc(), "abc", &[])?.as_str(), "abc");
-    Ok(())
+fn no_command(rt: HostRuntime) {
+    same(
+        &rt,
+        ran(rt.alloc(), "abc", &[]).expect(&rt, "refused").as_str(),
+        "abc",
+    );
 }
 
 /// What each command by position answers over `abc`.
@@ -80,15 +82,14 @@ static OF_ABC: [[&str; 5]; 7] = [
 ];
 
 #[test]
-fn edits_by_position(rt: HostRuntime) -> Result<(), Fail> {
+fn edits_by_position(rt: HostRuntime) {
     let positions = [0, 2, 3, 4, usize::MAX];
     for (i, n) in positions.iter().enumerate() {
         for (cmd, want) in by_position(*n).iter().zip(OF_ABC.iter()) {
-            let shown = ran(rt.alloc(), "abc", &[*cmd])?;
+            let shown = ran(rt.alloc(), "abc", &[*cmd]).expect(&rt, "refused");
             same(&rt, shown.as_str(), want[i]);
         }
     }
-    Ok(())
 }
 
 /// What each command by position answers over the empty text.
@@ -103,15 +104,14 @@ static OF_NOTHING: [[&str; 3]; 7] = [
 ];
 
 #[test]
-fn edits_of_the_empty_text(rt: HostRuntime) -> Result<(), Fail> {
+fn edits_of_the_empty_text(rt: HostRuntime) {
     let positions = [0, 1, usize::MAX];
     for (i, n) in positions.iter().enumerate() {
         for (cmd, want) in by_position(*n).iter().zip(OF_NOTHING.iter()) {
-            let shown = ran(rt.alloc(), "", &[*cmd])?;
+            let shown = ran(rt.alloc(), "", &[*cmd]).expect(&rt, "refused");
             same(&rt, shown.as_str(), want[i]);
         }
     }
-    Ok(())
 }
 
 /// The commands that take a position or a number.
@@ -128,7 +128,7 @@ fn by_position(n: usize) -> [Cmd<'static>; 7] {
 }
 
 #[test]
-fn other_commands(rt: HostRuntime) -> Result<(), Fail> {
+fn other_commands(rt: HostRuntime) {
     let rows = [
         (Cmd::Push(AsciiChar::x), "Done; aBcx", "Done; x"),
         (Cmd::PushStr(view("de")), "Done; aBcde", "Done; de"),
@@ -161,10 +161,19 @@ fn other_commands(rt: HostRuntime) -> Result<(), Fail> {
         ),
     ];
     for (cmd, want, want_empty) in rows {
-        same(&rt, ran(rt.alloc(), "aBc", &[cmd])?.as_str(), want);
-        same(&rt, ran(rt.alloc(), "", &[cmd])?.as_str(), want_empty);
+        same(
+            &rt,
+            ran(rt.alloc(), "aBc", &[cmd])
+                .expect(&rt, "refused")
+                .as_str(),
+            want,
+        );
+        same(
+            &rt,
+            ran(rt.alloc(), "", &[cmd]).expect(&rt, "refused").as_str(),
+            want_empty,
+        );
     }
-    Ok(())
 }
 
 const REFUSED: &str = "Refused(AsAsciiStrError(3)); abc";
@@ -195,19 +204,20 @@ static COPIES: [(AsciiRange, &str); 21] = [
 ];
 
 #[test]
-fn copies(rt: HostRuntime) -> Result<(), Fail> {
+fn copies(rt: HostRuntime) {
     for &(range, want) in &COPIES {
         same(
             &rt,
-            ran(rt.alloc(), "abc", &[Cmd::Copy(range)])?.as_str(),
+            ran(rt.alloc(), "abc", &[Cmd::Copy(range)])
+                .expect(&rt, "refused")
+                .as_str(),
             want,
         );
     }
-    Ok(())
 }
 
 #[test]
-fn edits(rt: HostRuntime) -> Result<(), Fail> {
+fn edits(rt: HostRuntime) {
     let alloc = rt.alloc();
     let stops = [Cmd::Pop, Cmd::Remove(2), Cmd::Set(9, AsciiChar::x)];
     let (answer, _) = ran_in(alloc, Mode::Edit(&stops), b"abc");
@@ -223,5 +233,4 @@ fn edits(rt: HostRuntime) -> Result<(), Fail> {
     let (answer, written) = ran_in(alloc, Mode::Edit(&none), b"ab");
     same(&rt, answer, Ok(()));
     same(&rt, written.as_slice(), b"ab".as_slice());
-    Ok(())
 }

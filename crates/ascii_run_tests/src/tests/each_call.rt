@@ -7,7 +7,6 @@ use ascii::{AsciiStr, text};
 use ascii_run::{Cmd, EngineFault, Input, Mode, Output, Sink, Source, engine};
 use std::alloc::{AllocError, Global};
 use std::process::Abort;
-use std::test::Fail;
 
 const INPUT: &[u8] = b"a\tb\n\nc\r";
 
@@ -52,7 +51,7 @@ fn compare<R: Abort + AllocGlobal>(
     steps: (&[Step], &[Step]),
     answer: Result<(), EngineFault>,
     (output, rest): (&[u8], &[u8]),
-) -> Result<(), Fail> {
+) {
     let alloc = rt.alloc();
     let mut reader = Input::new(Giving {
         steps: steps.0,
@@ -69,10 +68,10 @@ fn compare<R: Abort + AllocGlobal>(
     assert!(rt; faults.0 < 2 && faults.1 < 2);
     same(&rt, engine(alloc, mode, &mut reader, &mut writer), Ok(()));
     same(&rt, (reader.failures(), writer.failures()), faults);
-    let mut all = Vec::from_slice(alloc, output)?;
-    all.extend_from_slice(&written(alloc, mode, rest)?)?;
+    let mut all = Vec::from_slice(alloc, output).expect(rt, "refused");
+    let rest = written(alloc, mode, rest).expect(rt, "refused");
+    all.extend_from_slice(&rest).expect(rt, "refused");
     same(&rt, writer.into_inner().bytes, all);
-    Ok(())
 }
 
 /// The modes, and what each writes for the input.
@@ -93,74 +92,71 @@ fn modes<'a>(cmds: &'a [Cmd<'a>]) -> [(Mode<'a>, &'static [u8]); 8] {
 }
 
 #[test]
-fn one_byte_a_call(rt: HostRuntime) -> Result<(), Fail> {
+fn one_byte_a_call(rt: HostRuntime) {
     let cmds = [Cmd::InsertStr(0, view("xy")), Cmd::Upper];
     let bytes = [Step::Moves(1); 40];
     for (mode, output) in modes(&cmds) {
-        compare(&rt, (mode, INPUT), (&bytes, &[]), Ok(()), (output, b""))?;
-        compare(&rt, (mode, INPUT), (&[], &bytes), Ok(()), (output, b""))?;
-        compare(&rt, (mode, INPUT), (&bytes, &bytes), Ok(()), (output, b""))?;
+        compare(&rt, (mode, INPUT), (&bytes, &[]), Ok(()), (output, b""));
+        compare(&rt, (mode, INPUT), (&[], &bytes), Ok(()), (output, b""));
+        compare(&rt, (mode, INPUT), (&bytes, &bytes), Ok(()), (output, b""));
     }
-    Ok(())
 }
 
 #[test]
-fn each_read_fails(rt: HostRuntime) -> Result<(), Fail> {
+fn each_read_fails(rt: HostRuntime) {
     let cmds = [Cmd::InsertStr(0, view("xy")), Cmd::Upper];
     let read = Err(EngineFault::Read);
     for (mode, _) in modes(&cmds) {
         for before in 0..INPUT.len() + 1 {
             for kind in KINDS {
-                let reads = steps(rt.alloc(), before, Step::Fails(kind))?;
+                let reads = steps(rt.alloc(), before, Step::Fails(kind)).expect(&rt, "refused");
                 compare(
                     &rt,
                     (mode, INPUT),
                     (&reads, &[]),
                     read,
                     (b"", &INPUT[before..]),
-                )?;
+                );
             }
         }
     }
-    Ok(())
 }
 
 #[test]
-fn each_write_fails(rt: HostRuntime) -> Result<(), Fail> {
+fn each_write_fails(rt: HostRuntime) {
     let cmds = [Cmd::InsertStr(0, view("xy")), Cmd::Upper];
     let write = Err(EngineFault::Write);
     for (mode, output) in modes(&cmds) {
         assert!(rt; output.len() < 40);
         for before in 0..output.len() + 1 {
             for kind in KINDS {
-                let writes = steps(rt.alloc(), before, Step::Fails(kind))?;
+                let writes = steps(rt.alloc(), before, Step::Fails(kind)).expect(&rt, "refused");
                 compare(
                     &rt,
                     (mode, INPUT),
                     (&[], &writes),
                     write,
                     (&output[..before], b""),
-                )?;
+                );
             }
         }
         for before in 0..output.len() {
-            let writes = steps(rt.alloc(), before, Step::Moves(0))?;
+            let writes = steps(rt.alloc(), before, Step::Moves(0)).expect(&rt, "refused");
             compare(
                 &rt,
                 (mode, INPUT),
                 (&[], &writes),
                 write,
                 (&output[..before], b""),
-            )?;
+            );
         }
     }
-    Ok(())
 }
 
 #[test]
-fn a_read_of_nothing_is_the_end(rt: HostRuntime) -> Result<(), Fail> {
+fn a_read_of_nothing_is_the_end(rt: HostRuntime) {
     for before in 0..INPUT.len() + 1 {
-        let reads = steps(rt.alloc(), before, Step::Moves(0))?;
+        let reads = steps(rt.alloc(), before, Step::Moves(0)).expect(&rt, "refused");
         let (now, later) = INPUT.split_at(before);
         compare(
             &rt,
@@ -168,28 +164,26 @@ fn a_read_of_nothing_is_the_end(rt: HostRuntime) -> Result<(), Fail> {
             (&reads, &[]),
             Ok(()),
             (now, later),
-        )?;
+        );
     }
-    Ok(())
 }
 
 /// More than two of the chunks that are read at once.
 const LONG: usize = 21_000;
 
 #[test]
-fn far_behind_the_first_call(rt: HostRuntime) -> Result<(), Fail> {
+fn far_behind_the_first_call(rt: HostRuntime) {
     let alloc = rt.alloc();
-    let input = vec![in alloc; b'a'; LONG]?;
+    let input = vec![in alloc; b'a'; LONG].expect(&rt, "refused");
     for (kind, before) in KINDS.into_iter().zip(0..8usize) {
-        let fails = steps_of(alloc, 3_000, before, Step::Fails(kind))?;
+        let fails = steps_of(alloc, 3_000, before, Step::Fails(kind)).expect(&rt, "refused");
         let out = before.saturating_mul(3_000);
         for mode in [Mode::Copy, Mode::Caret] {
             let (now, later) = input.split_at(out.min(input.len()));
             let read = Err(EngineFault::Read);
-            compare(&rt, (mode, &input), (&fails, &[]), read, (b"", later))?;
+            compare(&rt, (mode, &input), (&fails, &[]), read, (b"", later));
             let write = Err(EngineFault::Write);
-            compare(&rt, (mode, &input), (&[], &fails), write, (now, b""))?;
+            compare(&rt, (mode, &input), (&[], &fails), write, (now, b""));
         }
     }
-    Ok(())
 }

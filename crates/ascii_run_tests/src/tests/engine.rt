@@ -5,7 +5,6 @@ use ascii::bytes;
 use ascii::iter::End;
 use ascii_run::{EngineFault, Input, Mode, Output, engine};
 use std::alloc::{AllocError, Global};
-use std::test::Fail;
 
 /// What a mode answers for an input, and what it puts out.
 pub fn ran(alloc: Global, mode: Mode<'_>, input: &[u8]) -> (Result<(), EngineFault>, Vec<u8>) {
@@ -16,7 +15,7 @@ pub fn ran(alloc: Global, mode: Mode<'_>, input: &[u8]) -> (Result<(), EngineFau
 }
 
 #[test]
-fn modes_over_memory(rt: HostRuntime) -> Result<(), Fail> {
+fn modes_over_memory(rt: HostRuntime) {
     let alloc = rt.alloc();
     let script = [End::Front, End::Back, End::Back];
     let rows: [(Mode<'_>, &[u8], &[u8]); 8] = [
@@ -37,7 +36,6 @@ fn modes_over_memory(rt: HostRuntime) -> Result<(), Fail> {
         same(&rt, answer, Err(EngineFault::NotAscii(2)));
         same(&rt, written.len(), 0);
     }
-    Ok(())
 }
 
 /// What a JSON string has for a code.
@@ -59,39 +57,37 @@ fn json_text(alloc: Global, code: u8) -> Result<String, AllocError> {
 }
 
 #[test]
-fn json_of_every_code(rt: HostRuntime) -> Result<(), Fail> {
+fn json_of_every_code(rt: HostRuntime) {
     let alloc = rt.alloc();
     for code in 0..128u8 {
         let source = [code];
         let (answer, written) = ran(alloc, Mode::Json, &source);
         same(&rt, answer, Ok(()));
-        let wanted = json_text(alloc, code)?;
+        let wanted = json_text(alloc, code).expect(&rt, "refused");
         same(&rt, written.as_slice(), wanted.as_bytes());
         let Ok(view) = bytes::as_ascii_str(&source) else {
-            return Err(Fail::from("no text"));
+            panic!(rt; "no text");
         };
-        let value = view.to_json(alloc)?;
-        let printed = value.to_string(alloc)?;
+        let value = view.to_json(alloc).expect(&rt, "refused");
+        let printed = value.to_string(alloc).expect(&rt, "refused");
         same(&rt, written.as_slice(), printed.as_bytes());
     }
-    Ok(())
 }
 
 #[test]
-fn json_of_every_code_in_a_long_text(rt: HostRuntime) -> Result<(), Fail> {
+fn json_of_every_code_in_a_long_text(rt: HostRuntime) {
     let alloc = rt.alloc();
     let mut long = Vec::new(alloc);
     for _ in 0..5_000 {
-        long.push(b'a')?;
+        long.push(b'a').expect(&rt, "refused");
     }
     for code in 0..128u8 {
-        let mut source = long.clone()?;
-        source.push(code)?;
+        let mut source = long.clone().expect(&rt, "refused");
+        source.push(code).expect(&rt, "refused");
         let (answer, written) = ran(alloc, Mode::Json, &source);
         same(&rt, answer, Ok(()));
-        let wanted = json_text(alloc, code)?;
+        let wanted = json_text(alloc, code).expect(&rt, "refused");
         same(&rt, written.len(), wanted.len() + 5_000);
         same(&rt, written.get(5_001..), wanted.as_bytes().get(1..));
     }
-    Ok(())
 }

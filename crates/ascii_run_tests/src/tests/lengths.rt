@@ -7,7 +7,6 @@ use ascii::{AsciiChar, AsciiRange, AsciiString};
 use ascii_run::{Cmd, EngineFault, Input, Mode, Output, Reply, engine, run};
 use std::alloc::{AllocError, Global};
 use std::io;
-use std::test::Fail;
 
 const LENGTHS: [usize; 8] = [0, 1, 33, 5_000, 65_535, 65_536, 65_537, 200_000];
 
@@ -23,12 +22,12 @@ fn bytes_of(alloc: Global, front: &str, length: usize, back: &str) -> Result<Vec
 }
 
 #[test]
-fn each_mode(rt: HostRuntime) -> Result<(), Fail> {
+fn each_mode(rt: HostRuntime) {
     let alloc = rt.alloc();
     let script = [End::Back];
     let cmds = [Cmd::Len];
     for length in LENGTHS {
-        let input = bytes_of(alloc, "", length, "")?;
+        let input = bytes_of(alloc, "", length, "").expect(&rt, "refused");
         let line = if length == 0 { "" } else { "\n" };
         let sign = if length == 0 { "-" } else { "+" };
         let rows: [(Mode<'_>, &str, &str); 7] = [
@@ -44,12 +43,11 @@ fn each_mode(rt: HostRuntime) -> Result<(), Fail> {
             let (outcome, written) = ran(alloc, mode, &input);
             same(&rt, outcome, Ok(()));
             assert!(rt;
-                written == bytes_of(alloc, front, length, back)?,
+                written == bytes_of(alloc, front, length, back).expect(&rt, "refused"),
                 "{length}"
             );
         }
     }
-    Ok(())
 }
 
 /// `caret` of as many bytes `a` with a control at a place, and how it is shown.
@@ -64,15 +62,14 @@ fn is_caret_at(alloc: Global, place: usize, code: u8, shown: &str) -> Result<boo
 }
 
 #[test]
-fn a_control_at_each_place(rt: HostRuntime) -> Result<(), Fail> {
+fn a_control_at_each_place(rt: HostRuntime) {
     for place in 0..70 {
-        assert!(rt; is_caret_at(rt.alloc(), place, 0, "^@")?);
-        assert!(rt; is_caret_at(rt.alloc(), place, 31, "^_")?);
-        assert!(rt; is_caret_at(rt.alloc(), place, 127, "^?")?);
-        assert!(rt; is_caret_at(rt.alloc(), place, 10, "\n")?);
-        assert!(rt; is_caret_at(rt.alloc(), place, 32, " ")?);
+        assert!(rt; is_caret_at(rt.alloc(), place, 0, "^@").expect(&rt, "refused"));
+        assert!(rt; is_caret_at(rt.alloc(), place, 31, "^_").expect(&rt, "refused"));
+        assert!(rt; is_caret_at(rt.alloc(), place, 127, "^?").expect(&rt, "refused"));
+        assert!(rt; is_caret_at(rt.alloc(), place, 10, "\n").expect(&rt, "refused"));
+        assert!(rt; is_caret_at(rt.alloc(), place, 32, " ").expect(&rt, "refused"));
     }
-    Ok(())
 }
 
 /// A writer that takes all and then fails to flush.
@@ -90,34 +87,33 @@ impl io::Write for Unflushed {
 }
 
 #[test]
-fn each_flush(rt: HostRuntime) -> Result<(), Fail> {
+fn each_flush(rt: HostRuntime) {
     for length in LENGTHS {
-        let input = bytes_of(rt.alloc(), "", length, "")?;
+        let input = bytes_of(rt.alloc(), "", length, "").expect(&rt, "refused");
         let mut reader = Input::new(input.as_slice());
         let mut writer = Output::new(Unflushed);
         let answer = engine(rt.alloc(), Mode::Copy, &mut reader, &mut writer);
         same(&rt, answer, Err(EngineFault::Write));
     }
-    Ok(())
 }
 
 #[test]
-fn many_commands(rt: HostRuntime) -> Result<(), Fail> {
+fn many_commands(rt: HostRuntime) {
     let alloc = rt.alloc();
     let mut buf = AsciiString::new(alloc);
     let mut cmds = Vec::new(alloc);
     for _ in 0..5_000 {
-        cmds.push(Cmd::Push(AsciiChar::a))?;
+        cmds.push(Cmd::Push(AsciiChar::a)).expect(&rt, "refused");
     }
-    let replies = run(alloc, &mut buf, &cmds)?;
+    let replies = run(alloc, &mut buf, &cmds).expect(&rt, "refused");
     assert!(rt; replies.iter().all(|reply| matches!(reply, Reply::Done)));
     same(&rt, replies.len(), 5_000);
-    let long = buf.clone()?;
+    let long = buf.clone().expect(&rt, "refused");
     let insert = [
         Cmd::InsertStr(1, long.as_ascii_str()),
         Cmd::Copy(AsciiRange::Full),
     ];
-    let replies = run(alloc, &mut buf, &insert)?;
+    let replies = run(alloc, &mut buf, &insert).expect(&rt, "refused");
     match replies.as_slice() {
         [Reply::Done, Reply::Text(copy)] => assert!(rt; *copy == buf),
         _ => assert!(rt; false),
@@ -125,22 +121,22 @@ fn many_commands(rt: HostRuntime) -> Result<(), Fail> {
     same(
         &rt,
         buf.as_ascii_str().as_bytes(),
-        bytes_of(alloc, "", 10_000, "")?.as_slice(),
+        bytes_of(alloc, "", 10_000, "")
+            .expect(&rt, "refused")
+            .as_slice(),
     );
-    Ok(())
 }
 
 #[test]
-fn room_is_made_and_given_back(rt: HostRuntime) -> Result<(), Fail> {
-    let mut buf = AsciiString::from_char(rt.alloc(), AsciiChar::x)?;
-    let replies = run(rt.alloc(), &mut buf, &[Cmd::Reserve(10_000)])?;
+fn room_is_made_and_given_back(rt: HostRuntime) {
+    let mut buf = AsciiString::from_char(rt.alloc(), AsciiChar::x).expect(&rt, "refused");
+    let replies = run(rt.alloc(), &mut buf, &[Cmd::Reserve(10_000)]).expect(&rt, "refused");
     assert!(rt; matches!(replies.as_slice(), [Reply::Done]));
     assert!(rt; 10_001 <= buf.capacity());
-    let replies = run(rt.alloc(), &mut buf, &[Cmd::Shrink])?;
+    let replies = run(rt.alloc(), &mut buf, &[Cmd::Shrink]).expect(&rt, "refused");
     assert!(rt; matches!(replies.as_slice(), [Reply::Done]));
     same(&rt, buf.capacity(), 1);
     same(&rt, buf.as_ascii_str().as_str(), "x");
-    Ok(())
 }
 
 /// `json` of a long text of `a` with a character at a place, and how it stands there.
@@ -155,13 +151,12 @@ fn is_json_at(alloc: Global, place: usize, code: u8, form: &str) -> Result<bool,
 }
 
 #[test]
-fn an_escape_at_each_place(rt: HostRuntime) -> Result<(), Fail> {
+fn an_escape_at_each_place(rt: HostRuntime) {
     for place in 0..70 {
-        assert!(rt; is_json_at(rt.alloc(), place, 10, "\\n")?);
-        assert!(rt; is_json_at(rt.alloc(), place, 31, "\\u001f")?);
-        assert!(rt; is_json_at(rt.alloc(), place, 34, "\\\"")?);
-        assert!(rt; is_json_at(rt.alloc(), place, 92, "\\\\")?);
-        assert!(rt; is_json_at(rt.alloc(), place, 127, "\u{7f}")?);
+        assert!(rt; is_json_at(rt.alloc(), place, 10, "\\n").expect(&rt, "refused"));
+        assert!(rt; is_json_at(rt.alloc(), place, 31, "\\u001f").expect(&rt, "refused"));
+        assert!(rt; is_json_at(rt.alloc(), place, 34, "\\\"").expect(&rt, "refused"));
+        assert!(rt; is_json_at(rt.alloc(), place, 92, "\\\\").expect(&rt, "refused"));
+        assert!(rt; is_json_at(rt.alloc(), place, 127, "\u{7f}").expect(&rt, "refused"));
     }
-    Ok(())
 }

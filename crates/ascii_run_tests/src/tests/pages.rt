@@ -4,7 +4,6 @@ use super::same;
 use ascii_run::{EngineFault, Input, Mode, Output, engine};
 use std::alloc::{AllocError, Global};
 use std::io;
-use std::test::Fail;
 
 /// A writer that keeps what it takes, counts its calls, and fails at one of them and at all later ones.
 #[derive(Drop)]
@@ -50,13 +49,13 @@ fn lines_of(alloc: Global, count: usize, ending: &[u8]) -> Result<Vec<u8>, Alloc
 }
 
 #[test]
-fn lines_round_a_page(rt: HostRuntime) -> Result<(), Fail> {
+fn lines_round_a_page(rt: HostRuntime) {
     let rows = [(8_191, 1), (8_192, 1), (8_193, 2), (25_000, 4)];
     let modes: [(Mode<'static>, &[u8]); 2] = [(Mode::Lines, b"\r\n"), (Mode::Tac, b"\n")];
     for (count, calls) in rows {
-        let output = lines_of(rt.alloc(), count, b"\n")?;
+        let output = lines_of(rt.alloc(), count, b"\n").expect(&rt, "refused");
         for (mode, ending) in modes {
-            let input = lines_of(rt.alloc(), count, ending)?;
+            let input = lines_of(rt.alloc(), count, ending).expect(&rt, "refused");
             let mut reader = Input::new(input.as_slice());
             let mut writer = Output::new(Counting::new(rt.alloc(), usize::MAX));
             let answer = engine(rt.alloc(), mode, &mut reader, &mut writer);
@@ -66,12 +65,11 @@ fn lines_round_a_page(rt: HostRuntime) -> Result<(), Fail> {
             assert!(rt; counting.taken == output, "{count}");
         }
     }
-    Ok(())
 }
 
 #[test]
-fn writers_that_fail_at_a_page(rt: HostRuntime) -> Result<(), Fail> {
-    let input = lines_of(rt.alloc(), 25_000, b"\n")?;
+fn writers_that_fail_at_a_page(rt: HostRuntime) {
+    let input = lines_of(rt.alloc(), 25_000, b"\n").expect(&rt, "refused");
     let rows = [(1, 0), (2, 65_536), (3, 131_072), (4, 196_608)];
     for (fails_at, taken) in rows {
         let mut reader = Input::new(input.as_slice());
@@ -82,5 +80,4 @@ fn writers_that_fail_at_a_page(rt: HostRuntime) -> Result<(), Fail> {
         same(&rt, counting.calls, fails_at);
         same(&rt, counting.taken.len(), taken);
     }
-    Ok(())
 }

@@ -5,7 +5,6 @@ use ascii_run::{DeviceFault, EngineFault, Input, Mode, Output, Sink, Source, eng
 use std::alloc::Global;
 use std::io::{self, ErrorKind};
 use std::process::Abort;
-use std::test::Fail;
 
 /// What a scripted device does at one call.
 #[derive(Clone, Copy)]
@@ -166,7 +165,7 @@ fn each_kind_of_error(rt: HostRuntime) {
 }
 
 #[test]
-fn device_calls(rt: HostRuntime) -> Result<(), Fail> {
+fn device_calls(rt: HostRuntime) {
     let mut source = Input::new(b"abcde".as_slice());
     let mut buf = [0u8; 3];
     same(&rt, source.failures(), 0);
@@ -185,5 +184,4 @@ fn device_calls(rt: HostRuntime) -> Result<(), Fail> {
     same(&rt, sink.failures(), 1);
     same(&rt, sink.flush(), Ok(()));
     same(&rt, sink.into_inner().taken.as_slice(), b"xy".as_slice());
-    Ok(())
 }

@@ -5,7 +5,6 @@ use linked_list_allocator::LocalHeap;
 use std::alloc::{AllocError, Global};
 use std::io::{self, ErrorKind};
 use std::process::Abort;
-use std::test::Fail;
 
 /// A reader that gives `abc` and then fails.
 #[derive(Drop)]
@@ -45,7 +44,7 @@ impl io::Write for Full {
 }
 
 #[test]
-fn failing_devices(rt: HostRuntime) -> Result<(), Fail> {
+fn failing_devices(rt: HostRuntime) {
     let alloc = rt.alloc();
     let args = ["copy"];
     let mut output = Vec::new(alloc);
@@ -60,29 +59,22 @@ fn failing_devices(rt: HostRuntime) -> Result<(), Fail> {
     let input: &[u8] = b"abcdef";
     assert_eq!(rt; show(alloc, &args, input, writer, &mut errors), 3);
     assert_eq!(rt; errors.as_slice(), b"write failed\n".as_slice());
-    Ok(())
 }
 
 /// Errors that can't be written change no status.
-fn unheard<R: Abort + AllocGlobal>(
-    rt: &R,
-    call: &[&str],
-    input: &[u8],
-    status: u8,
-) -> Result<(), Fail> {
+fn unheard<R: Abort + AllocGlobal>(rt: &R, call: &[&str], input: &[u8], status: u8) {
     let alloc = rt.alloc();
     let mut output = Vec::new(alloc);
     let errors = Full { taken: true };
     assert_eq!(rt; show(alloc, call, input, &mut output, errors), status);
     assert_eq!(rt; output.len(), 0);
-    Ok(())
 }
 
 #[test]
-fn failing_errors(rt: HostRuntime) -> Result<(), Fail> {
-    unheard(&rt, &[], b"abc", 2)?;
-    unheard(&rt, &["edit", "x"], b"abc", 2)?;
-    unheard(&rt, &["edit", "r9"], b"abc", 2)?;
+fn failing_errors(rt: HostRuntime) {
+    unheard(&rt, &[], b"abc", 2);
+    unheard(&rt, &["edit", "x"], b"abc", 2);
+    unheard(&rt, &["edit", "r9"], b"abc", 2);
     unheard(&rt, &["copy"], &[97, 200], 1)
 }
 
@@ -107,12 +99,7 @@ impl io::Write for OneLine {
 }
 
 /// The status of a call whose line comes in one write, and whose words leave the input.
-fn told<R: Abort + AllocGlobal>(
-    rt: &R,
-    call: &[&str],
-    status: u8,
-    line: &'static [u8],
-) -> Result<(), Fail> {
+fn told<R: Abort + AllocGlobal>(rt: &R, call: &[&str], status: u8, line: &'static [u8]) {
     let alloc = rt.alloc();
     let mut input: &[u8] = b"abc";
     let mut errors = OneLine { wanted: line };
@@ -120,20 +107,19 @@ fn told<R: Abort + AllocGlobal>(
     assert_eq!(rt; got, status);
     assert_eq!(rt; errors.wanted.len(), 0);
     assert_eq!(rt; input, b"abc".as_slice());
-    Ok(())
 }
 
 #[test]
-fn words_leave_the_input(rt: HostRuntime) -> Result<(), Fail> {
+fn words_leave_the_input(rt: HostRuntime) {
     let late = [
         "edit", "u", "u", "u", "u", "u", "u", "u", "u", "u", "u", "u", "x",
     ];
-    told(&rt, &late, 2, b"bad word 12\n")?;
+    told(&rt, &late, 2, b"bad word 12\n");
     told(&rt, &["ends", "FX"], 2, b"bad word 1\n")
 }
 
 #[test]
-fn numbers_of_two_digits(rt: HostRuntime) -> Result<(), Fail> {
+fn numbers_of_two_digits(rt: HostRuntime) {
     let alloc = rt.alloc();
     let args = [
         "edit", "u", "u", "u", "u", "u", "u", "u", "u", "u", "u", "r9",
@@ -151,25 +137,23 @@ fn numbers_of_two_digits(rt: HostRuntime) -> Result<(), Fail> {
     let input: &[u8] = b"abcdefghijkl\x80";
     assert_eq!(rt; show(alloc, &args, input, Vec::new(alloc), &mut errors), 1);
     assert_eq!(rt; errors.wanted.len(), 0);
-    Ok(())
 }
 
 #[test]
-fn no_memory(rt: HostRuntime) -> Result<(), Fail> {
+fn no_memory(rt: HostRuntime) {
     let alloc = rt.alloc();
-    let heap = LocalHeap::new(alloc, 64)?;
+    let heap = LocalHeap::new(alloc, 64).expect(&rt, "refused");
     let call = ["edit", "u", "u", "u", "u"];
     let calls: [&[&str]; 2] = [&["copy"], &call];
     for args in calls {
         let mut errors = OneLine {
             wanted: b"no memory\n",
         };
-        let input = vec![in alloc; b'a'; 1_000]?;
+        let input = vec![in alloc; b'a'; 1_000].expect(&rt, "refused");
         let mut output = Vec::new(alloc);
         let status = show(&heap, args, input.as_slice(), &mut output, &mut errors);
         assert_eq!(rt; status, 3);
         assert_eq!(rt; output.len(), 0);
         assert_eq!(rt; errors.wanted.len(), 0);
     }
-    Ok(())
 }

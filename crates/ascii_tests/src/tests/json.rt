@@ -6,10 +6,9 @@ use ascii::AsciiChar;
 use ascii::json::{JsonError, char_from_json, char_to_json, str_from_json, string_from_json};
 use ascii_uses::values::through_json;
 use serde_json::Value;
-use std::test::Fail;
 
 #[test]
-fn characters(rt: HostRuntime) -> Result<(), Fail> {
+fn characters(rt: HostRuntime) {
     let alloc = rt.alloc();
     for (source, want) in [
         ("\"e\"", Ok(AsciiChar::e)),
@@ -21,20 +20,23 @@ fn characters(rt: HostRuntime) -> Result<(), Fail> {
         ("[\"e\"]", Err(JsonError::NotText)),
         ("null", Err(JsonError::NotText)),
     ] {
-        let value = Value::from_str(alloc, source)?;
+        let value = Value::from_str(alloc, source).expect(&rt, "refused");
         assert!(rt; char_from_json(&value) == want, "of {source}");
     }
-    let value = char_to_json(alloc, AsciiChar::Quotation)?;
-    same(&rt, value.to_string(alloc)?.as_str(), "\"\\\"\"");
+    let value = char_to_json(alloc, AsciiChar::Quotation).expect(&rt, "refused");
+    same(
+        &rt,
+        value.to_string(alloc).expect(&rt, "refused").as_str(),
+        "\"\\\"\"",
+    );
     assert!(rt; char_from_json(&value) == Ok(AsciiChar::Quotation));
-    Ok(())
 }
 
 #[test]
-fn texts(rt: HostRuntime) -> Result<(), Fail> {
+fn texts(rt: HostRuntime) {
     let alloc = rt.alloc();
     for source in ["Francais", "", "a\"b\n", "\u{0}\u{7f}"] {
-        let value = ascii(source).to_json(alloc)?;
+        let value = ascii(source).to_json(alloc).expect(&rt, "refused");
         match str_from_json(&value) {
             Ok(view) => same(&rt, view.as_str(), source),
             Err(_) => assert!(rt; false, "of {source}"),
@@ -55,7 +57,7 @@ fn texts(rt: HostRuntime) -> Result<(), Fail> {
         ("\"\u{e9}\"", Some(0)),
         ("7", None),
     ] {
-        let value = Value::from_str(alloc, source)?;
+        let value = Value::from_str(alloc, source).expect(&rt, "refused");
         let found = match str_from_json(&value) {
             Err(JsonError::NotAscii(e)) => Some(e.valid_up_to()),
             Err(JsonError::NotText) => None,
@@ -69,5 +71,4 @@ fn texts(rt: HostRuntime) -> Result<(), Fail> {
         };
         same(&rt, copied, place);
     }
-    Ok(())
 }

@@ -5,69 +5,74 @@ use ascii::iter::{End, walk_lines, walk_split};
 use ascii::json::{char_from_json, char_to_json, string_from_json};
 use ascii::{AsciiChar, AsciiString, BoxedAsciiStr, RcAsciiStr, bytes, text};
 use std::alloc::{AllocError, Global};
-use std::test::Fail;
+use std::process::Abort;
 
 const LENGTHS: [usize; 4] = [0, 1, 33, 5_000];
 
 /// As many characters `a`, each written behind the others.
-fn long(alloc: Global, length: usize) -> Result<AsciiString, Fail> {
-    let mut string = AsciiString::new(alloc);
+fn long<R: Abort + AllocGlobal>(rt: &R, length: usize) -> AsciiString {
+    let mut string = AsciiString::new(rt.alloc());
     for _ in 0..length {
-        string.write_char('a')?;
+        string.write_char('a').expect(rt, "refused");
     }
-    Ok(string)
+    string
 }
 
 #[test]
-fn copies(rt: HostRuntime) -> Result<(), Fail> {
+fn copies(rt: HostRuntime) {
     let alloc = rt.alloc();
     for length in LENGTHS {
-        let string = long(alloc, length)?;
+        let string = long(&rt, length);
         let view = string.as_ascii_str();
         same(&rt, view.len(), length);
-        assert!(rt; view.to_ascii_string(alloc)? == string);
-        assert!(rt; string.clone()? == string);
-        assert!(rt; view.to_ascii_lowercase(alloc)? == string);
-        let upper = view.to_ascii_uppercase(alloc)?;
+        assert!(rt; view.to_ascii_string(alloc).expect(&rt, "refused") == string);
+        assert!(rt; string.clone().expect(&rt, "refused") == string);
+        assert!(rt; view.to_ascii_lowercase(alloc).expect(&rt, "refused") == string);
+        let upper = view.to_ascii_uppercase(alloc).expect(&rt, "refused");
         assert!(rt; upper.as_ascii_str().eq_ignore_ascii_case(view));
         same(&rt, upper == string, length == 0);
         assert!(rt; bytes::to_ascii_string(alloc, view.as_bytes()).is_ok());
         assert!(rt; text::to_ascii_string(alloc, view.as_str()).is_ok());
         same(
             &rt,
-            BoxedAsciiStr::from_ascii_str(alloc, view)?.as_ascii_str(),
+            BoxedAsciiStr::from_ascii_str(alloc, view)
+                .expect(&rt, "refused")
+                .as_ascii_str(),
             view,
         );
         same(
             &rt,
-            RcAsciiStr::from_ascii_str(alloc, view)?.as_ascii_str(),
+            RcAsciiStr::from_ascii_str(alloc, view)
+                .expect(&rt, "refused")
+                .as_ascii_str(),
             view,
         );
     }
-    Ok(())
 }
 
 #[test]
-fn collected(rt: HostRuntime) -> Result<(), Fail> {
+fn collected(rt: HostRuntime) {
     let alloc = rt.alloc();
     for length in LENGTHS {
-        let string = long(alloc, length)?;
+        let string = long(&rt, length);
         let view = string.as_ascii_str();
-        let chars = view.to_chars(alloc)?;
+        let chars = view.to_chars(alloc).expect(&rt, "refused");
         same(&rt, chars.len(), length);
-        assert!(rt; AsciiString::from_chars(alloc, &chars)? == string);
-        assert!(rt; AsciiString::collect_chars(alloc, view.chars())? == string);
-        assert!(rt; AsciiString::collect_strs(alloc, view.split(AsciiChar::Comma))? == string);
-        let mut twice = AsciiString::collect_strs(alloc, view.lines())?;
-        twice.extend_chars(view.chars())?;
-        twice.extend_strs(view.lines())?;
+        assert!(rt; AsciiString::from_chars(alloc, &chars).expect(&rt, "refused") == string);
+        assert!(rt;
+            AsciiString::collect_chars(alloc, view.chars()).expect(&rt, "refused") == string
+        );
+        assert!(rt;
+            AsciiString::collect_strs(alloc, view.split(AsciiChar::Comma)).expect(&rt, "refused")
+                == string
+        );
+        let mut twice = AsciiString::collect_strs(alloc, view.lines()).expect(&rt, "refused");
+        twice.extend_chars(view.chars()).expect(&rt, "refused");
+        twice.extend_strs(view.lines()).expect(&rt, "refused");
         same(&rt, twice.len(), 3 * length);
-        let Ok(chars) = string.into_chars(alloc) else {
-            return Err(Fail::from("refused"));
-        };
+        let chars = string.into_chars(alloc).expect(&rt, "refused");
         same(&rt, chars.len(), length);
     }
-    Ok(())
 }
 
 /// As many ends, all at the front.
@@ -80,34 +85,38 @@ fn fronts(alloc: Global, length: usize) -> Result<Vec<End>, AllocError> {
 }
 
 #[test]
-fn walks(rt: HostRuntime) -> Result<(), Fail> {
+fn walks(rt: HostRuntime) {
     let alloc = rt.alloc();
     for length in LENGTHS {
-        let string = long(alloc, length)?;
+        let string = long(&rt, length);
         let view = string.as_ascii_str();
-        let script = fronts(alloc, length)?;
-        let answers = walk_split(alloc, view, AsciiChar::a, &script)?;
+        let script = fronts(alloc, length).expect(&rt, "refused");
+        let answers = walk_split(alloc, view, AsciiChar::a, &script).expect(&rt, "refused");
         same(&rt, answers.len(), length);
         assert!(rt; answers.iter().all(|answer| answer.is_some()));
-        same(&rt, walk_lines(alloc, view, &script)?.len(), length);
+        same(
+            &rt,
+            walk_lines(alloc, view, &script)
+                .expect(&rt, "refused")
+                .len(),
+            length,
+        );
     }
-    Ok(())
 }
 
 #[test]
-fn json(rt: HostRuntime) -> Result<(), Fail> {
+fn json(rt: HostRuntime) {
     let alloc = rt.alloc();
     for code in 0..128 {
         let ch = AsciiChar::from_ascii_unchecked(code);
-        let value = char_to_json(alloc, ch)?;
+        let value = char_to_json(alloc, ch).expect(&rt, "refused");
         assert!(rt; char_from_json(&value) == Ok(ch), "{code}");
     }
     for length in LENGTHS {
-        let string = long(alloc, length)?;
-        match string_from_json(alloc, &string.to_json(alloc)?) {
+        let string = long(&rt, length);
+        match string_from_json(alloc, &string.to_json(alloc).expect(&rt, "refused")) {
             Ok(copy) => assert!(rt; copy == string),
             Err(_) => assert!(rt; false, "{length}"),
         }
     }
-    Ok(())
 }

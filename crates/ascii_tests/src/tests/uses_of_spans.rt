@@ -1,9 +1,9 @@
 //! The callers of the iterators with starts, fronts and remainders, each once.
 
-use super::same;
+use super::shows;
 use super::views::ascii;
 use ascii::AsciiChar;
-use ascii::iter::{End, Ending, LineSpan, SplitSpan};
+use ascii::iter::End;
 use ascii_uses::fronts::{first_bodies, first_line_spans, first_piece_spans, first_pieces};
 use ascii_uses::iterators::{
     line_count, line_lengths_by_for, piece_lengths_by_map, pieces_reversed,
@@ -16,122 +16,86 @@ use ascii_uses::spans::{
     line_span_count, line_spans_reversed, line_starts, line_starts_by_for, piece_span_count,
     piece_spans_reversed, piece_starts, piece_starts_by_for,
 };
-use std::test::Fail;
 
 #[test]
-fn loops_and_chains(rt: HostRuntime) -> Result<(), Fail> {
-    let alloc = rt.alloc();
-    let on = AsciiChar::Comma;
+fn loops_over_pieces(rt: HostRuntime) {
+    let (alloc, on) = (rt.alloc(), AsciiChar::Comma);
     let view = ascii("ab,,c");
-    same(&rt, piece_span_count(view, on), 3);
-    same(
+    shows(&rt, &piece_span_count(view, on), "3");
+    shows(&rt, &piece_starts(alloc, view, on), "Ok([0, 3, 4])");
+    shows(&rt, &piece_starts_by_for(alloc, view, on), "Ok([0, 3, 4])");
+    shows(&rt, &piece_lengths_by_map(alloc, view, on), "Ok([2, 0, 1])");
+    shows(
         &rt,
-        piece_starts(alloc, view, on)?.as_slice(),
-        &[0, 3, 4][..],
+        &pieces_reversed(alloc, view, on),
+        "Ok([\"c\", \"\", \"ab\"])",
     );
-    same(
-        &rt,
-        piece_starts_by_for(alloc, view, on)?.as_slice(),
-        &[0, 3, 4][..],
-    );
-    same(
-        &rt,
-        piece_lengths_by_map(alloc, view, on)?.as_slice(),
-        &[2, 0, 1][..],
-    );
-    let last = SplitSpan {
-        start: 4,
-        text: ascii("c"),
-    };
-    same(
-        &rt,
-        piece_spans_reversed(alloc, view, on)?.first(),
-        Some(&last),
-    );
-    same(
-        &rt,
-        pieces_reversed(alloc, view, on)?.first(),
-        Some(&ascii("c")),
-    );
-    let view = ascii("ab\r\n\nc");
-    same(&rt, line_count(view), 3);
-    same(&rt, line_span_count(view), 3);
-    same(&rt, line_starts(alloc, view)?.as_slice(), &[0, 4, 5][..]);
-    same(
-        &rt,
-        line_starts_by_for(alloc, view)?.as_slice(),
-        &[0, 4, 5][..],
-    );
-    same(
-        &rt,
-        line_lengths_by_for(alloc, view)?.as_slice(),
-        &[2, 0, 1][..],
-    );
-    let last = LineSpan {
-        start: 5,
-        text: ascii("c"),
-        ending: Ending::Absent,
-    };
-    same(&rt, line_spans_reversed(alloc, view)?.first(), Some(&last));
-    Ok(())
+    let want = "Ok([SplitSpan { start: 4, text: \"c\" }, SplitSpan { start: 3, text: \"\" }, \
+        SplitSpan { start: 0, text: \"ab\" }])";
+    shows(&rt, &piece_spans_reversed(alloc, view, on), want);
 }
 
 #[test]
-fn fronts(rt: HostRuntime) -> Result<(), Fail> {
+fn loops_over_lines(rt: HostRuntime) {
     let alloc = rt.alloc();
-    let on = AsciiChar::Comma;
-    let view = ascii("ab,,c");
-    same(
-        &rt,
-        first_pieces(alloc, view, on, 2)?.last(),
-        Some(&ascii("")),
-    );
-    let second = SplitSpan {
-        start: 3,
-        text: ascii(""),
-    };
-    same(
-        &rt,
-        first_piece_spans(alloc, view, on, 2)?.last(),
-        Some(&second),
-    );
     let view = ascii("ab\r\n\nc");
-    same(&rt, first_bodies(alloc, view, 9)?.len(), 3);
-    let first = LineSpan {
-        start: 0,
-        text: ascii("ab"),
-        ending: Ending::CrLf,
-    };
-    same(&rt, first_line_spans(alloc, view, 1)?.last(), Some(&first));
-    Ok(())
+    shows(&rt, &line_count(view), "3");
+    shows(&rt, &line_span_count(view), "3");
+    shows(&rt, &line_starts(alloc, view), "Ok([0, 4, 5])");
+    shows(&rt, &line_starts_by_for(alloc, view), "Ok([0, 4, 5])");
+    shows(&rt, &line_lengths_by_for(alloc, view), "Ok([2, 0, 1])");
+    let want = "Ok([LineSpan { start: 5, text: \"c\", ending: Absent }, \
+        LineSpan { start: 4, text: \"\", ending: Lf }, LineSpan { start: 0, text: \"ab\", ending: CrLf }])";
+    shows(&rt, &line_spans_reversed(alloc, view), want);
 }
 
 #[test]
-fn stopped_and_resumed(rt: HostRuntime) -> Result<(), Fail> {
-    let alloc = rt.alloc();
+fn fronts(rt: HostRuntime) {
+    let (alloc, on) = (rt.alloc(), AsciiChar::Comma);
+    let view = ascii("ab,,c");
+    shows(&rt, &first_pieces(alloc, view, on, 2), "Ok([\"ab\", \"\"])");
+    let want = "Ok([SplitSpan { start: 0, text: \"ab\" }, SplitSpan { start: 3, text: \"\" }])";
+    shows(&rt, &first_piece_spans(alloc, view, on, 2), want);
+    let view = ascii("ab\r\n\nc");
+    shows(
+        &rt,
+        &first_bodies(alloc, view, 9),
+        "Ok([\"ab\", \"\", \"c\"])",
+    );
+    let want = "Ok([LineSpan { start: 0, text: \"ab\", ending: CrLf }])";
+    shows(&rt, &first_line_spans(alloc, view, 1), want);
+}
+
+#[test]
+fn stopped_over_pieces(rt: HostRuntime) {
     let on = AsciiChar::Comma;
     let view = ascii("ab,,c");
-    same(&rt, count_behind_first(view, on), 2);
-    same(&rt, behind_two(view, on), Some(ascii("c")));
+    shows(&rt, &count_behind_first(view, on), "2");
+    shows(&rt, &behind_two(view, on), "Some(\"c\")");
     let mut split = view.split(on);
     split.next();
     let again = split_again(&split, on).and_then(|mut again| again.next_back());
-    same(&rt, again, Some(ascii("c")));
-    same(&rt, lengths_left(alloc, split)?.as_slice(), &[0, 1][..]);
+    shows(&rt, &again, "Some(\"c\")");
+    shows(&rt, &lengths_left(rt.alloc(), split), "Ok([0, 1])");
     let mut split = view.split_spans(on);
     split.next();
     let again = split_spans_again(&split, on).and_then(|mut again| again.next());
-    same(&rt, again, split.next());
+    shows(&rt, &again, "Some(SplitSpan { start: 3, text: \"\" })");
+}
+
+#[test]
+fn stopped_over_lines(rt: HostRuntime) {
     let view = ascii("ab\r\n\nc");
-    same(&rt, count_before_last(view), 2);
-    let (count, mut lines) = counted_lines(view)?;
-    same(&rt, count, 3);
+    shows(&rt, &count_before_last(view), "2");
+    let (count, mut lines) = counted_lines(view).expect(&rt, "refused");
+    shows(&rt, &count, "3");
     lines.next();
     let again = lines_again(&lines).and_then(|mut again| again.next());
-    same(&rt, again, lines.next());
+    shows(&rt, &again, "Some(\"\")");
     let mut lines = view.line_spans();
     lines.next();
     let again = line_spans_again(&lines).and_then(|mut again| again.next_back());
-    same(&rt, again, take_line_span(&mut lines, End::Back));
-    Ok(())
+    let want = "Some(LineSpan { start: 5, text: \"c\", ending: Absent })";
+    shows(&rt, &again, want);
+    shows(&rt, &take_line_span(&mut lines, End::Back), want);
 }

@@ -5,7 +5,7 @@ use super::views::{ascii, outcome};
 use ascii::{AsciiChar, AsciiRange, bytes, text};
 use std::alloc::{AllocError, Global};
 use std::cmp::Ordering;
-use std::test::Fail;
+use std::process::Abort;
 
 // For sources of length 0, 1 and 33 the outcomes of the ranges in the order of `ranges`: `w` for the
 // whole source, `e` for no byte, `f` for the first byte, `r` for a refusal, which names the length.
@@ -59,15 +59,15 @@ fn length_of(slice: Result<&str, usize>) -> Result<usize, usize> {
 }
 
 #[test]
-fn every_form_at_its_edges(rt: HostRuntime) -> Result<(), Fail> {
+fn every_form_at_its_edges(rt: HostRuntime) {
     let whole = ascii("@ABCDEFGHIJKLMNOPQRSTUVWXYZ[\\]^_`");
     same(&rt, whole.len(), 33);
     for &(length, letters) in &OUTCOMES {
         let Ok(view) = whole.slice_ascii(AsciiRange::To(length)) else {
-            return Err(Fail::from("too long"));
+            panic!(rt; "too long");
         };
         let source = view.as_str();
-        let all = ranges(rt.alloc(), length)?;
+        let all = ranges(rt.alloc(), length).expect(&rt, "refused");
         same(&rt, all.len(), letters.len());
         for (range, letter) in all.iter().zip(letters.bytes()) {
             let want = match letter {
@@ -86,12 +86,11 @@ fn every_form_at_its_edges(rt: HostRuntime) -> Result<(), Fail> {
             same(&rt, range.fits(length), want.is_ok());
             let mut copy = [0; 33];
             let Some(part) = copy.get_mut(..length) else {
-                return Err(Fail::from("too long"));
+                panic!(rt; "too long");
             };
             same(&rt, length_for_writing(part, *range), length_of(want));
         }
     }
-    Ok(())
 }
 
 // A text, and it without white space in front, at the back, and at both ends, in upper and in lower case.
@@ -215,21 +214,26 @@ fn trims(rt: HostRuntime) {
 }
 
 #[test]
-fn cases(rt: HostRuntime) -> Result<(), Fail> {
+fn cases(rt: HostRuntime) {
     for &(source, _, _, _, upper, lower) in &TRIMS {
         let view = ascii(source);
         same(
             &rt,
-            view.to_ascii_uppercase(rt.alloc())?.as_ascii_str().as_str(),
+            view.to_ascii_uppercase(rt.alloc())
+                .expect(&rt, "refused")
+                .as_ascii_str()
+                .as_str(),
             upper,
         );
         same(
             &rt,
-            view.to_ascii_lowercase(rt.alloc())?.as_ascii_str().as_str(),
+            view.to_ascii_lowercase(rt.alloc())
+                .expect(&rt, "refused")
+                .as_ascii_str()
+                .as_str(),
             lower,
         );
     }
-    Ok(())
 }
 
 // Two texts, their order, and whether they are equal without case.
@@ -401,22 +405,22 @@ static DEBUGS: [&str; 128] = [
 ];
 
 /// What `{:?}` writes of a text of one byte, as a view and as a string.
-fn debug_of(alloc: Global, code: u8) -> Result<(String, String), Fail> {
+fn debug_of<R: Abort + AllocGlobal>(rt: &R, code: u8) -> (String, String) {
+    let alloc = rt.alloc();
     let source = [code];
     let view = bytes::as_ascii_str(source.as_slice()).unwrap_or_default();
-    let string = view.to_ascii_string(alloc)?;
-    Ok((
-        format!(in alloc; "{view:?}")?,
-        format!(in alloc; "{string:?}")?,
-    ))
+    let string = view.to_ascii_string(alloc).expect(rt, "refused");
+    (
+        format!(in alloc; "{view:?}").expect(rt, "refused"),
+        format!(in alloc; "{string:?}").expect(rt, "refused"),
+    )
 }
 
 #[test]
-fn debug_of_each_code(rt: HostRuntime) -> Result<(), Fail> {
+fn debug_of_each_code(rt: HostRuntime) {
     for (code, want) in (0..128).zip(&DEBUGS) {
-        let (view, string) = debug_of(rt.alloc(), code)?;
+        let (view, string) = debug_of(&rt, code);
         same(&rt, view.as_str(), *want);
         same(&rt, string.as_str(), *want);
     }
-    Ok(())
 }

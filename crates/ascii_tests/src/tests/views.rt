@@ -3,7 +3,6 @@
 use super::same;
 use ascii::{AsAsciiStrError, AsciiChar, AsciiRange, AsciiStr, bytes, text};
 use std::cmp::Ordering;
-use std::test::Fail;
 
 /// The view of a text that is ASCII.
 pub fn ascii(source: &str) -> AsciiStr<'_> {
@@ -217,21 +216,24 @@ fn comparisons(rt: HostRuntime) {
 }
 
 #[test]
-fn printed_refusals(rt: HostRuntime) -> Result<(), Fail> {
+fn printed_refusals(rt: HostRuntime) {
     let Err(error) = text::as_ascii_str("zoä华") else {
-        return Err(Fail::from("accepted"));
+        panic!(rt; "accepted");
     };
     same(&rt, error.description(), "one or more bytes are not ASCII");
     same(
         &rt,
-        format!(in rt.alloc(); "{error}")?.as_str(),
+        format!(in rt.alloc(); "{error}")
+            .expect(&rt, "refused")
+            .as_str(),
         "the byte at index 2 is not ASCII",
     );
     same(
         &rt,
-        format!(in rt.alloc(); "{error:?}")?.as_str(),
+        format!(in rt.alloc(); "{error:?}")
+            .expect(&rt, "refused")
+            .as_str(),
         "AsAsciiStrError(2)",
     );
     assert!(rt; Err(error) == bytes::as_ascii_str("zoä华".as_bytes()));
-    Ok(())
 }

@@ -4,7 +4,6 @@ use super::{ascii, same};
 use ascii::{AsciiChar, AsciiString};
 use ascii_uses::hosts::{Host, HostFault, host_order, same_host};
 use std::cmp::Ordering;
-use std::test::Fail;
 
 /// A label of 62 characters.
 const LABEL: &str = "abcdefghijklmnopqrstuvwxyz-0123456789-abcdefghijklmnopqrstuvwx";
@@ -42,12 +41,11 @@ static BAD: [(&str, HostFault); 15] = [
 ];
 
 #[test]
-fn names(rt: HostRuntime) -> Result<(), Fail> {
+fn names(rt: HostRuntime) {
     for &(name, wanted) in &GOOD {
-        let host = Host::parse(rt.alloc(), ascii(name))?;
+        let host = Host::parse(rt.alloc(), ascii(name)).expect(&rt, "refused");
         same(&rt, host.as_ascii_str(), ascii(wanted));
     }
-    Ok(())
 }
 
 #[test]
@@ -58,37 +56,35 @@ fn refusals(rt: HostRuntime) {
 }
 
 #[test]
-fn lengths(rt: HostRuntime) -> Result<(), Fail> {
+fn lengths(rt: HostRuntime) {
     let alloc = rt.alloc();
     let mut name = AsciiString::new(alloc);
-    name.push_str(ascii(LABEL))?;
-    name.push(AsciiChar::Z)?;
+    name.push_str(ascii(LABEL)).expect(&rt, "refused");
+    name.push(AsciiChar::Z).expect(&rt, "refused");
     // a label of 63 characters, and of 64
     same(&rt, Host::parse(alloc, name.as_ascii_str()).err(), None);
-    name.push(AsciiChar::Z)?;
+    name.push(AsciiChar::Z).expect(&rt, "refused");
     let long = Some(HostFault::LongLabel(0));
     same(&rt, Host::parse(alloc, name.as_ascii_str()).err(), long);
-    name.push(AsciiChar::UnderScore)?;
+    name.push(AsciiChar::UnderScore).expect(&rt, "refused");
     let long = Some(HostFault::LongLabel(0));
     same(&rt, Host::parse(alloc, name.as_ascii_str()).err(), long);
-    Ok(())
 }
 
 #[test]
-fn long_names(rt: HostRuntime) -> Result<(), Fail> {
+fn long_names(rt: HostRuntime) {
     let alloc = rt.alloc();
     let mut name = AsciiString::new(alloc);
     for _ in 0..4 {
-        name.push_str(ascii(LABEL))?;
-        name.push(AsciiChar::Dot)?;
+        name.push_str(ascii(LABEL)).expect(&rt, "refused");
+        name.push(AsciiChar::Dot).expect(&rt, "refused");
     }
     // four labels of 62, each with its dot, and one of 1 are 253 characters
-    name.push(AsciiChar::Z)?;
+    name.push(AsciiChar::Z).expect(&rt, "refused");
     same(&rt, Host::parse(alloc, name.as_ascii_str()).err(), None);
-    name.push(AsciiChar::Minus)?;
+    name.push(AsciiChar::Minus).expect(&rt, "refused");
     let long = Some(HostFault::TooLong);
     same(&rt, Host::parse(alloc, name.as_ascii_str()).err(), long);
-    Ok(())
 }
 
 #[test]

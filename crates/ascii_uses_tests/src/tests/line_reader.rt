@@ -8,7 +8,6 @@ use ascii_uses::line_reader::{LineFault, LineReader};
 use std::alloc::{AllocError, Global};
 use std::io::{self, ErrorKind};
 use std::process::Abort;
-use std::test::Fail;
 
 /// A reader of bytes that gives so many at a call, fails at one call, and counts its calls.
 #[derive(Drop)]
@@ -109,15 +108,9 @@ fn joined<R: Abort>(rt: &R, alloc: Global, lines: &[KeptLine]) -> Result<Vec<u8>
 
 /// The lines of a text in a buffer of this size are the text; or the first line that was not handed out has no
 /// LF in so many bytes, and has more.
-fn related<R: Abort>(
-    rt: &R,
-    alloc: Global,
-    text: &[u8],
-    size: usize,
-    most: usize,
-) -> Result<(), Fail> {
-    let kept = kept(alloc, giving(text, most), size)?;
-    let front = joined(rt, alloc, &kept.lines)?;
+fn related<R: Abort>(rt: &R, alloc: Global, text: &[u8], size: usize, most: usize) {
+    let kept = kept(alloc, giving(text, most), size).expect(rt, "refused");
+    let front = joined(rt, alloc, &kept.lines).expect(rt, "refused");
     assert!(rt; text.starts_with(&front));
     let rest = &text[front.len()..];
     match kept.fault {
@@ -128,57 +121,53 @@ fn related<R: Abort>(
             same(rt, rest[..size].contains(&b'\n'), false);
         }
     }
-    Ok(())
 }
 
 #[test]
-fn all_short_texts(rt: HostRuntime) -> Result<(), Fail> {
+fn all_short_texts(rt: HostRuntime) {
     let mut count = 1;
     for length in 0..7 {
         for number in 0..count {
-            let text = text_of(rt.alloc(), number, length)?;
+            let text = text_of(rt.alloc(), number, length).expect(&rt, "refused");
             for size in 1..8 {
-                related(&rt, rt.alloc(), &text, size, 1)?;
-                related(&rt, rt.alloc(), &text, size, 100)?;
+                related(&rt, rt.alloc(), &text, size, 1);
+                related(&rt, rt.alloc(), &text, size, 100);
             }
         }
         count = 3u32.saturating_mul(count);
     }
-    Ok(())
 }
 
 #[test]
-fn a_cr_in_the_last_place(rt: HostRuntime) -> Result<(), Fail> {
-    let kept = kept(rt.alloc(), giving(b"y\nabc\r\n\rz\r", 100), 6)?;
+fn a_cr_in_the_last_place(rt: HostRuntime) {
+    let kept = kept(rt.alloc(), giving(b"y\nabc\r\n\rz\r", 100), 6).expect(&rt, "refused");
     let lines = &kept.lines;
     same(&rt, lines.len(), 3);
     compare(&rt, lines.get(0), 0, "y", Ending::Lf);
     compare(&rt, lines.get(1), 2, "abc", Ending::CrLf);
     compare(&rt, lines.get(2), 7, "\rz\r", Ending::Absent);
     same(&rt, kept.fault, None);
-    Ok(())
 }
 
 #[test]
-fn lines_that_just_fit(rt: HostRuntime) -> Result<(), Fail> {
+fn lines_that_just_fit(rt: HostRuntime) {
     for text in [b"abc\r\n".as_slice(), b"abcd\n", b"abcde"] {
         for most in [1, 5] {
-            let fits = kept(rt.alloc(), giving(text, most), 5)?;
+            let fits = kept(rt.alloc(), giving(text, most), 5).expect(&rt, "refused");
             same(&rt, fits.lines.len(), 1);
             same(&rt, fits.fault, None);
-            let less = kept(rt.alloc(), giving(text, most), 4)?;
+            let less = kept(rt.alloc(), giving(text, most), 4).expect(&rt, "refused");
             same(&rt, less.lines.len(), 0);
             same(&rt, less.fault, Some(LineFault::TooLong(0)));
         }
     }
-    let second = kept(rt.alloc(), giving(b"x\nabcdef", 100), 5)?;
+    let second = kept(rt.alloc(), giving(b"x\nabcdef", 100), 5).expect(&rt, "refused");
     same(&rt, second.lines.len(), 1);
     same(&rt, second.fault, Some(LineFault::TooLong(2)));
-    let none = kept(rt.alloc(), giving(b"", 100), 0)?;
+    let none = kept(rt.alloc(), giving(b"", 100), 0).expect(&rt, "refused");
     same(&rt, none.fault, None);
-    let empty = kept(rt.alloc(), giving(b"\n", 100), 0)?;
+    let empty = kept(rt.alloc(), giving(b"\n", 100), 0).expect(&rt, "refused");
     same(&rt, empty.fault, Some(LineFault::TooLong(0)));
-    Ok(())
 }
 
 static LINES: &[u8] = b"ab\r\ncd\n\nefg\nh";
@@ -187,34 +176,32 @@ static LINES: &[u8] = b"ab\r\ncd\n\nefg\nh";
 static ENDED: [usize; 13] = [0, 0, 0, 0, 1, 1, 1, 2, 3, 3, 3, 3, 4];
 
 #[test]
-fn a_byte_over_127_at_each_place(rt: HostRuntime) -> Result<(), Fail> {
+fn a_byte_over_127_at_each_place(rt: HostRuntime) {
     for (place, &ended) in ENDED.iter().enumerate() {
         for other in [128, 255] {
-            let mut text = LINES.to_vec(rt.alloc())?;
+            let mut text = LINES.to_vec(rt.alloc()).expect(&rt, "refused");
             if let Some(target) = text.get_mut(place) {
                 *target = other;
             }
             for (size, most) in [(4, 1), (4, 100), (5, 2), (64, 100)] {
-                let kept = kept(rt.alloc(), giving(&text, most), size)?;
+                let kept = kept(rt.alloc(), giving(&text, most), size).expect(&rt, "refused");
                 same(&rt, kept.lines.len(), ended);
                 same(&rt, kept.fault, Some(LineFault::NotAscii(place as u64)));
             }
         }
     }
-    Ok(())
 }
 
 #[test]
-fn a_failure_at_each_call(rt: HostRuntime) -> Result<(), Fail> {
+fn a_failure_at_each_call(rt: HostRuntime) {
     for (call, &ended) in ENDED.iter().enumerate() {
-        let kept = kept(rt.alloc(), failing(LINES, 1, call as u64), 4)?;
+        let kept = kept(rt.alloc(), failing(LINES, 1, call as u64), 4).expect(&rt, "refused");
         same(&rt, kept.lines.len(), ended);
         same(&rt, kept.fault, Some(LineFault::Read));
     }
-    let last = kept(rt.alloc(), failing(LINES, 1, 13), 4)?;
+    let last = kept(rt.alloc(), failing(LINES, 1, 13), 4).expect(&rt, "refused");
     same(&rt, last.lines.len(), 4);
     same(&rt, last.fault, Some(LineFault::Read));
-    Ok(())
 }
 
 /// The source is called so often before the first answer that is no line, and not once behind it.
@@ -224,9 +211,13 @@ fn stays<R: Abort>(
     source: Input<Counted<'_>>,
     calls: u64,
     fault: Option<LineFault>,
-) -> Result<(), Fail> {
-    let mut reader = LineReader::new(alloc, source, 3)?;
-    same(rt, keep_lines(alloc, &mut reader)?.fault, fault);
+) {
+    let mut reader = LineReader::new(alloc, source, 3).expect(rt, "refused");
+    same(
+        rt,
+        keep_lines(alloc, &mut reader).expect(rt, "refused").fault,
+        fault,
+    );
     for _ in 0..3 {
         match reader.next_line() {
             Ok(line) => {
@@ -237,54 +228,66 @@ fn stays<R: Abort>(
         }
     }
     same(rt, reader.into_source().into_inner().calls, calls);
-    Ok(())
 }
 
 #[test]
-fn an_answer_for_good(rt: HostRuntime) -> Result<(), Fail> {
+fn an_answer_for_good(rt: HostRuntime) {
     let alloc = rt.alloc();
-    stays(&rt, alloc, giving(b"a\nb", 1), 4, None)?;
-    stays(&rt, alloc, giving(b"a\n", 1), 3, None)?;
+    stays(&rt, alloc, giving(b"a\nb", 1), 4, None);
+    stays(&rt, alloc, giving(b"a\n", 1), 3, None);
     stays(
         &rt,
         alloc,
         giving(b"a\nb\xffc", 1),
         4,
         Some(LineFault::NotAscii(3)),
-    )?;
+    );
     stays(
         &rt,
         alloc,
         giving(b"a\nbcdef", 1),
         6,
         Some(LineFault::TooLong(2)),
-    )?;
-    stays(&rt, alloc, failing(b"a\nb", 1, 2), 3, Some(LineFault::Read))?;
+    );
+    stays(&rt, alloc, failing(b"a\nb", 1, 2), 3, Some(LineFault::Read));
     stays(
         &rt,
         alloc,
         failing(b"abcdef", 1, 3),
         4,
         Some(LineFault::Read),
-    )?;
-    Ok(())
+    );
 }
 
 #[test]
-fn one_line_at_a_time(rt: HostRuntime) -> Result<(), Fail> {
+fn one_line_at_a_time(rt: HostRuntime) {
     let source = Input::new(b"GET / \r\n\r\nbody".as_slice());
-    let mut reader = LineReader::new(rt.alloc(), source, 16)?;
-    let first = reader.next_line().ok().flatten().ok_or("a line")?;
+    let mut reader = LineReader::new(rt.alloc(), source, 16).expect(&rt, "refused");
+    let first = reader
+        .next_line()
+        .ok()
+        .flatten()
+        .ok_or("a line")
+        .expect(&rt, "refused");
     same(&rt, first.text.as_str(), "GET / ");
     same(&rt, first.ending, Ending::CrLf);
-    let second = reader.next_line().ok().flatten().ok_or("a line")?;
+    let second = reader
+        .next_line()
+        .ok()
+        .flatten()
+        .ok_or("a line")
+        .expect(&rt, "refused");
     same(&rt, second.start, 8);
     same(&rt, second.text.len(), 0);
-    let third = reader.next_line().ok().flatten().ok_or("a line")?;
+    let third = reader
+        .next_line()
+        .ok()
+        .flatten()
+        .ok_or("a line")
+        .expect(&rt, "refused");
     same(&rt, third.start, 10);
     same(&rt, third.ending, Ending::Absent);
     assert!(rt; matches!(reader.next_line(), Ok(None)));
-    Ok(())
 }
 
 #[test]

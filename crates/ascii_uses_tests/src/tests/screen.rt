@@ -2,7 +2,6 @@
 
 use super::{ascii, same};
 use ascii_uses::screen::show_on_screen;
-use std::test::Fail;
 
 /// A text, a width, what goes out, and the column behind it.
 static ROWS: [(&str, usize, &str, usize); 13] = [
@@ -22,13 +21,12 @@ static ROWS: [(&str, usize, &str, usize); 13] = [
 ];
 
 #[test]
-fn rows(rt: HostRuntime) -> Result<(), Fail> {
+fn rows(rt: HostRuntime) {
     for &(source, width, text, column) in &ROWS {
         if width >= 2 {
-            let shown = show_on_screen(rt.alloc(), ascii(source), width)?;
+            let shown = show_on_screen(rt.alloc(), ascii(source), width).expect(&rt, "refused");
             same(&rt, shown.text.as_ascii_str(), ascii(text));
             same(&rt, shown.column, column);
         }
     }
-    Ok(())
 }
