@@ -127,7 +127,8 @@ fn char_written(question: &Question<'_>) -> Result<String, Fault> {
 /// Whether something was written, and the text behind it.
 fn behind(question: &Question<'_>, is_ok: bool, string: &AsciiString) -> Result<String, Fault> {
     let text = question.shown(string.as_ascii_str().as_bytes())?;
-    question.answer(&[if is_ok { "ok" } else { "err" }, text.as_str()])
+    let answer = if is_ok { "ok" } else { "err" };
+    question.answer(&[answer, text.as_str()])
 }
 
 fn collected(question: &Question<'_>) -> Result<String, Fault> {

@@ -1,7 +1,7 @@
-//! The examples that stand in the documentation, each a test; `bin/examples` writes the files beside this one.
+//! The examples that stand in the documentation of `ascii` and `ascii_run`; `bin/examples` writes the files beside
+//! this one.
 
 mod of_ascii;
-mod of_ascii_base;
 mod of_ascii_run;
 
 ghost use Rattle.std.specs.Prelude.{◌≡◌};

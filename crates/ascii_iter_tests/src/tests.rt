@@ -1,8 +1,9 @@
-//! Every script over short texts, the places of pieces and lines, walks that are taken up again, and tables
-//! that were made with the Rust crate.
+//! Every script over short texts, the places of pieces and lines, walks that are taken up again, iterators that tell
+//! little of their length, and tables that were made with the Rust crate.
 
 mod both_ends;
 mod copies;
+mod hints;
 mod resuming;
 mod small_texts;
 mod spans;

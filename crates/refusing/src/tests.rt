@@ -1,7 +1,6 @@
 //! One growth is refused, and none before or behind it.
 
 use crate::Refusing;
-use ascii::{AsciiChar, AsciiString};
 
 #[test]
 fn refuses_one(rt: HostRuntime) {
@@ -32,10 +31,10 @@ fn counts_blocks_that_grow(rt: HostRuntime) {
 #[test]
 fn a_string_keeps_its_text(rt: HostRuntime) {
     let heap = Refusing::new(rt.alloc(), 1);
-    let mut string = AsciiString::from_char(&heap, AsciiChar::a).expect(&rt, "refused");
-    string.shrink_to_fit().expect(&rt, "refused");
-    assert!(rt; string.push(AsciiChar::b).is_err());
-    assert_eq!(rt; string.as_ascii_str().as_str(), "a");
-    string.push(AsciiChar::b).expect(&rt, "refused");
-    assert_eq!(rt; string.as_ascii_str().as_str(), "ab");
+    let mut string = String::from_str(&heap, "a").expect(&rt, "refused");
+    string.shrink_to_fit();
+    assert!(rt; string.push('b').is_err());
+    assert_eq!(rt; string.as_str(), "a");
+    string.push('b').expect(&rt, "refused");
+    assert_eq!(rt; string.as_str(), "ab");
 }

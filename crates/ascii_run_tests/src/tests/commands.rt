@@ -4,20 +4,23 @@ use super::engine::ran as ran_in;
 use super::same;
 use ascii::{AsciiChar, AsciiRange, AsciiStr, text};
 use ascii_run::{Cmd, EngineFault, Mode, plain_run, run, runs_agree};
-use std::alloc::{AllocError, Global};
+use std::process::Abort;
 
 /// The replies to the commands, each with `; ` behind it, and then the text at the end.
-fn ran(alloc: Global, start: &str, cmds: &[Cmd<'_>]) -> Result<String, AllocError> {
-    let mut buf = view(start).to_ascii_string(alloc)?;
-    let replies = run(alloc, &mut buf, cmds)?;
+fn ran<R: Abort + AllocGlobal>(rt: &R, start: &str, cmds: &[Cmd<'_>]) -> String {
+    let alloc = rt.alloc();
+    let mut buf = view(start).to_ascii_string(alloc).expect(rt, "refused");
+    let replies = run(alloc, &mut buf, cmds).expect(rt, "refused");
     plain_run(cmds, &replies);
     runs_agree(cmds, &replies, &replies);
     let mut shown = String::new(alloc);
     for reply in &replies {
-        shown.push_str(format!(in alloc; "{reply:?}; ")?.as_str())?;
+        write!(shown, "{reply:?}; ").expect(rt, "refused");
     }
-    shown.push_str(buf.as_ascii_str().as_str())?;
-    Ok(shown)
+    shown
+        .push_str(buf.as_ascii_str().as_str())
+        .expect(rt, "refused");
+    shown
 }
 
 /// The view of a text, which is empty where the text is not ASCII.
@@ -27,11 +30,7 @@ fn view(source: &str) -> AsciiStr<'_> {
 
 #[test]
 fn no_command(rt: HostRuntime) {
-    same(
-        &rt,
-        ran(rt.alloc(), "abc", &[]).expect(&rt, "refused").as_str(),
-        "abc",
-    );
+    same(&rt, ran(&rt, "abc", &[]).as_str(), "abc");
 }
 
 /// What each command by position answers over `abc`.
@@ -86,7 +85,7 @@ fn edits_by_position(rt: HostRuntime) {
     let positions = [0, 2, 3, 4, usize::MAX];
     for (i, n) in positions.iter().enumerate() {
         for (cmd, want) in by_position(*n).iter().zip(OF_ABC.iter()) {
-            let shown = ran(rt.alloc(), "abc", &[*cmd]).expect(&rt, "refused");
+            let shown = ran(&rt, "abc", &[*cmd]);
             same(&rt, shown.as_str(), want[i]);
         }
     }
@@ -108,7 +107,7 @@ fn edits_of_the_empty_text(rt: HostRuntime) {
     let positions = [0, 1, usize::MAX];
     for (i, n) in positions.iter().enumerate() {
         for (cmd, want) in by_position(*n).iter().zip(OF_NOTHING.iter()) {
-            let shown = ran(rt.alloc(), "", &[*cmd]).expect(&rt, "refused");
+            let shown = ran(&rt, "", &[*cmd]);
             same(&rt, shown.as_str(), want[i]);
         }
     }
@@ -161,18 +160,8 @@ fn other_commands(rt: HostRuntime) {
         ),
     ];
     for (cmd, want, want_empty) in rows {
-        same(
-            &rt,
-            ran(rt.alloc(), "aBc", &[cmd])
-                .expect(&rt, "refused")
-                .as_str(),
-            want,
-        );
-        same(
-            &rt,
-            ran(rt.alloc(), "", &[cmd]).expect(&rt, "refused").as_str(),
-            want_empty,
-        );
+        same(&rt, ran(&rt, "aBc", &[cmd]).as_str(), want);
+        same(&rt, ran(&rt, "", &[cmd]).as_str(), want_empty);
     }
 }
 
@@ -206,13 +195,7 @@ static COPIES: [(AsciiRange, &str); 21] = [
 #[test]
 fn copies(rt: HostRuntime) {
     for &(range, want) in &COPIES {
-        same(
-            &rt,
-            ran(rt.alloc(), "abc", &[Cmd::Copy(range)])
-                .expect(&rt, "refused")
-                .as_str(),
-            want,
-        );
+        same(&rt, ran(&rt, "abc", &[Cmd::Copy(range)]).as_str(), want);
     }
 }
 

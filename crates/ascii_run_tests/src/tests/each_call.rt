@@ -5,7 +5,6 @@ use super::same;
 use ascii::iter::End;
 use ascii::{AsciiStr, text};
 use ascii_run::{Cmd, EngineFault, Input, Mode, Output, Sink, Source, engine};
-use std::alloc::{AllocError, Global};
 use std::process::Abort;
 
 const INPUT: &[u8] = b"a\tb\n\nc\r";
@@ -18,28 +17,24 @@ fn view(source: &str) -> AsciiStr<'_> {
 }
 
 /// As many calls that move one byte, and then a step.
-fn steps(alloc: Global, before: usize, step: Step) -> Result<Vec<Step>, AllocError> {
-    steps_of(alloc, 1, before, step)
+fn steps<R: Abort + AllocGlobal>(rt: &R, before: usize, step: Step) -> Vec<Step> {
+    steps_of(rt, 1, before, step)
 }
 
 /// As many calls that move `most` bytes, and then a step.
-fn steps_of(
-    alloc: Global,
-    most: usize,
-    before: usize,
-    step: Step,
-) -> Result<Vec<Step>, AllocError> {
-    let mut steps = vec![in alloc; Step::Moves(most); before]?;
-    steps.push(step)?;
-    Ok(steps)
+fn steps_of<R: Abort + AllocGlobal>(rt: &R, most: usize, before: usize, step: Step) -> Vec<Step> {
+    let mut steps = vec![in rt.alloc(); Step::Moves(most); before].expect(rt, "refused");
+    steps.push(step).expect(rt, "refused");
+    steps
 }
 
 /// What a mode writes for an input over devices that do not fail.
-fn written(alloc: Global, mode: Mode<'_>, input: &[u8]) -> Result<Vec<u8>, EngineFault> {
+fn written<R: Abort + AllocGlobal>(rt: &R, mode: Mode<'_>, input: &[u8]) -> Vec<u8> {
+    let alloc = rt.alloc();
     let mut reader = Input::new(input);
     let mut writer = Output::new(Vec::new(alloc));
-    engine(alloc, mode, &mut reader, &mut writer)?;
-    Ok(writer.into_inner())
+    engine(alloc, mode, &mut reader, &mut writer).expect(rt, "refused");
+    writer.into_inner()
 }
 
 /// Runs a mode over devices that follow steps, twice, and compares the first answer, the counts and what had
@@ -69,7 +64,7 @@ fn compare<R: Abort + AllocGlobal>(
     same(&rt, engine(alloc, mode, &mut reader, &mut writer), Ok(()));
     same(&rt, (reader.failures(), writer.failures()), faults);
     let mut all = Vec::from_slice(alloc, output).expect(rt, "refused");
-    let rest = written(alloc, mode, rest).expect(rt, "refused");
+    let rest = written(rt, mode, rest);
     all.extend_from_slice(&rest).expect(rt, "refused");
     same(&rt, writer.into_inner().bytes, all);
 }
@@ -109,7 +104,7 @@ fn each_read_fails(rt: HostRuntime) {
     for (mode, _) in modes(&cmds) {
         for before in 0..INPUT.len() + 1 {
             for kind in KINDS {
-                let reads = steps(rt.alloc(), before, Step::Fails(kind)).expect(&rt, "refused");
+                let reads = steps(&rt, before, Step::Fails(kind));
                 compare(
                     &rt,
                     (mode, INPUT),
@@ -130,7 +125,7 @@ fn each_write_fails(rt: HostRuntime) {
         assert!(rt; output.len() < 40);
         for before in 0..output.len() + 1 {
             for kind in KINDS {
-                let writes = steps(rt.alloc(), before, Step::Fails(kind)).expect(&rt, "refused");
+                let writes = steps(&rt, before, Step::Fails(kind));
                 compare(
                     &rt,
                     (mode, INPUT),
@@ -141,7 +136,7 @@ fn each_write_fails(rt: HostRuntime) {
             }
         }
         for before in 0..output.len() {
-            let writes = steps(rt.alloc(), before, Step::Moves(0)).expect(&rt, "refused");
+            let writes = steps(&rt, before, Step::Moves(0));
             compare(
                 &rt,
                 (mode, INPUT),
@@ -156,7 +151,7 @@ fn each_write_fails(rt: HostRuntime) {
 #[test]
 fn a_read_of_nothing_is_the_end(rt: HostRuntime) {
     for before in 0..INPUT.len() + 1 {
-        let reads = steps(rt.alloc(), before, Step::Moves(0)).expect(&rt, "refused");
+        let reads = steps(&rt, before, Step::Moves(0));
         let (now, later) = INPUT.split_at(before);
         compare(
             &rt,
@@ -176,7 +171,7 @@ fn far_behind_the_first_call(rt: HostRuntime) {
     let alloc = rt.alloc();
     let input = vec![in alloc; b'a'; LONG].expect(&rt, "refused");
     for (kind, before) in KINDS.into_iter().zip(0..8usize) {
-        let fails = steps_of(alloc, 3_000, before, Step::Fails(kind)).expect(&rt, "refused");
+        let fails = steps_of(&rt, 3_000, before, Step::Fails(kind));
         let out = before.saturating_mul(3_000);
         for mode in [Mode::Copy, Mode::Caret] {
             let (now, later) = input.split_at(out.min(input.len()));

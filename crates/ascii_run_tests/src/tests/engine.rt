@@ -4,7 +4,8 @@ use super::same;
 use ascii::bytes;
 use ascii::iter::End;
 use ascii_run::{EngineFault, Input, Mode, Output, engine};
-use std::alloc::{AllocError, Global};
+use std::alloc::Global;
+use std::process::Abort;
 
 /// What a mode answers for an input, and what it puts out.
 pub fn ran(alloc: Global, mode: Mode<'_>, input: &[u8]) -> (Result<(), EngineFault>, Vec<u8>) {
@@ -39,7 +40,8 @@ fn modes_over_memory(rt: HostRuntime) {
 }
 
 /// What a JSON string has for a code.
-fn json_text(alloc: Global, code: u8) -> Result<String, AllocError> {
+fn json_text<R: Abort + AllocGlobal>(rt: &R, code: u8) -> String {
+    let alloc = rt.alloc();
     match code {
         8 => String::from_str(alloc, "\"\\b\""),
         9 => String::from_str(alloc, "\"\\t\""),
@@ -54,6 +56,7 @@ fn json_text(alloc: Global, code: u8) -> Result<String, AllocError> {
             format!(in alloc; "\"{ch}\"")
         }
     }
+    .expect(rt, "refused")
 }
 
 #[test]
@@ -63,7 +66,7 @@ fn json_of_every_code(rt: HostRuntime) {
         let source = [code];
         let (answer, written) = ran(alloc, Mode::Json, &source);
         same(&rt, answer, Ok(()));
-        let wanted = json_text(alloc, code).expect(&rt, "refused");
+        let wanted = json_text(&rt, code);
         same(&rt, written.as_slice(), wanted.as_bytes());
         let Ok(view) = bytes::as_ascii_str(&source) else {
             panic!(rt; "no text");
@@ -86,7 +89,7 @@ fn json_of_every_code_in_a_long_text(rt: HostRuntime) {
         source.push(code).expect(&rt, "refused");
         let (answer, written) = ran(alloc, Mode::Json, &source);
         same(&rt, answer, Ok(()));
-        let wanted = json_text(alloc, code).expect(&rt, "refused");
+        let wanted = json_text(&rt, code);
         same(&rt, written.len(), wanted.len() + 5_000);
         same(&rt, written.get(5_001..), wanted.as_bytes().get(1..));
     }

@@ -5,20 +5,25 @@ use super::same;
 use ascii::iter::End;
 use ascii::{AsciiChar, AsciiRange, AsciiString};
 use ascii_run::{Cmd, EngineFault, Input, Mode, Output, Reply, engine, run};
-use std::alloc::{AllocError, Global};
 use std::io;
+use std::process::Abort;
 
 const LENGTHS: [usize; 8] = [0, 1, 33, 5_000, 65_535, 65_536, 65_537, 200_000];
 
 /// As many bytes `a`, between a front and a back.
-fn bytes_of(alloc: Global, front: &str, length: usize, back: &str) -> Result<Vec<u8>, AllocError> {
+fn bytes_of<R: Abort + AllocGlobal>(rt: &R, front: &str, length: usize, back: &str) -> Vec<u8> {
+    let alloc = rt.alloc();
     let mut bytes = Vec::new(alloc);
-    bytes.extend_from_slice(front.as_bytes())?;
+    bytes
+        .extend_from_slice(front.as_bytes())
+        .expect(rt, "refused");
     for _ in 0..length {
-        bytes.push(b'a')?;
+        bytes.push(b'a').expect(rt, "refused");
     }
-    bytes.extend_from_slice(back.as_bytes())?;
-    Ok(bytes)
+    bytes
+        .extend_from_slice(back.as_bytes())
+        .expect(rt, "refused");
+    bytes
 }
 
 #[test]
@@ -27,7 +32,7 @@ fn each_mode(rt: HostRuntime) {
     let script = [End::Back];
     let cmds = [Cmd::Len];
     for length in LENGTHS {
-        let input = bytes_of(alloc, "", length, "").expect(&rt, "refused");
+        let input = bytes_of(&rt, "", length, "");
         let line = if length == 0 { "" } else { "\n" };
         let sign = if length == 0 { "-" } else { "+" };
         let rows: [(Mode<'_>, &str, &str); 7] = [
@@ -42,33 +47,35 @@ fn each_mode(rt: HostRuntime) {
         for (mode, front, back) in rows {
             let (outcome, written) = ran(alloc, mode, &input);
             same(&rt, outcome, Ok(()));
-            assert!(rt;
-                written == bytes_of(alloc, front, length, back).expect(&rt, "refused"),
-                "{length}"
-            );
+            assert!(rt; written == bytes_of(&rt, front, length, back), "{length}");
         }
     }
 }
 
 /// `caret` of as many bytes `a` with a control at a place, and how it is shown.
-fn is_caret_at(alloc: Global, place: usize, code: u8, shown: &str) -> Result<bool, AllocError> {
-    let mut input = bytes_of(alloc, "", place, "")?;
-    input.push(code)?;
-    input.extend_from_slice(bytes_of(alloc, "", 40, "")?.as_slice())?;
+fn is_caret_at<R: Abort + AllocGlobal>(rt: &R, place: usize, code: u8, shown: &str) -> bool {
+    let alloc = rt.alloc();
+    let mut input = bytes_of(rt, "", place, "");
+    input.push(code).expect(rt, "refused");
+    input
+        .extend_from_slice(bytes_of(rt, "", 40, "").as_slice())
+        .expect(rt, "refused");
     let (_, written) = ran(alloc, Mode::Caret, &input);
-    let mut wanted = bytes_of(alloc, "", place, shown)?;
-    wanted.extend_from_slice(bytes_of(alloc, "", 40, "")?.as_slice())?;
-    Ok(written == wanted)
+    let mut wanted = bytes_of(rt, "", place, shown);
+    wanted
+        .extend_from_slice(bytes_of(rt, "", 40, "").as_slice())
+        .expect(rt, "refused");
+    written == wanted
 }
 
 #[test]
 fn a_control_at_each_place(rt: HostRuntime) {
     for place in 0..70 {
-        assert!(rt; is_caret_at(rt.alloc(), place, 0, "^@").expect(&rt, "refused"));
-        assert!(rt; is_caret_at(rt.alloc(), place, 31, "^_").expect(&rt, "refused"));
-        assert!(rt; is_caret_at(rt.alloc(), place, 127, "^?").expect(&rt, "refused"));
-        assert!(rt; is_caret_at(rt.alloc(), place, 10, "\n").expect(&rt, "refused"));
-        assert!(rt; is_caret_at(rt.alloc(), place, 32, " ").expect(&rt, "refused"));
+        assert!(rt; is_caret_at(&rt, place, 0, "^@"));
+        assert!(rt; is_caret_at(&rt, place, 31, "^_"));
+        assert!(rt; is_caret_at(&rt, place, 127, "^?"));
+        assert!(rt; is_caret_at(&rt, place, 10, "\n"));
+        assert!(rt; is_caret_at(&rt, place, 32, " "));
     }
 }
 
@@ -89,7 +96,7 @@ impl io::Write for Unflushed {
 #[test]
 fn each_flush(rt: HostRuntime) {
     for length in LENGTHS {
-        let input = bytes_of(rt.alloc(), "", length, "").expect(&rt, "refused");
+        let input = bytes_of(&rt, "", length, "");
         let mut reader = Input::new(input.as_slice());
         let mut writer = Output::new(Unflushed);
         let answer = engine(rt.alloc(), Mode::Copy, &mut reader, &mut writer);
@@ -121,9 +128,7 @@ fn many_commands(rt: HostRuntime) {
     same(
         &rt,
         buf.as_ascii_str().as_bytes(),
-        bytes_of(alloc, "", 10_000, "")
-            .expect(&rt, "refused")
-            .as_slice(),
+        bytes_of(&rt, "", 10_000, "").as_slice(),
     );
 }
 
@@ -140,23 +145,28 @@ fn room_is_made_and_given_back(rt: HostRuntime) {
 }
 
 /// `json` of a long text of `a` with a character at a place, and how it stands there.
-fn is_json_at(alloc: Global, place: usize, code: u8, form: &str) -> Result<bool, AllocError> {
-    let mut input = bytes_of(alloc, "", place, "")?;
-    input.push(code)?;
-    input.extend_from_slice(bytes_of(alloc, "", 5_000, "")?.as_slice())?;
+fn is_json_at<R: Abort + AllocGlobal>(rt: &R, place: usize, code: u8, form: &str) -> bool {
+    let alloc = rt.alloc();
+    let mut input = bytes_of(rt, "", place, "");
+    input.push(code).expect(rt, "refused");
+    input
+        .extend_from_slice(bytes_of(rt, "", 5_000, "").as_slice())
+        .expect(rt, "refused");
     let (_, written) = ran(alloc, Mode::Json, &input);
-    let mut wanted = bytes_of(alloc, "\"", place, form)?;
-    wanted.extend_from_slice(bytes_of(alloc, "", 5_000, "\"")?.as_slice())?;
-    Ok(written == wanted)
+    let mut wanted = bytes_of(rt, "\"", place, form);
+    wanted
+        .extend_from_slice(bytes_of(rt, "", 5_000, "\"").as_slice())
+        .expect(rt, "refused");
+    written == wanted
 }
 
 #[test]
 fn an_escape_at_each_place(rt: HostRuntime) {
     for place in 0..70 {
-        assert!(rt; is_json_at(rt.alloc(), place, 10, "\\n").expect(&rt, "refused"));
-        assert!(rt; is_json_at(rt.alloc(), place, 31, "\\u001f").expect(&rt, "refused"));
-        assert!(rt; is_json_at(rt.alloc(), place, 34, "\\\"").expect(&rt, "refused"));
-        assert!(rt; is_json_at(rt.alloc(), place, 92, "\\\\").expect(&rt, "refused"));
-        assert!(rt; is_json_at(rt.alloc(), place, 127, "\u{7f}").expect(&rt, "refused"));
+        assert!(rt; is_json_at(&rt, place, 10, "\\n"));
+        assert!(rt; is_json_at(&rt, place, 31, "\\u001f"));
+        assert!(rt; is_json_at(&rt, place, 34, "\\\""));
+        assert!(rt; is_json_at(&rt, place, 92, "\\\\"));
+        assert!(rt; is_json_at(&rt, place, 127, "\u{7f}"));
     }
 }

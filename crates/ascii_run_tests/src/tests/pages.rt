@@ -2,8 +2,9 @@
 
 use super::same;
 use ascii_run::{EngineFault, Input, Mode, Output, engine};
-use std::alloc::{AllocError, Global};
+use std::alloc::Global;
 use std::io;
+use std::process::Abort;
 
 /// A writer that keeps what it takes, counts its calls, and fails at one of them and at all later ones.
 #[derive(Drop)]
@@ -39,13 +40,14 @@ impl io::Write for Counting {
 }
 
 /// As many lines of seven characters, each with this ending.
-fn lines_of(alloc: Global, count: usize, ending: &[u8]) -> Result<Vec<u8>, AllocError> {
+fn lines_of<R: Abort + AllocGlobal>(rt: &R, count: usize, ending: &[u8]) -> Vec<u8> {
+    let alloc = rt.alloc();
     let mut bytes = Vec::new(alloc);
     for _ in 0..count {
-        bytes.extend_from_slice(b"abcdefg")?;
-        bytes.extend_from_slice(ending)?;
+        bytes.extend_from_slice(b"abcdefg").expect(rt, "refused");
+        bytes.extend_from_slice(ending).expect(rt, "refused");
     }
-    Ok(bytes)
+    bytes
 }
 
 #[test]
@@ -53,9 +55,9 @@ fn lines_round_a_page(rt: HostRuntime) {
     let rows = [(8_191, 1), (8_192, 1), (8_193, 2), (25_000, 4)];
     let modes: [(Mode<'static>, &[u8]); 2] = [(Mode::Lines, b"\r\n"), (Mode::Tac, b"\n")];
     for (count, calls) in rows {
-        let output = lines_of(rt.alloc(), count, b"\n").expect(&rt, "refused");
+        let output = lines_of(&rt, count, b"\n");
         for (mode, ending) in modes {
-            let input = lines_of(rt.alloc(), count, ending).expect(&rt, "refused");
+            let input = lines_of(&rt, count, ending);
             let mut reader = Input::new(input.as_slice());
             let mut writer = Output::new(Counting::new(rt.alloc(), usize::MAX));
             let answer = engine(rt.alloc(), mode, &mut reader, &mut writer);
@@ -69,7 +71,7 @@ fn lines_round_a_page(rt: HostRuntime) {
 
 #[test]
 fn writers_that_fail_at_a_page(rt: HostRuntime) {
-    let input = lines_of(rt.alloc(), 25_000, b"\n").expect(&rt, "refused");
+    let input = lines_of(&rt, 25_000, b"\n");
     let rows = [(1, 0), (2, 65_536), (3, 131_072), (4, 196_608)];
     for (fails_at, taken) in rows {
         let mut reader = Input::new(input.as_slice());

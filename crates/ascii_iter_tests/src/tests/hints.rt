@@ -5,7 +5,8 @@ ghost use Rattle.std.specs.Iterator.{UpTo, item_count};
 ghost use Rattle.std.specs.Iterator.SizeHint.{IsWithinCount};
 ghost use Rattle.std.specs.Slice.Iter.{iter_rest};
 
-use ascii::{AsciiChar, AsciiStr, AsciiString, text};
+use super::both_ends::ascii;
+use ascii::{AsciiChar, AsciiStr, AsciiString};
 use std::slice;
 
 /// The items of a slice, with a bound from above that is told, but is no less than their number.
@@ -37,7 +38,7 @@ const PIECES: &str = "a,b,c,d,e,f,g,h,i,j,k,l,m,n,o,p,q,r,s,t,u,v,w,x,y,z,0,1,2,
 #[test]
 fn all_characters_come(rt: HostRuntime) {
     let alloc = rt.alloc();
-    let chars = view(TEXT).to_chars(alloc).expect(&rt, "refused");
+    let chars = ascii(TEXT).to_chars(alloc).expect(&rt, "refused");
     assert_eq!(rt; chars.len(), 33);
     for most in [None, Some(usize::MAX)] {
         for length in [0, 3, 33] {
@@ -58,7 +59,7 @@ fn all_characters_come(rt: HostRuntime) {
 #[test]
 fn all_views_come(rt: HostRuntime) {
     let alloc = rt.alloc();
-    let views: Vec<AsciiStr<'_>> = view(PIECES)
+    let views: Vec<AsciiStr<'_>> = ascii(PIECES)
         .split(AsciiChar::Comma)
         .collect(alloc)
         .expect(&rt, "refused");
@@ -77,9 +78,4 @@ fn all_views_come(rt: HostRuntime) {
             assert_eq!(rt; string.as_ascii_str().as_str(), TEXT);
         }
     }
-}
-
-/// The view of a text, which is empty where the text is not ASCII.
-fn view(source: &str) -> AsciiStr<'_> {
-    text::as_ascii_str(source).unwrap_or_default()
 }
