@@ -128,7 +128,7 @@ fn char_written(question: &Question<'_>) -> Result<String, Fault> {
 fn behind(question: &Question<'_>, is_ok: bool, string: &AsciiString) -> Result<String, Fault> {
     let text = question.shown(string.as_ascii_str().as_bytes())?;
     let answer = if is_ok { "ok" } else { "err" };
-    question.answer(&[answer, text.as_str()])
+    Ok(format!(in question.alloc; "{answer} {text}")?)
 }
 
 fn collected(question: &Question<'_>) -> Result<String, Fault> {
