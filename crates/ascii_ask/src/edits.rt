@@ -154,24 +154,31 @@ fn char_of(code: &str) -> Result<AsciiChar, Fault> {
 
 fn reply_word(alloc: Global, reply: &Reply) -> Result<String, Fault> {
     match reply {
-        Reply::Done => Ok(String::from_str(alloc, ".")?),
-        Reply::Char(Some(ch)) => {
-            let code = ch.as_byte();
-            Ok(format!(in alloc; "c{code}")?)
-        }
-        Reply::Char(None) => Ok(String::from_str(alloc, "c-")?),
-        Reply::Number(n) => Ok(format!(in alloc; "n{n}")?),
-        Reply::Truth(holds) => Ok(String::from_str(alloc, if *holds { "t1" } else { "t0" })?),
+        Reply::Char(Some(ch)) => numbered(alloc, "c", usize::from(ch.as_byte())),
+        Reply::Number(n) => numbered(alloc, "n", *n),
+        Reply::Refused(error) => numbered(alloc, "r", error.valid_up_to()),
         Reply::Text(text) => {
             let text = shown(alloc, text.as_ascii_str().as_bytes())?;
-            Ok(format!(in alloc; "={text}")?)
+            Ok(["=", text.as_str()].concat(alloc)?)
         }
-        Reply::BadPosition => Ok(String::from_str(alloc, "!")?),
-        Reply::Refused(error) => {
-            let place = error.valid_up_to();
-            Ok(format!(in alloc; "r{place}")?)
-        }
-        Reply::NoMemory => Ok(String::from_str(alloc, "m")?),
-        Reply::TooMany => Ok(String::from_str(alloc, "+")?),
+        other => Ok(String::from_str(alloc, sign_of(other))?),
+    }
+}
+
+/// A letter and a number.
+fn numbered(alloc: Global, letter: &str, number: usize) -> Result<String, Fault> {
+    Ok(format!(in alloc; "{letter}{number}")?)
+}
+
+/// The word of a reply that carries nothing further.
+fn sign_of(reply: &Reply) -> &'static str {
+    match reply {
+        Reply::Done => ".",
+        Reply::Char(_) => "c-",
+        Reply::Truth(true) => "t1",
+        Reply::Truth(false) => "t0",
+        Reply::BadPosition => "!",
+        Reply::NoMemory => "m",
+        _ => "+",
     }
 }

@@ -2,47 +2,56 @@
 //! what stands between the braces of a format, one of those below, and `-` for none.
 
 use crate::question::{Fault, Question};
+use std::alloc::{AllocError, Global};
 use std::fmt;
 
 /// The answer to a question whose first word ends in `call`.
 pub fn reply(question: &Question<'_>, call: &str) -> Result<String, Fault> {
-    let form = question.word(0)?;
-    let printed = match call {
-        "view" => printed(question, form, &question.text(1)?.as_ascii_str())?,
-        "string" => printed(question, form, &question.text(1)?)?,
-        "char" => printed(question, form, &question.char(1)?)?,
-        _ => return Err(Fault::Bad),
-    };
-    question.shown(printed.as_bytes())
-}
-
-fn printed<T: fmt::Display + fmt::Debug>(
-    question: &Question<'_>,
-    form: &str,
-    value: &T,
-) -> Result<String, Fault> {
-    match form {
-        "-" => Ok(format!(in question.alloc; "{value}")?),
-        ":?" => Ok(format!(in question.alloc; "{value:?}")?),
-        ":7" => Ok(format!(in question.alloc; "{value:7}")?),
-        ":>20" => Ok(format!(in question.alloc; "{value:>20}")?),
-        ":<20" => Ok(format!(in question.alloc; "{value:<20}")?),
-        ":*^33" => Ok(format!(in question.alloc; "{value:*^33}")?),
-        ":.5" => Ok(format!(in question.alloc; "{value:.5}")?),
-        _ => printed_short(question, form, value),
+    match call {
+        "view" => {
+            let source = question.text(1)?;
+            printed(question, &source.as_ascii_str())
+        }
+        "string" => printed(question, &question.text(1)?),
+        "char" => printed(question, &question.char(1)?),
+        _ => Err(Fault::Bad),
     }
 }
 
-fn printed_short<T: fmt::Display>(
+/// The forms, in the order in which they are looked up.
+static FORMS: [&str; 11] = [
+    "-", ":?", ":7", ":>20", ":<20", ":*^33", ":.5", ":.0", ":10.3", ":->12.40", ":^1",
+];
+
+fn printed<T: fmt::Display + fmt::Debug>(
     question: &Question<'_>,
-    form: &str,
     value: &T,
 ) -> Result<String, Fault> {
+    let form = question.word(0)?;
+    if !FORMS.contains(&form) {
+        return Err(Fault::Bad);
+    }
+    let text = in_form(question.alloc, form, value)?;
+    question.shown(text.as_bytes())
+}
+
+/// The text of a value in one of the forms.
+fn in_form<T: fmt::Display + fmt::Debug>(
+    alloc: Global,
+    form: &str,
+    value: &T,
+) -> Result<String, AllocError> {
     match form {
-        ":.0" => Ok(format!(in question.alloc; "{value:.0}")?),
-        ":10.3" => Ok(format!(in question.alloc; "{value:10.3}")?),
-        ":->12.40" => Ok(format!(in question.alloc; "{value:->12.40}")?),
-        ":^1" => Ok(format!(in question.alloc; "{value:^1}")?),
-        _ => Err(Fault::Bad),
+        "-" => format!(in alloc; "{value}"),
+        ":?" => format!(in alloc; "{value:?}"),
+        ":7" => format!(in alloc; "{value:7}"),
+        ":>20" => format!(in alloc; "{value:>20}"),
+        ":<20" => format!(in alloc; "{value:<20}"),
+        ":*^33" => format!(in alloc; "{value:*^33}"),
+        ":.5" => format!(in alloc; "{value:.5}"),
+        ":.0" => format!(in alloc; "{value:.0}"),
+        ":10.3" => format!(in alloc; "{value:10.3}"),
+        ":->12.40" => format!(in alloc; "{value:->12.40}"),
+        _ => format!(in alloc; "{value:^1}"),
     }
 }

@@ -49,6 +49,45 @@ impl Answers {
         Ok(())
     }
 
+    /// An answer, without what is left then.
+    fn item(&mut self, item: Option<AsciiStr<'_>>) -> Result<(), Fault> {
+        self.next()?;
+        self.view(item)
+    }
+
+    /// An answer, and what is left then.
+    fn item_and_rest(
+        &mut self,
+        item: Option<AsciiStr<'_>>,
+        rest: Option<AsciiStr<'_>>,
+    ) -> Result<(), Fault> {
+        self.item(item)?;
+        self.text("/")?;
+        self.view(rest)
+    }
+
+    /// An answer with its start and how it ends, and what is left then.
+    fn span_and_rest(
+        &mut self,
+        span: Option<(usize, AsciiStr<'_>)>,
+        ending: &str,
+        rest: Option<(usize, AsciiStr<'_>)>,
+    ) -> Result<(), Fault> {
+        self.next()?;
+        self.placed(span)?;
+        self.text(ending)?;
+        self.text("/")?;
+        self.placed(rest)
+    }
+
+    /// The code of a character, and what is left then.
+    fn code_and_rest(&mut self, code: u32, rest: AsciiStr<'_>) -> Result<(), Fault> {
+        self.next()?;
+        let code = format!(in self.alloc; "{code}/")?;
+        self.text(code.as_str())?;
+        self.view(Some(rest))
+    }
+
     fn view(&mut self, view: Option<AsciiStr<'_>>) -> Result<(), Fault> {
         match view {
             Some(view) => {
@@ -82,8 +121,7 @@ fn split(question: &Question<'_>) -> Result<String, Fault> {
     let mut answers = Answers::new(question.alloc);
     let mut pieces = source.as_ascii_str().split(on);
     for end in &question.script(2)? {
-        answers.next()?;
-        answers.view(take_end(&mut pieces, *end))?;
+        answers.item(take_end(&mut pieces, *end))?;
     }
     Ok(answers.said)
 }
@@ -93,8 +131,7 @@ fn lines(question: &Question<'_>) -> Result<String, Fault> {
     let mut answers = Answers::new(question.alloc);
     let mut lines = source.as_ascii_str().lines();
     for end in &question.script(1)? {
-        answers.next()?;
-        answers.view(take_end(&mut lines, *end))?;
+        answers.item(take_end(&mut lines, *end))?;
     }
     Ok(answers.said)
 }
@@ -105,10 +142,8 @@ fn split_rests(question: &Question<'_>) -> Result<String, Fault> {
     let mut answers = Answers::new(question.alloc);
     let mut pieces = source.as_ascii_str().split(on);
     for end in &question.script(2)? {
-        answers.next()?;
-        answers.view(take_end(&mut pieces, *end))?;
-        answers.text("/")?;
-        answers.view(pieces.remainder())?;
+        let piece = take_end(&mut pieces, *end);
+        answers.item_and_rest(piece, pieces.remainder())?;
     }
     Ok(answers.said)
 }
@@ -118,10 +153,8 @@ fn line_rests(question: &Question<'_>) -> Result<String, Fault> {
     let mut answers = Answers::new(question.alloc);
     let mut lines = source.as_ascii_str().lines();
     for end in &question.script(1)? {
-        answers.next()?;
-        answers.view(take_end(&mut lines, *end))?;
-        answers.text("/")?;
-        answers.view(lines.remainder())?;
+        let line = take_end(&mut lines, *end);
+        answers.item_and_rest(line, lines.remainder())?;
     }
     Ok(answers.said)
 }
@@ -137,10 +170,8 @@ fn split_spans(question: &Question<'_>) -> Result<String, Fault> {
     let mut answers = Answers::new(question.alloc);
     let mut spans = view.split_spans_from(on, from);
     for end in &question.script(3)? {
-        answers.next()?;
-        answers.placed(piece_parts(take_end(&mut spans, *end)))?;
-        answers.text("/")?;
-        answers.placed(spans.remainder())?;
+        let piece = piece_parts(take_end(&mut spans, *end));
+        answers.span_and_rest(piece, "", spans.remainder())?;
     }
     Ok(answers.said)
 }
@@ -161,11 +192,7 @@ fn line_spans(question: &Question<'_>) -> Result<String, Fault> {
     let mut spans = view.line_spans_from(from);
     for end in &question.script(2)? {
         let span = take_end(&mut spans, *end);
-        answers.next()?;
-        answers.placed(line_parts(span))?;
-        answers.text(ending(span))?;
-        answers.text("/")?;
-        answers.placed(spans.remainder())?;
+        answers.span_and_rest(line_parts(span), ending(span), spans.remainder())?;
     }
     Ok(answers.said)
 }
@@ -193,11 +220,8 @@ fn chars(question: &Question<'_>) -> Result<String, Fault> {
     let mut chars = source.as_ascii_str().chars();
     for end in &question.script(1)? {
         let ch = take_end(&mut chars, *end);
-        answers.next()?;
         let code = ch.map_or(128, |ch| u32::from(ch.as_byte()));
-        let code = format!(in question.alloc; "{code}/")?;
-        answers.text(code.as_str())?;
-        answers.view(Some(chars.as_str()))?;
+        answers.code_and_rest(code, chars.as_str())?;
     }
     Ok(answers.said)
 }

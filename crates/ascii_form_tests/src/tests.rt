@@ -7,7 +7,6 @@ mod picks;
 mod random_runs;
 mod rows;
 mod small;
-mod uses;
 
 use std::fmt::Debug;
 use std::process::Abort;

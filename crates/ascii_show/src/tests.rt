@@ -3,21 +3,14 @@
 mod failing;
 
 use super::*;
-use std::alloc::Global;
+use std::fmt::Debug;
 use std::process::Abort;
 
 const USAGE: &str = "usage: ascii_show copy|lines|tac|caret|ends [-s] SCRIPT|edit WORD..|json\n";
 
-/// The status, the output and the line of a run of these words.
-fn shown(
-    alloc: Global,
-    words: &[&str],
-    input: &[u8],
-) -> Result<(u8, Vec<u8>, Vec<u8>), AllocError> {
-    let mut output = Vec::new(alloc);
-    let mut errors = Vec::new(alloc);
-    let status = show(alloc, words, input, &mut output, &mut errors);
-    Ok((status, output, errors))
+/// Fails the test where what was got is not what is wanted, and shows both.
+fn same<T: PartialEq + Debug + Drop>(rt: &impl Abort, got: T, want: T) {
+    assert_eq!(rt; got, want);
 }
 
 struct Row {
@@ -89,10 +82,12 @@ const COPIES: &[Row] = &[
 
 fn compare<R: Abort + AllocGlobal>(rt: &R, rows: &[Row]) {
     for row in rows {
-        let (status, output, line) = shown(rt.alloc(), row.words, row.input).expect(rt, "refused");
-        assert_eq!(rt; output.as_slice(), row.output);
-        assert_eq!(rt; line.as_slice(), row.line.as_bytes());
-        assert_eq!(rt; status, row.status);
+        let mut output = Vec::new(rt.alloc());
+        let mut errors = Vec::new(rt.alloc());
+        let status = show(rt.alloc(), row.words, row.input, &mut output, &mut errors);
+        same(rt, output.as_slice(), row.output);
+        same(rt, errors.as_slice(), row.line.as_bytes());
+        same(rt, status, row.status);
     }
 }
 

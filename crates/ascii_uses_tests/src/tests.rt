@@ -1,13 +1,18 @@
-//! Each public call of the cookbook's readers, on texts that are written out by hand, and over sources that give little
+//! Each public call of the cookbook once, on texts that are written out by hand, and over sources that give little
 //! at a call or fail.
 
+mod forms;
 mod headers;
 mod hosts;
+mod iterators;
 mod last_lines;
 mod line_reader;
+mod parts;
 mod screen;
 mod settings;
+mod spans;
 mod table;
+mod values;
 
 use ascii::{AsciiStr, text};
 use std::fmt::Debug;
@@ -21,4 +26,10 @@ fn ascii(source: &str) -> AsciiStr<'_> {
 /// Fails the test where what was got is not what is wanted, and shows both.
 fn same<T: PartialEq + Debug + Drop>(rt: &impl Abort, got: T, want: T) {
     assert_eq!(rt; got, want);
+}
+
+/// Fails the test where `{:?}` prints another text of the value.
+fn shows<R: Abort + AllocGlobal>(rt: &R, value: &impl Debug, want: &str) {
+    let text = format!(in rt.alloc(); "{value:?}").expect(rt, "refused");
+    same(rt, text.as_str(), want);
 }

@@ -6,6 +6,7 @@ ghost use Rattle.std.specs.Iterator.SizeHint.{IsWithinCount};
 ghost use Rattle.std.specs.Slice.Iter.{iter_rest};
 
 use super::both_ends::ascii;
+use super::same;
 use ascii::{AsciiChar, AsciiStr, AsciiString};
 use std::slice;
 
@@ -46,12 +47,12 @@ fn all_characters_come(rt: HostRuntime) {
             let mut string = AsciiString::collect_chars(alloc, Loose { items, most }).expect(
                 &rt, "refused",
             );
-            assert_eq!(rt; string.as_ascii_str().as_str(), &TEXT[..length]);
+            same(&rt, string.as_ascii_str().as_str(), &TEXT[..length]);
             let items = chars[length..].iter();
             string
                 .extend_chars(Loose { items, most })
                 .expect(&rt, "refused");
-            assert_eq!(rt; string.as_ascii_str().as_str(), TEXT);
+            same(&rt, string.as_ascii_str().as_str(), TEXT);
         }
     }
 }
@@ -70,12 +71,12 @@ fn all_views_come(rt: HostRuntime) {
             let mut string = AsciiString::collect_strs(alloc, Loose { items, most }).expect(
                 &rt, "refused",
             );
-            assert_eq!(rt; string.as_ascii_str().as_str(), &TEXT[..length]);
+            same(&rt, string.as_ascii_str().as_str(), &TEXT[..length]);
             let items = views[length..].iter();
             string
                 .extend_strs(Loose { items, most })
                 .expect(&rt, "refused");
-            assert_eq!(rt; string.as_ascii_str().as_str(), TEXT);
+            same(&rt, string.as_ascii_str().as_str(), TEXT);
         }
     }
 }

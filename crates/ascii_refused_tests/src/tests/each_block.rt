@@ -1,6 +1,7 @@
 //! Runs of a call whose memory is the program's own: all that there is is taken first, and then none, one, two and
 //! more blocks are let go.
 
+use super::each_growth::right;
 use ascii::AsciiChar;
 use ascii_run::{AsciiBuf, SmallAsciiString};
 use std::alloc::{AllocError, Global};
@@ -9,7 +10,7 @@ use std::fmt::Write;
 use std::process::Abort;
 
 /// More blocks than any call of these tests takes.
-const MANY: usize = 1_000;
+const MANY: u64 = 1_000;
 
 /// Bytes that are enough for what a run prepares before its call.
 const ROOM: usize = 1 << 30;
@@ -46,7 +47,7 @@ fn most_memory(alloc: Global) -> Result<Vec<Vec<u8>>, AllocError> {
 }
 
 /// The memory that a run takes before its call: all that is left but this many blocks, or none.
-pub type Left = Option<usize>;
+pub type Left = Option<u64>;
 
 /// Memory that is taken, and a line that has its room.
 #[derive(Drop)]
@@ -64,7 +65,7 @@ impl Scarce {
             return Ok(Scarce { held, line });
         };
         let mut held = all_memory(alloc)?;
-        held.truncate(held.len().saturating_sub(blocks));
+        held.truncate(held.len().saturating_sub(blocks as usize));
         Ok(Scarce { held, line })
     }
 
@@ -101,23 +102,20 @@ where
 {
     let ample = wanted.last().copied();
     let Ok(_held) = most_memory(rt.alloc()) else {
-        assert_eq!(rt;
-            Some(run(None).expect(rt, "refused").as_str()),
-            ample,
-            "{call}"
-        );
+        let said = run(None).expect(rt, "refused");
+        right(rt, ample == Some(said.as_str()), call, 0, said.as_str());
         return;
     };
     for blocks in 0..MANY {
         let said = run(Some(blocks)).expect(rt, "refused");
         let answer = said.as_str();
-        assert!(rt;
-            wanted.contains(&answer),
-            "{call}, {blocks} blocks: {answer}"
-        );
-        assert!(rt;
-            blocks > 0 || wanted.first() == Some(&answer),
-            "{call}, no memory: {answer}"
+        let is_first = blocks > 0 || wanted.first() == Some(&answer);
+        right(
+            rt,
+            is_first && wanted.contains(&answer),
+            call,
+            blocks,
+            answer,
         );
         if ample == Some(answer) {
             return;

@@ -12,6 +12,11 @@ pub type Heap = Refusing<Global>;
 /// More growths than any call of these tests makes.
 const MANY: u64 = 400;
 
+/// Fails the test where a run of a call is wrong, and shows what it answered.
+pub fn right<R: Abort>(rt: &R, is_right: bool, call: &str, run: u64, answer: &str) {
+    assert!(rt; is_right, "{call}, run {run}: {answer}");
+}
+
 /// Runs a call with its first growth refused, then with its second, until a run meets no refusal. What the
 /// runs answer is `wanted`, in this order and each as often as it comes; the last is the answer with ample
 /// memory. A run with an error was refused before its call began, and is passed over.
@@ -30,13 +35,19 @@ where
                     wanted = from_answer(wanted, answer.as_str());
                 }
                 answered = true;
-                let next = wanted.first().copied();
-                assert_eq!(rt; Some(answer.as_str()), next, "{call}, growth {left}");
+                let is_next = wanted.first() == Some(&answer.as_str());
+                right(rt, is_next, call, left, answer.as_str());
             }
-            Err(_) => assert!(rt; heap.met(), "{call}, growth {left}"),
+            Err(_) => right(rt, heap.met(), call, left, "refused"),
         }
         if !heap.met() {
-            assert_eq!(rt; wanted.len(), 1, "{call}, growth {left}");
+            right(
+                rt,
+                wanted.len() == 1,
+                call,
+                left,
+                "other answers were to come",
+            );
             return;
         }
     }

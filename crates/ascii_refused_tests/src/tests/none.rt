@@ -1,6 +1,6 @@
 //! Calls that ask for no memory, with none to be had.
 
-use super::each_growth::{Heap, shown, told, view};
+use super::each_growth::{Heap, right, shown, view};
 use ascii::iter::{End, walk_line_spans, walk_lines, walk_split, walk_split_spans};
 use ascii::json::string_from_json;
 use ascii::{AsciiChar, AsciiStr, AsciiString, bytes, text, vec};
@@ -50,12 +50,9 @@ fn nothing_to_add(rt: HostRuntime) {
     let alloc = rt.alloc();
     for &(call, wanted) in &ADDED {
         let heap = Refusing::new(alloc, 0);
-        assert_eq!(rt;
-            on_empty(alloc, &heap, call).expect(&rt, "refused").as_str(),
-            wanted,
-            "{call}"
-        );
-        assert!(rt; !heap.met(), "{call}");
+        let said = on_empty(alloc, &heap, call).expect(&rt, "refused");
+        let answer = said.as_str();
+        right(&rt, answer == wanted && !heap.met(), call, 0, answer);
     }
 }
 
@@ -99,12 +96,9 @@ fn nothing_to_make(rt: HostRuntime) {
     let alloc = rt.alloc();
     for &(call, wanted) in &MADE {
         let heap = Refusing::new(alloc, 0);
-        assert_eq!(rt;
-            made(alloc, &heap, call).expect(&rt, "refused").as_str(),
-            wanted,
-            "{call}"
-        );
-        assert!(rt; !heap.met(), "{call}");
+        let said = made(alloc, &heap, call).expect(&rt, "refused");
+        let answer = said.as_str();
+        right(&rt, answer == wanted && !heap.met(), call, 0, answer);
     }
 }
 
@@ -114,10 +108,7 @@ fn buffers_are_kept(rt: HostRuntime) {
     let heap = Refusing::new(alloc, 1);
     let mut buffer = Vec::with_capacity(&heap, 3).expect(&rt, "refused");
     buffer.extend_from_slice(b"abc").expect(&rt, "refused");
-    let answer = vec::into_ascii_string(buffer);
-    assert!(rt; !heap.met());
-    assert_eq!(rt;
-        shown(alloc, answer).expect(&rt, "refused").as_str(),
-        "Ok(\"abc\")"
-    );
+    let said = shown(alloc, vec::into_ascii_string(buffer)).expect(&rt, "refused");
+    let is_kept = said.as_str() == "Ok(\"abc\")" && !heap.met();
+    right(&rt, is_kept, "into_ascii_string", 0, said.as_str());
 }

@@ -1,6 +1,6 @@
 //! Calls that turn a value into another one: where memory is refused, the value comes back or stays.
 
-use super::each_growth::{Heap, each_growth, shown, view};
+use super::each_growth::{Heap, each_growth, right, shown, view};
 use ascii::json::{JsonError, string_from_json};
 use ascii::{AsciiStr, CowAsciiStr, RcAsciiStr, bytes, text};
 use serde_json::Value;
@@ -87,5 +87,6 @@ fn sources_stay(rt: HostRuntime) {
     each_growth(&rt, "string_from_json", &wanted, |heap| {
         shown(alloc, string_from_json(heap, &value))
     });
-    assert_eq!(rt; value.as_str(), Some("abc"));
+    let text = value.as_str().unwrap_or_default();
+    right(&rt, text == "abc", "string_from_json", 0, text);
 }

@@ -1,7 +1,7 @@
 //! JSON values, whose memory is the program's. The call is refused, and then gives the value.
 
 use super::each_block::{Scarce, each_block};
-use super::each_growth::view;
+use super::each_growth::{right, view};
 use ascii::AsciiChar;
 use ascii::json::char_to_json;
 use serde_json::Value;
@@ -32,7 +32,8 @@ fn of_a_string(rt: HostRuntime) {
         let scarce = Scarce::but(alloc, left).expect(&rt, "refused");
         texted(scarce, string.to_json(alloc))
     });
-    assert_eq!(rt; string.as_ascii_str().as_str(), "abc");
+    let text = string.as_ascii_str().as_str();
+    right(&rt, text == "abc", "to_json", 0, text);
 }
 
 #[test]

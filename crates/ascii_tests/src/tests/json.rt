@@ -4,7 +4,6 @@ use super::same;
 use super::views::ascii;
 use ascii::AsciiChar;
 use ascii::json::{JsonError, char_from_json, char_to_json, str_from_json, string_from_json};
-use ascii_uses::values::through_json;
 use serde_json::Value;
 
 #[test]
@@ -42,13 +41,7 @@ fn texts(rt: HostRuntime) {
             Err(_) => assert!(rt; false, "of {source}"),
         }
         match string_from_json(alloc, &value) {
-            Ok(string) => {
-                same(&rt, string.as_ascii_str().as_str(), source);
-                match through_json(alloc, &string) {
-                    Ok(copy) => assert!(rt; copy == string),
-                    Err(_) => assert!(rt; false, "of {source}"),
-                }
-            }
+            Ok(string) => same(&rt, string.as_ascii_str().as_str(), source),
             Err(_) => assert!(rt; false, "of {source}"),
         }
     }

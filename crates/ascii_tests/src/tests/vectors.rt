@@ -10,34 +10,27 @@ use std::process::Abort;
 // For sources of length 0, 1 and 33 the outcomes of the ranges in the order of `ranges`: `w` for the
 // whole source, `e` for no byte, `f` for the first byte, `r` for a refusal, which names the length.
 static OUTCOMES: [(usize, &str); 3] = [
-    (0, "wwwrrwwrrwwrrwwrrrrrrrrrrrrrrrrrrrrrrrrrrrrrr"),
-    (1, "wwerrewrrewrrrerrrrrrrrrrwrrrerrrrrrrrrrrwrrr"),
-    (33, "wwerrewrrewrrrerrrrrrrrrrfrrrrrrrrrrrrrrrfrrr"),
+    (0, "wwwrwrwrrrrrwwrwrwrrrrrrrrrrrrrrrrrrrrrrrrrrr"),
+    (1, "wwewewwrrrrrewrreerrrrrrrrrrrrrrrrrrrrrrrrrrr"),
+    (33, "wwefefwrrrrrewrrrerrrrrrrrrrrrrrrrrrrrrrrrrrr"),
 ];
 
 /// The six forms with 0, the length, one more and the largest number at each place.
 fn ranges(alloc: Global, length: usize) -> Result<Vec<AsciiRange>, AllocError> {
     let places = [0, length, length.saturating_add(1), usize::MAX];
-    let mut all = Vec::new(alloc);
-    all.push(AsciiRange::Full)?;
-    for start in places {
-        all.push(AsciiRange::From(start))?;
-    }
-    for end in places {
-        all.push(AsciiRange::To(end))?;
-    }
-    for start in places {
+    let mut all = vec![in alloc; AsciiRange::Full]?;
+    for place in places {
+        all.extend_from_slice(&[
+            AsciiRange::From(place),
+            AsciiRange::To(place),
+            AsciiRange::ToInclusive(place),
+        ])?;
         for end in places {
-            all.push(AsciiRange::Range(start, end))?;
+            all.extend_from_slice(&[
+                AsciiRange::Range(place, end),
+                AsciiRange::Inclusive(place, end),
+            ])?;
         }
-    }
-    for start in places {
-        for end in places {
-            all.push(AsciiRange::Inclusive(start, end))?;
-        }
-    }
-    for end in places {
-        all.push(AsciiRange::ToInclusive(end))?;
     }
     Ok(all)
 }

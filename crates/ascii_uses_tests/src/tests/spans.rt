@@ -1,7 +1,6 @@
 //! The callers of the iterators with starts, fronts and remainders, each once.
 
-use super::shows;
-use super::views::ascii;
+use super::{ascii, shows};
 use ascii::AsciiChar;
 use ascii::iter::End;
 use ascii_uses::fronts::{first_bodies, first_line_spans, first_piece_spans, first_pieces};

@@ -1,7 +1,6 @@
-//! The callers of the iterators, each once.
+//! The callers of the iterators and of the calls of a string, each once.
 
-use super::shows;
-use super::views::ascii;
+use super::{ascii, shows};
 use ascii::{AsciiChar, AsciiString};
 use ascii_uses::iterators::{
     bodies_reversed, bracketed, line_lengths, piece_count, piece_lengths, push_upper, quoted,
