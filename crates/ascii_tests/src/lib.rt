@@ -1,4 +1,4 @@
-//! The tests that cross crates: each public call on sources whose outcome is known from outside.
+//! The tests of `ascii`, in a crate of their own, since a crate with tests is proved once more with them.
 #![tactic(auto)]
 
 #[cfg(test)]

@@ -1,7 +1,6 @@
 //! Characters and texts as JSON values.
 
-use super::same;
-use super::views::ascii;
+use super::{ascii, same};
 use ascii::AsciiChar;
 use ascii::json::{JsonError, char_from_json, char_to_json, str_from_json, string_from_json};
 use serde_json::Value;

@@ -1,7 +1,6 @@
 //! Owned text: edits, conversions, collecting and printing.
 
-use super::same;
-use super::views::ascii;
+use super::{ascii, same};
 use ascii::{
     AsciiChar, AsciiStr, AsciiString, BoxedAsciiStr, CopyError, CowAsciiStr, RcAsciiStr, bytes,
     string, text, vec,

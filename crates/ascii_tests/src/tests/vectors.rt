@@ -1,7 +1,7 @@
 //! Vectors that were made with the Rust crate.
 
-use super::same;
-use super::views::{ascii, outcome};
+use super::views::outcome;
+use super::{ascii, same};
 use ascii::{AsciiChar, AsciiRange, bytes, text};
 use std::alloc::{AllocError, Global};
 use std::cmp::Ordering;

@@ -1,13 +1,8 @@
 //! Views: slices, reads, trims and comparisons.
 
-use super::same;
+use super::{ascii, same};
 use ascii::{AsAsciiStrError, AsciiChar, AsciiRange, AsciiStr, bytes, text};
 use std::cmp::Ordering;
-
-/// The view of a text that is ASCII.
-pub fn ascii(source: &str) -> AsciiStr<'_> {
-    text::as_ascii_str(source).unwrap_or_default()
-}
 
 /// What a slice gave: its text, or the position of the refusal.
 pub fn outcome(slice: Result<AsciiStr<'_>, AsAsciiStrError>) -> Result<&str, usize> {

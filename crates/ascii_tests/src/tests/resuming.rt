@@ -1,7 +1,7 @@
 //! Walks that stop at each place and go on over what is left give what an unbroken walk gives.
 
-use super::both_ends::{ascii, scripts};
-use super::walk_on;
+use super::ascii;
+use super::both_ends::{scripts, walk_on};
 use ascii::iter::{
     End, LineSpan, SplitSpan, walk_line_spans, walk_lines, walk_split, walk_split_spans,
 };

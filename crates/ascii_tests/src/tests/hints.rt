@@ -5,8 +5,7 @@ ghost use Rattle.std.specs.Iterator.{UpTo, item_count};
 ghost use Rattle.std.specs.Iterator.SizeHint.{IsWithinCount};
 ghost use Rattle.std.specs.Slice.Iter.{iter_rest};
 
-use super::both_ends::ascii;
-use super::same;
+use super::{ascii, same};
 use ascii::{AsciiChar, AsciiStr, AsciiString};
 use std::slice;
 

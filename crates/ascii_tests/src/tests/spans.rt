@@ -1,7 +1,7 @@
 //! Pieces and lines with their starts, and what is left of them.
 
-use super::both_ends::{ascii, ends};
-use super::same;
+use super::both_ends::ends;
+use super::{ascii, same};
 use ascii::iter::{End, Ending, LineSpan, SplitSpan, take_end, walk_line_spans, walk_split_spans};
 use ascii::{AsciiChar, AsciiStr};
 use std::alloc::{AllocError, Global};

@@ -1,15 +1,10 @@
 //! Characters, pieces and lines from both ends.
 
-use super::same;
-use ascii::iter::{End, walk_lines, walk_split};
-use ascii::{AsciiChar, AsciiStr, AsciiString, text};
+use super::{ascii, same};
+use ascii::iter::{End, take_end, walk_lines, walk_split};
+use ascii::{AsciiChar, AsciiStr, AsciiString};
 use std::alloc::{AllocError, Global};
 use std::process::Abort;
-
-/// The view of a text that is ASCII.
-pub fn ascii(source: &str) -> AsciiStr<'_> {
-    text::as_ascii_str(source).unwrap_or_default()
-}
 
 /// The ends that the letters `F` and `B` name.
 pub fn ends(alloc: Global, letters: &str) -> Result<Vec<End>, AllocError> {
@@ -23,6 +18,22 @@ pub fn ends(alloc: Global, letters: &str) -> Result<Vec<End>, AllocError> {
             }
         })
         .collect(alloc)
+}
+
+/// Walks on over a script of ends, and adds an answer for each.
+pub fn walk_on<I: DoubleEndedIterator>(
+    rt: &impl Abort,
+    items: &mut I,
+    script: &[End],
+    answers: &mut Vec<Option<I::Item>>,
+)
+where
+    I::Item: Drop,
+    requires { (s : I) → I.can_next s × I.can_next_back s }
+{
+    for end in script {
+        answers.push(take_end(items, *end)).expect(rt, "refused");
+    }
 }
 
 /// The answers of a walk, each with a bar behind it, and `~` for a `None`.

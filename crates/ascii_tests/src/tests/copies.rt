@@ -1,8 +1,8 @@
 //! Iterators that are cloned at each step: the clone and the iterator both go on as the unbroken walk does.
 
-use super::both_ends::{ascii, scripts};
+use super::ascii;
+use super::both_ends::{scripts, walk_on};
 use super::resuming::cut_at;
-use super::walk_on;
 use ascii::AsciiChar;
 use ascii::iter::End;
 use std::fmt::Debug;

@@ -1,6 +1,0 @@
-//! The tests of the iterators over pieces and lines, in a crate of their own, since each is proved before it
-//! runs.
-#![tactic(auto)]
-
-#[cfg(test)]
-mod tests;
