@@ -1,8 +1,8 @@
 //! Lists of edits over both forms, against a table that was made with the Rust crate.
 
 use super::edit_table::RAN;
-use super::picks::{Picks, view};
-use super::same;
+use super::picks::Picks;
+use super::{ascii, same};
 use ascii_run::{Cmd, Reply, run_both};
 use std::alloc::{AllocError, Global};
 
@@ -54,7 +54,7 @@ fn as_the_rust_crate(rt: HostRuntime) {
     for line in RAN.lines() {
         number = number.saturating_add(1);
         let cmds = edits(alloc, number).expect(&rt, "refused");
-        let both = run_both(alloc, view(""), &cmds).expect(&rt, "refused");
+        let both = run_both(alloc, ascii(""), &cmds).expect(&rt, "refused");
         let mut shown = taken(alloc, &both.replies).expect(&rt, "refused");
         shown.push(':').expect(&rt, "refused");
         shown

@@ -1,6 +1,7 @@
 //! Choices that look random.
 
-use ascii::{AsciiRange, AsciiStr, text};
+use super::ascii;
+use ascii::{AsciiRange, AsciiStr};
 
 /// Numbers that look random, the same at each run.
 #[derive(Drop)]
@@ -27,13 +28,8 @@ impl Picks {
     pub fn piece(&mut self) -> AsciiStr<'static> {
         let start = self.below(20);
         let end = start.saturating_add(self.below(6));
-        view("abcdefghijklmnopqrstuvwxyz")
+        ascii("abcdefghijklmnopqrstuvwxyz")
             .slice_ascii(AsciiRange::Range(start, end))
             .unwrap_or_default()
     }
-}
-
-/// The view of a text, which is empty where the text is not ASCII.
-pub fn view(source: &str) -> AsciiStr<'_> {
-    text::as_ascii_str(source).unwrap_or_default()
 }

@@ -1,7 +1,7 @@
 //! Runs of all kinds of commands over both forms, against each other.
 
-use super::picks::{Picks, view};
-use super::same;
+use super::picks::Picks;
+use super::{ascii, same};
 use ascii::{AsciiChar, AsciiRange};
 use ascii_run::{Cmd, Reply, run_both};
 use std::alloc::{AllocError, Global};
@@ -66,7 +66,7 @@ fn of_all_kinds(rt: HostRuntime) {
         for _ in 0..number {
             cmds.push(any_command(&mut picks)).expect(&rt, "refused");
         }
-        let both = run_both(alloc, view("Some"), &cmds).expect(&rt, "refused");
+        let both = run_both(alloc, ascii("Some"), &cmds).expect(&rt, "refused");
         same(
             &rt,
             shown(alloc, &both.small_replies)

@@ -1,7 +1,6 @@
 //! Runs over both forms whose replies and texts are known from outside.
 
-use super::picks::view;
-use super::same;
+use super::{ascii, same};
 use ascii::{AsciiChar, AsciiRange, AsciiString};
 use ascii_run::{AsciiBuf, Cmd, SmallAsciiString, run};
 use std::alloc::{AllocError, Global};
@@ -19,13 +18,13 @@ fn ran<B: AsciiBuf>(alloc: Global, buf: &mut B, cmds: &[Cmd<'_>]) -> Result<Stri
 
 /// The same over the form that keeps short texts inline.
 fn ran_inline(alloc: Global, start: &str, cmds: &[Cmd<'_>]) -> Result<String, AllocError> {
-    let mut buf = SmallAsciiString::from_ascii_str(alloc, view(start))?;
+    let mut buf = SmallAsciiString::from_ascii_str(alloc, ascii(start))?;
     ran(alloc, &mut buf, cmds)
 }
 
 /// The same over the form that keeps all texts in an allocation.
 fn ran_on_the_heap(alloc: Global, start: &str, cmds: &[Cmd<'_>]) -> Result<String, AllocError> {
-    let mut buf: AsciiString = view(start).to_ascii_string(alloc)?;
+    let mut buf: AsciiString = ascii(start).to_ascii_string(alloc)?;
     ran(alloc, &mut buf, cmds)
 }
 
@@ -86,7 +85,7 @@ fn one_of_each_reply(rt: HostRuntime) {
         Cmd::Set(3, AsciiChar::z),
         Cmd::Truncate(1),
         Cmd::Upper,
-        Cmd::EqIgnoreCase(view("b")),
+        Cmd::EqIgnoreCase(ascii("b")),
         Cmd::Copy(AsciiRange::From(2)),
         Cmd::Copy(AsciiRange::Inclusive(1, 0)),
         Cmd::Reserve(usize::MAX),
@@ -103,15 +102,15 @@ fn one_of_each_reply(rt: HostRuntime) {
 /// What some edits of `abc` take out, and the texts behind them.
 fn edited<B: AsciiBuf>(alloc: Global, buf: &mut B) -> Result<String, AllocError> {
     let mut shown = String::new(alloc);
-    buf.push_str(view("abc"))?;
+    buf.push_str(ascii("abc"))?;
     if 1 <= buf.as_ascii_str().len() {
-        buf.insert_str(1, view("def"))?;
+        buf.insert_str(1, ascii("def"))?;
     }
     if 6 <= buf.as_ascii_str().len() {
         buf.insert(6, AsciiChar::x)?;
     }
     buf.truncate(9);
-    buf.push_str(view(""))?;
+    buf.push_str(ascii(""))?;
     buf.make_ascii_uppercase();
     shown.push_str(buf.as_ascii_str().as_str())?;
     buf.make_ascii_lowercase();

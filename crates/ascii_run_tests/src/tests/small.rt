@@ -1,7 +1,6 @@
 //! Each call of the form that keeps short texts inline.
 
-use super::picks::view;
-use super::same;
+use super::{ascii, same};
 use ascii_run::{AsciiBuf, SmallAsciiString};
 use std::cmp::Ordering;
 use std::collections::HashSet;
@@ -10,7 +9,7 @@ use std::process::Abort;
 
 /// The inline form of a text.
 fn small<R: Abort + AllocGlobal>(rt: &R, source: &str) -> SmallAsciiString {
-    SmallAsciiString::from_ascii_str(rt.alloc(), view(source)).expect(rt, "refused")
+    SmallAsciiString::from_ascii_str(rt.alloc(), ascii(source)).expect(rt, "refused")
 }
 
 /// The text of a string.
