@@ -13,95 +13,115 @@ use std::collections::HashSet;
 #[test]
 fn ascii_char_1(rt: HostRuntime) {
     let alloc = rt.alloc();
-    // ascii_char::AsciiChar
-    shows(&rt, alloc, &AsciiChar::A.as_byte(), "65");
-    // AsciiChar::from_ascii
-    shows(&rt, alloc, &AsciiChar::from_ascii(b'a'), "Ok('a')");
     shows(
         &rt,
         alloc,
-        &AsciiChar::from_ascii('č'),
-        "Err(not an ASCII character)",
+        &(
+            // ascii_char::AsciiChar
+            AsciiChar::A.as_byte(),
+            // AsciiChar::from_ascii
+            AsciiChar::from_ascii(b'a'),
+            AsciiChar::from_ascii('č'),
+            // AsciiChar::new
+            AsciiChar::new('!'),
+            // AsciiChar::from_ascii_unchecked
+            AsciiChar::from_ascii_unchecked(0x61),
+            // AsciiChar::as_byte
+            AsciiChar::LineFeed.as_byte(),
+            // AsciiChar::as_char
+            AsciiChar::Slash.as_char(),
+        ),
+        "(65, Ok('a'), Err(not an ASCII character), '!', 'a', 10, '/')",
     );
-    // AsciiChar::new
-    shows(&rt, alloc, &AsciiChar::new('!'), "'!'");
-    // AsciiChar::from_ascii_unchecked
-    shows(&rt, alloc, &AsciiChar::from_ascii_unchecked(0x61), "'a'");
-    // AsciiChar::as_byte
-    shows(&rt, alloc, &AsciiChar::LineFeed.as_byte(), "10");
-    // AsciiChar::as_char
-    shows(&rt, alloc, &AsciiChar::Slash.as_char(), "'/'");
 }
 
 #[test]
 fn ascii_char_2(rt: HostRuntime) {
     let alloc = rt.alloc();
-    // AsciiChar::is_alphabetic
-    shows(&rt, alloc, &AsciiChar::a.is_alphabetic(), "true");
-    // AsciiChar::is_ascii_alphabetic
-    shows(&rt, alloc, &AsciiChar::_7.is_ascii_alphabetic(), "false");
-    // AsciiChar::is_digit
-    shows(&rt, alloc, &AsciiChar::f.is_digit(16), "true");
-    shows(&rt, alloc, &AsciiChar::f.is_digit(10), "false");
-    // AsciiChar::is_ascii_digit
-    shows(&rt, alloc, &AsciiChar::_7.is_ascii_digit(), "true");
-    // AsciiChar::is_alphanumeric
     shows(
         &rt,
         alloc,
-        &AsciiChar::UnderScore.is_alphanumeric(),
-        "false",
+        &(
+            // AsciiChar::is_alphabetic
+            AsciiChar::a.is_alphabetic(),
+            // AsciiChar::is_ascii_alphabetic
+            AsciiChar::_7.is_ascii_alphabetic(),
+            // AsciiChar::is_digit
+            AsciiChar::f.is_digit(16),
+            AsciiChar::f.is_digit(10),
+            // AsciiChar::is_ascii_digit
+            AsciiChar::_7.is_ascii_digit(),
+            // AsciiChar::is_alphanumeric
+            AsciiChar::UnderScore.is_alphanumeric(),
+            // AsciiChar::is_ascii_alphanumeric
+            AsciiChar::_7.is_ascii_alphanumeric(),
+        ),
+        "(true, false, true, false, true, false, true)",
     );
-    // AsciiChar::is_ascii_alphanumeric
-    shows(&rt, alloc, &AsciiChar::_7.is_ascii_alphanumeric(), "true");
 }
 
 #[test]
 fn ascii_char_3(rt: HostRuntime) {
     let alloc = rt.alloc();
-    // AsciiChar::is_ascii_blank
-    shows(&rt, alloc, &AsciiChar::Tab.is_ascii_blank(), "true");
-    shows(&rt, alloc, &AsciiChar::LineFeed.is_ascii_blank(), "false");
-    // AsciiChar::is_whitespace
-    shows(&rt, alloc, &AsciiChar::VT.is_whitespace(), "true");
-    // AsciiChar::is_ascii_whitespace
-    shows(&rt, alloc, &AsciiChar::VT.is_ascii_whitespace(), "false");
-    // AsciiChar::is_ascii_control
-    shows(&rt, alloc, &AsciiChar::DEL.is_ascii_control(), "true");
-    // AsciiChar::is_ascii_graphic
-    shows(&rt, alloc, &AsciiChar::Space.is_ascii_graphic(), "false");
-    // AsciiChar::is_ascii_printable
-    shows(&rt, alloc, &AsciiChar::Space.is_ascii_printable(), "true");
+    shows(
+        &rt,
+        alloc,
+        &(
+            // AsciiChar::is_ascii_blank
+            AsciiChar::Tab.is_ascii_blank(),
+            AsciiChar::LineFeed.is_ascii_blank(),
+            // AsciiChar::is_whitespace
+            AsciiChar::VT.is_whitespace(),
+            // AsciiChar::is_ascii_whitespace
+            AsciiChar::VT.is_ascii_whitespace(),
+            // AsciiChar::is_ascii_control
+            AsciiChar::DEL.is_ascii_control(),
+            // AsciiChar::is_ascii_graphic
+            AsciiChar::Space.is_ascii_graphic(),
+            // AsciiChar::is_ascii_printable
+            AsciiChar::Space.is_ascii_printable(),
+        ),
+        "(true, false, true, false, true, false, true)",
+    );
 }
 
 #[test]
 fn ascii_char_4(rt: HostRuntime) {
     let alloc = rt.alloc();
-    // AsciiChar::is_lowercase
-    shows(&rt, alloc, &AsciiChar::a.is_lowercase(), "true");
-    // AsciiChar::is_ascii_lowercase
-    shows(&rt, alloc, &AsciiChar::A.is_ascii_lowercase(), "false");
-    // AsciiChar::is_uppercase
-    shows(&rt, alloc, &AsciiChar::A.is_uppercase(), "true");
-    // AsciiChar::is_ascii_uppercase
-    shows(&rt, alloc, &AsciiChar::_7.is_ascii_uppercase(), "false");
-    // AsciiChar::is_ascii_punctuation
     shows(
         &rt,
         alloc,
-        &AsciiChar::Dollar.is_ascii_punctuation(),
-        "true",
+        &(
+            // AsciiChar::is_lowercase
+            AsciiChar::a.is_lowercase(),
+            // AsciiChar::is_ascii_lowercase
+            AsciiChar::A.is_ascii_lowercase(),
+            // AsciiChar::is_uppercase
+            AsciiChar::A.is_uppercase(),
+            // AsciiChar::is_ascii_uppercase
+            AsciiChar::_7.is_ascii_uppercase(),
+            // AsciiChar::is_ascii_punctuation
+            AsciiChar::Dollar.is_ascii_punctuation(),
+            // AsciiChar::is_ascii_hexdigit
+            AsciiChar::F.is_ascii_hexdigit(),
+        ),
+        "(true, false, true, false, true, true)",
     );
-    // AsciiChar::is_ascii_hexdigit
-    shows(&rt, alloc, &AsciiChar::F.is_ascii_hexdigit(), "true");
 }
 
 #[test]
 fn ascii_char_5(rt: HostRuntime) {
     let alloc = rt.alloc();
-    // AsciiChar::as_printable_char
-    shows(&rt, alloc, &AsciiChar::LineFeed.as_printable_char(), "'␊'");
-    shows(&rt, alloc, &AsciiChar::a.as_printable_char(), "'a'");
+    shows(
+        &rt,
+        alloc,
+        &(
+            // AsciiChar::as_printable_char
+            AsciiChar::LineFeed.as_printable_char(),
+            AsciiChar::a.as_printable_char(),
+        ),
+        "('␊', 'a')",
+    );
     // AsciiChar::make_ascii_uppercase
     {
         let mut ch = AsciiChar::a;
@@ -119,30 +139,39 @@ fn ascii_char_6(rt: HostRuntime) {
         ch.make_ascii_lowercase();
         shows(&rt, alloc, &ch, "'a'");
     }
-    // AsciiChar::to_ascii_uppercase
-    shows(&rt, alloc, &AsciiChar::a.to_ascii_uppercase(), "'A'");
-    // AsciiChar::to_ascii_lowercase
-    shows(&rt, alloc, &AsciiChar::A.to_ascii_lowercase(), "'a'");
-    // AsciiChar::eq_ignore_ascii_case
     shows(
         &rt,
         alloc,
-        &AsciiChar::a.eq_ignore_ascii_case(&AsciiChar::A),
-        "true",
+        &(
+            // AsciiChar::to_ascii_uppercase
+            AsciiChar::a.to_ascii_uppercase(),
+            // AsciiChar::to_ascii_lowercase
+            AsciiChar::A.to_ascii_lowercase(),
+            // AsciiChar::eq_ignore_ascii_case
+            AsciiChar::a.eq_ignore_ascii_case(&AsciiChar::A),
+        ),
+        "('A', 'a', true)",
     );
 }
 
 #[test]
 fn ascii_char_7(rt: HostRuntime) {
     let alloc = rt.alloc();
-    // Default for AsciiChar::default
-    shows(&rt, alloc, &AsciiChar::default(), "'\\0'");
-    // PartialEq for AsciiChar::eq
-    shows(&rt, alloc, &(AsciiChar::a == AsciiChar::A), "false");
-    // PartialOrd for AsciiChar::partial_cmp
-    shows(&rt, alloc, &(AsciiChar::A < AsciiChar::a), "true");
-    // Ord for AsciiChar::cmp
-    shows(&rt, alloc, &AsciiChar::a.cmp(&AsciiChar::A), "Greater");
+    shows(
+        &rt,
+        alloc,
+        &(
+            // Default for AsciiChar::default
+            AsciiChar::default(),
+            // PartialEq for AsciiChar::eq
+            AsciiChar::a == AsciiChar::A,
+            // PartialOrd for AsciiChar::partial_cmp
+            AsciiChar::A < AsciiChar::a,
+            // Ord for AsciiChar::cmp
+            AsciiChar::a.cmp(&AsciiChar::A),
+        ),
+        "('\\0', false, true, Greater)",
+    );
 }
 
 #[test]
@@ -166,22 +195,19 @@ fn ascii_char_8(rt: HostRuntime) {
 #[test]
 fn ascii_char_9(rt: HostRuntime) {
     let alloc = rt.alloc();
-    // Debug for AsciiChar::fmt
     shows(
         &rt,
         alloc,
-        &format!(in alloc; "{:?}", AsciiChar::a).expect(&rt, "refused"),
-        "\"'a'\"",
+        &(
+            // Debug for AsciiChar::fmt
+            format!(in alloc; "{:?}", AsciiChar::a).expect(&rt, "refused"),
+            // ascii_char::ToAsciiChar
+            200u8.to_ascii_char(),
+            'a'.to_ascii_char(),
+            97u32.to_ascii_char_unchecked(),
+        ),
+        "(\"'a'\", Err(not an ASCII character), Ok('a'), 'a')",
     );
-    // ascii_char::ToAsciiChar
-    shows(
-        &rt,
-        alloc,
-        &200u8.to_ascii_char(),
-        "Err(not an ASCII character)",
-    );
-    shows(&rt, alloc, &'a'.to_ascii_char(), "Ok('a')");
-    shows(&rt, alloc, &97u32.to_ascii_char_unchecked(), "'a'");
 }
 
 #[test]
@@ -201,37 +227,36 @@ fn char_1(rt: HostRuntime) {
 #[test]
 fn to_ascii_char_error_1(rt: HostRuntime) {
     let alloc = rt.alloc();
-    // ToAsciiCharError::description
     shows(
         &rt,
         alloc,
-        &200u8.to_ascii_char().map_err(|e| e.description()),
-        "Err(\"not an ASCII character\")",
-    );
-    // Debug for ToAsciiCharError::fmt
-    shows(
-        &rt,
-        alloc,
-        &200u8.to_ascii_char(),
-        "Err(not an ASCII character)",
-    );
-    // Display for ToAsciiCharError::fmt
-    shows(
-        &rt,
-        alloc,
-        &200u8.to_ascii_char().map_err(|e| e.to_string(alloc)),
-        "Err(Ok(\"not an ASCII character\"))",
+        &(
+            // ToAsciiCharError::description
+            200u8.to_ascii_char().map_err(|e| e.description()),
+            // Debug for ToAsciiCharError::fmt
+            200u8.to_ascii_char(),
+            // Display for ToAsciiCharError::fmt
+            200u8.to_ascii_char().map_err(|e| e.to_string(alloc)),
+        ),
+        "(Err(\"not an ASCII character\"), Err(not an ASCII character), Err(Ok(\"not an ASCII character\")))",
     );
 }
 
 #[test]
 fn free_functions_1(rt: HostRuntime) {
     let alloc = rt.alloc();
-    // free_functions::caret_encode
-    shows(&rt, alloc, &caret_encode(b'\n'), "Some('J')");
-    shows(&rt, alloc, &caret_encode(b'a'), "None");
-    // free_functions::caret_decode
-    shows(&rt, alloc, &caret_decode(b'J'), "Some('\\n')");
+    shows(
+        &rt,
+        alloc,
+        &(
+            // free_functions::caret_encode
+            caret_encode(b'\n'),
+            caret_encode(b'a'),
+            // free_functions::caret_decode
+            caret_decode(b'J'),
+        ),
+        "(Some('J'), None, Some('\\n'))",
+    );
 }
 
 #[test]
@@ -256,23 +281,37 @@ fn kernels_2(rt: HostRuntime) {
         lower_in_place(&mut bytes);
         shows(&rt, alloc, &(bytes == *b"ab-7"), "true");
     }
-    // kernels::eq_ignore_case
-    shows(&rt, alloc, &eq_ignore_case(b"Host", b"HOST"), "true");
-    // kernels::first_not_whitespace
-    shows(&rt, alloc, &first_not_whitespace(b" \tab"), "Some(2)");
-    shows(&rt, alloc, &first_not_whitespace(b"  "), "None");
-    // kernels::last_not_whitespace
-    shows(&rt, alloc, &last_not_whitespace(b"ab \n"), "Some(1)");
+    shows(
+        &rt,
+        alloc,
+        &(
+            // kernels::eq_ignore_case
+            eq_ignore_case(b"Host", b"HOST"),
+            // kernels::first_not_whitespace
+            first_not_whitespace(b" \tab"),
+            first_not_whitespace(b"  "),
+            // kernels::last_not_whitespace
+            last_not_whitespace(b"ab \n"),
+        ),
+        "(true, Some(2), None, Some(1))",
+    );
 }
 
 #[test]
 fn ascii_range_1(rt: HostRuntime) {
     let alloc = rt.alloc();
-    // AsciiRange::fits
-    shows(&rt, alloc, &AsciiRange::Range(1, 3).fits(3), "true");
-    shows(&rt, alloc, &AsciiRange::Range(4, 2).fits(5), "false");
-    // AsciiRange::start
-    shows(&rt, alloc, &AsciiRange::From(4).start(), "4");
-    // AsciiRange::end
-    shows(&rt, alloc, &AsciiRange::From(4).end(7), "7");
+    shows(
+        &rt,
+        alloc,
+        &(
+            // AsciiRange::fits
+            AsciiRange::Range(1, 3).fits(3),
+            AsciiRange::Range(4, 2).fits(5),
+            // AsciiRange::start
+            AsciiRange::From(4).start(),
+            // AsciiRange::end
+            AsciiRange::From(4).end(7),
+        ),
+        "(true, false, 4, 7)",
+    );
 }

@@ -143,51 +143,45 @@ fn ascii_buf_9(rt: HostRuntime) {
 #[test]
 fn small_ascii_string_1(rt: HostRuntime) {
     let alloc = rt.alloc();
-    // SmallAsciiString::new
-    shows(&rt, alloc, &SmallAsciiString::new(alloc).len(), "0");
-    // SmallAsciiString::from_ascii_str
     shows(
         &rt,
         alloc,
-        &SmallAsciiString::from_ascii_str(alloc, view("foo")).expect(&rt, "refused"),
-        "\"foo\"",
-    );
-    // SmallAsciiString::as_ascii_str
-    shows(
-        &rt,
-        alloc,
-        &SmallAsciiString::from_ascii_str(alloc, view("foo"))
-            .expect(&rt, "refused")
-            .as_ascii_str(),
-        "\"foo\"",
+        &(
+            // SmallAsciiString::new
+            SmallAsciiString::new(alloc).len(),
+            // SmallAsciiString::from_ascii_str
+            SmallAsciiString::from_ascii_str(alloc, view("foo")).expect(&rt, "refused"),
+            // SmallAsciiString::as_ascii_str
+            SmallAsciiString::from_ascii_str(alloc, view("foo"))
+                .expect(&rt, "refused")
+                .as_ascii_str(),
+        ),
+        "(0, \"foo\", \"foo\")",
     );
 }
 
 #[test]
 fn small_ascii_string_2(rt: HostRuntime) {
     let alloc = rt.alloc();
-    // SmallAsciiString::is_inline
     shows(
         &rt,
         alloc,
-        &SmallAsciiString::from_ascii_str(alloc, view("foo"))
-            .expect(&rt, "refused")
-            .is_inline(),
-        "true",
+        &(
+            // SmallAsciiString::is_inline
+            SmallAsciiString::from_ascii_str(alloc, view("foo"))
+                .expect(&rt, "refused")
+                .is_inline(),
+            // SmallAsciiString::len
+            SmallAsciiString::from_ascii_str(alloc, view("foo"))
+                .expect(&rt, "refused")
+                .len(),
+            // SmallAsciiString::is_empty
+            SmallAsciiString::new(alloc).is_empty(),
+            // SmallAsciiString::capacity
+            SmallAsciiString::new(alloc).capacity(),
+        ),
+        "(true, 3, true, 24)",
     );
-    // SmallAsciiString::len
-    shows(
-        &rt,
-        alloc,
-        &SmallAsciiString::from_ascii_str(alloc, view("foo"))
-            .expect(&rt, "refused")
-            .len(),
-        "3",
-    );
-    // SmallAsciiString::is_empty
-    shows(&rt, alloc, &SmallAsciiString::new(alloc).is_empty(), "true");
-    // SmallAsciiString::capacity
-    shows(&rt, alloc, &SmallAsciiString::new(alloc).capacity(), "24");
 }
 
 #[test]
@@ -214,46 +208,40 @@ fn small_ascii_string_3(rt: HostRuntime) {
 #[test]
 fn small_ascii_string_4(rt: HostRuntime) {
     let alloc = rt.alloc();
-    // Clone for SmallAsciiString::clone
     shows(
         &rt,
         alloc,
-        &SmallAsciiString::from_ascii_str(alloc, view("foo"))
-            .expect(&rt, "refused")
-            .clone()
-            .expect(&rt, "refused"),
-        "\"foo\"",
-    );
-    // PartialEq for SmallAsciiString::eq
-    shows(
-        &rt,
-        alloc,
-        &(SmallAsciiString::new(alloc)
-            == SmallAsciiString::from_ascii_str(alloc, view("foo")).expect(&rt, "refused")),
-        "false",
+        &(
+            // Clone for SmallAsciiString::clone
+            SmallAsciiString::from_ascii_str(alloc, view("foo"))
+                .expect(&rt, "refused")
+                .clone()
+                .expect(&rt, "refused"),
+            // PartialEq for SmallAsciiString::eq
+            SmallAsciiString::new(alloc)
+                == SmallAsciiString::from_ascii_str(alloc, view("foo")).expect(&rt, "refused"),
+        ),
+        "(\"foo\", false)",
     );
 }
 
 #[test]
 fn small_ascii_string_5(rt: HostRuntime) {
     let alloc = rt.alloc();
-    // PartialOrd for SmallAsciiString::partial_cmp
     shows(
         &rt,
         alloc,
-        &(SmallAsciiString::new(alloc)
-            < SmallAsciiString::from_ascii_str(alloc, view("foo")).expect(&rt, "refused")),
-        "true",
-    );
-    // Ord for SmallAsciiString::cmp
-    shows(
-        &rt,
-        alloc,
-        &SmallAsciiString::new(alloc).cmp(&SmallAsciiString::from_ascii_str(
-            alloc,
-            view("foo"),
-        ).expect(&rt, "refused")),
-        "Less",
+        &(
+            // PartialOrd for SmallAsciiString::partial_cmp
+            SmallAsciiString::new(alloc)
+                < SmallAsciiString::from_ascii_str(alloc, view("foo")).expect(&rt, "refused"),
+            // Ord for SmallAsciiString::cmp
+            SmallAsciiString::new(alloc).cmp(&SmallAsciiString::from_ascii_str(
+                alloc,
+                view("foo"),
+            ).expect(&rt, "refused")),
+        ),
+        "(true, Less)",
     );
 }
 
@@ -399,14 +387,16 @@ fn sink_1(rt: HostRuntime) {
 #[test]
 fn input_1(rt: HostRuntime) {
     let alloc = rt.alloc();
-    // Input::new
-    shows(&rt, alloc, &Input::new(b"ab".as_slice()).failures(), "0");
-    // Input::into_inner
     shows(
         &rt,
         alloc,
-        &Input::new(b"ab".as_slice()).into_inner(),
-        "[97, 98]",
+        &(
+            // Input::new
+            Input::new(b"ab".as_slice()).failures(),
+            // Input::into_inner
+            Input::new(b"ab".as_slice()).into_inner(),
+        ),
+        "(0, [97, 98])",
     );
 }
 
@@ -426,14 +416,16 @@ fn output_1(rt: HostRuntime) {
 #[test]
 fn engine_fault_1(rt: HostRuntime) {
     let alloc = rt.alloc();
-    // From<AllocError> for EngineFault::from
-    shows(&rt, alloc, &EngineFault::from(AllocError), "Memory");
-    // From<AsAsciiStrError> for EngineFault::from
     shows(
         &rt,
         alloc,
-        &bytes::as_ascii_str(b"ab\xc4").map_err(EngineFault::from),
-        "Err(NotAscii(2))",
+        &(
+            // From<AllocError> for EngineFault::from
+            EngineFault::from(AllocError),
+            // From<AsAsciiStrError> for EngineFault::from
+            bytes::as_ascii_str(b"ab\xc4").map_err(EngineFault::from),
+        ),
+        "(Memory, Err(NotAscii(2)))",
     );
 }
 

@@ -16,118 +16,108 @@ use std::fmt::Write;
 #[test]
 fn ascii_str_1(rt: HostRuntime) {
     let alloc = rt.alloc();
-    // AsciiStr::as_str
-    shows(&rt, alloc, &view("foo").as_str(), "\"foo\"");
-    // AsciiStr::as_bytes
-    shows(&rt, alloc, &view("foo").as_bytes(), "[102, 111, 111]");
-    // AsciiStr::len
-    shows(&rt, alloc, &view("foo").len(), "3");
-    // AsciiStr::is_empty
-    shows(&rt, alloc, &view("").is_empty(), "true");
-    // AsciiStr::first
-    shows(&rt, alloc, &view("foo").first(), "Some('f')");
-    // AsciiStr::last
-    shows(&rt, alloc, &view("foo").last(), "Some('o')");
+    shows(
+        &rt,
+        alloc,
+        &(
+            // AsciiStr::as_str
+            view("foo").as_str(),
+            // AsciiStr::as_bytes
+            view("foo").as_bytes(),
+            // AsciiStr::len
+            view("foo").len(),
+            // AsciiStr::is_empty
+            view("").is_empty(),
+            // AsciiStr::first
+            view("foo").first(),
+            // AsciiStr::last
+            view("foo").last(),
+        ),
+        "(\"foo\", [102, 111, 111], 3, true, Some('f'), Some('o'))",
+    );
 }
 
 #[test]
 fn ascii_str_2(rt: HostRuntime) {
     let alloc = rt.alloc();
-    // AsciiStr::get_ascii
-    shows(&rt, alloc, &view("foo").get_ascii(0), "Some('f')");
-    shows(&rt, alloc, &view("foo").get_ascii(3), "None");
-    // AsciiStr::char_at
-    shows(&rt, alloc, &view("foo").char_at(0), "'f'");
-    // AsciiStr::as_ascii_str
-    shows(&rt, alloc, &view("foo").as_ascii_str(), "Ok(\"foo\")");
-    // AsciiStr::slice_ascii
     shows(
         &rt,
         alloc,
-        &view("foo").slice_ascii(AsciiRange::To(2)),
-        "Ok(\"fo\")",
+        &(
+            // AsciiStr::get_ascii
+            view("foo").get_ascii(0),
+            view("foo").get_ascii(3),
+            // AsciiStr::char_at
+            view("foo").char_at(0),
+            // AsciiStr::as_ascii_str
+            view("foo").as_ascii_str(),
+            // AsciiStr::slice_ascii
+            view("foo").slice_ascii(AsciiRange::To(2)),
+            view("foo").slice_ascii(AsciiRange::To(4)),
+            // AsciiStr::slice
+            view("foo").slice(AsciiRange::From(1)),
+            // AsciiStr::trim
+            view(" a b\r\n").trim(),
+        ),
+        "(Some('f'), None, 'f', Ok(\"foo\"), Ok(\"fo\"), Err(AsAsciiStrError(3)), \"oo\", \"a b\")",
     );
-    shows(
-        &rt,
-        alloc,
-        &view("foo").slice_ascii(AsciiRange::To(4)),
-        "Err(AsAsciiStrError(3))",
-    );
-    // AsciiStr::slice
-    shows(
-        &rt,
-        alloc,
-        &view("foo").slice(AsciiRange::From(1)),
-        "\"oo\"",
-    );
-    // AsciiStr::trim
-    shows(&rt, alloc, &view(" a b\r\n").trim(), "\"a b\"");
 }
 
 #[test]
 fn ascii_str_3(rt: HostRuntime) {
     let alloc = rt.alloc();
-    // AsciiStr::trim_start
-    shows(&rt, alloc, &view(" a b ").trim_start(), "\"a b \"");
-    // AsciiStr::trim_end
-    shows(&rt, alloc, &view(" a b ").trim_end(), "\" a b\"");
-    // AsciiStr::eq_ignore_ascii_case
     shows(
         &rt,
         alloc,
-        &view("Host").eq_ignore_ascii_case(view("HOST")),
-        "true",
+        &(
+            // AsciiStr::trim_start
+            view(" a b ").trim_start(),
+            // AsciiStr::trim_end
+            view(" a b ").trim_end(),
+            // AsciiStr::eq_ignore_ascii_case
+            view("Host").eq_ignore_ascii_case(view("HOST")),
+            // AsciiStr::eq_str
+            view("foo").eq_str("foo"),
+            // AsciiStr::eq_bytes
+            view("foo").eq_bytes(b"foo"),
+            // Default for AsciiStr::default
+            AsciiStr::default(),
+        ),
+        "(\"a b \", \" a b\", true, true, true, \"\")",
     );
-    // AsciiStr::eq_str
-    shows(&rt, alloc, &view("foo").eq_str("foo"), "true");
-    // AsciiStr::eq_bytes
-    shows(&rt, alloc, &view("foo").eq_bytes(b"foo"), "true");
-    // Default for AsciiStr::default
-    shows(&rt, alloc, &AsciiStr::default(), "\"\"");
 }
 
 #[test]
 fn ascii_str_4(rt: HostRuntime) {
     let alloc = rt.alloc();
-    // Display for AsciiStr::fmt
     shows(
         &rt,
         alloc,
-        &format!(in alloc; "{}", view("a\"b")).expect(&rt, "refused"),
-        "\"a\\\"b\"",
-    );
-    // Debug for AsciiStr::fmt
-    shows(
-        &rt,
-        alloc,
-        &format!(in alloc; "{:?}", view("a\"b")).expect(&rt, "refused"),
-        "\"\\\"a\\\\\\\"b\\\"\"",
+        &(
+            // Display for AsciiStr::fmt
+            format!(in alloc; "{}", view("a\"b")).expect(&rt, "refused"),
+            // Debug for AsciiStr::fmt
+            format!(in alloc; "{:?}", view("a\"b")).expect(&rt, "refused"),
+        ),
+        "(\"a\\\"b\", \"\\\"a\\\\\\\"b\\\"\")",
     );
 }
 
 #[test]
 fn ascii_str_5(rt: HostRuntime) {
     let alloc = rt.alloc();
-    // AsciiStr::to_ascii_string
     shows(
         &rt,
         alloc,
-        &view("foo").to_ascii_string(alloc).expect(&rt, "refused"),
-        "\"foo\"",
-    );
-    // AsciiStr::to_ascii_uppercase
-    shows(
-        &rt,
-        alloc,
-        &view("foo").to_ascii_uppercase(alloc).expect(&rt, "refused"),
-        "\"FOO\"",
-    );
-    // AsciiStr::to_ascii_lowercase
-    shows(
-        &rt,
-        alloc,
-        &view("FOO").to_ascii_lowercase(alloc).expect(&rt, "refused"),
-        "\"foo\"",
+        &(
+            // AsciiStr::to_ascii_string
+            view("foo").to_ascii_string(alloc).expect(&rt, "refused"),
+            // AsciiStr::to_ascii_uppercase
+            view("foo").to_ascii_uppercase(alloc).expect(&rt, "refused"),
+            // AsciiStr::to_ascii_lowercase
+            view("FOO").to_ascii_lowercase(alloc).expect(&rt, "refused"),
+        ),
+        "(\"foo\", \"FOO\", \"foo\")",
     );
 }
 
@@ -264,33 +254,20 @@ fn u8_1(rt: HostRuntime) {
 #[test]
 fn as_ascii_str_error_1(rt: HostRuntime) {
     let alloc = rt.alloc();
-    // AsAsciiStrError::valid_up_to
     shows(
         &rt,
         alloc,
-        &bytes::as_ascii_str(b"ab\xc4").map_err(AsAsciiStrError::valid_up_to),
-        "Err(2)",
-    );
-    // AsAsciiStrError::description
-    shows(
-        &rt,
-        alloc,
-        &bytes::as_ascii_str(b"ab\xc4").map_err(|e| e.description()),
-        "Err(\"one or more bytes are not ASCII\")",
-    );
-    // Display for AsAsciiStrError::fmt
-    shows(
-        &rt,
-        alloc,
-        &bytes::as_ascii_str(b"ab\xc4").map_err(|e| e.to_string(alloc)),
-        "Err(Ok(\"the byte at index 2 is not ASCII\"))",
-    );
-    // Debug for AsAsciiStrError::fmt
-    shows(
-        &rt,
-        alloc,
-        &bytes::as_ascii_str(b"ab\xc4"),
-        "Err(AsAsciiStrError(2))",
+        &(
+            // AsAsciiStrError::valid_up_to
+            bytes::as_ascii_str(b"ab\xc4").map_err(AsAsciiStrError::valid_up_to),
+            // AsAsciiStrError::description
+            bytes::as_ascii_str(b"ab\xc4").map_err(|e| e.description()),
+            // Display for AsAsciiStrError::fmt
+            bytes::as_ascii_str(b"ab\xc4").map_err(|e| e.to_string(alloc)),
+            // Debug for AsAsciiStrError::fmt
+            bytes::as_ascii_str(b"ab\xc4"),
+        ),
+        "(Err(2), Err(\"one or more bytes are not ASCII\"), Err(Ok(\"the byte at index 2 is not ASCII\")), Err(AsAsciiStrError(2)))",
     );
 }
 
@@ -337,42 +314,43 @@ fn ascii_str_mut_2(rt: HostRuntime) {
 #[test]
 fn ascii_string_1(rt: HostRuntime) {
     let alloc = rt.alloc();
-    // AsciiString::new
-    shows(&rt, alloc, &AsciiString::new(alloc).len(), "0");
-    // AsciiString::with_capacity
     shows(
         &rt,
         alloc,
-        &(AsciiString::with_capacity(alloc, 10)
-            .expect(&rt, "refused")
-            .capacity()
-            >= 10),
-        "true",
-    );
-    // AsciiString::from_ascii_unchecked
-    shows(
-        &rt,
-        alloc,
-        &AsciiString::from_ascii_unchecked(Vec::from_slice(alloc, b"foo").expect(&rt, "refused")),
-        "\"foo\"",
+        &(
+            // AsciiString::new
+            AsciiString::new(alloc).len(),
+            // AsciiString::with_capacity
+            AsciiString::with_capacity(alloc, 10)
+                .expect(&rt, "refused")
+                .capacity()
+                >= 10,
+            // AsciiString::from_ascii_unchecked
+            AsciiString::from_ascii_unchecked(Vec::from_slice(alloc, b"foo").expect(
+                &rt, "refused",
+            )),
+        ),
+        "(0, true, \"foo\")",
     );
 }
 
 #[test]
 fn ascii_string_2(rt: HostRuntime) {
     let alloc = rt.alloc();
-    // AsciiString::as_ascii_str
     shows(
         &rt,
         alloc,
-        &view("foo")
-            .to_ascii_string(alloc)
-            .expect(&rt, "refused")
-            .as_ascii_str(),
-        "\"foo\"",
+        &(
+            // AsciiString::as_ascii_str
+            view("foo")
+                .to_ascii_string(alloc)
+                .expect(&rt, "refused")
+                .as_ascii_str(),
+            // AsciiString::capacity
+            AsciiString::new(alloc).capacity(),
+        ),
+        "(\"foo\", 0)",
     );
-    // AsciiString::capacity
-    shows(&rt, alloc, &AsciiString::new(alloc).capacity(), "0");
     // AsciiString::reserve
     {
         let mut text = view("foo").to_ascii_string(alloc).expect(&rt, "refused");
@@ -517,47 +495,41 @@ fn ascii_string_11(rt: HostRuntime) {
 #[test]
 fn ascii_string_12(rt: HostRuntime) {
     let alloc = rt.alloc();
-    // AsciiString::is_empty
     shows(
         &rt,
         alloc,
-        &view("foo")
-            .to_ascii_string(alloc)
-            .expect(&rt, "refused")
-            .is_empty(),
-        "false",
-    );
-    // Clone for AsciiString::clone
-    shows(
-        &rt,
-        alloc,
-        &view("foo")
-            .to_ascii_string(alloc)
-            .expect(&rt, "refused")
-            .clone()
-            .expect(&rt, "refused"),
-        "\"foo\"",
+        &(
+            // AsciiString::is_empty
+            view("foo")
+                .to_ascii_string(alloc)
+                .expect(&rt, "refused")
+                .is_empty(),
+            // Clone for AsciiString::clone
+            view("foo")
+                .to_ascii_string(alloc)
+                .expect(&rt, "refused")
+                .clone()
+                .expect(&rt, "refused"),
+        ),
+        "(false, \"foo\")",
     );
 }
 
 #[test]
 fn ascii_string_13(rt: HostRuntime) {
     let alloc = rt.alloc();
-    // PartialEq for AsciiString::eq
     shows(
         &rt,
         alloc,
-        &(view("foo").to_ascii_string(alloc).expect(&rt, "refused")
-            == view("foo").to_ascii_string(alloc).expect(&rt, "refused")),
-        "true",
-    );
-    // PartialOrd for AsciiString::partial_cmp
-    shows(
-        &rt,
-        alloc,
-        &(view("foo").to_ascii_string(alloc).expect(&rt, "refused")
-            < view("fop").to_ascii_string(alloc).expect(&rt, "refused")),
-        "true",
+        &(
+            // PartialEq for AsciiString::eq
+            view("foo").to_ascii_string(alloc).expect(&rt, "refused")
+                == view("foo").to_ascii_string(alloc).expect(&rt, "refused"),
+            // PartialOrd for AsciiString::partial_cmp
+            view("foo").to_ascii_string(alloc).expect(&rt, "refused")
+                < view("fop").to_ascii_string(alloc).expect(&rt, "refused"),
+        ),
+        "(true, true)",
     );
 }
 
@@ -646,27 +618,24 @@ fn ascii_string_18(rt: HostRuntime) {
 #[test]
 fn ascii_string_19(rt: HostRuntime) {
     let alloc = rt.alloc();
-    // AsciiString::into_boxed_ascii_str
     shows(
         &rt,
         alloc,
-        &view("foo")
-            .to_ascii_string(alloc)
-            .expect(&rt, "refused")
-            .into_boxed_ascii_str()
-            .is_ok(),
-        "true",
-    );
-    // AsciiString::into_rc_ascii_str
-    shows(
-        &rt,
-        alloc,
-        &view("foo")
-            .to_ascii_string(alloc)
-            .expect(&rt, "refused")
-            .into_rc_ascii_str(alloc)
-            .is_ok(),
-        "true",
+        &(
+            // AsciiString::into_boxed_ascii_str
+            view("foo")
+                .to_ascii_string(alloc)
+                .expect(&rt, "refused")
+                .into_boxed_ascii_str()
+                .is_ok(),
+            // AsciiString::into_rc_ascii_str
+            view("foo")
+                .to_ascii_string(alloc)
+                .expect(&rt, "refused")
+                .into_rc_ascii_str(alloc)
+                .is_ok(),
+        ),
+        "(true, true)",
     );
 }
 
@@ -700,50 +669,39 @@ fn ascii_string_20(rt: HostRuntime) {
 #[test]
 fn ascii_string_21(rt: HostRuntime) {
     let alloc = rt.alloc();
-    // AsciiString::collect_chars
     shows(
         &rt,
         alloc,
-        &AsciiString::collect_chars(alloc, view("foo").chars().rev()).expect(&rt, "refused"),
-        "\"oof\"",
-    );
-    // AsciiString::collect_strs
-    shows(
-        &rt,
-        alloc,
-        &AsciiString::collect_strs(alloc, view("b,c").split(AsciiChar::Comma)).expect(
-            &rt, "refused",
+        &(
+            // AsciiString::collect_chars
+            AsciiString::collect_chars(alloc, view("foo").chars().rev()).expect(&rt, "refused"),
+            // AsciiString::collect_strs
+            AsciiString::collect_strs(alloc, view("b,c").split(AsciiChar::Comma)).expect(
+                &rt, "refused",
+            ),
+            // AsciiString::from_char
+            AsciiString::from_char(alloc, AsciiChar::a).expect(&rt, "refused"),
         ),
-        "\"bc\"",
-    );
-    // AsciiString::from_char
-    shows(
-        &rt,
-        alloc,
-        &AsciiString::from_char(alloc, AsciiChar::a).expect(&rt, "refused"),
-        "\"a\"",
+        "(\"oof\", \"bc\", \"a\")",
     );
 }
 
 #[test]
 fn ascii_string_22(rt: HostRuntime) {
     let alloc = rt.alloc();
-    // AsciiString::from_chars
     shows(
         &rt,
         alloc,
-        &AsciiString::from_chars(alloc, &[AsciiChar::a, AsciiChar::b]).expect(&rt, "refused"),
-        "\"ab\"",
-    );
-    // AsciiString::into_chars
-    shows(
-        &rt,
-        alloc,
-        &view("ab")
-            .to_ascii_string(alloc)
-            .expect(&rt, "refused")
-            .into_chars(alloc),
-        "Ok(['a', 'b'])",
+        &(
+            // AsciiString::from_chars
+            AsciiString::from_chars(alloc, &[AsciiChar::a, AsciiChar::b]).expect(&rt, "refused"),
+            // AsciiString::into_chars
+            view("ab")
+                .to_ascii_string(alloc)
+                .expect(&rt, "refused")
+                .into_chars(alloc),
+        ),
+        "(\"ab\", Ok(['a', 'b']))",
     );
 }
 
@@ -768,86 +726,62 @@ fn ascii_string_23(rt: HostRuntime) {
 #[test]
 fn vec_1(rt: HostRuntime) {
     let alloc = rt.alloc();
-    // From<AsciiString> for Vec::from
     shows(
         &rt,
         alloc,
-        &Vec::from(view("foo").to_ascii_string(alloc).expect(&rt, "refused")),
-        "[102, 111, 111]",
-    );
-    // vec::into_ascii_string
-    shows(
-        &rt,
-        alloc,
-        &vec::into_ascii_string(Vec::from_slice(alloc, b"foo").expect(&rt, "refused")),
-        "Ok(\"foo\")",
-    );
-    // vec::from_ascii
-    shows(
-        &rt,
-        alloc,
-        &vec::from_ascii(Vec::from_slice(alloc, b"foo").expect(&rt, "refused")),
-        "Ok(\"foo\")",
+        &(
+            // From<AsciiString> for Vec::from
+            Vec::from(view("foo").to_ascii_string(alloc).expect(&rt, "refused")),
+            // vec::into_ascii_string
+            vec::into_ascii_string(Vec::from_slice(alloc, b"foo").expect(&rt, "refused")),
+            // vec::from_ascii
+            vec::from_ascii(Vec::from_slice(alloc, b"foo").expect(&rt, "refused")),
+        ),
+        "([102, 111, 111], Ok(\"foo\"), Ok(\"foo\"))",
     );
 }
 
 #[test]
 fn string_1(rt: HostRuntime) {
     let alloc = rt.alloc();
-    // From<AsciiString> for String::from
     shows(
         &rt,
         alloc,
-        &String::from(view("foo").to_ascii_string(alloc).expect(&rt, "refused")),
-        "\"foo\"",
-    );
-    // string::into_ascii_string
-    shows(
-        &rt,
-        alloc,
-        &string::into_ascii_string(String::from_str(alloc, "foo").expect(&rt, "refused")),
-        "Ok(\"foo\")",
-    );
-    // string::from_ascii
-    shows(
-        &rt,
-        alloc,
-        &string::from_ascii(String::from_str(alloc, "foo").expect(&rt, "refused")),
-        "Ok(\"foo\")",
+        &(
+            // From<AsciiString> for String::from
+            String::from(view("foo").to_ascii_string(alloc).expect(&rt, "refused")),
+            // string::into_ascii_string
+            string::into_ascii_string(String::from_str(alloc, "foo").expect(&rt, "refused")),
+            // string::from_ascii
+            string::from_ascii(String::from_str(alloc, "foo").expect(&rt, "refused")),
+        ),
+        "(\"foo\", Ok(\"foo\"), Ok(\"foo\"))",
     );
 }
 
 #[test]
 fn boxed_ascii_str_1(rt: HostRuntime) {
     let alloc = rt.alloc();
-    // BoxedAsciiStr::from_ascii_str
     shows(
         &rt,
         alloc,
-        &BoxedAsciiStr::from_ascii_str(alloc, view("foo"))
-            .expect(&rt, "refused")
-            .as_ascii_str(),
-        "\"foo\"",
-    );
-    // BoxedAsciiStr::as_ascii_str
-    shows(
-        &rt,
-        alloc,
-        &BoxedAsciiStr::from_ascii_str(alloc, view("foo"))
-            .expect(&rt, "refused")
-            .as_ascii_str()
-            .len(),
-        "3",
-    );
-    // BoxedAsciiStr::into_ascii_string
-    shows(
-        &rt,
-        alloc,
-        &BoxedAsciiStr::from_ascii_str(alloc, view("foo"))
-            .expect(&rt, "refused")
-            .into_ascii_string()
-            .ok(),
-        "Some(\"foo\")",
+        &(
+            // BoxedAsciiStr::from_ascii_str
+            BoxedAsciiStr::from_ascii_str(alloc, view("foo"))
+                .expect(&rt, "refused")
+                .as_ascii_str(),
+            // BoxedAsciiStr::as_ascii_str
+            BoxedAsciiStr::from_ascii_str(alloc, view("foo"))
+                .expect(&rt, "refused")
+                .as_ascii_str()
+                .len(),
+            // BoxedAsciiStr::into_ascii_string
+            BoxedAsciiStr::from_ascii_str(alloc, view("foo"))
+                .expect(&rt, "refused")
+                .into_ascii_string()
+                .ok(),
+        ),
+        "(\"foo\", 3, Some(\"foo\"))",
     );
 }
 
@@ -868,24 +802,21 @@ fn boxed_ascii_str_2(rt: HostRuntime) {
 #[test]
 fn rc_ascii_str_1(rt: HostRuntime) {
     let alloc = rt.alloc();
-    // RcAsciiStr::from_ascii_str
     shows(
         &rt,
         alloc,
-        &RcAsciiStr::from_ascii_str(alloc, view("foo"))
-            .expect(&rt, "refused")
-            .as_ascii_str(),
-        "\"foo\"",
-    );
-    // RcAsciiStr::as_ascii_str
-    shows(
-        &rt,
-        alloc,
-        &RcAsciiStr::from_ascii_str(alloc, view("foo"))
-            .expect(&rt, "refused")
-            .as_ascii_str()
-            .len(),
-        "3",
+        &(
+            // RcAsciiStr::from_ascii_str
+            RcAsciiStr::from_ascii_str(alloc, view("foo"))
+                .expect(&rt, "refused")
+                .as_ascii_str(),
+            // RcAsciiStr::as_ascii_str
+            RcAsciiStr::from_ascii_str(alloc, view("foo"))
+                .expect(&rt, "refused")
+                .as_ascii_str()
+                .len(),
+        ),
+        "(\"foo\", 3)",
     );
 }
 
@@ -941,47 +872,29 @@ fn cow_ascii_str_2(rt: HostRuntime) {
 #[test]
 fn bytes_1(rt: HostRuntime) {
     let alloc = rt.alloc();
-    // bytes::as_ascii_str
-    shows(&rt, alloc, &bytes::as_ascii_str(b"foo"), "Ok(\"foo\")");
     shows(
         &rt,
         alloc,
-        &bytes::as_ascii_str(b"ab\xc4"),
-        "Err(AsAsciiStrError(2))",
+        &(
+            // bytes::as_ascii_str
+            bytes::as_ascii_str(b"foo"),
+            bytes::as_ascii_str(b"ab\xc4"),
+            // bytes::from_ascii
+            bytes::from_ascii(b"foo"),
+            // bytes::slice_ascii
+            bytes::slice_ascii(b"ab\xc4d", AsciiRange::From(3)),
+            bytes::slice_ascii(b"ab\xc4d", AsciiRange::From(1)),
+            bytes::slice_ascii(b"ab\xc4d", AsciiRange::From(5)),
+            // bytes::get_ascii
+            bytes::get_ascii(b"ab\xc4", 1),
+            bytes::get_ascii(b"ab\xc4", 2),
+            // bytes::as_ascii_str_unchecked
+            bytes::as_ascii_str_unchecked(b"foo"),
+            // bytes::from_ascii_unchecked
+            bytes::from_ascii_unchecked(b"foo"),
+        ),
+        "(Ok(\"foo\"), Err(AsAsciiStrError(2)), Ok(\"foo\"), Ok(\"d\"), Err(AsAsciiStrError(2)), Err(AsAsciiStrError(4)), Some('b'), None, \"foo\", \"foo\")",
     );
-    // bytes::from_ascii
-    shows(&rt, alloc, &bytes::from_ascii(b"foo"), "Ok(\"foo\")");
-    // bytes::slice_ascii
-    shows(
-        &rt,
-        alloc,
-        &bytes::slice_ascii(b"ab\xc4d", AsciiRange::From(3)),
-        "Ok(\"d\")",
-    );
-    shows(
-        &rt,
-        alloc,
-        &bytes::slice_ascii(b"ab\xc4d", AsciiRange::From(1)),
-        "Err(AsAsciiStrError(2))",
-    );
-    shows(
-        &rt,
-        alloc,
-        &bytes::slice_ascii(b"ab\xc4d", AsciiRange::From(5)),
-        "Err(AsAsciiStrError(4))",
-    );
-    // bytes::get_ascii
-    shows(&rt, alloc, &bytes::get_ascii(b"ab\xc4", 1), "Some('b')");
-    shows(&rt, alloc, &bytes::get_ascii(b"ab\xc4", 2), "None");
-    // bytes::as_ascii_str_unchecked
-    shows(
-        &rt,
-        alloc,
-        &bytes::as_ascii_str_unchecked(b"foo"),
-        "\"foo\"",
-    );
-    // bytes::from_ascii_unchecked
-    shows(&rt, alloc, &bytes::from_ascii_unchecked(b"foo"), "\"foo\"");
 }
 
 #[test]
@@ -1042,32 +955,24 @@ fn bytes_5(rt: HostRuntime) {
 #[test]
 fn from_ascii_error_1(rt: HostRuntime) {
     let alloc = rt.alloc();
-    // FromAsciiError::ascii_error
     shows(
         &rt,
         alloc,
-        &vec::into_ascii_string(Vec::from_slice(alloc, b"ab\xc4").expect(&rt, "refused")).map_err(
-            |e| e.ascii_error(),
+        &(
+            // FromAsciiError::ascii_error
+            vec::into_ascii_string(Vec::from_slice(alloc, b"ab\xc4").expect(
+                &rt, "refused",
+            )).map_err(|e| e.ascii_error()),
+            // FromAsciiError::into_source
+            vec::into_ascii_string(Vec::from_slice(alloc, b"ab\xc4").expect(
+                &rt, "refused",
+            )).map_err(|e| e.into_source()),
+            // Display for FromAsciiError::fmt
+            vec::into_ascii_string(Vec::from_slice(alloc, b"ab\xc4").expect(
+                &rt, "refused",
+            )).map_err(|e| e.to_string(alloc)),
         ),
-        "Err(AsAsciiStrError(2))",
-    );
-    // FromAsciiError::into_source
-    shows(
-        &rt,
-        alloc,
-        &vec::into_ascii_string(Vec::from_slice(alloc, b"ab\xc4").expect(&rt, "refused")).map_err(
-            |e| e.into_source(),
-        ),
-        "Err([97, 98, 196])",
-    );
-    // Display for FromAsciiError::fmt
-    shows(
-        &rt,
-        alloc,
-        &vec::into_ascii_string(Vec::from_slice(alloc, b"ab\xc4").expect(&rt, "refused")).map_err(
-            |e| e.to_string(alloc),
-        ),
-        "Err(Ok(\"the byte at index 2 is not ASCII\"))",
+        "(Err(AsAsciiStrError(2)), Err([97, 98, 196]), Err(Ok(\"the byte at index 2 is not ASCII\")))",
     );
 }
 
@@ -1104,77 +1009,68 @@ fn chars_1(rt: HostRuntime) {
 #[test]
 fn chars_2(rt: HostRuntime) {
     let alloc = rt.alloc();
-    // Iterator for Chars::next
-    shows(&rt, alloc, &view("foo").chars().next(), "Some('f')");
-    // Iterator for Chars::size_hint
-    shows(&rt, alloc, &view("foo").chars().size_hint(), "(3, Some(3))");
-    // DoubleEndedIterator for Chars::next_back
-    shows(&rt, alloc, &view("foo").chars().next_back(), "Some('o')");
-    // ExactSizeIterator for Chars::len
-    shows(&rt, alloc, &view("foo").chars().len(), "3");
+    shows(
+        &rt,
+        alloc,
+        &(
+            // Iterator for Chars::next
+            view("foo").chars().next(),
+            // Iterator for Chars::size_hint
+            view("foo").chars().size_hint(),
+            // DoubleEndedIterator for Chars::next_back
+            view("foo").chars().next_back(),
+            // ExactSizeIterator for Chars::len
+            view("foo").chars().len(),
+        ),
+        "(Some('f'), (3, Some(3)), Some('o'), 3)",
+    );
 }
 
 #[test]
 fn chars_ref_1(rt: HostRuntime) {
     let alloc = rt.alloc();
-    // CharsRef::as_str
-    shows(&rt, alloc, &view("foo").into_iter().as_str(), "\"foo\"");
-    // Clone for CharsRef::clone
     shows(
         &rt,
         alloc,
-        &view("foo")
-            .into_iter()
-            .clone()
-            .expect(&rt, "refused")
-            .as_str(),
-        "\"foo\"",
-    );
-    // Iterator for CharsRef::next
-    shows(&rt, alloc, &view("foo").into_iter().next(), "Some('f')");
-    // Iterator for CharsRef::size_hint
-    shows(
-        &rt,
-        alloc,
-        &view("foo").into_iter().size_hint(),
-        "(3, Some(3))",
-    );
-    // DoubleEndedIterator for CharsRef::next_back
-    shows(
-        &rt,
-        alloc,
-        &view("foo").into_iter().next_back(),
-        "Some('o')",
+        &(
+            // CharsRef::as_str
+            view("foo").into_iter().as_str(),
+            // Clone for CharsRef::clone
+            view("foo")
+                .into_iter()
+                .clone()
+                .expect(&rt, "refused")
+                .as_str(),
+            // Iterator for CharsRef::next
+            view("foo").into_iter().next(),
+            // Iterator for CharsRef::size_hint
+            view("foo").into_iter().size_hint(),
+            // DoubleEndedIterator for CharsRef::next_back
+            view("foo").into_iter().next_back(),
+        ),
+        "(\"foo\", \"foo\", Some('f'), (3, Some(3)), Some('o'))",
     );
 }
 
 #[test]
 fn line_spans_1(rt: HostRuntime) {
     let alloc = rt.alloc();
-    // Clone for LineSpans::clone
     shows(
         &rt,
         alloc,
-        &view("x\ny")
-            .line_spans()
-            .clone()
-            .expect(&rt, "refused")
-            .remainder(),
-        "Some((0, \"x\\ny\"))",
-    );
-    // Iterator for LineSpans::next
-    shows(
-        &rt,
-        alloc,
-        &view("x\ny").line_spans().next(),
-        "Some(LineSpan { start: 0, text: \"x\", ending: Lf })",
-    );
-    // DoubleEndedIterator for LineSpans::next_back
-    shows(
-        &rt,
-        alloc,
-        &view("x\ny").line_spans().next_back(),
-        "Some(LineSpan { start: 2, text: \"y\", ending: Absent })",
+        &(
+            // Clone for LineSpans::clone
+            view("x\ny")
+                .line_spans()
+                .clone()
+                .expect(&rt, "refused")
+                .remainder(),
+            // Iterator for LineSpans::next
+            view("x\ny").line_spans().next(),
+            // DoubleEndedIterator for LineSpans::next_back
+            view("x\ny").line_spans().next_back(),
+        ),
+        "(Some((0, \"x\\ny\")), Some(LineSpan { start: 0, text: \"x\", ending: Lf }), Some(LineSpan { start: 2, text: \"y\", ending: Absent }))",
     );
     // LineSpans::remainder
     {
@@ -1192,21 +1088,23 @@ fn line_spans_1(rt: HostRuntime) {
 #[test]
 fn lines_1(rt: HostRuntime) {
     let alloc = rt.alloc();
-    // Clone for Lines::clone
     shows(
         &rt,
         alloc,
-        &view("x\ny")
-            .lines()
-            .clone()
-            .expect(&rt, "refused")
-            .remainder(),
-        "Some(\"x\\ny\")",
+        &(
+            // Clone for Lines::clone
+            view("x\ny")
+                .lines()
+                .clone()
+                .expect(&rt, "refused")
+                .remainder(),
+            // Iterator for Lines::next
+            view("\nx").lines().next(),
+            // DoubleEndedIterator for Lines::next_back
+            view("x\n").lines().next_back(),
+        ),
+        "(Some(\"x\\ny\"), Some(\"\"), Some(\"x\"))",
     );
-    // Iterator for Lines::next
-    shows(&rt, alloc, &view("\nx").lines().next(), "Some(\"\")");
-    // DoubleEndedIterator for Lines::next_back
-    shows(&rt, alloc, &view("x\n").lines().next_back(), "Some(\"x\")");
     // Lines::remainder
     {
         let mut lines = view("x\r\ny").lines();
@@ -1218,30 +1116,22 @@ fn lines_1(rt: HostRuntime) {
 #[test]
 fn split_spans_1(rt: HostRuntime) {
     let alloc = rt.alloc();
-    // Clone for SplitSpans::clone
     shows(
         &rt,
         alloc,
-        &view("foo;bar")
-            .split_spans(AsciiChar::Semicolon)
-            .clone()
-            .expect(&rt, "refused")
-            .remainder(),
-        "Some((0, \"foo;bar\"))",
-    );
-    // Iterator for SplitSpans::next
-    shows(
-        &rt,
-        alloc,
-        &view(";foo").split_spans(AsciiChar::Semicolon).next(),
-        "Some(SplitSpan { start: 0, text: \"\" })",
-    );
-    // DoubleEndedIterator for SplitSpans::next_back
-    shows(
-        &rt,
-        alloc,
-        &view(";foo").split_spans(AsciiChar::Semicolon).next_back(),
-        "Some(SplitSpan { start: 1, text: \"foo\" })",
+        &(
+            // Clone for SplitSpans::clone
+            view("foo;bar")
+                .split_spans(AsciiChar::Semicolon)
+                .clone()
+                .expect(&rt, "refused")
+                .remainder(),
+            // Iterator for SplitSpans::next
+            view(";foo").split_spans(AsciiChar::Semicolon).next(),
+            // DoubleEndedIterator for SplitSpans::next_back
+            view(";foo").split_spans(AsciiChar::Semicolon).next_back(),
+        ),
+        "(Some((0, \"foo;bar\")), Some(SplitSpan { start: 0, text: \"\" }), Some(SplitSpan { start: 1, text: \"foo\" }))",
     );
     // SplitSpans::remainder
     {
@@ -1266,19 +1156,16 @@ fn split_1(rt: HostRuntime) {
         shows(&rt, alloc, &pieces.next(), "Some(\"foo\")");
         shows(&rt, alloc, &copy.remainder(), "Some(\"foo;bar\")");
     }
-    // Iterator for Split::next
     shows(
         &rt,
         alloc,
-        &view(";foo").split(AsciiChar::Semicolon).next(),
-        "Some(\"\")",
-    );
-    // DoubleEndedIterator for Split::next_back
-    shows(
-        &rt,
-        alloc,
-        &view(";foo").split(AsciiChar::Semicolon).next_back(),
-        "Some(\"foo\")",
+        &(
+            // Iterator for Split::next
+            view(";foo").split(AsciiChar::Semicolon).next(),
+            // DoubleEndedIterator for Split::next_back
+            view(";foo").split(AsciiChar::Semicolon).next_back(),
+        ),
+        "(Some(\"\"), Some(\"foo\"))",
     );
 }
 
@@ -1296,145 +1183,110 @@ fn split_2(rt: HostRuntime) {
 #[test]
 fn iter_1(rt: HostRuntime) {
     let alloc = rt.alloc();
-    // iter::take_end
     shows(
         &rt,
         alloc,
-        &take_end(&mut view("x\ny").lines(), End::Back),
-        "Some(\"y\")",
-    );
-    // iter::walk_split
-    shows(
-        &rt,
-        alloc,
-        &walk_split(
-            alloc,
-            view("a,b"),
-            AsciiChar::Comma,
-            &[End::Back, End::Front, End::Back],
-        )
-        .expect(&rt, "refused"),
-        "[Some(\"b\"), Some(\"a\"), None]",
-    );
-    // iter::walk_lines
-    shows(
-        &rt,
-        alloc,
-        &walk_lines(alloc, view("a\nb"), &[End::Back, End::Front]).expect(&rt, "refused"),
-        "[Some(\"b\"), Some(\"a\")]",
+        &(
+            // iter::take_end
+            take_end(&mut view("x\ny").lines(), End::Back),
+            // iter::walk_split
+            walk_split(
+                alloc,
+                view("a,b"),
+                AsciiChar::Comma,
+                &[End::Back, End::Front, End::Back],
+            )
+            .expect(&rt, "refused"),
+            // iter::walk_lines
+            walk_lines(alloc, view("a\nb"), &[End::Back, End::Front]).expect(&rt, "refused"),
+        ),
+        "(Some(\"y\"), [Some(\"b\"), Some(\"a\"), None], [Some(\"b\"), Some(\"a\")])",
     );
 }
 
 #[test]
 fn iter_2(rt: HostRuntime) {
     let alloc = rt.alloc();
-    // iter::walk_split_spans
     shows(
         &rt,
         alloc,
-        &walk_split_spans(alloc, view("a,b"), AsciiChar::Comma, &[End::Back]).expect(
-            &rt, "refused",
+        &(
+            // iter::walk_split_spans
+            walk_split_spans(alloc, view("a,b"), AsciiChar::Comma, &[End::Back]).expect(
+                &rt, "refused",
+            ),
+            // iter::walk_line_spans
+            walk_line_spans(alloc, view("a\nb"), &[End::Front]).expect(&rt, "refused"),
         ),
-        "[Some(SplitSpan { start: 2, text: \"b\" })]",
-    );
-    // iter::walk_line_spans
-    shows(
-        &rt,
-        alloc,
-        &walk_line_spans(alloc, view("a\nb"), &[End::Front]).expect(&rt, "refused"),
-        "[Some(LineSpan { start: 0, text: \"a\", ending: Lf })]",
+        "([Some(SplitSpan { start: 2, text: \"b\" })], [Some(LineSpan { start: 0, text: \"a\", ending: Lf })])",
     );
 }
 
 #[test]
 fn json_1(rt: HostRuntime) {
     let alloc = rt.alloc();
-    // json::char_to_json
     shows(
         &rt,
         alloc,
-        &char_to_json(alloc, AsciiChar::a)
-            .expect(&rt, "refused")
-            .to_string(alloc)
-            .expect(&rt, "refused"),
-        "\"\\\"a\\\"\"",
-    );
-    // json::char_from_json
-    shows(
-        &rt,
-        alloc,
-        &char_from_json(&Value::from_str(alloc, "\"a\"").expect(&rt, "refused")),
-        "Ok('a')",
-    );
-    shows(
-        &rt,
-        alloc,
-        &char_from_json(&Value::from_str(alloc, "\"ab\"").expect(&rt, "refused")),
-        "Err(NotOneByte)",
+        &(
+            // json::char_to_json
+            char_to_json(alloc, AsciiChar::a)
+                .expect(&rt, "refused")
+                .to_string(alloc)
+                .expect(&rt, "refused"),
+            // json::char_from_json
+            char_from_json(&Value::from_str(alloc, "\"a\"").expect(&rt, "refused")),
+            char_from_json(&Value::from_str(alloc, "\"ab\"").expect(&rt, "refused")),
+        ),
+        "(\"\\\"a\\\"\", Ok('a'), Err(NotOneByte))",
     );
 }
 
 #[test]
 fn json_2(rt: HostRuntime) {
     let alloc = rt.alloc();
-    // json::str_from_json
     shows(
         &rt,
         alloc,
-        &str_from_json(&Value::from_str(alloc, "\"foo\"").expect(&rt, "refused")),
-        "Ok(\"foo\")",
-    );
-    shows(
-        &rt,
-        alloc,
-        &str_from_json(&Value::from_str(alloc, "7").expect(&rt, "refused")),
-        "Err(NotText)",
-    );
-    // json::string_from_json
-    shows(
-        &rt,
-        alloc,
-        &string_from_json(
-            alloc,
-            &Value::from_str(alloc, "\"foo\"").expect(&rt, "refused"),
+        &(
+            // json::str_from_json
+            str_from_json(&Value::from_str(alloc, "\"foo\"").expect(&rt, "refused")),
+            str_from_json(&Value::from_str(alloc, "7").expect(&rt, "refused")),
+            // json::string_from_json
+            string_from_json(
+                alloc,
+                &Value::from_str(alloc, "\"foo\"").expect(&rt, "refused"),
+            ),
         ),
-        "Ok(\"foo\")",
+        "(Ok(\"foo\"), Err(NotText), Ok(\"foo\"))",
     );
 }
 
 #[test]
 fn text_1(rt: HostRuntime) {
     let alloc = rt.alloc();
-    // text::as_ascii_str
-    shows(&rt, alloc, &text::as_ascii_str("foo"), "Ok(\"foo\")");
     shows(
         &rt,
         alloc,
-        &text::as_ascii_str("abč"),
-        "Err(AsAsciiStrError(2))",
+        &(
+            // text::as_ascii_str
+            text::as_ascii_str("foo"),
+            text::as_ascii_str("abč"),
+            // text::from_ascii
+            text::from_ascii("foo"),
+            // text::slice_ascii
+            text::slice_ascii("abčd", AsciiRange::From(4)),
+            text::slice_ascii("abčd", AsciiRange::To(3)),
+            // text::get_ascii
+            text::get_ascii("abč", 1),
+            text::get_ascii("abč", 2),
+            // text::as_ascii_str_unchecked
+            text::as_ascii_str_unchecked("foo"),
+            // text::from_ascii_unchecked
+            text::from_ascii_unchecked("foo"),
+        ),
+        "(Ok(\"foo\"), Err(AsAsciiStrError(2)), Ok(\"foo\"), Ok(\"d\"), Err(AsAsciiStrError(2)), Some('b'), None, \"foo\", \"foo\")",
     );
-    // text::from_ascii
-    shows(&rt, alloc, &text::from_ascii("foo"), "Ok(\"foo\")");
-    // text::slice_ascii
-    shows(
-        &rt,
-        alloc,
-        &text::slice_ascii("abčd", AsciiRange::From(4)),
-        "Ok(\"d\")",
-    );
-    shows(
-        &rt,
-        alloc,
-        &text::slice_ascii("abčd", AsciiRange::To(3)),
-        "Err(AsAsciiStrError(2))",
-    );
-    // text::get_ascii
-    shows(&rt, alloc, &text::get_ascii("abč", 1), "Some('b')");
-    shows(&rt, alloc, &text::get_ascii("abč", 2), "None");
-    // text::as_ascii_str_unchecked
-    shows(&rt, alloc, &text::as_ascii_str_unchecked("foo"), "\"foo\"");
-    // text::from_ascii_unchecked
-    shows(&rt, alloc, &text::from_ascii_unchecked("foo"), "\"foo\"");
 }
 
 #[test]
