@@ -1,6 +1,7 @@
 //! One growth is refused, and none before or behind it.
 
 use crate::Refusing;
+use ascii_base::ascii_char::AsciiChar;
 
 #[test]
 fn refuses_one(rt: HostRuntime) {
@@ -18,14 +19,14 @@ fn refuses_one(rt: HostRuntime) {
 #[test]
 fn counts_blocks_that_grow(rt: HostRuntime) {
     let heap = Refusing::new(rt.alloc(), 1);
-    let mut bytes = Vec::with_capacity(&heap, 2).expect(&rt, "refused");
-    bytes.push(7u8).expect(&rt, "refused");
-    bytes.push(8).expect(&rt, "refused");
-    assert!(rt; bytes.push(9).is_err());
+    let mut chars = Vec::with_capacity(&heap, 2).expect(&rt, "refused");
+    chars.push(AsciiChar::a).expect(&rt, "refused");
+    chars.push(AsciiChar::b).expect(&rt, "refused");
+    assert!(rt; chars.push(AsciiChar::c).is_err());
     assert!(rt; heap.met());
-    assert_eq!(rt; bytes.as_slice(), [7, 8].as_slice());
-    bytes.push(9).expect(&rt, "refused");
-    assert_eq!(rt; bytes.as_slice(), [7, 8, 9].as_slice());
+    assert!(rt; chars.as_slice() == [AsciiChar::a, AsciiChar::b].as_slice());
+    chars.push(AsciiChar::c).expect(&rt, "refused");
+    assert!(rt; chars.as_slice() == [AsciiChar::a, AsciiChar::b, AsciiChar::c].as_slice());
 }
 
 #[test]
