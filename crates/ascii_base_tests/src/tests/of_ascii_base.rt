@@ -30,8 +30,12 @@ fn ascii_char_1(rt: HostRuntime) {
             AsciiChar::LineFeed.as_byte(),
             // AsciiChar::as_char
             AsciiChar::Slash.as_char(),
+            // AsciiChar::is_alphabetic
+            AsciiChar::a.is_alphabetic(),
+            // AsciiChar::is_ascii_alphabetic
+            AsciiChar::_7.is_ascii_alphabetic(),
         ),
-        "(65, Ok('a'), Err(not an ASCII character), '!', 'a', 10, '/')",
+        "(65, Ok('a'), Err(not an ASCII character), '!', 'a', 10, '/', true, false)",
     );
 }
 
@@ -42,10 +46,6 @@ fn ascii_char_2(rt: HostRuntime) {
         &rt,
         alloc,
         &(
-            // AsciiChar::is_alphabetic
-            AsciiChar::a.is_alphabetic(),
-            // AsciiChar::is_ascii_alphabetic
-            AsciiChar::_7.is_ascii_alphabetic(),
             // AsciiChar::is_digit
             AsciiChar::f.is_digit(16),
             AsciiChar::f.is_digit(10),
@@ -55,8 +55,17 @@ fn ascii_char_2(rt: HostRuntime) {
             AsciiChar::UnderScore.is_alphanumeric(),
             // AsciiChar::is_ascii_alphanumeric
             AsciiChar::_7.is_ascii_alphanumeric(),
+            // AsciiChar::is_ascii_blank
+            AsciiChar::Tab.is_ascii_blank(),
+            AsciiChar::LineFeed.is_ascii_blank(),
+            // AsciiChar::is_whitespace
+            AsciiChar::VT.is_whitespace(),
+            // AsciiChar::is_ascii_whitespace
+            AsciiChar::VT.is_ascii_whitespace(),
+            // AsciiChar::is_ascii_control
+            AsciiChar::DEL.is_ascii_control(),
         ),
-        "(true, false, true, false, true, false, true)",
+        "(true, false, true, false, true, true, false, true, false, true)",
     );
 }
 
@@ -67,31 +76,10 @@ fn ascii_char_3(rt: HostRuntime) {
         &rt,
         alloc,
         &(
-            // AsciiChar::is_ascii_blank
-            AsciiChar::Tab.is_ascii_blank(),
-            AsciiChar::LineFeed.is_ascii_blank(),
-            // AsciiChar::is_whitespace
-            AsciiChar::VT.is_whitespace(),
-            // AsciiChar::is_ascii_whitespace
-            AsciiChar::VT.is_ascii_whitespace(),
-            // AsciiChar::is_ascii_control
-            AsciiChar::DEL.is_ascii_control(),
             // AsciiChar::is_ascii_graphic
             AsciiChar::Space.is_ascii_graphic(),
             // AsciiChar::is_ascii_printable
             AsciiChar::Space.is_ascii_printable(),
-        ),
-        "(true, false, true, false, true, false, true)",
-    );
-}
-
-#[test]
-fn ascii_char_4(rt: HostRuntime) {
-    let alloc = rt.alloc();
-    shows(
-        &rt,
-        alloc,
-        &(
             // AsciiChar::is_lowercase
             AsciiChar::a.is_lowercase(),
             // AsciiChar::is_ascii_lowercase
@@ -104,35 +92,23 @@ fn ascii_char_4(rt: HostRuntime) {
             AsciiChar::Dollar.is_ascii_punctuation(),
             // AsciiChar::is_ascii_hexdigit
             AsciiChar::F.is_ascii_hexdigit(),
-        ),
-        "(true, false, true, false, true, true)",
-    );
-}
-
-#[test]
-fn ascii_char_5(rt: HostRuntime) {
-    let alloc = rt.alloc();
-    shows(
-        &rt,
-        alloc,
-        &(
             // AsciiChar::as_printable_char
             AsciiChar::LineFeed.as_printable_char(),
             AsciiChar::a.as_printable_char(),
         ),
-        "('␊', 'a')",
+        "(false, true, true, false, true, false, true, true, '␊', 'a')",
     );
+}
+
+#[test]
+fn ascii_char_4(rt: HostRuntime) {
+    let alloc = rt.alloc();
     // AsciiChar::make_ascii_uppercase
     {
         let mut ch = AsciiChar::a;
         ch.make_ascii_uppercase();
         shows(&rt, alloc, &ch, "'A'");
     }
-}
-
-#[test]
-fn ascii_char_6(rt: HostRuntime) {
-    let alloc = rt.alloc();
     // AsciiChar::make_ascii_lowercase
     {
         let mut ch = AsciiChar::A;
@@ -149,20 +125,20 @@ fn ascii_char_6(rt: HostRuntime) {
             AsciiChar::A.to_ascii_lowercase(),
             // AsciiChar::eq_ignore_ascii_case
             AsciiChar::a.eq_ignore_ascii_case(&AsciiChar::A),
+            // Default for AsciiChar::default
+            AsciiChar::default(),
         ),
-        "('A', 'a', true)",
+        "('A', 'a', true, '\\0')",
     );
 }
 
 #[test]
-fn ascii_char_7(rt: HostRuntime) {
+fn ascii_char_5(rt: HostRuntime) {
     let alloc = rt.alloc();
     shows(
         &rt,
         alloc,
         &(
-            // Default for AsciiChar::default
-            AsciiChar::default(),
             // PartialEq for AsciiChar::eq
             AsciiChar::a == AsciiChar::A,
             // PartialOrd for AsciiChar::partial_cmp
@@ -170,13 +146,8 @@ fn ascii_char_7(rt: HostRuntime) {
             // Ord for AsciiChar::cmp
             AsciiChar::a.cmp(&AsciiChar::A),
         ),
-        "('\\0', false, true, Greater)",
+        "(false, true, Greater)",
     );
-}
-
-#[test]
-fn ascii_char_8(rt: HostRuntime) {
-    let alloc = rt.alloc();
     // Hash for AsciiChar::hash
     {
         let mut seen = HashSet::new(alloc);
@@ -193,7 +164,7 @@ fn ascii_char_8(rt: HostRuntime) {
 }
 
 #[test]
-fn ascii_char_9(rt: HostRuntime) {
+fn ascii_char_6(rt: HostRuntime) {
     let alloc = rt.alloc();
     shows(
         &rt,
@@ -270,11 +241,6 @@ fn kernels_1(rt: HostRuntime) {
         upper_in_place(&mut bytes);
         shows(&rt, alloc, &(bytes == *b"AB-7"), "true");
     }
-}
-
-#[test]
-fn kernels_2(rt: HostRuntime) {
-    let alloc = rt.alloc();
     // kernels::lower_in_place
     {
         let mut bytes = *b"AB-7";
@@ -290,11 +256,16 @@ fn kernels_2(rt: HostRuntime) {
             // kernels::first_not_whitespace
             first_not_whitespace(b" \tab"),
             first_not_whitespace(b"  "),
-            // kernels::last_not_whitespace
-            last_not_whitespace(b"ab \n"),
         ),
-        "(true, Some(2), None, Some(1))",
+        "(true, Some(2), None)",
     );
+}
+
+#[test]
+fn kernels_2(rt: HostRuntime) {
+    let alloc = rt.alloc();
+    // kernels::last_not_whitespace
+    shows(&rt, alloc, &last_not_whitespace(b"ab \n"), "Some(1)");
 }
 
 #[test]

@@ -32,62 +32,57 @@ fn ascii_buf_1(rt: HostRuntime) {
         shows(&rt, alloc, &AsciiBuf::shrink_to_fit(&mut text), "Ok(())");
         shows(&rt, alloc, &text, "\"foo\"");
     }
-}
-
-#[test]
-fn ascii_buf_2(rt: HostRuntime) {
-    let alloc = rt.alloc();
     // AsciiBuf::push
     {
         let mut text = SmallAsciiString::new(alloc);
         shows(&rt, alloc, &text.push(AsciiChar::a), "Ok(())");
         shows(&rt, alloc, &text, "\"a\"");
     }
+}
+
+#[test]
+fn ascii_buf_2(rt: HostRuntime) {
+    let alloc = rt.alloc();
     // AsciiBuf::push_str
     {
         let mut text = SmallAsciiString::new(alloc);
         shows(&rt, alloc, &text.push_str(view("foo")), "Ok(())");
         shows(&rt, alloc, &text, "\"foo\"");
     }
-}
-
-#[test]
-fn ascii_buf_3(rt: HostRuntime) {
-    let alloc = rt.alloc();
     // AsciiBuf::insert
     {
         let mut text = SmallAsciiString::from_ascii_str(alloc, view("fo")).expect(&rt, "refused");
         shows(&rt, alloc, &text.insert(0, AsciiChar::z), "Ok(())");
         shows(&rt, alloc, &text, "\"zfo\"");
     }
+}
+
+#[test]
+fn ascii_buf_3(rt: HostRuntime) {
+    let alloc = rt.alloc();
     // AsciiBuf::insert_str
     {
         let mut text = SmallAsciiString::from_ascii_str(alloc, view("fo")).expect(&rt, "refused");
         shows(&rt, alloc, &text.insert_str(1, view("lo")), "Ok(())");
         shows(&rt, alloc, &text, "\"floo\"");
     }
-}
-
-#[test]
-fn ascii_buf_4(rt: HostRuntime) {
-    let alloc = rt.alloc();
     // AsciiBuf::remove
     {
         let mut text = SmallAsciiString::from_ascii_str(alloc, view("foo")).expect(&rt, "refused");
         shows(&rt, alloc, &text.remove(0), "'f'");
         shows(&rt, alloc, &text, "\"oo\"");
     }
+}
+
+#[test]
+fn ascii_buf_4(rt: HostRuntime) {
+    let alloc = rt.alloc();
     // AsciiBuf::pop
     {
         let mut text = SmallAsciiString::from_ascii_str(alloc, view("fo")).expect(&rt, "refused");
         shows(&rt, alloc, &text.pop(), "Some('o')");
         shows(&rt, alloc, &text, "\"f\"");
     }
-}
-
-#[test]
-fn ascii_buf_5(rt: HostRuntime) {
-    let alloc = rt.alloc();
     // AsciiBuf::truncate
     {
         let mut text = SmallAsciiString::from_ascii_str(alloc, view("foo")).expect(&rt, "refused");
@@ -97,7 +92,7 @@ fn ascii_buf_5(rt: HostRuntime) {
 }
 
 #[test]
-fn ascii_buf_6(rt: HostRuntime) {
+fn ascii_buf_5(rt: HostRuntime) {
     let alloc = rt.alloc();
     // AsciiBuf::clear
     {
@@ -105,11 +100,6 @@ fn ascii_buf_6(rt: HostRuntime) {
         text.clear();
         shows(&rt, alloc, &text, "\"\"");
     }
-}
-
-#[test]
-fn ascii_buf_7(rt: HostRuntime) {
-    let alloc = rt.alloc();
     // AsciiBuf::set
     {
         let mut text = SmallAsciiString::from_ascii_str(alloc, view("foo")).expect(&rt, "refused");
@@ -119,7 +109,7 @@ fn ascii_buf_7(rt: HostRuntime) {
 }
 
 #[test]
-fn ascii_buf_8(rt: HostRuntime) {
+fn ascii_buf_6(rt: HostRuntime) {
     let alloc = rt.alloc();
     // AsciiBuf::make_ascii_uppercase
     {
@@ -127,11 +117,6 @@ fn ascii_buf_8(rt: HostRuntime) {
         text.make_ascii_uppercase();
         shows(&rt, alloc, &text, "\"FOO\"");
     }
-}
-
-#[test]
-fn ascii_buf_9(rt: HostRuntime) {
-    let alloc = rt.alloc();
     // AsciiBuf::make_ascii_lowercase
     {
         let mut text = SmallAsciiString::from_ascii_str(alloc, view("FOO")).expect(&rt, "refused");
@@ -155,18 +140,6 @@ fn small_ascii_string_1(rt: HostRuntime) {
             SmallAsciiString::from_ascii_str(alloc, view("foo"))
                 .expect(&rt, "refused")
                 .as_ascii_str(),
-        ),
-        "(0, \"foo\", \"foo\")",
-    );
-}
-
-#[test]
-fn small_ascii_string_2(rt: HostRuntime) {
-    let alloc = rt.alloc();
-    shows(
-        &rt,
-        alloc,
-        &(
             // SmallAsciiString::is_inline
             SmallAsciiString::from_ascii_str(alloc, view("foo"))
                 .expect(&rt, "refused")
@@ -177,25 +150,27 @@ fn small_ascii_string_2(rt: HostRuntime) {
                 .len(),
             // SmallAsciiString::is_empty
             SmallAsciiString::new(alloc).is_empty(),
-            // SmallAsciiString::capacity
-            SmallAsciiString::new(alloc).capacity(),
         ),
-        "(true, 3, true, 24)",
+        "(0, \"foo\", \"foo\", true, 3, true)",
     );
 }
 
 #[test]
-fn small_ascii_string_3(rt: HostRuntime) {
+fn small_ascii_string_2(rt: HostRuntime) {
     let alloc = rt.alloc();
-    // SmallAsciiString::into_ascii_string
     shows(
         &rt,
         alloc,
-        &SmallAsciiString::from_ascii_str(alloc, view("foo"))
-            .expect(&rt, "refused")
-            .into_ascii_string()
-            .ok(),
-        "Some(\"foo\")",
+        &(
+            // SmallAsciiString::capacity
+            SmallAsciiString::new(alloc).capacity(),
+            // SmallAsciiString::into_ascii_string
+            SmallAsciiString::from_ascii_str(alloc, view("foo"))
+                .expect(&rt, "refused")
+                .into_ascii_string()
+                .ok(),
+        ),
+        "(24, Some(\"foo\"))",
     );
     // AsciiBuf for SmallAsciiString::shrink_to_fit
     {
@@ -203,35 +178,28 @@ fn small_ascii_string_3(rt: HostRuntime) {
         shows(&rt, alloc, &text.shrink_to_fit(), "Ok(())");
         shows(&rt, alloc, &text.capacity(), "24");
     }
-}
-
-#[test]
-fn small_ascii_string_4(rt: HostRuntime) {
-    let alloc = rt.alloc();
+    // Clone for SmallAsciiString::clone
     shows(
         &rt,
         alloc,
-        &(
-            // Clone for SmallAsciiString::clone
-            SmallAsciiString::from_ascii_str(alloc, view("foo"))
-                .expect(&rt, "refused")
-                .clone()
-                .expect(&rt, "refused"),
-            // PartialEq for SmallAsciiString::eq
-            SmallAsciiString::new(alloc)
-                == SmallAsciiString::from_ascii_str(alloc, view("foo")).expect(&rt, "refused"),
-        ),
-        "(\"foo\", false)",
+        &SmallAsciiString::from_ascii_str(alloc, view("foo"))
+            .expect(&rt, "refused")
+            .clone()
+            .expect(&rt, "refused"),
+        "\"foo\"",
     );
 }
 
 #[test]
-fn small_ascii_string_5(rt: HostRuntime) {
+fn small_ascii_string_3(rt: HostRuntime) {
     let alloc = rt.alloc();
     shows(
         &rt,
         alloc,
         &(
+            // PartialEq for SmallAsciiString::eq
+            SmallAsciiString::new(alloc)
+                == SmallAsciiString::from_ascii_str(alloc, view("foo")).expect(&rt, "refused"),
             // PartialOrd for SmallAsciiString::partial_cmp
             SmallAsciiString::new(alloc)
                 < SmallAsciiString::from_ascii_str(alloc, view("foo")).expect(&rt, "refused"),
@@ -241,13 +209,8 @@ fn small_ascii_string_5(rt: HostRuntime) {
                 view("foo"),
             ).expect(&rt, "refused")),
         ),
-        "(true, Less)",
+        "(false, true, Less)",
     );
-}
-
-#[test]
-fn small_ascii_string_6(rt: HostRuntime) {
-    let alloc = rt.alloc();
     // Hash for SmallAsciiString::hash
     {
         let mut seen = HashSet::new(alloc);
@@ -263,35 +226,32 @@ fn small_ascii_string_6(rt: HostRuntime) {
 }
 
 #[test]
-fn small_ascii_string_7(rt: HostRuntime) {
+fn small_ascii_string_4(rt: HostRuntime) {
     let alloc = rt.alloc();
-    // Display for SmallAsciiString::fmt
     shows(
         &rt,
         alloc,
-        &format!(in alloc;
-            "{}",
-            SmallAsciiString::from_ascii_str(alloc, view("foo")).expect(&rt, "refused")
-        )
-        .expect(&rt, "refused"),
-        "\"foo\"",
+        &(
+            // Display for SmallAsciiString::fmt
+            format!(in alloc;
+                "{}",
+                SmallAsciiString::from_ascii_str(alloc, view("foo")).expect(&rt, "refused")
+            )
+            .expect(&rt, "refused"),
+            // Debug for SmallAsciiString::fmt
+            format!(in alloc;
+                "{:?}",
+                SmallAsciiString::from_ascii_str(alloc, view("foo")).expect(&rt, "refused")
+            )
+            .expect(&rt, "refused"),
+        ),
+        "(\"foo\", \"\\\"foo\\\"\")",
     );
 }
 
 #[test]
-fn small_ascii_string_8(rt: HostRuntime) {
+fn small_ascii_string_5(rt: HostRuntime) {
     let alloc = rt.alloc();
-    // Debug for SmallAsciiString::fmt
-    shows(
-        &rt,
-        alloc,
-        &format!(in alloc;
-            "{:?}",
-            SmallAsciiString::from_ascii_str(alloc, view("foo")).expect(&rt, "refused")
-        )
-        .expect(&rt, "refused"),
-        "\"\\\"foo\\\"\"",
-    );
     // SmallAsciiString::write_char
     {
         let mut text = SmallAsciiString::new(alloc);
@@ -299,11 +259,6 @@ fn small_ascii_string_8(rt: HostRuntime) {
         shows(&rt, alloc, &text.write_char('č'), "Err(Error)");
         shows(&rt, alloc, &text, "\"a\"");
     }
-}
-
-#[test]
-fn small_ascii_string_9(rt: HostRuntime) {
-    let alloc = rt.alloc();
     // Write for SmallAsciiString::write_str
     {
         let mut text = SmallAsciiString::new(alloc);

@@ -32,8 +32,15 @@ fn ascii_str_1(rt: HostRuntime) {
             view("foo").first(),
             // AsciiStr::last
             view("foo").last(),
+            // AsciiStr::get_ascii
+            view("foo").get_ascii(0),
+            view("foo").get_ascii(3),
+            // AsciiStr::char_at
+            view("foo").char_at(0),
+            // AsciiStr::as_ascii_str
+            view("foo").as_ascii_str(),
         ),
-        "(\"foo\", [102, 111, 111], 3, true, Some('f'), Some('o'))",
+        "(\"foo\", [102, 111, 111], 3, true, Some('f'), Some('o'), Some('f'), None, 'f', Ok(\"foo\"))",
     );
 }
 
@@ -44,13 +51,6 @@ fn ascii_str_2(rt: HostRuntime) {
         &rt,
         alloc,
         &(
-            // AsciiStr::get_ascii
-            view("foo").get_ascii(0),
-            view("foo").get_ascii(3),
-            // AsciiStr::char_at
-            view("foo").char_at(0),
-            // AsciiStr::as_ascii_str
-            view("foo").as_ascii_str(),
             // AsciiStr::slice_ascii
             view("foo").slice_ascii(AsciiRange::To(2)),
             view("foo").slice_ascii(AsciiRange::To(4)),
@@ -58,18 +58,6 @@ fn ascii_str_2(rt: HostRuntime) {
             view("foo").slice(AsciiRange::From(1)),
             // AsciiStr::trim
             view(" a b\r\n").trim(),
-        ),
-        "(Some('f'), None, 'f', Ok(\"foo\"), Ok(\"fo\"), Err(AsAsciiStrError(3)), \"oo\", \"a b\")",
-    );
-}
-
-#[test]
-fn ascii_str_3(rt: HostRuntime) {
-    let alloc = rt.alloc();
-    shows(
-        &rt,
-        alloc,
-        &(
             // AsciiStr::trim_start
             view(" a b ").trim_start(),
             // AsciiStr::trim_end
@@ -83,7 +71,27 @@ fn ascii_str_3(rt: HostRuntime) {
             // Default for AsciiStr::default
             AsciiStr::default(),
         ),
-        "(\"a b \", \" a b\", true, true, true, \"\")",
+        "(Ok(\"fo\"), Err(AsAsciiStrError(3)), \"oo\", \"a b\", \"a b \", \" a b\", true, true, true, \"\")",
+    );
+}
+
+#[test]
+fn ascii_str_3(rt: HostRuntime) {
+    let alloc = rt.alloc();
+    shows(
+        &rt,
+        alloc,
+        &(
+            // Display for AsciiStr::fmt
+            format!(in alloc; "{}", view("a\"b")).expect(&rt, "refused"),
+            // Debug for AsciiStr::fmt
+            format!(in alloc; "{:?}", view("a\"b")).expect(&rt, "refused"),
+            // AsciiStr::to_ascii_string
+            view("foo").to_ascii_string(alloc).expect(&rt, "refused"),
+            // AsciiStr::to_ascii_uppercase
+            view("foo").to_ascii_uppercase(alloc).expect(&rt, "refused"),
+        ),
+        "(\"a\\\"b\", \"\\\"a\\\\\\\"b\\\"\", \"foo\", \"FOO\")",
     );
 }
 
@@ -94,48 +102,13 @@ fn ascii_str_4(rt: HostRuntime) {
         &rt,
         alloc,
         &(
-            // Display for AsciiStr::fmt
-            format!(in alloc; "{}", view("a\"b")).expect(&rt, "refused"),
-            // Debug for AsciiStr::fmt
-            format!(in alloc; "{:?}", view("a\"b")).expect(&rt, "refused"),
-        ),
-        "(\"a\\\"b\", \"\\\"a\\\\\\\"b\\\"\")",
-    );
-}
-
-#[test]
-fn ascii_str_5(rt: HostRuntime) {
-    let alloc = rt.alloc();
-    shows(
-        &rt,
-        alloc,
-        &(
-            // AsciiStr::to_ascii_string
-            view("foo").to_ascii_string(alloc).expect(&rt, "refused"),
-            // AsciiStr::to_ascii_uppercase
-            view("foo").to_ascii_uppercase(alloc).expect(&rt, "refused"),
             // AsciiStr::to_ascii_lowercase
             view("FOO").to_ascii_lowercase(alloc).expect(&rt, "refused"),
+            // AsciiStr::to_chars
+            view("ab").to_chars(alloc).expect(&rt, "refused"),
         ),
-        "(\"foo\", \"FOO\", \"foo\")",
+        "(\"foo\", ['a', 'b'])",
     );
-}
-
-#[test]
-fn ascii_str_6(rt: HostRuntime) {
-    let alloc = rt.alloc();
-    // AsciiStr::to_chars
-    shows(
-        &rt,
-        alloc,
-        &view("ab").to_chars(alloc).expect(&rt, "refused"),
-        "['a', 'b']",
-    );
-}
-
-#[test]
-fn ascii_str_7(rt: HostRuntime) {
-    let alloc = rt.alloc();
     // IntoIterator for AsciiStr::into_iter
     {
         let mut digit = false;
@@ -147,7 +120,7 @@ fn ascii_str_7(rt: HostRuntime) {
 }
 
 #[test]
-fn ascii_str_8(rt: HostRuntime) {
+fn ascii_str_5(rt: HostRuntime) {
     let alloc = rt.alloc();
     // AsciiStr::chars
     {
@@ -163,6 +136,11 @@ fn ascii_str_8(rt: HostRuntime) {
         shows(&rt, alloc, &lines.next_back(), "Some(\"y\")");
         shows(&rt, alloc, &lines.next(), "None");
     }
+}
+
+#[test]
+fn ascii_str_6(rt: HostRuntime) {
+    let alloc = rt.alloc();
     // AsciiStr::line_spans
     {
         let mut spans = view("x\r\ny").line_spans();
@@ -179,11 +157,6 @@ fn ascii_str_8(rt: HostRuntime) {
             "Some(LineSpan { start: 3, text: \"y\", ending: Absent })",
         );
     }
-}
-
-#[test]
-fn ascii_str_9(rt: HostRuntime) {
-    let alloc = rt.alloc();
     // AsciiStr::line_spans_from
     shows(
         &rt,
@@ -199,6 +172,11 @@ fn ascii_str_9(rt: HostRuntime) {
         shows(&rt, alloc, &pieces.next(), "Some(\"bar\")");
         shows(&rt, alloc, &pieces.next(), "None");
     }
+}
+
+#[test]
+fn ascii_str_7(rt: HostRuntime) {
+    let alloc = rt.alloc();
     // AsciiStr::split_spans
     {
         let mut spans = view("foo;bar").split_spans(AsciiChar::Semicolon);
@@ -209,11 +187,6 @@ fn ascii_str_9(rt: HostRuntime) {
             "Some(SplitSpan { start: 4, text: \"bar\" })",
         );
     }
-}
-
-#[test]
-fn ascii_str_10(rt: HostRuntime) {
-    let alloc = rt.alloc();
     // AsciiStr::split_spans_from
     {
         let mut spans = view("foo;bar").split_spans_from(AsciiChar::Semicolon, 10);
@@ -286,17 +259,17 @@ fn ascii_str_mut_1(rt: HostRuntime) {
         bytes::as_mut_ascii_str_unchecked(&mut source).make_ascii_uppercase();
         shows(&rt, alloc, &(source == *b"FOO"), "true");
     }
-}
-
-#[test]
-fn ascii_str_mut_2(rt: HostRuntime) {
-    let alloc = rt.alloc();
     // AsciiStrMut::make_ascii_lowercase
     {
         let mut source = *b"FOO";
         bytes::as_mut_ascii_str_unchecked(&mut source).make_ascii_lowercase();
         shows(&rt, alloc, &(source == *b"foo"), "true");
     }
+}
+
+#[test]
+fn ascii_str_mut_2(rt: HostRuntime) {
+    let alloc = rt.alloc();
     // AsciiStrMut::as_ascii_str
     {
         let mut source = *b"foo";
@@ -329,18 +302,6 @@ fn ascii_string_1(rt: HostRuntime) {
             AsciiString::from_ascii_unchecked(Vec::from_slice(alloc, b"foo").expect(
                 &rt, "refused",
             )),
-        ),
-        "(0, true, \"foo\")",
-    );
-}
-
-#[test]
-fn ascii_string_2(rt: HostRuntime) {
-    let alloc = rt.alloc();
-    shows(
-        &rt,
-        alloc,
-        &(
             // AsciiString::as_ascii_str
             view("foo")
                 .to_ascii_string(alloc)
@@ -349,12 +310,23 @@ fn ascii_string_2(rt: HostRuntime) {
             // AsciiString::capacity
             AsciiString::new(alloc).capacity(),
         ),
-        "(\"foo\", 0)",
+        "(0, true, \"foo\", \"foo\", 0)",
     );
+}
+
+#[test]
+fn ascii_string_2(rt: HostRuntime) {
+    let alloc = rt.alloc();
     // AsciiString::reserve
     {
         let mut text = view("foo").to_ascii_string(alloc).expect(&rt, "refused");
         shows(&rt, alloc, &text.reserve(10), "Ok(())");
+        shows(&rt, alloc, &(text.capacity() >= 13), "true");
+    }
+    // AsciiString::reserve_exact
+    {
+        let mut text = view("foo").to_ascii_string(alloc).expect(&rt, "refused");
+        shows(&rt, alloc, &text.reserve_exact(10), "Ok(())");
         shows(&rt, alloc, &(text.capacity() >= 13), "true");
     }
 }
@@ -362,74 +334,63 @@ fn ascii_string_2(rt: HostRuntime) {
 #[test]
 fn ascii_string_3(rt: HostRuntime) {
     let alloc = rt.alloc();
-    // AsciiString::reserve_exact
-    {
-        let mut text = view("foo").to_ascii_string(alloc).expect(&rt, "refused");
-        shows(&rt, alloc, &text.reserve_exact(10), "Ok(())");
-        shows(&rt, alloc, &(text.capacity() >= 13), "true");
-    }
     // AsciiString::shrink_to_fit
     {
         let mut text = AsciiString::with_capacity(alloc, 10).expect(&rt, "refused");
         shows(&rt, alloc, &text.shrink_to_fit(), "Ok(())");
         shows(&rt, alloc, &text.capacity(), "0");
     }
-}
-
-#[test]
-fn ascii_string_4(rt: HostRuntime) {
-    let alloc = rt.alloc();
     // AsciiString::push
     {
         let mut text = view("fo").to_ascii_string(alloc).expect(&rt, "refused");
         shows(&rt, alloc, &text.push(AsciiChar::o), "Ok(())");
         shows(&rt, alloc, &text, "\"foo\"");
     }
+}
+
+#[test]
+fn ascii_string_4(rt: HostRuntime) {
+    let alloc = rt.alloc();
     // AsciiString::push_str
     {
         let mut text = view("foo").to_ascii_string(alloc).expect(&rt, "refused");
         shows(&rt, alloc, &text.push_str(view("bar")), "Ok(())");
         shows(&rt, alloc, &text, "\"foobar\"");
     }
-}
-
-#[test]
-fn ascii_string_5(rt: HostRuntime) {
-    let alloc = rt.alloc();
     // AsciiString::insert
     {
         let mut text = view("fo").to_ascii_string(alloc).expect(&rt, "refused");
         shows(&rt, alloc, &text.insert(0, AsciiChar::z), "Ok(())");
         shows(&rt, alloc, &text, "\"zfo\"");
     }
+}
+
+#[test]
+fn ascii_string_5(rt: HostRuntime) {
+    let alloc = rt.alloc();
     // AsciiString::insert_str
     {
         let mut text = view("fo").to_ascii_string(alloc).expect(&rt, "refused");
         shows(&rt, alloc, &text.insert_str(1, view("lo")), "Ok(())");
         shows(&rt, alloc, &text, "\"floo\"");
     }
-}
-
-#[test]
-fn ascii_string_6(rt: HostRuntime) {
-    let alloc = rt.alloc();
     // AsciiString::remove
     {
         let mut text = view("foo").to_ascii_string(alloc).expect(&rt, "refused");
         shows(&rt, alloc, &text.remove(0), "'f'");
         shows(&rt, alloc, &text, "\"oo\"");
     }
+}
+
+#[test]
+fn ascii_string_6(rt: HostRuntime) {
+    let alloc = rt.alloc();
     // AsciiString::pop
     {
         let mut text = view("fo").to_ascii_string(alloc).expect(&rt, "refused");
         shows(&rt, alloc, &text.pop(), "Some('o')");
         shows(&rt, alloc, &text, "\"f\"");
     }
-}
-
-#[test]
-fn ascii_string_7(rt: HostRuntime) {
-    let alloc = rt.alloc();
     // AsciiString::truncate
     {
         let mut text = view("foo").to_ascii_string(alloc).expect(&rt, "refused");
@@ -439,7 +400,7 @@ fn ascii_string_7(rt: HostRuntime) {
 }
 
 #[test]
-fn ascii_string_8(rt: HostRuntime) {
+fn ascii_string_7(rt: HostRuntime) {
     let alloc = rt.alloc();
     // AsciiString::clear
     {
@@ -447,11 +408,6 @@ fn ascii_string_8(rt: HostRuntime) {
         text.clear();
         shows(&rt, alloc, &text, "\"\"");
     }
-}
-
-#[test]
-fn ascii_string_9(rt: HostRuntime) {
-    let alloc = rt.alloc();
     // AsciiString::set
     {
         let mut text = view("foo").to_ascii_string(alloc).expect(&rt, "refused");
@@ -461,7 +417,7 @@ fn ascii_string_9(rt: HostRuntime) {
 }
 
 #[test]
-fn ascii_string_10(rt: HostRuntime) {
+fn ascii_string_8(rt: HostRuntime) {
     let alloc = rt.alloc();
     // AsciiString::make_ascii_uppercase
     {
@@ -469,11 +425,6 @@ fn ascii_string_10(rt: HostRuntime) {
         text.make_ascii_uppercase();
         shows(&rt, alloc, &text, "\"FOO\"");
     }
-}
-
-#[test]
-fn ascii_string_11(rt: HostRuntime) {
-    let alloc = rt.alloc();
     // AsciiString::make_ascii_lowercase
     {
         let mut text = view("FOO").to_ascii_string(alloc).expect(&rt, "refused");
@@ -493,7 +444,7 @@ fn ascii_string_11(rt: HostRuntime) {
 }
 
 #[test]
-fn ascii_string_12(rt: HostRuntime) {
+fn ascii_string_9(rt: HostRuntime) {
     let alloc = rt.alloc();
     shows(
         &rt,
@@ -510,46 +461,36 @@ fn ascii_string_12(rt: HostRuntime) {
                 .expect(&rt, "refused")
                 .clone()
                 .expect(&rt, "refused"),
+            // PartialEq for AsciiString::eq
+            view("foo").to_ascii_string(alloc).expect(&rt, "refused")
+                == view("foo").to_ascii_string(alloc).expect(&rt, "refused"),
         ),
-        "(false, \"foo\")",
+        "(false, \"foo\", true)",
     );
 }
 
 #[test]
-fn ascii_string_13(rt: HostRuntime) {
+fn ascii_string_10(rt: HostRuntime) {
     let alloc = rt.alloc();
     shows(
         &rt,
         alloc,
         &(
-            // PartialEq for AsciiString::eq
-            view("foo").to_ascii_string(alloc).expect(&rt, "refused")
-                == view("foo").to_ascii_string(alloc).expect(&rt, "refused"),
             // PartialOrd for AsciiString::partial_cmp
             view("foo").to_ascii_string(alloc).expect(&rt, "refused")
                 < view("fop").to_ascii_string(alloc).expect(&rt, "refused"),
+            // Ord for AsciiString::cmp
+            view("foo")
+                .to_ascii_string(alloc)
+                .expect(&rt, "refused")
+                .cmp(&view("fo").to_ascii_string(alloc).expect(&rt, "refused")),
         ),
-        "(true, true)",
+        "(true, Greater)",
     );
 }
 
 #[test]
-fn ascii_string_14(rt: HostRuntime) {
-    let alloc = rt.alloc();
-    // Ord for AsciiString::cmp
-    shows(
-        &rt,
-        alloc,
-        &view("foo")
-            .to_ascii_string(alloc)
-            .expect(&rt, "refused")
-            .cmp(&view("fo").to_ascii_string(alloc).expect(&rt, "refused")),
-        "Greater",
-    );
-}
-
-#[test]
-fn ascii_string_15(rt: HostRuntime) {
+fn ascii_string_11(rt: HostRuntime) {
     let alloc = rt.alloc();
     // Hash for AsciiString::hash
     {
@@ -563,11 +504,6 @@ fn ascii_string_15(rt: HostRuntime) {
             "true",
         );
     }
-}
-
-#[test]
-fn ascii_string_16(rt: HostRuntime) {
-    let alloc = rt.alloc();
     // Display for AsciiString::fmt
     shows(
         &rt,
@@ -582,7 +518,7 @@ fn ascii_string_16(rt: HostRuntime) {
 }
 
 #[test]
-fn ascii_string_17(rt: HostRuntime) {
+fn ascii_string_12(rt: HostRuntime) {
     let alloc = rt.alloc();
     // Debug for AsciiString::fmt
     shows(
@@ -595,11 +531,6 @@ fn ascii_string_17(rt: HostRuntime) {
         .expect(&rt, "refused"),
         "\"\\\"foo\\\"\"",
     );
-}
-
-#[test]
-fn ascii_string_18(rt: HostRuntime) {
-    let alloc = rt.alloc();
     // AsciiString::write_char
     {
         let mut text = view("foo").to_ascii_string(alloc).expect(&rt, "refused");
@@ -607,17 +538,17 @@ fn ascii_string_18(rt: HostRuntime) {
         shows(&rt, alloc, &text.write_char('č'), "Err(Error)");
         shows(&rt, alloc, &text, "\"food\"");
     }
+}
+
+#[test]
+fn ascii_string_13(rt: HostRuntime) {
+    let alloc = rt.alloc();
     // Write for AsciiString::write_str
     {
         let mut text = view("foo").to_ascii_string(alloc).expect(&rt, "refused");
         shows(&rt, alloc, &write!(text, "{}", 7), "Ok(())");
         shows(&rt, alloc, &text, "\"foo7\"");
     }
-}
-
-#[test]
-fn ascii_string_19(rt: HostRuntime) {
-    let alloc = rt.alloc();
     shows(
         &rt,
         alloc,
@@ -640,7 +571,7 @@ fn ascii_string_19(rt: HostRuntime) {
 }
 
 #[test]
-fn ascii_string_20(rt: HostRuntime) {
+fn ascii_string_14(rt: HostRuntime) {
     let alloc = rt.alloc();
     // AsciiString::extend_chars
     {
@@ -664,35 +595,28 @@ fn ascii_string_20(rt: HostRuntime) {
         );
         shows(&rt, alloc, &text, "\"abc\"");
     }
+    // AsciiString::collect_chars
+    shows(
+        &rt,
+        alloc,
+        &AsciiString::collect_chars(alloc, view("foo").chars().rev()).expect(&rt, "refused"),
+        "\"oof\"",
+    );
 }
 
 #[test]
-fn ascii_string_21(rt: HostRuntime) {
+fn ascii_string_15(rt: HostRuntime) {
     let alloc = rt.alloc();
     shows(
         &rt,
         alloc,
         &(
-            // AsciiString::collect_chars
-            AsciiString::collect_chars(alloc, view("foo").chars().rev()).expect(&rt, "refused"),
             // AsciiString::collect_strs
             AsciiString::collect_strs(alloc, view("b,c").split(AsciiChar::Comma)).expect(
                 &rt, "refused",
             ),
             // AsciiString::from_char
             AsciiString::from_char(alloc, AsciiChar::a).expect(&rt, "refused"),
-        ),
-        "(\"oof\", \"bc\", \"a\")",
-    );
-}
-
-#[test]
-fn ascii_string_22(rt: HostRuntime) {
-    let alloc = rt.alloc();
-    shows(
-        &rt,
-        alloc,
-        &(
             // AsciiString::from_chars
             AsciiString::from_chars(alloc, &[AsciiChar::a, AsciiChar::b]).expect(&rt, "refused"),
             // AsciiString::into_chars
@@ -701,12 +625,12 @@ fn ascii_string_22(rt: HostRuntime) {
                 .expect(&rt, "refused")
                 .into_chars(alloc),
         ),
-        "(\"ab\", Ok(['a', 'b']))",
+        "(\"bc\", \"a\", \"ab\", Ok(['a', 'b']))",
     );
 }
 
 #[test]
-fn ascii_string_23(rt: HostRuntime) {
+fn ascii_string_16(rt: HostRuntime) {
     let alloc = rt.alloc();
     // AsciiString::to_json
     shows(
@@ -780,22 +704,12 @@ fn boxed_ascii_str_1(rt: HostRuntime) {
                 .expect(&rt, "refused")
                 .into_ascii_string()
                 .ok(),
+            // BoxedAsciiStr::into_boxed_str
+            BoxedAsciiStr::from_ascii_str(alloc, view("foo"))
+                .expect(&rt, "refused")
+                .into_boxed_str(),
         ),
-        "(\"foo\", 3, Some(\"foo\"))",
-    );
-}
-
-#[test]
-fn boxed_ascii_str_2(rt: HostRuntime) {
-    let alloc = rt.alloc();
-    // BoxedAsciiStr::into_boxed_str
-    shows(
-        &rt,
-        alloc,
-        &BoxedAsciiStr::from_ascii_str(alloc, view("foo"))
-            .expect(&rt, "refused")
-            .into_boxed_str(),
-        "\"foo\"",
+        "(\"foo\", 3, Some(\"foo\"), \"foo\")",
     );
 }
 
@@ -815,24 +729,14 @@ fn rc_ascii_str_1(rt: HostRuntime) {
                 .expect(&rt, "refused")
                 .as_ascii_str()
                 .len(),
+            // Clone for RcAsciiStr::clone
+            RcAsciiStr::from_ascii_str(alloc, view("foo"))
+                .expect(&rt, "refused")
+                .clone()
+                .expect(&rt, "refused")
+                .as_ascii_str(),
         ),
-        "(\"foo\", 3)",
-    );
-}
-
-#[test]
-fn rc_ascii_str_2(rt: HostRuntime) {
-    let alloc = rt.alloc();
-    // Clone for RcAsciiStr::clone
-    shows(
-        &rt,
-        alloc,
-        &RcAsciiStr::from_ascii_str(alloc, view("foo"))
-            .expect(&rt, "refused")
-            .clone()
-            .expect(&rt, "refused")
-            .as_ascii_str(),
-        "\"foo\"",
+        "(\"foo\", 3, \"foo\")",
     );
 }
 
@@ -854,11 +758,6 @@ fn cow_ascii_str_1(rt: HostRuntime) {
         let cow: CowAsciiStr = view("foo").into();
         shows(&rt, alloc, &cow.as_ascii_str(), "\"foo\"");
     }
-}
-
-#[test]
-fn cow_ascii_str_2(rt: HostRuntime) {
-    let alloc = rt.alloc();
     // From<AsciiString> for CowAsciiStr::from
     {
         let cow: CowAsciiStr = view("foo")
@@ -913,11 +812,6 @@ fn bytes_2(rt: HostRuntime) {
         bytes::slice_ascii_mut_unchecked(&mut source, AsciiRange::From(1)).make_ascii_uppercase();
         shows(&rt, alloc, &(source == *b"fOO"), "true");
     }
-}
-
-#[test]
-fn bytes_3(rt: HostRuntime) {
-    let alloc = rt.alloc();
     // bytes::as_mut_ascii_str_unchecked
     {
         let mut source = *b"foo";
@@ -927,7 +821,7 @@ fn bytes_3(rt: HostRuntime) {
 }
 
 #[test]
-fn bytes_4(rt: HostRuntime) {
+fn bytes_3(rt: HostRuntime) {
     let alloc = rt.alloc();
     // bytes::slice_ascii_mut
     {
@@ -937,11 +831,6 @@ fn bytes_4(rt: HostRuntime) {
         }
         shows(&rt, alloc, &(source == *b"FOo\xc4"), "true");
     }
-}
-
-#[test]
-fn bytes_5(rt: HostRuntime) {
-    let alloc = rt.alloc();
     // bytes::as_mut_ascii_str
     {
         let mut source = *b"foo";
@@ -971,20 +860,10 @@ fn from_ascii_error_1(rt: HostRuntime) {
             vec::into_ascii_string(Vec::from_slice(alloc, b"ab\xc4").expect(
                 &rt, "refused",
             )).map_err(|e| e.to_string(alloc)),
+            // Debug for FromAsciiError::fmt
+            vec::into_ascii_string(Vec::from_slice(alloc, b"ab\xc4").expect(&rt, "refused")),
         ),
-        "(Err(AsAsciiStrError(2)), Err([97, 98, 196]), Err(Ok(\"the byte at index 2 is not ASCII\")))",
-    );
-}
-
-#[test]
-fn from_ascii_error_2(rt: HostRuntime) {
-    let alloc = rt.alloc();
-    // Debug for FromAsciiError::fmt
-    shows(
-        &rt,
-        alloc,
-        &vec::into_ascii_string(Vec::from_slice(alloc, b"ab\xc4").expect(&rt, "refused")),
-        "Err(AsAsciiStrError(2))",
+        "(Err(AsAsciiStrError(2)), Err([97, 98, 196]), Err(Ok(\"the byte at index 2 is not ASCII\")), Err(AsAsciiStrError(2)))",
     );
 }
 
@@ -1004,6 +883,17 @@ fn chars_1(rt: HostRuntime) {
         shows(&rt, alloc, &chars.next(), "Some('f')");
         shows(&rt, alloc, &copy.as_str(), "\"foo\"");
     }
+    shows(
+        &rt,
+        alloc,
+        &(
+            // Iterator for Chars::next
+            view("foo").chars().next(),
+            // Iterator for Chars::size_hint
+            view("foo").chars().size_hint(),
+        ),
+        "(Some('f'), (3, Some(3)))",
+    );
 }
 
 #[test]
@@ -1013,16 +903,12 @@ fn chars_2(rt: HostRuntime) {
         &rt,
         alloc,
         &(
-            // Iterator for Chars::next
-            view("foo").chars().next(),
-            // Iterator for Chars::size_hint
-            view("foo").chars().size_hint(),
             // DoubleEndedIterator for Chars::next_back
             view("foo").chars().next_back(),
             // ExactSizeIterator for Chars::len
             view("foo").chars().len(),
         ),
-        "(Some('f'), (3, Some(3)), Some('o'), 3)",
+        "(Some('o'), 3)",
     );
 }
 
@@ -1167,11 +1053,6 @@ fn split_1(rt: HostRuntime) {
         ),
         "(Some(\"\"), Some(\"foo\"))",
     );
-}
-
-#[test]
-fn split_2(rt: HostRuntime) {
-    let alloc = rt.alloc();
     // Split::remainder
     {
         let mut pieces = view("foo;bar;baz").split(AsciiChar::Semicolon);
@@ -1199,18 +1080,6 @@ fn iter_1(rt: HostRuntime) {
             .expect(&rt, "refused"),
             // iter::walk_lines
             walk_lines(alloc, view("a\nb"), &[End::Back, End::Front]).expect(&rt, "refused"),
-        ),
-        "(Some(\"y\"), [Some(\"b\"), Some(\"a\"), None], [Some(\"b\"), Some(\"a\")])",
-    );
-}
-
-#[test]
-fn iter_2(rt: HostRuntime) {
-    let alloc = rt.alloc();
-    shows(
-        &rt,
-        alloc,
-        &(
             // iter::walk_split_spans
             walk_split_spans(alloc, view("a,b"), AsciiChar::Comma, &[End::Back]).expect(
                 &rt, "refused",
@@ -1218,7 +1087,7 @@ fn iter_2(rt: HostRuntime) {
             // iter::walk_line_spans
             walk_line_spans(alloc, view("a\nb"), &[End::Front]).expect(&rt, "refused"),
         ),
-        "([Some(SplitSpan { start: 2, text: \"b\" })], [Some(LineSpan { start: 0, text: \"a\", ending: Lf })])",
+        "(Some(\"y\"), [Some(\"b\"), Some(\"a\"), None], [Some(\"b\"), Some(\"a\")], [Some(SplitSpan { start: 2, text: \"b\" })], [Some(LineSpan { start: 0, text: \"a\", ending: Lf })])",
     );
 }
 
@@ -1284,19 +1153,9 @@ fn text_1(rt: HostRuntime) {
             text::as_ascii_str_unchecked("foo"),
             // text::from_ascii_unchecked
             text::from_ascii_unchecked("foo"),
+            // text::to_ascii_string
+            text::to_ascii_string(alloc, "foo"),
         ),
-        "(Ok(\"foo\"), Err(AsAsciiStrError(2)), Ok(\"foo\"), Ok(\"d\"), Err(AsAsciiStrError(2)), Some('b'), None, \"foo\", \"foo\")",
-    );
-}
-
-#[test]
-fn text_2(rt: HostRuntime) {
-    let alloc = rt.alloc();
-    // text::to_ascii_string
-    shows(
-        &rt,
-        alloc,
-        &text::to_ascii_string(alloc, "foo"),
-        "Ok(\"foo\")",
+        "(Ok(\"foo\"), Err(AsAsciiStrError(2)), Ok(\"foo\"), Ok(\"d\"), Err(AsAsciiStrError(2)), Some('b'), None, \"foo\", \"foo\", Ok(\"foo\"))",
     );
 }
