@@ -1,5 +1,7 @@
-//! Each growth of a call is refused in turn, and what the call then answers and leaves is compared.
+//! Each growth of a call is refused in turn, and what the call then answers and leaves is compared; and where none is
+//! refused, no call gives up past a length.
 
+mod ample;
 mod each_block;
 mod each_growth;
 mod edits;
@@ -9,3 +11,11 @@ mod runs;
 mod small;
 mod turned;
 mod values;
+
+use std::fmt::Debug;
+use std::process::Abort;
+
+/// Fails the test where what was got is not what is wanted, and shows both.
+fn same<T: PartialEq + Debug + Drop>(rt: &impl Abort, got: T, want: T) {
+    assert_eq!(rt; got, want);
+}

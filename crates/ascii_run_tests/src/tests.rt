@@ -1,8 +1,7 @@
 //! Runs of commands over both forms of an owned text, and the engine over memory and over devices that fail. The lists of
-//! edits are compared with a table that was made with the Rust crate; a byte past 127 stands at every place, and no call
+//! edits are compared with a table that was made with the Rust crate; a byte past 127 stands at every place, and no mode
 //! gives up past a length. `bin/examples` writes `of_ascii_run.rt`, the examples in the documentation of the calls.
 
-mod ample;
 mod commands;
 mod devices;
 mod each_call;
