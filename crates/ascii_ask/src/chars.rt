@@ -13,7 +13,7 @@ use crate::slices::found;
 use ascii::{AsciiChar, ToAsciiChar, caret_decode, caret_encode};
 
 /// The answer to a question whose first word ends in `call`.
-pub fn reply(question: &Question<'_>, call: &str) -> Result<String, Fault> {
+pub(crate) fn reply(question: &Question<'_>, call: &str) -> Result<String, Fault> {
     match call {
         "from" => from(question),
         "classes" => classes(question),

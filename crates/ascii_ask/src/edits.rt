@@ -15,7 +15,7 @@ use ascii_run::{AsciiBuf, Cmd, Reply, SmallAsciiString, run};
 use std::alloc::Global;
 
 /// The answer to a question whose first word ends in `call`.
-pub fn reply(question: &Question<'_>, call: &str) -> Result<String, Fault> {
+pub(crate) fn reply(question: &Question<'_>, call: &str) -> Result<String, Fault> {
     let mut string = question.text(0)?;
     match call {
         "string" => ran(question, &mut string),

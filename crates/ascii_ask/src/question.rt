@@ -6,7 +6,7 @@ use std::alloc::{AllocError, AllocFailed, Global};
 
 /// Why a question has no answer.
 #[derive(Clone, Copy, Debug, PartialEq, Eq)]
-pub enum Fault {
+pub(crate) enum Fault {
     /// It is no question.
     Bad,
     /// There was no memory.
@@ -27,80 +27,80 @@ impl<T: Drop> From<AllocFailed<T>> for Fault {
 
 /// The words behind the name of a call, and where memory is taken.
 #[derive(Clone, Copy)]
-pub struct Question<'a> {
-    pub alloc: Global,
-    pub words: &'a [&'a str],
+pub(crate) struct Question<'a> {
+    pub(crate) alloc: Global,
+    pub(crate) words: &'a [&'a str],
 }
 
 impl<'a> Question<'a> {
     /// The word with this number, from 0.
-    pub fn word(&self, n: usize) -> Result<&'a str, Fault> {
+    pub(crate) fn word(&self, n: usize) -> Result<&'a str, Fault> {
         self.words.get(n).copied().ok_or(Fault::Bad)
     }
 
     /// The bytes that a word names.
-    pub fn bytes(&self, n: usize) -> Result<Vec<u8>, Fault> {
+    pub(crate) fn bytes(&self, n: usize) -> Result<Vec<u8>, Fault> {
         bytes_of(self.alloc, self.word(n)?)
     }
 
     /// The text that a word names.
-    pub fn text(&self, n: usize) -> Result<AsciiString, Fault> {
+    pub(crate) fn text(&self, n: usize) -> Result<AsciiString, Fault> {
         text_named(self.alloc, self.word(n)?)
     }
 
     /// The text in UTF-8 that a word names.
-    pub fn utf8(&self, n: usize) -> Result<String, Fault> {
+    pub(crate) fn utf8(&self, n: usize) -> Result<String, Fault> {
         String::from_utf8(self.bytes(n)?).ok().ok_or(Fault::Bad)
     }
 
     /// The number that a word is.
-    pub fn number(&self, n: usize) -> Result<usize, Fault> {
+    pub(crate) fn number(&self, n: usize) -> Result<usize, Fault> {
         number_of(self.word(n)?)
     }
 
     /// The byte whose number a word is.
-    pub fn byte(&self, n: usize) -> Result<u8, Fault> {
+    pub(crate) fn byte(&self, n: usize) -> Result<u8, Fault> {
         u8::try_from(self.number(n)?).ok().ok_or(Fault::Bad)
     }
 
     /// The character whose code a word is.
-    pub fn char(&self, n: usize) -> Result<AsciiChar, Fault> {
+    pub(crate) fn char(&self, n: usize) -> Result<AsciiChar, Fault> {
         AsciiChar::from_ascii(self.byte(n)?).ok().ok_or(Fault::Bad)
     }
 
     /// The range that a word is.
-    pub fn range(&self, n: usize) -> Result<AsciiRange, Fault> {
+    pub(crate) fn range(&self, n: usize) -> Result<AsciiRange, Fault> {
         range_of(self.word(n)?)
     }
 
     /// The ends that a word is a script of.
-    pub fn script(&self, n: usize) -> Result<Vec<End>, Fault> {
+    pub(crate) fn script(&self, n: usize) -> Result<Vec<End>, Fault> {
         script_of(self.alloc, self.word(n)?)
     }
 
     /// Bytes as an answer shows them.
-    pub fn shown(&self, bytes: &[u8]) -> Result<String, Fault> {
+    pub(crate) fn shown(&self, bytes: &[u8]) -> Result<String, Fault> {
         shown(self.alloc, bytes)
     }
 
     /// A number as an answer shows it.
-    pub fn decimal(&self, n: usize) -> Result<String, Fault> {
+    pub(crate) fn decimal(&self, n: usize) -> Result<String, Fault> {
         Ok(n.to_string(self.alloc)?)
     }
 
     /// The answer of these words.
-    pub fn answer(&self, words: &[&str]) -> Result<String, Fault> {
+    pub(crate) fn answer(&self, words: &[&str]) -> Result<String, Fault> {
         Ok(words.join(self.alloc, " ")?)
     }
 
     /// A fixed answer.
-    pub fn said(&self, answer: &str) -> Result<String, Fault> {
+    pub(crate) fn said(&self, answer: &str) -> Result<String, Fault> {
         Ok(String::from_str(self.alloc, answer)?)
     }
 }
 
 /// Bytes in hexadecimal; the empty list is `-`.
-pub fn shown(alloc: Global, bytes: &[u8]) -> Result<String, Fault> {
+pub(crate) fn shown(alloc: Global, bytes: &[u8]) -> Result<String, Fault> {
     if bytes.is_empty() {
         Ok(String::from_str(alloc, "-")?)
     } else {
@@ -109,7 +109,7 @@ pub fn shown(alloc: Global, bytes: &[u8]) -> Result<String, Fault> {
 }
 
 /// The bytes that a word names.
-pub fn bytes_of(alloc: Global, word: &str) -> Result<Vec<u8>, Fault> {
+pub(crate) fn bytes_of(alloc: Global, word: &str) -> Result<Vec<u8>, Fault> {
     if word == "-" {
         return Ok(Vec::new(alloc));
     }
@@ -117,19 +117,19 @@ pub fn bytes_of(alloc: Global, word: &str) -> Result<Vec<u8>, Fault> {
 }
 
 /// The text that a word names.
-pub fn text_named(alloc: Global, word: &str) -> Result<AsciiString, Fault> {
+pub(crate) fn text_named(alloc: Global, word: &str) -> Result<AsciiString, Fault> {
     vec::into_ascii_string(bytes_of(alloc, word)?)
         .ok()
         .ok_or(Fault::Bad)
 }
 
 /// The number that a word is.
-pub fn number_of(word: &str) -> Result<usize, Fault> {
+pub(crate) fn number_of(word: &str) -> Result<usize, Fault> {
     word.parse::<usize>().ok().ok_or(Fault::Bad)
 }
 
 /// The range that a word is.
-pub fn range_of(word: &str) -> Result<AsciiRange, Fault> {
+pub(crate) fn range_of(word: &str) -> Result<AsciiRange, Fault> {
     let (start, end) = word.split_once("..").ok_or(Fault::Bad)?;
     let last = end.strip_prefix('=');
     match (bound_of(start)?, bound_of(last.unwrap_or(end))?) {

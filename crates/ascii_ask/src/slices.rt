@@ -10,7 +10,7 @@ use crate::question::{Fault, Question};
 use ascii::{AsAsciiStrError, AsciiChar, AsciiStr, bytes, text};
 
 /// The answer to a question whose first word ends in `call`.
-pub fn reply(question: &Question<'_>, call: &str) -> Result<String, Fault> {
+pub(crate) fn reply(question: &Question<'_>, call: &str) -> Result<String, Fault> {
     match call {
         "bytes" => of_bytes(question),
         "text" => of_text(question),
@@ -92,7 +92,7 @@ fn places(question: &Question<'_>) -> Result<String, Fault> {
 }
 
 /// A character that may be there.
-pub fn found(question: &Question<'_>, ch: Option<AsciiChar>) -> Result<String, Fault> {
+pub(crate) fn found(question: &Question<'_>, ch: Option<AsciiChar>) -> Result<String, Fault> {
     match ch {
         Some(ch) => {
             let code = question.decimal(usize::from(ch.as_byte()))?;

@@ -9,7 +9,7 @@ use crate::question::{Fault, Question};
 use std::cmp::Ordering;
 
 /// The answer to a question whose first word ends in `call`.
-pub fn reply(question: &Question<'_>, call: &str) -> Result<String, Fault> {
+pub(crate) fn reply(question: &Question<'_>, call: &str) -> Result<String, Fault> {
     let source = question.text(0)?;
     let view = source.as_ascii_str();
     match call {
@@ -57,7 +57,7 @@ fn lower(question: &Question<'_>) -> Result<String, Fault> {
 }
 
 /// Two texts.
-pub fn both(question: &Question<'_>, first: &[u8], second: &[u8]) -> Result<String, Fault> {
+pub(crate) fn both(question: &Question<'_>, first: &[u8], second: &[u8]) -> Result<String, Fault> {
     let first = question.shown(first)?;
     let second = question.shown(second)?;
     question.answer(&[first.as_str(), second.as_str()])

@@ -13,7 +13,7 @@ use ascii::{AsciiString, CopyError, CowAsciiStr, bytes, string, text, vec};
 use std::fmt::Write as _;
 
 /// The answer to a question whose first word ends in `call`.
-pub fn reply(question: &Question<'_>, call: &str) -> Result<String, Fault> {
+pub(crate) fn reply(question: &Question<'_>, call: &str) -> Result<String, Fault> {
     match call {
         "bytes" => of_bytes(question),
         "text" => of_text(question),

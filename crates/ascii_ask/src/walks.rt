@@ -13,7 +13,7 @@ use ascii::iter::{Ending, LineSpan, SplitSpan, take_end};
 use std::alloc::Global;
 
 /// The answer to a question whose first word ends in `call`.
-pub fn reply(question: &Question<'_>, call: &str) -> Result<String, Fault> {
+pub(crate) fn reply(question: &Question<'_>, call: &str) -> Result<String, Fault> {
     match call {
         "split" => split(question),
         "lines" => lines(question),

@@ -7,8 +7,8 @@ ghost use Rattle.ascii_run.specs.JsonText.{AreForms, json_code, json_text};
 ghost use Rattle.ascii_run.specs.Outgoing.{MayFail, PutIn, out};
 
 use crate::devices::Sink;
-use crate::escapes::first_escaped;
 use crate::page::Page;
+use crate::plain::{Unescaped, first_other};
 use ascii::{AsciiStr, AsciiString, bytes};
 use json::Writer;
 use std::alloc::{AllocError, Allocator};
@@ -72,7 +72,7 @@ fn put_by_forms<K: Sink, A: Allocator>(
     ensures { PutIn K.taken K.failures writer.old page.old writer.new page.new (flat_map json_code (text_of text.entry)) }
 {
     let mut rest = text.as_bytes();
-    'runs: while let Some(place) = first_escaped(rest) {
+    'runs: while let Some(place) = first_other::<Unescaped>(rest) {
         page.put(writer, &rest[..place]);
         put_form(rest[place], forms, page, writer);
         rest = &rest[place + 1..];

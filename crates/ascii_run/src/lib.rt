@@ -6,9 +6,7 @@
 
 pub mod buf;
 mod commands;
-mod controls;
 mod devices;
-mod escapes;
 mod faults;
 mod filter;
 mod forms;
@@ -16,6 +14,7 @@ mod json_strings;
 mod modes;
 mod outputs;
 mod page;
+mod plain;
 
 pub use buf::{AsciiBuf, SmallAsciiString};
 pub use commands::{Cmd, Reply, plain_run, run, runs_agree};

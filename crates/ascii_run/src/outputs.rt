@@ -11,12 +11,12 @@ ghost use Rattle.ascii_run.specs.Output.{IsShown, answer_text, caret_text, endin
 ghost use Rattle.ascii_run.specs.Run.{HasNoFault, plain_text};
 
 use crate::commands::{Cmd, edit};
-use crate::controls::first_control;
 use crate::devices::Sink;
 use crate::faults::EngineFault;
 use crate::json_strings::put_json;
 use crate::modes::Mode;
 use crate::page::Page;
+use crate::plain::{Shown, first_other};
 use ascii::iter::{End, Ending, LineSpan, take_end};
 use ascii::{AsciiStr, AsciiString};
 use itoa::Buffer;
@@ -114,7 +114,7 @@ fn put_caret<K: Sink, A: Allocator>(text: AsciiStr<'_>, page: &mut Page<A>, writ
     ensures { PutIn K.taken K.failures writer.old page.old writer.new page.new (flat_map caret_text (text_of text.entry)) }
 {
     let mut rest = text.as_bytes();
-    'runs: while let Some(place) = first_control(rest) {
+    'runs: while let Some(place) = first_other::<Shown>(rest) {
         page.put(writer, &rest[..place]);
         put_control(rest[place], page, writer);
         rest = &rest[place + 1..];

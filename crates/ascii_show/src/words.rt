@@ -5,7 +5,7 @@ use std::env::{Env, FillError};
 
 /// The words, one behind the other.
 #[derive(Drop)]
-pub struct Words {
+pub(crate) struct Words {
     /// each word and a NUL, which no word has in it
     text: String,
     /// how many words there are
@@ -14,7 +14,7 @@ pub struct Words {
 
 impl Words {
     /// Reads the words. Words that are no text are taken as none.
-    pub fn read(rt: &HostRuntime) -> Result<Words, AllocError> {
+    pub(crate) fn read(rt: &HostRuntime) -> Result<Words, AllocError> {
         let mut bytes = Vec::new(rt.alloc());
         let mut count = 0;
         for before in 0..usize::MAX {
@@ -33,7 +33,7 @@ impl Words {
     }
 
     /// The words in their order.
-    pub fn views(&self, alloc: Global) -> Result<Vec<&str>, AllocError> {
+    pub(crate) fn views(&self, alloc: Global) -> Result<Vec<&str>, AllocError> {
         let mut views = Vec::with_capacity(alloc, self.count)?;
         for word in self.text.split('\0').take(self.count) {
             views.push(word)?;
