@@ -7,6 +7,7 @@ pub mod Found
 pub mod Held
 pub mod Json
 pub mod Lines
+pub mod Only
 pub mod Pieces
 pub mod Refusal
 pub mod Slice

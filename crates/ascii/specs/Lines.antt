@@ -38,6 +38,10 @@ pub record LinesOf (text : List ℕ) (lines : List Line) : Type 0 where
   pub ended : All (λ line. line.ending ≢ Absent) (take (length lines - 1) lines)
   pub joined : flat_map line_text lines ≡ text
 
+-- of the lines of a view, this holds
+abbrev pub WithLines : AsciiStr → (List Line → Type 0) → Type 0
+WithLines view Holds = (lines : List Line) × LinesOf (text_of view) lines × Holds lines
+
 -- the bodies, which are what the lines hand out
 abbrev pub bodies : List Line → List (List ℕ)
 bodies lines = map (λ line. line.body) lines

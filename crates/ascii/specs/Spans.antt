@@ -1,5 +1,7 @@
 -- Pieces and lines with the places where they start.
 use Rattle.std.specs.Prelude.{◌≡◌, ◌≢◌, ℕ, ◌+◌, List, [], ◌∷◌, length, map, Option, MatchOption}
+use Rattle.ascii_base.specs.declared.ascii_char.AsciiChar.{AsciiChar}
+use Rattle.ascii_base.specs.Code.{code_of}
 use Rattle.ascii.specs.declared.ascii_str.AsciiStr.{AsciiStr}
 use Rattle.ascii.specs.declared.iter.spans.LineSpan.{LineSpan}
 use Rattle.ascii.specs.declared.iter.spans.SplitSpan.{SplitSpan}
@@ -38,6 +40,13 @@ pub record PieceSpans (start : ℕ) (text : List ℕ) (on : ℕ) (spans : List (
 pub record LineSpansOf (start : ℕ) (text : List ℕ) (spans : List (Placed Line)) : Type 0 where
   pub lines : LinesOf text (items_of spans)
   pub starts : spans ≡ placed line_size start (items_of spans)
+
+-- of the spans of a view at a character, or of its lines, with places from 0, this holds
+abbrev pub WithPieceSpans : AsciiStr → AsciiChar → (List (Placed (List ℕ)) → Type 0) → Type 0
+WithPieceSpans view on Holds = (spans : List (Placed (List ℕ))) × PieceSpans 0 (text_of view) (code_of on) spans × Holds spans
+
+abbrev pub WithLineSpans : AsciiStr → (List (Placed Line) → Type 0) → Type 0
+WithLineSpans view Holds = (spans : List (Placed Line)) × LineSpansOf 0 (text_of view) spans × Holds spans
 
 -- the separator of a split, and the pieces that it still owes, each with its start
 pub record OwedSpans : Type 0 where

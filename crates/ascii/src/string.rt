@@ -1,6 +1,6 @@
 //! Owned text out of strings, which keep their buffers.
 
-ghost use Rattle.std.specs.Prelude.{◌≡◌, MatchResult, string_bytes};
+ghost use Rattle.std.specs.Prelude.{◌≡◌, IfOk, MatchResult, string_bytes};
 ghost use Rattle.std.specs.String.{string_capacity};
 ghost use Rattle.ascii.specs.Refusal.{HandsBack};
 
@@ -17,7 +17,8 @@ use std::alloc::Allocator;
 pub fn into_ascii_string<A: Allocator>(
     string: String<A>,
 ) -> Result<AsciiString<A>, FromAsciiError<String<A>>>
-    ensures { MatchResult result (λ ascii. (ascii.text ≡ string_bytes string) × (ascii.capacity ≡ string_capacity string)) (HandsBack string (string_bytes string)) }
+    ensures text { MatchResult result (λ ascii. ascii.text ≡ string_bytes string) (HandsBack string (string_bytes string)) }
+    ensures capacity { IfOk result (λ ascii. ascii.capacity ≡ string_capacity string) }
 {
     match kernels::first_other(string.as_bytes()) {
         Some(valid_up_to) => Err(FromAsciiError {
@@ -34,7 +35,8 @@ pub fn into_ascii_string<A: Allocator>(
 pub fn from_ascii<A: Allocator>(
     string: String<A>,
 ) -> Result<AsciiString<A>, FromAsciiError<String<A>>>
-    ensures { MatchResult result (λ ascii. (ascii.text ≡ string_bytes string) × (ascii.capacity ≡ string_capacity string)) (HandsBack string (string_bytes string)) }
+    ensures text { MatchResult result (λ ascii. ascii.text ≡ string_bytes string) (HandsBack string (string_bytes string)) }
+    ensures capacity { IfOk result (λ ascii. ascii.capacity ≡ string_capacity string) }
 {
     into_ascii_string(string)
 }

@@ -1,6 +1,6 @@
 //! Owned text out of vectors of bytes, which keep their buffers.
 
-ghost use Rattle.std.specs.Prelude.{◌≡◌, MatchResult, vec_capacity};
+ghost use Rattle.std.specs.Prelude.{◌≡◌, IfOk, MatchResult, vec_capacity};
 ghost use Rattle.ascii.specs.Refusal.{HandsBack};
 
 use crate::ascii_str::AsAsciiStrError;
@@ -16,7 +16,8 @@ use std::alloc::Allocator;
 pub fn into_ascii_string<A: Allocator>(
     bytes: Vec<u8, A>,
 ) -> Result<AsciiString<A>, FromAsciiError<Vec<u8, A>>>
-    ensures { MatchResult result (λ string. (string.text ≡ bytes.items) × (string.capacity ≡ vec_capacity bytes)) (HandsBack bytes bytes.items) }
+    ensures text { MatchResult result (λ string. string.text ≡ bytes.items) (HandsBack bytes bytes.items) }
+    ensures capacity { IfOk result (λ string. string.capacity ≡ vec_capacity bytes) }
 {
     match kernels::first_other(&bytes) {
         Some(valid_up_to) => Err(FromAsciiError {
@@ -33,7 +34,8 @@ pub fn into_ascii_string<A: Allocator>(
 pub fn from_ascii<A: Allocator>(
     bytes: Vec<u8, A>,
 ) -> Result<AsciiString<A>, FromAsciiError<Vec<u8, A>>>
-    ensures { MatchResult result (λ string. (string.text ≡ bytes.items) × (string.capacity ≡ vec_capacity bytes)) (HandsBack bytes bytes.items) }
+    ensures text { MatchResult result (λ string. string.text ≡ bytes.items) (HandsBack bytes bytes.items) }
+    ensures capacity { IfOk result (λ string. string.capacity ≡ vec_capacity bytes) }
 {
     into_ascii_string(bytes)
 }

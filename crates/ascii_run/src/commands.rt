@@ -1,9 +1,9 @@
 //! Runs of commands over a text.
 
-ghost use Rattle.std.specs.Prelude.{◌≡◌, ◌≢◌, ℕ, ◌≤◌, List, [], IfErr, IfOk, IsOk, OnErr, OnOk, map, take};
+ghost use Rattle.std.specs.Prelude.{◌≡◌, ◌≢◌, ℕ, ◌≤◌, List, [], IfErr, IfOk, IsOk, OnErr, OnOk};
 ghost use Rattle.ascii.specs.View.{text_of};
 ghost use Rattle.ascii_run.specs.Edit.{StopsAt, StopsEdits};
-ghost use Rattle.ascii_run.specs.Run.{AreRuns, HasNoFault, IsNoFault, IsPlainRun, IsServed, NeverShrinks, Run, WantsNone, plain_text};
+ghost use Rattle.ascii_run.specs.Run.{Agree, AreRuns, HasNoFault, IsNoFault, IsPlainRun, IsServed, NeverShrinks, Run, WantsNone, plain_text};
 ghost use Rattle.ascii_run.specs.Step.{LacksRoom, Step, after, answer, no_memory, said, said_of_growth};
 
 use crate::buf::AsciiBuf;
@@ -125,8 +125,7 @@ pub fn runs_agree<A: Allocator, B: Allocator>(
     first: &[Reply<A>],
     second: &[Reply<B>],
 )
-    ensures front { (t1 t2 : List ℕ) → AreRuns cmds.now first.now t1 second.now t2 → (k : ℕ) → WantsNone (take k first.now) → WantsNone (take k second.now) → map said (take k first.now) ≡ map said (take k second.now) }
-    ensures text { (t1 t2 : List ℕ) → AreRuns cmds.now first.now t1 second.now t2 → WantsNone first.now → WantsNone second.now → t1 ≡ t2 }
+    ensures { (t1 t2 : List ℕ) → AreRuns cmds.now first.now t1 second.now t2 → Agree first.now t1 second.now t2 }
 {}
 
 /// Carries out one command.

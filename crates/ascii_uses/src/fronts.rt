@@ -1,10 +1,9 @@
 //! Callers that take a few items from the front.
 
-ghost use Rattle.std.specs.Prelude.{◌≡◌, IfOk, List, ℕ, map, take};
-ghost use Rattle.ascii_base.specs.Code.{code_of};
-ghost use Rattle.ascii.specs.Lines.{Line, LinesOf, bodies};
-ghost use Rattle.ascii.specs.Pieces.{Pieces};
-ghost use Rattle.ascii.specs.Spans.{LineSpansOf, PieceSpans, Placed, line_in, piece_in};
+ghost use Rattle.std.specs.Prelude.{◌≡◌, IfOk, map, take};
+ghost use Rattle.ascii.specs.Lines.{WithLines, bodies};
+ghost use Rattle.ascii.specs.Pieces.{WithPieces};
+ghost use Rattle.ascii.specs.Spans.{WithLineSpans, WithPieceSpans, line_in, piece_in};
 ghost use Rattle.ascii.specs.View.{text_of};
 
 use ascii::iter::{LineSpan, SplitSpan};
@@ -18,7 +17,7 @@ pub fn first_pieces<'a>(
     on: AsciiChar,
     n: usize,
 ) -> Result<Vec<AsciiStr<'a>>, AllocError>
-    ensures { IfOk result (λ given. (pieces : List (List ℕ)) × Pieces (text_of view.entry) (code_of on) pieces × (map text_of given.items ≡ take n pieces)) }
+    ensures { IfOk result (λ given. WithPieces view.entry on (λ pieces. map text_of given.items ≡ take n pieces)) }
 {
     view.split(on).take(n).collect(alloc)
 }
@@ -29,7 +28,7 @@ pub fn first_bodies<'a>(
     view: AsciiStr<'a>,
     n: usize,
 ) -> Result<Vec<AsciiStr<'a>>, AllocError>
-    ensures { IfOk result (λ given. (lines : List Line) × LinesOf (text_of view.entry) lines × (map text_of given.items ≡ take n (bodies lines))) }
+    ensures { IfOk result (λ given. WithLines view.entry (λ lines. map text_of given.items ≡ take n (bodies lines))) }
 {
     view.lines().take(n).collect(alloc)
 }
@@ -41,7 +40,7 @@ pub fn first_piece_spans<'a>(
     on: AsciiChar,
     n: usize,
 ) -> Result<Vec<SplitSpan<'a>>, AllocError>
-    ensures { IfOk result (λ given. (spans : List (Placed (List ℕ))) × PieceSpans 0 (text_of view.entry) (code_of on) spans × (map piece_in given.items ≡ take n spans)) }
+    ensures { IfOk result (λ given. WithPieceSpans view.entry on (λ spans. map piece_in given.items ≡ take n spans)) }
 {
     view.split_spans(on).take(n).collect(alloc)
 }
@@ -52,7 +51,7 @@ pub fn first_line_spans<'a>(
     view: AsciiStr<'a>,
     n: usize,
 ) -> Result<Vec<LineSpan<'a>>, AllocError>
-    ensures { IfOk result (λ given. (spans : List (Placed Line)) × LineSpansOf 0 (text_of view.entry) spans × (map line_in given.items ≡ take n spans)) }
+    ensures { IfOk result (λ given. WithLineSpans view.entry (λ spans. map line_in given.items ≡ take n spans)) }
 {
     view.line_spans().take(n).collect(alloc)
 }

@@ -1,12 +1,11 @@
 //! Callers of the iterators of a view: loops and adapters, and what they gave.
 
-ghost use Rattle.std.specs.Prelude.{◌≡◌, ◌+◌, ◌≤◌, ◌++◌, ◌∷◌, [], IfOk, IsOk, OnErr, OnOk, List, ℕ, length, map, reverse, string_bytes, codes, take};
+ghost use Rattle.std.specs.Prelude.{◌≡◌, ◌+◌, ◌≤◌, ◌++◌, ◌∷◌, IfOk, IsOk, OnOk, ℕ, length, map, reverse, string_bytes, codes, take};
 ghost use Rattle.std.specs.List.{flat_map};
 ghost use Rattle.ascii_base.specs.Case.{upper_image};
-ghost use Rattle.ascii_base.specs.Code.{code_of};
 ghost use Rattle.ascii.specs.Debug.{debug_text};
-ghost use Rattle.ascii.specs.Lines.{Line, LinesOf, bodies};
-ghost use Rattle.ascii.specs.Pieces.{Pieces};
+ghost use Rattle.ascii.specs.Lines.{WithLines, bodies};
+ghost use Rattle.ascii.specs.Pieces.{WithPieces};
 ghost use Rattle.ascii.specs.View.{text_of};
 
 use ascii::{AsciiChar, AsciiStr, AsciiString};
@@ -14,7 +13,7 @@ use std::alloc::{AllocError, Global};
 
 /// The number of pieces of a view between separators.
 pub fn piece_count(view: AsciiStr<'_>, on: AsciiChar) -> usize
-    ensures { (pieces : List (List ℕ)) × Pieces (text_of view.entry) (code_of on) pieces × (result ≡ length pieces) }
+    ensures { WithPieces view.entry on (λ pieces. result ≡ length pieces) }
 {
     view.split(on).count()
 }
@@ -25,7 +24,7 @@ pub fn piece_lengths(
     view: AsciiStr<'_>,
     on: AsciiChar,
 ) -> Result<Vec<usize>, AllocError>
-    ensures { IfOk result (λ lengths. (pieces : List (List ℕ)) × Pieces (text_of view.entry) (code_of on) pieces × (lengths.items ≡ map length pieces)) }
+    ensures { IfOk result (λ lengths. WithPieces view.entry on (λ pieces. lengths.items ≡ map length pieces)) }
 {
     let mut lengths = Vec::new(alloc);
     for piece in view.split(on) {
@@ -40,7 +39,7 @@ pub fn piece_lengths_by_map(
     view: AsciiStr<'_>,
     on: AsciiChar,
 ) -> Result<Vec<usize>, AllocError>
-    ensures { IfOk result (λ lengths. (pieces : List (List ℕ)) × Pieces (text_of view.entry) (code_of on) pieces × (lengths.items ≡ map length pieces)) }
+    ensures { IfOk result (λ lengths. WithPieces view.entry on (λ pieces. lengths.items ≡ map length pieces)) }
 {
     view.split(on).map(|piece| piece.len()).collect(alloc)
 }
@@ -51,21 +50,21 @@ pub fn pieces_reversed<'a>(
     view: AsciiStr<'a>,
     on: AsciiChar,
 ) -> Result<Vec<AsciiStr<'a>>, AllocError>
-    ensures { IfOk result (λ views. (pieces : List (List ℕ)) × Pieces (text_of view.entry) (code_of on) pieces × (map text_of views.items ≡ reverse pieces)) }
+    ensures { IfOk result (λ views. WithPieces view.entry on (λ pieces. map text_of views.items ≡ reverse pieces)) }
 {
     view.split(on).rev().collect(alloc)
 }
 
 /// The number of lines of a view.
 pub fn line_count(view: AsciiStr<'_>) -> usize
-    ensures { (lines : List Line) × LinesOf (text_of view.entry) lines × (result ≡ length lines) }
+    ensures { WithLines view.entry (λ lines. result ≡ length lines) }
 {
     view.lines().count()
 }
 
 /// The lengths of the lines of a view, without their endings, by a loop.
 pub fn line_lengths_by_for(alloc: Global, view: AsciiStr<'_>) -> Result<Vec<usize>, AllocError>
-    ensures { IfOk result (λ lengths. (lines : List Line) × LinesOf (text_of view.entry) lines × (lengths.items ≡ map length (bodies lines))) }
+    ensures { IfOk result (λ lengths. WithLines view.entry (λ lines. lengths.items ≡ map length (bodies lines))) }
 {
     let mut lengths = Vec::new(alloc);
     for body in view.lines() {
@@ -79,14 +78,14 @@ pub fn bodies_reversed<'a>(
     alloc: Global,
     view: AsciiStr<'a>,
 ) -> Result<Vec<AsciiStr<'a>>, AllocError>
-    ensures { IfOk result (λ views. (lines : List Line) × LinesOf (text_of view.entry) lines × (map text_of views.items ≡ reverse (bodies lines))) }
+    ensures { IfOk result (λ views. WithLines view.entry (λ lines. map text_of views.items ≡ reverse (bodies lines))) }
 {
     view.lines().rev().collect(alloc)
 }
 
 /// The lengths of the lines of a view, without their endings.
 pub fn line_lengths(alloc: Global, view: AsciiStr<'_>) -> Result<Vec<usize>, AllocError>
-    ensures { IfOk result (λ lengths. (lines : List Line) × LinesOf (text_of view.entry) lines × (lengths.items ≡ map length (bodies lines))) }
+    ensures { IfOk result (λ lengths. WithLines view.entry (λ lines. lengths.items ≡ map length (bodies lines))) }
 {
     view.lines().map(|line| line.len()).collect(alloc)
 }
@@ -103,14 +102,14 @@ pub fn push_upper(string: &mut AsciiString, view: AsciiStr<'_>) -> Result<(), Al
 
 /// The text of a view without its separators.
 pub fn without(alloc: Global, view: AsciiStr<'_>, on: AsciiChar) -> Result<AsciiString, AllocError>
-    ensures { IfOk result (λ string. (pieces : List (List ℕ)) × Pieces (text_of view.entry) (code_of on) pieces × (string.text ≡ flat_map (λ piece. piece) pieces)) }
+    ensures { IfOk result (λ string. WithPieces view.entry on (λ pieces. string.text ≡ flat_map (λ piece. piece) pieces)) }
 {
     AsciiString::collect_strs(alloc, view.split(on))
 }
 
 /// The text of a view without its line endings.
 pub fn unbroken(alloc: Global, view: AsciiStr<'_>) -> Result<AsciiString, AllocError>
-    ensures { IfOk result (λ string. (lines : List Line) × LinesOf (text_of view.entry) lines × (string.text ≡ flat_map (λ line. line.body) lines)) }
+    ensures { IfOk result (λ string. WithLines view.entry (λ lines. string.text ≡ flat_map (λ line. line.body) lines)) }
 {
     AsciiString::collect_strs(alloc, view.lines())
 }

@@ -1,12 +1,12 @@
 //! Callers that stop in the middle of a walk: they count what is left, hand it over as a view, and take
 //! it up again.
 
-ghost use Rattle.std.specs.Prelude.{◌≡◌, ◌-◌, IfOk, List, MatchOption, ℕ, [], drop, length, map};
+ghost use Rattle.std.specs.Prelude.{◌≡◌, ◌-◌, IfOk, MatchOption, [], drop, length, map};
 ghost use Rattle.std.specs.Option.{option_map};
 ghost use Rattle.ascii_base.specs.Code.{code_of};
 ghost use Rattle.ascii.specs.Ends.{TakesEnd};
-ghost use Rattle.ascii.specs.Lines.{Line, LinesOf, bodies};
-ghost use Rattle.ascii.specs.Pieces.{Pieces};
+ghost use Rattle.ascii.specs.Lines.{LinesOf, WithLines};
+ghost use Rattle.ascii.specs.Pieces.{Pieces, WithPieces};
 ghost use Rattle.ascii.specs.Spans.{line_in};
 ghost use Rattle.ascii.specs.View.{text_of};
 
@@ -16,7 +16,7 @@ use std::alloc::{AllocError, Global};
 
 /// The number of pieces of a view behind the first one.
 pub fn count_behind_first(view: AsciiStr<'_>, on: AsciiChar) -> usize
-    ensures { (pieces : List (List ℕ)) × Pieces (text_of view.entry) (code_of on) pieces × (result ≡ length pieces - 1) }
+    ensures { WithPieces view.entry on (λ pieces. result ≡ length pieces - 1) }
 {
     let mut split = view.split(on);
     split.next();
@@ -25,7 +25,7 @@ pub fn count_behind_first(view: AsciiStr<'_>, on: AsciiChar) -> usize
 
 /// The number of lines of a view before the last one.
 pub fn count_before_last(view: AsciiStr<'_>) -> usize
-    ensures { (lines : List Line) × LinesOf (text_of view.entry) lines × (result ≡ length lines - 1) }
+    ensures { WithLines view.entry (λ lines. result ≡ length lines - 1) }
 {
     let mut lines = view.lines();
     lines.next_back();
@@ -43,7 +43,7 @@ pub fn counted_lines(view: AsciiStr<'_>) -> Result<(usize, Lines<'_>), AllocErro
 
 /// What stands behind the first two separators.
 pub fn behind_two<'a>(view: AsciiStr<'a>, on: AsciiChar) -> Option<AsciiStr<'a>>
-    ensures { (pieces : List (List ℕ)) × Pieces (text_of view.entry) (code_of on) pieces × MatchOption result (drop 2 pieces ≡ []) (λ rest. Pieces (text_of rest) (code_of on) (drop 2 pieces)) }
+    ensures { WithPieces view.entry on (λ pieces. MatchOption result (drop 2 pieces ≡ []) (λ rest. Pieces (text_of rest) (code_of on) (drop 2 pieces))) }
 {
     let mut split = view.split(on);
     split.next();

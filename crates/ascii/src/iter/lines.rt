@@ -4,6 +4,7 @@ ghost use Rattle.std.specs.Prelude.{◌≡◌, ◌+◌, ◌≤◌, ◌∷◌, �
 ghost use Rattle.std.specs.Iterator.{item_count};
 ghost use Rattle.ascii.specs.Found.{ended_line, line_spans, part_in};
 ghost use Rattle.ascii.specs.Lines.{IsRestOfLines, Line, LinesOf, bodies};
+ghost use Rattle.ascii.specs.Only.{IsOnly};
 ghost use Rattle.ascii.specs.Spans.{IsRestOfLineSpans, LineSpansOf, Placed, line_in};
 ghost use Rattle.ascii.specs.Steps.{DropsFirst, DropsLast, RunsInOrder, RunsInReverse, YieldsFirstAnd, YieldsLastAnd};
 ghost use Rattle.ascii.specs.View.{text_of};
@@ -243,7 +244,7 @@ impl<'a> AsciiStr<'a> {
     #[tactic(auto, using(crate::proofs::SpansLemmas::same_lines))]
     pub fn lines(self) -> Lines<'a>
         ensures lines { LinesOf (text_of self.entry) result }
-        ensures only { (lines : List Line) → LinesOf (text_of self.entry) lines → lines ≡ result }
+        ensures only { IsOnly (LinesOf (text_of self.entry)) result }
         ensures fits { length result ≤ usize.MAX }
         ensures runs { RunsInOrder text_of bodies DropsFirst }
         ensures runs_back { RunsInReverse text_of bodies DropsLast }
@@ -260,7 +261,7 @@ impl<'a> AsciiStr<'a> {
     ///     spans.next() // Some(LineSpan { start: 3, text: "y", ending: Absent })
     pub fn line_spans(self) -> LineSpans<'a>
         ensures spans { LineSpansOf 0 (text_of self.entry) result }
-        ensures only { (spans : List (Placed Line)) → LineSpansOf 0 (text_of self.entry) spans → spans ≡ result }
+        ensures only { IsOnly (LineSpansOf 0 (text_of self.entry)) result }
         ensures fits { length result ≤ usize.MAX }
         ensures runs { RunsInOrder line_in (λ (lines : List (Placed Line)). lines) DropsFirst }
         ensures runs_back { RunsInReverse line_in (λ (lines : List (Placed Line)). lines) DropsLast }
@@ -275,7 +276,7 @@ impl<'a> AsciiStr<'a> {
     pub fn line_spans_from(self, offset: usize) -> LineSpans<'a>
         requires { offset + length (text_of self) ≤ usize.MAX }
         ensures spans { LineSpansOf offset (text_of self.entry) result }
-        ensures only { (spans : List (Placed Line)) → LineSpansOf offset (text_of self.entry) spans → spans ≡ result }
+        ensures only { IsOnly (LineSpansOf offset (text_of self.entry)) result }
         ensures fits { length result ≤ usize.MAX }
         ensures runs { RunsInOrder line_in (λ (lines : List (Placed Line)). lines) DropsFirst }
         ensures runs_back { RunsInReverse line_in (λ (lines : List (Placed Line)). lines) DropsLast }

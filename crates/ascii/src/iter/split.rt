@@ -1,12 +1,13 @@
 //! The pieces of a view between separators, with and without their starts.
 
-ghost use Rattle.std.specs.Prelude.{◌≡◌, ◌+◌, ◌≤◌, ◌∷◌, ◌++◌, [], IfSome, List, ℕ, length};
+ghost use Rattle.std.specs.Prelude.{◌≡◌, ◌+◌, ◌≤◌, ◌∷◌, ◌++◌, [], IfSome, length};
 ghost use Rattle.std.specs.Iterator.{item_count};
 ghost use Rattle.std.specs.Option.{option_map};
 ghost use Rattle.ascii_base.specs.Code.{code_of};
 ghost use Rattle.ascii.specs.Found.{part_in, piece_spans, spans_left};
+ghost use Rattle.ascii.specs.Only.{IsOnly};
 ghost use Rattle.ascii.specs.Pieces.{IsRestOfPieces, Owed, Pieces};
-ghost use Rattle.ascii.specs.Spans.{IsRestOfPieceSpans, OwedSpans, PieceSpans, Placed, piece_in};
+ghost use Rattle.ascii.specs.Spans.{IsRestOfPieceSpans, OwedSpans, PieceSpans, piece_in};
 ghost use Rattle.ascii.specs.Steps.{KeepsOn, KeepsSpansOn, RunsInOrder, RunsInReverse, YieldsFirstAnd, YieldsLastAnd};
 ghost use Rattle.ascii.specs.View.{text_of};
 
@@ -222,7 +223,7 @@ impl<'a> AsciiStr<'a> {
     #[tactic(auto, using(crate::proofs::SpansLemmas::same_pieces))]
     pub fn split(self, on: AsciiChar) -> Split<'a>
         ensures pieces { Pieces (text_of self.entry) (code_of on) result.pieces }
-        ensures only { (pieces : List (List ℕ)) → Pieces (text_of self.entry) (code_of on) pieces → pieces ≡ result.pieces }
+        ensures only { IsOnly (Pieces (text_of self.entry) (code_of on)) result.pieces }
         ensures separator { result.on ≡ code_of on }
         ensures fits { length result.pieces ≤ usize.MAX }
         ensures runs { RunsInOrder text_of (λ (split : Owed). split.pieces) KeepsOn }
@@ -239,7 +240,7 @@ impl<'a> AsciiStr<'a> {
     ///     spans.next_back() // Some(SplitSpan { start: 4, text: "bar" })
     pub fn split_spans(self, on: AsciiChar) -> SplitSpans<'a>
         ensures spans { PieceSpans 0 (text_of self.entry) (code_of on) result.spans }
-        ensures only { (spans : List (Placed (List ℕ))) → PieceSpans 0 (text_of self.entry) (code_of on) spans → spans ≡ result.spans }
+        ensures only { IsOnly (PieceSpans 0 (text_of self.entry) (code_of on)) result.spans }
         ensures separator { result.on ≡ code_of on }
         ensures fits { length result.spans ≤ usize.MAX }
         ensures runs { RunsInOrder piece_in (λ (split : OwedSpans). split.spans) KeepsSpansOn }
@@ -256,7 +257,7 @@ impl<'a> AsciiStr<'a> {
     pub fn split_spans_from(self, on: AsciiChar, offset: usize) -> SplitSpans<'a>
         requires { offset + length (text_of self) ≤ usize.MAX }
         ensures spans { PieceSpans offset (text_of self.entry) (code_of on) result.spans }
-        ensures only { (spans : List (Placed (List ℕ))) → PieceSpans offset (text_of self.entry) (code_of on) spans → spans ≡ result.spans }
+        ensures only { IsOnly (PieceSpans offset (text_of self.entry) (code_of on)) result.spans }
         ensures separator { result.on ≡ code_of on }
         ensures fits { length result.spans ≤ usize.MAX }
         ensures runs { RunsInOrder piece_in (λ (split : OwedSpans). split.spans) KeepsSpansOn }

@@ -1,13 +1,12 @@
 //! Walks: the answers of an iterator to a script of ends.
 
-ghost use Rattle.std.specs.Prelude.{◌≡◌, [], IfOk, IsOk, List, ℕ, map};
+ghost use Rattle.std.specs.Prelude.{◌≡◌, [], IfOk, IsOk, map};
 ghost use Rattle.std.specs.Option.{option_map};
-ghost use Rattle.ascii_base.specs.Code.{code_of};
 ghost use Rattle.ascii.specs.Ends.{AnswersTo, Ends};
 ghost use Rattle.ascii.specs.Found.{StepsAt};
-ghost use Rattle.ascii.specs.Lines.{Line, LinesOf, bodies};
-ghost use Rattle.ascii.specs.Pieces.{Pieces};
-ghost use Rattle.ascii.specs.Spans.{LineSpansOf, PieceSpans, Placed, line_in, piece_in};
+ghost use Rattle.ascii.specs.Lines.{WithLines, bodies};
+ghost use Rattle.ascii.specs.Pieces.{WithPieces};
+ghost use Rattle.ascii.specs.Spans.{WithLineSpans, WithPieceSpans, line_in, piece_in};
 ghost use Rattle.ascii.specs.View.{text_of};
 
 use crate::ascii_str::AsciiStr;
@@ -69,7 +68,7 @@ pub fn walk_split<'a, A: Allocator>(
     on: AsciiChar,
     script: &[End],
 ) -> Result<Vec<Option<AsciiStr<'a>>, A>, AllocError>
-    ensures ends { IfOk result (λ answers. (pieces : List (List ℕ)) × Pieces (text_of view.entry) (code_of on) pieces × Ends pieces script.now (map (option_map text_of) answers.items)) }
+    ensures ends { IfOk result (λ answers. WithPieces view.entry on (λ pieces. Ends pieces script.now (map (option_map text_of) answers.items))) }
     ensures empty { script.now ≡ [] → IsOk result }
 {
     walk(alloc, view.split(on), script)
@@ -83,7 +82,7 @@ pub fn walk_lines<'a, A: Allocator>(
     view: AsciiStr<'a>,
     script: &[End],
 ) -> Result<Vec<Option<AsciiStr<'a>>, A>, AllocError>
-    ensures ends { IfOk result (λ answers. (lines : List Line) × LinesOf (text_of view.entry) lines × Ends (bodies lines) script.now (map (option_map text_of) answers.items)) }
+    ensures ends { IfOk result (λ answers. WithLines view.entry (λ lines. Ends (bodies lines) script.now (map (option_map text_of) answers.items))) }
     ensures empty { script.now ≡ [] → IsOk result }
 {
     walk(alloc, view.lines(), script)
@@ -98,7 +97,7 @@ pub fn walk_split_spans<'a, A: Allocator>(
     on: AsciiChar,
     script: &[End],
 ) -> Result<Vec<Option<SplitSpan<'a>>, A>, AllocError>
-    ensures ends { IfOk result (λ answers. (spans : List (Placed (List ℕ))) × PieceSpans 0 (text_of view.entry) (code_of on) spans × Ends spans script.now (map (option_map piece_in) answers.items)) }
+    ensures ends { IfOk result (λ answers. WithPieceSpans view.entry on (λ spans. Ends spans script.now (map (option_map piece_in) answers.items))) }
     ensures empty { script.now ≡ [] → IsOk result }
 {
     walk(alloc, view.split_spans(on), script)
@@ -112,7 +111,7 @@ pub fn walk_line_spans<'a, A: Allocator>(
     view: AsciiStr<'a>,
     script: &[End],
 ) -> Result<Vec<Option<LineSpan<'a>>, A>, AllocError>
-    ensures ends { IfOk result (λ answers. (spans : List (Placed Line)) × LineSpansOf 0 (text_of view.entry) spans × Ends spans script.now (map (option_map line_in) answers.items)) }
+    ensures ends { IfOk result (λ answers. WithLineSpans view.entry (λ spans. Ends spans script.now (map (option_map line_in) answers.items))) }
     ensures empty { script.now ≡ [] → IsOk result }
 {
     walk(alloc, view.line_spans(), script)

@@ -1,0 +1,6 @@
+-- That nothing else is so.
+use Rattle.std.specs.Prelude.{◌≡◌}
+
+-- whatever is so is this
+abbrev pub IsOnly : {A : Type 0} → (A → Type 0) → A → Type 0
+IsOnly {A} Is this = (other : A) → Is other → other ≡ this
