@@ -4,7 +4,7 @@ use Rattle.std.proofs.Math.Seq.{drop-cons}
 use Rattle.std.proofs.lemmas.Bool.{cases_Bool, cases_eq, cases_lt, cond-false, cond-true, false≢true}
 use Rattle.std.proofs.lemmas.List.{get_or-drop, get_or-take, take-append-drop, take_more}
 use Rattle.std.proofs.lemmas.List.Elements.{All-from_get_or}
-use Rattle.memchr.specs.Find.{IsFirst, IsFirstByte, IsLastByte, NoneBefore, Nowhere, Passes, TakesFirst, is_byte, places, places_from}
+use Rattle.memchr.specs.Find.{IsFirstByte, IsLastByte, NoneBefore, Nowhere, Passes, TakesFirst, is_byte, places, places_from}
 use Rattle.ascii.specs.Found.{Free, HasWholeLines}
 
 -- the code at a place is another one

@@ -1,14 +1,12 @@
 -- The walk: the search carries the source, and its answer decides the `Result`. Assumes `Logic`.
 use mathlib.Core.Path.{◌≡◌, refl, ap, subst}
 use mathlib.Core.List.{List, [], ◌∷◌}
-use Prim.Native.Nat.{ℕ, ◌<◌, ◌^◌}
+use Prim.Native.Nat.{ℕ}
 use mathlib.Core.Bool.{Bool, true, false, not}
 use lib.Dec.{T, lit<}
 use mir.Syntax.{named, w64}
 use mir.Val.{Val, vint, vstruct, vcons, vnil, of_list}
-use seplogic.Ra.Ura.{Ura}
-use base.Logic.{id⊢, ent, emp}
-use types.Logic.{Logic, sem}
+use base.Logic.{id⊢, emp}
 use base.Fml.{GName, fres}
 use contract.Monad.{fact, fact_i}
 use contract.Running.{tables}

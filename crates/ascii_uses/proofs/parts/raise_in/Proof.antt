@@ -2,17 +2,17 @@
 -- refusal, and the source comes back at its last list. Assumes `Logic`.
 use mathlib.Core.Path.{◌≡◌, refl, sym, ap, subst, ◌∙◌}
 use mathlib.Core.List.{List, [], ◌∷◌}
-use Prim.Native.Nat.{ℕ, ◌<◌, ◌^◌}
+use Prim.Native.Nat.{ℕ}
 use lib.Dec.{lit<}
 use seplogic.Ra.Ura.{Ura}
 use mir.Syntax.{named, w64}
 use mir.Val.{Val, vunit, vint, vstruct, vcons, vnil, of_list}
-use base.Logic.{id⊢, ent, emp}
+use base.Logic.{id⊢, emp}
 use base.Fml.{GName, ftrue, flft, fres}
 use base.Fraction.{full_share}
 use contract.Monad.{fact, fact_i}
 use contract.Running.{tables}
-use types.Logic.{Logic, sem}
+use types.Logic.{Logic}
 use types.Kit.{‵, raw, given, later, some, at_ret, ◌⊛◌, ◌$◌, ◌∵◌, !, qed, by, move, keep, drop, use0, use1, use2, use3, split, join, fjoin, pick, learn, await, rewrite, feq_i}
 use types.Match.{live, vrt, in_variant}
 use types.Part.{whole, sub, agg}
