@@ -1,7 +1,7 @@
 -- What an `extend` of a text leaves, by what the items of an iterator stand for.
 use Rattle.std.specs.Prelude.{◌≡◌, ℕ, ◌<◌, List, [], ◌∷◌, ◌++◌, length, Option, Some, None, MatchResult}
 use Rattle.std.specs.List.{flat_map}
-use Rattle.std.specs.Iterator.{Yields}
+use Rattle.std.specs.Iterator.{Drains, Yields}
 use Rattle.std.specs.declared.result.Result.{Result}
 use Rattle.std.specs.declared.alloc.AllocError.{AllocError}
 use Rattle.ascii.specs.Held.{Held}
@@ -17,3 +17,7 @@ pub record Extends {S A : Type 0} (steps : S → Option A → S → Type 0) (pie
       (λ _. (end : S) × steps rest None end)
       (λ _. (refused : A) × (after : S) × steps rest (Some refused) after
       × (old.capacity < length (old.text ++ flat_map piece (items ++ refused ∷ []))))
+
+-- the text of what an iterator gave before it ended: the pieces of its items, in order
+abbrev pub Collects : {S A : Type 0} → (S → Option A → S → Type 0) → (A → List ℕ) → S → List ℕ → Type 0
+Collects {A = A} steps piece iter text = (items : List A) × Drains steps iter items × (text ≡ flat_map piece items)

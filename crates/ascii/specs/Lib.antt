@@ -3,6 +3,7 @@ pub mod Cow
 pub mod Debug
 pub mod Ends
 pub mod Extend
+pub mod First
 pub mod Found
 pub mod Held
 pub mod Json
@@ -16,6 +17,7 @@ pub mod Steps
 pub mod Text
 pub mod Trim
 pub mod View
+pub mod Walks
 pub mod WritingView
 pub use Rattle.ascii_base.specs.Bytes
 pub use Rattle.ascii_base.specs.Case

@@ -1,9 +1,10 @@
 -- The lines of a text.
-use Rattle.std.specs.Prelude.{◌≡◌, ◌≢◌, ℕ, ◌-◌, List, [], ◌∷◌, ◌++◌, length, take, slice_get, Some, map, ⊤, Option, MatchOption}
+use Rattle.std.specs.Prelude.{◌≡◌, ◌≢◌, ℕ, ◌-◌, ◌^◌, ◌<◌, List, [], ◌∷◌, ◌++◌, length, take, slice_get, Some, map, ⊤, Option, MatchOption}
 use Rattle.std.specs.List.{All, Contains, flat_map}
 use Rattle.ascii.specs.declared.ascii_str.AsciiStr.{AsciiStr}
 use Rattle.ascii.specs.declared.iter.spans.Ending.{Ending}
 use Rattle.ascii.specs.declared.iter.spans.Ending.TheVariants.{Lf, CrLf, Absent}
+use Rattle.ascii.specs.Only.{IsOnly}
 use Rattle.ascii.specs.View.{text_of}
 
 -- a line: its body, and how it ends
@@ -41,6 +42,12 @@ pub record LinesOf (text : List ℕ) (lines : List Line) : Type 0 where
 -- of the lines of a view, this holds
 abbrev pub WithLines : AsciiStr → (List Line → Type 0) → Type 0
 WithLines view Holds = (lines : List Line) × LinesOf (text_of view) lines × Holds lines
+
+-- a new iterator of lines owes the one list of the lines of a text, whose length is a `usize`
+pub record IteratesLines (text : List ℕ) (owed : List Line) : Type 0 where
+  pub lines : LinesOf text owed
+  pub only : IsOnly (LinesOf text) owed
+  pub fits : length owed < 2 ^ 64
 
 -- the bodies, which are what the lines hand out
 abbrev pub bodies : List Line → List (List ℕ)

@@ -1,13 +1,13 @@
 -- What a range of a source gives: the source's length where the range does not fit, else the first
 -- byte over 127 inside it, else the text between its ends.
-use Rattle.std.specs.Prelude.{◌<◌, slice_index, MatchOption, Option, ◌≡◌, ℕ, List, length, slice_range, ◌⊎◌, MatchResult}
+use Rattle.std.specs.Prelude.{◌<◌, slice_index, MatchOption, Option, ◌≡◌, ℕ, List, length, ◌⊎◌, MatchResult}
 use Rattle.std.specs.declared.result.Result.{Result}
 use Rattle.std.specs.Str.{IsAscii}
 use Rattle.ascii_base.specs.declared.range.AsciiRange.{AsciiRange}
 use Rattle.ascii_base.specs.declared.ascii_char.AsciiChar.{AsciiChar}
 use Rattle.ascii_base.specs.Code.{code_of}
 use Rattle.ascii_base.specs.Bytes.{FirstOther}
-use Rattle.ascii_base.specs.Range.{start_of, end_of, Fits}
+use Rattle.ascii_base.specs.Range.{start_of, end_of, Fits, part_of}
 use Rattle.ascii.specs.declared.ascii_str.AsciiStr.{AsciiStr}
 use Rattle.ascii.specs.declared.ascii_str.AsAsciiStrError.{AsAsciiStrError}
 use Rattle.ascii.specs.View.{text_of, position_of}
@@ -20,7 +20,7 @@ IsRefused bytes r e = let n = length bytes in
 -- the three outcomes of a slice, of which no two hold at once
 abbrev pub SliceOutcome : List ℕ → AsciiRange → Result AsciiStr AsAsciiStrError → Type 0
 SliceOutcome bytes r result = let n = length bytes in MatchResult result
-    (λ v. Fits r n × (text_of v ≡ slice_range bytes (start_of r) (end_of r n)))
+    (λ v. Fits r n × (text_of v ≡ part_of bytes r))
     (IsRefused bytes r)
 
 -- a place in a source whose byte is a code
@@ -39,4 +39,4 @@ pub record IsAsciiBounds (bytes : List ℕ) (r : AsciiRange) (bounds : ℕ × �
   pub fits : Fits r (length bytes)
   pub start : bounds.0 ≡ start_of r
   pub end : bounds.1 ≡ end_of r (length bytes)
-  pub ascii : IsAscii (slice_range bytes (start_of r) (end_of r (length bytes)))
+  pub ascii : IsAscii (part_of bytes r)

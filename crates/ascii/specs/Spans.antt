@@ -1,11 +1,12 @@
 -- Pieces and lines with the places where they start.
-use Rattle.std.specs.Prelude.{◌≡◌, ◌≢◌, ℕ, ◌+◌, List, [], ◌∷◌, length, map, Option, MatchOption}
+use Rattle.std.specs.Prelude.{◌≡◌, ◌≢◌, ℕ, ◌+◌, ◌^◌, ◌<◌, List, [], ◌∷◌, length, map, Option, MatchOption}
 use Rattle.ascii_base.specs.declared.ascii_char.AsciiChar.{AsciiChar}
 use Rattle.ascii_base.specs.Code.{code_of}
 use Rattle.ascii.specs.declared.ascii_str.AsciiStr.{AsciiStr}
 use Rattle.ascii.specs.declared.iter.spans.LineSpan.{LineSpan}
 use Rattle.ascii.specs.declared.iter.spans.SplitSpan.{SplitSpan}
 use Rattle.ascii.specs.Lines.{Line, LinesOf, line_text}
+use Rattle.ascii.specs.Only.{IsOnly}
 use Rattle.ascii.specs.Pieces.{Pieces}
 use Rattle.ascii.specs.View.{text_of}
 
@@ -52,6 +53,19 @@ WithLineSpans view Holds = (spans : List (Placed Line)) × LineSpansOf 0 (text_o
 pub record OwedSpans : Type 0 where
   pub on : ℕ
   pub spans : List (Placed (List ℕ))
+
+-- a new split with starts owes the one list of the pieces of a text from a place on, whose length is a `usize`
+pub record IteratesPieceSpans (start : ℕ) (text : List ℕ) (on : ℕ) (split : OwedSpans) : Type 0 where
+  pub spans : PieceSpans start text on split.spans
+  pub only : IsOnly (PieceSpans start text on) split.spans
+  pub separator : split.on ≡ on
+  pub fits : length split.spans < 2 ^ 64
+
+-- the same of lines
+pub record IteratesLineSpans (start : ℕ) (text : List ℕ) (owed : List (Placed Line)) : Type 0 where
+  pub spans : LineSpansOf start text owed
+  pub only : IsOnly (LineSpansOf start text) owed
+  pub fits : length owed < 2 ^ 64
 
 -- what a span says
 abbrev pub piece_in : SplitSpan → Placed (List ℕ)

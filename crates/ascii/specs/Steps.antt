@@ -3,7 +3,9 @@ use Rattle.std.specs.Prelude.{◌≡◌, ◌-◌, List, Option, drop, length, ta
 use Rattle.std.specs.Iterator.{YieldsFirstBy, YieldsLastBy}
 use Rattle.std.specs.Iterator.Runs.{EveryRun, ItemsMapTo, ItemsMapToReversed}
 use Rattle.ascii.specs.Pieces.{Owed}
-use Rattle.ascii.specs.Spans.{OwedSpans}
+use Rattle.ascii.specs.Lines.{Line, bodies}
+use Rattle.ascii.specs.Spans.{OwedSpans, Placed, line_in, piece_in}
+use Rattle.ascii.specs.View.{text_of}
 
 -- the separator stays
 abbrev pub KeepsOn : Owed → Owed → Type 0
@@ -34,3 +36,17 @@ module _ {S A B : Type 0} (view : A → B) (rest : S → List B) (also : S → S
 
   abbrev pub RunsInReverse : Type 0
   RunsInReverse = EveryRun YieldsLastAnd (λ p. ItemsMapToReversed p view (rest p.from))
+
+-- a law of loops and chains over the steps of a split: they give the pieces that were owed, in order
+abbrev pub LoopsOverPieces : Type 0
+LoopsOverPieces = RunsInOrder text_of (λ (split : Owed). split.pieces) KeepsOn
+
+-- the same of pieces with their starts, of lines, and of lines with their starts
+abbrev pub LoopsOverPieceSpans : Type 0
+LoopsOverPieceSpans = RunsInOrder piece_in (λ (split : OwedSpans). split.spans) KeepsSpansOn
+
+abbrev pub LoopsOverLines : Type 0
+LoopsOverLines = RunsInOrder text_of bodies DropsFirst
+
+abbrev pub LoopsOverLineSpans : Type 0
+LoopsOverLineSpans = RunsInOrder line_in (λ (lines : List (Placed Line)). lines) DropsFirst

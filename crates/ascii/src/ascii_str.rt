@@ -1,13 +1,13 @@
 //! Views over bytes that are all under 128.
 
-ghost use Rattle.std.specs.Prelude.{◌≡◌, ◌-◌, ◌<◌, ◌↔◌, ◌++◌, [], IsOkAnd, IsTrue, OnErr, Some, codes, length, map, slice_get, slice_index, slice_range};
+ghost use Rattle.std.specs.Prelude.{◌≡◌, ◌-◌, ◌<◌, ◌↔◌, ◌++◌, [], IsOkAnd, IsTrue, OnErr, Some, codes, length, map, slice_get, slice_index};
 ghost use Rattle.std.specs.Str.{IsAscii};
 ghost use Rattle.std.specs.Fmt.{decimal};
 ghost use Rattle.std.specs.Option.{option_map};
 ghost use Rattle.std.proofs.Props.{props};
 ghost use Rattle.ascii_base.specs.Case.{lower_image};
 ghost use Rattle.ascii_base.specs.Code.{code_of};
-ghost use Rattle.ascii_base.specs.Range.{Fits, end_of, start_of};
+ghost use Rattle.ascii_base.specs.Range.{Fits, part_of};
 ghost use Rattle.ascii.specs.Trim.{Trims, TrimsEnd, TrimsStart};
 
 use ascii_base::ascii_char::AsciiChar;
@@ -147,7 +147,7 @@ impl<'a> AsciiStr<'a> {
     #[inline]
     pub fn slice(self, range: AsciiRange) -> AsciiStr<'a>
         requires { Fits range (length (text_of self)) }
-        ensures { text_of result ≡ slice_range (text_of self.entry) (start_of range) (end_of range (length (text_of self.entry))) }
+        ensures { text_of result ≡ part_of (text_of self.entry) range }
     {
         let start = range.start();
         let end = range.end(self.bytes.len());

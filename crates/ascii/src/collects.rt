@@ -6,7 +6,7 @@ ghost use Rattle.std.specs.List.{flat_map};
 ghost use Rattle.ascii_base.specs.Code.{code_of};
 ghost use Rattle.ascii_base.specs.declared.ascii_char.AsciiChar.{AsciiChar as Char};
 ghost use Rattle.ascii.specs.declared.ascii_str.AsciiStr.{AsciiStr as View};
-ghost use Rattle.ascii.specs.Extend.{Extends};
+ghost use Rattle.ascii.specs.Extend.{Collects, Extends};
 ghost use Rattle.ascii.specs.View.{text_of};
 
 use crate::ascii_str::AsciiStr;
@@ -67,7 +67,7 @@ impl<A: Allocator> AsciiString<A> {
     ) -> Result<AsciiString<A>, AllocError>
         requires can { I.can_next iter }
         requires ends { IsFinite (I.remaining iter) }
-        ensures { IfOk result (λ string. (items : List Char) × Drains I.next_gives iter items × (string.text ≡ flat_map (λ ch. code_of ch ∷ []) items)) }
+        ensures { IfOk result (λ string. Collects I.next_gives (λ ch. code_of ch ∷ []) iter string.text) }
     {
         let mut string = AsciiString::new(alloc);
         string.extend_chars(iter)?;
@@ -83,7 +83,7 @@ impl<A: Allocator> AsciiString<A> {
     ) -> Result<AsciiString<A>, AllocError>
         requires can { I.can_next iter }
         requires ends { IsFinite (I.remaining iter) }
-        ensures { IfOk result (λ string. (items : List View) × Drains I.next_gives iter items × (string.text ≡ flat_map text_of items)) }
+        ensures { IfOk result (λ string. Collects I.next_gives text_of iter string.text) }
     {
         let mut string = AsciiString::new(alloc);
         string.extend_strs(iter)?;

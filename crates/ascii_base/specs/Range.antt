@@ -1,5 +1,5 @@
 -- What each form of a range stands for over n bytes, in numbers that do not wrap.
-use Rattle.std.specs.Prelude.{ℕ, ◌+◌, ◌≤◌}
+use Rattle.std.specs.Prelude.{ℕ, ◌+◌, ◌≤◌, List, length, slice_range}
 use Rattle.ascii_base.specs.declared.range.AsciiRange.{AsciiRange}
 use Rattle.ascii_base.specs.declared.range.AsciiRange.TheVariants.{Full, From, To, Range, Inclusive, ToInclusive}
 
@@ -24,3 +24,7 @@ end_of (ToInclusive b) n = b + 1
 -- the range lies within n bytes
 abbrev pub Fits : AsciiRange → ℕ → Type 0
 Fits r n = (start_of r ≤ end_of r n) × (end_of r n ≤ n)
+
+-- the part of a list that the range names
+abbrev pub part_of : List ℕ → AsciiRange → List ℕ
+part_of items r = slice_range items (start_of r) (end_of r (length items))

@@ -1,6 +1,6 @@
 -- Runs whose replies and text are known from outside, computed by the definitions.
-use Rattle.std.proofs.Common.{◌≡◌, ℕ, zero, suc, ◌-◌, ◌^◌, ◌<◌, true, List, [], ◌∷◌, Some, None, refl, arith}
-use Rattle.std.specs.Prelude.{IfSome, slice_get}
+use Rattle.std.proofs.Common.{◌≡◌, ℕ, ◌-◌, ◌^◌, true, List, [], ◌∷◌, Some, None, refl}
+use Rattle.std.proofs.lemmas.List.Elements.{All-cons, All-nil}
 use Rattle.ascii_base.specs.declared.ascii_char.AsciiChar.TheVariants as ch
 use Rattle.ascii_base.specs.declared.range.AsciiRange.TheVariants as range
 use Rattle.ascii.specs.declared.ascii_str.AsciiStr.{AsciiStr}
@@ -33,9 +33,5 @@ worked_text b = refl
 abbrev faulty : List Cmd
 faulty = cmd.Pop ∷ cmd.Remove 2 ∷ cmd.Set 9 ch.z ∷ []
 
-before_fault : (i : ℕ) → i < 1 → IfSome (slice_get (plain_replies abc faulty) i) IsNoFault
-before_fault zero h = λ fault. fault
-before_fault (suc i) h = let none : ⊥ = omega arith in absurd none
-
 worked_fault : IsFaultPlace abc faulty 1
-worked_fault = record { fault = tt; first = before_fault }
+worked_fault = record { here = tt; before = All-cons IsNoFault (a_char (Some 99)) [] (λ fault. fault) (All-nil IsNoFault) }

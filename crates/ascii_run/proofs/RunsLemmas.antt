@@ -1,8 +1,8 @@
 -- Runs of commands, one step after another.
-use Rattle.std.proofs.Common.{◌≡◌, ◌≢◌, ℕ, ◌<◌, ◌≤◌, zero, suc, List, [], ◌∷◌, ◌++◌, ◌∙◌, ap, map, refl, subst, sym, take, inl, inr, arith}
+use Rattle.std.proofs.Common.{◌≡◌, ◌≢◌, ℕ, ◌≤◌, zero, suc, List, [], ◌∷◌, ◌++◌, ◌∙◌, ap, map, refl, subst, sym, take, inl, inr, arith}
 use Rattle.std.proofs.lemmas.List.Elements.{All-cons, All-head, All-nil, All-tail}
 use Rattle.std.proofs.lemmas.Option.{none-some}
-use Rattle.std.specs.Prelude.{IfSome, Some, slice_get, unwrap_or}
+use Rattle.std.specs.Prelude.{Some, slice_get, unwrap_or}
 use Rattle.ascii.specs.Held.{Held}
 use Rattle.ascii_run.specs.declared.commands.Cmd.{Cmd}
 use Rattle.ascii_run.specs.declared.commands.Cmd.TheVariants.{Push, PushStr, Insert, InsertStr, Reserve, Shrink}
@@ -127,27 +127,20 @@ no_fault_more t (c ∷ cmds) cmd none served =
     (All-head IsNoFault (answer t c) (plain_replies (after t c) cmds) none)
     (no_fault_more (after t c) cmds cmd (All-tail IsNoFault (answer t c) (plain_replies (after t c) cmds) none) served)
 
--- no reply before the fault place is a refusal, with one more reply in front
-first_later : (t : List ℕ) (c : Cmd) (cmds : List Cmd) (k : ℕ) → IsNoFault (answer t c)
-    → ((i : ℕ) → i < k → IfSome (slice_get (plain_replies (after t c) cmds) i) IsNoFault)
-    → (i : ℕ) → i < suc k → IfSome (slice_get (plain_replies t (c ∷ cmds)) i) IsNoFault
-first_later t c cmds k head later zero lt = head
-first_later t c cmds k head later (suc i) lt = later i (omega arith)
-
 -- the first command that is refused is at the fault place
 pub fault_here : (t : List ℕ) (cmds : List Cmd) (k : ℕ) (cmd : Cmd)
     → slice_get cmds k ≡ Some cmd → HasNoFault t (take k cmds)
     → IsFault (answer (plain_text t (take k cmds)) cmd) → IsFaultPlace t cmds k
 fault_here t [] k cmd at none fault = absurd (none-some cmd at)
 fault_here t (c ∷ cmds) zero cmd at none fault = record {
-  fault = let P : Cmd → Type 0 = λ x. IsFault (answer t x) in subst P (sym (ap (λ found. unwrap_or found cmd) at)) fault;
-  first = λ i lt. let no : ⊥ = omega arith in absurd no;
+  here = let P : Cmd → Type 0 = λ x. IsFault (answer t x) in subst P (sym (ap (λ found. unwrap_or found cmd) at)) fault;
+  before = All-nil IsNoFault;
 }
 fault_here t (c ∷ cmds) (suc k) cmd at none fault =
     let front = plain_replies (after t c) (take k cmds) in
     let later = fault_here (after t c) cmds k cmd at (All-tail IsNoFault (answer t c) front none) fault in record {
-      fault = later.fault;
-      first = first_later t c cmds k (All-head IsNoFault (answer t c) front none) later.first;
+      here = later.here;
+      before = All-cons IsNoFault (answer t c) (take k (plain_replies (after t c) cmds)) (All-head IsNoFault (answer t c) front none) later.before;
     }
 
 -- edits that stop at a command tell why

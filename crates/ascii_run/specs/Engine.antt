@@ -23,17 +23,27 @@ pub record IsOutputOfInput (mode : Mode) (old new : Option (List ℕ)) (output :
   pub ascii : IsAscii text
   pub output_of : IsOutput mode text output
 
--- at its answer: what the reader gave from `rest` to `left`, and what the writer took from `old` to `new`
-abbrev pub Tells : Mode → Result (Unit {0}) EngineFault → Option (List ℕ) → Option (List ℕ) → Option (List ℕ) → Option (List ℕ) → Type 0
-Tells mode (Ok _) rest left old new = (output : List ℕ) × IsOutputOfInput mode rest left output × Appends old new output
-Tells mode (Err (NotAscii n)) rest left old new =
-    (bytes : List ℕ) × ReadsAll rest left bytes × FirstOther bytes 0 (length bytes) n × Keeps old new
-Tells mode (Err (Position k)) rest left old new =
-    (text : List ℕ) × ReadsAll rest left text × IsAscii text × IsFaultOf mode text k × Keeps old new
-Tells mode (Err Memory) rest left old new = Keeps old new
-Tells mode (Err Read) rest left old new = Keeps old new
-Tells mode (Err Write) rest left old new =
-    (sent others : List ℕ) × IsOutputOfInput mode rest left (sent ++ others) × Appends old new sent
+-- what the reader has left to give, and what the writer has taken
+pub record IoState : Type 0 where
+  pub remaining : Option (List ℕ)
+  pub taken : Option (List ℕ)
+
+-- at its answer: what the reader gave and the writer took between the old state and the new one
+abbrev pub EngineOutcome : Mode → Result (Unit {0}) EngineFault → IoState → IoState → Type 0
+EngineOutcome mode (Ok _) old new =
+    (output : List ℕ) × IsOutputOfInput mode old.remaining new.remaining output
+    × Appends old.taken new.taken output
+EngineOutcome mode (Err (NotAscii n)) old new =
+    (bytes : List ℕ) × ReadsAll old.remaining new.remaining bytes
+    × FirstOther bytes 0 (length bytes) n × Keeps old.taken new.taken
+EngineOutcome mode (Err (Position k)) old new =
+    (text : List ℕ) × ReadsAll old.remaining new.remaining text
+    × IsAscii text × IsFaultOf mode text k × Keeps old.taken new.taken
+EngineOutcome mode (Err Memory) old new = Keeps old.taken new.taken
+EngineOutcome mode (Err Read) old new = Keeps old.taken new.taken
+EngineOutcome mode (Err Write) old new =
+    (sent others : List ℕ) × IsOutputOfInput mode old.remaining new.remaining (sent ++ others)
+    × Appends old.taken new.taken sent
 
 -- the reader's failures after an answer: one more at `Read` alone
 abbrev pub read_failures : {T : Type 0} → ℕ → Result T EngineFault → ℕ

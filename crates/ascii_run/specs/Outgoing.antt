@@ -4,6 +4,7 @@ use Rattle.std.specs.Io.KnownBytes.{Appends, Keeps}
 use Rattle.std.specs.declared.option.Option.{Option}
 use Rattle.std.specs.declared.result.Result.{Result}
 use Rattle.std.specs.declared.result.Result.TheVariants.{Ok, Err}
+use Rattle.ascii_run.specs.declared.devices.Sink.{Ghosts}
 use Rattle.ascii_run.specs.declared.faults.EngineFault.{EngineFault}
 use Rattle.ascii_run.specs.declared.faults.EngineFault.TheVariants.{Write}
 use Rattle.ascii_run.specs.declared.modes.Mode.{Mode}
@@ -21,9 +22,9 @@ pub record Outgoing : Type 0 where
   pub failures : ℕ
   pub page : HeldBack
 
--- the state of a writer, told by what it took and how many of its calls failed, and of the page before it
-abbrev pub out : {K : Type 0} → (K → Option (List ℕ)) → (K → ℕ) → K → HeldBack → Outgoing
-out taken failures writer page = record { taken = taken writer; failures = failures writer; page = page }
+-- what a writer tells of itself as a `Sink`, with the page before it
+abbrev pub out : {K : Type 0} → Ghosts K → K → HeldBack → Outgoing
+out sink writer page = record { taken = sink.taken writer; failures = sink.failures writer; page = page }
 
 -- a write has failed, or one more failure can be counted
 abbrev pub MayFail : Outgoing → Type 0
@@ -42,16 +43,17 @@ pub record Puts (old new : Outgoing) (bytes : List ℕ) : Type 0 where
   pub goes : PutsBy old.page.is_broken new.page.is_broken old new bytes
 
 -- the same of a writer and a page before it, as they were and as they are
-abbrev pub PutIn : {K : Type 0} → (K → Option (List ℕ)) → (K → ℕ) → K → HeldBack → K → HeldBack → List ℕ → Type 0
-PutIn taken failures writer page writer_now page_now bytes = Puts (out taken failures writer page) (out taken failures writer_now page_now) bytes
+abbrev pub PutIn : {K : Type 0} → Ghosts K → K → HeldBack → K → HeldBack → List ℕ → Type 0
+PutIn sink writer page writer_now page_now bytes = Puts (out sink writer page) (out sink writer_now page_now) bytes
 
 -- the output of a mode for a text was put in
 abbrev pub PutsOutput : Mode → List ℕ → Outgoing → Outgoing → Type 0
 PutsOutput mode text old new = (output : List ℕ) × IsOutput mode text output × Puts old new output
 
-abbrev pub OutputIn : {K : Type 0} → Mode → List ℕ → (K → Option (List ℕ)) → (K → ℕ) → K → HeldBack → K → HeldBack → Type 0
-OutputIn mode text taken failures writer page writer_now page_now =
-    PutsOutput mode text (out taken failures writer page) (out taken failures writer_now page_now)
+-- the same of a writer and a page before it, as they were and as they are
+abbrev pub OutputIn : {K : Type 0} → Mode → List ℕ → Ghosts K → K → HeldBack → K → HeldBack → Type 0
+OutputIn mode text sink writer page writer_now page_now =
+    PutsOutput mode text (out sink writer page) (out sink writer_now page_now)
 
 -- what is held goes out and the page is done: all of it went out, or a write or the flush failed and a beginning did
 abbrev pub FinishesBy : Bool → Outgoing → Option (List ℕ) → ℕ → Result (Unit {0}) EngineFault → Type 0

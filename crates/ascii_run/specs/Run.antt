@@ -1,5 +1,6 @@
 -- What a run of commands does: one reply a command, in order, and the text at the end.
-use Rattle.std.specs.Prelude.{◌≡◌, ◌≢◌, ℕ, ◌<◌, List, [], ◌∷◌, All, IfSome, IsSomeAnd, map, slice_get, take}
+use Rattle.std.specs.Prelude.{◌≡◌, ◌≢◌, ℕ, List, [], ◌∷◌, All, map, take}
+use Rattle.ascii.specs.First.{IsFirstAt}
 use Rattle.ascii_run.specs.declared.commands.Cmd.{Cmd}
 use Rattle.ascii_run.specs.declared.commands.Cmd.TheVariants.{Shrink}
 use Rattle.ascii_run.specs.declared.commands.Reply.{Reply}
@@ -66,9 +67,8 @@ abbrev pub IsNoFault : Said → Type 0
 IsNoFault r = ¬ (IsFault r)
 
 -- k is the place, counted from 0, of the first command that is refused where no memory is wanting
-pub record IsFaultPlace (t : List ℕ) (cmds : List Cmd) (k : ℕ) : Type 0 where
-  pub fault : IsSomeAnd (slice_get (plain_replies t cmds) k) IsFault
-  pub first : (i : ℕ) → i < k → IfSome (slice_get (plain_replies t cmds) i) IsNoFault
+abbrev pub IsFaultPlace : List ℕ → List Cmd → ℕ → Type 0
+IsFaultPlace t cmds k = IsFirstAt IsFault (plain_replies t cmds) k
 
 -- no command is refused where no memory is wanting
 abbrev pub HasNoFault : List ℕ → List Cmd → Type 0

@@ -1,7 +1,7 @@
 //! A filter from bytes to bytes.
 
 ghost use Rattle.std.specs.Prelude.{◌≡◌, ◌⊎◌, ◌<◌, IfErr, IfOk};
-ghost use Rattle.ascii_run.specs.Engine.{ReadsAll, Tells, read_failures, write_failures};
+ghost use Rattle.ascii_run.specs.Engine.{EngineOutcome, ReadsAll, read_failures, write_failures};
 
 use crate::devices::{Sink, Source};
 use crate::faults::EngineFault;
@@ -25,7 +25,9 @@ pub fn engine<S: Source, K: Sink, A: Allocator + Copy>(
 ) -> Result<(), EngineFault>
     requires reads { S.failures reader.old < u64.MAX }
     requires writes { K.failures writer.old < u64.MAX }
-    ensures tells { Tells mode.entry result (S.rest reader.old) (S.rest reader.new) (K.taken writer.old) (K.taken writer.new) }
+    ensures outcome { EngineOutcome mode.entry result
+        (record { remaining = S.rest reader.old; taken = K.taken writer.old })
+        (record { remaining = S.rest reader.new; taken = K.taken writer.new }) }
     ensures read { S.failures reader.new ≡ read_failures (S.failures reader.old) result }
     ensures write { K.failures writer.new ≡ write_failures (K.failures writer.old) result }
 {
@@ -40,8 +42,10 @@ const CHUNK: usize = 32_768;
 /// All bytes that the reader has left.
 fn read_all<S: Source, A: Allocator>(alloc: A, reader: &mut S) -> Result<Vec<u8, A>, EngineFault>
     requires { S.failures reader.old < u64.MAX }
-    ensures ok { IfOk result (λ input. ReadsAll (S.rest reader.old) (S.rest reader.new) input.items) }
-    ensures err { IfErr result (λ fault. (fault ≡ EngineFault.Memory) ⊎ (fault ≡ EngineFault.Read)) }
+    ensures ok { IfOk result (λ input.
+        ReadsAll (S.rest reader.old) (S.rest reader.new) input.items) }
+    ensures err { IfErr result (λ fault.
+        (fault ≡ EngineFault.Memory) ⊎ (fault ≡ EngineFault.Read)) }
     ensures count { S.failures reader.new ≡ read_failures (S.failures reader.old) result }
 {
     let mut input = Vec::new(alloc);

@@ -24,8 +24,9 @@ pub(crate) fn put_json<K: Sink, A: Allocator + Copy>(
     page: &mut Page<A>,
     writer: &mut K,
 ) -> Result<(), AllocError>
-    requires { MayFail (out K.taken K.failures writer.old page.old) }
-    ensures ok { OnOk result (PutIn K.taken K.failures writer.old page.old writer.new page.new (json_text (text_of text.entry))) }
+    requires { MayFail (out K.Sink writer.old page.old) }
+    ensures ok { OnOk result (PutIn K.Sink writer.old page.old writer.new page.new
+        (json_text (text_of text.entry))) }
     ensures kept { OnErr result (writer.new ≡ writer.old) }
 {
     if text.len() <= SHORT {
@@ -67,9 +68,10 @@ fn put_by_forms<K: Sink, A: Allocator>(
     page: &mut Page<A>,
     writer: &mut K,
 )
-    requires fail { MayFail (out K.taken K.failures writer.old page.old) }
+    requires fail { MayFail (out K.Sink writer.old page.old) }
     requires forms { AreForms 128 (map (λ form. form.text) forms.now) }
-    ensures { PutIn K.taken K.failures writer.old page.old writer.new page.new (flat_map json_code (text_of text.entry)) }
+    ensures { PutIn K.Sink writer.old page.old writer.new page.new
+        (flat_map json_code (text_of text.entry)) }
 {
     let mut rest = text.as_bytes();
     'runs: while let Some(place) = first_other::<Unescaped>(rest) {
@@ -87,10 +89,10 @@ fn put_form<K: Sink, A: Allocator>(
     page: &mut Page<A>,
     writer: &mut K,
 )
-    requires fail { MayFail (out K.taken K.failures writer.old page.old) }
+    requires fail { MayFail (out K.Sink writer.old page.old) }
     requires forms { AreForms 128 (map (λ form. form.text) forms.now) }
     requires ascii { code < 128 }
-    ensures { PutIn K.taken K.failures writer.old page.old writer.new page.new (json_code code) }
+    ensures { PutIn K.Sink writer.old page.old writer.new page.new (json_code code) }
 {
     let form = form_of(code, forms);
     page.put(writer, &form[1..form.len() - 1]);

@@ -32,7 +32,8 @@ pub(crate) fn write_output<K: Sink, A: Allocator + Copy>(
     writer: &mut K,
 ) -> Result<(), EngineFault>
     requires { K.failures writer.old < u64.MAX }
-    ensures tells { WritesOutput mode.entry (text_of text.entry) result (K.taken writer.old) (K.taken writer.new) }
+    ensures tells { WritesOutput mode.entry (text_of text.entry) result
+        (K.taken writer.old) (K.taken writer.new) }
     ensures count { K.failures writer.new ≡ write_failures (K.failures writer.old) result }
 {
     let mut page = Page::new(alloc)?;
@@ -48,8 +49,9 @@ fn put_output<K: Sink, A: Allocator + Copy>(
     page: &mut Page<A>,
     writer: &mut K,
 ) -> Result<(), EngineFault>
-    requires { MayFail (out K.taken K.failures writer.old page.old) }
-    ensures ok { OnOk result (OutputIn mode.entry (text_of text.entry) K.taken K.failures writer.old page.old writer.new page.new) }
+    requires { MayFail (out K.Sink writer.old page.old) }
+    ensures ok { OnOk result (OutputIn mode.entry (text_of text.entry)
+        K.Sink writer.old page.old writer.new page.new) }
     ensures err { IfErr result (StopsOutput mode.entry (text_of text.entry)) }
     ensures kept { OnErr result (writer.new ≡ writer.old) }
 {
@@ -72,8 +74,9 @@ fn put_output<K: Sink, A: Allocator + Copy>(
 /// Puts in the body of each line and LF, from the front: the text without each CR that stands before LF, and
 /// LF behind a last line that has none.
 fn put_lines<K: Sink, A: Allocator>(text: AsciiStr<'_>, page: &mut Page<A>, writer: &mut K)
-    requires { MayFail (out K.taken K.failures writer.old page.old) }
-    ensures { OutputIn Mode.Lines (text_of text.entry) K.taken K.failures writer.old page.old writer.new page.new }
+    requires { MayFail (out K.Sink writer.old page.old) }
+    ensures { OutputIn Mode.Lines (text_of text.entry)
+        K.Sink writer.old page.old writer.new page.new }
 {
     let ending = Finder::new(b"\r\n");
     let mut rest = text.as_bytes();
@@ -90,8 +93,9 @@ fn put_lines<K: Sink, A: Allocator>(text: AsciiStr<'_>, page: &mut Page<A>, writ
 
 /// Puts in the body of each line and LF, from the back.
 fn put_tac<K: Sink, A: Allocator>(text: AsciiStr<'_>, page: &mut Page<A>, writer: &mut K)
-    requires { MayFail (out K.taken K.failures writer.old page.old) }
-    ensures { OutputIn Mode.Tac (text_of text.entry) K.taken K.failures writer.old page.old writer.new page.new }
+    requires { MayFail (out K.Sink writer.old page.old) }
+    ensures { OutputIn Mode.Tac (text_of text.entry)
+        K.Sink writer.old page.old writer.new page.new }
 {
     for body in text.lines().rev() {
         put_line(body, page, writer);
@@ -100,8 +104,9 @@ fn put_tac<K: Sink, A: Allocator>(text: AsciiStr<'_>, page: &mut Page<A>, writer
 
 /// Puts in a body and LF.
 fn put_line<K: Sink, A: Allocator>(body: AsciiStr<'_>, page: &mut Page<A>, writer: &mut K)
-    requires { MayFail (out K.taken K.failures writer.old page.old) }
-    ensures { PutIn K.taken K.failures writer.old page.old writer.new page.new (with_line_feed (text_of body.entry)) }
+    requires { MayFail (out K.Sink writer.old page.old) }
+    ensures { PutIn K.Sink writer.old page.old writer.new page.new
+        (with_line_feed (text_of body.entry)) }
 {
     page.put(writer, body.as_bytes());
     page.put(writer, b"\n");
@@ -110,8 +115,9 @@ fn put_line<K: Sink, A: Allocator>(body: AsciiStr<'_>, page: &mut Page<A>, write
 /// Puts in each character; a control character other than LF as `^` and its caret letter. What
 /// stands between two of these goes in as one run.
 fn put_caret<K: Sink, A: Allocator>(text: AsciiStr<'_>, page: &mut Page<A>, writer: &mut K)
-    requires { MayFail (out K.taken K.failures writer.old page.old) }
-    ensures { PutIn K.taken K.failures writer.old page.old writer.new page.new (flat_map caret_text (text_of text.entry)) }
+    requires { MayFail (out K.Sink writer.old page.old) }
+    ensures { PutIn K.Sink writer.old page.old writer.new page.new
+        (flat_map caret_text (text_of text.entry)) }
 {
     let mut rest = text.as_bytes();
     'runs: while let Some(place) = first_other::<Shown>(rest) {
@@ -124,10 +130,10 @@ fn put_caret<K: Sink, A: Allocator>(text: AsciiStr<'_>, page: &mut Page<A>, writ
 
 /// Puts in a control character other than LF: `^` and its caret letter.
 fn put_control<K: Sink, A: Allocator>(code: u8, page: &mut Page<A>, writer: &mut K)
-    requires fail { MayFail (out K.taken K.failures writer.old page.old) }
+    requires fail { MayFail (out K.Sink writer.old page.old) }
     requires control { ¬ IsShown code }
     requires ascii { code < 128 }
-    ensures { PutIn K.taken K.failures writer.old page.old writer.new page.new (caret_text code) }
+    ensures { PutIn K.Sink writer.old page.old writer.new page.new (caret_text code) }
 {
     let letter = if code < 32 { code + 64 } else { b'?' };
     page.put(writer, &[b'^', letter]);
@@ -140,8 +146,9 @@ fn put_ends<K: Sink, A: Allocator>(
     page: &mut Page<A>,
     writer: &mut K,
 )
-    requires { MayFail (out K.taken K.failures writer.old page.old) }
-    ensures { OutputIn (Mode.Ends script.entry) (text_of text.entry) K.taken K.failures writer.old page.old writer.new page.new }
+    requires { MayFail (out K.Sink writer.old page.old) }
+    ensures { OutputIn (Mode.Ends script.entry) (text_of text.entry)
+        K.Sink writer.old page.old writer.new page.new }
 {
     let mut lines = text.lines();
     for end in script {
@@ -155,8 +162,9 @@ fn put_answer<K: Sink, A: Allocator>(
     page: &mut Page<A>,
     writer: &mut K,
 )
-    requires { MayFail (out K.taken K.failures writer.old page.old) }
-    ensures { PutIn K.taken K.failures writer.old page.old writer.new page.new (answer_text (option_map text_of answer.entry)) }
+    requires { MayFail (out K.Sink writer.old page.old) }
+    ensures { PutIn K.Sink writer.old page.old writer.new page.new
+        (answer_text (option_map text_of answer.entry)) }
 {
     match answer {
         Some(body) => {
@@ -174,8 +182,9 @@ fn put_ends_spans<K: Sink, A: Allocator>(
     page: &mut Page<A>,
     writer: &mut K,
 )
-    requires { MayFail (out K.taken K.failures writer.old page.old) }
-    ensures { OutputIn (Mode.EndsSpans script.entry) (text_of text.entry) K.taken K.failures writer.old page.old writer.new page.new }
+    requires { MayFail (out K.Sink writer.old page.old) }
+    ensures { OutputIn (Mode.EndsSpans script.entry) (text_of text.entry)
+        K.Sink writer.old page.old writer.new page.new }
 {
     let mut lines = text.line_spans();
     for end in script {
@@ -186,8 +195,9 @@ fn put_ends_spans<K: Sink, A: Allocator>(
 /// Puts in an answer with its place: `+`, the start, the ending's word and the body with spaces
 /// between, and LF; or `-` and LF.
 fn put_span<K: Sink, A: Allocator>(answer: Option<LineSpan<'_>>, page: &mut Page<A>, writer: &mut K)
-    requires { MayFail (out K.taken K.failures writer.old page.old) }
-    ensures { PutIn K.taken K.failures writer.old page.old writer.new page.new (span_text (option_map line_in answer.entry)) }
+    requires { MayFail (out K.Sink writer.old page.old) }
+    ensures { PutIn K.Sink writer.old page.old writer.new page.new
+        (span_text (option_map line_in answer.entry)) }
 {
     let Some(span) = answer else {
         return page.put(writer, b"-\n");
@@ -216,7 +226,8 @@ fn edit_output<A: Allocator + Copy>(
     text: AsciiStr<'_>,
     cmds: &[Cmd<'_>],
 ) -> Result<AsciiString<A>, EngineFault>
-    ensures ok { IfOk result (λ output. HasNoFault (text_of text.entry) cmds.now × (output.text ≡ plain_text (text_of text.entry) cmds.now)) }
+    ensures ok { IfOk result (λ output. HasNoFault (text_of text.entry) cmds.now
+        × (output.text ≡ plain_text (text_of text.entry) cmds.now)) }
     ensures err { IfErr result (StopsOutput (Mode.Edit cmds.entry) (text_of text.entry)) }
 {
     let mut output = text.to_ascii_string(alloc)?;

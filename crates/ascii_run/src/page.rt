@@ -46,8 +46,8 @@ impl<A: Allocator> Page<A> {
     /// Puts bytes in. They go out by full pages.
     #[inline]
     pub(crate) fn put<K: Sink>(&mut self, writer: &mut K, bytes: &[u8])
-        requires { MayFail (out K.taken K.failures writer.old self.old) }
-        ensures { PutIn K.taken K.failures writer.old self.old writer.new self.new bytes.now }
+        requires { MayFail (out K.Sink writer.old self.old) }
+        ensures { PutIn K.Sink writer.old self.old writer.new self.new bytes.now }
     {
         if bytes.len() <= PAGE - self.held.len() {
             self.hold(bytes);
@@ -69,9 +69,9 @@ impl<A: Allocator> Page<A> {
 
     /// Holds bytes, or writes them at once where they are longer than a page.
     fn pass<K: Sink>(&mut self, writer: &mut K, bytes: &[u8])
-        requires fail { MayFail (out K.taken K.failures writer.old self.old) }
+        requires fail { MayFail (out K.Sink writer.old self.old) }
         requires empty { self.old.bytes ≡ [] }
-        ensures { PutIn K.taken K.failures writer.old self.old writer.new self.new bytes.now }
+        ensures { PutIn K.Sink writer.old self.old writer.new self.new bytes.now }
     {
         if bytes.len() <= PAGE {
             self.hold(bytes);
@@ -83,8 +83,8 @@ impl<A: Allocator> Page<A> {
     /// Sends all that is held.
     #[inline(never)]
     fn send<K: Sink>(&mut self, writer: &mut K)
-        requires { MayFail (out K.taken K.failures writer.old self.old) }
-        ensures puts { PutIn K.taken K.failures writer.old self.old writer.new self.new [] }
+        requires { MayFail (out K.Sink writer.old self.old) }
+        ensures puts { PutIn K.Sink writer.old self.old writer.new self.new [] }
         ensures empty { self.new.bytes ≡ [] }
     {
         if !self.is_broken {
@@ -95,8 +95,9 @@ impl<A: Allocator> Page<A> {
 
     /// Sends what is held, and flushes the writer.
     pub(crate) fn finish<K: Sink>(self, writer: &mut K) -> Result<(), EngineFault>
-        requires { MayFail (out K.taken K.failures writer.old self) }
-        ensures { FinishesBy self.is_broken (out K.taken K.failures writer.old self) (K.taken writer.new) (K.failures writer.new) result }
+        requires { MayFail (out K.Sink writer.old self) }
+        ensures { FinishesBy self.is_broken (out K.Sink writer.old self)
+            (K.taken writer.new) (K.failures writer.new) result }
     {
         let mut page = self;
         page.send(writer);
@@ -111,7 +112,8 @@ impl<A: Allocator> Page<A> {
 pub(crate) fn write_each<K: Sink>(writer: &mut K, bytes: &[u8]) -> Result<(), EngineFault>
     requires { K.failures writer.old < u64.MAX }
     ensures ok { OnOk result (Appends (K.taken writer.old) (K.taken writer.new) bytes.now) }
-    ensures err { IfErr result (λ fault. (fault ≡ EngineFault.Write) × AppendsFront (K.taken writer.old) (K.taken writer.new) bytes.now) }
+    ensures err { IfErr result (λ fault. (fault ≡ EngineFault.Write)
+        × AppendsFront (K.taken writer.old) (K.taken writer.new) bytes.now) }
     ensures count { K.failures writer.new ≡ write_failures (K.failures writer.old) result }
 {
     let mut rest = bytes;

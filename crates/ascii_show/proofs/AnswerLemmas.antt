@@ -6,7 +6,7 @@ use Rattle.std.specs.Str.{IsAscii}
 use Rattle.std.specs.declared.option.Option.{Option}
 use Rattle.std.specs.declared.result.Result.{Result}
 use Rattle.ascii_base.specs.Bytes.{FirstOther}
-use Rattle.ascii_run.specs.Engine.{ReadsAll, Tells}
+use Rattle.ascii_run.specs.Engine.{EngineOutcome, IoState, ReadsAll}
 use Rattle.ascii_run.specs.Output.{IsFaultOf}
 use Rattle.ascii_run.specs.declared.faults.EngineFault.{EngineFault}
 use Rattle.ascii_run.specs.declared.faults.EngineFault.TheVariants.{NotAscii, Position, Memory, Read, Write}
@@ -40,22 +40,22 @@ nothing None = tt
 nothing (Some bytes) = tt
 
 -- a fault of the engine is one that the words and the input allow
-pub failed : (words : List (List ℕ)) (mode : Mode) (fault : EngineFault) (known left old new : Option (List ℕ))
-    → AskFor words (done_by mode) → Tells mode (Err fault) known left old new → MayAnswer words known (Err (Run fault))
-failed words mode (NotAscii n) known left old new asks tells =
-    (mode, asks, reads (λ bytes. FirstOther bytes 0 (length bytes) n) known left tells.0 tells.1 tells.2)
-failed words mode (Position k) known left old new asks tells =
-    (mode, asks, reads (λ bytes. IsAscii bytes × IsFaultOf mode bytes k) known left tells.0 tells.1 (tells.2, tells.3))
-failed words mode Memory known left old new asks tells = call words (done_by mode) asks
-failed words mode Read known left old new asks tells = (mode, asks, nothing known)
-failed words mode Write known left old new asks tells =
-    (mode, asks, reads (HasOutput mode) known left tells.2.text tells.2.read (tells.2.ascii, (tells.0 ++ tells.1, tells.2.output_of)))
+pub failed : (words : List (List ℕ)) (mode : Mode) (fault : EngineFault) (old new : IoState)
+    → AskFor words (done_by mode) → EngineOutcome mode (Err fault) old new → MayAnswer words old.remaining (Err (Run fault))
+failed words mode (NotAscii n) old new asks outcome =
+    (mode, asks, reads (λ bytes. FirstOther bytes 0 (length bytes) n) old.remaining new.remaining outcome.0 outcome.1 outcome.2)
+failed words mode (Position k) old new asks outcome =
+    (mode, asks, reads (λ bytes. IsAscii bytes × IsFaultOf mode bytes k) old.remaining new.remaining outcome.0 outcome.1 (outcome.2, outcome.3))
+failed words mode Memory old new asks outcome = call words (done_by mode) asks
+failed words mode Read old new asks outcome = (mode, asks, nothing old.remaining)
+failed words mode Write old new asks outcome =
+    (mode, asks, reads (HasOutput mode) old.remaining new.remaining outcome.2.text outcome.2.read (outcome.2.ascii, (outcome.0 ++ outcome.1, outcome.2.output_of)))
 
 -- and so is its success
-pub done : (words : List (List ℕ)) (mode : Mode) (known left old new : Option (List ℕ))
-    → AskFor words (done_by mode) → Tells mode (Ok tt) known left old new → MayAnswer words known (Ok tt)
-done words mode known left old new asks tells =
-    (mode, asks, reads (HasOutput mode) known left tells.1.text tells.1.read (tells.1.ascii, (tells.0, tells.1.output_of)))
+pub done : (words : List (List ℕ)) (mode : Mode) (old new : IoState)
+    → AskFor words (done_by mode) → EngineOutcome mode (Ok tt) old new → MayAnswer words old.remaining (Ok tt)
+done words mode old new asks outcome =
+    (mode, asks, reads (HasOutput mode) old.remaining new.remaining outcome.1.text outcome.1.read (outcome.1.ascii, (outcome.0, outcome.1.output_of)))
 
 -- a failure handed on by `?`
 pub handed_on : (words : List (List ℕ)) (known : Option (List ℕ)) (fault : EngineFault) (result : Result (Unit {0}) Failure)

@@ -3,10 +3,9 @@
 ghost use Rattle.std.specs.Prelude.{◌≡◌, ◌+◌, ◌≤◌, ◌∷◌, ◌++◌, [], IfSome, List, MatchOption, length};
 ghost use Rattle.std.specs.Iterator.{item_count};
 ghost use Rattle.ascii.specs.Found.{ended_line, line_spans, part_in};
-ghost use Rattle.ascii.specs.Lines.{IsRestOfLines, Line, LinesOf, bodies};
-ghost use Rattle.ascii.specs.Only.{IsOnly};
-ghost use Rattle.ascii.specs.Spans.{IsRestOfLineSpans, LineSpansOf, Placed, line_in};
-ghost use Rattle.ascii.specs.Steps.{DropsFirst, DropsLast, RunsInOrder, RunsInReverse, YieldsFirstAnd, YieldsLastAnd};
+ghost use Rattle.ascii.specs.Lines.{IsRestOfLines, Line, IteratesLines, bodies};
+ghost use Rattle.ascii.specs.Spans.{IsRestOfLineSpans, IteratesLineSpans, Placed, line_in};
+ghost use Rattle.ascii.specs.Steps.{DropsFirst, DropsLast, LoopsOverLineSpans, LoopsOverLines, RunsInReverse, YieldsFirstAnd, YieldsLastAnd};
 ghost use Rattle.ascii.specs.View.{text_of};
 
 use crate::ascii_str::AsciiStr;
@@ -241,12 +240,9 @@ impl<'a> AsciiStr<'a> {
     ///     lines.next_back() // Some("z")
     ///     lines.next_back() // Some("y")
     ///     lines.next() // None
-    #[tactic(auto, using(crate::proofs::SpansLemmas::same_lines))]
     pub fn lines(self) -> Lines<'a>
-        ensures lines { LinesOf (text_of self.entry) result }
-        ensures only { IsOnly (LinesOf (text_of self.entry)) result }
-        ensures fits { length result ≤ usize.MAX }
-        ensures runs { RunsInOrder text_of bodies DropsFirst }
+        ensures iterates { IteratesLines (text_of self.entry) result }
+        ensures runs { LoopsOverLines }
         ensures runs_back { RunsInReverse text_of bodies DropsLast }
     {
         Lines {
@@ -260,10 +256,8 @@ impl<'a> AsciiStr<'a> {
     ///     spans.next() // Some(LineSpan { start: 0, text: "x", ending: CrLf })
     ///     spans.next() // Some(LineSpan { start: 3, text: "y", ending: Absent })
     pub fn line_spans(self) -> LineSpans<'a>
-        ensures spans { LineSpansOf 0 (text_of self.entry) result }
-        ensures only { IsOnly (LineSpansOf 0 (text_of self.entry)) result }
-        ensures fits { length result ≤ usize.MAX }
-        ensures runs { RunsInOrder line_in (λ (lines : List (Placed Line)). lines) DropsFirst }
+        ensures iterates { IteratesLineSpans 0 (text_of self.entry) result }
+        ensures runs { LoopsOverLineSpans }
         ensures runs_back { RunsInReverse line_in (λ (lines : List (Placed Line)). lines) DropsLast }
     {
         self.line_spans_from(0)
@@ -275,10 +269,8 @@ impl<'a> AsciiStr<'a> {
     ///     view("x\r\ny").line_spans_from(10).next_back() // Some(LineSpan { start: 13, text: "y", ending: Absent })
     pub fn line_spans_from(self, offset: usize) -> LineSpans<'a>
         requires { offset + length (text_of self) ≤ usize.MAX }
-        ensures spans { LineSpansOf offset (text_of self.entry) result }
-        ensures only { IsOnly (LineSpansOf offset (text_of self.entry)) result }
-        ensures fits { length result ≤ usize.MAX }
-        ensures runs { RunsInOrder line_in (λ (lines : List (Placed Line)). lines) DropsFirst }
+        ensures iterates { IteratesLineSpans offset (text_of self.entry) result }
+        ensures runs { LoopsOverLineSpans }
         ensures runs_back { RunsInReverse line_in (λ (lines : List (Placed Line)). lines) DropsLast }
     {
         LineSpans {

@@ -5,10 +5,9 @@ ghost use Rattle.std.specs.Iterator.{item_count};
 ghost use Rattle.std.specs.Option.{option_map};
 ghost use Rattle.ascii_base.specs.Code.{code_of};
 ghost use Rattle.ascii.specs.Found.{part_in, piece_spans, spans_left};
-ghost use Rattle.ascii.specs.Only.{IsOnly};
-ghost use Rattle.ascii.specs.Pieces.{IsRestOfPieces, Owed, Pieces};
-ghost use Rattle.ascii.specs.Spans.{IsRestOfPieceSpans, OwedSpans, PieceSpans, piece_in};
-ghost use Rattle.ascii.specs.Steps.{KeepsOn, KeepsSpansOn, RunsInOrder, RunsInReverse, YieldsFirstAnd, YieldsLastAnd};
+ghost use Rattle.ascii.specs.Pieces.{IsRestOfPieces, Owed, IteratesPieces};
+ghost use Rattle.ascii.specs.Spans.{IsRestOfPieceSpans, OwedSpans, IteratesPieceSpans, piece_in};
+ghost use Rattle.ascii.specs.Steps.{KeepsOn, LoopsOverPieces, LoopsOverPieceSpans, KeepsSpansOn, RunsInReverse, YieldsFirstAnd, YieldsLastAnd};
 ghost use Rattle.ascii.specs.View.{text_of};
 
 use crate::ascii_str::AsciiStr;
@@ -220,13 +219,9 @@ impl<'a> AsciiStr<'a> {
     ///     pieces.next_back() // Some("baz")
     ///     pieces.next() // Some("bar")
     ///     pieces.next() // None
-    #[tactic(auto, using(crate::proofs::SpansLemmas::same_pieces))]
     pub fn split(self, on: AsciiChar) -> Split<'a>
-        ensures pieces { Pieces (text_of self.entry) (code_of on) result.pieces }
-        ensures only { IsOnly (Pieces (text_of self.entry) (code_of on)) result.pieces }
-        ensures separator { result.on ≡ code_of on }
-        ensures fits { length result.pieces ≤ usize.MAX }
-        ensures runs { RunsInOrder text_of (λ (split : Owed). split.pieces) KeepsOn }
+        ensures iterates { IteratesPieces (text_of self.entry) (code_of on) result }
+        ensures runs { LoopsOverPieces }
         ensures runs_back { RunsInReverse text_of (λ (split : Owed). split.pieces) KeepsOn }
     {
         Split {
@@ -239,11 +234,8 @@ impl<'a> AsciiStr<'a> {
     ///     let mut spans = view("foo;bar").split_spans(AsciiChar::Semicolon);
     ///     spans.next_back() // Some(SplitSpan { start: 4, text: "bar" })
     pub fn split_spans(self, on: AsciiChar) -> SplitSpans<'a>
-        ensures spans { PieceSpans 0 (text_of self.entry) (code_of on) result.spans }
-        ensures only { IsOnly (PieceSpans 0 (text_of self.entry) (code_of on)) result.spans }
-        ensures separator { result.on ≡ code_of on }
-        ensures fits { length result.spans ≤ usize.MAX }
-        ensures runs { RunsInOrder piece_in (λ (split : OwedSpans). split.spans) KeepsSpansOn }
+        ensures iterates { IteratesPieceSpans 0 (text_of self.entry) (code_of on) result }
+        ensures runs { LoopsOverPieceSpans }
         ensures runs_back { RunsInReverse piece_in (λ (split : OwedSpans). split.spans) KeepsSpansOn }
     {
         self.split_spans_from(on, 0)
@@ -256,11 +248,8 @@ impl<'a> AsciiStr<'a> {
     ///     spans.next_back() // Some(SplitSpan { start: 14, text: "bar" })
     pub fn split_spans_from(self, on: AsciiChar, offset: usize) -> SplitSpans<'a>
         requires { offset + length (text_of self) ≤ usize.MAX }
-        ensures spans { PieceSpans offset (text_of self.entry) (code_of on) result.spans }
-        ensures only { IsOnly (PieceSpans offset (text_of self.entry) (code_of on)) result.spans }
-        ensures separator { result.on ≡ code_of on }
-        ensures fits { length result.spans ≤ usize.MAX }
-        ensures runs { RunsInOrder piece_in (λ (split : OwedSpans). split.spans) KeepsSpansOn }
+        ensures iterates { IteratesPieceSpans offset (text_of self.entry) (code_of on) result }
+        ensures runs { LoopsOverPieceSpans }
         ensures runs_back { RunsInReverse piece_in (λ (split : OwedSpans). split.spans) KeepsSpansOn }
     {
         SplitSpans {

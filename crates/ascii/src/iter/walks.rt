@@ -7,7 +7,7 @@ ghost use Rattle.ascii.specs.Found.{StepsAt};
 ghost use Rattle.ascii.specs.Lines.{WithLines, bodies};
 ghost use Rattle.ascii.specs.Pieces.{WithPieces};
 ghost use Rattle.ascii.specs.Spans.{WithLineSpans, WithPieceSpans, line_in, piece_in};
-ghost use Rattle.ascii.specs.View.{text_of};
+ghost use Rattle.ascii.specs.Walks.{WalksLineSpans, WalksLines, WalksPieceSpans, WalksPieces};
 
 use crate::ascii_str::AsciiStr;
 use crate::iter::spans::{LineSpan, SplitSpan};
@@ -68,7 +68,7 @@ pub fn walk_split<'a, A: Allocator>(
     on: AsciiChar,
     script: &[End],
 ) -> Result<Vec<Option<AsciiStr<'a>>, A>, AllocError>
-    ensures ends { IfOk result (λ answers. WithPieces view.entry on (λ pieces. Ends pieces script.now (map (option_map text_of) answers.items))) }
+    ensures ends { IfOk result (λ answers. WalksPieces view.entry on script.now answers.items) }
     ensures empty { script.now ≡ [] → IsOk result }
 {
     walk(alloc, view.split(on), script)
@@ -82,7 +82,7 @@ pub fn walk_lines<'a, A: Allocator>(
     view: AsciiStr<'a>,
     script: &[End],
 ) -> Result<Vec<Option<AsciiStr<'a>>, A>, AllocError>
-    ensures ends { IfOk result (λ answers. WithLines view.entry (λ lines. Ends (bodies lines) script.now (map (option_map text_of) answers.items))) }
+    ensures ends { IfOk result (λ answers. WalksLines view.entry script.now answers.items) }
     ensures empty { script.now ≡ [] → IsOk result }
 {
     walk(alloc, view.lines(), script)
@@ -97,7 +97,7 @@ pub fn walk_split_spans<'a, A: Allocator>(
     on: AsciiChar,
     script: &[End],
 ) -> Result<Vec<Option<SplitSpan<'a>>, A>, AllocError>
-    ensures ends { IfOk result (λ answers. WithPieceSpans view.entry on (λ spans. Ends spans script.now (map (option_map piece_in) answers.items))) }
+    ensures ends { IfOk result (λ answers. WalksPieceSpans view.entry on script.now answers.items) }
     ensures empty { script.now ≡ [] → IsOk result }
 {
     walk(alloc, view.split_spans(on), script)
@@ -111,7 +111,7 @@ pub fn walk_line_spans<'a, A: Allocator>(
     view: AsciiStr<'a>,
     script: &[End],
 ) -> Result<Vec<Option<LineSpan<'a>>, A>, AllocError>
-    ensures ends { IfOk result (λ answers. WithLineSpans view.entry (λ spans. Ends spans script.now (map (option_map line_in) answers.items))) }
+    ensures ends { IfOk result (λ answers. WalksLineSpans view.entry script.now answers.items) }
     ensures empty { script.now ≡ [] → IsOk result }
 {
     walk(alloc, view.line_spans(), script)

@@ -10,7 +10,7 @@ returns-in_err-engine g c =
     let words = words_of c.args.args.now in
     let fault = c.in_err-engine.field-0.0 in
     let asks = subst (AskFor words) (sym c.mode.ensures) c.in_ok-request.ensures in
-    let may = failed words c.mode.result fault _ _ _ _ asks c.in_err-engine.ensures.tells in
+    let may = failed words c.mode.result fault _ _ asks c.in_err-engine.ensures.outcome in
     handed_on words (g.I.Read.remaining c.args.input) fault c.from_residual-in_err-engine.result c.from_residual-in_err-engine.ensures.1
     (subst (λ reader. MayAnswer words (g.I.Read.remaining reader) (Err (Run fault))) c.new.ensures.reader may)
 
@@ -18,5 +18,5 @@ pub returns : goal.returns
 returns g c =
     let words = words_of c.args.args.now in
     let asks = subst (AskFor words) (sym c.mode.ensures) c.in_ok-request.ensures in
-    let may = done words c.mode.result _ _ _ _ asks c.in_ok-engine.ensures.tells in
+    let may = done words c.mode.result _ _ asks c.in_ok-engine.ensures.outcome in
     subst (λ reader. MayAnswer words (g.I.Read.remaining reader) (Ok tt)) c.new.ensures.reader may

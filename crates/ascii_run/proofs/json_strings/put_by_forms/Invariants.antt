@@ -9,8 +9,8 @@ use Rattle.ascii_run.proofs.json_strings.put_by_forms.Given as goal
 -- what stands for the codes before the rest was put in
 abbrev pub invariant-runs : goal.invariant-runs
 invariant-runs g l =
-    MayFail (out g.K.Sink.taken g.K.Sink.failures l.writer l.page) × IsAscii l.rest × ((done : List ℕ) × (done ++ l.rest ≡ text_of l.text)
-    × Puts (out g.K.Sink.taken g.K.Sink.failures l.fn.writer l.fn.page) (out g.K.Sink.taken g.K.Sink.failures l.writer l.page) (flat_map json_code done))
+    MayFail (out g.K.Sink l.writer l.page) × IsAscii l.rest × ((done : List ℕ) × (done ++ l.rest ≡ text_of l.text)
+    × Puts (out g.K.Sink l.fn.writer l.fn.page) (out g.K.Sink l.writer l.page) (flat_map json_code done))
 
 -- the codes that are left
 abbrev pub decreases-runs : goal.decreases-runs

@@ -29,7 +29,7 @@ returns g c = (
   c.loop-end.invariant.1.0,
   (
     c.lines-lines.result,
-    c.lines-lines.ensures.lines,
+    c.lines-lines.ensures.iterates.lines,
     shows_all answer_text (bodies c.lines-lines.result) (bodies c.loop-end.lines) c.args.script.now c.loop-end.end-index c.loop-end.invariant.1.0 (omega arith) c.loop-end.invariant.1.2,
   ),
   c.loop-end.invariant.1.1,

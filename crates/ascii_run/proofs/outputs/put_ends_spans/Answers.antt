@@ -28,7 +28,7 @@ returns g c = (
   c.loop-end.invariant.1.0,
   (
     c.line_spans-lines.result,
-    c.line_spans-lines.ensures.spans,
+    c.line_spans-lines.ensures.iterates.spans,
     shows_all span_text (c.line_spans-lines.result) (c.loop-end.lines) c.args.script.now c.loop-end.end-index c.loop-end.invariant.1.0 (omega arith) c.loop-end.invariant.1.2,
   ),
   c.loop-end.invariant.1.1,

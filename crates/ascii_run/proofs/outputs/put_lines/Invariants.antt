@@ -7,8 +7,8 @@ use Rattle.ascii_run.proofs.outputs.put_lines.Given as goal
 -- what was put in, and what the rest gives, are the output
 abbrev pub invariant-runs : goal.invariant-runs
 invariant-runs g l =
-    MayFail (out g.K.Sink.taken g.K.Sink.failures l.writer l.page) × ((done : List ℕ) × (done ++ with_line_feeds l.rest ≡ with_line_feeds (text_of l.text))
-    × Puts (out g.K.Sink.taken g.K.Sink.failures l.fn.writer l.fn.page) (out g.K.Sink.taken g.K.Sink.failures l.writer l.page) done)
+    MayFail (out g.K.Sink l.writer l.page) × ((done : List ℕ) × (done ++ with_line_feeds l.rest ≡ with_line_feeds (text_of l.text))
+    × Puts (out g.K.Sink l.fn.writer l.fn.page) (out g.K.Sink l.writer l.page) done)
 
 -- the codes that are left
 abbrev pub decreases-runs : goal.decreases-runs

@@ -10,6 +10,6 @@ use Rattle.ascii_uses.proofs.fronts.first_line_spans.Goals as goal
 pub returns : goal.returns
 returns c = if_ok c.collect.result c.collect.ensures.ran (λ given ran. (
   c.line_spans.result,
-  c.line_spans.ensures.spans,
+  c.line_spans.ensures.iterates.spans,
   ap (map line_in) ran.2.0 ∙ taken c.args.n c.take.result ran.0 (YieldsList-at c.take.ensures.source (road_from_first_and line_in (λ lines. lines) DropsFirst c.line_spans.result refl)) c.take.ensures.count ran.1,
 ))

@@ -10,6 +10,6 @@ use Rattle.ascii_uses.proofs.fronts.first_piece_spans.Goals as goal
 pub returns : goal.returns
 returns c = if_ok c.collect.result c.collect.ensures.ran (λ given ran. (
   c.split_spans.result.spans,
-  c.split_spans.ensures.spans,
+  c.split_spans.ensures.iterates.spans,
   ap (map piece_in) ran.2.0 ∙ taken c.args.n c.take.result ran.0 (YieldsList-at c.take.ensures.source (road_from_first_and piece_in (λ (split : OwedSpans). split.spans) KeepsSpansOn c.split_spans.result.spans refl)) c.take.ensures.count ran.1,
 ))

@@ -11,6 +11,6 @@ use Rattle.ascii_uses.proofs.fronts.first_pieces.Goals as goal
 pub returns : goal.returns
 returns c = if_ok c.collect.result c.collect.ensures.ran (λ given ran. (
   c.split.result.pieces,
-  c.split.ensures.pieces,
+  c.split.ensures.iterates.pieces,
   ap (map text_of) ran.2.0 ∙ taken c.args.n c.take.result ran.0 (YieldsList-at c.take.ensures.source (road_from_first_and text_of (λ (split : Owed). split.pieces) KeepsOn c.split.result.pieces refl)) c.take.ensures.count ran.1,
 ))

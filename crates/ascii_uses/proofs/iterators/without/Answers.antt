@@ -9,6 +9,6 @@ use Rattle.ascii_uses.proofs.iterators.without.Goals as goal
 pub returns : goal.returns
 returns c = if_ok c.collect_strs.result c.collect_strs.ensures (λ string given. (
   c.split.result.pieces,
-  c.split.ensures.pieces,
+  c.split.ensures.iterates.pieces,
   given.2 ∙ pieces_from_drains (λ piece. piece) given.0 given.1 (road_from_first_and text_of (λ (split : Owed). split.pieces) KeepsOn c.split.result.pieces refl),
 ))

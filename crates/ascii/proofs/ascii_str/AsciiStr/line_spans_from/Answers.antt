@@ -1,19 +1,17 @@
-use Rattle.std.proofs.Common.{arith}
+use Rattle.std.proofs.Common.{arith, ℕ, List}
+use Rattle.ascii.specs.Spans.{Placed}
 use Rattle.ascii.specs.View.{text_of}
 use Rattle.ascii.proofs.SpansLemmas.{line_spans_fit, line_spans_found, line_spans_only}
 use Rattle.ascii.proofs.StepsLemmas.{runs_in_order, runs_in_reverse}
 use Rattle.ascii.proofs.ascii_str.AsciiStr.line_spans_from.Goals as goal
 
-pub returns-clause-spans : goal.returns-clause-spans
-returns-clause-spans c = line_spans_found (record { start = c.args.offset; item = text_of c.args.self })
-
-pub returns-clause-only : goal.returns-clause-only
-returns-clause-only c = line_spans_only (record { start = c.args.offset; item = text_of c.args.self })
-
-pub returns-clause-fits : goal.returns-clause-fits
-returns-clause-fits c =
-    let fits = line_spans_fit (record { start = c.args.offset; item = text_of c.args.self }) in
-    grind (arith, fits)
+pub returns-clause-iterates : goal.returns-clause-iterates
+returns-clause-iterates c =
+    let part : Placed (List ℕ) = record { start = c.args.offset; item = text_of c.args.self } in record {
+      spans = line_spans_found part;
+      only = line_spans_only part;
+      fits = omega (arith, line_spans_fit part, c.requires);
+    }
 
 pub returns-clause-runs : goal.returns-clause-runs
 returns-clause-runs c = runs_in_order _ _ _

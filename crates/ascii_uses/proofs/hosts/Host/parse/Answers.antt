@@ -26,5 +26,5 @@ pub returns-in_err-check_label-clause-exact : goal.returns-in_err-check_label-cl
 returns-in_err-check_label-clause-exact c = λ host.
     let front = map piece_in c.loop-label.yielded in
     let whole = subst (λ rest. PieceSpans 0 (text_of c.args.name) 46 (front ++ rest)) c.in-Some.ensures.steps.0 c.loop-label.invariant.whole in
-    let label = label_of_host _ front c.next.new.self.spans (piece_in c.in-Some.label) _ c.split_spans-label-items.ensures.only whole host in
+    let label = label_of_host _ front c.next.new.self.spans (piece_in c.in-Some.label) _ c.split_spans-label-items.ensures.iterates.only whole host in
     absurd (no_label (piece_in c.in-Some.label) _ c.in_err-check_label.ensures label)
