@@ -6,7 +6,7 @@ use Rattle.std.proofs.lemmas.Grind.{common_steps}
 use Rattle.std.proofs.lemmas.List.{take_more}
 use Rattle.ascii.specs.declared.iter.walks.End.{End}
 use Rattle.ascii.specs.declared.iter.walks.End.TheVariants.{Front, Back}
-use Rattle.ascii.specs.Ends.{AnswersTo, Ends, EndsTo, TakesEnd}
+use Rattle.ascii.specs.Ends.{AnswersTo, ListAnswers, ListAnswersTo, TakesEnd}
 use Rattle.ascii.specs.Found.{StepsAt}
 
 -- what an end of an iterator of items gave, by what is read of the item
@@ -56,31 +56,31 @@ module _ {S A : Type 0} (takes : End → S → Option A → S → Type 0) where
       subst P whole so_far
 
 -- the answers of an iterator are those of the list that it owes, where each of its steps takes an end of that
-pub EndsTo-answers : {S A B : Type 0} (takes : End → S → Option A → S → Type 0) (read : A → B) (owed : S → List B)
+pub ListAnswersTo-answers : {S A B : Type 0} (takes : End → S → Option A → S → Type 0) (read : A → B) (owed : S → List B)
     → ((end : End) (s : S) (r : Option A) (t : S) → takes end s r t → TakesEnd end (owed s) (option_map read r) (owed t))
     → (s : S) (script : List End) (answers : List (Option A)) (t : S)
-    → AnswersTo takes s script answers t → EndsTo (owed s) script (map (option_map read) answers) (owed t)
-EndsTo-answers takes read owed each s [] [] t is = ap owed is
-EndsTo-answers takes read owed each s [] (answer ∷ answers) t is = absurd is
-EndsTo-answers takes read owed each s (end ∷ script) [] t is = absurd is
-EndsTo-answers takes read owed each s (end ∷ script) (answer ∷ answers) t is =
-    (owed is.0, each end s answer is.0 is.1, EndsTo-answers takes read owed each is.0 script answers t is.2)
+    → AnswersTo takes s script answers t → ListAnswersTo (owed s) script (map (option_map read) answers) (owed t)
+ListAnswersTo-answers takes read owed each s [] [] t is = ap owed is
+ListAnswersTo-answers takes read owed each s [] (answer ∷ answers) t is = absurd is
+ListAnswersTo-answers takes read owed each s (end ∷ script) [] t is = absurd is
+ListAnswersTo-answers takes read owed each s (end ∷ script) (answer ∷ answers) t is =
+    (owed is.0, each end s answer is.0 is.1, ListAnswersTo-answers takes read owed each is.0 script answers t is.2)
 
 -- what a walk of an iterator answered, as ends of the list that it owed
-pub Ends-walked : {S A B V E X : Type 0} (front back : S → Option A → S → Type 0) (read : A → B) (owed : S → List B)
+pub ListAnswers-walked : {S A B V E X : Type 0} (front back : S → Option A → S → Type 0) (read : A → B) (owed : S → List B)
     → ((s : S) (r : Option A) (t : S) → front s r t → YieldsFirstBy read owed s r t)
     → ((s : S) (r : Option A) (t : S) → back s r t → YieldsLastBy read owed s r t)
     → (s : S) (script : List End) (items : V → List (Option A)) (result : Result V E) (Q : X → Type 0) (list : X → List B) (x : X)
     → Q x → list x ≡ owed s
     → IfOk result (λ answers. (left : S) × AnswersTo (StepsAt front back) s script (items answers) left)
-    → IfOk result (λ answers. (y : X) × Q y × Ends (list y) script (map (option_map read) (items answers)))
-Ends-walked {B = B} front back read owed first last s script items (Ok answers) Q list x holds is walked =
-    let P : List B → Type 0 = λ xs. Ends xs script (map (option_map read) (items answers)) in
-    (x, holds, subst P (sym is) (owed walked.0, EndsTo-answers (StepsAt front back) read owed each s script (items answers) walked.0 walked.1))
+    → IfOk result (λ answers. (y : X) × Q y × ListAnswers (list y) script (map (option_map read) (items answers)))
+ListAnswers-walked {B = B} front back read owed first last s script items (Ok answers) Q list x holds is walked =
+    let P : List B → Type 0 = λ xs. ListAnswers xs script (map (option_map read) (items answers)) in
+    (x, holds, subst P (sym is) (owed walked.0, ListAnswersTo-answers (StepsAt front back) read owed each s script (items answers) walked.0 walked.1))
   where
     each : (end : End) (u : _) (r : Option _) (t : _) → StepsAt front back end u r t → TakesEnd end (owed u) (option_map read r) (owed t)
     each Front u None t step = first u None t step
     each Front u (Some x) t step = first u (Some x) t step
     each Back u None t step = last u None t step
     each Back u (Some x) t step = last u (Some x) t step
-Ends-walked front back read owed first last s script items (Err error) Q list x holds is walked = tt
+ListAnswers-walked front back read owed first last s script items (Err error) Q list x holds is walked = tt

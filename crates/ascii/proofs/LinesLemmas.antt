@@ -12,12 +12,12 @@ use Rattle.std.proofs.lemmas.Grind.{common_steps}
 use Rattle.ascii.specs.declared.iter.spans.Ending.{Ending}
 use Rattle.ascii.specs.declared.iter.spans.Ending.TheVariants.{Lf, CrLf, Absent}
 use Rattle.ascii.specs.Found.{Free, HasWholeLines, ended_line, ends_in_cr, lines_of, lines_of_pieces, open_line, pieces_of}
-use Rattle.ascii.specs.Lines.{EndsInCr, Line, LinesOf, MayStandBehind, ending_text, line_text}
+use Rattle.ascii.specs.Lines.{EndsInCr, Line, LinesOf, MayFollow, ending_text, line_text}
 use Rattle.ascii.proofs.PiecesLemmas.{Free-from_absent, absent-from_Free, all_free, is_on, length-pieces_of, pieces_of-free, slice_split-joint, slice_split-some}
 
 -- the ending of a line may stand behind its body
 abbrev MayEnd : Line → Type 0
-MayEnd line = MayStandBehind line.ending line.body
+MayEnd line = MayFollow line.ending line.body
 
 -- ---- how the lines of pieces break
 
@@ -190,7 +190,7 @@ same_cr body =
     (λ other. absurd (false≢true (sym other ∙ (ap (λ c. eqb c 13) here ∙ is_on 13))))
 
 -- what stands before the LF of a line that has one
-piece_of : (body : List ℕ) (ending : Ending) → Free 10 body → MayStandBehind ending body → ending ≢ Absent
+piece_of : (body : List ℕ) (ending : Ending) → Free 10 body → MayFollow ending body → ending ≢ Absent
     → (piece : List ℕ) × Free 10 piece × (body ++ ending_text ending ≡ piece ++ 10 ∷ []) × (ended_line piece ≡ record { body = body; ending = ending })
 piece_of body Lf free may has = (body, free, refl, same_lf body may)
 piece_of body CrLf free may has = (
@@ -217,7 +217,7 @@ open_line-some [] some = absurd (some refl)
 open_line-some (x ∷ xs) some = refl
 
 -- a last line is found again
-lines_of-last : (body : List ℕ) (ending : Ending) → ¬ (Contains body 10) → MayStandBehind ending body
+lines_of-last : (body : List ℕ) (ending : Ending) → ¬ (Contains body 10) → MayFollow ending body
     → lines_of ((body ++ ending_text ending) ++ []) ≡ record { body = body; ending = ending } ∷ []
 lines_of-last body Lf absent may = found-ended (record { body = body; ending = Lf }) [] absent may (λ none. cc)
 lines_of-last body CrLf absent may = found-ended (record { body = body; ending = CrLf }) [] absent may (λ none. cc)

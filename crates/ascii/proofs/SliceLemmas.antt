@@ -6,7 +6,7 @@ use Rattle.std.specs.List.{slice_range}
 use Rattle.ascii_base.specs.Bytes.{FirstOther}
 use Rattle.ascii_base.specs.declared.range.AsciiRange.{AsciiRange}
 use Rattle.ascii_base.specs.Range.{start_of, end_of, Fits}
-use Rattle.ascii.specs.Slice.{IsRefused}
+use Rattle.ascii.specs.Slice.{IsRejected}
 
 -- a byte of `&bytes[s..e]` is the byte of the source s places later
 pub slice_range-at : (bytes : List ℕ) (s e k : ℕ) → k < e - s → get_or (slice_range bytes s e) k 0 ≡ get_or bytes (s + k) 0
@@ -36,11 +36,11 @@ FirstOther-shift bytes s e i a b first =
     }
 
 -- a first byte over 127 of the part that a range names refuses the range
-pub IsRefused-inside : (bytes : List ℕ) (r : AsciiRange) (s e i : ℕ) → Fits r (length bytes)
+pub IsRejected-inside : (bytes : List ℕ) (r : AsciiRange) (s e i : ℕ) → Fits r (length bytes)
     → s ≡ start_of r → e ≡ end_of r (length bytes)
     → FirstOther (slice_range bytes s e) 0 (length (slice_range bytes s e)) i
-    → IsRefused bytes r (record { valid_up_to = s + i })
-IsRefused-inside bytes r s e i fits start end first =
+    → IsRejected bytes r (record { valid_up_to = s + i })
+IsRejected-inside bytes r s e i fits start end first =
     inr (
       fits,
       (let P : ℕ → Type 0 = λ n. FirstOther bytes n (end_of r (length bytes)) (s + i) in

@@ -2,12 +2,12 @@
 use Rattle.std.proofs.Common.{◌≡◌, ◌≢◌, ℕ, suc, ◌+◌, ◌≤◌, List, [], ◌∷◌, ◌++◌, length, append-nil, refl, sym, ap, ◌∙◌, subst, arith, length-append}
 use Rattle.std.specs.List.{flat_map, join_with_byte}
 use Rattle.std.proofs.lemmas.List.Splits.{join_with_byte-slice_split}
-use Rattle.ascii.specs.declared.iter.rest.Rest.{Rest}
+use Rattle.ascii.specs.declared.iter.cursor.Cursor.{Cursor}
 use Rattle.ascii.specs.declared.iter.spans.Ending.TheVariants.{Absent}
 use Rattle.ascii.specs.Found.{Free, HasWholeLines, IsCutBehindLastFeed, IsCutFirst, IsCutLast, ended_line, line_spans, lines_of, part_in, piece_spans, pieces_of}
 use Rattle.ascii.specs.Lines.{Line, LinesOf, line_text}
 use Rattle.ascii.specs.Pieces.{Pieces}
-use Rattle.ascii.specs.Spans.{LineSpansOf, PieceSpans, Placed, items_of, line_size, piece_size, placed}
+use Rattle.ascii.specs.Spans.{LineSpansOf, PieceSpans, WithStart, items_of, line_size, piece_size, with_starts}
 use Rattle.ascii.specs.View.{text_of}
 use Rattle.ascii.proofs.LinesLemmas.{LinesOf-lines_of, LinesOf-only, length-lines_of, line_text-ended, lines_of-cut_first, lines_of-last_ended, lines_of-last_open, lines_of-open, lines_of-some, not_whole}
 use Rattle.ascii.proofs.PiecesLemmas.{Pieces-only, Pieces-pieces_of, length-pieces_of, pieces_of-cut_first, pieces_of-cut_last, pieces_of-free, slice_split-some}
@@ -19,25 +19,25 @@ abbrev room : {A : Type 0} → (A → ℕ) → List A → ℕ
 room size [] = 0
 room size (item ∷ items) = size item + room size items
 
-placed-last : {A : Type 0} (size : A → ℕ) (start : ℕ) (items : List A) (item : A)
-    → placed size start (items ++ item ∷ []) ≡ placed size start items ++ record { start = start + room size items; item = item } ∷ []
-placed-last {A} size start [] item =
-    let at : ℕ → List (Placed A) = λ n. record { start = n; item = item } ∷ [] in
+with_starts-last : {A : Type 0} (size : A → ℕ) (start : ℕ) (items : List A) (item : A)
+    → with_starts size start (items ++ item ∷ []) ≡ with_starts size start items ++ record { start = start + room size items; item = item } ∷ []
+with_starts-last {A} size start [] item =
+    let at : ℕ → List (WithStart A) = λ n. record { start = n; item = item } ∷ [] in
     let none : start ≡ start + 0 = omega arith in
     ap at none
-placed-last {A} size start (first ∷ items) item =
-    let at : ℕ → List (Placed A) = λ n. placed size (start + size first) items ++ record { start = n; item = item } ∷ [] in
+with_starts-last {A} size start (first ∷ items) item =
+    let at : ℕ → List (WithStart A) = λ n. with_starts size (start + size first) items ++ record { start = n; item = item } ∷ [] in
     let sum : start + size first + room size items ≡ start + (size first + room size items) = omega arith in
-    ap (λ others. record { start = start; item = first } ∷ others) (placed-last size (start + size first) items item ∙ ap at sum)
+    ap (λ others. record { start = start; item = first } ∷ others) (with_starts-last size (start + size first) items item ∙ ap at sum)
 
 -- the items alone
-items-placed : {A : Type 0} (size : A → ℕ) (start : ℕ) (items : List A) → items_of (placed size start items) ≡ items
-items-placed size start [] = refl
-items-placed size start (item ∷ items) = ap (λ others. item ∷ others) (items-placed size (start + size item) items)
+items-with_starts : {A : Type 0} (size : A → ℕ) (start : ℕ) (items : List A) → items_of (with_starts size start items) ≡ items
+items-with_starts size start [] = refl
+items-with_starts size start (item ∷ items) = ap (λ others. item ∷ others) (items-with_starts size (start + size item) items)
 
-length-placed : {A : Type 0} (size : A → ℕ) (start : ℕ) (items : List A) → length (placed size start items) ≡ length items
-length-placed size start [] = refl
-length-placed size start (item ∷ items) = ap suc (length-placed size (start + size item) items)
+length-with_starts : {A : Type 0} (size : A → ℕ) (start : ℕ) (items : List A) → length (with_starts size start items) ≡ length items
+length-with_starts size start [] = refl
+length-with_starts size start (item ∷ items) = ap suc (length-with_starts size (start + size item) items)
 
 -- ---- pieces
 
@@ -54,52 +54,52 @@ room-pieces on (piece ∷ next ∷ others) some =
 room-pieces_of : (on : ℕ) (t : List ℕ) → room piece_size (pieces_of on t) ≡ length t + 1
 room-pieces_of on t = room-pieces on (pieces_of on t) (slice_split-some _ t) ∙ ap (λ xs. length xs + 1) (join_with_byte-slice_split on t)
 
-module _ (on : ℕ) (part : Placed (List ℕ)) where
+module _ (on : ℕ) (part : WithStart (List ℕ)) where
   -- the first piece stands before the first separator
-  pub piece_spans_first : (byte : ℕ) (cut : Rest × Rest) (first : Placed (List ℕ)) → byte ≡ on → IsCutFirst byte part cut → first ≡ part_in cut.0
+  pub piece_spans_first : (byte : ℕ) (cut : Cursor × Cursor) (first : WithStart (List ℕ)) → byte ≡ on → IsCutFirst byte part cut → first ≡ part_in cut.0
       → piece_spans on part ≡ first ∷ piece_spans on (part_in cut.1)
   piece_spans_first byte cut first byte_is found first_is =
       let is = subst (λ b. IsCutFirst b part cut) byte_is found in
       let others = pieces_of on (text_of cut.1.view) in
-      let at : ℕ → Placed (List ℕ) = λ n. record { start = n; item = text_of cut.0.view } in
-      ap (placed piece_size part.start) (pieces_of-cut_first on part.item (text_of cut.0.view) (text_of cut.1.view) is.0.text is.1)
-      ∙ (ap (λ n. at part.start ∷ placed piece_size n others) (sym is.0.behind)
+      let at : ℕ → WithStart (List ℕ) = λ n. record { start = n; item = text_of cut.0.view } in
+      ap (with_starts piece_size part.start) (pieces_of-cut_first on part.item (text_of cut.0.view) (text_of cut.1.view) is.0.text is.1)
+      ∙ (ap (λ n. at part.start ∷ with_starts piece_size n others) (sym is.0.behind)
       ∙ (ap (λ n. at n ∷ piece_spans on (part_in cut.1)) (sym is.0.before)
       ∙ ap (λ one. one ∷ piece_spans on (part_in cut.1)) (sym first_is)))
 
   -- the last piece stands behind the last separator
-  pub piece_spans_last : (byte : ℕ) (cut : Rest × Rest) (last : Placed (List ℕ)) → byte ≡ on → IsCutLast byte part cut → last ≡ part_in cut.1
+  pub piece_spans_last : (byte : ℕ) (cut : Cursor × Cursor) (last : WithStart (List ℕ)) → byte ≡ on → IsCutLast byte part cut → last ≡ part_in cut.1
       → piece_spans on part ≡ piece_spans on (part_in cut.0) ++ last ∷ []
   piece_spans_last byte cut last byte_is found last_is =
       let is = subst (λ b. IsCutLast b part cut) byte_is found in
       let front = pieces_of on (text_of cut.0.view) in
-      let at : ℕ → Placed (List ℕ) = λ n. record { start = n; item = text_of cut.1.view } in
+      let at : ℕ → WithStart (List ℕ) = λ n. record { start = n; item = text_of cut.1.view } in
       let here : part.start + room piece_size front ≡ cut.1.start =
       ap (λ n. part.start + n) (room-pieces_of on (text_of cut.0.view)) ∙ sym is.0.behind in
-      ap (placed piece_size part.start) (pieces_of-cut_last on part.item (text_of cut.0.view) (text_of cut.1.view) is.0.text is.1)
-      ∙ (placed-last piece_size part.start front (text_of cut.1.view)
-      ∙ (ap (λ n. placed piece_size part.start front ++ at n ∷ []) here
-      ∙ (ap (λ n. placed piece_size n front ++ part_in cut.1 ∷ []) (sym is.0.before)
+      ap (with_starts piece_size part.start) (pieces_of-cut_last on part.item (text_of cut.0.view) (text_of cut.1.view) is.0.text is.1)
+      ∙ (with_starts-last piece_size part.start front (text_of cut.1.view)
+      ∙ (ap (λ n. with_starts piece_size part.start front ++ at n ∷ []) here
+      ∙ (ap (λ n. with_starts piece_size n front ++ part_in cut.1 ∷ []) (sym is.0.before)
       ∙ ap (λ one. piece_spans on (part_in cut.0) ++ one ∷ []) (sym last_is))))
 
   -- a text without the separator is its one piece
-  pub piece_spans_free : (byte : ℕ) (whole : Placed (List ℕ)) → byte ≡ on → Free byte part.item → whole ≡ part → piece_spans on part ≡ whole ∷ []
+  pub piece_spans_free : (byte : ℕ) (whole : WithStart (List ℕ)) → byte ≡ on → Free byte part.item → whole ≡ part → piece_spans on part ≡ whole ∷ []
   piece_spans_free byte whole byte_is free whole_is =
-      ap (placed piece_size part.start) (pieces_of-free on part.item (subst (λ b. Free b part.item) byte_is free))
+      ap (with_starts piece_size part.start) (pieces_of-free on part.item (subst (λ b. Free b part.item) byte_is free))
       ∙ ap (λ one. one ∷ []) (sym whole_is)
 
   -- the pieces found are in the relation, and no others are
   pub piece_spans_found : PieceSpans part.start part.item on (piece_spans on part)
   piece_spans_found =
-      let alone = sym (items-placed piece_size part.start (pieces_of on part.item)) in
-      record { pieces = subst (Pieces part.item on) alone (Pieces-pieces_of part.item on); starts = ap (placed piece_size part.start) alone }
+      let alone = sym (items-with_starts piece_size part.start (pieces_of on part.item)) in
+      record { pieces = subst (Pieces part.item on) alone (Pieces-pieces_of part.item on); starts = ap (with_starts piece_size part.start) alone }
 
-  pub piece_spans_only : (spans : List (Placed (List ℕ))) → PieceSpans part.start part.item on spans → spans ≡ piece_spans on part
-  piece_spans_only spans held = held.starts ∙ ap (placed piece_size part.start) (Pieces-only part.item on (items_of spans) held.pieces)
+  pub piece_spans_only : (spans : List (WithStart (List ℕ))) → PieceSpans part.start part.item on spans → spans ≡ piece_spans on part
+  piece_spans_only spans held = held.starts ∙ ap (with_starts piece_size part.start) (Pieces-only part.item on (items_of spans) held.pieces)
 
   -- there is at most one more than the codes of the text
   pub piece_spans_fit : length (piece_spans on part) ≤ length part.item + 1
-  piece_spans_fit = omega (arith, length-placed piece_size part.start (pieces_of on part.item), length-pieces_of on part.item)
+  piece_spans_fit = omega (arith, length-with_starts piece_size part.start (pieces_of on part.item), length-pieces_of on part.item)
 
 -- ---- lines
 
@@ -112,9 +112,9 @@ room-lines (line ∷ lines) =
 room-lines_of : (t : List ℕ) → room line_size (lines_of t) ≡ length t
 room-lines_of t = room-lines (lines_of t) ∙ ap length ((LinesOf-lines_of t).joined)
 
-module _ (part : Placed (List ℕ)) where
+module _ (part : WithStart (List ℕ)) where
   -- the first line stands before the first LF
-  pub line_spans_first : (cut : Rest × Rest) (first : Placed Line) → IsCutFirst 10 part cut
+  pub line_spans_first : (cut : Cursor × Cursor) (first : WithStart Line) → IsCutFirst 10 part cut
       → first ≡ record { start = cut.0.start; item = ended_line (text_of cut.0.view) }
       → line_spans part ≡ first ∷ line_spans (part_in cut.1)
   line_spans_first cut first is first_is =
@@ -122,45 +122,45 @@ module _ (part : Placed (List ℕ)) where
       let line = ended_line (text_of cut.0.view) in
       let size : line_size line ≡ length (text_of cut.0.view) + 1 =
       ap length (line_text-ended (text_of cut.0.view)) ∙ length-append (text_of cut.0.view) (10 ∷ []) in
-      let at : ℕ → Placed Line = λ n. record { start = n; item = line } in
-      ap (placed line_size part.start) (lines_of-cut_first part.item (text_of cut.0.view) (text_of cut.1.view) is.0.text is.1)
-      ∙ (ap (λ n. at part.start ∷ placed line_size (part.start + n) others) size
-      ∙ (ap (λ n. at part.start ∷ placed line_size n others) (sym is.0.behind)
+      let at : ℕ → WithStart Line = λ n. record { start = n; item = line } in
+      ap (with_starts line_size part.start) (lines_of-cut_first part.item (text_of cut.0.view) (text_of cut.1.view) is.0.text is.1)
+      ∙ (ap (λ n. at part.start ∷ with_starts line_size (part.start + n) others) size
+      ∙ (ap (λ n. at part.start ∷ with_starts line_size n others) (sym is.0.behind)
       ∙ (ap (λ n. at n ∷ line_spans (part_in cut.1)) (sym is.0.before)
       ∙ ap (λ one. one ∷ line_spans (part_in cut.1)) (sym first_is))))
 
   -- a text without LF is one line, and none where it is empty
-  pub line_spans_open : (rest : Rest) (only : Placed Line) → Free 10 part.item → part.item ≢ [] → text_of rest.view ≡ []
+  pub line_spans_open : (cursor : Cursor) (only : WithStart Line) → Free 10 part.item → part.item ≢ [] → text_of cursor.view ≡ []
       → only ≡ record { start = part.start; item = record { body = part.item; ending = Absent } }
-      → line_spans part ≡ only ∷ line_spans (part_in rest)
-  line_spans_open rest only free some none only_is =
-      ap (placed line_size part.start) (lines_of-open part.item free some)
+      → line_spans part ≡ only ∷ line_spans (part_in cursor)
+  line_spans_open cursor only free some none only_is =
+      ap (with_starts line_size part.start) (lines_of-open part.item free some)
       ∙ (ap (λ one. one ∷ []) (sym only_is)
-      ∙ ap (λ t. only ∷ placed line_size rest.start (lines_of t)) (sym none))
+      ∙ ap (λ t. only ∷ with_starts line_size cursor.start (lines_of t)) (sym none))
 
   pub line_spans_none : part.item ≡ [] → line_spans part ≡ []
-  line_spans_none none = ap (λ t. placed line_size part.start (lines_of t)) none
+  line_spans_none none = ap (λ t. with_starts line_size part.start (lines_of t)) none
 
   -- a text that is not empty has a line
   pub line_spans_some : part.item ≢ [] → line_spans part ≢ []
   line_spans_some some none =
-      absurd (lines_of-some part.item some (sym (items-placed line_size part.start (lines_of part.item)) ∙ ap items_of none))
+      absurd (lines_of-some part.item some (sym (items-with_starts line_size part.start (lines_of part.item)) ∙ ap items_of none))
 
   -- the last line stands behind whole lines
-  line_spans_behind : (cut : Rest × Rest) (line : Line) → cut.0.start ≡ part.start → cut.1.start ≡ part.start + length (text_of cut.0.view)
+  line_spans_behind : (cut : Cursor × Cursor) (line : Line) → cut.0.start ≡ part.start → cut.1.start ≡ part.start + length (text_of cut.0.view)
       → lines_of part.item ≡ lines_of (text_of cut.0.view) ++ line ∷ []
       → line_spans part ≡ line_spans (part_in cut.0) ++ record { start = cut.1.start; item = line } ∷ []
   line_spans_behind cut line before behind is =
       let front = lines_of (text_of cut.0.view) in
-      let at : ℕ → Placed Line = λ n. record { start = n; item = line } in
+      let at : ℕ → WithStart Line = λ n. record { start = n; item = line } in
       let here : part.start + room line_size front ≡ cut.1.start = ap (λ n. part.start + n) (room-lines_of (text_of cut.0.view)) ∙ sym behind in
-      ap (placed line_size part.start) is
-      ∙ (placed-last line_size part.start front line
-      ∙ (ap (λ n. placed line_size part.start front ++ at n ∷ []) here
-      ∙ ap (λ n. placed line_size n front ++ at cut.1.start ∷ []) (sym before)))
+      ap (with_starts line_size part.start) is
+      ∙ (with_starts-last line_size part.start front line
+      ∙ (ap (λ n. with_starts line_size part.start front ++ at n ∷ []) here
+      ∙ ap (λ n. with_starts line_size n front ++ at cut.1.start ∷ []) (sym before)))
 
   -- the last line of a text that ends in LF, which is cut in front of that
-  pub line_spans_last_ended : (front : Rest) (cut : Rest × Rest) (last : Placed Line) → part.item ≡ text_of front.view ++ 10 ∷ [] → front.start ≡ part.start
+  pub line_spans_last_ended : (front : Cursor) (cut : Cursor × Cursor) (last : WithStart Line) → part.item ≡ text_of front.view ++ 10 ∷ [] → front.start ≡ part.start
       → IsCutBehindLastFeed (part_in front) cut → last ≡ record { start = cut.1.start; item = ended_line (text_of cut.1.view) }
       → line_spans part ≡ line_spans (part_in cut.0) ++ last ∷ []
   line_spans_last_ended front cut last ends starts is last_is =
@@ -169,7 +169,7 @@ module _ (part : Placed (List ℕ)) where
       ∙ ap (λ one. line_spans (part_in cut.0) ++ one ∷ []) (sym last_is)
 
   -- the last line of a text that does not
-  pub line_spans_last_open : (front : List ℕ) (code : ℕ) (cut : Rest × Rest) (last : Placed Line) → part.item ≡ front ++ code ∷ [] → code ≢ 10
+  pub line_spans_last_open : (front : List ℕ) (code : ℕ) (cut : Cursor × Cursor) (last : WithStart Line) → part.item ≡ front ++ code ∷ [] → code ≢ 10
       → IsCutBehindLastFeed part cut → last ≡ record { start = cut.1.start; item = record { body = text_of cut.1.view; ending = Absent } }
       → line_spans part ≡ line_spans (part_in cut.0) ++ last ∷ []
   line_spans_last_open front code cut last ends other is last_is =
@@ -182,15 +182,15 @@ module _ (part : Placed (List ℕ)) where
   -- the lines found are in the relation, and no others are
   pub line_spans_found : LineSpansOf part.start part.item (line_spans part)
   line_spans_found =
-      let alone = sym (items-placed line_size part.start (lines_of part.item)) in
-      record { lines = subst (LinesOf part.item) alone (LinesOf-lines_of part.item); starts = ap (placed line_size part.start) alone }
+      let alone = sym (items-with_starts line_size part.start (lines_of part.item)) in
+      record { lines = subst (LinesOf part.item) alone (LinesOf-lines_of part.item); starts = ap (with_starts line_size part.start) alone }
 
-  pub line_spans_only : (spans : List (Placed Line)) → LineSpansOf part.start part.item spans → spans ≡ line_spans part
-  line_spans_only spans held = held.starts ∙ ap (placed line_size part.start) (LinesOf-only part.item (items_of spans) held.lines)
+  pub line_spans_only : (spans : List (WithStart Line)) → LineSpansOf part.start part.item spans → spans ≡ line_spans part
+  line_spans_only spans held = held.starts ∙ ap (with_starts line_size part.start) (LinesOf-only part.item (items_of spans) held.lines)
 
   -- there is at most one more than the codes of the text
   pub line_spans_fit : length (line_spans part) ≤ length part.item + 1
-  line_spans_fit = omega (arith, length-placed line_size part.start (lines_of part.item), length-lines_of part.item)
+  line_spans_fit = omega (arith, length-with_starts line_size part.start (lines_of part.item), length-lines_of part.item)
 
 -- ---- two lists of one text are one
 
@@ -201,6 +201,6 @@ pub same_lines : (t : List ℕ) (lines others : List Line) → LinesOf t lines �
 same_lines t lines others one two = LinesOf-only t others two ∙ sym (LinesOf-only t lines one)
 
 -- items are some where their spans are
-pub items_some : {A : Type 0} (spans : List (Placed A)) → spans ≢ [] → items_of spans ≢ []
+pub items_some : {A : Type 0} (spans : List (WithStart A)) → spans ≢ [] → items_of spans ≢ []
 items_some [] some = λ none. absurd (some refl)
 items_some (span ∷ spans) some = λ none. cc

@@ -8,7 +8,7 @@ use Rattle.std.proofs.lemmas.Str.Ascii.{IsAscii-cons, IsAscii-map, IsAscii-nil}
 use Rattle.std.specs.declared.fmt.Error.{Error}
 use Rattle.ascii_base.specs.Bytes.{FirstOther}
 use Rattle.ascii_base.specs.Case.{upper_image, lower_image}
-use Rattle.ascii.specs.Held.{Held, Writes}
+use Rattle.ascii.specs.StringState.{StringState, Writes}
 use Rattle.ascii.specs.Text.{insert_text}
 
 -- the upper image of a code is a code
@@ -45,7 +45,7 @@ pub no_text : (bytes : List ℕ) (i : ℕ) → FirstOther bytes 0 (length bytes)
 no_text bytes i other ascii = omega (arith, other.other, ascii i)
 
 -- what is no text is refused by writing, and the string stays
-pub Writes-refused : (piece : List ℕ) (held : Held) (e : Error) → length held.text ≤ held.capacity → ¬ (IsAscii piece) → Writes piece held held (Err e)
+pub Writes-refused : (piece : List ℕ) (held : StringState) (e : Error) → length held.text ≤ held.capacity → ¬ (IsAscii piece) → Writes piece held held (Err e)
 Writes-refused piece held e room none = record {
   ok = tt;
   ascii = tt;

@@ -2,12 +2,12 @@
 -- iterators ensure that what is found stands in the relations, and that nothing else does.
 use Rattle.std.specs.Prelude.{◌≡◌, ℕ, ◌+◌, ◌-◌, List, [], ◌∷◌, ◌++◌, ◌⊎◌, length, take, slice_index_or, cond, Bool, ◌==◌, false, Option, Some, None}
 use Rattle.std.specs.List.{All, slice_split}
-use Rattle.ascii.specs.declared.iter.rest.Rest.{Rest}
+use Rattle.ascii.specs.declared.iter.cursor.Cursor.{Cursor}
 use Rattle.ascii.specs.declared.iter.spans.Ending.TheVariants.{Lf, CrLf, Absent}
 use Rattle.ascii.specs.declared.iter.walks.End.{End}
 use Rattle.ascii.specs.declared.iter.walks.End.TheVariants.{Front, Back}
 use Rattle.ascii.specs.Lines.{Line}
-use Rattle.ascii.specs.Spans.{Placed, placed, piece_size, line_size}
+use Rattle.ascii.specs.Spans.{WithStart, with_starts, piece_size, line_size}
 use Rattle.ascii.specs.View.{text_of}
 
 -- no code of the list is this one
@@ -48,33 +48,33 @@ lines_of text = lines_of_pieces (pieces_of 10 text)
 -- ---- what an iterator has left, and what it owes by it
 
 -- a part of a text, and where it starts
-abbrev pub part_in : Rest → Placed (List ℕ)
-part_in rest = record { start = rest.start; item = text_of rest.view }
+abbrev pub part_in : Cursor → WithStart (List ℕ)
+part_in cursor = record { start = cursor.start; item = text_of cursor.view }
 
-abbrev pub piece_spans : ℕ → Placed (List ℕ) → List (Placed (List ℕ))
-piece_spans on part = placed piece_size part.start (pieces_of on part.item)
+abbrev pub piece_spans : ℕ → WithStart (List ℕ) → List (WithStart (List ℕ))
+piece_spans on part = with_starts piece_size part.start (pieces_of on part.item)
 
-abbrev pub line_spans : Placed (List ℕ) → List (Placed Line)
-line_spans part = placed line_size part.start (lines_of part.item)
+abbrev pub line_spans : WithStart (List ℕ) → List (WithStart Line)
+line_spans part = with_starts line_size part.start (lines_of part.item)
 
 -- the spans of what is left, and none where nothing is
-abbrev pub spans_left : ℕ → Option (Placed (List ℕ)) → List (Placed (List ℕ))
+abbrev pub spans_left : ℕ → Option (WithStart (List ℕ)) → List (WithStart (List ℕ))
 spans_left on None = []
 spans_left on (Some part) = piece_spans on part
 
 -- ---- where a part is cut
 
 -- a part is cut at a code: what stands before it, and what stands behind it
-pub record IsCut (on : ℕ) (part : Placed (List ℕ)) (cut : Rest × Rest) : Type 0 where
+pub record IsCut (on : ℕ) (part : WithStart (List ℕ)) (cut : Cursor × Cursor) : Type 0 where
   pub text : part.item ≡ text_of cut.0.view ++ on ∷ text_of cut.1.view
   pub before : cut.0.start ≡ part.start
   pub behind : cut.1.start ≡ part.start + (length (text_of cut.0.view) + 1)
 
 -- at the first of these codes, or at the last
-abbrev pub IsCutFirst : ℕ → Placed (List ℕ) → Rest × Rest → Type 0
+abbrev pub IsCutFirst : ℕ → WithStart (List ℕ) → Cursor × Cursor → Type 0
 IsCutFirst on part cut = IsCut on part cut × Free on (text_of cut.0.view)
 
-abbrev pub IsCutLast : ℕ → Placed (List ℕ) → Rest × Rest → Type 0
+abbrev pub IsCutLast : ℕ → WithStart (List ℕ) → Cursor × Cursor → Type 0
 IsCutLast on part cut = IsCut on part cut × Free on (text_of cut.1.view)
 
 -- it is empty, or it ends in LF
@@ -82,7 +82,7 @@ abbrev pub HasWholeLines : List ℕ → Type 0
 HasWholeLines text = (text ≡ []) ⊎ ((line : List ℕ) × (text ≡ line ++ 10 ∷ []))
 
 -- a part is cut behind its last LF, or at its front where it has none
-pub record IsCutBehindLastFeed (part : Placed (List ℕ)) (cut : Rest × Rest) : Type 0 where
+pub record IsCutBehindLastFeed (part : WithStart (List ℕ)) (cut : Cursor × Cursor) : Type 0 where
   pub text : part.item ≡ text_of cut.0.view ++ text_of cut.1.view
   pub before : cut.0.start ≡ part.start
   pub behind : cut.1.start ≡ part.start + length (text_of cut.0.view)

@@ -9,18 +9,18 @@ use Rattle.ascii.specs.declared.json.JsonError.TheVariants.{NotText, NotOneByte,
 use Rattle.ascii.specs.View.{position_of}
 
 -- no character: no JSON string, or one that has not one byte
-abbrev pub RefusesChar : Data → JsonError → Type 0
-RefusesChar value NotText = as_str value ≡ None
-RefusesChar value NotOneByte = (text : List ℕ) × (as_str value ≡ Some text) × (length text ≢ 1)
-RefusesChar value other = ⊥
+abbrev pub RejectsChar : Data → JsonError → Type 0
+RejectsChar value NotText = as_str value ≡ None
+RejectsChar value NotOneByte = (text : List ℕ) × (as_str value ≡ Some text) × (length text ≢ 1)
+RejectsChar value other = ⊥
 
 -- no text: no JSON string, or one with a byte over 127, whose first place is named
-abbrev pub RefusesText : Data → JsonError → Type 0
-RefusesText value NotText = as_str value ≡ None
-RefusesText value (NotAscii e) = (text : List ℕ) × (as_str value ≡ Some text) × FirstOther text 0 (length text) (position_of e)
-RefusesText value other = ⊥
+abbrev pub RejectsText : Data → JsonError → Type 0
+RejectsText value NotText = as_str value ≡ None
+RejectsText value (NotAscii e) = (text : List ℕ) × (as_str value ≡ Some text) × FirstOther text 0 (length text) (position_of e)
+RejectsText value other = ⊥
 
 -- the same for a copy, or memory was refused for a text that is not empty
-abbrev pub RefusesTextCopy : Data → JsonError → Type 0
-RefusesTextCopy value Memory = (text : List ℕ) × (as_str value ≡ Some text) × IsAscii text × (0 < length text)
-RefusesTextCopy value other = RefusesText value other
+abbrev pub RejectsTextCopy : Data → JsonError → Type 0
+RejectsTextCopy value Memory = (text : List ℕ) × (as_str value ≡ Some text) × IsAscii text × (0 < length text)
+RejectsTextCopy value other = RejectsText value other

@@ -5,7 +5,6 @@ pub mod Ends
 pub mod Extend
 pub mod First
 pub mod Found
-pub mod Held
 pub mod Json
 pub mod Lines
 pub mod Only
@@ -14,6 +13,7 @@ pub mod Refusal
 pub mod Slice
 pub mod Spans
 pub mod Steps
+pub mod StringState
 pub mod Text
 pub mod Trim
 pub mod View

@@ -2,5 +2,5 @@
 use Rattle.std.specs.Prelude.{◌≡◌}
 
 -- whatever is so is this
-abbrev pub IsOnly : {A : Type 0} → (A → Type 0) → A → Type 0
-IsOnly {A} Is this = (other : A) → Is other → other ≡ this
+abbrev pub IsUnique : {A : Type 0} → (A → Type 0) → A → Type 0
+IsUnique {A} Is this = (other : A) → Is other → other ≡ this

@@ -17,11 +17,11 @@ abbrev pub source_of : {O : Type 0} → FromAsciiError O → O
 source_of e = e.source
 
 -- the refusal names the first byte over 127 and has the source itself
-abbrev pub HandsBack : {O : Type 0} → O → List ℕ → FromAsciiError O → Type 0
-HandsBack source bytes e =
+abbrev pub ReturnsSource : {O : Type 0} → O → List ℕ → FromAsciiError O → Type 0
+ReturnsSource source bytes e =
     (source_of e ≡ source) × FirstOther bytes 0 (length bytes) (position_of (ascii_error_of e))
 
 -- a copy is refused for a byte over 127, and for want of memory only where there are bytes, all of them under 128
-abbrev pub RefusesCopy : {O : Type 0} → O → List ℕ → CopyError O → Type 0
-RefusesCopy source bytes (NotAscii e) = HandsBack source bytes e
-RefusesCopy source bytes (Memory e) = IsAscii bytes × (0 < length bytes)
+abbrev pub RejectsCopy : {O : Type 0} → O → List ℕ → CopyError O → Type 0
+RejectsCopy source bytes (NotAscii e) = ReturnsSource source bytes e
+RejectsCopy source bytes (Memory e) = IsAscii bytes × (0 < length bytes)

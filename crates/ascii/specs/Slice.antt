@@ -13,15 +13,15 @@ use Rattle.ascii.specs.declared.ascii_str.AsAsciiStrError.{AsAsciiStrError}
 use Rattle.ascii.specs.View.{text_of, position_of}
 
 -- a range is refused with the length where it does not fit, and else with its first byte over 127
-abbrev pub IsRefused : List ℕ → AsciiRange → AsAsciiStrError → Type 0
-IsRefused bytes r e = let n = length bytes in
+abbrev pub IsRejected : List ℕ → AsciiRange → AsAsciiStrError → Type 0
+IsRejected bytes r e = let n = length bytes in
     (¬ Fits r n × (position_of e ≡ n)) ⊎ (Fits r n × FirstOther bytes (start_of r) (end_of r n) (position_of e))
 
 -- the three outcomes of a slice, of which no two hold at once
 abbrev pub SliceOutcome : List ℕ → AsciiRange → Result AsciiStr AsAsciiStrError → Type 0
 SliceOutcome bytes r result = let n = length bytes in MatchResult result
     (λ v. Fits r n × (text_of v ≡ part_of bytes r))
-    (IsRefused bytes r)
+    (IsRejected bytes r)
 
 -- a place in a source whose byte is a code
 abbrev pub HasCodeAt : List ℕ → ℕ → Type 0

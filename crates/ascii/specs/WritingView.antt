@@ -7,7 +7,7 @@ use Rattle.ascii_base.specs.declared.range.AsciiRange.{AsciiRange}
 use Rattle.ascii_base.specs.Range.{start_of, end_of, Fits}
 use Rattle.ascii.specs.declared.ascii_str.AsAsciiStrError.{AsAsciiStrError}
 use Rattle.ascii.specs.declared.ascii_str_mut.AsciiStrMut.{AsciiStrMut}
-use Rattle.ascii.specs.Slice.{IsRefused}
+use Rattle.ascii.specs.Slice.{IsRejected}
 
 -- the bytes before the text
 abbrev pub before_of : AsciiStrMut → List ℕ
@@ -22,35 +22,35 @@ abbrev pub after_of : AsciiStrMut → List ℕ
 after_of v = drop v.end v.bytes.now
 
 -- the whole source
-abbrev pub whole_of : AsciiStrMut → List ℕ
-whole_of v = v.bytes.now
+abbrev pub whole_source_of : AsciiStrMut → List ℕ
+whole_source_of v = v.bytes.now
 
 -- the borrow of the source: two views with one lender write into the same source
-abbrev pub lender_of : AsciiStrMut → GName
-lender_of v = v.bytes.ghost_name
+abbrev pub borrow_of : AsciiStrMut → GName
+borrow_of v = v.bytes.ghost_name
 
 -- an edit of the text to this one: the bytes around it and the borrow stay, and the source is the three in order
 pub record EditsTo (to : List ℕ) (old new : AsciiStrMut) : Type 0 where
   pub text : mut_text_of new ≡ to
   pub before : before_of new ≡ before_of old
   pub after : after_of new ≡ after_of old
-  pub lender : lender_of new ≡ lender_of old
-  pub whole : whole_of new ≡ before_of new ++ mut_text_of new ++ after_of new
+  pub lender : borrow_of new ≡ borrow_of old
+  pub whole : whole_source_of new ≡ before_of new ++ mut_text_of new ++ after_of new
 
 -- a view of the bytes from s up to e of a source
-pub record IsPart (source : List ℕ) (s e : ℕ) (v : AsciiStrMut) : Type 0 where
+pub record IsViewOf (source : List ℕ) (s e : ℕ) (v : AsciiStrMut) : Type 0 where
   pub before : before_of v ≡ take s source
   pub text : mut_text_of v ≡ slice_range source s e
   pub after : after_of v ≡ drop e source
-  pub whole : whole_of v ≡ source
+  pub whole : whole_source_of v ≡ source
 
 -- the three outcomes of a slice for writing, of which no two hold at once
 abbrev pub MutSliceOutcome : List ℕ → AsciiRange → Result AsciiStrMut AsAsciiStrError → Type 0
 MutSliceOutcome source r result = let n = length source in MatchResult result
-    (λ v. Fits r n × IsPart source (start_of r) (end_of r n) v)
-    (IsRefused source r)
+    (λ v. Fits r n × IsViewOf source (start_of r) (end_of r n) v)
+    (IsRejected source r)
 
 -- how a source ends: where it was refused, as it was; where a view was given, as the last value of that
 -- view, which holds the borrow of the source
-abbrev pub Rests : MutBor (List ℕ) → Result AsciiStrMut AsAsciiStrError → Fml
-Rests source result = RestsIfErr (Array u8 0) source lender_of result (λ last. last ≡ source.now)
+abbrev pub FinalSource : MutBor (List ℕ) → Result AsciiStrMut AsAsciiStrError → Fml
+FinalSource source result = RestsIfErr (Array u8 0) source borrow_of result (λ last. last ≡ source.now)

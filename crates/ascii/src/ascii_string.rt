@@ -4,7 +4,7 @@ ghost use Rattle.std.specs.Prelude.{◌≡◌, ◌+◌, ◌-◌, ◌<◌, ◌≤
 ghost use Rattle.std.specs.Option.{option_map};
 ghost use Rattle.ascii_base.specs.Case.{lower_image, upper_image};
 ghost use Rattle.ascii_base.specs.Code.{code_of};
-ghost use Rattle.ascii.specs.Held.{EditsWithin, GrowsTo, MakesRoom, Writes};
+ghost use Rattle.ascii.specs.StringState.{EditsInPlace, GrowsTo, Reserves, Writes};
 ghost use Rattle.ascii.specs.Text.{insert_text};
 ghost use Rattle.ascii.specs.View.{text_of};
 
@@ -28,9 +28,9 @@ pub struct AsciiString<A: Allocator = Global> {
 impl<A: Allocator> Model for AsciiString<A> {
     ghost use Rattle.std.specs.Prelude.{vec_capacity};
     ghost use Rattle.std.specs.Str.{IsAscii};
-    ghost use Rattle.ascii.specs.Held.{Held};
+    ghost use Rattle.ascii.specs.StringState.{StringState};
 
-    ghost Value = { Held };
+    ghost Value = { StringState };
 
     ghost view = { λ s. record { text = s.bytes.items; capacity = vec_capacity s.bytes } };
 
@@ -108,7 +108,7 @@ impl<A: Allocator> AsciiString<A> {
     ///     text.capacity() >= 13 // true
     pub fn reserve(&mut self, additional: usize) -> Result<(), AllocError>
         requires { length self.old.text + additional ≤ usize.MAX }
-        ensures { MakesRoom additional self.old self.new result }
+        ensures { Reserves additional self.old self.new result }
     {
         self.bytes.reserve(additional)
     }
@@ -121,7 +121,7 @@ impl<A: Allocator> AsciiString<A> {
     ///     text.capacity() >= 13 // true
     pub fn reserve_exact(&mut self, additional: usize) -> Result<(), AllocError>
         requires { length self.old.text + additional ≤ usize.MAX }
-        ensures { MakesRoom additional self.old self.new result }
+        ensures { Reserves additional self.old self.new result }
     {
         self.bytes.reserve_exact(additional)
     }
@@ -210,7 +210,7 @@ impl<A: Allocator> AsciiString<A> {
     pub fn remove(&mut self, idx: usize) -> AsciiChar
         requires { idx < length self.old.text }
         ensures removed { code_of result ≡ slice_index self.old.text idx }
-        ensures edits { EditsWithin (remove self.old.text idx) self.old self.new }
+        ensures edits { EditsInPlace (remove self.old.text idx) self.old self.new }
     {
         AsciiChar::from_ascii_unchecked(self.bytes.remove(idx))
     }
@@ -223,7 +223,7 @@ impl<A: Allocator> AsciiString<A> {
     #[inline]
     pub fn pop(&mut self) -> Option<AsciiChar>
         ensures popped { option_map code_of result ≡ slice_get self.old.text (length self.old.text - 1) }
-        ensures edits { EditsWithin (take (length self.old.text - 1) self.old.text) self.old self.new }
+        ensures edits { EditsInPlace (take (length self.old.text - 1) self.old.text) self.old self.new }
     {
         let byte = self.bytes.pop()?;
         Some(AsciiChar::from_ascii_unchecked(byte))
@@ -236,7 +236,7 @@ impl<A: Allocator> AsciiString<A> {
     ///     text // "fo"
     #[inline]
     pub fn truncate(&mut self, n: usize)
-        ensures { EditsWithin (take n self.old.text) self.old self.new }
+        ensures { EditsInPlace (take n self.old.text) self.old self.new }
     {
         self.bytes.truncate(n);
     }
@@ -248,7 +248,7 @@ impl<A: Allocator> AsciiString<A> {
     ///     text // ""
     #[inline]
     pub fn clear(&mut self)
-        ensures { EditsWithin [] self.old self.new }
+        ensures { EditsInPlace [] self.old self.new }
     {
         self.bytes.clear();
     }
@@ -261,7 +261,7 @@ impl<A: Allocator> AsciiString<A> {
     #[inline]
     pub fn set(&mut self, i: usize, ch: AsciiChar)
         requires { i < length self.old.text }
-        ensures { EditsWithin (slice_set self.old.text i (code_of ch)) self.old self.new }
+        ensures { EditsInPlace (slice_set self.old.text i (code_of ch)) self.old self.new }
     {
         self.bytes[i] = ch.as_byte();
     }
@@ -272,7 +272,7 @@ impl<A: Allocator> AsciiString<A> {
     ///     text.make_ascii_uppercase();
     ///     text // "FOO"
     pub fn make_ascii_uppercase(&mut self)
-        ensures { EditsWithin (map upper_image self.old.text) self.old self.new }
+        ensures { EditsInPlace (map upper_image self.old.text) self.old self.new }
     {
         kernels::upper_in_place(&mut self.bytes);
     }
@@ -283,7 +283,7 @@ impl<A: Allocator> AsciiString<A> {
     ///     text.make_ascii_lowercase();
     ///     text // "foo"
     pub fn make_ascii_lowercase(&mut self)
-        ensures { EditsWithin (map lower_image self.old.text) self.old self.new }
+        ensures { EditsInPlace (map lower_image self.old.text) self.old self.new }
     {
         kernels::lower_in_place(&mut self.bytes);
     }

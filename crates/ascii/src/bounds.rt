@@ -1,7 +1,7 @@
 //! The one test that stands under every form of a range over every source.
 
 ghost use Rattle.std.specs.Prelude.{MatchResult};
-ghost use Rattle.ascii.specs.Slice.{IsAsciiBounds, IsRefused};
+ghost use Rattle.ascii.specs.Slice.{IsAsciiBounds, IsRejected};
 
 use crate::ascii_str::AsAsciiStrError;
 use ascii_base::kernels;
@@ -13,7 +13,7 @@ pub(crate) fn checked_bounds(
     source: &[u8],
     range: AsciiRange,
 ) -> Result<(usize, usize), AsAsciiStrError>
-    ensures { MatchResult result (IsAsciiBounds source.now range) (IsRefused source.now range) }
+    ensures { MatchResult result (IsAsciiBounds source.now range) (IsRejected source.now range) }
 {
     let len = source.len();
     if !range.fits(len) {

@@ -4,7 +4,7 @@ ghost use Rattle.std.specs.Prelude.{◌≡◌, MatchResult, OnOk, length};
 ghost use Rattle.std.specs.Str.{IsAscii};
 ghost use Rattle.ascii_base.specs.Range.{start_of, end_of};
 ghost use Rattle.ascii.specs.Between.{AsciiBetween};
-ghost use Rattle.ascii.specs.Refusal.{RefusesCopy};
+ghost use Rattle.ascii.specs.Refusal.{RejectsCopy};
 ghost use Rattle.ascii.specs.Slice.{GetsAscii, SliceOutcome};
 ghost use Rattle.ascii.specs.View.{text_of};
 
@@ -97,7 +97,7 @@ pub fn to_ascii_string<A: Allocator>(
     alloc: A,
     source: &[u8],
 ) -> Result<AsciiString<A>, CopyError<&[u8]>>
-    ensures { MatchResult result (λ string. string.text ≡ source.now) (RefusesCopy source.entry source.now) }
+    ensures { MatchResult result (λ string. string.text ≡ source.now) (RejectsCopy source.entry source.now) }
 {
     match as_ascii_str(source) {
         Ok(view) => match view.to_ascii_string(alloc) {

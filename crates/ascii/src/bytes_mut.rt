@@ -3,8 +3,8 @@
 ghost use Rattle.std.specs.Prelude.{true, false, ◌≡◌, IfOk, length};
 ghost use Rattle.ascii_base.specs.Range.{start_of, end_of, Fits};
 ghost use Rattle.ascii.specs.Between.{AsciiBetween};
-ghost use Rattle.ascii.specs.WritingView.{IsPart, MutSliceOutcome, Rests, lender_of, whole_of};
-ghost use Rattle.ascii.specs.Slice.{IsRefused};
+ghost use Rattle.ascii.specs.WritingView.{IsViewOf, MutSliceOutcome, FinalSource, borrow_of, whole_source_of};
+ghost use Rattle.ascii.specs.Slice.{IsRejected};
 ghost use Rattle.std.specs.Str.{IsAscii};
 ghost use Rattle.std.specs.Borrow.{sem};
 
@@ -22,8 +22,8 @@ use ascii_base::range::AsciiRange;
 pub fn slice_ascii_mut_unchecked(source: &mut [u8], range: AsciiRange) -> AsciiStrMut<'_>
     requires fits { Fits range (length source.old) }
     requires ascii { AsciiBetween source.old (start_of range) (end_of range (length source.old)) }
-    ensures part { IsPart source.old (start_of range) (end_of range (length source.old)) result }
-    ensures lender { lender_of result ≡ source.entry.ghost_name }
+    ensures part { IsViewOf source.old (start_of range) (end_of range (length source.old)) result }
+    ensures lender { borrow_of result ≡ source.entry.ghost_name }
 {
     let end = range.end(source.len());
     AsciiStrMut {
@@ -41,8 +41,8 @@ pub fn slice_ascii_mut_unchecked(source: &mut [u8], range: AsciiRange) -> AsciiS
 #[inline]
 pub fn as_mut_ascii_str_unchecked(source: &mut [u8]) -> AsciiStrMut<'_>
     requires { IsAscii source.old }
-    ensures part { IsPart source.old 0 (length source.old) result }
-    ensures lender { lender_of result ≡ source.entry.ghost_name }
+    ensures part { IsViewOf source.old 0 (length source.old) result }
+    ensures lender { borrow_of result ≡ source.entry.ghost_name }
 {
     slice_ascii_mut_unchecked(source, AsciiRange::Full)
 }
@@ -61,8 +61,8 @@ pub fn slice_ascii_mut(
     range: AsciiRange,
 ) -> Result<AsciiStrMut<'_>, AsAsciiStrError>
     ensures outcome { MutSliceOutcome source.old range result }
-    ensures lender { IfOk result (λ v. lender_of v ≡ source.entry.ghost_name) }
-    ensures* rests { sem 𝓛 (Rests source.entry result) }
+    ensures lender { IfOk result (λ v. borrow_of v ≡ source.entry.ghost_name) }
+    ensures* rests { sem 𝓛 (FinalSource source.entry result) }
 {
     let searched = search(source, range);
     if searched.is_refused {
@@ -83,8 +83,8 @@ pub fn slice_ascii_mut(
 ///     source == *b"FOO" // true
 pub fn as_mut_ascii_str(source: &mut [u8]) -> Result<AsciiStrMut<'_>, AsAsciiStrError>
     ensures outcome { MutSliceOutcome source.old AsciiRange.Full result }
-    ensures lender { IfOk result (λ v. lender_of v ≡ source.entry.ghost_name) }
-    ensures* rests { sem 𝓛 (Rests source.entry result) }
+    ensures lender { IfOk result (λ v. borrow_of v ≡ source.entry.ghost_name) }
+    ensures* rests { sem 𝓛 (FinalSource source.entry result) }
 {
     slice_ascii_mut(source, AsciiRange::Full)
 }
@@ -101,10 +101,10 @@ struct Searched<'a> {
 
 /// Looks through the range of a source, and keeps hold of the source.
 fn search(source: &mut [u8], range: AsciiRange) -> Searched<'_>
-    ensures accepted { result.is_refused ≡ false → Fits range (length source.old) × IsPart source.old (start_of range) (end_of range (length source.old)) result.view }
-    ensures refused { result.is_refused ≡ true → IsRefused source.old range (record { valid_up_to = result.valid_up_to }) }
-    ensures whole { whole_of result.view ≡ source.old }
-    ensures lender { lender_of result.view ≡ source.entry.ghost_name }
+    ensures accepted { result.is_refused ≡ false → Fits range (length source.old) × IsViewOf source.old (start_of range) (end_of range (length source.old)) result.view }
+    ensures refused { result.is_refused ≡ true → IsRejected source.old range (record { valid_up_to = result.valid_up_to }) }
+    ensures whole { whole_source_of result.view ≡ source.old }
+    ensures lender { borrow_of result.view ≡ source.entry.ghost_name }
 {
     match checked_bounds(source, range) {
         Ok((start, end)) => Searched {

@@ -3,7 +3,7 @@
 
 mod chars;
 mod lines;
-mod rest;
+mod cursor;
 mod spans;
 mod split;
 mod walks;

@@ -2,7 +2,7 @@
 
 ghost use Rattle.std.specs.Prelude.{◌≡◌, IfOk, MatchResult, string_bytes};
 ghost use Rattle.std.specs.String.{string_capacity};
-ghost use Rattle.ascii.specs.Refusal.{HandsBack};
+ghost use Rattle.ascii.specs.Refusal.{ReturnsSource};
 
 use crate::ascii_str::AsAsciiStrError;
 use crate::ascii_string::AsciiString;
@@ -17,7 +17,7 @@ use std::alloc::Allocator;
 pub fn into_ascii_string<A: Allocator>(
     string: String<A>,
 ) -> Result<AsciiString<A>, FromAsciiError<String<A>>>
-    ensures text { MatchResult result (λ ascii. ascii.text ≡ string_bytes string) (HandsBack string (string_bytes string)) }
+    ensures text { MatchResult result (λ ascii. ascii.text ≡ string_bytes string) (ReturnsSource string (string_bytes string)) }
     ensures capacity { IfOk result (λ ascii. ascii.capacity ≡ string_capacity string) }
 {
     match kernels::first_other(string.as_bytes()) {
@@ -35,7 +35,7 @@ pub fn into_ascii_string<A: Allocator>(
 pub fn from_ascii<A: Allocator>(
     string: String<A>,
 ) -> Result<AsciiString<A>, FromAsciiError<String<A>>>
-    ensures text { MatchResult result (λ ascii. ascii.text ≡ string_bytes string) (HandsBack string (string_bytes string)) }
+    ensures text { MatchResult result (λ ascii. ascii.text ≡ string_bytes string) (ReturnsSource string (string_bytes string)) }
     ensures capacity { IfOk result (λ ascii. ascii.capacity ≡ string_capacity string) }
 {
     into_ascii_string(string)

@@ -2,7 +2,7 @@
 
 ghost use Rattle.std.specs.Prelude.{◌≡◌, MatchResult};
 ghost use Rattle.std.specs.Str.{IsAscii};
-ghost use Rattle.ascii.specs.Refusal.{RefusesCopy};
+ghost use Rattle.ascii.specs.Refusal.{RejectsCopy};
 ghost use Rattle.ascii.specs.Slice.{GetsAscii, SliceOutcome};
 ghost use Rattle.ascii.specs.View.{text_of};
 
@@ -85,7 +85,7 @@ pub fn to_ascii_string<A: Allocator>(
     alloc: A,
     source: &str,
 ) -> Result<AsciiString<A>, CopyError<&str>>
-    ensures { MatchResult result (λ string. string.text ≡ source.now) (RefusesCopy source.entry source.now) }
+    ensures { MatchResult result (λ string. string.text ≡ source.now) (RejectsCopy source.entry source.now) }
 {
     match as_ascii_str(source) {
         Ok(view) => match view.to_ascii_string(alloc) {

@@ -1,7 +1,7 @@
 //! Owned text out of vectors of bytes, which keep their buffers.
 
 ghost use Rattle.std.specs.Prelude.{◌≡◌, IfOk, MatchResult, vec_capacity};
-ghost use Rattle.ascii.specs.Refusal.{HandsBack};
+ghost use Rattle.ascii.specs.Refusal.{ReturnsSource};
 
 use crate::ascii_str::AsAsciiStrError;
 use crate::ascii_string::AsciiString;
@@ -16,7 +16,7 @@ use std::alloc::Allocator;
 pub fn into_ascii_string<A: Allocator>(
     bytes: Vec<u8, A>,
 ) -> Result<AsciiString<A>, FromAsciiError<Vec<u8, A>>>
-    ensures text { MatchResult result (λ string. string.text ≡ bytes.items) (HandsBack bytes bytes.items) }
+    ensures text { MatchResult result (λ string. string.text ≡ bytes.items) (ReturnsSource bytes bytes.items) }
     ensures capacity { IfOk result (λ string. string.capacity ≡ vec_capacity bytes) }
 {
     match kernels::first_other(&bytes) {
@@ -34,7 +34,7 @@ pub fn into_ascii_string<A: Allocator>(
 pub fn from_ascii<A: Allocator>(
     bytes: Vec<u8, A>,
 ) -> Result<AsciiString<A>, FromAsciiError<Vec<u8, A>>>
-    ensures text { MatchResult result (λ string. string.text ≡ bytes.items) (HandsBack bytes bytes.items) }
+    ensures text { MatchResult result (λ string. string.text ≡ bytes.items) (ReturnsSource bytes bytes.items) }
     ensures capacity { IfOk result (λ string. string.capacity ≡ vec_capacity bytes) }
 {
     into_ascii_string(bytes)

@@ -8,7 +8,7 @@ ghost use Rattle.ascii_base.specs.Bytes.{FirstOther};
 ghost use Rattle.ascii_base.specs.Case.{lower_image, upper_image};
 ghost use Rattle.ascii_base.specs.Class.{IsWhitespace};
 ghost use Rattle.ascii.specs.Trim.{TrimsEnd, TrimsStart};
-ghost use Rattle.ascii_c.specs.Part.{IsPart, IsRefusedAt};
+ghost use Rattle.ascii_c.specs.Part.{IsWithin, IsRejectedAt};
 ghost use Rattle.ascii_c.specs.Places.{IsFirstNotOrEnd, IsLastNotOrEnd};
 
 use ascii::{AsciiRange, bytes};
@@ -73,8 +73,8 @@ pub extern "C" fn ascii_accepts_part(
     end: usize,
     place: &mut usize,
 ) -> bool
-    ensures accepted { IsTrue result → IsPart source.now start end × IsAscii (slice_range source.now start end) }
-    ensures refused { IsFalse result → IsRefusedAt source.now start end place.new }
+    ensures accepted { IsTrue result → IsWithin source.now start end × IsAscii (slice_range source.now start end) }
+    ensures refused { IsFalse result → IsRejectedAt source.now start end place.new }
     ensures stays { IsTrue result → place.new ≡ place.old }
 {
     match bytes::slice_ascii(source, AsciiRange::Range(start, end)) {

@@ -3,13 +3,13 @@ use Rattle.std.proofs.Common.{◌≡◌, ℕ, ◌+◌, ◌<◌, ◌≤◌, List,
 use Rattle.std.specs.List.{flat_map}
 use Rattle.std.proofs.lemmas.Grind.{flat_map-append}
 use Rattle.ascii.specs.declared.iter.walks.End.{End}
-use Rattle.ascii.specs.Ends.{EndsTo, TakesEnd}
+use Rattle.ascii.specs.Ends.{ListAnswersTo, TakesEnd}
 use Rattle.ascii.proofs.EndsLemmas.{AnswersTo-all, AnswersTo-step}
-use Rattle.ascii_run.specs.Output.{ShowsEnds}
+use Rattle.ascii_run.specs.ModeOutput.{ShowsEnds}
 
 -- the output of the answers so far, and what is still owed
 abbrev pub ShowsSoFar : {A : Type 0} → (Option A → List ℕ) → List A → List End → List ℕ → List A → Type 0
-ShowsSoFar {A} shown items script output left = (answers : List (Option A)) × EndsTo items script answers left × (output ≡ flat_map shown answers)
+ShowsSoFar {A} shown items script output left = (answers : List (Option A)) × ListAnswersTo items script answers left × (output ≡ flat_map shown answers)
 
 module _ {A : Type 0} (shown : Option A → List ℕ) (items left : List A) (script : List End) (k : ℕ) where
   -- the answers to the ends up to the next place, and their output

@@ -10,11 +10,11 @@ use Rattle.memchr.specs.Find.{NoneBefore, Nowhere, OccursAt}
 use Rattle.ascii.specs.declared.iter.spans.Ending.{Ending}
 use Rattle.ascii.specs.declared.iter.spans.Ending.TheVariants.{Lf, CrLf, Absent}
 use Rattle.ascii.specs.Found.{Free, lines_of}
-use Rattle.ascii.specs.Lines.{EndsInCr, Line, MayStandBehind, bodies, ending_text, line_text}
+use Rattle.ascii.specs.Lines.{EndsInCr, Line, MayFollow, bodies, ending_text, line_text}
 use Rattle.ascii.proofs.LinesLemmas.{LinesOf-lines_of}
 use Rattle.ascii.proofs.PiecesLemmas.{Free-from_absent}
 use Rattle.ascii_run.specs.declared.modes.Mode.TheVariants.{Lines}
-use Rattle.ascii_run.specs.Output.{IsOutput, with_line_feed}
+use Rattle.ascii_run.specs.ModeOutput.{IsOutput, with_line_feed}
 
 -- a text with LF for each ending, and behind a last line that has none
 abbrev pub with_line_feeds : List ℕ → List ℕ
@@ -76,7 +76,7 @@ ends_in_cr (c ∷ cs) is =
 
 -- ---- a line, and all
 
-ended : (body : List ℕ) (ending : Ending) (t : List ℕ) → Free 10 body → MayStandBehind ending body → ending ≢ Absent
+ended : (body : List ℕ) (ending : Ending) (t : List ℕ) → Free 10 body → MayFollow ending body → ending ≢ Absent
     → with_line_feeds ((body ++ ending_text ending) ++ t) ≡ with_line_feed body ++ with_line_feeds t
 ended body Lf t free may has =
     ap with_line_feeds (append_assoc body (10 ∷ []) t)
@@ -88,22 +88,22 @@ ended body CrLf t free may has =
     ∙ (ap (λ xs. body ++ xs) (feed t) ∙ sym (append_assoc body (10 ∷ []) (with_line_feeds t))))
 ended body Absent t free may has = absurd (has refl)
 
-last_line : (body : List ℕ) (ending : Ending) → Free 10 body → MayStandBehind ending body
+last_line : (body : List ℕ) (ending : Ending) → Free 10 body → MayFollow ending body
     → with_line_feeds ((body ++ ending_text ending) ++ []) ≡ with_line_feed body ++ []
 last_line body Lf free may = ended body Lf [] free may (λ none. cc)
 last_line body CrLf free may = ended body CrLf [] free may (λ none. cc)
 last_line body Absent free may =
     ap with_line_feeds (append-nil (body ++ []) ∙ append-nil body) ∙ (open_end body free may ∙ sym (append-nil (body ++ 10 ∷ [])))
 
-all_lines : (lines : List Line) → All (λ line. ¬ (Contains line.body 10)) lines → All (λ line. MayStandBehind line.ending line.body) lines
+all_lines : (lines : List Line) → All (λ line. ¬ (Contains line.body 10)) lines → All (λ line. MayFollow line.ending line.body) lines
     → All (λ line. line.ending ≢ Absent) (take (length lines - 1) lines) → with_line_feeds (flat_map line_text lines) ≡ flat_map with_line_feed (bodies lines)
 all_lines [] absent may has = refl
 all_lines (line ∷ []) absent may has =
     last_line line.body line.ending (Free-from_absent 10 line.body (All-head (λ one. ¬ (Contains one.body 10)) line [] absent))
-    (All-head (λ one. MayStandBehind one.ending one.body) line [] may)
+    (All-head (λ one. MayFollow one.ending one.body) line [] may)
 all_lines (line ∷ next ∷ others) absent may has =
     let NoFeed : Line → Type 0 = λ one. ¬ (Contains one.body 10) in
-    let MayEnd : Line → Type 0 = λ one. MayStandBehind one.ending one.body in
+    let MayEnd : Line → Type 0 = λ one. MayFollow one.ending one.body in
     let Ended : Line → Type 0 = λ one. one.ending ≢ Absent in
     let n : length (line ∷ next ∷ others) - 1 ≡ suc (length (next ∷ others) - 1) = omega arith in
     let front = subst (λ m. All Ended (take m (line ∷ next ∷ others))) n has in

@@ -14,7 +14,7 @@ use Rattle.ascii_run.specs.declared.faults.EngineFault.TheVariants.{NotAscii, Po
 use Rattle.ascii_run.specs.declared.modes.Mode.{Mode}
 use Rattle.ascii_run.specs.Engine.{WritesOutput}
 use Rattle.ascii_run.specs.Outgoing.{FinishesBy, MayFail, Outgoing, Puts, PutsBy, PutsOutput}
-use Rattle.ascii_run.specs.Output.{IsOutput}
+use Rattle.ascii_run.specs.ModeOutput.{IsOutput}
 
 -- what went out of two pieces, and what of them is held
 joined : (sent more held mid before first second : List ℕ) → sent ++ mid ≡ before ++ first → more ++ held ≡ mid ++ second

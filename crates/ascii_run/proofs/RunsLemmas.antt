@@ -3,57 +3,57 @@ use Rattle.std.proofs.Common.{◌≡◌, ◌≢◌, ℕ, ◌≤◌, zero, suc, L
 use Rattle.std.proofs.lemmas.List.Elements.{All-cons, All-head, All-nil, All-tail}
 use Rattle.std.proofs.lemmas.Option.{none-some}
 use Rattle.std.specs.Prelude.{Some, slice_get, unwrap_or}
-use Rattle.ascii.specs.Held.{Held}
+use Rattle.ascii.specs.StringState.{StringState}
 use Rattle.ascii_run.specs.declared.commands.Cmd.{Cmd}
 use Rattle.ascii_run.specs.declared.commands.Cmd.TheVariants.{Push, PushStr, Insert, InsertStr, Reserve, Shrink}
 use Rattle.ascii_run.specs.declared.faults.EngineFault.{EngineFault}
 use Rattle.ascii_run.specs.declared.faults.EngineFault.TheVariants.{Position, Memory}
 use Rattle.ascii_run.specs.declared.commands.Reply.{Reply}
-use Rattle.ascii_run.specs.Step.{LacksRoom, MayRefuse, Said, Step, after, answer, no_memory, said}
-use Rattle.ascii_run.specs.Run.{Agree, AreRuns, HasNoFault, IsFault, IsFaultPlace, IsNoFault, IsPlainRun, IsServed, Run, WantsNone, plain_replies, plain_text}
+use Rattle.ascii_run.specs.Step.{MayRunOutIn, MayRunOut, ReplyValue, Step, after, answer, no_memory, value_of_reply}
+use Rattle.ascii_run.specs.Run.{Agree, AreRuns, HasNoFault, IsFault, IsFaultPlace, IsNoFault, IsPlainRun, IsNotOutOfMemory, Run, NeverOutOfMemory, plain_replies, plain_text}
 use Rattle.ascii_run.specs.Edit.{StopsAt, StopsEdits}
 
 -- a run goes on by one step
 pub run_more : {A : Type 0} (sure : ℕ) (t : List ℕ) (cmds : List Cmd) (replies : List (Reply A)) (mid : List ℕ) (cmd : Cmd) (r : Reply A) (t2 : List ℕ)
-    → Run sure t cmds replies mid → Step sure mid cmd (said r) t2
+    → Run sure t cmds replies mid → Step sure mid cmd (value_of_reply r) t2
     → Run sure t (cmds ++ cmd ∷ []) (replies ++ r ∷ []) t2
 run_more {A} sure t [] [] mid cmd r t2 h s =
-    let P : List ℕ → Type 0 = λ x. Step sure x cmd (said r) t2 in (t2, subst P h s, refl)
+    let P : List ℕ → Type 0 = λ x. Step sure x cmd (value_of_reply r) t2 in (t2, subst P h s, refl)
 run_more {A} sure t [] (q ∷ replies) mid cmd r t2 h s = absurd h
 run_more {A} sure t (c ∷ cmds) [] mid cmd r t2 h s = absurd h
 run_more {A} sure t (c ∷ cmds) (q ∷ replies) mid cmd r t2 h s =
     (h.0, h.1, run_more sure h.0 cmds replies mid cmd r t2 h.2 s)
 
 -- a step that is not want of memory answers and edits
-pub step_plain : (sure : ℕ) (t : List ℕ) (cmd : Cmd) (r : Said) (t2 : List ℕ)
+pub step_plain : (sure : ℕ) (t : List ℕ) (cmd : Cmd) (r : ReplyValue) (t2 : List ℕ)
     → Step sure t cmd r t2 → r ≢ no_memory → (r ≡ answer t cmd) × (t2 ≡ after t cmd)
 step_plain sure t cmd r t2 (inl plain) some = plain
 step_plain sure t cmd r t2 (inr wants) some = absurd (some wants.0)
 
 -- a run without want of memory is the plain run
 pub run_plain : {A : Type 0} (sure : ℕ) (t : List ℕ) (cmds : List Cmd) (replies : List (Reply A)) (t2 : List ℕ)
-    → Run sure t cmds replies t2 → WantsNone replies → IsPlainRun t cmds replies t2
+    → Run sure t cmds replies t2 → NeverOutOfMemory replies → IsPlainRun t cmds replies t2
 run_plain {A} sure t [] [] t2 h some = (refl, h)
 run_plain {A} sure t [] (r ∷ replies) t2 h some = absurd h
 run_plain {A} sure t (cmd ∷ cmds) [] t2 h some = absurd h
 run_plain {A} sure t (cmd ∷ cmds) (r ∷ replies) t2 h some =
-    let step = step_plain sure t cmd (said r) h.0 h.1 (All-head IsServed r replies some) in
-    let rest = run_plain sure h.0 cmds replies t2 h.2 (All-tail IsServed r replies some) in (
+    let step = step_plain sure t cmd (value_of_reply r) h.0 h.1 (All-head IsNotOutOfMemory r replies some) in
+    let rest = run_plain sure h.0 cmds replies t2 h.2 (All-tail IsNotOutOfMemory r replies some) in (
       rw (step.0, rest.0, step.1) refl,
       rw (rest.1, step.1) refl,
     )
 
 -- up to the first want of memory the replies of a run are those of the plain run
 pub run_front : {A : Type 0} (sure : ℕ) (t : List ℕ) (cmds : List Cmd) (replies : List (Reply A)) (t2 : List ℕ) (k : ℕ)
-    → Run sure t cmds replies t2 → WantsNone (take k replies)
-    → map said (take k replies) ≡ take k (plain_replies t cmds)
+    → Run sure t cmds replies t2 → NeverOutOfMemory (take k replies)
+    → map value_of_reply (take k replies) ≡ take k (plain_replies t cmds)
 run_front {A} sure t cmds replies t2 zero h some = refl
 run_front {A} sure t [] [] t2 (suc k) h some = refl
 run_front {A} sure t [] (r ∷ replies) t2 (suc k) h some = absurd h
 run_front {A} sure t (cmd ∷ cmds) [] t2 (suc k) h some = absurd h
 run_front {A} sure t (cmd ∷ cmds) (r ∷ replies) t2 (suc k) h some =
-    let step = step_plain sure t cmd (said r) h.0 h.1 (All-head IsServed r (take k replies) some) in
-    let rest = run_front sure h.0 cmds replies t2 k h.2 (All-tail IsServed r (take k replies) some) in
+    let step = step_plain sure t cmd (value_of_reply r) h.0 h.1 (All-head IsNotOutOfMemory r (take k replies) some) in
+    let rest = run_front sure h.0 cmds replies t2 k h.2 (All-tail IsNotOutOfMemory r (take k replies) some) in
     rw (step.0, rest, step.1) refl
 
 -- two runs of the same commands from the same text agree
@@ -69,7 +69,7 @@ runs_agree {A} {B} cmds first t1 second t2 runs = record {
 }
 
 -- memory that may be wanting past a sure length may be wanting past a smaller one
-may_refuse_less : (sure less : ℕ) (t : List ℕ) (cmd : Cmd) → less ≤ sure → MayRefuse sure t cmd → MayRefuse less t cmd
+may_refuse_less : (sure less : ℕ) (t : List ℕ) (cmd : Cmd) → less ≤ sure → MayRunOut sure t cmd → MayRunOut less t cmd
 may_refuse_less sure less t (Push ch) le h = (h.0, omega (arith, h.1))
 may_refuse_less sure less t (PushStr view) le h = (h.0, omega (arith, h.1))
 may_refuse_less sure less t (Insert i ch) le h = (h.0, (h.1.0, omega (arith, h.1.1)))
@@ -79,35 +79,35 @@ may_refuse_less sure less t Shrink le h = omega arith
 may_refuse_less sure less t other le h = h
 
 -- where room is missing for a command that gives none back, the capacity is a sure length
-lacks_room : (sure : ℕ) (held : Held) (cmd : Cmd) → cmd ≢ Shrink → LacksRoom sure held cmd → MayRefuse held.capacity held.text cmd
+lacks_room : (sure : ℕ) (held : StringState) (cmd : Cmd) → cmd ≢ Shrink → MayRunOutIn sure held cmd → MayRunOut held.capacity held.text cmd
 lacks_room sure held Shrink ne h = absurd (ne refl)
 lacks_room sure held other ne h = h
 
 -- where room is missing, memory may be wanting past the sure length
-lacks_may_refuse : (sure : ℕ) (held : Held) (cmd : Cmd) → sure ≤ held.capacity → LacksRoom sure held cmd → MayRefuse sure held.text cmd
+lacks_may_refuse : (sure : ℕ) (held : StringState) (cmd : Cmd) → sure ≤ held.capacity → MayRunOutIn sure held cmd → MayRunOut sure held.text cmd
 lacks_may_refuse sure held Shrink le h = h.0
 lacks_may_refuse sure held other le h = may_refuse_less held.capacity sure held.text other le h
 
 -- a step wants memory past the sure length alone
-pub step_sure : (sure : ℕ) (held : Held) (cmd : Cmd) (r : Said) (t2 : List ℕ)
-    → Step 0 held.text cmd r t2 → (r ≡ no_memory → LacksRoom sure held cmd) → sure ≤ held.capacity → Step sure held.text cmd r t2
+pub step_sure : (sure : ℕ) (held : StringState) (cmd : Cmd) (r : ReplyValue) (t2 : List ℕ)
+    → Step 0 held.text cmd r t2 → (r ≡ no_memory → MayRunOutIn sure held cmd) → sure ≤ held.capacity → Step sure held.text cmd r t2
 step_sure sure held cmd r t2 (inl plain) lacks le = inl plain
 step_sure sure held cmd r t2 (inr wants) lacks le = inr (wants.0, lacks_may_refuse sure held cmd le (lacks wants.0), wants.2)
 
 -- up to the capacity every length is sure
-pub step_within : (sure start : ℕ) (held : Held) (cmd : Cmd) (r : Said) (t2 : List ℕ)
-    → Step 0 held.text cmd r t2 → (r ≡ no_memory → LacksRoom sure held cmd)
+pub step_within : (sure start : ℕ) (held : StringState) (cmd : Cmd) (r : ReplyValue) (t2 : List ℕ)
+    → Step 0 held.text cmd r t2 → (r ≡ no_memory → MayRunOutIn sure held cmd)
     → start ≤ held.capacity → cmd ≢ Shrink → Step start held.text cmd r t2
 step_within sure start held cmd r t2 (inl plain) lacks le ne = inl plain
 step_within sure start held cmd r t2 (inr wants) lacks le ne =
     inr (wants.0, may_refuse_less held.capacity start held.text cmd le (lacks_room sure held cmd ne (lacks wants.0)), wants.2)
 
 -- a refusal is not want of memory
-fault_served : (r : Said) → IsFault r → r ≢ no_memory
+fault_served : (r : ReplyValue) → IsFault r → r ≢ no_memory
 fault_served r fault e = subst IsFault e fault
 
 -- a step whose reply refuses has the plain reply
-pub step_fault : (t : List ℕ) (cmd : Cmd) (r : Said) (t2 : List ℕ)
+pub step_fault : (t : List ℕ) (cmd : Cmd) (r : ReplyValue) (t2 : List ℕ)
     → Step 0 t cmd r t2 → IsFault r → IsFault (answer t cmd)
 step_fault t cmd r t2 step fault =
     subst IsFault ((step_plain 0 t cmd r t2 step (fault_served r fault)).0) fault
@@ -121,11 +121,11 @@ plain_text_more t (c ∷ cmds) cmd = plain_text_more (after t c) cmds cmd
 -- one command more that is not refused
 pub no_fault_more : (t : List ℕ) (cmds : List Cmd) (cmd : Cmd)
     → HasNoFault t cmds → IsNoFault (answer (plain_text t cmds) cmd) → HasNoFault t (cmds ++ cmd ∷ [])
-no_fault_more t [] cmd none served = All-cons IsNoFault (answer t cmd) [] served (All-nil IsNoFault)
-no_fault_more t (c ∷ cmds) cmd none served =
+no_fault_more t [] cmd none check_reply = All-cons IsNoFault (answer t cmd) [] check_reply (All-nil IsNoFault)
+no_fault_more t (c ∷ cmds) cmd none check_reply =
     All-cons IsNoFault (answer t c) (plain_replies (after t c) (cmds ++ cmd ∷ []))
     (All-head IsNoFault (answer t c) (plain_replies (after t c) cmds) none)
-    (no_fault_more (after t c) cmds cmd (All-tail IsNoFault (answer t c) (plain_replies (after t c) cmds) none) served)
+    (no_fault_more (after t c) cmds cmd (All-tail IsNoFault (answer t c) (plain_replies (after t c) cmds) none) check_reply)
 
 -- the first command that is refused is at the fault place
 pub fault_here : (t : List ℕ) (cmds : List Cmd) (k : ℕ) (cmd : Cmd)
@@ -144,7 +144,7 @@ fault_here t (c ∷ cmds) (suc k) cmd at none fault =
     }
 
 -- edits that stop at a command tell why
-pub edits_stop : (t : List ℕ) (cmds : List Cmd) (k : ℕ) (cmd : Cmd) (mid : List ℕ) (r : Said) (t2 : List ℕ) (fault : EngineFault)
+pub edits_stop : (t : List ℕ) (cmds : List Cmd) (k : ℕ) (cmd : Cmd) (mid : List ℕ) (r : ReplyValue) (t2 : List ℕ) (fault : EngineFault)
     → slice_get cmds k ≡ Some cmd → HasNoFault t (take k cmds) → mid ≡ plain_text t (take k cmds)
     → Step 0 mid cmd r t2 → StopsAt k r fault → StopsEdits t cmds fault
 edits_stop t cmds k cmd mid r t2 (Position i) at none text step stops =
@@ -155,13 +155,13 @@ edits_stop t cmds k cmd mid r t2 Memory at none text step stops = tt
 edits_stop t cmds k cmd mid r t2 other at none text step stops = stops
 
 -- edits that go on behind a command have its plain text
-pub edit_more : (t : List ℕ) (front : List Cmd) (mid : List ℕ) (cmd : Cmd) (r : Said) (t2 : List ℕ)
+pub edit_more : (t : List ℕ) (front : List Cmd) (mid : List ℕ) (cmd : Cmd) (r : ReplyValue) (t2 : List ℕ)
     → HasNoFault t front → mid ≡ plain_text t front → Step 0 mid cmd r t2 → IsNoFault r → r ≢ no_memory
     → HasNoFault t (front ++ cmd ∷ []) × (t2 ≡ plain_text t (front ++ cmd ∷ []))
-edit_more t front mid cmd r t2 none text step served some =
+edit_more t front mid cmd r t2 none text step check_reply some =
     let plain = step_plain 0 mid cmd r t2 step some in
     let says : r ≡ answer (plain_text t front) cmd = plain.0 ∙ ap (λ x. answer x cmd) text in
     let leaves : t2 ≡ after (plain_text t front) cmd = plain.1 ∙ ap (λ x. after x cmd) text in (
-      no_fault_more t front cmd none (subst IsNoFault says served),
+      no_fault_more t front cmd none (subst IsNoFault says check_reply),
       leaves ∙ sym (plain_text_more t front cmd),
     )

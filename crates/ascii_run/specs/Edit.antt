@@ -3,7 +3,7 @@ use Rattle.std.specs.Prelude.{◌≡◌, ℕ, List}
 use Rattle.ascii_run.specs.declared.commands.Cmd.{Cmd}
 use Rattle.ascii_run.specs.declared.faults.EngineFault.{EngineFault}
 use Rattle.ascii_run.specs.declared.faults.EngineFault.TheVariants.{Position, Memory}
-use Rattle.ascii_run.specs.Step.{Said, no_memory}
+use Rattle.ascii_run.specs.Step.{ReplyValue, no_memory}
 use Rattle.ascii_run.specs.Run.{IsFault, IsFaultPlace}
 
 -- why edits stop: at the fault place, or for want of memory
@@ -13,7 +13,7 @@ StopsEdits t cmds Memory = Unit {0}
 StopsEdits t cmds other = ⊥
 
 -- why edits stop at the command at place k, by what its reply says
-abbrev pub StopsAt : ℕ → Said → EngineFault → Type 0
+abbrev pub StopsAt : ℕ → ReplyValue → EngineFault → Type 0
 StopsAt k r (Position i) = (i ≡ k) × IsFault r
 StopsAt k r Memory = r ≡ no_memory
 StopsAt k r other = ⊥

@@ -9,7 +9,7 @@ use Rattle.ascii_base.specs.Bytes.{FirstOther}
 use Rattle.ascii_run.specs.declared.faults.EngineFault.{EngineFault}
 use Rattle.ascii_run.specs.declared.faults.EngineFault.TheVariants.{NotAscii, Position, Memory, Read, Write}
 use Rattle.ascii_run.specs.declared.modes.Mode.{Mode}
-use Rattle.ascii_run.specs.Output.{IsFaultOf, IsOutput}
+use Rattle.ascii_run.specs.ModeOutput.{IsFaultOf, IsOutput}
 
 -- the reader gave these bytes and is at its end
 pub record ReadsAll (old new : Option (List ℕ)) (bytes : List ℕ) : Type 0 where

@@ -3,8 +3,8 @@ pub mod Edit
 pub mod Engine
 pub mod Inline
 pub mod JsonText
+pub mod ModeOutput
 pub mod Outgoing
-pub mod Output
 pub mod Run
 pub mod Step
 pub mod Wrapped

@@ -9,7 +9,7 @@ use Rattle.ascii_run.specs.declared.faults.EngineFault.{EngineFault}
 use Rattle.ascii_run.specs.declared.faults.EngineFault.TheVariants.{Write}
 use Rattle.ascii_run.specs.declared.modes.Mode.{Mode}
 use Rattle.ascii_run.specs.Engine.{AppendsFront}
-use Rattle.ascii_run.specs.Output.{IsOutput}
+use Rattle.ascii_run.specs.ModeOutput.{IsOutput}
 
 -- the bytes that a page holds back, and whether a write of it has failed
 pub record HeldBack : Type 0 where

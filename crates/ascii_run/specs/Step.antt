@@ -7,7 +7,7 @@ use Rattle.ascii_base.specs.Case.{lower_image, upper_image}
 use Rattle.ascii_base.specs.Code.{code_of}
 use Rattle.ascii_base.specs.Range.{Fits, end_of, start_of}
 use Rattle.ascii_base.specs.declared.range.AsciiRange.{AsciiRange}
-use Rattle.ascii.specs.Held.{Held}
+use Rattle.ascii.specs.StringState.{StringState}
 use Rattle.ascii.specs.Text.{insert_text}
 use Rattle.ascii.specs.View.{position_of, text_of}
 use Rattle.ascii_run.specs.declared.commands.Cmd.{Cmd}
@@ -16,28 +16,28 @@ use Rattle.ascii_run.specs.declared.commands.Reply.{Reply}
 use Rattle.ascii_run.specs.declared.commands.Reply.TheVariants as reply
 
 -- what a reply says: its case, with codes and texts
-pub data Said : Type 0 where
-  done : Said
-  a_char : Option ℕ → Said
-  a_number : ℕ → Said
-  a_truth : Bool → Said
-  a_text : List ℕ → Said
-  bad_position : Said
-  refused : ℕ → Said
-  no_memory : Said
-  too_many : Said
+pub data ReplyValue : Type 0 where
+  done : ReplyValue
+  a_char : Option ℕ → ReplyValue
+  a_number : ℕ → ReplyValue
+  a_truth : Bool → ReplyValue
+  a_text : List ℕ → ReplyValue
+  bad_position : ReplyValue
+  refused : ℕ → ReplyValue
+  no_memory : ReplyValue
+  too_many : ReplyValue
 
 -- what a reply says
-abbrev pub said : {A : Type 0} → Reply A → Said
-said reply.Done = done
-said (reply.Char ch) = a_char (option_map code_of ch)
-said (reply.Number n) = a_number n
-said (reply.Truth b) = a_truth b
-said (reply.Text string) = a_text string.text
-said reply.BadPosition = bad_position
-said (reply.Refused e) = refused (position_of e)
-said reply.NoMemory = no_memory
-said reply.TooMany = too_many
+abbrev pub value_of_reply : {A : Type 0} → Reply A → ReplyValue
+value_of_reply reply.Done = done
+value_of_reply (reply.Char ch) = a_char (option_map code_of ch)
+value_of_reply (reply.Number n) = a_number n
+value_of_reply (reply.Truth b) = a_truth b
+value_of_reply (reply.Text string) = a_text string.text
+value_of_reply reply.BadPosition = bad_position
+value_of_reply (reply.Refused e) = refused (position_of e)
+value_of_reply reply.NoMemory = no_memory
+value_of_reply reply.TooMany = too_many
 
 -- the range lies within n characters, as a test
 abbrev pub lies_within : AsciiRange → ℕ → Bool
@@ -48,7 +48,7 @@ abbrev pub largest : ℕ
 largest = 2 ^ 64 - 1
 
 -- the answer of a command to a text, where no memory is wanting
-abbrev pub answer : List ℕ → Cmd → Said
+abbrev pub answer : List ℕ → Cmd → ReplyValue
 answer t (Insert i ch) = if nat_le i (length t) then done else bad_position
 answer t (InsertStr i view) = if nat_le i (length t) then done else bad_position
 answer t (Remove i) = if nat_lt i (length t) then a_char (Some (slice_index t i)) else bad_position
@@ -83,30 +83,30 @@ abbrev pub GrowsPast : ℕ → List ℕ → ℕ → Type 0
 GrowsPast sure t n = (0 < n) × (sure < length t + n)
 
 -- where memory may be wanting, for a buffer that needs none up to the sure length
-abbrev pub MayRefuse : ℕ → List ℕ → Cmd → Type 0
-MayRefuse sure t (Push ch) = GrowsPast sure t 1
-MayRefuse sure t (PushStr view) = GrowsPast sure t (length (text_of view))
-MayRefuse sure t (Insert i ch) = (i ≤ length t) × GrowsPast sure t 1
-MayRefuse sure t (InsertStr i view) = (i ≤ length t) × GrowsPast sure t (length (text_of view))
-MayRefuse sure t (Reserve n) = (length t + n ≤ largest) × GrowsPast sure t n
-MayRefuse sure t Shrink = sure ≡ 0
-MayRefuse sure t (Copy r) = Fits r (length t) × (start_of r < end_of r (length t))
-MayRefuse sure t other = ⊥
+abbrev pub MayRunOut : ℕ → List ℕ → Cmd → Type 0
+MayRunOut sure t (Push ch) = GrowsPast sure t 1
+MayRunOut sure t (PushStr view) = GrowsPast sure t (length (text_of view))
+MayRunOut sure t (Insert i ch) = (i ≤ length t) × GrowsPast sure t 1
+MayRunOut sure t (InsertStr i view) = (i ≤ length t) × GrowsPast sure t (length (text_of view))
+MayRunOut sure t (Reserve n) = (length t + n ≤ largest) × GrowsPast sure t n
+MayRunOut sure t Shrink = sure ≡ 0
+MayRunOut sure t (Copy r) = Fits r (length t) × (start_of r < end_of r (length t))
+MayRunOut sure t other = ⊥
 
 -- a command answers and edits, or memory is wanting where it may and the text stays
-abbrev pub Step : ℕ → List ℕ → Cmd → Said → List ℕ → Type 0
+abbrev pub Step : ℕ → List ℕ → Cmd → ReplyValue → List ℕ → Type 0
 Step sure t cmd r t2 =
-    ((r ≡ answer t cmd) × (t2 ≡ after t cmd)) ⊎ ((r ≡ no_memory) × MayRefuse sure t cmd × (t2 ≡ t))
+    ((r ≡ answer t cmd) × (t2 ≡ after t cmd)) ⊎ ((r ≡ no_memory) × MayRunOut sure t cmd × (t2 ≡ t))
 
 -- ---- cited by private functions alone
 
 -- what the reply to a growth says
-abbrev pub said_of_growth : Result (Unit {0}) AllocError → Said
-said_of_growth (Ok x) = done
-said_of_growth (Err e) = no_memory
+abbrev pub value_of_growth : Result (Unit {0}) AllocError → ReplyValue
+value_of_growth (Ok x) = done
+value_of_growth (Err e) = no_memory
 
 -- where memory may be wanting for a buffer with this sure length that holds this: a growth past the capacity,
 -- a shrinking of more room than the text needs where no length is sure, or a copy
-abbrev pub LacksRoom : ℕ → Held → Cmd → Type 0
-LacksRoom sure held Shrink = (sure ≡ 0) × (length held.text < held.capacity)
-LacksRoom sure held cmd = MayRefuse held.capacity held.text cmd
+abbrev pub MayRunOutIn : ℕ → StringState → Cmd → Type 0
+MayRunOutIn sure state Shrink = (sure ≡ 0) × (length state.text < state.capacity)
+MayRunOutIn sure state cmd = MayRunOut state.capacity state.text cmd

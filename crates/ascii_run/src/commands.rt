@@ -3,8 +3,8 @@
 ghost use Rattle.std.specs.Prelude.{◌≡◌, ◌≢◌, ℕ, ◌≤◌, List, [], IfErr, IfOk, IsOk, OnErr, OnOk};
 ghost use Rattle.ascii.specs.View.{text_of};
 ghost use Rattle.ascii_run.specs.Edit.{StopsAt, StopsEdits};
-ghost use Rattle.ascii_run.specs.Run.{Agree, AreRuns, HasNoFault, IsNoFault, IsPlainRun, IsServed, NeverShrinks, Run, WantsNone, plain_text};
-ghost use Rattle.ascii_run.specs.Step.{LacksRoom, Step, after, answer, no_memory, said, said_of_growth};
+ghost use Rattle.ascii_run.specs.Run.{Agree, AreRuns, HasNoFault, IsNoFault, IsPlainRun, IsNotOutOfMemory, NeverShrinks, Run, NeverOutOfMemory, plain_text};
+ghost use Rattle.ascii_run.specs.Step.{MayRunOutIn, Step, after, answer, no_memory, value_of_reply, value_of_growth};
 
 use crate::buf::AsciiBuf;
 use crate::faults::EngineFault;
@@ -91,9 +91,9 @@ pub fn run<A: Allocator + Copy, B: AsciiBuf>(
     buf: &mut B,
     cmds: &[Cmd<'_>],
 ) -> Result<Vec<Reply<A>, A>, AllocError>
-    ensures run { IfOk result (λ replies. Run B.sure (B.held buf.old).text cmds.now replies.items (B.held buf.new).text) }
-    ensures within { NeverShrinks cmds.now → IfOk result (λ replies. Run (B.held buf.old).capacity (B.held buf.old).text cmds.now replies.items (B.held buf.new).text) }
-    ensures capacity { NeverShrinks cmds.now → (B.held buf.old).capacity ≤ (B.held buf.new).capacity }
+    ensures run { IfOk result (λ replies. Run B.sure (B.state buf.old).text cmds.now replies.items (B.state buf.new).text) }
+    ensures within { NeverShrinks cmds.now → IfOk result (λ replies. Run (B.state buf.old).capacity (B.state buf.old).text cmds.now replies.items (B.state buf.new).text) }
+    ensures capacity { NeverShrinks cmds.now → (B.state buf.old).capacity ≤ (B.state buf.new).capacity }
     ensures err { OnErr result (buf.new ≡ buf.old) }
     ensures nothing { cmds.now ≡ [] → IsOk result }
 {
@@ -111,7 +111,7 @@ pub fn run<A: Allocator + Copy, B: AsciiBuf>(
 ///     let replies = run(alloc, &mut text, &[Cmd::Len])?;
 ///     plain_run(&[Cmd::Len], &replies) // ()
 pub fn plain_run<A: Allocator>(cmds: &[Cmd<'_>], replies: &[Reply<A>])
-    ensures { (sure : ℕ) → (t t2 : List ℕ) → Run sure t cmds.now replies.now t2 → WantsNone replies.now → IsPlainRun t cmds.now replies.now t2 }
+    ensures { (sure : ℕ) → (t t2 : List ℕ) → Run sure t cmds.now replies.now t2 → NeverOutOfMemory replies.now → IsPlainRun t cmds.now replies.now t2 }
 {}
 
 /// A law, and no work: two runs of the same commands from the same text have the same replies up to
@@ -130,13 +130,13 @@ pub fn runs_agree<A: Allocator, B: Allocator>(
 
 /// Carries out one command.
 fn step<A: Allocator, B: AsciiBuf>(alloc: A, buf: &mut B, cmd: Cmd<'_>) -> Reply<A>
-    ensures step { Step 0 (B.held buf.old).text cmd.entry (said result) (B.held buf.new).text }
-    ensures room { said result ≡ no_memory → LacksRoom B.sure (B.held buf.old) cmd.entry }
-    ensures capacity { cmd.entry ≢ Cmd.Shrink → (B.held buf.old).capacity ≤ (B.held buf.new).capacity }
+    ensures step { Step 0 (B.state buf.old).text cmd.entry (value_of_reply result) (B.state buf.new).text }
+    ensures room { value_of_reply result ≡ no_memory → MayRunOutIn B.sure (B.state buf.old) cmd.entry }
+    ensures capacity { cmd.entry ≢ Cmd.Shrink → (B.state buf.old).capacity ≤ (B.state buf.new).capacity }
 {
     match cmd {
-        Cmd::Push(ch) => grown(buf.push(ch)),
-        Cmd::PushStr(view) => grown(buf.push_str(view)),
+        Cmd::Push(ch) => growth_reply(buf.push(ch)),
+        Cmd::PushStr(view) => growth_reply(buf.push_str(view)),
         Cmd::Insert(idx, ch) => insert(buf, idx, ch),
         Cmd::InsertStr(idx, view) => insert_str(buf, idx, view),
         Cmd::Remove(idx) => remove(buf, idx),
@@ -159,7 +159,7 @@ fn step<A: Allocator, B: AsciiBuf>(alloc: A, buf: &mut B, cmd: Cmd<'_>) -> Reply
             Reply::Done
         }
         Cmd::Reserve(additional) => reserve(buf, additional),
-        Cmd::Shrink => grown(buf.shrink_to_fit()),
+        Cmd::Shrink => growth_reply(buf.shrink_to_fit()),
         Cmd::Len => Reply::Number(buf.as_ascii_str().len()),
         Cmd::First => Reply::Char(buf.as_ascii_str().first()),
         Cmd::Last => Reply::Char(buf.as_ascii_str().last()),
@@ -171,8 +171,8 @@ fn step<A: Allocator, B: AsciiBuf>(alloc: A, buf: &mut B, cmd: Cmd<'_>) -> Reply
 
 /// The reply to a growth.
 #[inline]
-fn grown<A: Allocator>(growth: Result<(), AllocError>) -> Reply<A>
-    ensures { said result ≡ said_of_growth growth }
+fn growth_reply<A: Allocator>(growth: Result<(), AllocError>) -> Reply<A>
+    ensures { value_of_reply result ≡ value_of_growth growth }
 {
     match growth {
         Ok(()) => Reply::Done,
@@ -182,33 +182,33 @@ fn grown<A: Allocator>(growth: Result<(), AllocError>) -> Reply<A>
 
 /// Puts a character before a position.
 fn insert<A: Allocator, B: AsciiBuf>(buf: &mut B, idx: usize, ch: AsciiChar) -> Reply<A>
-    ensures step { Step 0 (B.held buf.old).text (Cmd.Insert idx ch) (said result) (B.held buf.new).text }
-    ensures room { said result ≡ no_memory → LacksRoom B.sure (B.held buf.old) (Cmd.Insert idx ch) }
-    ensures capacity { (B.held buf.old).capacity ≤ (B.held buf.new).capacity }
+    ensures step { Step 0 (B.state buf.old).text (Cmd.Insert idx ch) (value_of_reply result) (B.state buf.new).text }
+    ensures room { value_of_reply result ≡ no_memory → MayRunOutIn B.sure (B.state buf.old) (Cmd.Insert idx ch) }
+    ensures capacity { (B.state buf.old).capacity ≤ (B.state buf.new).capacity }
 {
     if idx > buf.as_ascii_str().len() {
         return Reply::BadPosition;
     }
-    grown(buf.insert(idx, ch))
+    growth_reply(buf.insert(idx, ch))
 }
 
 /// Puts a view before a position.
 fn insert_str<A: Allocator, B: AsciiBuf>(buf: &mut B, idx: usize, view: AsciiStr<'_>) -> Reply<A>
-    ensures step { Step 0 (B.held buf.old).text (Cmd.InsertStr idx view.entry) (said result) (B.held buf.new).text }
-    ensures room { said result ≡ no_memory → LacksRoom B.sure (B.held buf.old) (Cmd.InsertStr idx view.entry) }
-    ensures capacity { (B.held buf.old).capacity ≤ (B.held buf.new).capacity }
+    ensures step { Step 0 (B.state buf.old).text (Cmd.InsertStr idx view.entry) (value_of_reply result) (B.state buf.new).text }
+    ensures room { value_of_reply result ≡ no_memory → MayRunOutIn B.sure (B.state buf.old) (Cmd.InsertStr idx view.entry) }
+    ensures capacity { (B.state buf.old).capacity ≤ (B.state buf.new).capacity }
 {
     if idx > buf.as_ascii_str().len() {
         return Reply::BadPosition;
     }
-    grown(buf.insert_str(idx, view))
+    growth_reply(buf.insert_str(idx, view))
 }
 
 /// Takes out the character at a position.
 fn remove<A: Allocator, B: AsciiBuf>(buf: &mut B, idx: usize) -> Reply<A>
-    ensures reply { said result ≡ answer (B.held buf.old).text (Cmd.Remove idx) }
-    ensures text { (B.held buf.new).text ≡ after (B.held buf.old).text (Cmd.Remove idx) }
-    ensures capacity { (B.held buf.new).capacity ≡ (B.held buf.old).capacity }
+    ensures reply { value_of_reply result ≡ answer (B.state buf.old).text (Cmd.Remove idx) }
+    ensures text { (B.state buf.new).text ≡ after (B.state buf.old).text (Cmd.Remove idx) }
+    ensures capacity { (B.state buf.new).capacity ≡ (B.state buf.old).capacity }
 {
     if idx < buf.as_ascii_str().len() {
         Reply::Char(Some(buf.remove(idx)))
@@ -219,9 +219,9 @@ fn remove<A: Allocator, B: AsciiBuf>(buf: &mut B, idx: usize) -> Reply<A>
 
 /// Puts a character in the place of the one at a position.
 fn set<A: Allocator, B: AsciiBuf>(buf: &mut B, idx: usize, ch: AsciiChar) -> Reply<A>
-    ensures reply { said result ≡ answer (B.held buf.old).text (Cmd.Set idx ch) }
-    ensures text { (B.held buf.new).text ≡ after (B.held buf.old).text (Cmd.Set idx ch) }
-    ensures capacity { (B.held buf.new).capacity ≡ (B.held buf.old).capacity }
+    ensures reply { value_of_reply result ≡ answer (B.state buf.old).text (Cmd.Set idx ch) }
+    ensures text { (B.state buf.new).text ≡ after (B.state buf.old).text (Cmd.Set idx ch) }
+    ensures capacity { (B.state buf.new).capacity ≡ (B.state buf.old).capacity }
 {
     if idx < buf.as_ascii_str().len() {
         buf.set(idx, ch);
@@ -233,19 +233,19 @@ fn set<A: Allocator, B: AsciiBuf>(buf: &mut B, idx: usize, ch: AsciiChar) -> Rep
 
 /// Makes room for more characters.
 fn reserve<A: Allocator, B: AsciiBuf>(buf: &mut B, additional: usize) -> Reply<A>
-    ensures step { Step 0 (B.held buf.old).text (Cmd.Reserve additional) (said result) (B.held buf.new).text }
-    ensures room { said result ≡ no_memory → LacksRoom B.sure (B.held buf.old) (Cmd.Reserve additional) }
-    ensures capacity { (B.held buf.old).capacity ≤ (B.held buf.new).capacity }
+    ensures step { Step 0 (B.state buf.old).text (Cmd.Reserve additional) (value_of_reply result) (B.state buf.new).text }
+    ensures room { value_of_reply result ≡ no_memory → MayRunOutIn B.sure (B.state buf.old) (Cmd.Reserve additional) }
+    ensures capacity { (B.state buf.old).capacity ≤ (B.state buf.new).capacity }
 {
     if additional > usize::MAX - buf.as_ascii_str().len() {
         return Reply::TooMany;
     }
-    grown(buf.reserve(additional))
+    growth_reply(buf.reserve(additional))
 }
 
 /// Copies the part of a view that a range names.
 fn copy<A: Allocator>(alloc: A, view: AsciiStr<'_>, range: AsciiRange) -> Reply<A>
-    ensures { Step 0 (text_of view.entry) (Cmd.Copy range) (said result) (text_of view.entry) }
+    ensures { Step 0 (text_of view.entry) (Cmd.Copy range) (value_of_reply result) (text_of view.entry) }
 {
     match view.slice_ascii(range) {
         Err(refusal) => Reply::Refused(refusal),
@@ -268,16 +268,16 @@ pub(crate) fn edit<A: Allocator + Copy, B: Allocator>(
     ensures err { IfErr result (StopsEdits buf.old.text cmds.now) }
 {
     for (k, cmd) in cmds.iter().enumerate() {
-        served(step(alloc, buf, *cmd), k)?;
+        check_reply(step(alloc, buf, *cmd), k)?;
     }
     Ok(())
 }
 
 /// Whether the reply to the command at the place `k` lets the edits go on.
-fn served<A: Allocator>(reply: Reply<A>, k: usize) -> Result<(), EngineFault>
-    ensures fault { OnOk result (IsNoFault (said reply)) }
-    ensures memory { OnOk result (IsServed reply) }
-    ensures err { IfErr result (StopsAt k (said reply)) }
+fn check_reply<A: Allocator>(reply: Reply<A>, k: usize) -> Result<(), EngineFault>
+    ensures fault { OnOk result (IsNoFault (value_of_reply reply)) }
+    ensures memory { OnOk result (IsNotOutOfMemory reply) }
+    ensures err { IfErr result (StopsAt k (value_of_reply reply)) }
 {
     match reply {
         Reply::NoMemory => Err(EngineFault::Memory),

@@ -73,13 +73,13 @@ fn put_by_forms<K: Sink, A: Allocator>(
     ensures { PutIn K.Sink writer.old page.old writer.new page.new
         (flat_map json_code (text_of text.entry)) }
 {
-    let mut rest = text.as_bytes();
-    'runs: while let Some(place) = first_other::<Unescaped>(rest) {
-        page.put(writer, &rest[..place]);
-        put_form(rest[place], forms, page, writer);
-        rest = &rest[place + 1..];
+    let mut remaining = text.as_bytes();
+    'segments: while let Some(place) = first_other::<Unescaped>(remaining) {
+        page.put(writer, &remaining[..place]);
+        put_form(remaining[place], forms, page, writer);
+        remaining = &remaining[place + 1..];
     }
-    page.put(writer, rest);
+    page.put(writer, remaining);
 }
 
 /// Puts in a character as it stands in a JSON string.

@@ -7,7 +7,7 @@ ghost use Rattle.ascii.specs.Spans.{line_in};
 ghost use Rattle.ascii.specs.View.{text_of};
 ghost use Rattle.ascii_run.specs.Engine.{StopsOutput, WritesOutput, write_failures};
 ghost use Rattle.ascii_run.specs.Outgoing.{MayFail, OutputIn, PutIn, out};
-ghost use Rattle.ascii_run.specs.Output.{IsShown, answer_text, caret_text, ending_word, span_text, with_line_feed};
+ghost use Rattle.ascii_run.specs.ModeOutput.{IsShown, answer_text, caret_text, ending_word, span_text, with_line_feed};
 ghost use Rattle.ascii_run.specs.Run.{HasNoFault, plain_text};
 
 use crate::commands::{Cmd, edit};
@@ -79,14 +79,14 @@ fn put_lines<K: Sink, A: Allocator>(text: AsciiStr<'_>, page: &mut Page<A>, writ
         K.Sink writer.old page.old writer.new page.new }
 {
     let ending = Finder::new(b"\r\n");
-    let mut rest = text.as_bytes();
-    'runs: while let Some(place) = ending.find(rest) {
-        let (run, behind) = rest.split_at(place);
-        page.put(writer, run);
-        rest = &behind[1..];
+    let mut remaining = text.as_bytes();
+    'segments: while let Some(place) = ending.find(remaining) {
+        let (segment, behind) = remaining.split_at(place);
+        page.put(writer, segment);
+        remaining = &behind[1..];
     }
-    page.put(writer, rest);
-    if !rest.is_empty() && rest[rest.len() - 1] != b'\n' {
+    page.put(writer, remaining);
+    if !remaining.is_empty() && remaining[remaining.len() - 1] != b'\n' {
         page.put(writer, b"\n");
     }
 }
@@ -119,13 +119,13 @@ fn put_caret<K: Sink, A: Allocator>(text: AsciiStr<'_>, page: &mut Page<A>, writ
     ensures { PutIn K.Sink writer.old page.old writer.new page.new
         (flat_map caret_text (text_of text.entry)) }
 {
-    let mut rest = text.as_bytes();
-    'runs: while let Some(place) = first_other::<Shown>(rest) {
-        page.put(writer, &rest[..place]);
-        put_control(rest[place], page, writer);
-        rest = &rest[place + 1..];
+    let mut remaining = text.as_bytes();
+    'segments: while let Some(place) = first_other::<Shown>(remaining) {
+        page.put(writer, &remaining[..place]);
+        put_control(remaining[place], page, writer);
+        remaining = &remaining[place + 1..];
     }
-    page.put(writer, rest);
+    page.put(writer, remaining);
 }
 
 /// Puts in a control character other than LF: `^` and its caret letter.

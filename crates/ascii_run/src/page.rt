@@ -116,12 +116,12 @@ pub(crate) fn write_each<K: Sink>(writer: &mut K, bytes: &[u8]) -> Result<(), En
         × AppendsFront (K.taken writer.old) (K.taken writer.new) bytes.now) }
     ensures count { K.failures writer.new ≡ write_failures (K.failures writer.old) result }
 {
-    let mut rest = bytes;
-    'writes: while !rest.is_empty() {
-        let Ok(n) = writer.write(rest) else {
+    let mut remaining = bytes;
+    'writes: while !remaining.is_empty() {
+        let Ok(n) = writer.write(remaining) else {
             return Err(EngineFault::Write);
         };
-        rest = &rest[n..];
+        remaining = &remaining[n..];
     }
     Ok(())
 }

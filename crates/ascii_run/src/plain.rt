@@ -29,7 +29,7 @@ pub(crate) trait Plain {
 pub(crate) struct Shown;
 
 impl Plain for Shown {
-    ghost use Rattle.ascii_run.specs.Output.{IsShown};
+    ghost use Rattle.ascii_run.specs.ModeOutput.{IsShown};
 
     ghost is_plain = { IsShown };
 

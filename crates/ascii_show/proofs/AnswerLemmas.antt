@@ -7,19 +7,19 @@ use Rattle.std.specs.declared.option.Option.{Option}
 use Rattle.std.specs.declared.result.Result.{Result}
 use Rattle.ascii_base.specs.Bytes.{FirstOther}
 use Rattle.ascii_run.specs.Engine.{EngineOutcome, IoState, ReadsAll}
-use Rattle.ascii_run.specs.Output.{IsFaultOf}
+use Rattle.ascii_run.specs.ModeOutput.{IsFaultOf}
 use Rattle.ascii_run.specs.declared.faults.EngineFault.{EngineFault}
 use Rattle.ascii_run.specs.declared.faults.EngineFault.TheVariants.{NotAscii, Position, Memory, Read, Write}
 use Rattle.ascii_run.specs.declared.modes.Mode.{Mode}
-use Rattle.ascii_show.specs.Answer.{HasOutput, MayAnswer}
-use Rattle.ascii_show.specs.Asked.{Asked, copy, lines, tac, caret, ends, ends_spans, edit, json, done_by}
-use Rattle.ascii_show.specs.Call.{AskFor, IsCall}
+use Rattle.ascii_show.specs.Answer.{HasOutput, MayReturn}
+use Rattle.ascii_show.specs.Requested.{Requested, copy, lines, tac, caret, ends, ends_spans, edit, json, requested_mode}
+use Rattle.ascii_show.specs.Call.{Requests, IsCall}
 use Rattle.ascii_show.proofs.ScriptLemmas.{letters_are_no_option}
 use Rattle.ascii_show.specs.declared.failure.Failure.{Failure}
-use Rattle.ascii_show.specs.declared.failure.Failure.TheVariants.{Run}
+use Rattle.ascii_show.specs.declared.failure.Failure.TheVariants.{Engine}
 
 -- words that ask for something are a call
-call : (words : List (List ℕ)) (asked : Asked) → AskFor words asked → IsCall words
+call : (words : List (List ℕ)) (asked : Requested) → Requests words asked → IsCall words
 call words copy is = rw is (inl (inl refl, refl))
 call words lines is = rw is (inl (inr (inl refl), refl))
 call words tac is = rw is (inl (inr (inr (inl refl)), refl))
@@ -41,24 +41,24 @@ nothing (Some bytes) = tt
 
 -- a fault of the engine is one that the words and the input allow
 pub failed : (words : List (List ℕ)) (mode : Mode) (fault : EngineFault) (old new : IoState)
-    → AskFor words (done_by mode) → EngineOutcome mode (Err fault) old new → MayAnswer words old.remaining (Err (Run fault))
+    → Requests words (requested_mode mode) → EngineOutcome mode (Err fault) old new → MayReturn words old.remaining (Err (Engine fault))
 failed words mode (NotAscii n) old new asks outcome =
     (mode, asks, reads (λ bytes. FirstOther bytes 0 (length bytes) n) old.remaining new.remaining outcome.0 outcome.1 outcome.2)
 failed words mode (Position k) old new asks outcome =
     (mode, asks, reads (λ bytes. IsAscii bytes × IsFaultOf mode bytes k) old.remaining new.remaining outcome.0 outcome.1 (outcome.2, outcome.3))
-failed words mode Memory old new asks outcome = call words (done_by mode) asks
+failed words mode Memory old new asks outcome = call words (requested_mode mode) asks
 failed words mode Read old new asks outcome = (mode, asks, nothing old.remaining)
 failed words mode Write old new asks outcome =
     (mode, asks, reads (HasOutput mode) old.remaining new.remaining outcome.2.text outcome.2.read (outcome.2.ascii, (outcome.0 ++ outcome.1, outcome.2.output_of)))
 
 -- and so is its success
 pub done : (words : List (List ℕ)) (mode : Mode) (old new : IoState)
-    → AskFor words (done_by mode) → EngineOutcome mode (Ok tt) old new → MayAnswer words old.remaining (Ok tt)
+    → Requests words (requested_mode mode) → EngineOutcome mode (Ok tt) old new → MayReturn words old.remaining (Ok tt)
 done words mode old new asks outcome =
     (mode, asks, reads (HasOutput mode) old.remaining new.remaining outcome.1.text outcome.1.read (outcome.1.ascii, (outcome.0, outcome.1.output_of)))
 
 -- a failure handed on by `?`
 pub handed_on : (words : List (List ℕ)) (known : Option (List ℕ)) (fault : EngineFault) (result : Result (Unit {0}) Failure)
-    → IsErrAnd result (λ failure. failure ≡ Run fault) → MayAnswer words known (Err (Run fault)) → MayAnswer words known result
+    → IsErrAnd result (λ failure. failure ≡ Engine fault) → MayReturn words known (Err (Engine fault)) → MayReturn words known result
 handed_on words known fault (Ok _) is may = absurd is
-handed_on words known fault (Err failure) is may = subst (λ failure. MayAnswer words known (Err failure)) (sym is) may
+handed_on words known fault (Err failure) is may = subst (λ failure. MayReturn words known (Err failure)) (sym is) may

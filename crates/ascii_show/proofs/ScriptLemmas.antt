@@ -8,11 +8,11 @@ use Rattle.ascii.specs.declared.iter.walks.End.TheVariants.{Back, Front}
 use Rattle.ascii_show.specs.Call.{HasScript, IsCall, IsScriptFault, IsWordsFault, bytes_of, words_of}
 use Rattle.ascii_run.specs.declared.faults.EngineFault.TheVariants.{Memory}
 use Rattle.ascii_show.specs.declared.failure.Failure.{Failure}
-use Rattle.ascii_show.specs.declared.failure.Failure.TheVariants.{BadWord, Run}
-use Rattle.ascii_show.specs.Words.{AreEndsOf, IsNoLetter, IsNoScript, letter_of}
+use Rattle.ascii_show.specs.declared.failure.Failure.TheVariants.{BadWord, Engine}
+use Rattle.ascii_show.specs.Words.{AreEndsOf, IsNotEndLetter, IsNotScript, letter_of}
 
 -- a letter of no end spoils a script
-pub no_script : (script : List ℕ) (i : ℕ) → i < length script → IsNoLetter (get_or script i 0) → IsNoScript script
+pub no_script : (script : List ℕ) (i : ℕ) → i < length script → IsNotEndLetter (get_or script i 0) → IsNotScript script
 no_script script i inside none is =
     none (get_or is.0 i Front) (grind (arith, get_or-map, length-map, inside, is.1))
 
@@ -59,5 +59,5 @@ option_alone args none one is = no_ends (words_of args) (λ script n has. elim h
 pub script_fault : (others : List (List ℕ)) (script : List ℕ) (n : ℕ) (failure : Failure) → HasScript others script n → IsScriptFault script n failure
     → IsWordsFault (codes "ends" ∷ others) failure
 script_fault others script n (BadWord m) has fault = inl (others, script, refl, subst (HasScript others script) (sym fault.0) has, fault.1)
-script_fault others script n (Run Memory) has fault = inr (inl (refl, (script, n, has)))
+script_fault others script n (Engine Memory) has fault = inr (inl (refl, (script, n, has)))
 script_fault others script n other has fault = absurd fault

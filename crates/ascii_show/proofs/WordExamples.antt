@@ -10,7 +10,7 @@ use Rattle.ascii.specs.declared.iter.walks.End.TheVariants.{Front, Back}
 use Rattle.ascii_run.specs.declared.commands.Cmd.{Cmd}
 use Rattle.ascii_run.specs.declared.commands.Cmd.TheVariants.{PushStr, InsertStr, Remove, Truncate, Pop, Upper, Lower}
 use Rattle.ascii_show.specs.Call.{HasScript, IsCall}
-use Rattle.ascii_show.specs.Words.{AreDigitsOf, AreEndsOf, IsFirstBadWord, IsNoScript, IsWord, IsWordOf, letter_of}
+use Rattle.ascii_show.specs.Words.{AreDigitsOf, AreEndsOf, IsFirstBadWord, IsNotScript, IsWord, IsWordOf, letter_of}
 use Rattle.ascii_show.proofs.ScriptLemmas.{no_script}
 
 -- calls
@@ -43,7 +43,7 @@ other_letter : (end : End) → letter_of end ≢ 88
 other_letter Front is = omega (arith, is)
 other_letter Back is = omega (arith, is)
 
-bad_script : IsNoScript (codes "FXB")
+bad_script : IsNotScript (codes "FXB")
 bad_script = no_script (codes "FXB") 1 (omega arith) other_letter
 
 -- words of an edit

@@ -1,5 +1,5 @@
 pub mod Answer
-pub mod Asked
 pub mod Call
+pub mod Requested
 pub mod Status
 pub mod Words

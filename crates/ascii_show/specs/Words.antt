@@ -49,13 +49,13 @@ letter_of Front = 70
 letter_of Back = 66
 
 -- the letter is that of no end
-abbrev pub IsNoLetter : ℕ → Type 0
-IsNoLetter letter = (end : End) → letter_of end ≢ letter
+abbrev pub IsNotEndLetter : ℕ → Type 0
+IsNotEndLetter letter = (end : End) → letter_of end ≢ letter
 
 -- the letters are those of the ends, in order
 abbrev pub AreEndsOf : List ℕ → List End → Type 0
 AreEndsOf script ends = map letter_of ends ≡ script
 
 -- some letter is that of no end
-abbrev pub IsNoScript : List ℕ → Type 0
-IsNoScript script = ¬ ((ends : List End) × AreEndsOf script ends)
+abbrev pub IsNotScript : List ℕ → Type 0
+IsNotScript script = ¬ ((ends : List End) × AreEndsOf script ends)

@@ -3,9 +3,9 @@
 ghost use Rattle.std.specs.Prelude.{◌≡◌, ◌==◌, [], ◌∷◌, MatchOption, MatchResult, ℕ, codes, position};
 ghost use Rattle.std.specs.List.{AllZip};
 ghost use Rattle.ascii.specs.View.{text_of};
-ghost use Rattle.ascii_show.specs.Asked.{asked_by, done_by};
-ghost use Rattle.ascii_show.specs.Call.{AskFor, IsEditsFault, IsScriptFault, IsWordsFault, StandsAlone, words_of};
-ghost use Rattle.ascii_show.specs.Words.{AreDigitsOf, AreEndsOf, IsInsertion, IsNoLetter, IsWord, IsWordOf, letter_of};
+ghost use Rattle.ascii_show.specs.Requested.{requested_by, requested_mode};
+ghost use Rattle.ascii_show.specs.Call.{Requests, IsEditsFault, IsScriptFault, IsWordsFault, TakesNoArgument, words_of};
+ghost use Rattle.ascii_show.specs.Words.{AreDigitsOf, AreEndsOf, IsInsertion, IsNotEndLetter, IsWord, IsWordOf, letter_of};
 
 use crate::failure::Failure;
 use ascii::iter::End;
@@ -26,7 +26,7 @@ pub enum Request<'a, A: Allocator> {
 impl<'a, A: Allocator> Request<'a, A> {
     /// The mode of the engine.
     pub fn mode(&self) -> Mode<'_>
-        ensures { done_by result ≡ asked_by self.now }
+        ensures { requested_mode result ≡ requested_by self.now }
     {
         match self {
             Request::Plain(mode) => *mode,
@@ -39,7 +39,7 @@ impl<'a, A: Allocator> Request<'a, A> {
 
 /// What the words ask for. The number of words is looked at before any word behind the mode.
 pub fn request_of<'a, A: Allocator>(alloc: A, args: &[&'a str]) -> Result<Request<'a, A>, Failure>
-    ensures { MatchResult result (λ request. AskFor (words_of args.now) (asked_by request)) (IsWordsFault (words_of args.now)) }
+    ensures { MatchResult result (λ request. Requests (words_of args.now) (requested_by request)) (IsWordsFault (words_of args.now)) }
 {
     let Some((mode, others)) = args.split_first() else {
         return Err(Failure::Usage);
@@ -60,7 +60,7 @@ pub fn request_of<'a, A: Allocator>(alloc: A, args: &[&'a str]) -> Result<Reques
 
 /// The mode of a name that takes no further word.
 fn plain_mode(name: &str) -> Option<Mode<'static>>
-    ensures { MatchOption result (¬ (StandsAlone name.now)) (λ mode. AskFor (name.now ∷ []) (done_by mode)) }
+    ensures { MatchOption result (¬ (TakesNoArgument name.now)) (λ mode. Requests (name.now ∷ []) (requested_mode mode)) }
 {
     match name {
         "copy" => Some(Mode::Copy),
@@ -74,7 +74,7 @@ fn plain_mode(name: &str) -> Option<Mode<'static>>
 
 /// What the words behind `ends` ask for: a script alone, or `-s` and a script.
 fn ends_request<'a, A: Allocator>(alloc: A, others: &[&'a str]) -> Result<Request<'a, A>, Failure>
-    ensures { MatchResult result (λ request. AskFor (codes "ends" ∷ words_of others.now) (asked_by request)) (IsWordsFault (codes "ends" ∷ words_of others.now)) }
+    ensures { MatchResult result (λ request. Requests (codes "ends" ∷ words_of others.now) (requested_by request)) (IsWordsFault (codes "ends" ∷ words_of others.now)) }
 {
     match others {
         [script] => {
@@ -109,7 +109,7 @@ fn script_of<A: Allocator>(alloc: A, script: &[u8], number: usize) -> Result<Vec
 
 /// The end that a letter names.
 fn end_of(letter: u8) -> Option<End>
-    ensures { MatchOption result (IsNoLetter letter) (λ end. letter_of end ≡ letter) }
+    ensures { MatchOption result (IsNotEndLetter letter) (λ end. letter_of end ≡ letter) }
 {
     match letter {
         b'F' => Some(End::Front),

@@ -15,7 +15,7 @@ pub enum Failure {
     /// The word with this number, counted from 1 behind the mode, is none that the mode knows.
     BadWord(usize),
     /// The run stopped.
-    Run(EngineFault),
+    Engine(EngineFault),
 }
 
 impl Failure {
@@ -24,9 +24,9 @@ impl Failure {
         ensures { result ≡ status_of self }
     {
         match self {
-            Failure::Run(EngineFault::NotAscii(_)) => 1,
-            Failure::Usage | Failure::BadWord(_) | Failure::Run(EngineFault::Position(_)) => 2,
-            Failure::Run(EngineFault::Memory | EngineFault::Read | EngineFault::Write) => 3,
+            Failure::Engine(EngineFault::NotAscii(_)) => 1,
+            Failure::Usage | Failure::BadWord(_) | Failure::Engine(EngineFault::Position(_)) => 2,
+            Failure::Engine(EngineFault::Memory | EngineFault::Read | EngineFault::Write) => 3,
         }
     }
 }
@@ -42,48 +42,48 @@ impl fmt::Display for Failure {
                 "usage: ascii_show copy|lines|tac|caret|ends [-s] SCRIPT|edit WORD..|json",
             ),
             Failure::BadWord(number) => write!(f, "bad word {number}"),
-            Failure::Run(EngineFault::Position(place)) => {
+            Failure::Engine(EngineFault::Position(place)) => {
                 let number = place.saturating_add(1);
                 write!(f, "bad position in word {number}")
             }
-            Failure::Run(EngineFault::NotAscii(position)) => {
+            Failure::Engine(EngineFault::NotAscii(position)) => {
                 write!(f, "the byte at index {position} is not ASCII")
             }
-            Failure::Run(EngineFault::Memory) => f.write_str("no memory"),
-            Failure::Run(EngineFault::Read) => f.write_str("read failed"),
-            Failure::Run(EngineFault::Write) => f.write_str("write failed"),
+            Failure::Engine(EngineFault::Memory) => f.write_str("no memory"),
+            Failure::Engine(EngineFault::Read) => f.write_str("read failed"),
+            Failure::Engine(EngineFault::Write) => f.write_str("write failed"),
         }
     }
 }
 
 impl From<EngineFault> for Failure {
-    ghost use Rattle.ascii_show.specs.declared.failure.Failure.TheVariants.{Run};
+    ghost use Rattle.ascii_show.specs.declared.failure.Failure.TheVariants.{Engine};
 
-    ghost from_gives = { λ fault failure. failure ≡ Run fault };
+    ghost from_gives = { λ fault failure. failure ≡ Engine fault };
 
     fn from(fault: EngineFault) -> Failure {
-        Failure::Run(fault)
+        Failure::Engine(fault)
     }
 }
 
 impl From<AllocError> for Failure {
-    ghost use Rattle.ascii_show.specs.declared.failure.Failure.TheVariants.{Run};
+    ghost use Rattle.ascii_show.specs.declared.failure.Failure.TheVariants.{Engine};
     ghost use Rattle.ascii_run.specs.declared.faults.EngineFault.TheVariants.{Memory};
 
-    ghost from_gives = { λ _ failure. failure ≡ Run Memory };
+    ghost from_gives = { λ _ failure. failure ≡ Engine Memory };
 
     fn from(_: AllocError) -> Failure {
-        Failure::Run(EngineFault::Memory)
+        Failure::Engine(EngineFault::Memory)
     }
 }
 
 impl<T: Drop> From<AllocFailed<T>> for Failure {
-    ghost use Rattle.ascii_show.specs.declared.failure.Failure.TheVariants.{Run};
+    ghost use Rattle.ascii_show.specs.declared.failure.Failure.TheVariants.{Engine};
     ghost use Rattle.ascii_run.specs.declared.faults.EngineFault.TheVariants.{Memory};
 
-    ghost from_gives = { λ _ failure. failure ≡ Run Memory };
+    ghost from_gives = { λ _ failure. failure ≡ Engine Memory };
 
     fn from(_: AllocFailed<T>) -> Failure {
-        Failure::Run(EngineFault::Memory)
+        Failure::Engine(EngineFault::Memory)
     }
 }

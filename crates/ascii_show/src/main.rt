@@ -2,7 +2,7 @@
 #![tactic(auto)]
 
 ghost use Rattle.std.specs.Prelude.{◌≡◌, Result};
-ghost use Rattle.ascii_show.specs.Answer.{MayAnswer, status_of_answer};
+ghost use Rattle.ascii_show.specs.Answer.{MayReturn, status_of_result};
 ghost use Rattle.ascii_show.specs.Call.{words_of};
 ghost use Rattle.ascii_show.specs.Status.{status_of};
 
@@ -30,7 +30,7 @@ pub fn show<A: Allocator + Copy, I: io::Read + Drop, O: io::Write + Drop, E: io:
     output: O,
     errors: E,
 ) -> u8
-    ensures { (answer : Result (Unit {0}) Failure) × MayAnswer (words_of args.now) (I.remaining input) answer × (result ≡ status_of_answer answer) }
+    ensures { (answer : Result (Unit {0}) Failure) × MayReturn (words_of args.now) (I.remaining input) answer × (result ≡ status_of_result answer) }
 {
     match run_words(alloc, args, input, output) {
         Ok(()) => 0,
@@ -59,7 +59,7 @@ fn run_words<A: Allocator + Copy, I: io::Read + Drop, O: io::Write + Drop>(
     input: I,
     output: O,
 ) -> Result<(), Failure>
-    ensures { MayAnswer (words_of args.now) (I.remaining input) result }
+    ensures { MayReturn (words_of args.now) (I.remaining input) result }
 {
     let request = request_of(alloc, args)?;
     engine(
@@ -81,7 +81,7 @@ fn show_words(rt: &HostRuntime) -> Result<u8, AllocError> {
 fn main(rt: HostRuntime) -> ExitCode {
     let status = match show_words(&rt) {
         Ok(status) => status,
-        Err(_) => report(Failure::Run(EngineFault::Memory), rt.stderr()),
+        Err(_) => report(Failure::Engine(EngineFault::Memory), rt.stderr()),
     };
     ExitCode::from(status)
 }

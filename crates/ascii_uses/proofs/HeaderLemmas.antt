@@ -4,7 +4,7 @@ use Rattle.std.specs.List.{All, AllZip}
 use Rattle.std.proofs.lemmas.List.{take_at}
 use Rattle.std.proofs.lemmas.List.Elements.{All-cons, All-nil}
 use Rattle.ascii.specs.Lines.{Line}
-use Rattle.ascii.specs.Spans.{Placed}
+use Rattle.ascii.specs.Spans.{WithStart}
 use Rattle.ascii_uses.specs.declared.headers.BlockFault.TheVariants.{InLine}
 use Rattle.ascii_uses.specs.declared.headers.Header.{Header}
 use Rattle.ascii_uses.specs.declared.headers.HeaderFault.{HeaderFault}
@@ -26,14 +26,14 @@ as_many R (a ∷ xs) [] all = absurd all
 as_many R (a ∷ xs) (b ∷ ys) all = ap (λ n. suc n) (as_many R xs ys all.1)
 
 -- each of the lines has its header
-pub each_has_header : (lines : List (Placed Line)) (headers : List Header) → AllZip IsHeaderOf lines headers → All HasHeader lines
+pub each_has_header : (lines : List (WithStart Line)) (headers : List Header) → AllZip IsHeaderOf lines headers → All HasHeader lines
 each_has_header [] headers all = All-nil HasHeader
 each_has_header (line ∷ lines) [] all = absurd all
 each_has_header (line ∷ lines) (header ∷ headers) all =
     All-cons HasHeader line lines (header, all.0) (each_has_header lines headers all.1)
 
 -- the line behind those of the front is no header
-pub wrong_line : (front rest : List (Placed Line)) (here : Placed Line) (number : ℕ) (fault : HeaderFault) → length front ≡ number
+pub wrong_line : (front rest : List (WithStart Line)) (here : WithStart Line) (number : ℕ) (fault : HeaderFault) → length front ≡ number
     → All HasHeader front → IsHeaderFault here.item.body fault → IsBlockFault (front ++ here ∷ rest) (InLine number here.start fault)
 wrong_line front rest here number fault is each wrong =
     subst (λ n. IsBlockFault (front ++ here ∷ rest) (InLine n here.start fault)) is (

@@ -8,7 +8,7 @@ use Rattle.std.proofs.lemmas.List.Elements.{All-drop, All-nil}
 use Rattle.std.proofs.lemmas.List.Prefix.{front_rest}
 use Rattle.ascii.specs.declared.ascii_str.AsciiStr.{AsciiStr}
 use Rattle.ascii.specs.declared.iter.spans.Ending.TheVariants.{Absent}
-use Rattle.ascii.specs.Lines.{IsRestOfLines, Line, LinesOf, MayStandBehind, line_text}
+use Rattle.ascii.specs.Lines.{IsRemainderOfLines, Line, LinesOf, MayFollow, line_text}
 use Rattle.ascii.specs.View.{text_of}
 
 -- the first k lines and the others, one behind the other
@@ -32,7 +32,7 @@ pub lines_behind : (text front : List ℕ) (lines : List Line) (k : ℕ) → Lin
     → LinesOf (drop (length front) text) (drop k lines)
 lines_behind text front lines k of before = record {
   bodies = All-drop (λ line. ¬ (Contains line.body 10)) k lines of.bodies;
-  endings = All-drop (λ line. MayStandBehind line.ending line.body) k lines of.endings;
+  endings = All-drop (λ line. MayFollow line.ending line.body) k lines of.endings;
   ended = λ i d short.
       let n = length (drop k lines) - 1 in
       let within : i < n = omega (arith, length-take n (drop k lines)) in
@@ -44,13 +44,13 @@ lines_behind text front lines k of before = record {
 no_lines : LinesOf [] []
 no_lines = record {
   bodies = All-nil (λ line. ¬ (Contains line.body 10));
-  endings = All-nil (λ line. MayStandBehind line.ending line.body);
+  endings = All-nil (λ line. MayFollow line.ending line.body);
   ended = All-nil (λ line. line.ending ≢ Absent);
   joined = refl;
 }
 
 -- the rest of lines, or the empty text where none is owed
-pub rest_or_nothing : (lines : List Line) (rest : Option AsciiStr) (view : AsciiStr) → IsRestOfLines lines rest
+pub rest_or_nothing : (lines : List Line) (rest : Option AsciiStr) (view : AsciiStr) → IsRemainderOfLines lines rest
     → UnwrapsOrElse rest (λ v. text_of v ≡ []) view → LinesOf (text_of view) lines
 rest_or_nothing lines None view nothing empty =
     subst (λ t. LinesOf t lines) (sym empty) (subst (λ ls. LinesOf [] ls) (sym nothing) no_lines)

@@ -11,14 +11,14 @@ use Rattle.std.proofs.lemmas.List.{map-append, take_at}
 use Rattle.std.proofs.lemmas.List.Elements.{All-append, All-map, All-nil, All-take}
 use Rattle.ascii.specs.declared.iter.spans.Ending.TheVariants.{Absent}
 use Rattle.ascii_uses.proofs.LinesLemmas.{some_lines}
-use Rattle.ascii.specs.Lines.{Line, LinesOf, MayStandBehind, line_text}
-use Rattle.ascii.specs.Spans.{LineSpansOf, Placed, items_of, line_size, placed}
+use Rattle.ascii.specs.Lines.{Line, LinesOf, MayFollow, line_text}
+use Rattle.ascii.specs.Spans.{LineSpansOf, WithStart, items_of, line_size, with_starts}
 use Rattle.ascii_uses.specs.declared.line_reader.LineFault.{LineFault}
 use Rattle.ascii_uses.specs.declared.line_reader.LineFault.TheVariants.{TooLong, Read}
 use Rattle.ascii_uses.specs.declared.line_reader.LineReader.{LineReader}
 use Rattle.ascii_uses.specs.declared.line_reader.ReadLine.{ReadLine}
 use Rattle.ascii_uses.specs.declared.line_reader.Stage.TheVariants.{Open, Ended}
-use Rattle.ascii_uses.specs.LineReader.{Hands, IsDone, IsText, Next, NextFrom, Reading, Stops, read_line_in, reading_of}
+use Rattle.ascii_uses.specs.LineReader.{YieldsLines, IsDone, IsText, Next, NextFrom, ReaderState, Stops, read_line_in, state_of_reader}
 use Rattle.ascii_uses.specs.Window.{FreeUpTo}
 
 -- a text is read in two parts
@@ -28,7 +28,7 @@ IsText-more held rest mid left text more first then =
 
 -- ---- a line that fills the buffer
 
--- what is said where no LF and no byte over 127 is held and there is no room
+-- what is value_of_reply where no LF and no byte over 127 is held and there is no room
 pub full : (start size : ℕ) (held text : List ℕ) (rest mid left : Option (List ℕ)) (result : Result (Option ℕ) LineFault)
     → IsText held rest mid text → length text ≡ size → IsAscii text → FreeUpTo text size
     → IfErr result (λ fault. (fault ≡ Read) ⊎ ((fault ≡ TooLong start) × ((byte : ℕ) × Consumes mid left (byte ∷ []))))
@@ -49,16 +49,16 @@ full start size held text rest mid left (Err fault) is long ascii free told = el
 
 -- ---- lines behind lines
 
-abbrev IsEnded : Placed Line → Type 0
+abbrev IsEnded : WithStart Line → Type 0
 IsEnded span = span.item.ending ≢ Absent
 
-placed-append : (s : ℕ) (xs ys : List Line) → placed line_size s (xs ++ ys) ≡ placed line_size s xs ++ placed line_size (s + length (flat_map line_text xs)) ys
-placed-append s [] ys = ap (λ n. placed line_size n ys) (sym (add-zero s))
-placed-append s (x ∷ xs) ys =
+with_starts-append : (s : ℕ) (xs ys : List Line) → with_starts line_size s (xs ++ ys) ≡ with_starts line_size s xs ++ with_starts line_size (s + length (flat_map line_text xs)) ys
+with_starts-append s [] ys = ap (λ n. with_starts line_size n ys) (sym (add-zero s))
+with_starts-append s (x ∷ xs) ys =
     let far : (s + line_size x) + length (flat_map line_text xs) ≡ s + length (line_text x ++ flat_map line_text xs) =
     omega (arith, length-append (line_text x) (flat_map line_text xs)) in
-    ap (λ zs. record { start = s; item = x } ∷ zs) (placed-append (s + line_size x) xs ys
-    ∙ ap (λ n. placed line_size (s + line_size x) xs ++ placed line_size n ys) far)
+    ap (λ zs. record { start = s; item = x } ∷ zs) (with_starts-append (s + line_size x) xs ys
+    ∙ ap (λ n. with_starts line_size (s + line_size x) xs ++ with_starts line_size n ys) far)
 
 ended-append : (xs ys : List Line) → All (λ line. line.ending ≢ Absent) xs → All (λ line. line.ending ≢ Absent) (take (length ys - 1) ys)
     → All (λ line. line.ending ≢ Absent) (take (length (xs ++ ys) - 1) (xs ++ ys))
@@ -69,26 +69,26 @@ ended-append xs (y ∷ ys) first then =
     ap (λ n. take n (xs ++ y ∷ ys)) size ∙ take-append-add xs (y ∷ ys) (length (y ∷ ys) - 1) in
     subst (All (λ line. line.ending ≢ Absent)) (sym parts) (All-append (λ line. line.ending ≢ Absent) xs (take (length (y ∷ ys) - 1) (y ∷ ys)) first then)
 
-pub LineSpansOf-append : (start : ℕ) (t u : List ℕ) (xs ys : List (Placed Line)) → LineSpansOf start t xs → All IsEnded xs → LineSpansOf (start + length t) u ys
+pub LineSpansOf-append : (start : ℕ) (t u : List ℕ) (xs ys : List (WithStart Line)) → LineSpansOf start t xs → All IsEnded xs → LineSpansOf (start + length t) u ys
     → LineSpansOf start (t ++ u) (xs ++ ys)
 LineSpansOf-append start t u xs ys first ended then =
-    let is : items_of (xs ++ ys) ≡ items_of xs ++ items_of ys = map-append (λ (span : Placed Line). span.item) xs ys in
+    let is : items_of (xs ++ ys) ≡ items_of xs ++ items_of ys = map-append (λ (span : WithStart Line). span.item) xs ys in
     let long : start + length t ≡ start + length (flat_map line_text (items_of xs)) = ap (λ (zs : List ℕ). start + length zs) (sym first.lines.joined) in
     record {
       lines = subst (LinesOf (t ++ u)) (sym is) (record {
         bodies = All-append (λ line. ¬ (Contains line.body 10)) (items_of xs) (items_of ys) first.lines.bodies then.lines.bodies;
-        endings = All-append (λ line. MayStandBehind line.ending line.body) (items_of xs) (items_of ys) first.lines.endings then.lines.endings;
-        ended = ended-append (items_of xs) (items_of ys) (All-map (λ (line : Line). line.ending ≢ Absent) (λ (span : Placed Line). span.item) xs ended) then.lines.ended;
+        endings = All-append (λ line. MayFollow line.ending line.body) (items_of xs) (items_of ys) first.lines.endings then.lines.endings;
+        ended = ended-append (items_of xs) (items_of ys) (All-map (λ (line : Line). line.ending ≢ Absent) (λ (span : WithStart Line). span.item) xs ended) then.lines.ended;
         joined = flat_map-append line_text (items_of xs) (items_of ys) ∙ (ap (λ zs. zs ++ flat_map line_text (items_of ys)) first.lines.joined ∙ ap (λ zs. t ++ zs) then.lines.joined);
       });
-      starts = ap (λ zs. zs ++ ys) first.starts ∙ (ap (λ zs. placed line_size start (items_of xs) ++ zs) (then.starts ∙ ap (λ n. placed line_size n (items_of ys)) long)
-          ∙ (sym (placed-append start (items_of xs) (items_of ys)) ∙ ap (placed line_size start) (sym is)));
+      starts = ap (λ zs. zs ++ ys) first.starts ∙ (ap (λ zs. with_starts line_size start (items_of xs) ++ zs) (then.starts ∙ ap (λ n. with_starts line_size n (items_of ys)) long)
+          ∙ (sym (with_starts-append start (items_of xs) (items_of ys)) ∙ ap (with_starts line_size start) (sym is)));
     }
 
 -- ---- one line more
 
-pub Hands-push : (a b c : Reading) (lines : List (Placed Line)) (line : Placed Line) → Hands a lines b → All IsEnded lines → Hands b (line ∷ []) c → Hands a (lines ++ line ∷ []) c
-Hands-push a b c lines line first ended then =
+pub YieldsLines-push : (a b c : ReaderState) (lines : List (WithStart Line)) (line : WithStart Line) → YieldsLines a lines b → All IsEnded lines → YieldsLines b (line ∷ []) c → YieldsLines a (lines ++ line ∷ []) c
+YieldsLines-push a b c lines line first ended then =
     let h = first.handed in let h' = then.handed in
     let t = first.text in let t' = then.text in
     record {
@@ -112,14 +112,14 @@ none_is_some result line none some = cc
 
 -- the next line of a reader behind the lines before it
 module _ {S Z : Type 0} (rest : S → Option (List ℕ)) (failures : S → ℕ) where
-  pub one_more : (a : Reading) (lines : List (Placed Line)) (old new : LineReader S Z) (result : Result (Option ReadLine) LineFault) (line : ReadLine) (last : Placed Line)
-      → Hands a lines (reading_of rest failures old) → Next rest failures old result new → result ≡ Ok (Some line) → last ≡ read_line_in line
-      → Hands a (lines ++ last ∷ []) (reading_of rest failures new) × (failures new.source ≡ failures old.source)
+  pub one_more : (a : ReaderState) (lines : List (WithStart Line)) (old new : LineReader S Z) (result : Result (Option ReadLine) LineFault) (line : ReadLine) (last : WithStart Line)
+      → YieldsLines a lines (state_of_reader rest failures old) → Next rest failures old result new → result ≡ Ok (Some line) → last ≡ read_line_in line
+      → YieldsLines a (lines ++ last ∷ []) (state_of_reader rest failures new) × (failures new.source ≡ failures old.source)
   one_more a lines old new result line last so_far next is same = elim so_far.whole [
     | inl more ↦
         let open_next : NextFrom rest failures Open old (Ok (Some line)) new =
         subst (λ r. NextFrom rest failures Open old r new) is (subst (λ stage. NextFrom rest failures stage old result new) more.0 next) in (
-          subst (λ l. Hands a (lines ++ l ∷ []) (reading_of rest failures new)) (sym same) (Hands-push a (reading_of rest failures old) (reading_of rest failures new) lines (read_line_in line) so_far more.1 open_next.0.0),
+          subst (λ l. YieldsLines a (lines ++ l ∷ []) (state_of_reader rest failures new)) (sym same) (YieldsLines-push a (state_of_reader rest failures old) (state_of_reader rest failures new) lines (read_line_in line) so_far more.1 open_next.0.0),
           open_next.1,
         )
     | inr done ↦
@@ -135,22 +135,22 @@ told_parts None left read told is gave = absurd (let e : None ≡ Some told = is
 told_parts (Some xs) None read told is gave = absurd gave
 told_parts (Some xs) (Some ys) read told is gave = (ys, (let e : Some xs ≡ Some told = is in let same : xs ≡ told = cc in sym same ∙ gave), λ none. none)
 
-items-placed : (s : ℕ) (lines : List Line) → items_of (placed line_size s lines) ≡ lines
-items-placed s [] = refl
-items-placed s (line ∷ lines) = ap (λ ls. line ∷ ls) (items-placed (s + line_size line) lines)
+items-with_starts : (s : ℕ) (lines : List Line) → items_of (with_starts line_size s lines) ≡ lines
+items-with_starts s [] = refl
+items-with_starts s (line ∷ lines) = ap (λ ls. line ∷ ls) (items-with_starts (s + line_size line) lines)
 
-some_spans : (s : ℕ) (text : List ℕ) → (spans : List (Placed Line)) × LineSpansOf s text spans
+some_spans : (s : ℕ) (text : List ℕ) → (spans : List (WithStart Line)) × LineSpansOf s text spans
 some_spans s text =
     let found = some_lines text in
-    let is = sym (items-placed s found.0) in
-    (placed line_size s found.0, record { lines = subst (LinesOf text) is found.1; starts = ap (placed line_size s) is })
+    let is = sym (items-with_starts s found.0) in
+    (with_starts line_size s found.0, record { lines = subst (LinesOf text) is found.1; starts = ap (with_starts line_size s) is })
 
-going_is_not_done : (reading : Reading) → reading.stage ≡ Open → IsDone reading → ⊥
+going_is_not_done : (reading : ReaderState) → reading.stage ≡ Open → IsDone reading → ⊥
 going_is_not_done reading going done = let ended : reading.stage ≡ Ended = done.ended in cc
 
 -- those handed out are the first lines of all, and all of them at the end
-pub first_lines : (old new : Reading) (lines : List (Placed Line)) (told : List ℕ) → old.rest ≡ Some told → Hands old lines new
-    → (others : List (Placed Line)) × LineSpansOf old.start (old.held ++ told) (lines ++ others) × (IsDone new → others ≡ [])
+pub first_lines : (old new : ReaderState) (lines : List (WithStart Line)) (told : List ℕ) → old.rest ≡ Some told → YieldsLines old lines new
+    → (others : List (WithStart Line)) × LineSpansOf old.start (old.held ++ told) (lines ++ others) × (IsDone new → others ≡ [])
 first_lines old new lines told is hands =
     let parts = told_parts old.rest new.rest hands.text.0 told is hands.text.1 in
     let more = parts.0 in

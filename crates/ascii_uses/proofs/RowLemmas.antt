@@ -3,13 +3,13 @@ use Rattle.std.proofs.Common.{◌≡◌, ℕ, ◌<◌, List, [], ◌∷◌, ◌+
 use Rattle.std.proofs.lemmas.List.{length-map, map-append, map_push, take_at}
 use Rattle.ascii.specs.declared.ascii_str.AsciiStr.{AsciiStr}
 use Rattle.ascii.specs.declared.iter.spans.SplitSpan.{SplitSpan}
-use Rattle.ascii.specs.Spans.{Placed, items_of, piece_in}
+use Rattle.ascii.specs.Spans.{WithStart, items_of, piece_in}
 use Rattle.ascii.specs.View.{text_of}
 use Rattle.ascii_uses.proofs.WalkLemmas.{item_behind, one_piece_more}
 use Rattle.ascii_uses.specs.Rows.{AllFilled, IsRowFault}
 use Rattle.ascii_uses.specs.declared.table.RowFault.TheVariants.{Empty, TooMany}
 
-module _ (front rest : List (Placed (List ℕ))) (here : Placed (List ℕ)) where
+module _ (front rest : List (WithStart (List ℕ))) (here : WithStart (List ℕ)) where
   items_before : take (length front) (items_of (front ++ here ∷ rest)) ≡ items_of front
   items_before =
       ap (take (length front)) (map-append (λ span. span.item) front (here ∷ rest))

@@ -6,13 +6,13 @@ use Rattle.std.specs.declared.cmp.Ordering.{Ordering}
 use Rattle.ascii_base.specs.Case.{lower_image}
 
 -- a text in lower case
-abbrev pub lowered : List ℕ → List ℕ
-lowered text = map lower_image text
+abbrev pub lower_text : List ℕ → List ℕ
+lower_text text = map lower_image text
 
 -- two texts differ at most in case
-abbrev pub SameButCase : List ℕ → List ℕ → Type 0
-SameButCase a b = lowered a ≡ lowered b
+abbrev pub EqIgnoringCase : List ℕ → List ℕ → Type 0
+EqIgnoringCase a b = lower_text a ≡ lower_text b
 
 -- the order of two texts in lower case
-abbrev pub order_but_case : List ℕ → List ℕ → Ordering
-order_but_case a b = slice_cmp nat_cmp (lowered a) (lowered b)
+abbrev pub order_ignoring_case : List ℕ → List ℕ → Ordering
+order_ignoring_case a b = slice_cmp nat_cmp (lower_text a) (lower_text b)

@@ -7,10 +7,10 @@ use Rattle.std.specs.declared.vec.Vec.{Vec}
 use Rattle.ascii_base.specs.Bytes.{IsFirstNot}
 use Rattle.ascii_base.specs.Class.{IsAlphanumeric}
 use Rattle.ascii.specs.Lines.{Line}
-use Rattle.ascii.specs.Spans.{LineSpansOf, Placed}
+use Rattle.ascii.specs.Spans.{LineSpansOf, WithStart}
 use Rattle.ascii.specs.Trim.{Trims}
 use Rattle.ascii.specs.View.{text_of}
-use Rattle.ascii_uses.specs.Cases.{SameButCase}
+use Rattle.ascii_uses.specs.Cases.{EqIgnoringCase}
 use Rattle.ascii_uses.specs.Cuts.{IsCutAt}
 use Rattle.ascii_uses.specs.declared.headers.BlockFault.{BlockFault}
 use Rattle.ascii_uses.specs.declared.headers.BlockFault.TheVariants.{InLine, Memory}
@@ -44,30 +44,30 @@ ReadsHeader line result = MatchResult result (λ header. IsHeader line (text_of 
 -- ---- a block of lines
 
 -- the header of a line
-abbrev pub IsHeaderOf : Placed Line → Header → Type 0
+abbrev pub IsHeaderOf : WithStart Line → Header → Type 0
 IsHeaderOf line header = IsHeader line.item.body (text_of header.name) (text_of header.value)
 
 -- some header is that of the line
-abbrev pub HasHeader : Placed Line → Type 0
+abbrev pub HasHeader : WithStart Line → Type 0
 HasHeader line = (header : Header) × IsHeaderOf line header
 
 -- the first line that is no header, by its number and its start, and what is wrong with it; or memory was refused
-abbrev pub IsBlockFault : List (Placed Line) → BlockFault → Type 0
+abbrev pub IsBlockFault : List (WithStart Line) → BlockFault → Type 0
 IsBlockFault lines (InLine number start fault) =
-    ((line : Placed Line) × (slice_get lines number ≡ Some line) × (line.start ≡ start) × IsHeaderFault line.item.body fault)
+    ((line : WithStart Line) × (slice_get lines number ≡ Some line) × (line.start ≡ start) × IsHeaderFault line.item.body fault)
     × All HasHeader (take number lines)
 IsBlockFault lines Memory = ⊤
 
 -- the headers of the lines, in order, or what is wrong with the block
 abbrev pub ReadsHeaders : List ℕ → Result (Vec Header Global) BlockFault → Type 0
-ReadsHeaders block result = (lines : List (Placed Line)) × LineSpansOf 0 block lines
+ReadsHeaders block result = (lines : List (WithStart Line)) × LineSpansOf 0 block lines
     × MatchResult result (λ headers. AllZip IsHeaderOf lines headers.items) (IsBlockFault lines)
 
 -- ---- headers by name
 
 -- the header has this name, where case does not count
 abbrev pub IsNamed : List ℕ → Header → Type 0
-IsNamed name header = SameButCase (text_of header.name) name
+IsNamed name header = EqIgnoringCase (text_of header.name) name
 
 -- the first header of the name, or None where there is none
 abbrev pub FindsHeader : List Header → List ℕ → Option Header → Type 0

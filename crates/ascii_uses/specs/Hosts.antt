@@ -5,7 +5,7 @@ use Rattle.std.specs.declared.result.Result.{Result}
 use Rattle.ascii_base.specs.Bytes.{IsFirstNot}
 use Rattle.ascii_base.specs.Class.{IsAlphanumeric}
 use Rattle.ascii.specs.Pieces.{Pieces}
-use Rattle.ascii.specs.Spans.{PieceSpans, Placed, items_of}
+use Rattle.ascii.specs.Spans.{PieceSpans, WithStart, items_of}
 use Rattle.ascii_run.specs.Inline.{inline_size}
 use Rattle.ascii_uses.specs.declared.hosts.Host.{Host}
 use Rattle.ascii_uses.specs.declared.hosts.HostFault.{HostFault}
@@ -32,7 +32,7 @@ pub record IsHost (name : List ℕ) : Type 0 where
 
 -- what is wrong with a label, and where: its length; or, of a label of a right length, the first character that none has; or, where each
 -- character is right, the hyphen at its front, or else the one at its back
-abbrev pub IsLabelFault : Placed (List ℕ) → HostFault → Type 0
+abbrev pub IsLabelFault : WithStart (List ℕ) → HostFault → Type 0
 IsLabelFault label (EmptyLabel place) = (place ≡ label.start) × (label.item ≡ [])
 IsLabelFault label (LongLabel place) = (place ≡ label.start) × (63 < length label.item)
 IsLabelFault label (Character place) = (length label.item ≤ 63)
@@ -47,12 +47,12 @@ IsLabelFault label other = ⊥
 abbrev pub IsHostFault : List ℕ → HostFault → Type 0
 IsHostFault name TooLong = 253 < length name
 IsHostFault name Memory = IsHost name × (inline_size < length name)
-IsHostFault name other = (length name ≤ 253) × ((before : List (Placed (List ℕ))) × (label : Placed (List ℕ)) × (behind : List (Placed (List ℕ)))
+IsHostFault name other = (length name ≤ 253) × ((before : List (WithStart (List ℕ))) × (label : WithStart (List ℕ)) × (behind : List (WithStart (List ℕ)))
     × PieceSpans 0 name 46 (before ++ label ∷ behind) × All IsLabel (items_of before) × IsLabelFault label other)
 
 -- the one thing that can go wrong is memory
-abbrev pub FailsByMemory : {T : Type 0} → Result T HostFault → Type 0
-FailsByMemory result = IfErr result (λ fault. fault ≡ Memory)
+abbrev pub OnlyFailsOnAlloc : {T : Type 0} → Result T HostFault → Type 0
+OnlyFailsOnAlloc result = IfErr result (λ fault. fault ≡ Memory)
 
 -- the name of a host, in lower case
 abbrev pub host_text : Host → List ℕ

@@ -5,7 +5,7 @@ use Rattle.std.specs.declared.alloc.Global.{Global}
 use Rattle.std.specs.declared.result.Result.{Result}
 use Rattle.std.specs.declared.vec.Vec.{Vec}
 use Rattle.ascii.specs.declared.ascii_str.AsciiStr.{AsciiStr}
-use Rattle.ascii.specs.Spans.{PieceSpans, Placed, items_of}
+use Rattle.ascii.specs.Spans.{PieceSpans, WithStart, items_of}
 use Rattle.ascii.specs.View.{text_of}
 use Rattle.ascii_uses.specs.declared.table.RowFault.{RowFault}
 use Rattle.ascii_uses.specs.declared.table.RowFault.TheVariants.{Empty, TooFew, TooMany, Memory}
@@ -15,7 +15,7 @@ abbrev pub AllFilled : List (List ℕ) → Type 0
 AllFilled fields = All (λ field. field ≢ []) fields
 
 -- what is wrong with a row that is to have n fields: the first empty one of them, else their number; or memory was refused
-abbrev pub IsRowFault : ℕ → List (Placed (List ℕ)) → RowFault → Type 0
+abbrev pub IsRowFault : ℕ → List (WithStart (List ℕ)) → RowFault → Type 0
 IsRowFault n fields (Empty field start) =
     (field < n) × (slice_get fields field ≡ Some (record { start = start; item = [] })) × AllFilled (take field (items_of fields))
 IsRowFault n fields (TooFew found) = (found < n) × (length fields ≡ found) × AllFilled (items_of fields)
@@ -25,5 +25,5 @@ IsRowFault n fields Memory = ⊤
 
 -- the fields of a row where it has n, each filled, else what is wrong with it
 abbrev pub ReadsRow : ℕ → List ℕ → Result (Vec AsciiStr Global) RowFault → Type 0
-ReadsRow n row result = (fields : List (Placed (List ℕ))) × PieceSpans 0 row 9 fields
+ReadsRow n row result = (fields : List (WithStart (List ℕ))) × PieceSpans 0 row 9 fields
     × MatchResult result (λ views. (map text_of views.items ≡ items_of fields) × (length fields ≡ n) × AllFilled (items_of fields)) (IsRowFault n fields)

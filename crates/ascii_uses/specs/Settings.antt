@@ -11,8 +11,8 @@ use Rattle.ascii_uses.specs.declared.settings.SettingFault.{SettingFault}
 use Rattle.ascii_uses.specs.declared.settings.SettingFault.TheVariants.{NoEquals, NoKey}
 
 -- the line without its comment, which begins at the first `#`
-abbrev pub IsUncommented : List ℕ → List ℕ → Type 0
-IsUncommented line body = ((comment : List ℕ) × IsCutAt 35 line body comment) ⊎ ((body ≡ line) × ¬ (Contains line 35))
+abbrev pub IsWithoutComment : List ℕ → List ℕ → Type 0
+IsWithoutComment line body = ((comment : List ℕ) × IsCutAt 35 line body comment) ⊎ ((body ≡ line) × ¬ (Contains line 35))
 
 -- the key is what stands before the first `=`, and the value what stands behind it, both without white space around them
 abbrev pub IsSetting : List ℕ → Setting → Type 0
@@ -27,5 +27,5 @@ IsSettingFault body (NoKey place) =
 
 -- what a line says: nothing, a setting, or what is wrong with it
 abbrev pub ReadsSetting : List ℕ → Result (Option Setting) SettingFault → Type 0
-ReadsSetting line result = (body : List ℕ) × IsUncommented line body
-    × MatchResult result (λ said. MatchOption said (All IsWhitespace body) (IsSetting body)) (IsSettingFault body)
+ReadsSetting line result = (body : List ℕ) × IsWithoutComment line body
+    × MatchResult result (λ value_of_reply. MatchOption value_of_reply (All IsWhitespace body) (IsSetting body)) (IsSettingFault body)

@@ -32,9 +32,9 @@ pub fn letter(alloc: Global, ch: AsciiChar) -> SmallAsciiString
 
 /// Appends a view to a text in any form. Up to the sure length of the form it is never refused.
 pub fn append<B: AsciiBuf>(buf: &mut B, view: AsciiStr<'_>) -> Result<(), AllocError>
-    ensures ok { OnOk result ((B.held buf.new).text ≡ (B.held buf.old).text ++ text_of view.entry) }
-    ensures err { OnErr result ((B.held buf.new).text ≡ (B.held buf.old).text) }
-    ensures sure { length (B.held buf.old).text + length (text_of view.entry) ≤ B.sure → IsOk result }
+    ensures ok { OnOk result ((B.state buf.new).text ≡ (B.state buf.old).text ++ text_of view.entry) }
+    ensures err { OnErr result ((B.state buf.new).text ≡ (B.state buf.old).text) }
+    ensures sure { length (B.state buf.old).text + length (text_of view.entry) ≤ B.sure → IsOk result }
 {
     buf.push_str(view)
 }

@@ -1,9 +1,9 @@
 //! Callers that take a few items from the front.
 
 ghost use Rattle.std.specs.Prelude.{◌≡◌, IfOk, map, take};
-ghost use Rattle.ascii.specs.Lines.{WithLines, bodies};
-ghost use Rattle.ascii.specs.Pieces.{WithPieces};
-ghost use Rattle.ascii.specs.Spans.{WithLineSpans, WithPieceSpans, line_in, piece_in};
+ghost use Rattle.ascii.specs.Lines.{OfLines, bodies};
+ghost use Rattle.ascii.specs.Pieces.{OfPieces};
+ghost use Rattle.ascii.specs.Spans.{OfLineSpans, OfPieceSpans, line_in, piece_in};
 ghost use Rattle.ascii.specs.View.{text_of};
 
 use ascii::iter::{LineSpan, SplitSpan};
@@ -17,7 +17,7 @@ pub fn first_pieces<'a>(
     on: AsciiChar,
     n: usize,
 ) -> Result<Vec<AsciiStr<'a>>, AllocError>
-    ensures { IfOk result (λ given. WithPieces view.entry on (λ pieces. map text_of given.items ≡ take n pieces)) }
+    ensures { IfOk result (λ given. OfPieces view.entry on (λ pieces. map text_of given.items ≡ take n pieces)) }
 {
     view.split(on).take(n).collect(alloc)
 }
@@ -28,7 +28,7 @@ pub fn first_bodies<'a>(
     view: AsciiStr<'a>,
     n: usize,
 ) -> Result<Vec<AsciiStr<'a>>, AllocError>
-    ensures { IfOk result (λ given. WithLines view.entry (λ lines. map text_of given.items ≡ take n (bodies lines))) }
+    ensures { IfOk result (λ given. OfLines view.entry (λ lines. map text_of given.items ≡ take n (bodies lines))) }
 {
     view.lines().take(n).collect(alloc)
 }
@@ -40,7 +40,7 @@ pub fn first_piece_spans<'a>(
     on: AsciiChar,
     n: usize,
 ) -> Result<Vec<SplitSpan<'a>>, AllocError>
-    ensures { IfOk result (λ given. WithPieceSpans view.entry on (λ spans. map piece_in given.items ≡ take n spans)) }
+    ensures { IfOk result (λ given. OfPieceSpans view.entry on (λ spans. map piece_in given.items ≡ take n spans)) }
 {
     view.split_spans(on).take(n).collect(alloc)
 }
@@ -51,7 +51,7 @@ pub fn first_line_spans<'a>(
     view: AsciiStr<'a>,
     n: usize,
 ) -> Result<Vec<LineSpan<'a>>, AllocError>
-    ensures { IfOk result (λ given. WithLineSpans view.entry (λ spans. map line_in given.items ≡ take n spans)) }
+    ensures { IfOk result (λ given. OfLineSpans view.entry (λ spans. map line_in given.items ≡ take n spans)) }
 {
     view.line_spans().take(n).collect(alloc)
 }

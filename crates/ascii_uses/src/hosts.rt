@@ -4,9 +4,9 @@ ghost use Rattle.std.specs.Prelude.{◌≡◌, ◌+◌, ◌≤◌, ◌↔◌, If
 ghost use Rattle.ascii_base.specs.Code.{code_of};
 ghost use Rattle.ascii.specs.Spans.{piece_in};
 ghost use Rattle.ascii.specs.View.{text_of};
-ghost use Rattle.ascii_uses.specs.Cases.{SameButCase, lowered, order_but_case};
+ghost use Rattle.ascii_uses.specs.Cases.{EqIgnoringCase, lower_text, order_ignoring_case};
 ghost use Rattle.ascii_uses.specs.Cuts.{FindsOther};
-ghost use Rattle.ascii_uses.specs.Hosts.{FailsByMemory, IsHost, IsHostFault, IsLabel, IsLabelCode, IsLabelFault, host_text};
+ghost use Rattle.ascii_uses.specs.Hosts.{OnlyFailsOnAlloc, IsHost, IsHostFault, IsLabel, IsLabelCode, IsLabelFault, host_text};
 
 use ascii::iter::SplitSpan;
 use ascii::{AsciiChar, AsciiStr};
@@ -53,9 +53,9 @@ impl Host {
     /// `Example.ORG` is kept as `example.org`; `a..b` is refused with `EmptyLabel(2)`.
     pub fn parse(alloc: Global, name: AsciiStr<'_>) -> Result<Host, HostFault>
         ensures host { OnOk result (IsHost (text_of name.entry)) }
-        ensures text { IfOk result (λ host. host_text host ≡ lowered (text_of name.entry)) }
+        ensures text { IfOk result (λ host. host_text host ≡ lower_text (text_of name.entry)) }
         ensures fault { IfErr result (IsHostFault (text_of name.entry)) }
-        ensures exact { IsHost (text_of name.entry) → FailsByMemory result }
+        ensures exact { IsHost (text_of name.entry) → OnlyFailsOnAlloc result }
     {
         if name.len() > 253 {
             return Err(HostFault::TooLong);
@@ -78,23 +78,23 @@ impl Host {
 
 /// Whether two names are those of one host: `WWW.a.example` and `www.A.example` are.
 pub fn same_host(alloc: Global, a: AsciiStr<'_>, b: AsciiStr<'_>) -> Result<bool, HostFault>
-    ensures same { IfOk result (λ same. IsTrue same ↔ SameButCase (text_of a.entry) (text_of b.entry)) }
+    ensures same { IfOk result (λ same. IsTrue same ↔ EqIgnoringCase (text_of a.entry) (text_of b.entry)) }
     ensures hosts { OnOk result (IsHost (text_of a.entry) × IsHost (text_of b.entry)) }
-    ensures exact { IsHost (text_of a.entry) → IsHost (text_of b.entry) → FailsByMemory result }
+    ensures exact { IsHost (text_of a.entry) → IsHost (text_of b.entry) → OnlyFailsOnAlloc result }
 {
     Ok(Host::parse(alloc, a)? == Host::parse(alloc, b)?)
 }
 
 /// The order of the hosts of two names: that of the names in lower case.
 pub fn host_order(alloc: Global, a: AsciiStr<'_>, b: AsciiStr<'_>) -> Result<Ordering, HostFault>
-    ensures order { IfOk result (λ order. order ≡ order_but_case (text_of a.entry) (text_of b.entry)) }
+    ensures order { IfOk result (λ order. order ≡ order_ignoring_case (text_of a.entry) (text_of b.entry)) }
     ensures hosts { OnOk result (IsHost (text_of a.entry) × IsHost (text_of b.entry)) }
-    ensures exact { IsHost (text_of a.entry) → IsHost (text_of b.entry) → FailsByMemory result }
+    ensures exact { IsHost (text_of a.entry) → IsHost (text_of b.entry) → OnlyFailsOnAlloc result }
 {
     Ok(Host::parse(alloc, a)?.cmp(&Host::parse(alloc, b)?))
 }
 
-/// Refuses what is no label.
+/// Rejects what is no label.
 fn check_label(label: SplitSpan<'_>) -> Result<(), HostFault>
     requires { label.start + length (text_of label.text) ≤ usize.MAX }
     ensures { MatchResult result (λ _. IsLabel (text_of label.entry.text)) (IsLabelFault (piece_in label.entry)) }

@@ -4,8 +4,8 @@ ghost use Rattle.std.specs.Prelude.{◌≡◌, ◌+◌, ◌≤◌, ◌++◌, ◌
 ghost use Rattle.std.specs.List.{flat_map};
 ghost use Rattle.ascii_base.specs.Case.{upper_image};
 ghost use Rattle.ascii.specs.Debug.{debug_text};
-ghost use Rattle.ascii.specs.Lines.{WithLines, bodies};
-ghost use Rattle.ascii.specs.Pieces.{WithPieces};
+ghost use Rattle.ascii.specs.Lines.{OfLines, bodies};
+ghost use Rattle.ascii.specs.Pieces.{OfPieces};
 ghost use Rattle.ascii.specs.View.{text_of};
 
 use ascii::{AsciiChar, AsciiStr, AsciiString};
@@ -13,7 +13,7 @@ use std::alloc::{AllocError, Global};
 
 /// The number of pieces of a view between separators.
 pub fn piece_count(view: AsciiStr<'_>, on: AsciiChar) -> usize
-    ensures { WithPieces view.entry on (λ pieces. result ≡ length pieces) }
+    ensures { OfPieces view.entry on (λ pieces. result ≡ length pieces) }
 {
     view.split(on).count()
 }
@@ -24,7 +24,7 @@ pub fn piece_lengths(
     view: AsciiStr<'_>,
     on: AsciiChar,
 ) -> Result<Vec<usize>, AllocError>
-    ensures { IfOk result (λ lengths. WithPieces view.entry on (λ pieces. lengths.items ≡ map length pieces)) }
+    ensures { IfOk result (λ lengths. OfPieces view.entry on (λ pieces. lengths.items ≡ map length pieces)) }
 {
     let mut lengths = Vec::new(alloc);
     for piece in view.split(on) {
@@ -39,7 +39,7 @@ pub fn piece_lengths_by_map(
     view: AsciiStr<'_>,
     on: AsciiChar,
 ) -> Result<Vec<usize>, AllocError>
-    ensures { IfOk result (λ lengths. WithPieces view.entry on (λ pieces. lengths.items ≡ map length pieces)) }
+    ensures { IfOk result (λ lengths. OfPieces view.entry on (λ pieces. lengths.items ≡ map length pieces)) }
 {
     view.split(on).map(|piece| piece.len()).collect(alloc)
 }
@@ -50,21 +50,21 @@ pub fn pieces_reversed<'a>(
     view: AsciiStr<'a>,
     on: AsciiChar,
 ) -> Result<Vec<AsciiStr<'a>>, AllocError>
-    ensures { IfOk result (λ views. WithPieces view.entry on (λ pieces. map text_of views.items ≡ reverse pieces)) }
+    ensures { IfOk result (λ views. OfPieces view.entry on (λ pieces. map text_of views.items ≡ reverse pieces)) }
 {
     view.split(on).rev().collect(alloc)
 }
 
 /// The number of lines of a view.
 pub fn line_count(view: AsciiStr<'_>) -> usize
-    ensures { WithLines view.entry (λ lines. result ≡ length lines) }
+    ensures { OfLines view.entry (λ lines. result ≡ length lines) }
 {
     view.lines().count()
 }
 
 /// The lengths of the lines of a view, without their endings, by a loop.
 pub fn line_lengths_by_for(alloc: Global, view: AsciiStr<'_>) -> Result<Vec<usize>, AllocError>
-    ensures { IfOk result (λ lengths. WithLines view.entry (λ lines. lengths.items ≡ map length (bodies lines))) }
+    ensures { IfOk result (λ lengths. OfLines view.entry (λ lines. lengths.items ≡ map length (bodies lines))) }
 {
     let mut lengths = Vec::new(alloc);
     for body in view.lines() {
@@ -78,14 +78,14 @@ pub fn bodies_reversed<'a>(
     alloc: Global,
     view: AsciiStr<'a>,
 ) -> Result<Vec<AsciiStr<'a>>, AllocError>
-    ensures { IfOk result (λ views. WithLines view.entry (λ lines. map text_of views.items ≡ reverse (bodies lines))) }
+    ensures { IfOk result (λ views. OfLines view.entry (λ lines. map text_of views.items ≡ reverse (bodies lines))) }
 {
     view.lines().rev().collect(alloc)
 }
 
 /// The lengths of the lines of a view, without their endings.
 pub fn line_lengths(alloc: Global, view: AsciiStr<'_>) -> Result<Vec<usize>, AllocError>
-    ensures { IfOk result (λ lengths. WithLines view.entry (λ lines. lengths.items ≡ map length (bodies lines))) }
+    ensures { IfOk result (λ lengths. OfLines view.entry (λ lines. lengths.items ≡ map length (bodies lines))) }
 {
     view.lines().map(|line| line.len()).collect(alloc)
 }
@@ -102,27 +102,27 @@ pub fn push_upper(string: &mut AsciiString, view: AsciiStr<'_>) -> Result<(), Al
 
 /// The text of a view without its separators.
 pub fn without(alloc: Global, view: AsciiStr<'_>, on: AsciiChar) -> Result<AsciiString, AllocError>
-    ensures { IfOk result (λ string. WithPieces view.entry on (λ pieces. string.text ≡ flat_map (λ piece. piece) pieces)) }
+    ensures { IfOk result (λ string. OfPieces view.entry on (λ pieces. string.text ≡ flat_map (λ piece. piece) pieces)) }
 {
     AsciiString::collect_strs(alloc, view.split(on))
 }
 
 /// The text of a view without its line endings.
-pub fn unbroken(alloc: Global, view: AsciiStr<'_>) -> Result<AsciiString, AllocError>
-    ensures { IfOk result (λ string. WithLines view.entry (λ lines. string.text ≡ flat_map (λ line. line.body) lines)) }
+pub fn without_line_endings(alloc: Global, view: AsciiStr<'_>) -> Result<AsciiString, AllocError>
+    ensures { IfOk result (λ string. OfLines view.entry (λ lines. string.text ≡ flat_map (λ line. line.body) lines)) }
 {
     AsciiString::collect_strs(alloc, view.lines())
 }
 
 /// A view between square brackets.
-pub fn bracketed(alloc: Global, view: AsciiStr<'_>) -> Result<String, AllocError>
+pub fn in_brackets(alloc: Global, view: AsciiStr<'_>) -> Result<String, AllocError>
     ensures { IfOk result (λ text. string_bytes text ≡ codes "[" ++ (text_of view.entry ++ codes "]")) }
 {
     format!(in alloc; "[{view}]")
 }
 
 /// A view between quotes, its controls, quotes and backslashes escaped.
-pub fn quoted(alloc: Global, view: AsciiStr<'_>) -> Result<String, AllocError>
+pub fn in_quotes(alloc: Global, view: AsciiStr<'_>) -> Result<String, AllocError>
     ensures { IfOk result (λ text. string_bytes text ≡ debug_text (text_of view.entry)) }
 {
     format!(in alloc; "{view:?}")

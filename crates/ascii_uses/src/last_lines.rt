@@ -23,7 +23,7 @@ pub fn last_lines<'a>(view: AsciiStr<'a>, n: usize) -> AsciiStr<'a>
 /// than that. Of `a\nb\r\nc` without the last 2 lines `a\n` is left.
 pub fn without_last_lines<'a>(view: AsciiStr<'a>, n: usize) -> AsciiStr<'a>
     ensures lines { HasLinesBefore n (text_of view.entry) (text_of result) }
-    ensures prefix { (rest : List ℕ) × (text_of result ++ rest ≡ text_of view.entry) }
+    ensures prefix { (others : List ℕ) × (text_of result ++ others ≡ text_of view.entry) }
 {
     let mut lines = view.lines();
     for _ in 0..n {
@@ -31,11 +31,11 @@ pub fn without_last_lines<'a>(view: AsciiStr<'a>, n: usize) -> AsciiStr<'a>
             break;
         }
     }
-    rest_of(&lines)
+    remaining_text(&lines)
 }
 
 /// The lines that an iterator still owes, as a view: an empty one where it owes none.
-fn rest_of<'a>(lines: &Lines<'a>) -> AsciiStr<'a>
+fn remaining_text<'a>(lines: &Lines<'a>) -> AsciiStr<'a>
     ensures { LinesOf (text_of result) lines.now }
 {
     lines.remainder().unwrap_or_default()

@@ -4,7 +4,7 @@ ghost use Rattle.std.specs.Prelude.{◌≡◌, ◌≢◌, ◌⊎◌, ◌<◌, �
 ghost use Rattle.std.specs.Io.KnownBytes.{Consumes, IsAtEnd};
 ghost use Rattle.std.specs.Str.{IsAscii};
 ghost use Rattle.ascii.specs.Spans.{LineSpansOf, line_size};
-ghost use Rattle.ascii_uses.specs.LineReader.{Finds, IsOneLine, IsText, Stops, Takes, failures_after, read_line_in, refusal_at};
+ghost use Rattle.ascii_uses.specs.LineReader.{Finds, IsOneLine, IsText, Stops, Takes, failures_after, read_line_in, error_at};
 ghost use Rattle.ascii_uses.specs.Window.{EndsLine};
 
 use crate::line_reader::window::Window;
@@ -68,7 +68,7 @@ pub struct LineReader<S, A: Allocator = Global> {
 impl<S: Source, A: Allocator> LineReader<S, A> {
     ghost use Rattle.std.specs.Borrow.{sem};
     ghost use Rattle.std.specs.Io.BufRead.{Rests};
-    ghost use Rattle.ascii_uses.specs.LineReader.{AdvancesFrom, IsFresh, Next, reading_of, source_of};
+    ghost use Rattle.ascii_uses.specs.LineReader.{AdvancesFrom, IsFresh, Next, state_of_reader, source_of};
     ghost use Rattle.ascii_uses.specs.contracts.line_reader.LineReader.{the_row};
 
     /// A reader over a source, with a buffer of this many bytes; no more memory is taken later. A line is
@@ -77,7 +77,7 @@ impl<S: Source, A: Allocator> LineReader<S, A> {
     pub fn new(alloc: A, source: S, size: usize) -> Result<LineReader<S, A>, AllocError>
     where
         S: Drop,
-        ensures fresh { IfOk result (λ reader. IsFresh size (reading_of S.rest S.failures reader)) }
+        ensures fresh { IfOk result (λ reader. IsFresh size (state_of_reader S.rest S.failures reader)) }
         ensures source { IfOk result (λ reader. source_of reader ≡ source) }
     {
         let window = Window::new(alloc, size)?;
@@ -200,7 +200,7 @@ fn seek<S: Source, A: Allocator>(
 
 /// The refusal of a byte over 127 that stands this far behind the start of a line.
 fn other_at(start: u64, place: usize) -> LineFault
-    ensures { result ≡ refusal_at start place }
+    ensures { result ≡ error_at start place }
 {
     match start.checked_add(place as u64) {
         Some(at) => LineFault::NotAscii(at),

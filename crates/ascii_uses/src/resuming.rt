@@ -5,8 +5,8 @@ ghost use Rattle.std.specs.Prelude.{◌≡◌, ◌-◌, IfOk, MatchOption, [], d
 ghost use Rattle.std.specs.Option.{option_map};
 ghost use Rattle.ascii_base.specs.Code.{code_of};
 ghost use Rattle.ascii.specs.Ends.{TakesEnd};
-ghost use Rattle.ascii.specs.Lines.{LinesOf, WithLines};
-ghost use Rattle.ascii.specs.Pieces.{Pieces, WithPieces};
+ghost use Rattle.ascii.specs.Lines.{LinesOf, OfLines};
+ghost use Rattle.ascii.specs.Pieces.{Pieces, OfPieces};
 ghost use Rattle.ascii.specs.Spans.{line_in};
 ghost use Rattle.ascii.specs.View.{text_of};
 
@@ -15,8 +15,8 @@ use ascii::{AsciiChar, AsciiStr};
 use std::alloc::{AllocError, Global};
 
 /// The number of pieces of a view behind the first one.
-pub fn count_behind_first(view: AsciiStr<'_>, on: AsciiChar) -> usize
-    ensures { WithPieces view.entry on (λ pieces. result ≡ length pieces - 1) }
+pub fn count_after_first(view: AsciiStr<'_>, on: AsciiChar) -> usize
+    ensures { OfPieces view.entry on (λ pieces. result ≡ length pieces - 1) }
 {
     let mut split = view.split(on);
     split.next();
@@ -25,7 +25,7 @@ pub fn count_behind_first(view: AsciiStr<'_>, on: AsciiChar) -> usize
 
 /// The number of lines of a view before the last one.
 pub fn count_before_last(view: AsciiStr<'_>) -> usize
-    ensures { WithLines view.entry (λ lines. result ≡ length lines - 1) }
+    ensures { OfLines view.entry (λ lines. result ≡ length lines - 1) }
 {
     let mut lines = view.lines();
     lines.next_back();
@@ -33,7 +33,7 @@ pub fn count_before_last(view: AsciiStr<'_>) -> usize
 }
 
 /// The number of lines of a view, and an iterator that still owes them all.
-pub fn counted_lines(view: AsciiStr<'_>) -> Result<(usize, Lines<'_>), AllocError>
+pub fn count_and_lines(view: AsciiStr<'_>) -> Result<(usize, Lines<'_>), AllocError>
     ensures { IfOk result (λ answer. LinesOf (text_of view.entry) answer.1 × (answer.0 ≡ length answer.1)) }
 {
     let lines = view.lines();
@@ -42,8 +42,8 @@ pub fn counted_lines(view: AsciiStr<'_>) -> Result<(usize, Lines<'_>), AllocErro
 }
 
 /// What stands behind the first two separators.
-pub fn behind_two<'a>(view: AsciiStr<'a>, on: AsciiChar) -> Option<AsciiStr<'a>>
-    ensures { WithPieces view.entry on (λ pieces. MatchOption result (drop 2 pieces ≡ []) (λ rest. Pieces (text_of rest) (code_of on) (drop 2 pieces))) }
+pub fn after_two_separators<'a>(view: AsciiStr<'a>, on: AsciiChar) -> Option<AsciiStr<'a>>
+    ensures { OfPieces view.entry on (λ pieces. MatchOption result (drop 2 pieces ≡ []) (λ rest. Pieces (text_of rest) (code_of on) (drop 2 pieces))) }
 {
     let mut split = view.split(on);
     split.next();
@@ -52,7 +52,7 @@ pub fn behind_two<'a>(view: AsciiStr<'a>, on: AsciiChar) -> Option<AsciiStr<'a>>
 }
 
 /// A split that owes the same pieces as one that was stopped, where any is left.
-pub fn split_again<'a>(split: &Split<'a>, on: AsciiChar) -> Option<Split<'a>>
+pub fn resume_split<'a>(split: &Split<'a>, on: AsciiChar) -> Option<Split<'a>>
     requires { code_of on ≡ split.now.on }
     ensures { MatchOption result (split.now.pieces ≡ []) (λ other. (other.pieces ≡ split.now.pieces) × (other.on ≡ split.now.on)) }
 {
@@ -61,7 +61,7 @@ pub fn split_again<'a>(split: &Split<'a>, on: AsciiChar) -> Option<Split<'a>>
 }
 
 /// An iterator that owes the same lines as one that was stopped, where any is left.
-pub fn lines_again<'a>(lines: &Lines<'a>) -> Option<Lines<'a>>
+pub fn resume_lines<'a>(lines: &Lines<'a>) -> Option<Lines<'a>>
     ensures { MatchOption result (lines.now ≡ []) (λ other. other ≡ lines.now) }
 {
     let rest = lines.remainder()?;
@@ -69,7 +69,7 @@ pub fn lines_again<'a>(lines: &Lines<'a>) -> Option<Lines<'a>>
 }
 
 /// A split that owes the same pieces with the same starts, where any is left.
-pub fn split_spans_again<'a>(split: &SplitSpans<'a>, on: AsciiChar) -> Option<SplitSpans<'a>>
+pub fn resume_split_spans<'a>(split: &SplitSpans<'a>, on: AsciiChar) -> Option<SplitSpans<'a>>
     requires { code_of on ≡ split.now.on }
     ensures { MatchOption result (split.now.spans ≡ []) (λ other. (other.spans ≡ split.now.spans) × (other.on ≡ split.now.on)) }
 {
@@ -78,7 +78,7 @@ pub fn split_spans_again<'a>(split: &SplitSpans<'a>, on: AsciiChar) -> Option<Sp
 }
 
 /// An iterator that owes the same lines with the same starts and endings, where any is left.
-pub fn line_spans_again<'a>(lines: &LineSpans<'a>) -> Option<LineSpans<'a>>
+pub fn resume_line_spans<'a>(lines: &LineSpans<'a>) -> Option<LineSpans<'a>>
     ensures { MatchOption result (lines.now ≡ []) (λ other. other ≡ lines.now) }
 {
     let (start, rest) = lines.remainder()?;

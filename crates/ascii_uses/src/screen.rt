@@ -3,7 +3,7 @@
 ghost use Rattle.std.specs.Prelude.{◌≡◌, ◌≢◌, ◌+◌, ◌-◌, ◌%◌, ◌≤◌, ◌++◌, IfOk, length, min};
 ghost use Rattle.ascii_base.specs.Code.{code_of};
 ghost use Rattle.ascii.specs.View.{text_of};
-ghost use Rattle.ascii_uses.specs.Screen.{IsPlain, cell, column_after, shown, shown_text};
+ghost use Rattle.ascii_uses.specs.Screen.{IsPlain, cell, column_after, rendered, screen_text};
 
 use ascii::{AsciiChar, AsciiStr, AsciiString, caret_encode, text};
 use ascii_base::range::AsciiRange;
@@ -11,7 +11,7 @@ use std::alloc::{AllocError, Global};
 
 /// A text as a screen shows it.
 #[derive(Drop)]
-pub struct Shown {
+pub struct ScreenText {
     /// What goes out.
     pub text: AsciiString,
     /// The column, from 0, at which the next character would stand.
@@ -21,9 +21,9 @@ pub struct Shown {
 /// A text for a screen of `width` columns, at least 2. A control other than tab and LF goes out as `^` and its
 /// letter, a tab as spaces up to the next column that 8 divides, or to the edge. What has no room on its line
 /// begins a new one. Of `a\tb\x01` on 10 columns `a       b`, and `^A` on a line of its own.
-pub fn show_on_screen(alloc: Global, view: AsciiStr<'_>, width: usize) -> Result<Shown, AllocError>
+pub fn show_on_screen(alloc: Global, view: AsciiStr<'_>, width: usize) -> Result<ScreenText, AllocError>
     requires { 2 ≤ width }
-    ensures each { IfOk result (λ out. out.text.text ≡ shown_text width 0 (text_of view.entry)) }
+    ensures each { IfOk result (λ out. out.text.text ≡ screen_text width 0 (text_of view.entry)) }
     ensures column { IfOk result (λ out. out.column ≡ column_after 0 out.text.text) }
     ensures plain { IfOk result (λ out. IsPlain width out.text.text) }
     ensures unchanged { IsPlain width (text_of view.entry) → IfOk result (λ out. out.text.text ≡ text_of view.entry) }
@@ -33,7 +33,7 @@ pub fn show_on_screen(alloc: Global, view: AsciiStr<'_>, width: usize) -> Result
     for ch in view.chars() {
         column = put(&mut text, ch, column, width)?;
     }
-    Ok(Shown { text, column })
+    Ok(ScreenText { text, column })
 }
 
 /// Puts out what a screen shows of a character at a column, and gives the column behind it.
@@ -45,8 +45,8 @@ fn put(
 ) -> Result<usize, AllocError>
     requires width { 2 ≤ width }
     requires column { column ≤ width }
-    ensures text { IfOk result (λ _. out.new.text ≡ out.old.text ++ shown width column (code_of ch)) }
-    ensures column { IfOk result (λ next. next ≡ column_after column (shown width column (code_of ch))) }
+    ensures text { IfOk result (λ _. out.new.text ≡ out.old.text ++ rendered width column (code_of ch)) }
+    ensures column { IfOk result (λ next. next ≡ column_after column (rendered width column (code_of ch))) }
     ensures inside { IfOk result (λ next. next ≤ width) }
 {
     if ch == AsciiChar::LineFeed {

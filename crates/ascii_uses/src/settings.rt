@@ -1,7 +1,7 @@
 //! Reading a line of a file of settings: `key = value # comment`.
 
 ghost use Rattle.ascii.specs.View.{text_of};
-ghost use Rattle.ascii_uses.specs.Settings.{IsUncommented, ReadsSetting};
+ghost use Rattle.ascii_uses.specs.Settings.{IsWithoutComment, ReadsSetting};
 
 use crate::cuts::split_once;
 use ascii::{AsciiChar, AsciiStr};
@@ -29,7 +29,7 @@ pub enum SettingFault {
 pub fn read_setting<'a>(line: AsciiStr<'a>) -> Result<Option<Setting<'a>>, SettingFault>
     ensures { ReadsSetting (text_of line.entry) result }
 {
-    let body = uncommented(line);
+    let body = without_comment(line);
     let words = body.trim_start();
     if words.is_empty() {
         return Ok(None);
@@ -46,8 +46,8 @@ pub fn read_setting<'a>(line: AsciiStr<'a>) -> Result<Option<Setting<'a>>, Setti
 }
 
 /// The line up to its first `#`.
-fn uncommented<'a>(line: AsciiStr<'a>) -> AsciiStr<'a>
-    ensures { IsUncommented (text_of line.entry) (text_of result) }
+fn without_comment<'a>(line: AsciiStr<'a>) -> AsciiStr<'a>
+    ensures { IsWithoutComment (text_of line.entry) (text_of result) }
 {
     match split_once(line, AsciiChar::Hash) {
         Some((body, _comment)) => body,

@@ -1,7 +1,7 @@
 //! Callers of the iterators that tell where each piece and each line stands.
 
 ghost use Rattle.std.specs.Prelude.{◌≡◌, IfOk, length, map, reverse};
-ghost use Rattle.ascii.specs.Spans.{WithLineSpans, WithPieceSpans, line_in, piece_in};
+ghost use Rattle.ascii.specs.Spans.{OfLineSpans, OfPieceSpans, line_in, piece_in};
 
 use ascii::iter::{LineSpan, SplitSpan};
 use ascii::{AsciiChar, AsciiStr};
@@ -9,7 +9,7 @@ use std::alloc::{AllocError, Global};
 
 /// The number of pieces of a view between separators.
 pub fn piece_span_count(view: AsciiStr<'_>, on: AsciiChar) -> usize
-    ensures { WithPieceSpans view.entry on (λ spans. result ≡ length spans) }
+    ensures { OfPieceSpans view.entry on (λ spans. result ≡ length spans) }
 {
     view.split_spans(on).count()
 }
@@ -20,7 +20,7 @@ pub fn piece_starts(
     view: AsciiStr<'_>,
     on: AsciiChar,
 ) -> Result<Vec<usize>, AllocError>
-    ensures { IfOk result (λ starts. WithPieceSpans view.entry on (λ spans. starts.items ≡ map (λ span. span.start) spans)) }
+    ensures { IfOk result (λ starts. OfPieceSpans view.entry on (λ spans. starts.items ≡ map (λ span. span.start) spans)) }
 {
     view.split_spans(on).map(|span| span.start).collect(alloc)
 }
@@ -31,7 +31,7 @@ pub fn piece_starts_by_for(
     view: AsciiStr<'_>,
     on: AsciiChar,
 ) -> Result<Vec<usize>, AllocError>
-    ensures { IfOk result (λ starts. WithPieceSpans view.entry on (λ spans. starts.items ≡ map (λ span. span.start) spans)) }
+    ensures { IfOk result (λ starts. OfPieceSpans view.entry on (λ spans. starts.items ≡ map (λ span. span.start) spans)) }
 {
     let mut starts = Vec::new(alloc);
     for span in view.split_spans(on) {
@@ -46,28 +46,28 @@ pub fn piece_spans_reversed<'a>(
     view: AsciiStr<'a>,
     on: AsciiChar,
 ) -> Result<Vec<SplitSpan<'a>>, AllocError>
-    ensures { IfOk result (λ given. WithPieceSpans view.entry on (λ spans. map piece_in given.items ≡ reverse spans)) }
+    ensures { IfOk result (λ given. OfPieceSpans view.entry on (λ spans. map piece_in given.items ≡ reverse spans)) }
 {
     view.split_spans(on).rev().collect(alloc)
 }
 
 /// The number of lines of a view.
 pub fn line_span_count(view: AsciiStr<'_>) -> usize
-    ensures { WithLineSpans view.entry (λ spans. result ≡ length spans) }
+    ensures { OfLineSpans view.entry (λ spans. result ≡ length spans) }
 {
     view.line_spans().count()
 }
 
 /// The places where the lines of a view start.
 pub fn line_starts(alloc: Global, view: AsciiStr<'_>) -> Result<Vec<usize>, AllocError>
-    ensures { IfOk result (λ starts. WithLineSpans view.entry (λ spans. starts.items ≡ map (λ span. span.start) spans)) }
+    ensures { IfOk result (λ starts. OfLineSpans view.entry (λ spans. starts.items ≡ map (λ span. span.start) spans)) }
 {
     view.line_spans().map(|span| span.start).collect(alloc)
 }
 
 /// The same by a loop.
 pub fn line_starts_by_for(alloc: Global, view: AsciiStr<'_>) -> Result<Vec<usize>, AllocError>
-    ensures { IfOk result (λ starts. WithLineSpans view.entry (λ spans. starts.items ≡ map (λ span. span.start) spans)) }
+    ensures { IfOk result (λ starts. OfLineSpans view.entry (λ spans. starts.items ≡ map (λ span. span.start) spans)) }
 {
     let mut starts = Vec::new(alloc);
     for span in view.line_spans() {
@@ -81,7 +81,7 @@ pub fn line_spans_reversed<'a>(
     alloc: Global,
     view: AsciiStr<'a>,
 ) -> Result<Vec<LineSpan<'a>>, AllocError>
-    ensures { IfOk result (λ given. WithLineSpans view.entry (λ spans. map line_in given.items ≡ reverse spans)) }
+    ensures { IfOk result (λ given. OfLineSpans view.entry (λ spans. map line_in given.items ≡ reverse spans)) }
 {
     view.line_spans().rev().collect(alloc)
 }

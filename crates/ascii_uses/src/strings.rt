@@ -18,7 +18,7 @@ pub fn replace_last(string: &mut AsciiString, ch: AsciiChar) -> Result<(), Alloc
 }
 
 /// Moves the character at a position from 0 to the end of the text. It is never refused.
-pub fn move_to_the_end(string: &mut AsciiString, idx: usize) -> Result<(), AllocError>
+pub fn move_to_end(string: &mut AsciiString, idx: usize) -> Result<(), AllocError>
     requires { idx < length string.old.text }
     ensures ok { IsOk result }
     ensures text { string.new.text ≡ remove string.old.text idx ++ slice_index string.old.text idx ∷ [] }
@@ -29,7 +29,7 @@ pub fn move_to_the_end(string: &mut AsciiString, idx: usize) -> Result<(), Alloc
 
 /// Cuts a text that is longer than `n` down to `n` characters and a mark behind them. It is never
 /// refused.
-pub fn cut_with(string: &mut AsciiString, n: usize, mark: AsciiChar) -> Result<(), AllocError>
+pub fn truncate_with_mark(string: &mut AsciiString, n: usize, mark: AsciiChar) -> Result<(), AllocError>
     requires { n < length string.old.text }
     ensures ok { IsOk result }
     ensures text { string.new.text ≡ take n string.old.text ++ code_of mark ∷ [] }
@@ -39,7 +39,7 @@ pub fn cut_with(string: &mut AsciiString, n: usize, mark: AsciiChar) -> Result<(
 }
 
 /// Begins a text that is not empty anew with one character. It is never refused.
-pub fn begin_anew(string: &mut AsciiString, ch: AsciiChar) -> Result<(), AllocError>
+pub fn replace_with_char(string: &mut AsciiString, ch: AsciiChar) -> Result<(), AllocError>
     requires { 0 < length string.old.text }
     ensures ok { IsOk result }
     ensures text { string.new.text ≡ code_of ch ∷ [] }
@@ -64,7 +64,7 @@ pub fn spare_room(string: &AsciiString) -> usize
 }
 
 /// The bytes of a text with one more in the room that the string had spare. It is never refused.
-pub fn ended_bytes(string: AsciiString, end: u8) -> Result<Vec<u8>, AllocError>
+pub fn into_bytes_with_end(string: AsciiString, end: u8) -> Result<Vec<u8>, AllocError>
     requires { length string.text < string.capacity }
     ensures { IsOkAnd result (λ bytes. bytes.items ≡ string.text ++ end ∷ []) }
 {
@@ -75,7 +75,7 @@ pub fn ended_bytes(string: AsciiString, end: u8) -> Result<Vec<u8>, AllocError>
 
 /// A text as a `String` with one character more in the room that the string had spare. It is never
 /// refused.
-pub fn ended_text(string: AsciiString) -> Result<String, AllocError>
+pub fn into_string_with_end(string: AsciiString) -> Result<String, AllocError>
     requires { length string.text < string.capacity }
     ensures { IsOkAnd result (λ text. string_bytes text ≡ string.text ++ codes ".") }
 {

@@ -3,19 +3,19 @@
 ghost use Rattle.std.specs.Prelude.{◌≡◌, ◌+◌, ◌≤◌, ◌∷◌, ◌++◌, [], IfSome, List, MatchOption, length};
 ghost use Rattle.std.specs.Iterator.{item_count};
 ghost use Rattle.ascii.specs.Found.{ended_line, line_spans, part_in};
-ghost use Rattle.ascii.specs.Lines.{IsRestOfLines, Line, IteratesLines, bodies};
-ghost use Rattle.ascii.specs.Spans.{IsRestOfLineSpans, IteratesLineSpans, Placed, line_in};
-ghost use Rattle.ascii.specs.Steps.{DropsFirst, DropsLast, LoopsOverLineSpans, LoopsOverLines, RunsInReverse, YieldsFirstAnd, YieldsLastAnd};
+ghost use Rattle.ascii.specs.Lines.{IsRemainderOfLines, Line, IteratesLines, bodies};
+ghost use Rattle.ascii.specs.Spans.{IsRemainderOfLineSpans, IteratesLineSpans, WithStart, line_in};
+ghost use Rattle.ascii.specs.Steps.{DropsFirst, DropsLast, LoopsOverLineSpans, LoopsOverLines, LoopsInReverse, YieldsFirstAnd, YieldsLastAnd};
 ghost use Rattle.ascii.specs.View.{text_of};
 
 use crate::ascii_str::AsciiStr;
-use crate::iter::rest::Rest;
+use crate::iter::cursor::Cursor;
 use crate::iter::spans::{Ending, LineSpan};
 use std::alloc::AllocError;
 use std::iter::FusedIterator;
 use std::marker::Model;
 
-impl<'a> Rest<'a> {
+impl<'a> Cursor<'a> {
     /// All of it as one line before a LF: one CR before the LF is of the ending.
     #[inline(always)]
     fn ended_line(self) -> LineSpan<'a>
@@ -49,7 +49,7 @@ impl<'a> Rest<'a> {
 
     /// The first line, and what stands behind its ending.
     #[inline(always)]
-    fn first_line(self) -> Option<(LineSpan<'a>, Rest<'a>)>
+    fn first_line(self) -> Option<(LineSpan<'a>, Cursor<'a>)>
         ensures { MatchOption result (line_spans (part_in self.entry) ≡ []) (λ cut. line_spans (part_in self.entry) ≡ line_in cut.0 ∷ line_spans (part_in cut.1)) }
     {
         if self.view.is_empty() {
@@ -63,7 +63,7 @@ impl<'a> Rest<'a> {
 
     /// The last line, and what stands before it.
     #[inline(always)]
-    fn last_line(self) -> Option<(LineSpan<'a>, Rest<'a>)>
+    fn last_line(self) -> Option<(LineSpan<'a>, Cursor<'a>)>
         ensures { MatchOption result (line_spans (part_in self.entry) ≡ []) (λ cut. line_spans (part_in self.entry) ≡ line_spans (part_in cut.1) ++ line_in cut.0 ∷ []) }
     {
         let (last, front) = self.view.bytes.split_last()?;
@@ -81,18 +81,18 @@ impl<'a> Rest<'a> {
 #[derive(Drop)]
 pub struct LineSpans<'a> {
     // The lines that are left, with their endings.
-    rest: Rest<'a>,
+    cursor: Cursor<'a>,
 }
 
 impl<'a> Model for LineSpans<'a> {
     ghost use Rattle.std.specs.Prelude.{List};
     ghost use Rattle.ascii.specs.Found.{line_spans, part_in};
     ghost use Rattle.ascii.specs.Lines.{Line};
-    ghost use Rattle.ascii.specs.Spans.{Placed};
+    ghost use Rattle.ascii.specs.Spans.{WithStart};
 
-    ghost Value = { List (Placed Line) };
+    ghost Value = { List (WithStart Line) };
 
-    ghost view = { λ lines. line_spans (part_in lines.rest) };
+    ghost view = { λ lines. line_spans (part_in lines.cursor) };
 }
 
 impl Clone for LineSpans<'_> {
@@ -104,7 +104,7 @@ impl Clone for LineSpans<'_> {
     ///
     ///     view("x\ny").line_spans().clone()?.remainder() // Some((0, "x\ny"))
     fn clone(&self) -> Result<Self, AllocError> {
-        Ok(LineSpans { rest: self.rest })
+        Ok(LineSpans { cursor: self.cursor })
     }
 }
 
@@ -118,8 +118,8 @@ impl<'a> Iterator for LineSpans<'a> {
     ///     view("x\ny").line_spans().next() // Some(LineSpan { start: 0, text: "x", ending: Lf })
     #[inline(always)]
     fn next(&mut self) -> Option<LineSpan<'a>> {
-        let (first, others) = self.rest.first_line()?;
-        self.rest = others;
+        let (first, others) = self.cursor.first_line()?;
+        self.cursor = others;
         Some(first)
     }
 }
@@ -130,8 +130,8 @@ impl<'a> DoubleEndedIterator for LineSpans<'a> {
     ///     view("x\ny").line_spans().next_back() // Some(LineSpan { start: 2, text: "y", ending: Absent })
     #[inline(always)]
     fn next_back(&mut self) -> Option<LineSpan<'a>> {
-        let (last, others) = self.rest.last_line()?;
-        self.rest = others;
+        let (last, others) = self.cursor.last_line()?;
+        self.cursor = others;
         Some(last)
     }
 }
@@ -146,13 +146,13 @@ impl<'a> LineSpans<'a> {
     ///     spans.next() // Some(LineSpan { start: 0, text: "x", ending: CrLf })
     ///     spans.remainder() // Some((3, "y"))
     pub fn remainder(&self) -> Option<(usize, AsciiStr<'a>)>
-        ensures rest { IsRestOfLineSpans self.now result }
-        ensures fits { IfSome result (λ rest. rest.0 + length (text_of rest.1) ≤ usize.MAX) }
+        ensures remainder { IsRemainderOfLineSpans self.now result }
+        ensures fits { IfSome result (λ remainder. remainder.0 + length (text_of remainder.1) ≤ usize.MAX) }
     {
-        if self.rest.view.is_empty() {
+        if self.cursor.view.is_empty() {
             return None;
         }
-        Some((self.rest.start, self.rest.view))
+        Some((self.cursor.start, self.cursor.view))
     }
 }
 
@@ -224,10 +224,10 @@ impl<'a> Lines<'a> {
     ///     lines.remainder() // Some("y")
     #[tactic(auto, using(crate::proofs::SpansLemmas::items_some))]
     pub fn remainder(&self) -> Option<AsciiStr<'a>>
-        ensures { IsRestOfLines self.now result }
+        ensures { IsRemainderOfLines self.now result }
     {
-        let (_, rest) = self.spans.remainder()?;
-        Some(rest)
+        let (_, view) = self.spans.remainder()?;
+        Some(view)
     }
 }
 
@@ -242,8 +242,8 @@ impl<'a> AsciiStr<'a> {
     ///     lines.next() // None
     pub fn lines(self) -> Lines<'a>
         ensures iterates { IteratesLines (text_of self.entry) result }
-        ensures runs { LoopsOverLines }
-        ensures runs_back { RunsInReverse text_of bodies DropsLast }
+        ensures loops { LoopsOverLines }
+        ensures loops_back { LoopsInReverse text_of bodies DropsLast }
     {
         Lines {
             spans: self.line_spans(),
@@ -257,8 +257,8 @@ impl<'a> AsciiStr<'a> {
     ///     spans.next() // Some(LineSpan { start: 3, text: "y", ending: Absent })
     pub fn line_spans(self) -> LineSpans<'a>
         ensures iterates { IteratesLineSpans 0 (text_of self.entry) result }
-        ensures runs { LoopsOverLineSpans }
-        ensures runs_back { RunsInReverse line_in (λ (lines : List (Placed Line)). lines) DropsLast }
+        ensures loops { LoopsOverLineSpans }
+        ensures loops_back { LoopsInReverse line_in (λ (lines : List (WithStart Line)). lines) DropsLast }
     {
         self.line_spans_from(0)
     }
@@ -270,11 +270,11 @@ impl<'a> AsciiStr<'a> {
     pub fn line_spans_from(self, offset: usize) -> LineSpans<'a>
         requires { offset + length (text_of self) ≤ usize.MAX }
         ensures iterates { IteratesLineSpans offset (text_of self.entry) result }
-        ensures runs { LoopsOverLineSpans }
-        ensures runs_back { RunsInReverse line_in (λ (lines : List (Placed Line)). lines) DropsLast }
+        ensures loops { LoopsOverLineSpans }
+        ensures loops_back { LoopsInReverse line_in (λ (lines : List (WithStart Line)). lines) DropsLast }
     {
         LineSpans {
-            rest: Rest {
+            cursor: Cursor {
                 start: offset,
                 view: self,
             },

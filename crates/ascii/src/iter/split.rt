@@ -5,20 +5,20 @@ ghost use Rattle.std.specs.Iterator.{item_count};
 ghost use Rattle.std.specs.Option.{option_map};
 ghost use Rattle.ascii_base.specs.Code.{code_of};
 ghost use Rattle.ascii.specs.Found.{part_in, piece_spans, spans_left};
-ghost use Rattle.ascii.specs.Pieces.{IsRestOfPieces, Owed, IteratesPieces};
-ghost use Rattle.ascii.specs.Spans.{IsRestOfPieceSpans, OwedSpans, IteratesPieceSpans, piece_in};
-ghost use Rattle.ascii.specs.Steps.{KeepsOn, LoopsOverPieces, LoopsOverPieceSpans, KeepsSpansOn, RunsInReverse, YieldsFirstAnd, YieldsLastAnd};
+ghost use Rattle.ascii.specs.Pieces.{IsRemainderOfPieces, Remaining, IteratesPieces};
+ghost use Rattle.ascii.specs.Spans.{IsRemainderOfPieceSpans, RemainingSpans, IteratesPieceSpans, piece_in};
+ghost use Rattle.ascii.specs.Steps.{KeepsSeparator, LoopsOverPieces, LoopsOverPieceSpans, KeepsSpansSeparator, LoopsInReverse, YieldsFirstAnd, YieldsLastAnd};
 ghost use Rattle.ascii.specs.View.{text_of};
 
 use crate::ascii_str::AsciiStr;
-use crate::iter::rest::Rest;
+use crate::iter::cursor::Cursor;
 use crate::iter::spans::SplitSpan;
 use ascii_base::ascii_char::AsciiChar;
 use std::alloc::AllocError;
 use std::iter::FusedIterator;
 use std::marker::Model;
 
-impl<'a> Rest<'a> {
+impl<'a> Cursor<'a> {
     /// All of it as one piece.
     #[inline(always)]
     fn piece(self) -> SplitSpan<'a>
@@ -32,7 +32,7 @@ impl<'a> Rest<'a> {
 
     /// The first piece, and what stands behind its separator where there is one.
     #[inline(always)]
-    fn first_piece(self, on: AsciiChar) -> (SplitSpan<'a>, Option<Rest<'a>>)
+    fn first_piece(self, on: AsciiChar) -> (SplitSpan<'a>, Option<Cursor<'a>>)
         ensures { piece_spans (code_of on) (part_in self.entry) ≡ piece_in result.0 ∷ spans_left (code_of on) (option_map part_in result.1) }
     {
         match self.cut_first(on.as_byte()) {
@@ -43,7 +43,7 @@ impl<'a> Rest<'a> {
 
     /// The last piece, and what stands before its separator where there is one.
     #[inline(always)]
-    fn last_piece(self, on: AsciiChar) -> (SplitSpan<'a>, Option<Rest<'a>>)
+    fn last_piece(self, on: AsciiChar) -> (SplitSpan<'a>, Option<Cursor<'a>>)
         ensures { piece_spans (code_of on) (part_in self.entry) ≡ spans_left (code_of on) (option_map part_in result.1) ++ piece_in result.0 ∷ [] }
     {
         match self.cut_last(on.as_byte()) {
@@ -57,7 +57,7 @@ impl<'a> Rest<'a> {
 #[derive(Drop)]
 pub struct SplitSpans<'a> {
     // The pieces that are left, joined by the separator, or `None` where none is left.
-    rest: Option<Rest<'a>>,
+    cursor: Option<Cursor<'a>>,
     on: AsciiChar,
 }
 
@@ -65,11 +65,11 @@ impl<'a> Model for SplitSpans<'a> {
     ghost use Rattle.std.specs.Option.{option_map};
     ghost use Rattle.ascii_base.specs.Code.{code_of};
     ghost use Rattle.ascii.specs.Found.{part_in, spans_left};
-    ghost use Rattle.ascii.specs.Spans.{OwedSpans};
+    ghost use Rattle.ascii.specs.Spans.{RemainingSpans};
 
-    ghost Value = { OwedSpans };
+    ghost Value = { RemainingSpans };
 
-    ghost view = { λ split. record { on = code_of split.on; spans = spans_left (code_of split.on) (option_map part_in split.rest) } };
+    ghost view = { λ split. record { on = code_of split.on; spans = spans_left (code_of split.on) (option_map part_in split.cursor) } };
 }
 
 impl Clone for SplitSpans<'_> {
@@ -82,7 +82,7 @@ impl Clone for SplitSpans<'_> {
     ///     view("foo;bar").split_spans(AsciiChar::Semicolon).clone()?.remainder() // Some((0, "foo;bar"))
     fn clone(&self) -> Result<Self, AllocError> {
         Ok(SplitSpans {
-            rest: self.rest,
+            cursor: self.cursor,
             on: self.on,
         })
     }
@@ -91,27 +91,27 @@ impl Clone for SplitSpans<'_> {
 impl<'a> Iterator for SplitSpans<'a> {
     type Item = SplitSpan<'a>;
 
-    ghost next_gives = { YieldsFirstAnd piece_in (λ split. split.spans) KeepsSpansOn };
+    ghost next_gives = { YieldsFirstAnd piece_in (λ split. split.spans) KeepsSpansSeparator };
 
     ghost remaining = { item_count (λ split. split.spans) };
 
     ///     view(";foo").split_spans(AsciiChar::Semicolon).next() // Some(SplitSpan { start: 0, text: "" })
     #[inline(always)]
     fn next(&mut self) -> Option<SplitSpan<'a>> {
-        let (first, others) = self.rest?.first_piece(self.on);
-        self.rest = others;
+        let (first, others) = self.cursor?.first_piece(self.on);
+        self.cursor = others;
         Some(first)
     }
 }
 
 impl<'a> DoubleEndedIterator for SplitSpans<'a> {
-    ghost next_back_gives = { YieldsLastAnd piece_in (λ split. split.spans) KeepsSpansOn };
+    ghost next_back_gives = { YieldsLastAnd piece_in (λ split. split.spans) KeepsSpansSeparator };
 
     ///     view(";foo").split_spans(AsciiChar::Semicolon).next_back() // Some(SplitSpan { start: 1, text: "foo" })
     #[inline(always)]
     fn next_back(&mut self) -> Option<SplitSpan<'a>> {
-        let (last, others) = self.rest?.last_piece(self.on);
-        self.rest = others;
+        let (last, others) = self.cursor?.last_piece(self.on);
+        self.cursor = others;
         Some(last)
     }
 }
@@ -126,11 +126,11 @@ impl<'a> SplitSpans<'a> {
     ///     spans.next() // Some(SplitSpan { start: 0, text: "foo" })
     ///     spans.remainder() // Some((4, "bar"))
     pub fn remainder(&self) -> Option<(usize, AsciiStr<'a>)>
-        ensures rest { IsRestOfPieceSpans self.now result }
-        ensures fits { IfSome result (λ rest. rest.0 + length (text_of rest.1) ≤ usize.MAX) }
+        ensures remainder { IsRemainderOfPieceSpans self.now result }
+        ensures fits { IfSome result (λ remainder. remainder.0 + length (text_of remainder.1) ≤ usize.MAX) }
     {
-        let rest = self.rest?;
-        Some((rest.start, rest.view))
+        let cursor = self.cursor?;
+        Some((cursor.start, cursor.view))
     }
 }
 
@@ -141,10 +141,10 @@ pub struct Split<'a> {
 }
 
 impl<'a> Model for Split<'a> {
-    ghost use Rattle.ascii.specs.Pieces.{Owed};
+    ghost use Rattle.ascii.specs.Pieces.{Remaining};
     ghost use Rattle.ascii.specs.Spans.{items_of};
 
-    ghost Value = { Owed };
+    ghost Value = { Remaining };
 
     ghost view = { λ split. record { on = split.spans.on; pieces = items_of split.spans.spans } };
 }
@@ -170,7 +170,7 @@ impl Clone for Split<'_> {
 impl<'a> Iterator for Split<'a> {
     type Item = AsciiStr<'a>;
 
-    ghost next_gives = { YieldsFirstAnd text_of (λ split. split.pieces) KeepsOn };
+    ghost next_gives = { YieldsFirstAnd text_of (λ split. split.pieces) KeepsSeparator };
 
     ghost remaining = { item_count (λ split. split.pieces) };
 
@@ -183,7 +183,7 @@ impl<'a> Iterator for Split<'a> {
 }
 
 impl<'a> DoubleEndedIterator for Split<'a> {
-    ghost next_back_gives = { YieldsLastAnd text_of (λ split. split.pieces) KeepsOn };
+    ghost next_back_gives = { YieldsLastAnd text_of (λ split. split.pieces) KeepsSeparator };
 
     ///     view(";foo").split(AsciiChar::Semicolon).next_back() // Some("foo")
     #[inline(always)]
@@ -203,10 +203,10 @@ impl<'a> Split<'a> {
     ///     pieces.next() // Some("foo")
     ///     pieces.remainder() // Some("bar;baz")
     pub fn remainder(&self) -> Option<AsciiStr<'a>>
-        ensures { IsRestOfPieces self.now result }
+        ensures { IsRemainderOfPieces self.now result }
     {
-        let (_, rest) = self.spans.remainder()?;
-        Some(rest)
+        let (_, view) = self.spans.remainder()?;
+        Some(view)
     }
 }
 
@@ -221,8 +221,8 @@ impl<'a> AsciiStr<'a> {
     ///     pieces.next() // None
     pub fn split(self, on: AsciiChar) -> Split<'a>
         ensures iterates { IteratesPieces (text_of self.entry) (code_of on) result }
-        ensures runs { LoopsOverPieces }
-        ensures runs_back { RunsInReverse text_of (λ (split : Owed). split.pieces) KeepsOn }
+        ensures loops { LoopsOverPieces }
+        ensures loops_back { LoopsInReverse text_of (λ (split : Remaining). split.pieces) KeepsSeparator }
     {
         Split {
             spans: self.split_spans(on),
@@ -235,8 +235,8 @@ impl<'a> AsciiStr<'a> {
     ///     spans.next_back() // Some(SplitSpan { start: 4, text: "bar" })
     pub fn split_spans(self, on: AsciiChar) -> SplitSpans<'a>
         ensures iterates { IteratesPieceSpans 0 (text_of self.entry) (code_of on) result }
-        ensures runs { LoopsOverPieceSpans }
-        ensures runs_back { RunsInReverse piece_in (λ (split : OwedSpans). split.spans) KeepsSpansOn }
+        ensures loops { LoopsOverPieceSpans }
+        ensures loops_back { LoopsInReverse piece_in (λ (split : RemainingSpans). split.spans) KeepsSpansSeparator }
     {
         self.split_spans_from(on, 0)
     }
@@ -249,11 +249,11 @@ impl<'a> AsciiStr<'a> {
     pub fn split_spans_from(self, on: AsciiChar, offset: usize) -> SplitSpans<'a>
         requires { offset + length (text_of self) ≤ usize.MAX }
         ensures iterates { IteratesPieceSpans offset (text_of self.entry) (code_of on) result }
-        ensures runs { LoopsOverPieceSpans }
-        ensures runs_back { RunsInReverse piece_in (λ (split : OwedSpans). split.spans) KeepsSpansOn }
+        ensures loops { LoopsOverPieceSpans }
+        ensures loops_back { LoopsInReverse piece_in (λ (split : RemainingSpans). split.spans) KeepsSpansSeparator }
     {
         SplitSpans {
-            rest: Some(Rest {
+            cursor: Some(Cursor {
                 start: offset,
                 view: self,
             }),

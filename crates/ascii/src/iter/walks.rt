@@ -2,11 +2,11 @@
 
 ghost use Rattle.std.specs.Prelude.{◌≡◌, [], IfOk, IsOk, map};
 ghost use Rattle.std.specs.Option.{option_map};
-ghost use Rattle.ascii.specs.Ends.{AnswersTo, Ends};
+ghost use Rattle.ascii.specs.Ends.{AnswersTo, ListAnswers};
 ghost use Rattle.ascii.specs.Found.{StepsAt};
-ghost use Rattle.ascii.specs.Lines.{WithLines, bodies};
-ghost use Rattle.ascii.specs.Pieces.{WithPieces};
-ghost use Rattle.ascii.specs.Spans.{WithLineSpans, WithPieceSpans, line_in, piece_in};
+ghost use Rattle.ascii.specs.Lines.{OfLines, bodies};
+ghost use Rattle.ascii.specs.Pieces.{OfPieces};
+ghost use Rattle.ascii.specs.Spans.{OfLineSpans, OfPieceSpans, line_in, piece_in};
 ghost use Rattle.ascii.specs.Walks.{WalksLineSpans, WalksLines, WalksPieceSpans, WalksPieces};
 
 use crate::ascii_str::AsciiStr;

@@ -4,7 +4,7 @@ ghost use Rattle.std.specs.Prelude.{◌≡◌, ℕ, ◌+◌, ◌-◌, ◌<◌, �
 ghost use Rattle.std.specs.Option.{option_map};
 ghost use Rattle.ascii_base.specs.Case.{lower_image, upper_image};
 ghost use Rattle.ascii_base.specs.Code.{code_of};
-ghost use Rattle.ascii.specs.Held.{EditsWithin, GrowsTo, Held, MakesRoom};
+ghost use Rattle.ascii.specs.StringState.{EditsInPlace, GrowsTo, StringState, Reserves};
 ghost use Rattle.ascii.specs.Text.{insert_text};
 ghost use Rattle.ascii.specs.View.{text_of};
 
@@ -14,7 +14,7 @@ use std::alloc::{AllocError, Allocator};
 /// A text that can be edited.
 pub trait AsciiBuf {
     // The text, and how long it can get with no growth.
-    ghost held: { Self → Held };
+    ghost state: { Self → StringState };
 
     // The sure length: no text up to it wants memory.
     ghost sure: { ℕ };
@@ -23,7 +23,7 @@ pub trait AsciiBuf {
     ///
     ///     AsciiBuf::as_ascii_str(&SmallAsciiString::new(alloc)) // ""
     fn as_ascii_str(&self) -> AsciiStr<'_>
-        ensures { text_of result ≡ (held self.now).text };
+        ensures { text_of result ≡ (state self.now).text };
 
     /// Makes room for `additional` more bytes. The text stays, and a refusal of memory comes only
     /// where the room was missing; room for none never is.
@@ -31,8 +31,8 @@ pub trait AsciiBuf {
     ///     let mut text = SmallAsciiString::new(alloc);
     ///     text.reserve(24) // Ok(())
     fn reserve(&mut self, additional: usize) -> Result<(), AllocError>
-        requires { length (held self.old).text + additional ≤ usize.MAX }
-        ensures { MakesRoom additional (held self.old) (held self.new) result };
+        requires { length (state self.old).text + additional ≤ usize.MAX }
+        ensures { Reserves additional (state self.old) (state self.new) result };
 
     /// Gives back the room that the text does not need. The text stays; a refusal of memory comes
     /// only where there is such room, and never where some length is sure.
@@ -41,11 +41,11 @@ pub trait AsciiBuf {
     ///     AsciiBuf::shrink_to_fit(&mut text) // Ok(())
     ///     text // "foo"
     fn shrink_to_fit(&mut self) -> Result<(), AllocError>
-        ensures text { (held self.new).text ≡ (held self.old).text }
-        ensures err { OnErr result (length (held self.new).text < (held self.new).capacity) }
+        ensures text { (state self.new).text ≡ (state self.old).text }
+        ensures err { OnErr result (length (state self.new).text < (state self.new).capacity) }
         ensures unsure { OnErr result (sure ≡ 0) }
-        ensures capacity { (held self.new).capacity ≤ (held self.old).capacity }
-        ensures room { length (held self.new).text ≤ (held self.new).capacity };
+        ensures capacity { (state self.new).capacity ≤ (state self.old).capacity }
+        ensures room { length (state self.new).text ≤ (state self.new).capacity };
 
     /// Appends a character. It is never refused where the longer text fits the capacity; a refusal
     /// of memory leaves the text.
@@ -54,7 +54,7 @@ pub trait AsciiBuf {
     ///     text.push(AsciiChar::a) // Ok(())
     ///     text // "a"
     fn push(&mut self, ch: AsciiChar) -> Result<(), AllocError>
-        ensures { GrowsTo ((held self.old).text ++ code_of ch ∷ []) (held self.old) (held self.new) result };
+        ensures { GrowsTo ((state self.old).text ++ code_of ch ∷ []) (state self.old) (state self.new) result };
 
     /// Appends a view. It is never refused where the longer text fits the capacity, as it does with
     /// the empty view; a refusal of memory leaves the text.
@@ -63,7 +63,7 @@ pub trait AsciiBuf {
     ///     text.push_str(view("foo")) // Ok(())
     ///     text // "foo"
     fn push_str(&mut self, view: AsciiStr<'_>) -> Result<(), AllocError>
-        ensures { GrowsTo ((held self.old).text ++ text_of view.entry) (held self.old) (held self.new) result };
+        ensures { GrowsTo ((state self.old).text ++ text_of view.entry) (state self.old) (state self.new) result };
 
     /// Puts a character before the position `idx`; at the length it is appended. It is never refused
     /// where the longer text fits the capacity; a refusal of memory leaves the text.
@@ -72,8 +72,8 @@ pub trait AsciiBuf {
     ///     text.insert(0, AsciiChar::z) // Ok(())
     ///     text // "zfo"
     fn insert(&mut self, idx: usize, ch: AsciiChar) -> Result<(), AllocError>
-        requires { idx ≤ length (held self.old).text }
-        ensures { GrowsTo (insert (held self.old).text idx (code_of ch)) (held self.old) (held self.new) result };
+        requires { idx ≤ length (state self.old).text }
+        ensures { GrowsTo (insert (state self.old).text idx (code_of ch)) (state self.old) (state self.new) result };
 
     /// Puts a view before the position `idx`; at the length it is appended. It is never refused where
     /// the longer text fits the capacity, as it does with the empty view; a refusal of memory leaves
@@ -83,8 +83,8 @@ pub trait AsciiBuf {
     ///     text.insert_str(1, view("lo")) // Ok(())
     ///     text // "floo"
     fn insert_str(&mut self, idx: usize, view: AsciiStr<'_>) -> Result<(), AllocError>
-        requires { idx ≤ length (held self.old).text }
-        ensures { GrowsTo (insert_text (held self.old).text idx (text_of view.entry)) (held self.old) (held self.new) result };
+        requires { idx ≤ length (state self.old).text }
+        ensures { GrowsTo (insert_text (state self.old).text idx (text_of view.entry)) (state self.old) (state self.new) result };
 
     /// Takes out the character at a position from 0 that is under the length.
     ///
@@ -92,9 +92,9 @@ pub trait AsciiBuf {
     ///     text.remove(0) // 'f'
     ///     text // "oo"
     fn remove(&mut self, idx: usize) -> AsciiChar
-        requires { idx < length (held self.old).text }
-        ensures removed { code_of result ≡ slice_index (held self.old).text idx }
-        ensures edits { EditsWithin (remove (held self.old).text idx) (held self.old) (held self.new) };
+        requires { idx < length (state self.old).text }
+        ensures removed { code_of result ≡ slice_index (state self.old).text idx }
+        ensures edits { EditsInPlace (remove (state self.old).text idx) (state self.old) (state self.new) };
 
     /// Takes off the last character, or answers `None` of the empty text.
     ///
@@ -102,8 +102,8 @@ pub trait AsciiBuf {
     ///     text.pop() // Some('o')
     ///     text // "f"
     fn pop(&mut self) -> Option<AsciiChar>
-        ensures popped { let text = (held self.old).text in option_map code_of result ≡ slice_get text (length text - 1) }
-        ensures edits { let text = (held self.old).text in EditsWithin (take (length text - 1) text) (held self.old) (held self.new) };
+        ensures popped { let text = (state self.old).text in option_map code_of result ≡ slice_get text (length text - 1) }
+        ensures edits { let text = (state self.old).text in EditsInPlace (take (length text - 1) text) (state self.old) (state self.new) };
 
     /// Keeps the first `n` characters, or all where there are fewer.
     ///
@@ -111,7 +111,7 @@ pub trait AsciiBuf {
     ///     text.truncate(2);
     ///     text // "fo"
     fn truncate(&mut self, n: usize)
-        ensures { EditsWithin (take n (held self.old).text) (held self.old) (held self.new) };
+        ensures { EditsInPlace (take n (state self.old).text) (state self.old) (state self.new) };
 
     /// Takes off all characters. The capacity stays.
     ///
@@ -119,7 +119,7 @@ pub trait AsciiBuf {
     ///     text.clear();
     ///     text // ""
     fn clear(&mut self)
-        ensures { EditsWithin [] (held self.old) (held self.new) };
+        ensures { EditsInPlace [] (state self.old) (state self.new) };
 
     /// Puts a character in the place of the one at a position from 0 that is under the length.
     ///
@@ -127,8 +127,8 @@ pub trait AsciiBuf {
     ///     text.set(0, AsciiChar::z);
     ///     text // "zoo"
     fn set(&mut self, i: usize, ch: AsciiChar)
-        requires { i < length (held self.old).text }
-        ensures { EditsWithin (slice_set (held self.old).text i (code_of ch)) (held self.old) (held self.new) };
+        requires { i < length (state self.old).text }
+        ensures { EditsInPlace (slice_set (state self.old).text i (code_of ch)) (state self.old) (state self.new) };
 
     /// Changes `a` to `z` to `A` to `Z`, and leaves every other character.
     ///
@@ -136,7 +136,7 @@ pub trait AsciiBuf {
     ///     text.make_ascii_uppercase();
     ///     text // "FOO"
     fn make_ascii_uppercase(&mut self)
-        ensures { EditsWithin (map upper_image (held self.old).text) (held self.old) (held self.new) };
+        ensures { EditsInPlace (map upper_image (state self.old).text) (state self.old) (state self.new) };
 
     /// Changes `A` to `Z` to `a` to `z`, and leaves every other character.
     ///
@@ -144,16 +144,16 @@ pub trait AsciiBuf {
     ///     text.make_ascii_lowercase();
     ///     text // "foo"
     fn make_ascii_lowercase(&mut self)
-        ensures { EditsWithin (map lower_image (held self.old).text) (held self.old) (held self.new) };
+        ensures { EditsInPlace (map lower_image (state self.old).text) (state self.old) (state self.new) };
 
     // The sure length is within every capacity.
-    ghost holds_sure: { (buf : Self) → sure ≤ (held buf).capacity };
+    ghost holds_sure: { (buf : Self) → sure ≤ (state buf).capacity };
 }
 
 impl<A: Allocator> AsciiBuf for AsciiString<A> {
     ghost use Rattle.std.proofs.Common.{rules};
 
-    ghost held = { λ string. string };
+    ghost state = { λ string. string };
 
     ghost sure = { 0 };
 

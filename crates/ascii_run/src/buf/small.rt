@@ -1,7 +1,7 @@
 //! Text that stands in the value itself while it is short.
 
 ghost use Rattle.std.specs.Prelude.{◌≡◌, ◌+◌, ◌<◌, ◌≤◌, ◌↔◌, ◌++◌, ◌∷◌, [], IfErr, IfOk, IsOk, IsTrue, MatchResult, OnOk, length};
-ghost use Rattle.ascii.specs.Held.{Writes};
+ghost use Rattle.ascii.specs.StringState.{Writes};
 ghost use Rattle.ascii.specs.View.{text_of};
 ghost use Rattle.ascii_run.specs.Inline.{inline_size, with_inline_room};
 
@@ -25,10 +25,10 @@ pub struct SmallAsciiString {
 }
 
 impl Model for SmallAsciiString {
-    ghost use Rattle.ascii.specs.Held.{Held};
+    ghost use Rattle.ascii.specs.StringState.{StringState};
     ghost use Rattle.ascii_run.specs.Inline.{IsSmallText};
 
-    ghost Value = { Held };
+    ghost Value = { StringState };
 
     ghost view = { λ s. record { text = s.bytes.items; capacity = s.bytes.capacity } };
 
@@ -138,7 +138,7 @@ impl AsciiBuf for SmallAsciiString {
     ghost use Rattle.std.proofs.Common.{rules};
     ghost use Rattle.ascii_run.specs.Inline.{inline_size, with_inline_room};
 
-    ghost held = { with_inline_room };
+    ghost state = { with_inline_room };
 
     ghost sure = { inline_size };
 

@@ -1,8 +1,8 @@
 //! The lines of a source as texts of their own.
 
 ghost use Rattle.std.specs.Prelude.{◌≡◌, IfOk};
-ghost use Rattle.ascii_uses.specs.KeptLines.{AreFirst, RunsTo, kept_line_in, kept_lines_in};
-ghost use Rattle.ascii_uses.specs.LineReader.{IsOpen, read_line_in, reading_of};
+ghost use Rattle.ascii_uses.specs.KeptLines.{AreFirstLines, YieldsUntil, kept_line_in, kept_lines_in};
+ghost use Rattle.ascii_uses.specs.LineReader.{IsOpen, read_line_in, state_of_reader};
 
 use crate::line_reader::{LineFault, LineReader, ReadLine};
 use ascii::AsciiString;
@@ -40,9 +40,9 @@ pub fn keep_lines<S: Source, A: Allocator>(
     reader: &mut LineReader<S, A>,
 ) -> Result<KeptLines, AllocError>
     requires { IsOpen reader.old }
-    ensures runs { IfOk result (λ kept. RunsTo (reading_of S.rest S.failures reader.old)
-        (kept_lines_in kept) kept.fault (reading_of S.rest S.failures reader.new)) }
-    ensures first { IfOk result (λ kept. AreFirst (reading_of S.rest S.failures reader.old)
+    ensures runs { IfOk result (λ kept. YieldsUntil (state_of_reader S.rest S.failures reader.old)
+        (kept_lines_in kept) kept.fault (state_of_reader S.rest S.failures reader.new)) }
+    ensures first { IfOk result (λ kept. AreFirstLines (state_of_reader S.rest S.failures reader.old)
         (kept_lines_in kept) kept.fault) }
 {
     let mut lines = Vec::new(alloc);

@@ -3,11 +3,11 @@
 use super::{ascii, shows};
 use ascii::{AsciiChar, AsciiString};
 use ascii_uses::iterators::{
-    bodies_reversed, bracketed, line_lengths, piece_count, piece_lengths, push_upper, quoted,
-    unbroken, without,
+    bodies_reversed, in_brackets, line_lengths, piece_count, piece_lengths, push_upper, in_quotes,
+    without_line_endings, without,
 };
 use ascii_uses::strings::{
-    begin_anew, blank, cut_with, ended_bytes, ended_text, move_to_the_end, replace_last,
+    replace_with_char, blank, truncate_with_mark, into_bytes_with_end, into_string_with_end, move_to_end, replace_last,
     spare_room, write_nothing,
 };
 
@@ -39,13 +39,13 @@ fn texts(rt: HostRuntime) {
     );
     shows(
         &rt,
-        &unbroken(alloc, ascii("foo\r\nba\r\rx\n")),
+        &without_line_endings(alloc, ascii("foo\r\nba\r\rx\n")),
         "Ok(\"fooba\\r\\rx\")",
     );
-    shows(&rt, &bracketed(alloc, ascii("ab")), "Ok(\"[ab]\")");
+    shows(&rt, &in_brackets(alloc, ascii("ab")), "Ok(\"[ab]\")");
     shows(
         &rt,
-        &quoted(alloc, ascii("a\"\t")),
+        &in_quotes(alloc, ascii("a\"\t")),
         "Ok(\"\\\"a\\\\\\\"\\\\t\\\"\")",
     );
 }
@@ -58,10 +58,10 @@ fn edits(rt: HostRuntime) {
     shows(&rt, &replace_last(&mut string, AsciiChar::x), "Ok(())");
     shows(&rt, &string, "\"abcx\"");
     assert!(rt; 1 < string.len());
-    shows(&rt, &move_to_the_end(&mut string, 1), "Ok(())");
+    shows(&rt, &move_to_end(&mut string, 1), "Ok(())");
     shows(&rt, &string, "\"acxb\"");
     assert!(rt; 2 < string.len());
-    shows(&rt, &cut_with(&mut string, 2, AsciiChar::Tilde), "Ok(())");
+    shows(&rt, &truncate_with_mark(&mut string, 2, AsciiChar::Tilde), "Ok(())");
     shows(&rt, &string, "\"ac~\"");
 }
 
@@ -70,15 +70,15 @@ fn written_again(rt: HostRuntime) {
     let mut string = AsciiString::new(rt.alloc());
     string.push_str(ascii("ab")).expect(&rt, "refused");
     assert!(rt; 0 < string.len());
-    shows(&rt, &begin_anew(&mut string, AsciiChar::z), "Ok(())");
+    shows(&rt, &replace_with_char(&mut string, AsciiChar::z), "Ok(())");
     shows(&rt, &write_nothing(&mut string), "Ok(())");
     shows(&rt, &string, "\"z\"");
     assert!(rt; spare_room(&string) == string.capacity().saturating_sub(1));
     assert!(rt; string.len() < string.capacity());
-    shows(&rt, &ended_bytes(string, 10), "Ok([122, 10])");
+    shows(&rt, &into_bytes_with_end(string, 10), "Ok([122, 10])");
     let mut string = AsciiString::with_capacity(rt.alloc(), 2).expect(&rt, "refused");
     string.push(AsciiChar::a).expect(&rt, "refused");
     assert!(rt; string.len() < string.capacity());
-    shows(&rt, &ended_text(string), "Ok(\"a.\")");
+    shows(&rt, &into_string_with_end(string), "Ok(\"a.\")");
     shows(&rt, &blank(), "'\\0'");
 }

@@ -8,8 +8,8 @@ use ascii_uses::iterators::{
     line_count, line_lengths_by_for, piece_lengths_by_map, pieces_reversed,
 };
 use ascii_uses::resuming::{
-    behind_two, count_before_last, count_behind_first, counted_lines, lengths_left,
-    line_spans_again, lines_again, split_again, split_spans_again, take_line_span,
+    after_two_separators, count_before_last, count_after_first, count_and_lines, lengths_left,
+    resume_line_spans, resume_lines, resume_split, resume_split_spans, take_line_span,
 };
 use ascii_uses::spans::{
     line_span_count, line_spans_reversed, line_starts, line_starts_by_for, piece_span_count,
@@ -69,16 +69,16 @@ fn fronts(rt: HostRuntime) {
 fn stopped_over_pieces(rt: HostRuntime) {
     let on = AsciiChar::Comma;
     let view = ascii("ab,,c");
-    shows(&rt, &count_behind_first(view, on), "2");
-    shows(&rt, &behind_two(view, on), "Some(\"c\")");
+    shows(&rt, &count_after_first(view, on), "2");
+    shows(&rt, &after_two_separators(view, on), "Some(\"c\")");
     let mut split = view.split(on);
     split.next();
-    let again = split_again(&split, on).and_then(|mut again| again.next_back());
+    let again = resume_split(&split, on).and_then(|mut again| again.next_back());
     shows(&rt, &again, "Some(\"c\")");
     shows(&rt, &lengths_left(rt.alloc(), split), "Ok([0, 1])");
     let mut split = view.split_spans(on);
     split.next();
-    let again = split_spans_again(&split, on).and_then(|mut again| again.next());
+    let again = resume_split_spans(&split, on).and_then(|mut again| again.next());
     shows(&rt, &again, "Some(SplitSpan { start: 3, text: \"\" })");
 }
 
@@ -86,14 +86,14 @@ fn stopped_over_pieces(rt: HostRuntime) {
 fn stopped_over_lines(rt: HostRuntime) {
     let view = ascii("ab\r\n\nc");
     shows(&rt, &count_before_last(view), "2");
-    let (count, mut lines) = counted_lines(view).expect(&rt, "refused");
+    let (count, mut lines) = count_and_lines(view).expect(&rt, "refused");
     shows(&rt, &count, "3");
     lines.next();
-    let again = lines_again(&lines).and_then(|mut again| again.next());
+    let again = resume_lines(&lines).and_then(|mut again| again.next());
     shows(&rt, &again, "Some(\"\")");
     let mut lines = view.line_spans();
     lines.next();
-    let again = line_spans_again(&lines).and_then(|mut again| again.next_back());
+    let again = resume_line_spans(&lines).and_then(|mut again| again.next_back());
     let want = "Some(LineSpan { start: 5, text: \"c\", ending: Absent })";
     shows(&rt, &again, want);
     shows(&rt, &take_line_span(&mut lines, End::Back), want);

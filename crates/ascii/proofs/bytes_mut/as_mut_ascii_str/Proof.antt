@@ -36,7 +36,7 @@ use Rattle.ascii_base.specs.declared.range.AsciiRange.{AsciiRange}
 use Rattle.ascii_base.specs.declared.range.AsciiRange.TheVariants.{Full}
 use Rattle.ascii_base.specs.contracts.range.AsciiRange as range
 use Rattle.ascii_base.proofs.range.AsciiRange.TheLaws as range_laws
-use Rattle.ascii.specs.WritingView.{MutSliceOutcome, lender_of}
+use Rattle.ascii.specs.WritingView.{MutSliceOutcome, borrow_of}
 use Rattle.ascii.specs.declared.ascii_str.AsAsciiStrError.{AsAsciiStrError}
 use Rattle.ascii.specs.declared.ascii_str_mut.AsciiStrMut.{AsciiStrMut}
 use Rattle.ascii.specs.contracts.ascii_str.AsAsciiStrError as E
@@ -81,9 +81,9 @@ as_mut_ascii_str_spec 𝓤 𝓛 𝓜 𝓡 wired =
     let lft = named_lft 1 0 tt κs in
     let Out = RS.the_row (V.the_row lft) E.the_row in
     let Answers = λ (r : Result AsciiStrMut AsAsciiStrError). MutSliceOutcome s.now Full r in
-    let Lender = λ (r : Result AsciiStrMut AsAsciiStrError). IfOk r (λ w. lender_of w ≡ s.ghost_name) in
+    let Lender = λ (r : Result AsciiStrMut AsAsciiStrError). IfOk r (λ w. borrow_of w ≡ s.ghost_name) in
     use1 𝓛 (later (some (λ (r : Result AsciiStrMut AsAsciiStrError). (raw (alive 𝓛 g.signature κs qs) ⊛ ‵ (Out.own_val r (v ∷ []))) ⊛
-    some (λ (ws : Unit {0} × (Unit {0} × Unit {0})). ‵ (lasts g.ended κs (s, (whole_range, tt)) ws) ⊛ (raw (fact 𝓤 (Answers r)) ⊛ raw (fact 𝓤 (Lender r)) ⊛ ‵ (RestsIfErr Bytes s lender_of r (λ m. m ≡ s.now))))))) (id⊢ 𝓤 _) $
+    some (λ (ws : Unit {0} × (Unit {0} × Unit {0})). ‵ (lasts g.ended κs (s, (whole_range, tt)) ws) ⊛ (raw (fact 𝓤 (Answers r)) ⊛ raw (fact 𝓤 (Lender r)) ⊛ ‵ (RestsIfErr Bytes s borrow_of r (λ m. m ≡ s.now))))))) (id⊢ 𝓤 _) $
     await ! tt $ pick ! (λ r. split ! $ move ! (1 ∷ []) $ pick ! (λ ws. split ! $ drop ! $ move ! (1 ∷ []) $ split ! $ move ! (1 ∷ []) $
     -- [the answer; the tokens; what is promised of it]
     peeks ! Out _ (shows 𝓛 Out) r (v ∷ []) (λ is.

@@ -33,8 +33,8 @@ use Rattle.std.specs.declared.result.Result.TheVariants.{Ok, Err}
 use Rattle.ascii_base.specs.Range.{start_of, end_of, Fits}
 use Rattle.ascii_base.specs.contracts.range.AsciiRange as range
 use Rattle.ascii_base.proofs.range.AsciiRange.TheLaws as range_laws
-use Rattle.ascii.specs.Slice.{IsRefused}
-use Rattle.ascii.specs.WritingView.{IsPart, whole_of, lender_of}
+use Rattle.ascii.specs.Slice.{IsRejected}
+use Rattle.ascii.specs.WritingView.{IsViewOf, whole_source_of, borrow_of}
 use Rattle.ascii.specs.declared.bytes_mut.Searched.{Searched}
 use Rattle.ascii.specs.contracts.bytes_mut.Searched as S
 use Rattle.ascii.proofs.bytes_mut.Searched.TheLaws as found_laws
@@ -85,10 +85,10 @@ slice_ascii_mut_spec 𝓤 𝓛 𝓜 𝓡 wired =
     (and_then ! (get ! refl) (and_then ! (get ! refl) (no_more !))) (λ v.
     let lft = named_lft 1 0 tt κs in
     let Row = S.the_row lft in
-    let Accepted = λ (d : Searched). d.is_refused ≡ false → Fits r n × IsPart s.now (start_of r) (end_of r n) d.view in
-    let Refused = λ (d : Searched). d.is_refused ≡ true → IsRefused s.now r (record { valid_up_to = d.valid_up_to }) in
-    let Whole = λ (d : Searched). whole_of d.view ≡ s.now in
-    let Lender = λ (d : Searched). lender_of d.view ≡ s.ghost_name in
+    let Accepted = λ (d : Searched). d.is_refused ≡ false → Fits r n × IsViewOf s.now (start_of r) (end_of r n) d.view in
+    let Refused = λ (d : Searched). d.is_refused ≡ true → IsRejected s.now r (record { valid_up_to = d.valid_up_to }) in
+    let Whole = λ (d : Searched). whole_source_of d.view ≡ s.now in
+    let Lender = λ (d : Searched). borrow_of d.view ≡ s.ghost_name in
     use1 𝓛 (later (some (λ (d : Searched). (raw (alive 𝓛 g.signature κs qs) ⊛ ‵ (Row.own_val d (v ∷ []))) ⊛
     some (λ (ws : Unit {0} × (Unit {0} × Unit {0})). ‵ (lasts g.ended κs a ws) ⊛ raw (fact 𝓤 (Accepted d)) ⊛ raw (fact 𝓤 (Refused d)) ⊛ raw (fact 𝓤 (Whole d)) ⊛ raw (fact 𝓤 (Lender d)))))) (id⊢ 𝓤 _) $
     await ! tt $ pick ! (λ d. split ! $ move ! (1 ∷ []) $ pick ! (λ ws. split ! $ drop ! $ split ! $ heard ! (Accepted d) (λ accepted.
@@ -107,19 +107,19 @@ slice_ascii_mut_spec 𝓤 𝓛 𝓜 𝓡 wired =
     sets ! (of_opd ! (get_in ! (fld ! refl (stop !)) (sub ! 1 refl (whole !)))) refl (tt, typed.0.1.1.0) $
     first ! $ branches ! (get ! refl)
     (λ is_refused.
-    let no_view : IsRefused s.now r e = refused (is_true d.is_refused is_refused) in
+    let no_view : IsRejected s.now r e = refused (is_true d.is_refused is_refused) in
     use1 𝓛 (‵ ((V.the_row lft).own_val d.view (view_laws.lowered d.view ∷ []))) (found_view 𝓛 lft d (v ∷ [])) $
     use1 𝓛 (later (‵ (fres d.view.bytes.ghost_name (Bytes.coded.code d.view.bytes.now)))) (given_up 𝓛 lft d.view (view_laws.lowered d.view ∷ [])) $ await ! tt $
     rewrite ! 0 (λ (γ : GName). ‵ (fres γ (Bytes.coded.code d.view.bytes.now))) lender refl $
     rewrite ! 0 (λ (xs : List ℕ). ‵ (fres s.ghost_name (Bytes.coded.code xs))) same refl $
-    use1 𝓛 (‵ (RestsIfErr Bytes s lender_of (Err e) (λ m. m ≡ s.now))) (rests_err 𝓛 AsciiStrMut AsAsciiStrError lender_of s e) $
+    use1 𝓛 (‵ (RestsIfErr Bytes s borrow_of (Err e) (λ m. m ≡ s.now))) (rests_err 𝓛 AsciiStrMut AsAsciiStrError borrow_of s e) $
     sets ! (of_opd ! (get_in ! (fld ! refl (stop !)) (sub ! 2 refl (whole !)))) refl (tt, bound) $
     sets ! (agg ! (and_then ! (get ! refl) (no_more !))) refl (tt, (bound, tt)) $
     sets ! (agg ! (and_then ! (lit ! tt) (and_then ! (get ! refl) (no_more !)))) refl (tt, (record { fits = lit< tt }, ((bound, tt), tt))) $
     returns_within ! (W.post y) refl (look_at ! 0 refl) $ free_all ! refl $
     -- [what rests; the tokens]
     use0 𝓛 (raw (fact 𝓤 (⊤))) (fact_i 𝓤 (⊤) (emp 𝓤) tt) $ join ! $
-    use0 𝓛 (raw (fact 𝓤 (IsRefused s.now r e))) (fact_i 𝓤 (IsRefused s.now r e) (emp 𝓤) no_view) $ join ! $
+    use0 𝓛 (raw (fact 𝓤 (IsRejected s.now r e))) (fact_i 𝓤 (IsRejected s.now r e) (emp 𝓤) no_view) $ join ! $
     use0 𝓛 (‵ (E.the_row.own_val e (ev ∷ []))) (error_made 𝓛 d.valid_up_to bound.fits) $
     use1 𝓛 (‵ (Out.own_val (Err e) (live 1 (of_list (ev ∷ [])) ∷ []))) (err_of 𝓛 (V.the_row lft) E.the_row e ev) $
     nothing ! $ nothing ! $ fjoin ! $ nothing ! $ fjoin ! $ move ! (3 ∷ 0 ∷ 1 ∷ 2 ∷ []) $
@@ -131,9 +131,9 @@ slice_ascii_mut_spec 𝓤 𝓛 𝓜 𝓡 wired =
     use1 𝓛 (‵ ((V.the_row lft).own_val d.view (view_laws.lowered d.view ∷ []))) (found_view 𝓛 lft d (v ∷ [])) $
     use1 𝓛 (‵ (Out.own_val (Ok d.view) (live 0 (of_list (view_laws.lowered d.view ∷ [])) ∷ []))) (ok_of 𝓛 (V.the_row lft) E.the_row d.view (view_laws.lowered d.view)) $
     move ! (1 ∷ 0 ∷ []) $
-    use0 𝓛 (‵ (RestsIfErr Bytes (record { ref_ptr = s.ref_ptr; ghost_name = lender_of d.view; now = s.now }) lender_of {E = AsAsciiStrError} (Ok d.view) (λ m. m ≡ s.now))) (rests_ok 𝓛 AsciiStrMut AsAsciiStrError lender_of s.ref_ptr s.now d.view) $
-    rewrite ! 0 (λ (γ : GName). ‵ (RestsIfErr Bytes (record { ref_ptr = s.ref_ptr; ghost_name = γ; now = s.now }) lender_of {E = AsAsciiStrError} (Ok d.view) (λ m. m ≡ s.now))) lender refl $
+    use0 𝓛 (‵ (RestsIfErr Bytes (record { ref_ptr = s.ref_ptr; ghost_name = borrow_of d.view; now = s.now }) borrow_of {E = AsAsciiStrError} (Ok d.view) (λ m. m ≡ s.now))) (rests_ok 𝓛 AsciiStrMut AsAsciiStrError borrow_of s.ref_ptr s.now d.view) $
+    rewrite ! 0 (λ (γ : GName). ‵ (RestsIfErr Bytes (record { ref_ptr = s.ref_ptr; ghost_name = γ; now = s.now }) borrow_of {E = AsAsciiStrError} (Ok d.view) (λ m. m ≡ s.now))) lender refl $
     use0 𝓛 (raw (fact 𝓤 (Lender d))) (fact_i 𝓤 (Lender d) (emp 𝓤) lender) $ join ! $
-    use0 𝓛 (raw (fact 𝓤 (Fits r n × IsPart s.now (start_of r) (end_of r n) d.view))) (fact_i 𝓤 (Fits r n × IsPart s.now (start_of r) (end_of r n) d.view) (emp 𝓤) (accepted (is_false d.is_refused is_accepted))) $ join ! $
+    use0 𝓛 (raw (fact 𝓤 (Fits r n × IsViewOf s.now (start_of r) (end_of r n) d.view))) (fact_i 𝓤 (Fits r n × IsViewOf s.now (start_of r) (end_of r n) d.view) (emp 𝓤) (accepted (is_false d.is_refused is_accepted))) $ join ! $
     nothing ! $ nothing ! $ fjoin ! $ nothing ! $ fjoin ! $ move ! (2 ∷ 0 ∷ 3 ∷ 1 ∷ []) $
     by ! (leaves 𝓛 f.ended stayed c y (live 0 (of_list (view_laws.lowered d.view ∷ []))) (Ok d.view) (tt, (tt, tt)) (tt, (tt, tt))))))))))))))

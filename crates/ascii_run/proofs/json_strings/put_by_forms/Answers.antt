@@ -8,29 +8,29 @@ use Rattle.ascii_run.proofs.PageLemmas.{MayFail-still, Puts-is, Puts-nil, Puts-t
 use Rattle.ascii_run.proofs.SinkLemmas.{sent_more}
 use Rattle.ascii_run.proofs.json_strings.put_by_forms.Goals as goal
 
-pub runs-init : goal.runs-init
-runs-init g c = (c.requires.fail, c.as_bytes-rest.ensures.ascii, ([], c.as_bytes-rest.ensures.codes, Puts-nil _))
+pub segments-init : goal.segments-init
+segments-init g c = (c.requires.fail, c.as_bytes-remaining.ensures.ascii, ([], c.as_bytes-remaining.ensures.codes, Puts-nil _))
 
-pub runs-preserved : goal.runs-preserved
-runs-preserved g c =
-    let rest = c.runs.rest.now in
+pub segments-preserved : goal.segments-preserved
+segments-preserved g c =
+    let remaining = c.segments.remaining.now in
     let place = c.in-Some.place in
-    let done = c.runs.invariant.2.0 in
-    let run = take place rest in
-    let shown = json_code (get_or rest place 0) in
-    let both = Puts-trans run shown c.put.ensures c.put_form.ensures in (
-      MayFail-still (run ++ shown) c.runs.invariant.0 both,
-      IsAscii-take _ _ (IsAscii-drop rest (place + 1) c.runs.invariant.1),
+    let done = c.segments.invariant.2.0 in
+    let segment = take place remaining in
+    let shown = json_code (get_or remaining place 0) in
+    let both = Puts-trans segment shown c.put.ensures c.put_form.ensures in (
+      MayFail-still (segment ++ shown) c.segments.invariant.0 both,
+      IsAscii-take _ _ (IsAscii-drop remaining (place + 1) c.segments.invariant.1),
       (
-        done ++ take (place + 1) rest,
-        sent_more done rest (text_of c.args.text) (place + 1) c.runs.invariant.2.1,
-        Puts-is (shown_more IsUnescaped json_code json_plain done rest place c.in-Some.ensures) (Puts-trans (flat_map json_code done) (run ++ shown) c.runs.invariant.2.2 both),
+        done ++ take (place + 1) remaining,
+        sent_more done remaining (text_of c.args.text) (place + 1) c.segments.invariant.2.1,
+        Puts-is (shown_more IsUnescaped json_code json_plain done remaining place c.in-Some.ensures) (Puts-trans (flat_map json_code done) (segment ++ shown) c.segments.invariant.2.2 both),
       ),
     )
 
 pub returns : goal.returns
 returns g c =
-    let done = c.runs.invariant.2.0 in
-    let rest = c.runs.rest.now in
-    Puts-is (shown_all IsUnescaped json_code json_plain done rest (text_of c.args.text) c.in_default.ensures c.runs.invariant.2.1)
-    (Puts-trans (flat_map json_code done) rest c.runs.invariant.2.2 c.put-2.ensures)
+    let done = c.segments.invariant.2.0 in
+    let remaining = c.segments.remaining.now in
+    Puts-is (shown_all IsUnescaped json_code json_plain done remaining (text_of c.args.text) c.in_default.ensures c.segments.invariant.2.1)
+    (Puts-trans (flat_map json_code done) remaining c.segments.invariant.2.2 c.put-2.ensures)

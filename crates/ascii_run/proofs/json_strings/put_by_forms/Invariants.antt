@@ -7,11 +7,11 @@ use Rattle.ascii_run.specs.JsonText.{json_code}
 use Rattle.ascii_run.proofs.json_strings.put_by_forms.Given as goal
 
 -- what stands for the codes before the rest was put in
-abbrev pub invariant-runs : goal.invariant-runs
-invariant-runs g l =
-    MayFail (out g.K.Sink l.writer l.page) × IsAscii l.rest × ((done : List ℕ) × (done ++ l.rest ≡ text_of l.text)
+abbrev pub invariant-segments : goal.invariant-segments
+invariant-segments g l =
+    MayFail (out g.K.Sink l.writer l.page) × IsAscii l.remaining × ((done : List ℕ) × (done ++ l.remaining ≡ text_of l.text)
     × Puts (out g.K.Sink l.fn.writer l.fn.page) (out g.K.Sink l.writer l.page) (flat_map json_code done))
 
 -- the codes that are left
-abbrev pub decreases-runs : goal.decreases-runs
-decreases-runs g l = length l.rest
+abbrev pub decreases-segments : goal.decreases-segments
+decreases-segments g l = length l.remaining

@@ -2,7 +2,7 @@ use Rattle.std.proofs.Common.{ap, sym}
 use Rattle.std.specs.Prelude.{codes}
 use Rattle.std.specs.Option.{option_map}
 use Rattle.ascii.specs.View.{text_of}
-use Rattle.ascii_run.specs.Output.{answer_text}
+use Rattle.ascii_run.specs.ModeOutput.{answer_text}
 use Rattle.ascii_run.proofs.PageLemmas.{Puts-is, Puts-trans}
 use Rattle.ascii_run.proofs.outputs.put_answer.Goals as goal
 

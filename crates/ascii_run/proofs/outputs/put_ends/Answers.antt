@@ -3,7 +3,7 @@ use Rattle.std.specs.Option.{option_map}
 use Rattle.ascii.specs.Lines.{bodies}
 use Rattle.ascii.specs.View.{text_of}
 use Rattle.ascii.proofs.EndsLemmas.{TakesEnd-by}
-use Rattle.ascii_run.specs.Output.{answer_text}
+use Rattle.ascii_run.specs.ModeOutput.{answer_text}
 use Rattle.ascii_run.proofs.EndsOutputLemmas.{shows_all, shows_more}
 use Rattle.ascii_run.proofs.PageLemmas.{MayFail-still, Puts-nil, Puts-trans}
 use Rattle.ascii_run.proofs.outputs.put_ends.Goals as goal

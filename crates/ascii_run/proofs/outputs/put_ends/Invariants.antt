@@ -1,7 +1,7 @@
 use Rattle.std.proofs.Common.{List, ℕ, take}
 use Rattle.ascii.specs.Lines.{bodies}
 use Rattle.ascii_run.specs.Outgoing.{MayFail, Puts, out}
-use Rattle.ascii_run.specs.Output.{answer_text}
+use Rattle.ascii_run.specs.ModeOutput.{answer_text}
 use Rattle.ascii_run.proofs.EndsOutputLemmas.{ShowsSoFar}
 use Rattle.ascii_run.proofs.outputs.put_ends.Given as goal
 

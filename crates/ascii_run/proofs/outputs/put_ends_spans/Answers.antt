@@ -2,7 +2,7 @@ use Rattle.std.proofs.Common.{[], ◌++◌, arith, refl, rules}
 use Rattle.std.specs.Option.{option_map}
 use Rattle.ascii.specs.Spans.{line_in}
 use Rattle.ascii.proofs.EndsLemmas.{TakesEnd-by}
-use Rattle.ascii_run.specs.Output.{span_text}
+use Rattle.ascii_run.specs.ModeOutput.{span_text}
 use Rattle.ascii_run.proofs.EndsOutputLemmas.{shows_all, shows_more}
 use Rattle.ascii_run.proofs.PageLemmas.{MayFail-still, Puts-nil, Puts-trans}
 use Rattle.ascii_run.proofs.outputs.put_ends_spans.Goals as goal

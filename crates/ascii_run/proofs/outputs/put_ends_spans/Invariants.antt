@@ -1,6 +1,6 @@
 use Rattle.std.proofs.Common.{List, ℕ, take}
 use Rattle.ascii_run.specs.Outgoing.{MayFail, Puts, out}
-use Rattle.ascii_run.specs.Output.{span_text}
+use Rattle.ascii_run.specs.ModeOutput.{span_text}
 use Rattle.ascii_run.proofs.EndsOutputLemmas.{ShowsSoFar}
 use Rattle.ascii_run.proofs.outputs.put_ends_spans.Given as goal
 

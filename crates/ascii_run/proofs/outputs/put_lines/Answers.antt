@@ -4,44 +4,44 @@ use Rattle.ascii.specs.View.{text_of}
 use Rattle.ascii_run.proofs.LineFeedLemmas.{IsOutput-lines, rest_ended, rest_of_none, rest_open, run_more, with_line_feeds}
 use Rattle.ascii_run.proofs.PageLemmas.{MayFail-still, Puts-is, Puts-nil, Puts-trans}
 use Rattle.ascii_run.proofs.outputs.put_lines.Goals as goal
-use Rattle.ascii_run.proofs.outputs.put_lines.Goals.{else-not-is_empty-via-then-not-is_empty+else-rest-ne10, else-not-is_empty-via-else-not-is_empty}
+use Rattle.ascii_run.proofs.outputs.put_lines.Goals.{else-not-is_empty-via-then-not-is_empty+else-remaining-ne10, else-not-is_empty-via-else-not-is_empty}
 
-pub runs-init : goal.runs-init
-runs-init g c = (c.requires, ([], ap with_line_feeds c.as_bytes-rest.ensures.codes, Puts-nil _))
+pub segments-init : goal.segments-init
+segments-init g c = (c.requires, ([], ap with_line_feeds c.as_bytes-remaining.ensures.codes, Puts-nil _))
 
-pub runs-preserved : goal.runs-preserved
-runs-preserved g c =
-    let done = c.runs.invariant.1.0 in
-    let run = c.split_at.result.0.now in (
-      MayFail-still run c.runs.invariant.0 c.put.ensures,
+pub segments-preserved : goal.segments-preserved
+segments-preserved g c =
+    let done = c.segments.invariant.1.0 in
+    let segment = c.split_at.result.0.now in (
+      MayFail-still segment c.segments.invariant.0 c.put.ensures,
       (
-        done ++ run,
-        run_more done c.runs.rest.now (with_line_feeds (text_of c.args.text)) c.new-ending.result run c.split_at.result.1.now c.in-Some.place c.new-ending.ensures
-            c.in-Some.ensures c.split_at.ensures.front c.split_at.ensures.back c.runs.invariant.1.1,
-        Puts-trans done run c.runs.invariant.1.2 c.put.ensures,
+        done ++ segment,
+        run_more done c.segments.remaining.now (with_line_feeds (text_of c.args.text)) c.new-ending.result segment c.split_at.result.1.now c.in-Some.place c.new-ending.ensures
+            c.in-Some.ensures c.split_at.ensures.front c.split_at.ensures.back c.segments.invariant.1.1,
+        Puts-trans done segment c.segments.invariant.1.2 c.put.ensures,
       ),
     )
 
 pub returns : goal.returns
 returns g c =
-    let done = c.runs.invariant.1.0 in
-    let rest = c.runs.rest.now in
+    let done = c.segments.invariant.1.0 in
+    let remaining = c.segments.remaining.now in
     let whole = with_line_feeds (text_of c.args.text) in
-    let all : with_line_feeds rest ≡ rest = elim c.else-not-is_empty.branch [
-      | else-not-is_empty-via-then-not-is_empty+else-rest-ne10 w ↦ rest_ended rest c.new-ending.result c.new-ending.ensures c.in_default.ensures w.if-not-is_empty.ensures w.if-rest-ne10.false
-      | else-not-is_empty-via-else-not-is_empty w ↦ rest_of_none rest w.if-not-is_empty.ensures
+    let all : with_line_feeds remaining ≡ remaining = elim c.else-not-is_empty.branch [
+      | else-not-is_empty-via-then-not-is_empty+else-remaining-ne10 w ↦ rest_ended remaining c.new-ending.result c.new-ending.ensures c.in_default.ensures w.if-not-is_empty.ensures w.if-remaining-ne10.false
+      | else-not-is_empty-via-else-not-is_empty w ↦ rest_of_none remaining w.if-not-is_empty.ensures
     ] in
-    (whole, IsOutput-lines (text_of c.args.text), Puts-is (ap (λ xs. done ++ xs) (sym all) ∙ c.runs.invariant.1.1) (Puts-trans done rest c.runs.invariant.1.2 c.put-2.ensures))
+    (whole, IsOutput-lines (text_of c.args.text), Puts-is (ap (λ xs. done ++ xs) (sym all) ∙ c.segments.invariant.1.1) (Puts-trans done remaining c.segments.invariant.1.2 c.put-2.ensures))
 
-pub returns-then-rest-ne10 : goal.returns-then-rest-ne10
-returns-then-rest-ne10 g c =
-    let done = c.runs.invariant.1.0 in
-    let rest = c.runs.rest.now in
+pub returns-then-remaining-ne10 : goal.returns-then-remaining-ne10
+returns-then-remaining-ne10 g c =
+    let done = c.segments.invariant.1.0 in
+    let remaining = c.segments.remaining.now in
     let whole = with_line_feeds (text_of c.args.text) in
-    let all : with_line_feeds rest ≡ rest ++ 10 ∷ [] =
-    rest_open rest c.new-ending.result c.new-ending.ensures c.in_default.ensures c.if-not-is_empty.ensures c.if-rest-ne10.true in (
+    let all : with_line_feeds remaining ≡ remaining ++ 10 ∷ [] =
+    rest_open remaining c.new-ending.result c.new-ending.ensures c.in_default.ensures c.if-not-is_empty.ensures c.if-remaining-ne10.true in (
       whole,
       IsOutput-lines (text_of c.args.text),
-      Puts-is (append_assoc done rest (10 ∷ []) ∙ (ap (λ xs. done ++ xs) (sym all) ∙ c.runs.invariant.1.1))
-          (Puts-trans (done ++ rest) (10 ∷ []) (Puts-trans done rest c.runs.invariant.1.2 c.put-2.ensures) c.put-then-rest-ne10.ensures),
+      Puts-is (append_assoc done remaining (10 ∷ []) ∙ (ap (λ xs. done ++ xs) (sym all) ∙ c.segments.invariant.1.1))
+          (Puts-trans (done ++ remaining) (10 ∷ []) (Puts-trans done remaining c.segments.invariant.1.2 c.put-2.ensures) c.put-then-remaining-ne10.ensures),
     )

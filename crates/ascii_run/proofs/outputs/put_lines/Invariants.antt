@@ -5,11 +5,11 @@ use Rattle.ascii_run.proofs.LineFeedLemmas.{with_line_feeds}
 use Rattle.ascii_run.proofs.outputs.put_lines.Given as goal
 
 -- what was put in, and what the rest gives, are the output
-abbrev pub invariant-runs : goal.invariant-runs
-invariant-runs g l =
-    MayFail (out g.K.Sink l.writer l.page) × ((done : List ℕ) × (done ++ with_line_feeds l.rest ≡ with_line_feeds (text_of l.text))
+abbrev pub invariant-segments : goal.invariant-segments
+invariant-segments g l =
+    MayFail (out g.K.Sink l.writer l.page) × ((done : List ℕ) × (done ++ with_line_feeds l.remaining ≡ with_line_feeds (text_of l.text))
     × Puts (out g.K.Sink l.fn.writer l.fn.page) (out g.K.Sink l.writer l.page) done)
 
 -- the codes that are left
-abbrev pub decreases-runs : goal.decreases-runs
-decreases-runs g l = length l.rest
+abbrev pub decreases-segments : goal.decreases-segments
+decreases-segments g l = length l.remaining

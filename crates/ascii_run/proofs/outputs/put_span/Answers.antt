@@ -4,7 +4,7 @@ use Rattle.std.specs.Prelude.{codes, decimal}
 use Rattle.std.specs.Option.{option_map}
 use Rattle.ascii.specs.Spans.{line_in}
 use Rattle.ascii.specs.View.{text_of}
-use Rattle.ascii_run.specs.Output.{ending_word, span_text, with_line_feed}
+use Rattle.ascii_run.specs.ModeOutput.{ending_word, span_text, with_line_feed}
 use Rattle.ascii_run.proofs.PageLemmas.{Puts-is, Puts-trans}
 use Rattle.ascii_run.proofs.outputs.put_span.Goals as goal
 

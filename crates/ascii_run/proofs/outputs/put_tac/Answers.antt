@@ -1,5 +1,5 @@
 use Rattle.ascii.specs.View.{text_of}
-use Rattle.ascii_run.specs.Output.{with_line_feed}
+use Rattle.ascii_run.specs.ModeOutput.{with_line_feed}
 use Rattle.ascii_run.proofs.PageLemmas.{shows_one_more}
 use Rattle.ascii_run.proofs.outputs.put_tac.Goals as goal
 

@@ -2,7 +2,7 @@ use Rattle.std.proofs.Common.{map}
 use Rattle.std.specs.List.{flat_map}
 use Rattle.ascii.specs.View.{text_of}
 use Rattle.ascii_run.specs.Outgoing.{MayFail, Puts, out}
-use Rattle.ascii_run.specs.Output.{with_line_feed}
+use Rattle.ascii_run.specs.ModeOutput.{with_line_feed}
 use Rattle.ascii_run.proofs.outputs.put_tac.Given as goal
 
 -- what is shown of the items so far was put in

@@ -6,9 +6,9 @@ use Rattle.ascii_run.proofs.page.write_each.Given as goal
 abbrev pub invariant-writes : goal.invariant-writes
 invariant-writes g l =
     (sent : List ℕ) × Appends (g.K.Sink.taken l.fn.writer) (g.K.Sink.taken l.writer) sent
-    × (sent ++ l.rest ≡ l.bytes)
+    × (sent ++ l.remaining ≡ l.bytes)
     × (g.K.Sink.failures l.writer ≡ g.K.Sink.failures l.fn.writer)
 
 -- the bytes that are left
 abbrev pub decreases-writes : goal.decreases-writes
-decreases-writes g l = length l.rest
+decreases-writes g l = length l.remaining

@@ -1,5 +1,5 @@
 use Rattle.std.proofs.Common.{arith, ℕ, List}
-use Rattle.ascii.specs.Spans.{Placed}
+use Rattle.ascii.specs.Spans.{WithStart}
 use Rattle.ascii.specs.View.{text_of}
 use Rattle.ascii.proofs.SpansLemmas.{line_spans_fit, line_spans_found, line_spans_only}
 use Rattle.ascii.proofs.StepsLemmas.{runs_in_order, runs_in_reverse}
@@ -7,14 +7,14 @@ use Rattle.ascii.proofs.ascii_str.AsciiStr.line_spans_from.Goals as goal
 
 pub returns-clause-iterates : goal.returns-clause-iterates
 returns-clause-iterates c =
-    let part : Placed (List ℕ) = record { start = c.args.offset; item = text_of c.args.self } in record {
+    let part : WithStart (List ℕ) = record { start = c.args.offset; item = text_of c.args.self } in record {
       spans = line_spans_found part;
       only = line_spans_only part;
       fits = omega (arith, line_spans_fit part, c.requires);
     }
 
-pub returns-clause-runs : goal.returns-clause-runs
-returns-clause-runs c = runs_in_order _ _ _
+pub returns-clause-loops : goal.returns-clause-loops
+returns-clause-loops c = runs_in_order _ _ _
 
-pub returns-clause-runs_back : goal.returns-clause-runs_back
-returns-clause-runs_back c = runs_in_reverse _ _ _
+pub returns-clause-loops_back : goal.returns-clause-loops_back
+returns-clause-loops_back c = runs_in_reverse _ _ _

@@ -15,8 +15,8 @@ returns-clause-iterates c =
       fits = omega (arith, length-map spans (λ span. span.item), c.split_spans.ensures.iterates.fits);
     }
 
-pub returns-clause-runs : goal.returns-clause-runs
-returns-clause-runs c = runs_in_order _ _ _
+pub returns-clause-loops : goal.returns-clause-loops
+returns-clause-loops c = runs_in_order _ _ _
 
-pub returns-clause-runs_back : goal.returns-clause-runs_back
-returns-clause-runs_back c = runs_in_reverse _ _ _
+pub returns-clause-loops_back : goal.returns-clause-loops_back
+returns-clause-loops_back c = runs_in_reverse _ _ _

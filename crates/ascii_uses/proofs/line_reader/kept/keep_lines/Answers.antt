@@ -2,30 +2,30 @@ use Rattle.std.proofs.Common.{Ok, None, Some, ◌≡◌, ◌++◌, ◌∷◌, []
 use Rattle.std.proofs.lemmas.List.{map-append}
 use Rattle.ascii_uses.specs.declared.line_reader.LineFault.{LineFault}
 use Rattle.ascii_uses.specs.KeptLines.{kept_line_in}
-use Rattle.ascii_uses.specs.LineReader.{Hands, reading_of}
+use Rattle.ascii_uses.specs.LineReader.{YieldsLines, state_of_reader}
 use Rattle.ascii_uses.proofs.LineReaderLemmas.{first_lines, one_more}
 use Rattle.ascii_uses.proofs.line_reader.kept.keep_lines.Goals as goal
 
 pub lines-preserved : goal.lines-preserved
 lines-preserved g c =
     let rest = g.S.Source.rest in let failures = g.S.Source.failures in
-    let old = reading_of rest failures c.args.reader.now in
-    let new = reading_of rest failures c.next_line.follows.lender-at-none in
+    let old = state_of_reader rest failures c.args.reader.now in
+    let new = state_of_reader rest failures c.next_line.follows.lender-at-none in
     let so_far = map kept_line_in c.lines.lines.items in
     let kept = c.in_ok-kept_line-in-Ok-Some.field-0 in
     let more = one_more rest failures old so_far c.lines.reader c.next_line.follows.lender-at-none c.next_line.result c.in-Ok-Some.line (kept_line_in kept)
     c.lines.invariant.0 c.next_line.follows.holds-at-none (c.in-Ok-Some.is ∙ ap Ok c.in-Ok-Some.field-0-is) c.in_ok-kept_line-in-Ok-Some.ensures in
     let is : map kept_line_in c.push.new.self.items ≡ so_far ++ kept_line_in kept ∷ [] =
     ap (map kept_line_in) c.in_ok-push-in-Ok-Some.ensures.items ∙ map-append kept_line_in c.lines.lines.items (kept ∷ []) in
-    (subst (λ lines. Hands old lines new) (sym is) more.0, more.1 ∙ c.lines.invariant.1)
+    (subst (λ lines. YieldsLines old lines new) (sym is) more.0, more.1 ∙ c.lines.invariant.1)
 
 some_is_none : (fault : LineFault) → Some fault ≡ None → ⊥
 some_is_none fault is = cc
 
 pub returns-in-Err-clause-first : goal.returns-in-Err-clause-first
 returns-in-Err-clause-first g c =
-    let old = reading_of g.S.Source.rest g.S.Source.failures c.args.reader.now in
-    let before = reading_of g.S.Source.rest g.S.Source.failures c.lines.reader in
+    let old = state_of_reader g.S.Source.rest g.S.Source.failures c.args.reader.now in
+    let before = state_of_reader g.S.Source.rest g.S.Source.failures c.lines.reader in
     λ told is.
     let first = first_lines old before (map kept_line_in c.lines.lines.items) told is c.lines.invariant.0 in
     (first.0, first.1, λ none. absurd (some_is_none c.in-Err.fault none))

@@ -3,7 +3,7 @@ use Rattle.std.proofs.Math.Seq.{take-append_seam}
 use Rattle.ascii.specs.Found.{part_in}
 use Rattle.ascii.specs.View.{text_of}
 use Rattle.ascii.proofs.SpansLemmas.{line_spans_last_ended, line_spans_last_open}
-use Rattle.ascii.proofs.iter.rest.Rest.last_line.Goals as goal
+use Rattle.ascii.proofs.iter.cursor.Cursor.last_line.Goals as goal
 
 pub returns-then-last-eq10 : goal.returns-then-last-eq10
 returns-then-last-eq10 c =

@@ -1,10 +1,10 @@
 -- What each mode puts out for a text.
 use Rattle.std.specs.Prelude.{◌≡◌, ℕ, ◌+◌, ◌≤◌, ◌⊎◌, List, [], ◌∷◌, ◌++◌, reverse, if◌then◌else◌, nat_lt, ◌==◌, Option, Some, None, codes, decimal}
 use Rattle.std.specs.List.{flat_map}
-use Rattle.ascii.specs.Ends.{Ends as EndsOf}
+use Rattle.ascii.specs.Ends.{ListAnswers}
 use Rattle.ascii_run.specs.JsonText.{json_text}
 use Rattle.ascii.specs.Lines.{Line, LinesOf, bodies}
-use Rattle.ascii.specs.Spans.{LineSpansOf, Placed}
+use Rattle.ascii.specs.Spans.{LineSpansOf, WithStart}
 use Rattle.ascii.specs.declared.iter.spans.Ending.{Ending}
 use Rattle.ascii.specs.declared.iter.spans.Ending.TheVariants.{Lf, CrLf, Absent}
 use Rattle.ascii.specs.declared.iter.walks.End.{End}
@@ -28,14 +28,14 @@ ending_word CrLf = codes "crlf"
 ending_word Absent = codes "none"
 
 -- an answer with its place: `+`, the start, the ending's word and the body with spaces between, and LF; or `-` and LF
-abbrev pub span_text : Option (Placed Line) → List ℕ
+abbrev pub span_text : Option (WithStart Line) → List ℕ
 span_text None = codes "-\n"
 span_text (Some span) =
     codes "+" ++ (decimal span.start ++ (codes " " ++ (ending_word span.item.ending ++ (codes " " ++ (span.item.body ++ codes "\n")))))
 
 -- what a list gives to a script of ends, each answer as its text
 abbrev pub ShowsEnds : {A : Type 0} → (Option A → List ℕ) → List A → List End → List ℕ → Type 0
-ShowsEnds {A} shown items script output = (answers : List (Option A)) × EndsOf items script answers × (output ≡ flat_map shown answers)
+ShowsEnds {A} shown items script output = (answers : List (Option A)) × ListAnswers items script answers × (output ≡ flat_map shown answers)
 
 -- a code: a control other than LF as `^` and its caret letter, and else itself
 abbrev pub caret_text : ℕ → List ℕ
@@ -56,7 +56,7 @@ IsOutput Tac text output = (lines : List Line) × LinesOf text lines × (output 
 IsOutput Caret text output = output ≡ flat_map caret_text text
 IsOutput (Ends script) text output = (lines : List Line) × LinesOf text lines × ShowsEnds answer_text (bodies lines) script.now output
 IsOutput (EndsSpans script) text output =
-    (spans : List (Placed Line)) × LineSpansOf 0 text spans × ShowsEnds span_text spans script.now output
+    (spans : List (WithStart Line)) × LineSpansOf 0 text spans × ShowsEnds span_text spans script.now output
 IsOutput (Edit cmds) text output = HasNoFault text cmds.now × (output ≡ plain_text text cmds.now)
 IsOutput Json text output = output ≡ json_text text
 

@@ -3,7 +3,7 @@ use Rattle.std.proofs.Math.Seq.{drop-length}
 use Rattle.ascii.specs.Found.{part_in}
 use Rattle.ascii.specs.View.{text_of}
 use Rattle.ascii.proofs.SpansLemmas.{line_spans_first, line_spans_open}
-use Rattle.ascii.proofs.iter.rest.Rest.first_line.Goals as goal
+use Rattle.ascii.proofs.iter.cursor.Cursor.first_line.Goals as goal
 
 pub returns-in-Some : goal.returns-in-Some
 returns-in-Some c = line_spans_first (part_in c.args.self) (c.in-Some.line, c.in-Some.others) _ c.in-Some.ensures c.ended_line.ensures

@@ -10,7 +10,7 @@ use memchr::{memchr_iter, memrchr};
 
 /// A part of a text, and where it starts.
 #[derive(Clone, Copy)]
-pub(crate) struct Rest<'a> {
+pub(crate) struct Cursor<'a> {
     pub(crate) start: usize,
     pub(crate) view: AsciiStr<'a>,
     ghost fits: { start + length view.bytes.now < 2 ^ 64 } by { Prim.hlevel props },
@@ -26,18 +26,18 @@ fn first_place(on: u8, bytes: &[u8]) -> Option<usize>
     memchr_iter(on, bytes).next()
 }
 
-impl<'a> Rest<'a> {
+impl<'a> Cursor<'a> {
     ghost use Rattle.ascii.specs.Found.{Free, IsCutBehindLastFeed, IsCutFirst, IsCutLast, part_in};
     ghost use Rattle.ascii.specs.View.{text_of};
 
     /// What stands before a place.
     #[inline(always)]
-    pub(crate) fn to(self, place: usize) -> Rest<'a>
+    pub(crate) fn to(self, place: usize) -> Cursor<'a>
         requires { place ≤ length (text_of self.view) }
         ensures start { result.start ≡ self.entry.start }
         ensures text { text_of result.view ≡ take place (text_of self.entry.view) }
     {
-        Rest {
+        Cursor {
             start: self.start,
             view: AsciiStr {
                 bytes: &self.view.bytes[..place],
@@ -47,12 +47,12 @@ impl<'a> Rest<'a> {
 
     /// What stands from a place on.
     #[inline(always)]
-    pub(crate) fn from(self, place: usize) -> Rest<'a>
+    pub(crate) fn from(self, place: usize) -> Cursor<'a>
         requires { place ≤ length (text_of self.view) }
         ensures start { result.start ≡ self.entry.start + place }
         ensures text { text_of result.view ≡ drop place (text_of self.entry.view) }
     {
-        Rest {
+        Cursor {
             start: self.start + place,
             view: AsciiStr {
                 bytes: &self.view.bytes[place..],
@@ -62,7 +62,7 @@ impl<'a> Rest<'a> {
 
     /// What stands before the first byte that is `on`, and what stands behind it.
     #[inline(always)]
-    pub(crate) fn cut_first(self, on: u8) -> Option<(Rest<'a>, Rest<'a>)>
+    pub(crate) fn cut_first(self, on: u8) -> Option<(Cursor<'a>, Cursor<'a>)>
         ensures { MatchOption result (Free on (text_of self.entry.view)) (IsCutFirst on (part_in self.entry)) }
     {
         let place = first_place(on, self.view.bytes)?;
@@ -71,7 +71,7 @@ impl<'a> Rest<'a> {
 
     /// What stands before the last byte that is `on`, and what stands behind it.
     #[inline(always)]
-    pub(crate) fn cut_last(self, on: u8) -> Option<(Rest<'a>, Rest<'a>)>
+    pub(crate) fn cut_last(self, on: u8) -> Option<(Cursor<'a>, Cursor<'a>)>
         ensures { MatchOption result (Free on (text_of self.entry.view)) (IsCutLast on (part_in self.entry)) }
     {
         let place = memrchr(on, self.view.bytes)?;
@@ -80,7 +80,7 @@ impl<'a> Rest<'a> {
 
     /// What stands up to the last LF, and what stands behind it.
     #[inline(always)]
-    pub(crate) fn cut_behind_last_feed(self) -> (Rest<'a>, Rest<'a>)
+    pub(crate) fn cut_behind_last_feed(self) -> (Cursor<'a>, Cursor<'a>)
         ensures { IsCutBehindLastFeed (part_in self.entry) result }
     {
         match memrchr(b'\n', self.view.bytes) {

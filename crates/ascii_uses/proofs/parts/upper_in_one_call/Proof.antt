@@ -49,8 +49,8 @@ use Rattle.ascii_base.specs.Case.{upper_image}
 use Rattle.ascii_base.specs.Range.{start_of, end_of}
 use Rattle.ascii_base.specs.contracts.range.AsciiRange as range
 use Rattle.ascii_base.proofs.range.AsciiRange.TheLaws as range_laws
-use Rattle.ascii.specs.Slice.{IsRefused}
-use Rattle.ascii.specs.WritingView.{IsPart, MutSliceOutcome, before_of, mut_text_of, after_of, whole_of, lender_of}
+use Rattle.ascii.specs.Slice.{IsRejected}
+use Rattle.ascii.specs.WritingView.{IsViewOf, MutSliceOutcome, before_of, mut_text_of, after_of, whole_source_of, borrow_of}
 use Rattle.ascii.specs.declared.ascii_str.AsAsciiStrError.{AsAsciiStrError}
 use Rattle.ascii.specs.declared.ascii_str_mut.AsciiStrMut.{AsciiStrMut}
 use Rattle.ascii.specs.contracts.ascii_str.AsAsciiStrError as E
@@ -59,13 +59,13 @@ use Rattle.ascii.proofs.ascii_str.AsAsciiStrError.TheLaws as error_laws
 use Rattle.ascii.proofs.ascii_str_mut.AsciiStrMut.TheLaws as view_laws
 use Rattle.ascii.proofs.RestsLemmas.{Bytes, error_made, given_up, rested}
 use Rattle.ascii_uses.proofs.Relent.{Keeps, Again, Back, lends_slice_again, slice_comes_back, ok_view}
-use Rattle.ascii_uses.specs.contracts.parts.raise_in as f
-use Rattle.ascii_uses.proofs.parts.raise_in.Statement.{statement}
-use Rattle.ascii_uses.proofs.parts.raise_in.Code as code
+use Rattle.ascii_uses.specs.contracts.parts.upper_in_one_call as f
+use Rattle.ascii_uses.proofs.parts.upper_in_one_call.Statement.{statement}
+use Rattle.ascii_uses.proofs.parts.upper_in_one_call.Code as code
 use Rattle.ascii.specs.contracts.bytes.slice_ascii_mut as g
 use Rattle.ascii.proofs.bytes.slice_ascii_mut.Met.{met}
-use Rattle.ascii_uses.specs.contracts.parts.raised as h
-use Rattle.ascii_uses.proofs.parts.raised.Met.{met as raises}
+use Rattle.ascii_uses.specs.contracts.parts.upper_view as h
+use Rattle.ascii_uses.proofs.parts.upper_view.Met.{met as raises}
 
 abbrev stayed : Stays f.ended.signature.params f.ended.kept
 stayed = (stay_slice (0 ∷ []) tt (plain (λ _. u8)), (stay_dropped (plain (λ _. range.the_row)) yes, tt))
@@ -86,8 +86,8 @@ module _ {M : Type 1} {𝓤 : Ura M} {𝓛 : Logic 𝓤} {K : Type 0} {Γ : List
   by_result (Ok w) k k' = k w refl
   by_result (Err e) k k' = k' e refl
 
-pub raise_in_spec : {M : Type 1} → statement M
-raise_in_spec 𝓤 𝓛 𝓜 𝓡 wired =
+pub upper_in_one_call_spec : {M : Type 1} → statement M
+upper_in_one_call_spec 𝓤 𝓛 𝓜 𝓡 wired =
     let c = f.clauses 𝓛 𝓜.mem 𝓡.returns in let W = walk_of 𝓛 f.ended stayed c in let 𝓣 = tables 𝓤 𝓛.H 𝓜 𝓡 𝓡.env in
     let told = range_laws.the_told in
     proved 𝓛 f.ended stayed c 𝓜 𝓡 (Goes-slice 𝓛 1 0 tt (plain (λ _. u8)), (Goes-dropped 𝓛 1 (plain (λ _. range.the_row)) yes (λ κs x w. refl), tt))
@@ -122,11 +122,11 @@ raise_in_spec 𝓤 𝓛 𝓜 𝓡 wired =
     let Out = RS.the_row Row E.the_row in
     let tokens = ‵ (flft (α ∷ []) full_share) ⊛ ‵ ftrue in
     let Answers = λ (x : Result AsciiStrMut AsAsciiStrError). MutSliceOutcome s.now r x in
-    let Lender = λ (x : Result AsciiStrMut AsAsciiStrError). IfOk x (λ w. lender_of w ≡ δ) in
-    let Rests = λ (x : Result AsciiStrMut AsAsciiStrError). RestsIfErr Bytes t lender_of x (λ m. m ≡ s.now) in
+    let Lender = λ (x : Result AsciiStrMut AsAsciiStrError). IfOk x (λ w. borrow_of w ≡ δ) in
+    let FinalSource = λ (x : Result AsciiStrMut AsAsciiStrError). RestsIfErr Bytes t borrow_of x (λ m. m ≡ s.now) in
     let En = env code.function.locals l in
     use1 𝓛 (later (some (λ (x : Result AsciiStrMut AsAsciiStrError). (tokens ⊛ ‵ (Out.own_val x (v ∷ []))) ⊛
-    some (λ (ws : Unit {0} × (Unit {0} × Unit {0})). ‵ (lasts g.ended (α ∷ [], tt) (t, (r, tt)) ws) ⊛ raw (fact 𝓤 (Answers x)) ⊛ raw (fact 𝓤 (Lender x)) ⊛ ‵ (Rests x))))) (id⊢ 𝓤 _) $
+    some (λ (ws : Unit {0} × (Unit {0} × Unit {0})). ‵ (lasts g.ended (α ∷ [], tt) (t, (r, tt)) ws) ⊛ raw (fact 𝓤 (Answers x)) ⊛ raw (fact 𝓤 (Lender x)) ⊛ ‵ (FinalSource x))))) (id⊢ 𝓤 _) $
     await ! tt $ pick ! (λ x. split ! $ move ! (1 ∷ []) $ pick ! (λ ws. split ! $ drop ! $ split ! $ heard ! (Answers x) (λ answers.
     split ! $ heard ! (Lender x) (λ lender. move ! (1 ∷ []) $ split ! $ split ! $ move ! (1 ∷ []) $ drop ! $ move ! (1 ∷ []) $
     -- [the answer; its token; what rests; what the lender keeps]
@@ -140,22 +140,22 @@ raise_in_spec 𝓤 𝓛 𝓜 𝓡 wired =
     lands_as ! (ap only value) refl typed.0 $
     first ! $ switches_on ! (get_tag ! (vrt ! refl (fld ! refl (stop !))) (whole !)) $
     exec ! 𝓣.C 𝓣.Λ En (arm_body 0 (head (after 3 code.function.body))) (then_runs 𝓛 𝓣.C 𝓣.Λ En (after 4 code.function.body) (at_ret En (W.post y))) $
-    let shown = typed.0.1.1.0 in
-    let here : lender_of w ≡ δ = subst Lender is_ok lender in
-    let part : IsPart s.now (start_of r) (end_of r n) w = (subst Answers is_ok answers).1 in
+    let rendered = typed.0.1.1.0 in
+    let here : borrow_of w ≡ δ = subst Lender is_ok lender in
+    let part : IsViewOf s.now (start_of r) (end_of r n) w = (subst Answers is_ok answers).1 in
     let edited = take (start_of r) s.now ++ map upper_image (slice_range s.now (start_of r) (end_of r n)) ++ drop_list (end_of r n) s.now in
     let shown_by : Val = (view_told lft).val w in
-    sets ! (of_opd ! (get_in ! (vrt ! refl (fld ! refl (stop !))) (in_variant ! 0 0 refl refl (whole !)))) refl (tt, shown) $
-    sets ! (of_opd ! (get ! refl)) refl (tt, shown) $
+    sets ! (of_opd ! (get_in ! (vrt ! refl (fld ! refl (stop !))) (in_variant ! 0 0 refl refl (whole !)))) refl (tt, rendered) $
+    sets ! (of_opd ! (get ! refl)) refl (tt, rendered) $
     use1 𝓛 (‵ (Row.own_val w (shown_by ∷ []))) (ok_view 𝓛 lft w (v ∷ [])) $
     let J = triple_of 𝓛 h.signature (h.spec 𝓛 𝓜.mem 𝓡.returns) in
     let z' : J.Ghost = (((α ∷ [], tt), (full_share, tt), bounds, (w, tt), (shown_by ∷ [], tt)), tt) in
     nothing ! $ move ! (1 ∷ 0 ∷ []) $ join ! $ nothing ! $ move ! (2 ∷ 0 ∷ []) $ join ! $ join ! $
     nothing ! $ move ! (1 ∷ 0 ∷ []) $ use2 𝓛 (raw (J.pre z')) (id⊢ 𝓤 _) $
-    calls_at ! (framed 𝓤 𝓛.H 𝓜 𝓣) J (raises 𝓤 𝓛 𝓜 𝓡 (code.calls-ascii_uses::parts::raised 𝓡.env wired)) z'
+    calls_at ! (framed 𝓤 𝓛.H 𝓜 𝓣) J (raises 𝓤 𝓛 𝓜 𝓡 (code.calls-ascii_uses::parts::upper_view 𝓡.env wired)) z'
     (and_then ! (get ! refl) (no_more !)) (λ v'.
-    let Same = λ (u : AsciiStrMut). lender_of u ≡ lender_of w in
-    let Raised = λ (u : AsciiStrMut). whole_of u ≡ before_of w ++ map upper_image (mut_text_of w) ++ after_of w in
+    let Same = λ (u : AsciiStrMut). borrow_of u ≡ borrow_of w in
+    let Raised = λ (u : AsciiStrMut). whole_source_of u ≡ before_of w ++ map upper_image (mut_text_of w) ++ after_of w in
     use1 𝓛 (later (some (λ (u : AsciiStrMut). (tokens ⊛ ‵ (Row.own_val u (v' ∷ []))) ⊛
     some (λ (ls : (Unit {0} × Unit {0}) × Unit {0}). ‵ (lasts h.ended (α ∷ [], tt) (w, tt) ls) ⊛ raw (fact 𝓤 (Same u)) ⊛ raw (fact 𝓤 (Raised u)))))) (id⊢ 𝓤 _) $
     await ! tt $ pick ! (λ u. split ! $ move ! (1 ∷ []) $ pick ! (λ ls. split ! $ drop ! $ split ! $ heard ! (Same u) (λ same. heard ! (Raised u) (λ made.
@@ -187,11 +187,11 @@ raise_in_spec 𝓤 𝓛 𝓜 𝓡 wired =
     let value : v ∷ [] ≡ (told_of lft).val (Err e) ∷ [] = (told_of lft).tells (Err e) (v ∷ []) is' in
     let typed : Typed Out.mir ((told_of lft).val (Err e) ∷ []) = subst (λ (us : List Val). Typed Out.mir us) value (((result_laws Row E.the_row (view_laws.the_row_laws lft) error_laws.the_row_laws).lawful 𝓛).typed (Err e) (v ∷ []) is') in
     let bound = typed.0.1.1.0.0 in
-    let refused : IsRefused s.now r e = subst Answers is_err answers in
+    let refused : IsRejected s.now r e = subst Answers is_err answers in
     let ev = vstruct (vcons (vint w64 e.valid_up_to) vnil) in
     drop ! $ lft_end ! tt $ move ! (1 ∷ []) $
-    rewrite ! 0 (λ (x' : Result AsciiStrMut AsAsciiStrError). ‵ (Rests x')) is_err refl $
-    use1 𝓛 (‵ (fres δ (Bytes.coded.code s.now))) (rested 𝓛 AsciiStrMut AsAsciiStrError lender_of t e) $
+    rewrite ! 0 (λ (x' : Result AsciiStrMut AsAsciiStrError). ‵ (FinalSource x')) is_err refl $
+    use1 𝓛 (‵ (fres δ (Bytes.coded.code s.now))) (rested 𝓛 AsciiStrMut AsAsciiStrError borrow_of t e) $
     rewrite ! 0 (λ (xs : List ℕ). ‵ (fres δ (Bytes.coded.code xs))) (sym (heres_id u8 s.now)) refl $
     use1 𝓛 (‵ (finally u8 δ s.now)) (res-finally 𝓛 (named 0) κ u8 δ s.now) $ move ! (1 ∷ 2 ∷ 0 ∷ []) $
     use3 𝓛 (later (given (length s.now ≡ n) (‵ (Back 𝓛 (named 0) (named 0) κ (α ∷ []) q s room s.now) ⊛ ‵ (flft κ q)))) (slice_comes_back 𝓛 (named 0) (named 0) κ (α ∷ []) q s room δ s.now) $ await ! tt $
@@ -205,7 +205,7 @@ raise_in_spec 𝓤 𝓛 𝓜 𝓡 wired =
     sets ! (of_opd ! (get ! refl)) refl (tt, (record { fits = lit< tt }, ((bound, tt), tt))) $
     returns ! (look_at ! 0 refl) $ free_all ! refl $
     -- [the source; its token]
-    use0 𝓛 (raw (fact 𝓤 (IsRefused s.now r e))) (fact_i 𝓤 (IsRefused s.now r e) (emp 𝓤) refused) $ use0 𝓛 (raw (fact 𝓤 (s.now ≡ s.now))) (fact_i 𝓤 (s.now ≡ s.now) (emp 𝓤) refl) $ join ! $
+    use0 𝓛 (raw (fact 𝓤 (IsRejected s.now r e))) (fact_i 𝓤 (IsRejected s.now r e) (emp 𝓤) refused) $ use0 𝓛 (raw (fact 𝓤 (s.now ≡ s.now))) (fact_i 𝓤 (s.now ≡ s.now) (emp 𝓤) refl) $ join ! $
     use0 𝓛 (raw (fact 𝓤 ⊤)) (fact_i 𝓤 ⊤ (emp 𝓤) tt) $ join ! $
     use0 𝓛 (‵ (E.the_row.own_val e (ev ∷ []))) (error_made 𝓛 e.valid_up_to bound.fits) $
     use1 𝓛 (‵ ((RS.the_row unit E.the_row).own_val (Err e) (live 1 (of_list (ev ∷ [])) ∷ []))) (err_of 𝓛 unit E.the_row e ev) $

@@ -4,7 +4,7 @@ use Rattle.std.proofs.lemmas.List.{take-append-drop}
 use Rattle.ascii.specs.Found.{Free, HasWholeLines}
 use Rattle.ascii.specs.View.{text_of}
 use Rattle.ascii.proofs.SearchLemmas.{cut_at_last, free_of_last, whole_at}
-use Rattle.ascii.proofs.iter.rest.Rest.cut_behind_last_feed.Goals as goal
+use Rattle.ascii.proofs.iter.cursor.Cursor.cut_behind_last_feed.Goals as goal
 
 pub returns-in-Some : goal.returns-in-Some
 returns-in-Some c =
