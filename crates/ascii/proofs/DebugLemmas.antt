@@ -7,7 +7,7 @@ use Rattle.std.specs.Char.{is_ascii}
 use Rattle.std.specs.Fmt.{debug_str}
 use Rattle.std.specs.List.{All, list_all}
 use Rattle.std.specs.Str.{IsAscii}
-use Rattle.ascii.specs.Debug.{debug_text}
+use Rattle.ascii.specs.View.{debug_text}
 
 all_ascii : (t : List ℕ) → All (λ n. n < 128) t → list_all is_ascii t ≡ true
 all_ascii [] h = refl

@@ -6,7 +6,7 @@ use Rattle.std.proofs.lemmas.Grind.{common_steps}
 use Rattle.std.proofs.lemmas.List.{take_more}
 use Rattle.ascii.specs.declared.iter.walks.End.{End}
 use Rattle.ascii.specs.declared.iter.walks.End.TheVariants.{Front, Back}
-use Rattle.ascii.specs.Ends.{AnswersTo, ListAnswers, ListAnswersTo, TakesEnd}
+use Rattle.ascii.specs.Walks.{AnswersTo, ListAnswers, ListAnswersTo, TakesEnd}
 use Rattle.ascii.specs.Found.{StepsAt}
 
 -- what an end of an iterator of items gave, by what is read of the item

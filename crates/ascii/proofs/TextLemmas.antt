@@ -8,8 +8,7 @@ use Rattle.std.proofs.lemmas.Str.Ascii.{IsAscii-cons, IsAscii-map, IsAscii-nil}
 use Rattle.std.specs.declared.fmt.Error.{Error}
 use Rattle.ascii_base.specs.Bytes.{FirstOther}
 use Rattle.ascii_base.specs.Case.{upper_image, lower_image}
-use Rattle.ascii.specs.StringState.{StringState, Writes}
-use Rattle.ascii.specs.Text.{insert_text}
+use Rattle.ascii.specs.StringState.{StringState, Writes, insert_text}
 
 -- the upper image of a code is a code
 pub upper_image-below : (n : ℕ) → n < 128 → upper_image n < 128

@@ -4,8 +4,7 @@ use Rattle.std.specs.List.{slice_range}
 use Rattle.std.specs.Str.{IsAscii}
 use Rattle.ascii_base.specs.declared.range.AsciiRange.{AsciiRange}
 use Rattle.ascii_base.specs.Range.{start_of, end_of}
-use Rattle.ascii.specs.Between.{AsciiBetween}
-use Rattle.ascii.specs.Slice.{IsAsciiBounds}
+use Rattle.ascii.specs.Slice.{AsciiBetween, IsAsciiBounds}
 use Rattle.ascii_base.specs.Case.{upper_image, lower_image}
 use Rattle.std.proofs.lemmas.Bool.Decides.{nat_tests}
 use Rattle.std.proofs.lemmas.List.{length-map}

@@ -1,4 +1,4 @@
--- Why a JSON value is refused as a character or as a text.
+-- Why a JSON value is rejected as a character or as a text.
 use Rattle.std.specs.Prelude.{◌≡◌, ◌≢◌, ℕ, ◌<◌, List, length, Some, None}
 use Rattle.std.specs.Str.{IsAscii}
 use Rattle.serde_json.specs.Data.{Data}
@@ -8,19 +8,22 @@ use Rattle.ascii.specs.declared.json.JsonError.{JsonError}
 use Rattle.ascii.specs.declared.json.JsonError.TheVariants.{NotText, NotOneByte, NotAscii, Memory}
 use Rattle.ascii.specs.View.{position_of}
 
--- no character: no JSON string, or one that has not one byte
+-- `NotText`: not a JSON string. `NotOneByte`: a JSON string whose length is not one byte
 abbrev pub RejectsChar : Data → JsonError → Type 0
 RejectsChar value NotText = as_str value ≡ None
 RejectsChar value NotOneByte = (text : List ℕ) × (as_str value ≡ Some text) × (length text ≢ 1)
 RejectsChar value other = ⊥
 
--- no text: no JSON string, or one with a byte over 127, whose first place is named
+-- `NotText`: not a JSON string. `NotAscii`: a JSON string with a byte over 127, the first of which
+-- is at the position that `e` holds
 abbrev pub RejectsText : Data → JsonError → Type 0
 RejectsText value NotText = as_str value ≡ None
-RejectsText value (NotAscii e) = (text : List ℕ) × (as_str value ≡ Some text) × FirstOther text 0 (length text) (position_of e)
+RejectsText value (NotAscii e) = (text : List ℕ) × (as_str value ≡ Some text)
+    × FirstOther text 0 (length text) (position_of e)
 RejectsText value other = ⊥
 
--- the same for a copy, or memory was refused for a text that is not empty
+-- as `RejectsText`; or `Memory`, for a JSON string that is not empty and is all ASCII
 abbrev pub RejectsTextCopy : Data → JsonError → Type 0
-RejectsTextCopy value Memory = (text : List ℕ) × (as_str value ≡ Some text) × IsAscii text × (0 < length text)
+RejectsTextCopy value Memory =
+    (text : List ℕ) × (as_str value ≡ Some text) × IsAscii text × (0 < length text)
 RejectsTextCopy value other = RejectsText value other

@@ -1,13 +1,14 @@
 -- The lines of a text.
-use Rattle.std.specs.Prelude.{◌≡◌, ◌≢◌, ℕ, ◌-◌, ◌^◌, ◌<◌, List, [], ◌∷◌, ◌++◌, length, take, slice_get, Some, map, ⊤, Option, MatchOption}
+use Rattle.std.specs.Prelude.{◌≡◌, ◌≢◌, ℕ, ◌-◌, ◌^◌, ◌<◌, List, [], ◌∷◌, ◌++◌, length, take}
+use Rattle.std.specs.Prelude.{slice_get, Some, map, ⊤, Option, MatchOption}
 use Rattle.std.specs.List.{All, Contains, flat_map}
 use Rattle.ascii.specs.declared.ascii_str.AsciiStr.{AsciiStr}
 use Rattle.ascii.specs.declared.iter.spans.Ending.{Ending}
 use Rattle.ascii.specs.declared.iter.spans.Ending.TheVariants.{Lf, CrLf, Absent}
-use Rattle.ascii.specs.Only.{IsUnique}
+use Rattle.ascii.specs.Pieces.{IsUnique}
 use Rattle.ascii.specs.View.{text_of}
 
--- a line: its body, and how it ends
+-- a line: its body, and its ending
 pub record Line : Type 0 where
   pub body : List ℕ
   pub ending : Ending
@@ -18,41 +19,44 @@ ending_text Lf = 10 ∷ []
 ending_text CrLf = 13 ∷ 10 ∷ []
 ending_text Absent = []
 
--- the bytes of a line
+-- the bytes of a line, ending included
 abbrev pub line_text : Line → List ℕ
 line_text line = line.body ++ ending_text line.ending
 
--- the body ends in CR
+-- the last code of the body is CR
 abbrev pub EndsInCr : List ℕ → Type 0
 EndsInCr body = slice_get body (length body - 1) ≡ Some 13
 
--- LF alone stands only behind a body that does not end in CR, and no ending only behind a body that is not empty
+-- the ending may follow the body: LF only if the body does not end in CR, an absent ending only if
+-- the body is not empty, CR LF always
 abbrev pub MayFollow : Ending → List ℕ → Type 0
 MayFollow Lf body = ¬ (EndsInCr body)
 MayFollow CrLf body = ⊤
 MayFollow Absent body = body ≢ []
 
--- bodies without LF, each with an ending that may stand behind it, all but the last with one, that in order give the text
+-- `lines` are the lines of `text`: no body contains LF, every ending may follow its body, only the
+-- last line may have no ending, and the bodies and endings in order are the text
 pub record LinesOf (text : List ℕ) (lines : List Line) : Type 0 where
   pub bodies : All (λ line. ¬ (Contains line.body 10)) lines
   pub endings : All (λ line. MayFollow line.ending line.body) lines
   pub ended : All (λ line. line.ending ≢ Absent) (take (length lines - 1) lines)
   pub joined : flat_map line_text lines ≡ text
 
--- of the lines of a view, this holds
+-- `Holds` is true of a list that is the lines of the view
 abbrev pub OfLines : AsciiStr → (List Line → Type 0) → Type 0
 OfLines view Holds = (lines : List Line) × LinesOf (text_of view) lines × Holds lines
 
--- a new iterator of lines owes the one list of the lines of a text, whose length is a `usize`
+-- `remaining` are the lines of `text`, the only list that they are, of a length that fits a `usize`
 pub record IteratesLines (text : List ℕ) (remaining : List Line) : Type 0 where
   pub lines : LinesOf text remaining
   pub only : IsUnique (LinesOf text) remaining
   pub fits : length remaining < 2 ^ 64
 
--- the bodies, which are what the lines hand out
+-- the bodies of the lines, which are the items that `Lines` yields
 abbrev pub bodies : List Line → List (List ℕ)
 bodies lines = map (λ line. line.body) lines
 
--- a view of the bodies and endings that are remaining, in order, or None where none is remaining
+-- `None` if no lines remain; otherwise a view whose lines are the remaining ones
 abbrev pub IsRemainderOfLines : List Line → Option AsciiStr → Type 0
-IsRemainderOfLines remaining result = MatchOption result (remaining ≡ []) (λ remainder. LinesOf (text_of remainder) remaining × (remaining ≢ []))
+IsRemainderOfLines remaining result =
+    MatchOption result (remaining ≡ []) (λ view. LinesOf (text_of view) remaining × (remaining ≢ []))

@@ -1,6 +1,6 @@
--- What a range of a source gives: the source's length where the range does not fit, else the first
--- byte over 127 inside it, else the text between its ends.
-use Rattle.std.specs.Prelude.{◌<◌, slice_index, MatchOption, Option, ◌≡◌, ℕ, List, length, ◌⊎◌, MatchResult}
+-- The outcome of taking a range of a source as ASCII text.
+use Rattle.std.specs.Prelude.{◌≡◌, ◌<◌, ◌≤◌, ◌⊎◌, ℕ, List, length, slice_index}
+use Rattle.std.specs.Prelude.{MatchOption, MatchResult, Option}
 use Rattle.std.specs.declared.result.Result.{Result}
 use Rattle.std.specs.Str.{IsAscii}
 use Rattle.ascii_base.specs.declared.range.AsciiRange.{AsciiRange}
@@ -12,29 +12,34 @@ use Rattle.ascii.specs.declared.ascii_str.AsciiStr.{AsciiStr}
 use Rattle.ascii.specs.declared.ascii_str.AsAsciiStrError.{AsAsciiStrError}
 use Rattle.ascii.specs.View.{text_of, position_of}
 
--- a range is refused with the length where it does not fit, and else with its first byte over 127
+-- why the range is rejected: either it does not fit, and `e` holds the length of the source; or it
+-- fits, and `e` holds the position of its first byte over 127
 abbrev pub IsRejected : List ℕ → AsciiRange → AsAsciiStrError → Type 0
-IsRejected bytes r e = let n = length bytes in
-    (¬ Fits r n × (position_of e ≡ n)) ⊎ (Fits r n × FirstOther bytes (start_of r) (end_of r n) (position_of e))
+IsRejected bytes r e = let n = length bytes in (¬ Fits r n × (position_of e ≡ n))
+    ⊎ (Fits r n × FirstOther bytes (start_of r) (end_of r n) (position_of e))
 
--- the three outcomes of a slice, of which no two hold at once
+-- `Ok`: the range fits, and the view is that part of the source. `Err`: `IsRejected` holds
 abbrev pub SliceOutcome : List ℕ → AsciiRange → Result AsciiStr AsAsciiStrError → Type 0
-SliceOutcome bytes r result = let n = length bytes in MatchResult result
-    (λ v. Fits r n × (text_of v ≡ part_of bytes r))
+SliceOutcome bytes r result = MatchResult result
+    (λ v. Fits r (length bytes) × (text_of v ≡ part_of bytes r))
     (IsRejected bytes r)
 
--- a place in a source whose byte is a code
+-- position `i` is inside the source, and its byte is less than 128
 abbrev pub HasCodeAt : List ℕ → ℕ → Type 0
 HasCodeAt bytes i = (i < length bytes) × (slice_index bytes i < 128)
 
--- the character at a place, exactly where there is one
+-- `Some` of the character at `i` if `HasCodeAt bytes i`, otherwise `None`
 abbrev pub GetsAscii : List ℕ → ℕ → Option AsciiChar → Type 0
-GetsAscii bytes i result =
-    MatchOption result (¬ (HasCodeAt bytes i)) (λ ch. HasCodeAt bytes i × (code_of ch ≡ slice_index bytes i))
+GetsAscii bytes i result = MatchOption result (¬ (HasCodeAt bytes i))
+    (λ ch. HasCodeAt bytes i × (code_of ch ≡ slice_index bytes i))
 
--- ---- how a slice is found: cited by private functions alone
+-- ---- cited by private functions only
 
--- the bounds of a range that fits and holds only bytes under 128
+-- every byte at a position from `s` up to, but not including, `e` is less than 128
+abbrev pub AsciiBetween : List ℕ → ℕ → ℕ → Type 0
+AsciiBetween bytes s e = (k : ℕ) → s ≤ k → k < e → slice_index bytes k < 128
+
+-- the start and end of a range that fits and whose bytes are all ASCII
 pub record IsAsciiBounds (bytes : List ℕ) (r : AsciiRange) (bounds : ℕ × ℕ) : Type 0 where
   pub fits : Fits r (length bytes)
   pub start : bounds.0 ≡ start_of r

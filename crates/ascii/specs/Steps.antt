@@ -1,52 +1,96 @@
--- Steps of an iterator that say more than the item that they give.
-use Rattle.std.specs.Prelude.{◌≡◌, ◌-◌, List, Option, drop, length, take}
+-- Iterator steps that also say how the rest of the state changes.
+use Rattle.std.specs.Prelude.{◌≡◌, ℕ, ◌-◌, List, IfSome, Option, drop, length, take}
 use Rattle.std.specs.Iterator.{YieldsFirstBy, YieldsLastBy}
 use Rattle.std.specs.Iterator.Runs.{EveryRun, ItemsMapTo, ItemsMapToReversed}
-use Rattle.ascii.specs.Pieces.{Remaining}
+use Rattle.ascii.specs.declared.ascii_str.AsciiStr.{AsciiStr}
+use Rattle.ascii.specs.declared.iter.spans.LineSpan.{LineSpan}
+use Rattle.ascii.specs.declared.iter.spans.SplitSpan.{SplitSpan}
 use Rattle.ascii.specs.Lines.{Line, bodies}
-use Rattle.ascii.specs.Spans.{RemainingSpans, WithStart, line_in, piece_in}
+use Rattle.ascii.specs.Pieces.{Remaining}
+use Rattle.ascii.specs.Spans.{EndFits, WithStart, line_in, piece_in}
 use Rattle.ascii.specs.View.{text_of}
 
--- the separator stays
-abbrev pub KeepsSeparator : Remaining → Remaining → Type 0
-KeepsSeparator old new = new.on ≡ old.on
+-- the separator is unchanged
+abbrev pub KeepsSeparator : {A B : Type 0} → Remaining A → Option B → Remaining A → Type 0
+KeepsSeparator old result new = new.on ≡ old.on
 
-abbrev pub KeepsSpansSeparator : RemainingSpans → RemainingSpans → Type 0
-KeepsSpansSeparator old new = new.on ≡ old.on
+-- the new list is the old one without its first item
+abbrev pub DropsFirst : {A B : Type 0} → List A → Option B → List A → Type 0
+DropsFirst old result new = new ≡ drop 1 old
 
--- all but the first item, or but the last, stay as they were
-abbrev pub DropsFirst : {A : Type 0} → List A → List A → Type 0
-DropsFirst old new = new ≡ drop 1 old
+-- the new list is the old one without its last item
+abbrev pub DropsLast : {A B : Type 0} → List A → Option B → List A → Type 0
+DropsLast old result new = new ≡ take (length old - 1) old
 
-abbrev pub DropsLast : {A : Type 0} → List A → List A → Type 0
-DropsLast old new = new ≡ take (length old - 1) old
+-- the separator is unchanged, and the piece ends at a position that fits a `usize`
+abbrev pub StepsPieceSpan : Remaining (WithStart (List ℕ)) → Option SplitSpan
+    → Remaining (WithStart (List ℕ)) → Type 0
+StepsPieceSpan old result new =
+    KeepsSeparator old result new × IfSome result (λ span. EndFits span.start span.text)
 
-module _ {S A B : Type 0} (view : A → B) (items : S → List B) (also : S → S → Type 0) where
-  -- the first item of what was left came, and the states are as `also` says
+-- the new lines are the old ones without the first, and its body ends at a position that fits
+abbrev pub DropsFirstSpan
+    : List (WithStart Line) → Option LineSpan → List (WithStart Line) → Type 0
+DropsFirstSpan old result new =
+    DropsFirst old result new × IfSome result (λ span. EndFits span.start span.text)
+
+-- the new lines are the old ones without the last, and its body ends at a position that fits
+abbrev pub DropsLastSpan
+    : List (WithStart Line) → Option LineSpan → List (WithStart Line) → Type 0
+DropsLastSpan old result new =
+    DropsLast old result new × IfSome result (λ span. EndFits span.start span.text)
+
+module _ {S A B : Type 0} (view : A → B) (items : S → List B)
+    (also : S → Option A → S → Type 0) where
+  -- the step yields the first of the items, and `also` relates it to the states around it
   abbrev pub YieldsFirstAnd : S → Option A → S → Type 0
-  YieldsFirstAnd s r t = YieldsFirstBy view items s r t × also s t
+  YieldsFirstAnd s r t = YieldsFirstBy view items s r t × also s r t
 
-  -- the same from the back
+  -- the step yields the last of the items, and `also` relates it to the states around it
   abbrev pub YieldsLastAnd : S → Option A → S → Type 0
-  YieldsLastAnd s r t = YieldsLastBy view items s r t × also s t
+  YieldsLastAnd s r t = YieldsLastBy view items s r t × also s r t
 
-  -- loops and chains over such steps give what was left, in order or in reverse
+  -- loops and chains over steps from the front see the items in order
   abbrev pub LoopsInOrder : Type 0
   LoopsInOrder = EveryRun YieldsFirstAnd (λ p. ItemsMapTo p view (items p.from))
 
+  -- loops and chains over steps from the back see the items in reverse
   abbrev pub LoopsInReverse : Type 0
   LoopsInReverse = EveryRun YieldsLastAnd (λ p. ItemsMapToReversed p view (items p.from))
 
--- a law of loops and chains over the steps of a split: they give the pieces that were owed, in order
+-- The laws of loops. A call that makes an iterator ensures two of them, for the proof of a loop or a
+-- chain over that iterator: one for steps from the front, one for steps from the back. They say
+-- nothing of the call's own result.
+
+-- loops over a `Split` see the pieces in order
 abbrev pub LoopsOverPieces : Type 0
-LoopsOverPieces = LoopsInOrder text_of (λ (split : Remaining). split.pieces) KeepsSeparator
+LoopsOverPieces = LoopsInOrder text_of (λ (split : Remaining (List ℕ)). split.items) KeepsSeparator
 
--- the same of pieces with their starts, of lines, and of lines with their starts
+-- loops over a reversed `Split` see the pieces in reverse
+abbrev pub LoopsBackOverPieces : Type 0
+LoopsBackOverPieces =
+    LoopsInReverse text_of (λ (split : Remaining (List ℕ)). split.items) KeepsSeparator
+
+-- loops over a `SplitSpans` see the pieces with their starts, in order
 abbrev pub LoopsOverPieceSpans : Type 0
-LoopsOverPieceSpans = LoopsInOrder piece_in (λ (split : RemainingSpans). split.spans) KeepsSpansSeparator
+LoopsOverPieceSpans = LoopsInOrder piece_in (λ split. split.items) StepsPieceSpan
 
+-- loops over a reversed `SplitSpans` see the pieces with their starts, in reverse
+abbrev pub LoopsBackOverPieceSpans : Type 0
+LoopsBackOverPieceSpans = LoopsInReverse piece_in (λ split. split.items) StepsPieceSpan
+
+-- loops over a `Lines` see the bodies in order
 abbrev pub LoopsOverLines : Type 0
 LoopsOverLines = LoopsInOrder text_of bodies DropsFirst
 
+-- loops over a reversed `Lines` see the bodies in reverse
+abbrev pub LoopsBackOverLines : Type 0
+LoopsBackOverLines = LoopsInReverse text_of bodies DropsLast
+
+-- loops over a `LineSpans` see the lines with their starts, in order
 abbrev pub LoopsOverLineSpans : Type 0
-LoopsOverLineSpans = LoopsInOrder line_in (λ (lines : List (WithStart Line)). lines) DropsFirst
+LoopsOverLineSpans = LoopsInOrder line_in (λ lines. lines) DropsFirstSpan
+
+-- loops over a reversed `LineSpans` see the lines with their starts, in reverse
+abbrev pub LoopsBackOverLineSpans : Type 0
+LoopsBackOverLineSpans = LoopsInReverse line_in (λ lines. lines) DropsLastSpan

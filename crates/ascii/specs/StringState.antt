@@ -1,17 +1,24 @@
--- What an owned string holds, and what its calls do to it.
-use Rattle.std.specs.Prelude.{◌≡◌, ℕ, ◌+◌, ◌<◌, ◌≤◌, List, [], ◌++◌, length, IsOk, OnErr, OnOk}
+-- What contracts see of an owned string, and what its calls do to it.
+use Rattle.std.specs.Prelude.{◌≡◌, ℕ, ◌+◌, ◌<◌, ◌≤◌, List, [], ◌++◌, length, take, drop}
+use Rattle.std.specs.Prelude.{IsOk, OnErr, OnOk}
 use Rattle.std.specs.Str.{IsAscii}
 use Rattle.std.specs.declared.alloc.AllocError.{AllocError}
 use Rattle.std.specs.declared.fmt.Error.{Error}
 use Rattle.std.specs.declared.result.Result.{Result}
 
--- the text of a string, and the number of bytes that it has room for
+-- the text of a string, and its capacity in bytes
 pub record StringState : Type 0 where
   pub text : List ℕ
   pub capacity : ℕ
 
--- a growth to this text: done, or memory was refused and the text stays; never refused where the text fits the capacity or is the old one
-pub record GrowsTo (text : List ℕ) (old new : StringState) (result : Result (Unit {0}) AllocError) : Type 0 where
+-- the text `t` with `piece` inserted before position `i`
+abbrev pub insert_text : List ℕ → ℕ → List ℕ → List ℕ
+insert_text t i piece = take i t ++ (piece ++ drop i t)
+
+-- `Ok`: the text becomes `text`. `Err`: it is unchanged, and `text` did not fit the old capacity.
+-- Never `Err` if `text` is the old text. The capacity never shrinks, and the new text fits it.
+pub record GrowsTo (text : List ℕ) (old new : StringState)
+    (result : Result (Unit {0}) AllocError) : Type 0 where
   pub ok : OnOk result (new.text ≡ text)
   pub err : OnErr result (new.text ≡ old.text)
   pub full : OnErr result (old.capacity < length text)
@@ -19,8 +26,10 @@ pub record GrowsTo (text : List ℕ) (old new : StringState) (result : Result (U
   pub capacity : old.capacity ≤ new.capacity
   pub room : length new.text ≤ new.capacity
 
--- a piece is written behind the text, or refused and the text stays; ASCII that is empty or fits the capacity is never refused
-pub record Writes (piece : List ℕ) (old new : StringState) (result : Result (Unit {0}) Error) : Type 0 where
+-- `Ok`: `piece` is ASCII and is appended. `Err`: the text is unchanged. Never `Err` if `piece` is
+-- empty, or is ASCII and fits the capacity. The capacity never shrinks, and the new text fits it.
+pub record Writes (piece : List ℕ) (old new : StringState)
+    (result : Result (Unit {0}) Error) : Type 0 where
   pub ok : OnOk result (new.text ≡ old.text ++ piece)
   pub ascii : OnOk result (IsAscii piece)
   pub err : OnErr result (new.text ≡ old.text)
@@ -29,8 +38,10 @@ pub record Writes (piece : List ℕ) (old new : StringState) (result : Result (U
   pub capacity : old.capacity ≤ new.capacity
   pub room : length new.text ≤ new.capacity
 
--- room for more bytes: made, or memory was refused; the text stays, and room that is there or is for none is never refused
-pub record Reserves (additional : ℕ) (old new : StringState) (result : Result (Unit {0}) AllocError) : Type 0 where
+-- The text is unchanged. `Ok`: there is room for `additional` more bytes. `Err`: there was not
+-- before. Never `Err` if `additional` is 0. The capacity never shrinks, and the text fits it.
+pub record Reserves (additional : ℕ) (old new : StringState)
+    (result : Result (Unit {0}) AllocError) : Type 0 where
   pub text : new.text ≡ old.text
   pub ok : OnOk result (length new.text + additional ≤ new.capacity)
   pub full : OnErr result (old.capacity < length old.text + additional)
@@ -38,7 +49,7 @@ pub record Reserves (additional : ℕ) (old new : StringState) (result : Result 
   pub capacity : old.capacity ≤ new.capacity
   pub room : length new.text ≤ new.capacity
 
--- an edit to this text within the capacity, which stays and has room for the old text
+-- the text becomes `to`, and the capacity is unchanged; it has room for the old text
 pub record EditsInPlace (to : List ℕ) (old new : StringState) : Type 0 where
   pub text : new.text ≡ to
   pub capacity : new.capacity ≡ old.capacity

@@ -271,8 +271,7 @@ impl fmt::Display for AsciiStr<'_> {
 }
 
 impl fmt::Debug for AsciiStr<'_> {
-    ghost use Rattle.ascii.specs.Debug.{debug_text};
-    ghost use Rattle.ascii.specs.View.{text_of};
+    ghost use Rattle.ascii.specs.View.{debug_text, text_of};
 
     ghost debug_output = { λ view. Some (debug_text (text_of view)) };
 

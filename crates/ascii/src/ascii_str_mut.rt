@@ -5,7 +5,7 @@ ghost use Rattle.std.specs.Prelude.{◌≡◌, ◌<◌, ◌≤◌, ◌++◌, len
 ghost use Rattle.std.proofs.Props.{props};
 ghost use Rattle.ascii_base.specs.Case.{upper_image, lower_image};
 ghost use Rattle.ascii_base.specs.Code.{code_of};
-ghost use Rattle.ascii.specs.Between.{AsciiBetween};
+ghost use Rattle.ascii.specs.Slice.{AsciiBetween};
 ghost use Rattle.ascii.specs.View.{text_of};
 
 use crate::ascii_str::AsciiStr;

@@ -4,8 +4,7 @@ ghost use Rattle.std.specs.Prelude.{◌≡◌, ◌+◌, ◌-◌, ◌<◌, ◌≤
 ghost use Rattle.std.specs.Option.{option_map};
 ghost use Rattle.ascii_base.specs.Case.{lower_image, upper_image};
 ghost use Rattle.ascii_base.specs.Code.{code_of};
-ghost use Rattle.ascii.specs.StringState.{EditsInPlace, GrowsTo, Reserves, Writes};
-ghost use Rattle.ascii.specs.Text.{insert_text};
+ghost use Rattle.ascii.specs.StringState.{EditsInPlace, GrowsTo, Reserves, Writes, insert_text};
 ghost use Rattle.ascii.specs.View.{text_of};
 
 use crate::ascii_str::AsciiStr;
@@ -434,7 +433,7 @@ impl<A: Allocator> fmt::Display for AsciiString<A> {
 
 impl<A: Allocator> fmt::Debug for AsciiString<A> {
     ghost use Rattle.std.specs.Prelude.{Some};
-    ghost use Rattle.ascii.specs.Debug.{debug_text};
+    ghost use Rattle.ascii.specs.View.{debug_text};
 
     ghost debug_output = { λ string. Some (debug_text string.text) };
 

@@ -3,8 +3,8 @@
 ghost use Rattle.std.specs.Prelude.{◌≡◌, MatchResult, OnOk, length};
 ghost use Rattle.std.specs.Str.{IsAscii};
 ghost use Rattle.ascii_base.specs.Range.{start_of, end_of};
-ghost use Rattle.ascii.specs.Between.{AsciiBetween};
-ghost use Rattle.ascii.specs.Refusal.{RejectsCopy};
+ghost use Rattle.ascii.specs.Slice.{AsciiBetween};
+ghost use Rattle.ascii.specs.ConversionError.{RejectsCopy};
 ghost use Rattle.ascii.specs.Slice.{GetsAscii, SliceOutcome};
 ghost use Rattle.ascii.specs.View.{text_of};
 

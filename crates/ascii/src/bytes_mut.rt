@@ -2,7 +2,7 @@
 
 ghost use Rattle.std.specs.Prelude.{true, false, ◌≡◌, IfOk, length};
 ghost use Rattle.ascii_base.specs.Range.{start_of, end_of, Fits};
-ghost use Rattle.ascii.specs.Between.{AsciiBetween};
+ghost use Rattle.ascii.specs.Slice.{AsciiBetween};
 ghost use Rattle.ascii.specs.WritingView.{IsViewOf, MutSliceOutcome, FinalSource, borrow_of, whole_source_of};
 ghost use Rattle.ascii.specs.Slice.{IsRejected};
 ghost use Rattle.std.specs.Str.{IsAscii};

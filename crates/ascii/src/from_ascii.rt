@@ -15,7 +15,7 @@ pub struct FromAsciiError<O> {
 }
 
 impl<O> FromAsciiError<O> {
-    ghost use Rattle.ascii.specs.Refusal.{ascii_error_of, source_of};
+    ghost use Rattle.ascii.specs.ConversionError.{ascii_error_of, source_of};
 
     /// Why the source was refused: the position of its first byte over 127.
     ///
@@ -40,7 +40,7 @@ impl<O> FromAsciiError<O> {
 }
 
 impl<O> fmt::Display for FromAsciiError<O> {
-    ghost use Rattle.ascii.specs.Refusal.{ascii_error_of};
+    ghost use Rattle.ascii.specs.ConversionError.{ascii_error_of};
     ghost use Rattle.ascii.specs.View.{position_of};
 
     ghost output = { λ e. Some (codes "the byte at index " ++ decimal (position_of (ascii_error_of e)) ++ codes " is not ASCII") };

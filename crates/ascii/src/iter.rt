@@ -2,8 +2,8 @@
 //! views alone, take no memory and refuse nothing.
 
 mod chars;
-mod lines;
 mod cursor;
+mod lines;
 mod spans;
 mod split;
 mod walks;

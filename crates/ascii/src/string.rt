@@ -2,7 +2,7 @@
 
 ghost use Rattle.std.specs.Prelude.{◌≡◌, IfOk, MatchResult, string_bytes};
 ghost use Rattle.std.specs.String.{string_capacity};
-ghost use Rattle.ascii.specs.Refusal.{ReturnsSource};
+ghost use Rattle.ascii.specs.ConversionError.{ReturnsSource};
 
 use crate::ascii_str::AsAsciiStrError;
 use crate::ascii_string::AsciiString;

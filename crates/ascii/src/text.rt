@@ -2,7 +2,7 @@
 
 ghost use Rattle.std.specs.Prelude.{◌≡◌, MatchResult};
 ghost use Rattle.std.specs.Str.{IsAscii};
-ghost use Rattle.ascii.specs.Refusal.{RejectsCopy};
+ghost use Rattle.ascii.specs.ConversionError.{RejectsCopy};
 ghost use Rattle.ascii.specs.Slice.{GetsAscii, SliceOutcome};
 ghost use Rattle.ascii.specs.View.{text_of};
 

@@ -1,7 +1,7 @@
 //! Owned text out of vectors of bytes, which keep their buffers.
 
 ghost use Rattle.std.specs.Prelude.{◌≡◌, IfOk, MatchResult, vec_capacity};
-ghost use Rattle.ascii.specs.Refusal.{ReturnsSource};
+ghost use Rattle.ascii.specs.ConversionError.{ReturnsSource};
 
 use crate::ascii_str::AsAsciiStrError;
 use crate::ascii_string::AsciiString;

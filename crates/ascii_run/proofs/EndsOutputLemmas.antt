@@ -3,7 +3,7 @@ use Rattle.std.proofs.Common.{◌≡◌, ℕ, ◌+◌, ◌<◌, ◌≤◌, List,
 use Rattle.std.specs.List.{flat_map}
 use Rattle.std.proofs.lemmas.Grind.{flat_map-append}
 use Rattle.ascii.specs.declared.iter.walks.End.{End}
-use Rattle.ascii.specs.Ends.{ListAnswersTo, TakesEnd}
+use Rattle.ascii.specs.Walks.{ListAnswersTo, TakesEnd}
 use Rattle.ascii.proofs.EndsLemmas.{AnswersTo-all, AnswersTo-step}
 use Rattle.ascii_run.specs.ModeOutput.{ShowsEnds}
 

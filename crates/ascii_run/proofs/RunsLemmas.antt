@@ -121,11 +121,11 @@ plain_text_more t (c ∷ cmds) cmd = plain_text_more (after t c) cmds cmd
 -- one command more that is not refused
 pub no_fault_more : (t : List ℕ) (cmds : List Cmd) (cmd : Cmd)
     → HasNoFault t cmds → IsNoFault (answer (plain_text t cmds) cmd) → HasNoFault t (cmds ++ cmd ∷ [])
-no_fault_more t [] cmd none check_reply = All-cons IsNoFault (answer t cmd) [] check_reply (All-nil IsNoFault)
-no_fault_more t (c ∷ cmds) cmd none check_reply =
+no_fault_more t [] cmd none good = All-cons IsNoFault (answer t cmd) [] good (All-nil IsNoFault)
+no_fault_more t (c ∷ cmds) cmd none good =
     All-cons IsNoFault (answer t c) (plain_replies (after t c) (cmds ++ cmd ∷ []))
     (All-head IsNoFault (answer t c) (plain_replies (after t c) cmds) none)
-    (no_fault_more (after t c) cmds cmd (All-tail IsNoFault (answer t c) (plain_replies (after t c) cmds) none) check_reply)
+    (no_fault_more (after t c) cmds cmd (All-tail IsNoFault (answer t c) (plain_replies (after t c) cmds) none) good)
 
 -- the first command that is refused is at the fault place
 pub fault_here : (t : List ℕ) (cmds : List Cmd) (k : ℕ) (cmd : Cmd)
@@ -158,10 +158,10 @@ edits_stop t cmds k cmd mid r t2 other at none text step stops = stops
 pub edit_more : (t : List ℕ) (front : List Cmd) (mid : List ℕ) (cmd : Cmd) (r : ReplyValue) (t2 : List ℕ)
     → HasNoFault t front → mid ≡ plain_text t front → Step 0 mid cmd r t2 → IsNoFault r → r ≢ no_memory
     → HasNoFault t (front ++ cmd ∷ []) × (t2 ≡ plain_text t (front ++ cmd ∷ []))
-edit_more t front mid cmd r t2 none text step check_reply some =
+edit_more t front mid cmd r t2 none text step good some =
     let plain = step_plain 0 mid cmd r t2 step some in
     let says : r ≡ answer (plain_text t front) cmd = plain.0 ∙ ap (λ x. answer x cmd) text in
     let leaves : t2 ≡ after (plain_text t front) cmd = plain.1 ∙ ap (λ x. after x cmd) text in (
-      no_fault_more t front cmd none (subst IsNoFault says check_reply),
+      no_fault_more t front cmd none (subst IsNoFault says good),
       leaves ∙ sym (plain_text_more t front cmd),
     )

@@ -9,5 +9,5 @@ pub mod Run
 pub mod Step
 pub mod Wrapped
 pub use Rattle.ascii_base.specs.Bytes
-pub use Rattle.ascii.specs.Ends
+pub use Rattle.ascii.specs.Walks
 pub use Rattle.ascii.specs.Lines

@@ -1,7 +1,8 @@
 -- What each mode puts out for a text.
-use Rattle.std.specs.Prelude.{◌≡◌, ℕ, ◌+◌, ◌≤◌, ◌⊎◌, List, [], ◌∷◌, ◌++◌, reverse, if◌then◌else◌, nat_lt, ◌==◌, Option, Some, None, codes, decimal}
+use Rattle.std.specs.Prelude.{◌≡◌, ℕ, ◌+◌, ◌≤◌, ◌⊎◌, List, [], ◌∷◌, ◌++◌, reverse, if◌then◌else◌}
+use Rattle.std.specs.Prelude.{nat_lt, ◌==◌, Option, Some, None, codes, decimal}
 use Rattle.std.specs.List.{flat_map}
-use Rattle.ascii.specs.Ends.{ListAnswers}
+use Rattle.ascii.specs.Walks.{ListAnswers}
 use Rattle.ascii_run.specs.JsonText.{json_text}
 use Rattle.ascii.specs.Lines.{Line, LinesOf, bodies}
 use Rattle.ascii.specs.Spans.{LineSpansOf, WithStart}
@@ -9,7 +10,8 @@ use Rattle.ascii.specs.declared.iter.spans.Ending.{Ending}
 use Rattle.ascii.specs.declared.iter.spans.Ending.TheVariants.{Lf, CrLf, Absent}
 use Rattle.ascii.specs.declared.iter.walks.End.{End}
 use Rattle.ascii_run.specs.declared.modes.Mode.{Mode}
-use Rattle.ascii_run.specs.declared.modes.Mode.TheVariants.{Copy, Lines, Tac, Caret, Ends, EndsSpans, Edit, Json}
+use Rattle.ascii_run.specs.declared.modes.Mode.TheVariants.{Copy, Lines, Tac, Caret, Ends}
+use Rattle.ascii_run.specs.declared.modes.Mode.TheVariants.{EndsSpans, Edit, Json}
 use Rattle.ascii_run.specs.Run.{HasNoFault, IsFaultPlace, plain_text}
 
 -- a line's body, and LF

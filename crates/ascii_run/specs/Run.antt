@@ -68,7 +68,7 @@ IsNoFault r = ¬ (IsFault r)
 
 -- k is the place, counted from 0, of the first command that is refused where no memory is wanting
 abbrev pub IsFaultPlace : List ℕ → List Cmd → ℕ → Type 0
-IsFaultPlace t cmds k = IsFirstAt IsFault (plain_replies t cmds) k
+IsFaultPlace t cmds k = IsFirstAt IsNoFault IsFault (plain_replies t cmds) k
 
 -- no command is refused where no memory is wanting
 abbrev pub HasNoFault : List ℕ → List Cmd → Type 0

@@ -1,5 +1,8 @@
 -- What one command does: its answer, and the text behind it.
-use Rattle.std.specs.Prelude.{◌≡◌, ◌⊎◌, ℕ, ◌+◌, ◌-◌, ◌^◌, ◌<◌, ◌≤◌, Bool, ◌&&◌, if◌then◌else◌, nat_le, nat_lt, List, [], ◌∷◌, ◌++◌, Option, Some, bytes_eq, insert, length, map, option_map, remove, slice_get, slice_index, slice_range, slice_set, take}
+use Rattle.std.specs.Prelude.{◌≡◌, ◌⊎◌, ℕ, ◌+◌, ◌-◌, ◌^◌, ◌<◌, ◌≤◌, Bool, ◌&&◌, if◌then◌else◌}
+use Rattle.std.specs.Prelude.{nat_le, nat_lt, List, [], ◌∷◌, ◌++◌, Option, Some, bytes_eq, insert}
+use Rattle.std.specs.Prelude.{length, map, option_map, remove, slice_get, slice_index, slice_range}
+use Rattle.std.specs.Prelude.{slice_set, take}
 use Rattle.std.specs.declared.result.Result.{Result}
 use Rattle.std.specs.declared.result.Result.TheVariants.{Ok, Err}
 use Rattle.std.specs.declared.alloc.AllocError.{AllocError}
@@ -7,11 +10,13 @@ use Rattle.ascii_base.specs.Case.{lower_image, upper_image}
 use Rattle.ascii_base.specs.Code.{code_of}
 use Rattle.ascii_base.specs.Range.{Fits, end_of, start_of}
 use Rattle.ascii_base.specs.declared.range.AsciiRange.{AsciiRange}
-use Rattle.ascii.specs.StringState.{StringState}
-use Rattle.ascii.specs.Text.{insert_text}
+use Rattle.ascii.specs.StringState.{StringState, insert_text}
 use Rattle.ascii.specs.View.{position_of, text_of}
 use Rattle.ascii_run.specs.declared.commands.Cmd.{Cmd}
-use Rattle.ascii_run.specs.declared.commands.Cmd.TheVariants.{Push, PushStr, Insert, InsertStr, Remove, Pop, Truncate, Clear, Set, Upper, Lower, Reserve, Shrink, Len, First, Last, Get, Copy, EqIgnoreCase}
+use Rattle.ascii_run.specs.declared.commands.Cmd.TheVariants.{Push, PushStr, Insert, InsertStr}
+use Rattle.ascii_run.specs.declared.commands.Cmd.TheVariants.{Remove, Pop, Truncate, Clear, Set}
+use Rattle.ascii_run.specs.declared.commands.Cmd.TheVariants.{Upper, Lower, Reserve, Shrink, Len}
+use Rattle.ascii_run.specs.declared.commands.Cmd.TheVariants.{First, Last, Get, Copy, EqIgnoreCase}
 use Rattle.ascii_run.specs.declared.commands.Reply.{Reply}
 use Rattle.ascii_run.specs.declared.commands.Reply.TheVariants as reply
 

@@ -4,7 +4,7 @@
 ghost use Rattle.std.specs.Prelude.{◌≡◌, ◌-◌, IfOk, MatchOption, [], drop, length, map};
 ghost use Rattle.std.specs.Option.{option_map};
 ghost use Rattle.ascii_base.specs.Code.{code_of};
-ghost use Rattle.ascii.specs.Ends.{TakesEnd};
+ghost use Rattle.ascii.specs.Walks.{TakesEnd};
 ghost use Rattle.ascii.specs.Lines.{LinesOf, OfLines};
 ghost use Rattle.ascii.specs.Pieces.{Pieces, OfPieces};
 ghost use Rattle.ascii.specs.Spans.{line_in};
@@ -54,7 +54,7 @@ pub fn after_two_separators<'a>(view: AsciiStr<'a>, on: AsciiChar) -> Option<Asc
 /// A split that owes the same pieces as one that was stopped, where any is left.
 pub fn resume_split<'a>(split: &Split<'a>, on: AsciiChar) -> Option<Split<'a>>
     requires { code_of on ≡ split.now.on }
-    ensures { MatchOption result (split.now.pieces ≡ []) (λ other. (other.pieces ≡ split.now.pieces) × (other.on ≡ split.now.on)) }
+    ensures { MatchOption result (split.now.items ≡ []) (λ other. (other.items ≡ split.now.items) × (other.on ≡ split.now.on)) }
 {
     let rest = split.remainder()?;
     Some(rest.split(on))
@@ -71,7 +71,7 @@ pub fn resume_lines<'a>(lines: &Lines<'a>) -> Option<Lines<'a>>
 /// A split that owes the same pieces with the same starts, where any is left.
 pub fn resume_split_spans<'a>(split: &SplitSpans<'a>, on: AsciiChar) -> Option<SplitSpans<'a>>
     requires { code_of on ≡ split.now.on }
-    ensures { MatchOption result (split.now.spans ≡ []) (λ other. (other.spans ≡ split.now.spans) × (other.on ≡ split.now.on)) }
+    ensures { MatchOption result (split.now.items ≡ []) (λ other. (other.items ≡ split.now.items) × (other.on ≡ split.now.on)) }
 {
     let (start, rest) = split.remainder()?;
     Some(rest.split_spans_from(on, start))
@@ -95,7 +95,7 @@ pub fn take_line_span<'a>(lines: &mut LineSpans<'a>, end: End) -> Option<LineSpa
 /// The lengths of the pieces that a split still owes.
 #[tactic(auto, using(ascii::proofs::StepsLemmas::run_of_first_and))]
 pub fn lengths_left(alloc: Global, split: Split<'_>) -> Result<Vec<usize>, AllocError>
-    ensures { IfOk result (λ lengths. lengths.items ≡ map length split.entry.pieces) }
+    ensures { IfOk result (λ lengths. lengths.items ≡ map length split.entry.items) }
 {
     split.map(|piece| piece.len()).collect(alloc)
 }

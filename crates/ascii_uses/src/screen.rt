@@ -21,7 +21,11 @@ pub struct ScreenText {
 /// A text for a screen of `width` columns, at least 2. A control other than tab and LF goes out as `^` and its
 /// letter, a tab as spaces up to the next column that 8 divides, or to the edge. What has no room on its line
 /// begins a new one. Of `a\tb\x01` on 10 columns `a       b`, and `^A` on a line of its own.
-pub fn show_on_screen(alloc: Global, view: AsciiStr<'_>, width: usize) -> Result<ScreenText, AllocError>
+pub fn show_on_screen(
+    alloc: Global,
+    view: AsciiStr<'_>,
+    width: usize,
+) -> Result<ScreenText, AllocError>
     requires { 2 ≤ width }
     ensures each { IfOk result (λ out. out.text.text ≡ screen_text width 0 (text_of view.entry)) }
     ensures column { IfOk result (λ out. out.column ≡ column_after 0 out.text.text) }

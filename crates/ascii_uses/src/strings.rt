@@ -29,7 +29,11 @@ pub fn move_to_end(string: &mut AsciiString, idx: usize) -> Result<(), AllocErro
 
 /// Cuts a text that is longer than `n` down to `n` characters and a mark behind them. It is never
 /// refused.
-pub fn truncate_with_mark(string: &mut AsciiString, n: usize, mark: AsciiChar) -> Result<(), AllocError>
+pub fn truncate_with_mark(
+    string: &mut AsciiString,
+    n: usize,
+    mark: AsciiChar,
+) -> Result<(), AllocError>
     requires { n < length string.old.text }
     ensures ok { IsOk result }
     ensures text { string.new.text ≡ take n string.old.text ++ code_of mark ∷ [] }

@@ -63,7 +63,8 @@ impl<'a> Cursor<'a> {
     /// What stands before the first byte that is `on`, and what stands behind it.
     #[inline(always)]
     pub(crate) fn cut_first(self, on: u8) -> Option<(Cursor<'a>, Cursor<'a>)>
-        ensures { MatchOption result (Free on (text_of self.entry.view)) (IsCutFirst on (part_in self.entry)) }
+        ensures { MatchOption result (Free on (text_of self.entry.view))
+            (IsCutFirst on (part_in self.entry)) }
     {
         let place = first_place(on, self.view.bytes)?;
         Some((self.to(place), self.from(place + 1)))
@@ -72,7 +73,8 @@ impl<'a> Cursor<'a> {
     /// What stands before the last byte that is `on`, and what stands behind it.
     #[inline(always)]
     pub(crate) fn cut_last(self, on: u8) -> Option<(Cursor<'a>, Cursor<'a>)>
-        ensures { MatchOption result (Free on (text_of self.entry.view)) (IsCutLast on (part_in self.entry)) }
+        ensures { MatchOption result (Free on (text_of self.entry.view))
+            (IsCutLast on (part_in self.entry)) }
     {
         let place = memrchr(on, self.view.bytes)?;
         Some((self.to(place), self.from(place + 1)))

@@ -1,11 +1,14 @@
 //! The lines of a view, with and without their starts and endings.
 
-ghost use Rattle.std.specs.Prelude.{◌≡◌, ◌+◌, ◌≤◌, ◌∷◌, ◌++◌, [], IfSome, List, MatchOption, length};
+ghost use Rattle.std.specs.Prelude.{◌≡◌, ◌+◌, ◌≤◌, ◌∷◌, ◌++◌, [], IfSome, MatchOption, length};
 ghost use Rattle.std.specs.Iterator.{item_count};
 ghost use Rattle.ascii.specs.Found.{ended_line, line_spans, part_in};
-ghost use Rattle.ascii.specs.Lines.{IsRemainderOfLines, Line, IteratesLines, bodies};
-ghost use Rattle.ascii.specs.Spans.{IsRemainderOfLineSpans, IteratesLineSpans, WithStart, line_in};
-ghost use Rattle.ascii.specs.Steps.{DropsFirst, DropsLast, LoopsOverLineSpans, LoopsOverLines, LoopsInReverse, YieldsFirstAnd, YieldsLastAnd};
+ghost use Rattle.ascii.specs.Lines.{IsRemainderOfLines, IteratesLines, bodies};
+ghost use Rattle.ascii.specs.Spans.{EndFits, IsRemainderOfLineSpans, IteratesLineSpans, line_in};
+ghost use Rattle.ascii.specs.Steps.{DropsFirst, DropsFirstSpan, DropsLast, DropsLastSpan};
+ghost use Rattle.ascii.specs.Steps.{LoopsBackOverLineSpans, LoopsBackOverLines};
+ghost use Rattle.ascii.specs.Steps.{LoopsOverLineSpans, LoopsOverLines};
+ghost use Rattle.ascii.specs.Steps.{YieldsFirstAnd, YieldsLastAnd};
 ghost use Rattle.ascii.specs.View.{text_of};
 
 use crate::ascii_str::AsciiStr;
@@ -19,7 +22,9 @@ impl<'a> Cursor<'a> {
     /// All of it as one line before a LF: one CR before the LF is of the ending.
     #[inline(always)]
     fn ended_line(self) -> LineSpan<'a>
-        ensures { line_in result ≡ record { start = self.entry.start; item = ended_line (text_of self.entry.view) } }
+        ensures line { line_in result
+            ≡ record { start = self.entry.start; item = ended_line (text_of self.entry.view) } }
+        ensures fits { EndFits result.start result.text }
     {
         match self.view.bytes.split_last() {
             Some((b'\r', body)) => LineSpan {
@@ -38,7 +43,11 @@ impl<'a> Cursor<'a> {
     /// All of it as one line with no ending.
     #[inline(always)]
     fn open_line(self) -> LineSpan<'a>
-        ensures { line_in result ≡ record { start = self.entry.start; item = record { body = text_of self.entry.view; ending = Ending.Absent } } }
+        ensures line { line_in result ≡ record {
+          start = self.entry.start;
+          item = record { body = text_of self.entry.view; ending = Ending.Absent };
+        } }
+        ensures fits { EndFits result.start result.text }
     {
         LineSpan {
             start: self.start,
@@ -50,7 +59,9 @@ impl<'a> Cursor<'a> {
     /// The first line, and what stands behind its ending.
     #[inline(always)]
     fn first_line(self) -> Option<(LineSpan<'a>, Cursor<'a>)>
-        ensures { MatchOption result (line_spans (part_in self.entry) ≡ []) (λ cut. line_spans (part_in self.entry) ≡ line_in cut.0 ∷ line_spans (part_in cut.1)) }
+        ensures lines { MatchOption result (line_spans (part_in self.entry) ≡ [])
+            (λ cut. line_spans (part_in self.entry) ≡ line_in cut.0 ∷ line_spans (part_in cut.1)) }
+        ensures fits { IfSome result (λ cut. EndFits cut.0.start cut.0.text) }
     {
         if self.view.is_empty() {
             return None;
@@ -64,7 +75,9 @@ impl<'a> Cursor<'a> {
     /// The last line, and what stands before it.
     #[inline(always)]
     fn last_line(self) -> Option<(LineSpan<'a>, Cursor<'a>)>
-        ensures { MatchOption result (line_spans (part_in self.entry) ≡ []) (λ cut. line_spans (part_in self.entry) ≡ line_spans (part_in cut.1) ++ line_in cut.0 ∷ []) }
+        ensures lines { MatchOption result (line_spans (part_in self.entry) ≡ []) (λ cut.
+            line_spans (part_in self.entry) ≡ line_spans (part_in cut.1) ++ line_in cut.0 ∷ []) }
+        ensures fits { IfSome result (λ cut. EndFits cut.0.start cut.0.text) }
     {
         let (last, front) = self.view.bytes.split_last()?;
         if *last == b'\n' {
@@ -104,14 +117,16 @@ impl Clone for LineSpans<'_> {
     ///
     ///     view("x\ny").line_spans().clone()?.remainder() // Some((0, "x\ny"))
     fn clone(&self) -> Result<Self, AllocError> {
-        Ok(LineSpans { cursor: self.cursor })
+        Ok(LineSpans {
+            cursor: self.cursor,
+        })
     }
 }
 
 impl<'a> Iterator for LineSpans<'a> {
     type Item = LineSpan<'a>;
 
-    ghost next_gives = { YieldsFirstAnd line_in (λ lines. lines) DropsFirst };
+    ghost next_gives = { YieldsFirstAnd line_in (λ lines. lines) DropsFirstSpan };
 
     ghost remaining = { item_count (λ lines. lines) };
 
@@ -125,7 +140,7 @@ impl<'a> Iterator for LineSpans<'a> {
 }
 
 impl<'a> DoubleEndedIterator for LineSpans<'a> {
-    ghost next_back_gives = { YieldsLastAnd line_in (λ lines. lines) DropsLast };
+    ghost next_back_gives = { YieldsLastAnd line_in (λ lines. lines) DropsLastSpan };
 
     ///     view("x\ny").line_spans().next_back() // Some(LineSpan { start: 2, text: "y", ending: Absent })
     #[inline(always)]
@@ -147,7 +162,7 @@ impl<'a> LineSpans<'a> {
     ///     spans.remainder() // Some((3, "y"))
     pub fn remainder(&self) -> Option<(usize, AsciiStr<'a>)>
         ensures remainder { IsRemainderOfLineSpans self.now result }
-        ensures fits { IfSome result (λ remainder. remainder.0 + length (text_of remainder.1) ≤ usize.MAX) }
+        ensures fits { IfSome result (λ tail. EndFits tail.0 tail.1) }
     {
         if self.cursor.view.is_empty() {
             return None;
@@ -243,7 +258,7 @@ impl<'a> AsciiStr<'a> {
     pub fn lines(self) -> Lines<'a>
         ensures iterates { IteratesLines (text_of self.entry) result }
         ensures loops { LoopsOverLines }
-        ensures loops_back { LoopsInReverse text_of bodies DropsLast }
+        ensures loops_back { LoopsBackOverLines }
     {
         Lines {
             spans: self.line_spans(),
@@ -258,7 +273,7 @@ impl<'a> AsciiStr<'a> {
     pub fn line_spans(self) -> LineSpans<'a>
         ensures iterates { IteratesLineSpans 0 (text_of self.entry) result }
         ensures loops { LoopsOverLineSpans }
-        ensures loops_back { LoopsInReverse line_in (λ (lines : List (WithStart Line)). lines) DropsLast }
+        ensures loops_back { LoopsBackOverLineSpans }
     {
         self.line_spans_from(0)
     }
@@ -271,7 +286,7 @@ impl<'a> AsciiStr<'a> {
         requires { offset + length (text_of self) ≤ usize.MAX }
         ensures iterates { IteratesLineSpans offset (text_of self.entry) result }
         ensures loops { LoopsOverLineSpans }
-        ensures loops_back { LoopsInReverse line_in (λ (lines : List (WithStart Line)). lines) DropsLast }
+        ensures loops_back { LoopsBackOverLineSpans }
     {
         LineSpans {
             cursor: Cursor {

@@ -5,9 +5,11 @@ ghost use Rattle.std.specs.Iterator.{item_count};
 ghost use Rattle.std.specs.Option.{option_map};
 ghost use Rattle.ascii_base.specs.Code.{code_of};
 ghost use Rattle.ascii.specs.Found.{part_in, piece_spans, spans_left};
-ghost use Rattle.ascii.specs.Pieces.{IsRemainderOfPieces, Remaining, IteratesPieces};
-ghost use Rattle.ascii.specs.Spans.{IsRemainderOfPieceSpans, RemainingSpans, IteratesPieceSpans, piece_in};
-ghost use Rattle.ascii.specs.Steps.{KeepsSeparator, LoopsOverPieces, LoopsOverPieceSpans, KeepsSpansSeparator, LoopsInReverse, YieldsFirstAnd, YieldsLastAnd};
+ghost use Rattle.ascii.specs.Pieces.{IsRemainderOfPieces, IteratesPieces};
+ghost use Rattle.ascii.specs.Spans.{EndFits, IsRemainderOfPieceSpans, IteratesPieceSpans, piece_in};
+ghost use Rattle.ascii.specs.Steps.{KeepsSeparator, StepsPieceSpan, YieldsFirstAnd, YieldsLastAnd};
+ghost use Rattle.ascii.specs.Steps.{LoopsBackOverPieceSpans, LoopsBackOverPieces};
+ghost use Rattle.ascii.specs.Steps.{LoopsOverPieceSpans, LoopsOverPieces};
 ghost use Rattle.ascii.specs.View.{text_of};
 
 use crate::ascii_str::AsciiStr;
@@ -22,7 +24,8 @@ impl<'a> Cursor<'a> {
     /// All of it as one piece.
     #[inline(always)]
     fn piece(self) -> SplitSpan<'a>
-        ensures { piece_in result ≡ part_in self.entry }
+        ensures piece { piece_in result ≡ part_in self.entry }
+        ensures fits { EndFits result.start result.text }
     {
         SplitSpan {
             start: self.start,
@@ -33,7 +36,9 @@ impl<'a> Cursor<'a> {
     /// The first piece, and what stands behind its separator where there is one.
     #[inline(always)]
     fn first_piece(self, on: AsciiChar) -> (SplitSpan<'a>, Option<Cursor<'a>>)
-        ensures { piece_spans (code_of on) (part_in self.entry) ≡ piece_in result.0 ∷ spans_left (code_of on) (option_map part_in result.1) }
+        ensures pieces { piece_spans (code_of on) (part_in self.entry)
+            ≡ piece_in result.0 ∷ spans_left (code_of on) (option_map part_in result.1) }
+        ensures fits { EndFits result.0.start result.0.text }
     {
         match self.cut_first(on.as_byte()) {
             Some((piece, others)) => (piece.piece(), Some(others)),
@@ -44,7 +49,9 @@ impl<'a> Cursor<'a> {
     /// The last piece, and what stands before its separator where there is one.
     #[inline(always)]
     fn last_piece(self, on: AsciiChar) -> (SplitSpan<'a>, Option<Cursor<'a>>)
-        ensures { piece_spans (code_of on) (part_in self.entry) ≡ spans_left (code_of on) (option_map part_in result.1) ++ piece_in result.0 ∷ [] }
+        ensures pieces { piece_spans (code_of on) (part_in self.entry)
+            ≡ spans_left (code_of on) (option_map part_in result.1) ++ piece_in result.0 ∷ [] }
+        ensures fits { EndFits result.0.start result.0.text }
     {
         match self.cut_last(on.as_byte()) {
             Some((others, piece)) => (piece.piece(), Some(others)),
@@ -65,11 +72,16 @@ impl<'a> Model for SplitSpans<'a> {
     ghost use Rattle.std.specs.Option.{option_map};
     ghost use Rattle.ascii_base.specs.Code.{code_of};
     ghost use Rattle.ascii.specs.Found.{part_in, spans_left};
-    ghost use Rattle.ascii.specs.Spans.{RemainingSpans};
+    ghost use Rattle.std.specs.Prelude.{List, ℕ};
+    ghost use Rattle.ascii.specs.Pieces.{Remaining};
+    ghost use Rattle.ascii.specs.Spans.{WithStart};
 
-    ghost Value = { RemainingSpans };
+    ghost Value = { Remaining (WithStart (List ℕ)) };
 
-    ghost view = { λ split. record { on = code_of split.on; spans = spans_left (code_of split.on) (option_map part_in split.cursor) } };
+    ghost view = { λ split. record {
+      on = code_of split.on;
+      items = spans_left (code_of split.on) (option_map part_in split.cursor);
+    } };
 }
 
 impl Clone for SplitSpans<'_> {
@@ -91,9 +103,9 @@ impl Clone for SplitSpans<'_> {
 impl<'a> Iterator for SplitSpans<'a> {
     type Item = SplitSpan<'a>;
 
-    ghost next_gives = { YieldsFirstAnd piece_in (λ split. split.spans) KeepsSpansSeparator };
+    ghost next_gives = { YieldsFirstAnd piece_in (λ split. split.items) StepsPieceSpan };
 
-    ghost remaining = { item_count (λ split. split.spans) };
+    ghost remaining = { item_count (λ split. split.items) };
 
     ///     view(";foo").split_spans(AsciiChar::Semicolon).next() // Some(SplitSpan { start: 0, text: "" })
     #[inline(always)]
@@ -105,7 +117,7 @@ impl<'a> Iterator for SplitSpans<'a> {
 }
 
 impl<'a> DoubleEndedIterator for SplitSpans<'a> {
-    ghost next_back_gives = { YieldsLastAnd piece_in (λ split. split.spans) KeepsSpansSeparator };
+    ghost next_back_gives = { YieldsLastAnd piece_in (λ split. split.items) StepsPieceSpan };
 
     ///     view(";foo").split_spans(AsciiChar::Semicolon).next_back() // Some(SplitSpan { start: 1, text: "foo" })
     #[inline(always)]
@@ -127,7 +139,7 @@ impl<'a> SplitSpans<'a> {
     ///     spans.remainder() // Some((4, "bar"))
     pub fn remainder(&self) -> Option<(usize, AsciiStr<'a>)>
         ensures remainder { IsRemainderOfPieceSpans self.now result }
-        ensures fits { IfSome result (λ remainder. remainder.0 + length (text_of remainder.1) ≤ usize.MAX) }
+        ensures fits { IfSome result (λ tail. EndFits tail.0 tail.1) }
     {
         let cursor = self.cursor?;
         Some((cursor.start, cursor.view))
@@ -141,12 +153,13 @@ pub struct Split<'a> {
 }
 
 impl<'a> Model for Split<'a> {
+    ghost use Rattle.std.specs.Prelude.{List, ℕ};
     ghost use Rattle.ascii.specs.Pieces.{Remaining};
     ghost use Rattle.ascii.specs.Spans.{items_of};
 
-    ghost Value = { Remaining };
+    ghost Value = { Remaining (List ℕ) };
 
-    ghost view = { λ split. record { on = split.spans.on; pieces = items_of split.spans.spans } };
+    ghost view = { λ split. record { on = split.spans.on; items = items_of split.spans.items } };
 }
 
 impl Clone for Split<'_> {
@@ -170,9 +183,9 @@ impl Clone for Split<'_> {
 impl<'a> Iterator for Split<'a> {
     type Item = AsciiStr<'a>;
 
-    ghost next_gives = { YieldsFirstAnd text_of (λ split. split.pieces) KeepsSeparator };
+    ghost next_gives = { YieldsFirstAnd text_of (λ split. split.items) KeepsSeparator };
 
-    ghost remaining = { item_count (λ split. split.pieces) };
+    ghost remaining = { item_count (λ split. split.items) };
 
     ///     view(";foo").split(AsciiChar::Semicolon).next() // Some("")
     #[inline(always)]
@@ -183,7 +196,7 @@ impl<'a> Iterator for Split<'a> {
 }
 
 impl<'a> DoubleEndedIterator for Split<'a> {
-    ghost next_back_gives = { YieldsLastAnd text_of (λ split. split.pieces) KeepsSeparator };
+    ghost next_back_gives = { YieldsLastAnd text_of (λ split. split.items) KeepsSeparator };
 
     ///     view(";foo").split(AsciiChar::Semicolon).next_back() // Some("foo")
     #[inline(always)]
@@ -222,7 +235,7 @@ impl<'a> AsciiStr<'a> {
     pub fn split(self, on: AsciiChar) -> Split<'a>
         ensures iterates { IteratesPieces (text_of self.entry) (code_of on) result }
         ensures loops { LoopsOverPieces }
-        ensures loops_back { LoopsInReverse text_of (λ (split : Remaining). split.pieces) KeepsSeparator }
+        ensures loops_back { LoopsBackOverPieces }
     {
         Split {
             spans: self.split_spans(on),
@@ -236,7 +249,7 @@ impl<'a> AsciiStr<'a> {
     pub fn split_spans(self, on: AsciiChar) -> SplitSpans<'a>
         ensures iterates { IteratesPieceSpans 0 (text_of self.entry) (code_of on) result }
         ensures loops { LoopsOverPieceSpans }
-        ensures loops_back { LoopsInReverse piece_in (λ (split : RemainingSpans). split.spans) KeepsSpansSeparator }
+        ensures loops_back { LoopsBackOverPieceSpans }
     {
         self.split_spans_from(on, 0)
     }
@@ -250,7 +263,7 @@ impl<'a> AsciiStr<'a> {
         requires { offset + length (text_of self) ≤ usize.MAX }
         ensures iterates { IteratesPieceSpans offset (text_of self.entry) (code_of on) result }
         ensures loops { LoopsOverPieceSpans }
-        ensures loops_back { LoopsInReverse piece_in (λ (split : RemainingSpans). split.spans) KeepsSpansSeparator }
+        ensures loops_back { LoopsBackOverPieceSpans }
     {
         SplitSpans {
             cursor: Some(Cursor {

@@ -1,13 +1,8 @@
 //! Walks: the answers of an iterator to a script of ends.
 
-ghost use Rattle.std.specs.Prelude.{◌≡◌, [], IfOk, IsOk, map};
-ghost use Rattle.std.specs.Option.{option_map};
-ghost use Rattle.ascii.specs.Ends.{AnswersTo, ListAnswers};
+ghost use Rattle.std.specs.Prelude.{◌≡◌, [], IfOk, IsOk};
 ghost use Rattle.ascii.specs.Found.{StepsAt};
-ghost use Rattle.ascii.specs.Lines.{OfLines, bodies};
-ghost use Rattle.ascii.specs.Pieces.{OfPieces};
-ghost use Rattle.ascii.specs.Spans.{OfLineSpans, OfPieceSpans, line_in, piece_in};
-ghost use Rattle.ascii.specs.Walks.{WalksLineSpans, WalksLines, WalksPieceSpans, WalksPieces};
+ghost use Rattle.ascii.specs.Walks.{AnswersTo, WalksLineSpans, WalksLines, WalksPieceSpans, WalksPieces};
 
 use crate::ascii_str::AsciiStr;
 use crate::iter::spans::{LineSpan, SplitSpan};
@@ -48,7 +43,8 @@ fn walk<I: DoubleEndedIterator + Drop, A: Allocator>(
 where
     I::Item: Drop,
     requires can { (s : I) → I.can_next s × I.can_next_back s }
-    ensures answers { IfOk result (λ answers. (left : I) × AnswersTo (StepsAt I.next_gives I.next_back_gives) items script.now answers.items left) }
+    ensures answers { IfOk result (λ answers. (left : I)
+        × AnswersTo (StepsAt I.next_gives I.next_back_gives) items script.now answers.items left) }
     ensures empty { script.now ≡ [] → IsOk result }
 {
     let mut answers = Vec::with_capacity(alloc, script.len())?;

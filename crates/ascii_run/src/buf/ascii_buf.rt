@@ -4,8 +4,7 @@ ghost use Rattle.std.specs.Prelude.{◌≡◌, ℕ, ◌+◌, ◌-◌, ◌<◌, �
 ghost use Rattle.std.specs.Option.{option_map};
 ghost use Rattle.ascii_base.specs.Case.{lower_image, upper_image};
 ghost use Rattle.ascii_base.specs.Code.{code_of};
-ghost use Rattle.ascii.specs.StringState.{EditsInPlace, GrowsTo, StringState, Reserves};
-ghost use Rattle.ascii.specs.Text.{insert_text};
+ghost use Rattle.ascii.specs.StringState.{EditsInPlace, GrowsTo, StringState, Reserves, insert_text};
 ghost use Rattle.ascii.specs.View.{text_of};
 
 use ascii::{AsciiChar, AsciiStr, AsciiString};

@@ -339,7 +339,7 @@ impl fmt::Display for SmallAsciiString {
 
 impl fmt::Debug for SmallAsciiString {
     ghost use Rattle.std.specs.Prelude.{Some};
-    ghost use Rattle.ascii.specs.Debug.{debug_text};
+    ghost use Rattle.ascii.specs.View.{debug_text};
 
     ghost debug_output = { λ string. Some (debug_text string.text) };
 

@@ -1,7 +1,7 @@
 use Rattle.std.proofs.Common.{ap, map, refl, ◌∙◌}
 use Rattle.std.proofs.lemmas.Iterator.Consumers.{YieldsList-at}
 use Rattle.ascii.specs.Spans.{line_in}
-use Rattle.ascii.specs.Steps.{DropsFirst}
+use Rattle.ascii.specs.Steps.{DropsFirstSpan}
 use Rattle.ascii.proofs.ExtendLemmas.{if_ok}
 use Rattle.ascii.proofs.StepsLemmas.{road_from_first_and}
 use Rattle.ascii_uses.proofs.TakenLemmas.{taken}
@@ -11,5 +11,5 @@ pub returns : goal.returns
 returns c = if_ok c.collect.result c.collect.ensures.ran (λ given ran. (
   c.line_spans.result,
   c.line_spans.ensures.iterates.spans,
-  ap (map line_in) ran.2.0 ∙ taken c.args.n c.take.result ran.0 (YieldsList-at c.take.ensures.source (road_from_first_and line_in (λ lines. lines) DropsFirst c.line_spans.result refl)) c.take.ensures.count ran.1,
+  ap (map line_in) ran.2.0 ∙ taken c.args.n c.take.result ran.0 (YieldsList-at c.take.ensures.source (road_from_first_and line_in (λ lines. lines) DropsFirstSpan c.line_spans.result refl)) c.take.ensures.count ran.1,
 ))

@@ -1,4 +1,4 @@
-use Rattle.std.proofs.Common.{ap, map, refl, ◌∙◌}
+use Rattle.std.proofs.Common.{List, ap, map, ℕ, refl, ◌∙◌}
 use Rattle.std.proofs.lemmas.Iterator.Consumers.{YieldsList-at}
 use Rattle.ascii.specs.Pieces.{Remaining}
 use Rattle.ascii.specs.Steps.{KeepsSeparator}
@@ -10,7 +10,7 @@ use Rattle.ascii_uses.proofs.fronts.first_pieces.Goals as goal
 
 pub returns : goal.returns
 returns c = if_ok c.collect.result c.collect.ensures.ran (λ given ran. (
-  c.split.result.pieces,
+  c.split.result.items,
   c.split.ensures.iterates.pieces,
-  ap (map text_of) ran.2.0 ∙ taken c.args.n c.take.result ran.0 (YieldsList-at c.take.ensures.source (road_from_first_and text_of (λ (split : Remaining). split.pieces) KeepsSeparator c.split.result.pieces refl)) c.take.ensures.count ran.1,
+  ap (map text_of) ran.2.0 ∙ taken c.args.n c.take.result ran.0 (YieldsList-at c.take.ensures.source (road_from_first_and text_of (λ (split : Remaining (List ℕ)). split.items) KeepsSeparator c.split.result.items refl)) c.take.ensures.count ran.1,
 ))

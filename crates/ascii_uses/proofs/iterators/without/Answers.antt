@@ -1,4 +1,4 @@
-use Rattle.std.proofs.Common.{refl, ◌∙◌}
+use Rattle.std.proofs.Common.{List, refl, ℕ, ◌∙◌}
 use Rattle.ascii.specs.Pieces.{Remaining}
 use Rattle.ascii.specs.Steps.{KeepsSeparator}
 use Rattle.ascii.specs.View.{text_of}
@@ -8,7 +8,7 @@ use Rattle.ascii_uses.proofs.iterators.without.Goals as goal
 
 pub returns : goal.returns
 returns c = if_ok c.collect_strs.result c.collect_strs.ensures (λ string given. (
-  c.split.result.pieces,
+  c.split.result.items,
   c.split.ensures.iterates.pieces,
-  given.2 ∙ pieces_from_drains (λ piece. piece) given.0 given.1 (road_from_first_and text_of (λ (split : Remaining). split.pieces) KeepsSeparator c.split.result.pieces refl),
+  given.2 ∙ pieces_from_drains (λ piece. piece) given.0 given.1 (road_from_first_and text_of (λ (split : Remaining (List ℕ)). split.items) KeepsSeparator c.split.result.items refl),
 ))

@@ -7,7 +7,7 @@ use Rattle.ascii.proofs.ascii_str.AsciiStr.split.Goals as goal
 
 pub returns-clause-iterates : goal.returns-clause-iterates
 returns-clause-iterates c =
-    let spans = c.split_spans.result.spans in
+    let spans = c.split_spans.result.items in
     let found = c.split_spans.ensures.iterates.spans.pieces in record {
       pieces = found;
       only = λ other is. same_pieces _ _ (items_of spans) other found is;

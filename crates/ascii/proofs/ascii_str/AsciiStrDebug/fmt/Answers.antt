@@ -1,7 +1,6 @@
 use Rattle.std.proofs.Common.{◌≡◌, Some, ap, ◌∙◌}
 use Rattle.std.specs.Fmt.{debug_str}
-use Rattle.ascii.specs.Debug.{debug_text}
-use Rattle.ascii.specs.View.{text_of}
+use Rattle.ascii.specs.View.{debug_text, text_of}
 use Rattle.ascii.proofs.DebugLemmas.{debug_str-ascii}
 use Rattle.ascii.proofs.ascii_str.AsciiStrDebug.fmt.Goals as goal
 

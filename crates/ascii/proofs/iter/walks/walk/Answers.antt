@@ -1,5 +1,5 @@
 use Rattle.std.proofs.Common.{arith, rules, subst, sym, take, ◌+◌}
-use Rattle.ascii.specs.Ends.{AnswersTo}
+use Rattle.ascii.specs.Walks.{AnswersTo}
 use Rattle.ascii.specs.Found.{StepsAt}
 use Rattle.ascii.proofs.EndsLemmas.{AnswersTo-all, AnswersTo-step, StepsAt-by}
 use Rattle.ascii.proofs.iter.walks.walk.Goals as goal

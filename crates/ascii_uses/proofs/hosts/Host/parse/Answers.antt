@@ -10,7 +10,7 @@ pub check_label-requires : goal.check_label-requires
 check_label-requires c =
     let front = map piece_in c.loop-label.yielded in
     let whole = subst (λ rest. PieceSpans 0 (text_of c.args.name) 46 (front ++ rest)) c.in-Some.ensures.steps.0 c.loop-label.invariant.whole in
-    let inside = piece_inside (text_of c.args.name) 46 front c.next.new.self.spans (piece_in c.in-Some.label) whole in
+    let inside = piece_inside (text_of c.args.name) 46 front c.next.new.self.items (piece_in c.in-Some.label) whole in
     omega (arith, inside)
 
 pub loop-label-preserved : goal.loop-label-preserved
@@ -18,7 +18,7 @@ loop-label-preserved c =
     let taken = c.loop-label.yielded in
     let whole = subst (λ rest. PieceSpans 0 (text_of c.args.name) 46 (map piece_in taken ++ rest)) c.in-Some.ensures.steps.0 c.loop-label.invariant.whole in
     record {
-      whole = subst (PieceSpans 0 (text_of c.args.name) 46) (sym (one_more piece_in taken c.in-Some.label c.next.new.self.spans)) whole;
+      whole = subst (PieceSpans 0 (text_of c.args.name) 46) (sym (one_more piece_in taken c.in-Some.label c.next.new.self.items)) whole;
       labels = each_more IsLabel taken c.in-Some.label c.loop-label.invariant.labels c.in_ok-check_label.ensures;
     }
 
@@ -26,5 +26,5 @@ pub returns-in_err-check_label-clause-exact : goal.returns-in_err-check_label-cl
 returns-in_err-check_label-clause-exact c = λ host.
     let front = map piece_in c.loop-label.yielded in
     let whole = subst (λ rest. PieceSpans 0 (text_of c.args.name) 46 (front ++ rest)) c.in-Some.ensures.steps.0 c.loop-label.invariant.whole in
-    let label = label_of_host _ front c.next.new.self.spans (piece_in c.in-Some.label) _ c.split_spans-label-items.ensures.iterates.only whole host in
+    let label = label_of_host _ front c.next.new.self.items (piece_in c.in-Some.label) _ c.split_spans-label-items.ensures.iterates.only whole host in
     absurd (no_label (piece_in c.in-Some.label) _ c.in_err-check_label.ensures label)

@@ -8,6 +8,6 @@ use Rattle.ascii_uses.proofs.hosts.Host.parse.Given as goal
 -- the pieces so far are labels, and those that the name has left stand behind them
 abbrev pub invariant-loop-label : goal.invariant-loop-label
 invariant-loop-label l = record {
-  whole : PieceSpans 0 (text_of l.name) 46 (map piece_in l.yielded ++ l.label-iterator.spans);
+  whole : PieceSpans 0 (text_of l.name) 46 (map piece_in l.yielded ++ l.label-iterator.items);
   labels : All IsLabel (items_of (map piece_in l.yielded));
 }

@@ -3,9 +3,9 @@ use Rattle.ascii_base.specs.Code.{code_of}
 use Rattle.ascii.proofs.SpansLemmas.{piece_spans_first, piece_spans_free}
 use Rattle.ascii.proofs.iter.cursor.Cursor.first_piece.Goals as goal
 
-pub returns-in-Some : goal.returns-in-Some
-returns-in-Some c =
-    piece_spans_first (code_of c.args.on) (part_in c.args.self) _ (c.in-Some.piece, c.in-Some.others) _ c.as_byte.ensures.code c.in-Some.ensures c.piece.ensures
+pub returns-in-Some-clause-pieces : goal.returns-in-Some-clause-pieces
+returns-in-Some-clause-pieces c =
+    piece_spans_first (code_of c.args.on) (part_in c.args.self) _ (c.in-Some.piece, c.in-Some.others) _ c.as_byte.ensures.code c.in-Some.ensures c.piece.ensures.piece
 
-pub returns-in-None : goal.returns-in-None
-returns-in-None c = piece_spans_free (code_of c.args.on) (part_in c.args.self) _ _ c.as_byte.ensures.code c.in-None.ensures c.piece-in-None.ensures
+pub returns-in-None-clause-pieces : goal.returns-in-None-clause-pieces
+returns-in-None-clause-pieces c = piece_spans_free (code_of c.args.on) (part_in c.args.self) _ _ c.as_byte.ensures.code c.in-None.ensures c.piece-in-None.ensures.piece

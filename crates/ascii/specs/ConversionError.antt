@@ -1,4 +1,4 @@
--- What a refused conversion hands back.
+-- What a failed conversion returns.
 use Rattle.std.specs.Prelude.{◌≡◌, ℕ, ◌<◌, List, length}
 use Rattle.std.specs.Str.{IsAscii}
 use Rattle.ascii_base.specs.Bytes.{FirstOther}
@@ -8,20 +8,20 @@ use Rattle.ascii.specs.declared.from_ascii.CopyError.{CopyError}
 use Rattle.ascii.specs.declared.from_ascii.CopyError.TheVariants.{NotAscii, Memory}
 use Rattle.ascii.specs.View.{position_of}
 
--- why a conversion was refused
+-- the reason for the error
 abbrev pub ascii_error_of : {O : Type 0} → FromAsciiError O → AsAsciiStrError
 ascii_error_of e = e.error
 
--- the source that a refusal hands back
+-- the source that the error holds
 abbrev pub source_of : {O : Type 0} → FromAsciiError O → O
 source_of e = e.source
 
--- the refusal names the first byte over 127 and has the source itself
+-- the error holds `source` itself, and the position of the first byte over 127
 abbrev pub ReturnsSource : {O : Type 0} → O → List ℕ → FromAsciiError O → Type 0
-ReturnsSource source bytes e =
-    (source_of e ≡ source) × FirstOther bytes 0 (length bytes) (position_of (ascii_error_of e))
+ReturnsSource source bytes e = (source_of e ≡ source)
+    × FirstOther bytes 0 (length bytes) (position_of (ascii_error_of e))
 
--- a copy is refused for a byte over 127, and for want of memory only where there are bytes, all of them under 128
+-- `NotAscii`: as `ReturnsSource`. `Memory`: there is at least one byte, and all are ASCII
 abbrev pub RejectsCopy : {O : Type 0} → O → List ℕ → CopyError O → Type 0
 RejectsCopy source bytes (NotAscii e) = ReturnsSource source bytes e
 RejectsCopy source bytes (Memory e) = IsAscii bytes × (0 < length bytes)
