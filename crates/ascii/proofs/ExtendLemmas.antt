@@ -6,6 +6,8 @@ use Rattle.std.specs.declared.alloc.AllocError.{AllocError}
 use Rattle.std.proofs.lemmas.Grind.{common_steps, flat_map-append}
 use Rattle.std.proofs.lemmas.Iterator.{YieldsList}
 use Rattle.std.proofs.lemmas.Iterator.Consumers.{YieldsList-end, YieldsList-so_far, YieldsList-turn}
+use Rattle.std.proofs.lemmas.List.{map-id}
+use Rattle.std.proofs.lemmas.List.Concat.{flat_map_single}
 use Rattle.std.proofs.lemmas.List.Folds.{flat_map-map, length-flat_map-take}
 use Rattle.ascii.specs.StringState.{StringState}
 use Rattle.ascii.specs.Extend.{Extends}
@@ -33,8 +35,7 @@ Extends-refused {S} {A} steps piece iter old mid new items left refused after re
 
 -- codes one by one are the text
 pub singles : (codes : List ℕ) → flat_map (λ code. code ∷ []) codes ≡ codes
-singles [] = refl
-singles (code ∷ codes) = ap (λ left. code ∷ left) (singles codes)
+singles codes = flat_map_single (λ code. code) codes ∙ map-id codes
 
 -- what follows from what an Ok says
 pub if_ok : {T E : Type 0} {P Q : T → Type 0} (result : Result T E) → IfOk result P → ((x : T) → P x → Q x) → IfOk result Q

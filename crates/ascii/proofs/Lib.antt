@@ -1,8 +1,10 @@
+pub mod CallerLemmas
 pub mod DebugLemmas
 pub mod EndsLemmas
 pub mod ExtendLemmas
 pub mod JsonLemmas
 pub mod LinesLemmas
+pub mod ListLemmas
 pub mod PiecesLemmas
 pub mod RestsLemmas
 pub mod SearchLemmas

@@ -13,6 +13,7 @@ use Rattle.ascii.specs.declared.iter.spans.Ending.{Ending}
 use Rattle.ascii.specs.declared.iter.spans.Ending.TheVariants.{Lf, CrLf, Absent}
 use Rattle.ascii.specs.Found.{Free, HasWholeLines, ended_line, ends_in_cr, lines_of, lines_of_pieces, open_line, pieces_of}
 use Rattle.ascii.specs.Lines.{EndsInCr, Line, LinesOf, MayFollow, ending_text, line_text}
+use Rattle.ascii.proofs.ListLemmas.{append-some, front_is}
 use Rattle.ascii.proofs.PiecesLemmas.{Free-from_absent, absent-from_Free, all_free, is_on, length-pieces_of, pieces_of-free, slice_split-joint, slice_split-some}
 
 -- the ending of a line may stand behind its body
@@ -24,10 +25,6 @@ MayEnd line = MayFollow line.ending line.body
 lines_of_pieces-cons : (p : List ℕ) (ps : List (List ℕ)) → ps ≢ [] → lines_of_pieces (p ∷ ps) ≡ ended_line p ∷ lines_of_pieces ps
 lines_of_pieces-cons p [] some = absurd (some refl)
 lines_of_pieces-cons p (q ∷ qs) some = refl
-
-append-some : {X : Type 0} (xs ys : List X) → ys ≢ [] → xs ++ ys ≢ []
-append-some [] ys some = some
-append-some (x ∷ xs) ys some = λ none. cc
 
 lines_of_pieces-append : (ps qs : List (List ℕ)) → qs ≢ [] → lines_of_pieces (ps ++ qs) ≡ map ended_line ps ++ lines_of_pieces qs
 lines_of_pieces-append [] qs some = refl
@@ -129,12 +126,6 @@ all_end ((x ∷ xs) ∷ []) =
     let line : Line = record { body = x ∷ xs; ending = Absent } in
     All-cons MayEnd line [] (λ none. cc) (All-nil MayEnd)
 all_end (p ∷ q ∷ qs) = All-cons MayEnd (ended_line p) (lines_of_pieces (q ∷ qs)) (MayEnd-ended p) (all_end (q ∷ qs))
-
--- all but the last of a longer list
-front_is : {X : Type 0} (x y : X) (xs : List X) → take (length (x ∷ y ∷ xs) - 1) (x ∷ y ∷ xs) ≡ x ∷ take (length (y ∷ xs) - 1) (y ∷ xs)
-front_is x y xs =
-    let n : length (x ∷ y ∷ xs) - 1 ≡ suc (length (y ∷ xs) - 1) = omega arith in
-    ap (λ m. take m (x ∷ y ∷ xs)) n
 
 ended_front : (line : Line) (lines : List Line) → line.ending ≢ Absent → All (λ one. one.ending ≢ Absent) (take (length lines - 1) lines)
     → All (λ one. one.ending ≢ Absent) (take (length (line ∷ lines) - 1) (line ∷ lines))

@@ -7,14 +7,7 @@ use Rattle.ascii_base.specs.Bytes.{FirstOther}
 use Rattle.ascii_base.specs.declared.range.AsciiRange.{AsciiRange}
 use Rattle.ascii_base.specs.Range.{start_of, end_of, Fits}
 use Rattle.ascii.specs.Slice.{IsRejected}
-
--- a byte of `&bytes[s..e]` is the byte of the source s places later
-pub slice_range-at : (bytes : List ℕ) (s e k : ℕ) → k < e - s → get_or (slice_range bytes s e) k 0 ≡ get_or bytes (s + k) 0
-slice_range-at bytes s e k h = get_or-take (e - s) (drop s bytes) k 0 h ∙ get_or-drop s bytes k 0
-
--- the length of `&bytes[s..e]`
-pub length-slice_range : (bytes : List ℕ) (s e : ℕ) → s ≤ e → e ≤ length bytes → length (slice_range bytes s e) ≡ e - s
-length-slice_range bytes s e a b = grind (arith, common_steps)
+use Rattle.ascii.proofs.ListLemmas.{length-slice_range, slice_range-at}
 
 -- the first byte over 127 of a part is that of the source between the ends of the part
 pub FirstOther-shift : (bytes : List ℕ) (s e i : ℕ) → s ≤ e → e ≤ length bytes

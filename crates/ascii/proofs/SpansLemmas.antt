@@ -15,11 +15,11 @@ use Rattle.ascii.proofs.PiecesLemmas.{Pieces-only, Pieces-pieces_of, length-piec
 -- ---- items one behind the other
 
 -- how much room items take
-abbrev room : {A : Type 0} → (A → ℕ) → List A → ℕ
+abbrev pub room : {A : Type 0} → (A → ℕ) → List A → ℕ
 room size [] = 0
 room size (item ∷ items) = size item + room size items
 
-with_starts-last : {A : Type 0} (size : A → ℕ) (start : ℕ) (items : List A) (item : A)
+pub with_starts-last : {A : Type 0} (size : A → ℕ) (start : ℕ) (items : List A) (item : A)
     → with_starts size start (items ++ item ∷ []) ≡ with_starts size start items ++ record { start = start + room size items; item = item } ∷ []
 with_starts-last {A} size start [] item =
     let at : ℕ → List (WithStart A) = λ n. record { start = n; item = item } ∷ [] in
@@ -31,7 +31,7 @@ with_starts-last {A} size start (first ∷ items) item =
     ap (λ others. record { start = start; item = first } ∷ others) (with_starts-last size (start + size first) items item ∙ ap at sum)
 
 -- the items alone
-items-with_starts : {A : Type 0} (size : A → ℕ) (start : ℕ) (items : List A) → items_of (with_starts size start items) ≡ items
+pub items-with_starts : {A : Type 0} (size : A → ℕ) (start : ℕ) (items : List A) → items_of (with_starts size start items) ≡ items
 items-with_starts size start [] = refl
 items-with_starts size start (item ∷ items) = ap (λ others. item ∷ others) (items-with_starts size (start + size item) items)
 
@@ -42,7 +42,7 @@ length-with_starts size start (item ∷ items) = ap suc (length-with_starts size
 -- ---- pieces
 
 -- pieces take the room of the text and one separator
-room-pieces : (on : ℕ) (pieces : List (List ℕ)) → pieces ≢ [] → room piece_size pieces ≡ length (join_with_byte on pieces) + 1
+pub room-pieces : (on : ℕ) (pieces : List (List ℕ)) → pieces ≢ [] → room piece_size pieces ≡ length (join_with_byte on pieces) + 1
 room-pieces on [] some = absurd (some refl)
 room-pieces on (piece ∷ []) some = omega arith
 room-pieces on (piece ∷ next ∷ others) some =
@@ -104,7 +104,7 @@ module _ (on : ℕ) (part : WithStart (List ℕ)) where
 -- ---- lines
 
 -- lines take the room of the text
-room-lines : (lines : List Line) → room line_size lines ≡ length (flat_map line_text lines)
+pub room-lines : (lines : List Line) → room line_size lines ≡ length (flat_map line_text lines)
 room-lines [] = refl
 room-lines (line ∷ lines) =
     ap (λ n. line_size line + n) (room-lines lines) ∙ sym (length-append (line_text line) (flat_map line_text lines))

@@ -11,7 +11,8 @@ use Rattle.std.proofs.lemmas.List.{length-map}
 use Rattle.std.proofs.lemmas.Slice.{between-put_mid}
 use Rattle.std.proofs.lemmas.Str.Ascii.{IsAscii-from_reads, IsAscii-map}
 use borrow.Rule.Slice.PartMut.{put_mid}
-use Rattle.ascii.proofs.SliceLemmas.{slice_range-at, length-slice_range}
+use Rattle.ascii.proofs.ListLemmas.{slice_range-at, length-slice_range}
+use Rattle.ascii.proofs.TextLemmas.{lower_image-below, upper_image-below}
 
 -- a part that holds only bytes under 128 holds them between its ends
 pub AsciiBetween-part : (bytes : List ℕ) (s e : ℕ) → IsAscii (slice_range bytes s e) → AsciiBetween bytes s e
@@ -42,28 +43,22 @@ IsAscii-part bytes s e ordered inside ascii =
     subst P (sym (slice_range-at bytes s e k below)) (ascii (s + k) (omega arith) (omega arith)))
 
 -- a part that is mapped to bytes under 128 keeps to them
-mapped : (f : ℕ → ℕ) → ((b : ℕ) → b < 128 → f b < 128) → (xs ys : List ℕ) (s e : ℕ) → s ≤ e → e ≤ length xs → AsciiBetween xs s e
+AsciiBetween-mapped : (f : ℕ → ℕ) → ((b : ℕ) → b < 128 → f b < 128) → (xs ys : List ℕ) (s e : ℕ) → s ≤ e → e ≤ length xs → AsciiBetween xs s e
     → ys ≡ map f (slice_range xs s e) → AsciiBetween (put_mid s (e - s) xs ys) s e
-mapped f small xs ys s e ordered inside ascii is =
+AsciiBetween-mapped f small xs ys s e ordered inside ascii is =
     let long : length ys ≡ e - s = ap length is ∙ length-map (slice_range xs s e) f ∙ length-slice_range xs s e ordered inside in
     let part : slice_range (put_mid s (e - s) xs ys) s e ≡ map f (slice_range xs s e) = between-put_mid s (e - s) xs ys e (omega arith) long ∙ is in
     AsciiBetween-part (put_mid s (e - s) xs ys) s e
     (subst IsAscii (sym part) (IsAscii-map f (slice_range xs s e) small (IsAscii-part xs s e ordered inside ascii)))
 
-upper_small : (b : ℕ) → b < 128 → upper_image b < 128
-upper_small b small = grind (arith, nat_tests)
-
-lower_small : (b : ℕ) → b < 128 → lower_image b < 128
-lower_small b small = grind (arith, nat_tests)
-
 -- a part keeps to bytes under 128 in either case
-pub raised : (xs ys : List ℕ) (s e : ℕ) → s ≤ e → e ≤ length xs → AsciiBetween xs s e
+pub AsciiBetween-upper : (xs ys : List ℕ) (s e : ℕ) → s ≤ e → e ≤ length xs → AsciiBetween xs s e
     → ys ≡ map upper_image (slice_range xs s e) → AsciiBetween (put_mid s (e - s) xs ys) s e
-raised = mapped upper_image upper_small
+AsciiBetween-upper = AsciiBetween-mapped upper_image upper_image-below
 
-pub lowered : (xs ys : List ℕ) (s e : ℕ) → s ≤ e → e ≤ length xs → AsciiBetween xs s e
+pub AsciiBetween-lower : (xs ys : List ℕ) (s e : ℕ) → s ≤ e → e ≤ length xs → AsciiBetween xs s e
     → ys ≡ map lower_image (slice_range xs s e) → AsciiBetween (put_mid s (e - s) xs ys) s e
-lowered = mapped lower_image lower_small
+AsciiBetween-lower = AsciiBetween-mapped lower_image lower_image-below
 
 -- the same, for either case
-pub ruleset keeps_ascii = (raised, lowered)
+pub ruleset keeps_ascii = (AsciiBetween-upper, AsciiBetween-lower)

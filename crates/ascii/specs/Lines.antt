@@ -59,4 +59,5 @@ bodies lines = map (λ line. line.body) lines
 -- `None` if no lines remain; otherwise a view whose lines are the remaining ones
 abbrev pub IsRemainderOfLines : List Line → Option AsciiStr → Type 0
 IsRemainderOfLines remaining result =
-    MatchOption result (remaining ≡ []) (λ view. LinesOf (text_of view) remaining × (remaining ≢ []))
+    MatchOption result (remaining ≡ [])
+    (λ view. LinesOf (text_of view) remaining × (remaining ≢ []))

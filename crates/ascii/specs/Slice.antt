@@ -1,6 +1,6 @@
 -- The outcome of taking a range of a source as ASCII text.
-use Rattle.std.specs.Prelude.{◌≡◌, ◌<◌, ◌≤◌, ◌⊎◌, ℕ, List, length, slice_index}
-use Rattle.std.specs.Prelude.{MatchOption, MatchResult, Option}
+use Rattle.std.specs.Prelude.{◌≡◌, ◌<◌, ◌≤◌, ◌⊎◌, ℕ, List, length, slice_index, MatchOption}
+use Rattle.std.specs.Prelude.{MatchResult, Option}
 use Rattle.std.specs.declared.result.Result.{Result}
 use Rattle.std.specs.Str.{IsAscii}
 use Rattle.ascii_base.specs.declared.range.AsciiRange.{AsciiRange}

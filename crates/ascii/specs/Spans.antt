@@ -63,8 +63,8 @@ pub record IteratesPieceSpans (start : ℕ) (text : List ℕ) (on : ℕ)
   pub separator : split.on ≡ on
   pub fits : length split.items < 2 ^ 64
 
--- `remaining` are the lines of `text`, laid end to end from `start`, the only list that they are, of
--- a length that fits a `usize`
+-- `remaining` are the lines of `text`, laid end to end from `start`, the only list that they are,
+-- of a length that fits a `usize`
 pub record IteratesLineSpans (start : ℕ) (text : List ℕ) (remaining : List (WithStart Line))
     : Type 0 where
   pub spans : LineSpansOf start text remaining

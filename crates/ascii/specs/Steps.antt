@@ -58,9 +58,9 @@ module _ {S A B : Type 0} (view : A → B) (items : S → List B)
   abbrev pub LoopsInReverse : Type 0
   LoopsInReverse = EveryRun YieldsLastAnd (λ p. ItemsMapToReversed p view (items p.from))
 
--- The laws of loops. A call that makes an iterator ensures two of them, for the proof of a loop or a
--- chain over that iterator: one for steps from the front, one for steps from the back. They say
--- nothing of the call's own result.
+-- The laws of loops. A call that makes an iterator ensures two of them, for the proof of a loop or
+-- a chain over that iterator: one for steps from the front, one for steps from the back. They are
+-- laws for a caller's proof, not promises about the call's result.
 
 -- loops over a `Split` see the pieces in order
 abbrev pub LoopsOverPieces : Type 0

@@ -1,6 +1,6 @@
 -- What contracts see of an owned string, and what its calls do to it.
-use Rattle.std.specs.Prelude.{◌≡◌, ℕ, ◌+◌, ◌<◌, ◌≤◌, List, [], ◌++◌, length, take, drop}
-use Rattle.std.specs.Prelude.{IsOk, OnErr, OnOk}
+use Rattle.std.specs.Prelude.{◌≡◌, ℕ, ◌+◌, ◌<◌, ◌≤◌, List, [], ◌++◌, length, take, drop, IsOk}
+use Rattle.std.specs.Prelude.{OnErr, OnOk}
 use Rattle.std.specs.Str.{IsAscii}
 use Rattle.std.specs.declared.alloc.AllocError.{AllocError}
 use Rattle.std.specs.declared.fmt.Error.{Error}

@@ -1,5 +1,5 @@
--- What contracts see of a mutable view: the whole borrowed source, as the bytes before the text, the
--- text, and the bytes after it.
+-- What contracts see of a mutable view: the whole borrowed source, as the bytes before the text,
+-- the text, and the bytes after it.
 use Rattle.std.specs.Prelude.{◌≡◌, ℕ, List, length, take, drop, slice_range, ◌++◌, MatchResult}
 use Rattle.std.specs.Borrow.{Array, Fml, GName, MutBor, RestsIfErr, u8}
 use Rattle.std.specs.declared.result.Result.{Result}

@@ -1,8 +1,8 @@
 //! Views over bytes that are all under 128.
 
-ghost use Rattle.std.specs.Prelude.{◌≡◌, ◌-◌, ◌<◌, ◌↔◌, ◌++◌, [], IsOkAnd, IsTrue, OnErr, Some, codes, length, map, slice_get, slice_index};
+ghost use Rattle.std.specs.Prelude.{◌≡◌, ◌-◌, ◌<◌, ◌↔◌, [], IsOkAnd, IsTrue, OnErr, Some, codes};
+ghost use Rattle.std.specs.Prelude.{length, map, slice_get, slice_index};
 ghost use Rattle.std.specs.Str.{IsAscii};
-ghost use Rattle.std.specs.Fmt.{decimal};
 ghost use Rattle.std.specs.Option.{option_map};
 ghost use Rattle.std.proofs.Props.{props};
 ghost use Rattle.ascii_base.specs.Case.{lower_image};
@@ -82,7 +82,8 @@ impl<'a> AsciiStr<'a> {
     ///     view("foo").last() // Some('o')
     #[inline]
     pub fn last(self) -> Option<AsciiChar>
-        ensures { option_map code_of result ≡ slice_get (text_of self.entry) (length (text_of self.entry) - 1) }
+        ensures { let text = text_of self.entry in
+            option_map code_of result ≡ slice_get text (length text - 1) }
     {
         self.get_ascii(self.bytes.len().saturating_sub(1))
     }
@@ -195,7 +196,8 @@ impl<'a> AsciiStr<'a> {
     ///     view("Host").eq_ignore_ascii_case(view("HOST")) // true
     #[inline]
     pub fn eq_ignore_ascii_case(self, other: AsciiStr<'_>) -> bool
-        ensures { IsTrue result ↔ (map lower_image (text_of self.entry) ≡ map lower_image (text_of other.entry)) }
+        ensures { IsTrue result
+            ↔ (map lower_image (text_of self.entry) ≡ map lower_image (text_of other.entry)) }
     {
         kernels::eq_ignore_case(self.bytes, other.bytes)
     }
@@ -312,9 +314,9 @@ impl AsAsciiStrError {
 }
 
 impl fmt::Display for AsAsciiStrError {
-    ghost use Rattle.ascii.specs.View.{position_of};
+    ghost use Rattle.ascii.specs.View.{error_text, position_of};
 
-    ghost output = { λ e. Some (codes "the byte at index " ++ decimal (position_of e) ++ codes " is not ASCII") };
+    ghost output = { λ e. Some (error_text (position_of e)) };
 
     ///     bytes::as_ascii_str(b"ab\xc4").map_err(|e| e.to_string(alloc)) // Err(Ok("the byte at index 2 is not ASCII"))
     fn fmt<W: fmt::Write>(&self, f: &mut fmt::Formatter<W>) -> fmt::Result {

@@ -3,7 +3,7 @@
 ghost use Rattle.std.specs.Prelude.{◌≡◌, ◌+◌, ◌-◌, ◌<◌, ◌≤◌, ◌↔◌, ◌++◌, ◌∷◌, [], IfOk, IsOk, IsTrue, OnErr, OnOk, insert, length, map, remove, slice_get, slice_index, slice_set, take, vec_capacity, vec_len};
 ghost use Rattle.std.specs.Option.{option_map};
 ghost use Rattle.ascii_base.specs.Case.{lower_image, upper_image};
-ghost use Rattle.ascii_base.specs.Code.{code_of};
+ghost use Rattle.ascii_base.specs.Code.{code_of, code_text};
 ghost use Rattle.ascii.specs.StringState.{EditsInPlace, GrowsTo, Reserves, Writes, insert_text};
 ghost use Rattle.ascii.specs.View.{text_of};
 
@@ -153,7 +153,7 @@ impl<A: Allocator> AsciiString<A> {
     ///     text // "foo"
     #[inline]
     pub fn push(&mut self, ch: AsciiChar) -> Result<(), AllocError>
-        ensures { GrowsTo (self.old.text ++ code_of ch ∷ []) self.old self.new result }
+        ensures { GrowsTo (self.old.text ++ code_text ch) self.old self.new result }
     {
         self.bytes.push(ch.as_byte())?;
         Ok(())
@@ -195,7 +195,8 @@ impl<A: Allocator> AsciiString<A> {
     ///     text // "floo"
     pub fn insert_str(&mut self, idx: usize, view: AsciiStr<'_>) -> Result<(), AllocError>
         requires { idx ≤ length self.old.text }
-        ensures { GrowsTo (insert_text self.old.text idx (text_of view.entry)) self.old self.new result }
+        ensures { GrowsTo (insert_text self.old.text idx (text_of view.entry))
+            self.old self.new result }
     {
         insert_bytes(&mut self.bytes, idx, view.as_bytes())?;
         Ok(())
@@ -221,8 +222,10 @@ impl<A: Allocator> AsciiString<A> {
     ///     text // "f"
     #[inline]
     pub fn pop(&mut self) -> Option<AsciiChar>
-        ensures popped { option_map code_of result ≡ slice_get self.old.text (length self.old.text - 1) }
-        ensures edits { EditsInPlace (take (length self.old.text - 1) self.old.text) self.old self.new }
+        ensures popped { let text = self.old.text in
+            option_map code_of result ≡ slice_get text (length text - 1) }
+        ensures edits { let text = self.old.text in
+            EditsInPlace (take (length text - 1) text) self.old self.new }
     {
         let byte = self.bytes.pop()?;
         Some(AsciiChar::from_ascii_unchecked(byte))
@@ -372,7 +375,8 @@ impl<A: Allocator> PartialOrd for AsciiString<A> {
 
     ghost partial_cmp = { as_partial_cmp (on (λ string. string.text) (slice_cmp nat_cmp)) };
 
-    ghost laws = { partial_order_from_own_ties (Prim.search (comparing, rules)) (Prim.search (comparing, rules)) };
+    ghost laws = { partial_order_from_own_ties
+        (Prim.search (comparing, rules)) (Prim.search (comparing, rules)) };
 
     ///     view("foo").to_ascii_string(alloc)? < view("fop").to_ascii_string(alloc)? // true
     fn partial_cmp(&self, other: &AsciiString<A>) -> Option<Ordering> {
@@ -487,7 +491,8 @@ impl<A: Allocator> fmt::Write for AsciiString<A> {
 }
 
 impl<A: Allocator> From<AsciiString<A>> for Vec<u8, A> {
-    ghost from_gives = { λ string bytes. (bytes.items ≡ string.text) × (vec_capacity bytes ≡ string.capacity) };
+    ghost from_gives = { λ string bytes.
+        (bytes.items ≡ string.text) × (vec_capacity bytes ≡ string.capacity) };
 
     /// The bytes of the text, in the buffer that it had.
     ///
@@ -500,7 +505,8 @@ impl<A: Allocator> From<AsciiString<A>> for Vec<u8, A> {
 impl<A: Allocator> From<AsciiString<A>> for String<A> {
     ghost use Rattle.std.specs.String.{string_bytes, string_capacity};
 
-    ghost from_gives = { λ string text. (string_bytes text ≡ string.text) × (string_capacity text ≡ string.capacity) };
+    ghost from_gives = { λ string text.
+        (string_bytes text ≡ string.text) × (string_capacity text ≡ string.capacity) };
 
     /// The text as a `String`, in the buffer that it had.
     ///

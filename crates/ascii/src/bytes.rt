@@ -49,7 +49,8 @@ pub fn from_ascii(source: &[u8]) -> Result<AsciiStr<'_>, AsAsciiStrError>
 ///     bytes::slice_ascii(b"ab\xc4d", AsciiRange::From(5)) // Err(AsAsciiStrError(4))
 pub fn slice_ascii(source: &[u8], range: AsciiRange) -> Result<AsciiStr<'_>, AsAsciiStrError>
     ensures outcome { SliceOutcome source.now range result }
-    ensures ascii { OnOk result (AsciiBetween source.now (start_of range) (end_of range (length source.now))) }
+    ensures ascii { OnOk result
+        (AsciiBetween source.now (start_of range) (end_of range (length source.now))) }
 {
     let (start, end) = checked_bounds(source, range)?;
     Ok(AsciiStr {
@@ -97,7 +98,8 @@ pub fn to_ascii_string<A: Allocator>(
     alloc: A,
     source: &[u8],
 ) -> Result<AsciiString<A>, CopyError<&[u8]>>
-    ensures { MatchResult result (λ string. string.text ≡ source.now) (RejectsCopy source.entry source.now) }
+    ensures { MatchResult result (λ string. string.text ≡ source.now)
+        (RejectsCopy source.entry source.now) }
 {
     match as_ascii_str(source) {
         Ok(view) => match view.to_ascii_string(alloc) {

@@ -101,8 +101,10 @@ struct Searched<'a> {
 
 /// Looks through the range of a source, and keeps hold of the source.
 fn search(source: &mut [u8], range: AsciiRange) -> Searched<'_>
-    ensures accepted { result.is_refused ≡ false → Fits range (length source.old) × IsViewOf source.old (start_of range) (end_of range (length source.old)) result.view }
-    ensures refused { result.is_refused ≡ true → IsRejected source.old range (record { valid_up_to = result.valid_up_to }) }
+    ensures accepted { result.is_refused ≡ false → let n = length source.old in
+        Fits range n × IsViewOf source.old (start_of range) (end_of range n) result.view }
+    ensures refused { result.is_refused ≡ true
+        → IsRejected source.old range (record { valid_up_to = result.valid_up_to }) }
     ensures whole { whole_source_of result.view ≡ source.old }
     ensures lender { borrow_of result.view ≡ source.entry.ghost_name }
 {

@@ -3,7 +3,7 @@
 ghost use Rattle.std.specs.Prelude.{◌≡◌, ◌+◌, ◌≤◌, [], ◌∷◌, IfOk, List};
 ghost use Rattle.std.specs.Iterator.{Drains, IsFinite};
 ghost use Rattle.std.specs.List.{flat_map};
-ghost use Rattle.ascii_base.specs.Code.{code_of};
+ghost use Rattle.ascii_base.specs.Code.{code_text};
 ghost use Rattle.ascii_base.specs.declared.ascii_char.AsciiChar.{AsciiChar as Char};
 ghost use Rattle.ascii.specs.declared.ascii_str.AsciiStr.{AsciiStr as View};
 ghost use Rattle.ascii.specs.Extend.{Collects, Extends};
@@ -27,7 +27,7 @@ impl<A: Allocator> AsciiString<A> {
     ) -> Result<(), AllocError>
         requires can { I.can_next iter }
         requires ends { IsFinite (I.remaining iter) }
-        ensures extends { Extends I.next_gives (λ ch. code_of ch ∷ []) iter self.old self.new result }
+        ensures extends { Extends I.next_gives code_text iter self.old self.new result }
         ensures capacity { self.old.capacity ≤ self.new.capacity }
     {
         for ch in iter {
@@ -67,7 +67,7 @@ impl<A: Allocator> AsciiString<A> {
     ) -> Result<AsciiString<A>, AllocError>
         requires can { I.can_next iter }
         requires ends { IsFinite (I.remaining iter) }
-        ensures { IfOk result (λ string. Collects I.next_gives (λ ch. code_of ch ∷ []) iter string.text) }
+        ensures { IfOk result (λ string. Collects I.next_gives code_text iter string.text) }
     {
         let mut string = AsciiString::new(alloc);
         string.extend_chars(iter)?;

@@ -2,7 +2,7 @@
 
 ghost use Rattle.std.specs.Prelude.{◌≡◌, [], ◌∷◌, IfErr, IfOk, IsOk, map};
 ghost use Rattle.ascii_base.specs.Case.{lower_image, upper_image};
-ghost use Rattle.ascii_base.specs.Code.{code_of};
+ghost use Rattle.ascii_base.specs.Code.{code_of, code_text};
 ghost use Rattle.ascii.specs.View.{text_of};
 
 use crate::ascii_str::AsciiStr;
@@ -65,7 +65,7 @@ impl<A: Allocator> AsciiString<A> {
     ///
     ///     AsciiString::from_char(alloc, AsciiChar::a)? // "a"
     pub fn from_char(alloc: A, ch: AsciiChar) -> Result<AsciiString<A>, AllocError>
-        ensures { IfOk result (λ string. string.text ≡ code_of ch ∷ []) }
+        ensures { IfOk result (λ string. string.text ≡ code_text ch) }
     {
         let mut string = AsciiString::with_capacity(alloc, 1)?;
         string.push(ch)?;

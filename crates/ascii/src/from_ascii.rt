@@ -1,7 +1,6 @@
 //! The refusals of conversions into owned text.
 
-ghost use Rattle.std.specs.Prelude.{◌≡◌, ◌++◌, Some, codes};
-ghost use Rattle.std.specs.Fmt.{decimal};
+ghost use Rattle.std.specs.Prelude.{◌≡◌, Some};
 
 use crate::ascii_str::AsAsciiStrError;
 use std::alloc::AllocError;
@@ -41,9 +40,9 @@ impl<O> FromAsciiError<O> {
 
 impl<O> fmt::Display for FromAsciiError<O> {
     ghost use Rattle.ascii.specs.ConversionError.{ascii_error_of};
-    ghost use Rattle.ascii.specs.View.{position_of};
+    ghost use Rattle.ascii.specs.View.{error_text, position_of};
 
-    ghost output = { λ e. Some (codes "the byte at index " ++ decimal (position_of (ascii_error_of e)) ++ codes " is not ASCII") };
+    ghost output = { λ e. Some (error_text (position_of (ascii_error_of e))) };
 
     ///     vec::into_ascii_string(Vec::from_slice(alloc, b"ab\xc4")?).map_err(|e| e.to_string(alloc)) // Err(Ok("the byte at index 2 is not ASCII"))
     fn fmt<W: fmt::Write>(&self, f: &mut fmt::Formatter<W>) -> fmt::Result {

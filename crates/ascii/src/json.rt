@@ -5,7 +5,7 @@ ghost use Rattle.std.specs.Prelude.{◌≡◌, [], ◌∷◌, IfOk, MatchResult,
 ghost use Rattle.serde_json.specs.Data.{string};
 ghost use Rattle.serde_json.specs.Find.{as_str};
 ghost use Rattle.serde_json.specs.View.{view};
-ghost use Rattle.ascii_base.specs.Code.{code_of};
+ghost use Rattle.ascii_base.specs.Code.{code_text};
 ghost use Rattle.ascii.specs.Json.{RejectsChar, RejectsText, RejectsTextCopy};
 ghost use Rattle.ascii.specs.View.{text_of};
 
@@ -55,7 +55,7 @@ impl<A: Allocator> AsciiString<A> {
 ///
 ///     char_to_json(alloc, AsciiChar::a)?.to_string(alloc)? // "\"a\""
 pub fn char_to_json(alloc: Global, ch: AsciiChar) -> Result<Value, AllocError>
-    ensures { IfOk result (λ value. view value ≡ string (code_of ch ∷ [])) }
+    ensures { IfOk result (λ value. view value ≡ string (code_text ch)) }
 {
     let mut text = String::new(alloc);
     text.push(ch.as_char())?;
@@ -67,7 +67,8 @@ pub fn char_to_json(alloc: Global, ch: AsciiChar) -> Result<Value, AllocError>
 ///     char_from_json(&Value::from_str(alloc, "\"a\"")?) // Ok('a')
 ///     char_from_json(&Value::from_str(alloc, "\"ab\"")?) // Err(NotOneByte)
 pub fn char_from_json(value: &Value) -> Result<AsciiChar, JsonError>
-    ensures { MatchResult result (λ ch. as_str (view value.now) ≡ Some (code_of ch ∷ [])) (RejectsChar (view value.now)) }
+    ensures { MatchResult result (λ ch. as_str (view value.now) ≡ Some (code_text ch))
+        (RejectsChar (view value.now)) }
 {
     let text = value.as_str().ok_or(JsonError::NotText)?;
     if text.len() != 1 {
@@ -82,7 +83,8 @@ pub fn char_from_json(value: &Value) -> Result<AsciiChar, JsonError>
 ///     str_from_json(&Value::from_str(alloc, "\"foo\"")?) // Ok("foo")
 ///     str_from_json(&Value::from_str(alloc, "7")?) // Err(NotText)
 pub fn str_from_json(value: &Value) -> Result<AsciiStr<'_>, JsonError>
-    ensures { MatchResult result (λ text. as_str (view value.now) ≡ Some (text_of text)) (RejectsText (view value.now)) }
+    ensures { MatchResult result (λ text. as_str (view value.now) ≡ Some (text_of text))
+        (RejectsText (view value.now)) }
 {
     let text = value.as_str().ok_or(JsonError::NotText)?;
     text::as_ascii_str(text).map_err(JsonError::NotAscii)
@@ -92,7 +94,8 @@ pub fn str_from_json(value: &Value) -> Result<AsciiStr<'_>, JsonError>
 ///
 ///     string_from_json(alloc, &Value::from_str(alloc, "\"foo\"")?) // Ok("foo")
 pub fn string_from_json<A: Allocator>(alloc: A, value: &Value) -> Result<AsciiString<A>, JsonError>
-    ensures { MatchResult result (λ string. as_str (view value.now) ≡ Some string.text) (RejectsTextCopy (view value.now)) }
+    ensures { MatchResult result (λ string. as_str (view value.now) ≡ Some string.text)
+        (RejectsTextCopy (view value.now)) }
 {
     let view = str_from_json(value)?;
     view.to_ascii_string(alloc).map_err(|_| JsonError::Memory)

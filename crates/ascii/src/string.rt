@@ -17,7 +17,8 @@ use std::alloc::Allocator;
 pub fn into_ascii_string<A: Allocator>(
     string: String<A>,
 ) -> Result<AsciiString<A>, FromAsciiError<String<A>>>
-    ensures text { MatchResult result (λ ascii. ascii.text ≡ string_bytes string) (ReturnsSource string (string_bytes string)) }
+    ensures text { MatchResult result (λ ascii. ascii.text ≡ string_bytes string)
+        (ReturnsSource string (string_bytes string)) }
     ensures capacity { IfOk result (λ ascii. ascii.capacity ≡ string_capacity string) }
 {
     match kernels::first_other(string.as_bytes()) {
@@ -35,7 +36,8 @@ pub fn into_ascii_string<A: Allocator>(
 pub fn from_ascii<A: Allocator>(
     string: String<A>,
 ) -> Result<AsciiString<A>, FromAsciiError<String<A>>>
-    ensures text { MatchResult result (λ ascii. ascii.text ≡ string_bytes string) (ReturnsSource string (string_bytes string)) }
+    ensures text { MatchResult result (λ ascii. ascii.text ≡ string_bytes string)
+        (ReturnsSource string (string_bytes string)) }
     ensures capacity { IfOk result (λ ascii. ascii.capacity ≡ string_capacity string) }
 {
     into_ascii_string(string)

@@ -85,7 +85,8 @@ pub fn to_ascii_string<A: Allocator>(
     alloc: A,
     source: &str,
 ) -> Result<AsciiString<A>, CopyError<&str>>
-    ensures { MatchResult result (λ string. string.text ≡ source.now) (RejectsCopy source.entry source.now) }
+    ensures { MatchResult result (λ string. string.text ≡ source.now)
+        (RejectsCopy source.entry source.now) }
 {
     match as_ascii_str(source) {
         Ok(view) => match view.to_ascii_string(alloc) {

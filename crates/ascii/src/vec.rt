@@ -16,7 +16,8 @@ use std::alloc::Allocator;
 pub fn into_ascii_string<A: Allocator>(
     bytes: Vec<u8, A>,
 ) -> Result<AsciiString<A>, FromAsciiError<Vec<u8, A>>>
-    ensures text { MatchResult result (λ string. string.text ≡ bytes.items) (ReturnsSource bytes bytes.items) }
+    ensures text { MatchResult result (λ string. string.text ≡ bytes.items)
+        (ReturnsSource bytes bytes.items) }
     ensures capacity { IfOk result (λ string. string.capacity ≡ vec_capacity bytes) }
 {
     match kernels::first_other(&bytes) {
@@ -34,7 +35,8 @@ pub fn into_ascii_string<A: Allocator>(
 pub fn from_ascii<A: Allocator>(
     bytes: Vec<u8, A>,
 ) -> Result<AsciiString<A>, FromAsciiError<Vec<u8, A>>>
-    ensures text { MatchResult result (λ string. string.text ≡ bytes.items) (ReturnsSource bytes bytes.items) }
+    ensures text { MatchResult result (λ string. string.text ≡ bytes.items)
+        (ReturnsSource bytes bytes.items) }
     ensures capacity { IfOk result (λ string. string.capacity ≡ vec_capacity bytes) }
 {
     into_ascii_string(bytes)

@@ -1,5 +1,6 @@
 -- The classes of characters, as sets of codes.
-use Rattle.std.specs.Prelude.{◌⊎◌, ℕ, ◌≡◌, ◌-◌, ◌<◌, Option, Some, None, IsSomeAnd, if◌then◌else◌, nat_le, ◌&&◌}
+use Rattle.std.specs.Prelude.{◌⊎◌, ℕ, ◌≡◌, ◌-◌, ◌<◌, Option, Some, None, IsSomeAnd, if◌then◌else◌}
+use Rattle.std.specs.Prelude.{nat_le, ◌&&◌}
 use Rattle.std.specs.Int.{IsInRange}
 
 -- `A` to `Z`
@@ -34,7 +35,7 @@ IsBlank n = (n ≡ 9) ⊎ (n ≡ 32)
 abbrev pub IsWhitespace : ℕ → Type 0
 IsWhitespace n = IsInRange 9 13 n ⊎ (n ≡ 32)
 
--- the same without vertical tab
+-- tab, line feed, form feed, carriage return or space, but not vertical tab
 abbrev pub IsAsciiWhitespace : ℕ → Type 0
 IsAsciiWhitespace n = (n ≡ 9) ⊎ (n ≡ 10) ⊎ (n ≡ 12) ⊎ (n ≡ 13) ⊎ (n ≡ 32)
 
@@ -42,24 +43,24 @@ IsAsciiWhitespace n = (n ≡ 9) ⊎ (n ≡ 10) ⊎ (n ≡ 12) ⊎ (n ≡ 13) ⊎
 abbrev pub IsControl : ℕ → Type 0
 IsControl n = IsInRange 0 31 n ⊎ (n ≡ 127)
 
--- a character that leaves ink
+-- a visible (graphic) character
 abbrev pub IsGraphic : ℕ → Type 0
 IsGraphic n = IsInRange 33 126 n
 
--- a character that leaves ink, or space
+-- a visible (graphic) character or a space
 abbrev pub IsPrintable : ℕ → Type 0
 IsPrintable n = IsInRange 32 126 n
 
--- a character that leaves ink and is no digit or letter
+-- a visible (graphic) character that is neither a digit nor a letter
 abbrev pub IsPunctuation : ℕ → Type 0
 IsPunctuation n = IsInRange 33 47 n ⊎ IsInRange 58 64 n ⊎ IsInRange 91 96 n ⊎ IsInRange 123 126 n
 
--- what a code counts for as a digit: `0` to `9` as 0 to 9, and a letter of either case as 10 to 35
+-- the value of a code as a digit: 0 to 9 for `0` to `9`, and 10 to 35 for a letter of either case
 abbrev pub digit_value : ℕ → Option ℕ
 digit_value n = if nat_le 48 n && nat_le n 57 then Some (n - 48)
     else (if nat_le 65 n && nat_le n 90 then Some (n - 55)
     else (if nat_le 97 n && nat_le n 122 then Some (n - 87) else None))
 
--- the code is a digit in the radix
+-- the code `n` is a digit in `radix`
 abbrev pub IsDigitIn : ℕ → ℕ → Type 0
 IsDigitIn radix n = IsSomeAnd (digit_value n) (λ d. d < radix)

@@ -1,7 +1,7 @@
 //! The characters of US-ASCII.
 
 ghost use Rattle.std.specs.Prelude.{◌≡◌, ◌<◌, ◌≤◌, ◌↔◌, IsTrue, ℤ, pos, MatchResult, bit_or};
-ghost use Rattle.ascii_base.specs.Code.{code_of};
+ghost use Rattle.ascii_base.specs.Code.{code_of, code_text};
 ghost use Rattle.ascii_base.specs.Class.{IsAlphabetic, IsDigitIn, IsDigit, IsAlphanumeric, IsBlank, IsWhitespace, IsAsciiWhitespace, IsControl, IsGraphic, IsPrintable, IsLowercase, IsUppercase, IsPunctuation, IsHexdigit};
 ghost use Rattle.ascii_base.specs.Case.{upper_image, lower_image};
 ghost use Rattle.ascii_base.specs.Printable.{printable_of};
@@ -481,7 +481,8 @@ impl AsciiChar {
     ///     AsciiChar::a.eq_ignore_ascii_case(&AsciiChar::A) // true
     #[inline]
     pub fn eq_ignore_ascii_case(&self, other: &AsciiChar) -> bool
-        ensures { IsTrue result ↔ (lower_image (code_of self.now) ≡ lower_image (code_of other.now)) }
+        ensures { IsTrue result
+            ↔ (lower_image (code_of self.now) ≡ lower_image (code_of other.now)) }
     {
         self.to_ascii_lowercase() == other.to_ascii_lowercase()
     }
@@ -574,12 +575,12 @@ impl Hash for AsciiChar {
 }
 
 impl fmt::Display for AsciiChar {
-    ghost use Rattle.std.specs.Prelude.{[], ◌∷◌, Some};
+    ghost use Rattle.std.specs.Prelude.{Some};
     ghost use Rattle.std.specs.Fmt.{styled_text};
 
-    ghost output = { λ ch. Some (code_of ch ∷ []) };
+    ghost output = { λ ch. Some (code_text ch) };
 
-    ghost styled_output = { λ ch spec. Some (styled_text spec (code_of ch ∷ [])) };
+    ghost styled_output = { λ ch spec. Some (styled_text spec (code_text ch)) };
 
     ///     format!(in alloc; "{}", AsciiChar::a)? // "a"
     #[inline]
