@@ -6,16 +6,17 @@ use Rattle.std.specs.Iterator.{YieldsFirstBy}
 use Rattle.std.specs.List.{All, Contains, flat_map, join_with_byte}
 use Rattle.std.specs.declared.alloc.AllocError.{AllocError}
 use Rattle.std.proofs.lemmas.Grind.{flat_map-append}
+use Rattle.std.proofs.lemmas.Iterator.{YieldsList}
 use Rattle.std.proofs.lemmas.Iterator.Consumers.{YieldsList-from_first}
 use Rattle.std.proofs.lemmas.List.{append_cancel_left, map_push}
 use Rattle.std.proofs.lemmas.List.Elements.{All-cons, All-head, All-nil, All-tail, All-weaker}
 use Rattle.ascii_base.specs.Code.{code_of, code_text}
 use Rattle.ascii.specs.Extend.{Collects, Extends}
-use Rattle.ascii.specs.Lines.{Line, LinesOf, line_text}
-use Rattle.ascii.specs.Pieces.{Pieces}
+use Rattle.ascii.specs.Lines.{Line, LinesOf, bodies, line_text}
+use Rattle.ascii.specs.Pieces.{Pieces, Remaining}
 use Rattle.ascii.specs.Spans.{LineSpansOf, PieceSpans, WithStart, items_of, line_size, piece_size}
 use Rattle.ascii.specs.Spans.{with_starts}
-use Rattle.ascii.specs.Steps.{YieldsFirstAnd}
+use Rattle.ascii.specs.Steps.{DropsFirst, StepsPiece, YieldsFirstAnd}
 use Rattle.ascii.specs.StringState.{StringState}
 use Rattle.ascii.specs.View.{text_of}
 use Rattle.ascii.proofs.ExtendLemmas.{all_from_extends, ok_from_extends, pieces_from_drains, singles}
@@ -25,12 +26,13 @@ use Rattle.ascii.proofs.StepsLemmas.{road_from_first_and}
 
 -- ---- one item more at the back
 
-join_with_byte-push : (on : ℕ) (pieces : List (List ℕ)) (last : List ℕ) → pieces ≢ []
+-- pieces and one more are the joined pieces, the separator and the last piece
+pub join_with_last : (on : ℕ) (pieces : List (List ℕ)) (last : List ℕ) → pieces ≢ []
     → join_with_byte on (pieces ++ last ∷ []) ≡ join_with_byte on pieces ++ on ∷ last
-join_with_byte-push on [] last some = absurd (some refl)
-join_with_byte-push on (piece ∷ []) last some = refl
-join_with_byte-push on (piece ∷ next ∷ others) last some =
-    ap (λ t. piece ++ on ∷ t) (join_with_byte-push on (next ∷ others) last (λ none. cc))
+join_with_last on [] last some = absurd (some refl)
+join_with_last on (piece ∷ []) last some = refl
+join_with_last on (piece ∷ next ∷ others) last some =
+    ap (λ t. piece ++ on ∷ t) (join_with_last on (next ∷ others) last (λ none. cc))
     ∙ sym (append_assoc piece (on ∷ join_with_byte on (next ∷ others)) (on ∷ last))
 
 last_has : {A : Type 0} (P : A → Type 0) (items : List A) (last : A)
@@ -43,7 +45,7 @@ pub last_of_pieces : (on : ℕ) (text front last : List ℕ) (pieces : List (Lis
     → Pieces text on (pieces ++ last ∷ []) → Pieces front on pieces → front ++ on ∷ last ≡ text
 last_of_pieces on text front last pieces whole left =
     ap (λ t. t ++ on ∷ last) (sym left.joined)
-    ∙ (sym (join_with_byte-push on pieces last left.some) ∙ whole.joined)
+    ∙ (sym (join_with_last on pieces last left.some) ∙ whole.joined)
 
 -- the last piece does not contain the separator
 pub last_piece_free : (on : ℕ) (text last : List ℕ) (pieces : List (List ℕ))
@@ -157,45 +159,63 @@ line_spans_inside start text spans whole =
 
 -- ---- extends and collects over `chars()`, `split()` and `lines()`
 
-module _ {S : Type 0} (rest : S → List ℕ) (iter : S) (all : List ℕ) where
-  -- on `Ok`, extending from the characters of a text appends the text
-  pub extends_chars : (old new : StringState) (result : Result (Unit {0}) AllocError)
-      → Extends (YieldsFirstBy code_of rest) code_text iter old new result → rest iter ≡ all
-      → OnOk result (new.text ≡ old.text ++ all)
-  extends_chars old new result extends is =
-      subst (λ text. OnOk result (new.text ≡ old.text ++ text)) (singles all)
-      (all_from_extends (λ code. code ∷ []) old new result extends
-      (YieldsList-from_first code_of rest all is))
+chars_road : (iter all : List ℕ) → iter ≡ all
+    → YieldsList (YieldsFirstBy code_of (λ (chars : List ℕ). chars)) code_of iter all
+chars_road iter all is = YieldsList-from_first code_of (λ (chars : List ℕ). chars) all is
 
-  -- extending from the characters of a text that fits the capacity succeeds
-  pub extends_chars_fitting : (old new : StringState) (result : Result (Unit {0}) AllocError)
-      → Extends (YieldsFirstBy code_of rest) code_text iter old new result → rest iter ≡ all
-      → length old.text + length all ≤ old.capacity → IsOk result
-  extends_chars_fitting old new result extends is fits =
-      ok_from_extends (λ code. code ∷ []) old new result extends
-      (YieldsList-from_first code_of rest all is)
-      (subst (λ text. length old.text + length text ≤ old.capacity) (sym (singles all)) fits)
+split_road : (split : Remaining (List ℕ)) → YieldsList
+    (YieldsFirstAnd text_of (λ (s : Remaining (List ℕ)). s.items) StepsPiece)
+    text_of split split.items
+split_road split =
+    road_from_first_and text_of (λ (s : Remaining (List ℕ)). s.items) StepsPiece split.items refl
 
-  -- collecting the characters of a text gives the text
-  pub collects_chars : (text : List ℕ) → Collects (YieldsFirstBy code_of rest) code_text iter text
-      → rest iter ≡ all → text ≡ all
-  collects_chars text collects is =
-      collects.2 ∙ (pieces_from_drains (λ code. code ∷ []) collects.0 collects.1
-      (YieldsList-from_first code_of rest all is) ∙ singles all)
+-- on `Ok`, extending from the characters of a text appends the text
+pub extends_chars : (iter all : List ℕ) (old new : StringState)
+    (result : Result (Unit {0}) AllocError)
+    → Extends (YieldsFirstBy code_of (λ (chars : List ℕ). chars)) code_text iter old new result
+    → iter ≡ all → OnOk result (new.text ≡ old.text ++ all)
+extends_chars iter all old new result extends is =
+    subst (λ text. OnOk result (new.text ≡ old.text ++ text)) (singles all)
+    (all_from_extends (λ code. code ∷ []) old new result extends (chars_road iter all is))
 
-module _ {S A : Type 0} (view : A → List ℕ) (items : S → List (List ℕ))
-    (also : S → _ → S → Type 0) (iter : S) (all : List (List ℕ)) where
-  -- on `Ok`, extending from the pieces or lines of a text appends them
-  pub extends_pieces : (old new : StringState) (result : Result (Unit {0}) AllocError)
-      → Extends (YieldsFirstAnd view items also) view iter old new result → items iter ≡ all
-      → OnOk result (new.text ≡ old.text ++ flat_map (λ piece. piece) all)
-  extends_pieces old new result extends is =
-      all_from_extends (λ piece. piece) old new result extends
-      (road_from_first_and view items also all is)
+-- extending from the characters of a text that fits the capacity succeeds
+pub extends_fitting_chars : (iter : List ℕ) (old new : StringState)
+    (result : Result (Unit {0}) AllocError)
+    → Extends (YieldsFirstBy code_of (λ (chars : List ℕ). chars)) code_text iter old new result
+    → length old.text + length iter ≤ old.capacity → IsOk result
+extends_fitting_chars iter old new result extends fits =
+    ok_from_extends (λ code. code ∷ []) old new result extends (chars_road iter iter refl)
+    (subst (λ text. length old.text + length text ≤ old.capacity) (sym (singles iter)) fits)
 
-  -- collecting the pieces or lines of a text gives them joined
-  pub collects_pieces : (text : List ℕ) → Collects (YieldsFirstAnd view items also) view iter text
-      → items iter ≡ all → text ≡ flat_map (λ piece. piece) all
-  collects_pieces text collects is =
-      collects.2 ∙ pieces_from_drains (λ piece. piece) collects.0 collects.1
-      (road_from_first_and view items also all is)
+-- collecting the characters of a text gives the text
+pub collects_chars : (iter text : List ℕ)
+    → Collects (YieldsFirstBy code_of (λ (chars : List ℕ). chars)) code_text iter text
+    → text ≡ iter
+collects_chars iter text collects =
+    collects.2 ∙ (pieces_from_drains (λ code. code ∷ []) collects.0 collects.1
+    (chars_road iter iter refl) ∙ singles iter)
+
+-- on `Ok`, extending from a split appends the pieces that remain
+pub extends_split : (split : Remaining (List ℕ)) (old new : StringState)
+    (result : Result (Unit {0}) AllocError)
+    → Extends (YieldsFirstAnd text_of (λ (s : Remaining (List ℕ)). s.items) StepsPiece)
+    text_of split old new result
+    → OnOk result (new.text ≡ old.text ++ flat_map (λ piece. piece) split.items)
+extends_split split old new result extends =
+    all_from_extends (λ piece. piece) old new result extends (split_road split)
+
+-- collecting a split gives the pieces that remain, joined without a separator
+pub collects_split : (split : Remaining (List ℕ)) (text : List ℕ)
+    → Collects (YieldsFirstAnd text_of (λ (s : Remaining (List ℕ)). s.items) StepsPiece)
+    text_of split text
+    → text ≡ flat_map (λ piece. piece) split.items
+collects_split split text collects =
+    collects.2 ∙ pieces_from_drains (λ piece. piece) collects.0 collects.1 (split_road split)
+
+-- collecting lines gives the bodies that remain, without their endings
+pub collects_lines : (lines : List Line) (text : List ℕ)
+    → Collects (YieldsFirstAnd text_of bodies DropsFirst) text_of lines text
+    → text ≡ flat_map (λ body. body) (bodies lines)
+collects_lines lines text collects =
+    collects.2 ∙ pieces_from_drains (λ body. body) collects.0 collects.1
+    (road_from_first_and text_of bodies DropsFirst (bodies lines) refl)

@@ -1,16 +1,17 @@
 -- The pieces and the lines of a text with their starts, and how they break at either end.
 use Rattle.std.proofs.Common.{◌≡◌, ◌≢◌, ℕ, suc, ◌+◌, ◌≤◌, List, [], ◌∷◌, ◌++◌, length, append-nil, refl, sym, ap, ◌∙◌, subst, arith, length-append}
-use Rattle.std.specs.List.{flat_map, join_with_byte}
+use Rattle.std.specs.List.{Contains, flat_map, join_with_byte}
 use Rattle.std.proofs.lemmas.List.Splits.{join_with_byte-slice_split}
 use Rattle.ascii.specs.declared.iter.cursor.Cursor.{Cursor}
 use Rattle.ascii.specs.declared.iter.spans.Ending.TheVariants.{Absent}
 use Rattle.ascii.specs.Found.{Free, HasWholeLines, IsCutBehindLastFeed, IsCutFirst, IsCutLast, ended_line, line_spans, lines_of, part_in, piece_spans, pieces_of}
 use Rattle.ascii.specs.Lines.{Line, LinesOf, line_text}
 use Rattle.ascii.specs.Pieces.{Pieces}
-use Rattle.ascii.specs.Spans.{LineSpansOf, PieceSpans, WithStart, items_of, line_size, piece_size, with_starts}
+use Rattle.ascii.specs.declared.iter.spans.SplitSpan.{SplitSpan}
+use Rattle.ascii.specs.Spans.{LineSpansOf, PieceSpans, piece_in, WithStart, items_of, line_size, piece_size, with_starts}
 use Rattle.ascii.specs.View.{text_of}
 use Rattle.ascii.proofs.LinesLemmas.{LinesOf-lines_of, LinesOf-only, length-lines_of, line_text-ended, lines_of-cut_first, lines_of-last_ended, lines_of-last_open, lines_of-open, lines_of-some, not_whole}
-use Rattle.ascii.proofs.PiecesLemmas.{Pieces-only, Pieces-pieces_of, length-pieces_of, pieces_of-cut_first, pieces_of-cut_last, pieces_of-free, slice_split-some}
+use Rattle.ascii.proofs.PiecesLemmas.{absent-from_Free, Pieces-only, Pieces-pieces_of, length-pieces_of, pieces_of-cut_first, pieces_of-cut_last, pieces_of-free, slice_split-some}
 
 -- ---- items one behind the other
 
@@ -53,6 +54,15 @@ room-pieces on (piece ∷ next ∷ others) some =
 
 room-pieces_of : (on : ℕ) (t : List ℕ) → room piece_size (pieces_of on t) ≡ length t + 1
 room-pieces_of on t = room-pieces on (pieces_of on t) (slice_split-some _ t) ∙ ap (λ xs. length xs + 1) (join_with_byte-slice_split on t)
+
+-- a piece that the search found to be free of the separator does not contain it
+pub free_piece : (on byte : ℕ) (cursor : Cursor) (span : SplitSpan) → byte ≡ on
+    → Free byte (text_of cursor.view) → piece_in span ≡ part_in cursor
+    → ¬ (Contains (text_of span.text) on)
+free_piece on byte cursor span byte_is free is =
+    let P : List ℕ → Type 0 = λ text. ¬ (Contains text on) in
+    subst P (sym (ap (λ one. one.item) is)) (absent-from_Free on (text_of cursor.view)
+    (subst (λ n. Free n (text_of cursor.view)) byte_is free))
 
 module _ (on : ℕ) (part : WithStart (List ℕ)) where
   -- the first piece stands before the first separator

@@ -1,5 +1,6 @@
 -- Iterator steps that also say how the rest of the state changes.
 use Rattle.std.specs.Prelude.{◌≡◌, ℕ, ◌-◌, List, IfSome, Option, drop, length, take}
+use Rattle.std.specs.List.{Contains}
 use Rattle.std.specs.Iterator.{YieldsFirstBy, YieldsLastBy}
 use Rattle.std.specs.Iterator.Runs.{EveryRun, ItemsMapTo, ItemsMapToReversed}
 use Rattle.ascii.specs.declared.ascii_str.AsciiStr.{AsciiStr}
@@ -10,9 +11,17 @@ use Rattle.ascii.specs.Pieces.{Remaining}
 use Rattle.ascii.specs.Spans.{EndFits, WithStart, line_in, piece_in}
 use Rattle.ascii.specs.View.{text_of}
 
--- the separator is unchanged
-abbrev pub KeepsSeparator : {A B : Type 0} → Remaining A → Option B → Remaining A → Type 0
-KeepsSeparator old result new = new.on ≡ old.on
+-- the separator is unchanged, and the piece does not contain it
+abbrev pub StepsPiece : Remaining (List ℕ) → Option AsciiStr → Remaining (List ℕ) → Type 0
+StepsPiece old result new =
+    (new.on ≡ old.on) × IfSome result (λ piece. ¬ (Contains (text_of piece) old.on))
+
+-- the separator is unchanged, and the piece does not contain it and ends at a position that fits a
+-- `usize`
+abbrev pub StepsPieceSpan : Remaining (WithStart (List ℕ)) → Option SplitSpan
+    → Remaining (WithStart (List ℕ)) → Type 0
+StepsPieceSpan old result new = (new.on ≡ old.on)
+    × IfSome result (λ span. ¬ (Contains (text_of span.text) old.on) × EndFits span.start span.text)
 
 -- the new list is the old one without its first item
 abbrev pub DropsFirst : {A B : Type 0} → List A → Option B → List A → Type 0
@@ -21,12 +30,6 @@ DropsFirst old result new = new ≡ drop 1 old
 -- the new list is the old one without its last item
 abbrev pub DropsLast : {A B : Type 0} → List A → Option B → List A → Type 0
 DropsLast old result new = new ≡ take (length old - 1) old
-
--- the separator is unchanged, and the piece ends at a position that fits a `usize`
-abbrev pub StepsPieceSpan : Remaining (WithStart (List ℕ)) → Option SplitSpan
-    → Remaining (WithStart (List ℕ)) → Type 0
-StepsPieceSpan old result new =
-    KeepsSeparator old result new × IfSome result (λ span. EndFits span.start span.text)
 
 -- the new lines are the old ones without the first, and its body ends at a position that fits
 abbrev pub DropsFirstSpan
@@ -64,12 +67,12 @@ module _ {S A B : Type 0} (view : A → B) (items : S → List B)
 
 -- loops over a `Split` see the pieces in order
 abbrev pub LoopsOverPieces : Type 0
-LoopsOverPieces = LoopsInOrder text_of (λ (split : Remaining (List ℕ)). split.items) KeepsSeparator
+LoopsOverPieces = LoopsInOrder text_of (λ (split : Remaining (List ℕ)). split.items) StepsPiece
 
 -- loops over a reversed `Split` see the pieces in reverse
 abbrev pub LoopsBackOverPieces : Type 0
 LoopsBackOverPieces =
-    LoopsInReverse text_of (λ (split : Remaining (List ℕ)). split.items) KeepsSeparator
+    LoopsInReverse text_of (λ (split : Remaining (List ℕ)). split.items) StepsPiece
 
 -- loops over a `SplitSpans` see the pieces with their starts, in order
 abbrev pub LoopsOverPieceSpans : Type 0

@@ -2,12 +2,13 @@
 
 ghost use Rattle.std.specs.Prelude.{◌≡◌, ◌+◌, ◌≤◌, ◌∷◌, ◌++◌, [], IfSome, length};
 ghost use Rattle.std.specs.Iterator.{item_count};
+ghost use Rattle.std.specs.List.{Contains};
 ghost use Rattle.std.specs.Option.{option_map};
 ghost use Rattle.ascii_base.specs.Code.{code_of};
 ghost use Rattle.ascii.specs.Found.{part_in, piece_spans, spans_left};
 ghost use Rattle.ascii.specs.Pieces.{IsRemainderOfPieces, IteratesPieces};
 ghost use Rattle.ascii.specs.Spans.{EndFits, IsRemainderOfPieceSpans, IteratesPieceSpans, piece_in};
-ghost use Rattle.ascii.specs.Steps.{KeepsSeparator, StepsPieceSpan, YieldsFirstAnd, YieldsLastAnd};
+ghost use Rattle.ascii.specs.Steps.{StepsPiece, StepsPieceSpan, YieldsFirstAnd, YieldsLastAnd};
 ghost use Rattle.ascii.specs.Steps.{LoopsBackOverPieceSpans, LoopsBackOverPieces};
 ghost use Rattle.ascii.specs.Steps.{LoopsOverPieceSpans, LoopsOverPieces};
 ghost use Rattle.ascii.specs.View.{text_of};
@@ -38,6 +39,7 @@ impl<'a> Cursor<'a> {
     fn first_piece(self, on: AsciiChar) -> (SplitSpan<'a>, Option<Cursor<'a>>)
         ensures pieces { piece_spans (code_of on) (part_in self.entry)
             ≡ piece_in result.0 ∷ spans_left (code_of on) (option_map part_in result.1) }
+        ensures free { ¬ (Contains (text_of result.0.text) (code_of on)) }
         ensures fits { EndFits result.0.start result.0.text }
     {
         match self.cut_first(on.as_byte()) {
@@ -51,6 +53,7 @@ impl<'a> Cursor<'a> {
     fn last_piece(self, on: AsciiChar) -> (SplitSpan<'a>, Option<Cursor<'a>>)
         ensures pieces { piece_spans (code_of on) (part_in self.entry)
             ≡ spans_left (code_of on) (option_map part_in result.1) ++ piece_in result.0 ∷ [] }
+        ensures free { ¬ (Contains (text_of result.0.text) (code_of on)) }
         ensures fits { EndFits result.0.start result.0.text }
     {
         match self.cut_last(on.as_byte()) {
@@ -183,7 +186,7 @@ impl Clone for Split<'_> {
 impl<'a> Iterator for Split<'a> {
     type Item = AsciiStr<'a>;
 
-    ghost next_gives = { YieldsFirstAnd text_of (λ split. split.items) KeepsSeparator };
+    ghost next_gives = { YieldsFirstAnd text_of (λ split. split.items) StepsPiece };
 
     ghost remaining = { item_count (λ split. split.items) };
 
@@ -196,7 +199,7 @@ impl<'a> Iterator for Split<'a> {
 }
 
 impl<'a> DoubleEndedIterator for Split<'a> {
-    ghost next_back_gives = { YieldsLastAnd text_of (λ split. split.items) KeepsSeparator };
+    ghost next_back_gives = { YieldsLastAnd text_of (λ split. split.items) StepsPiece };
 
     ///     view(";foo").split(AsciiChar::Semicolon).next_back() // Some("foo")
     #[inline(always)]
