@@ -33,11 +33,11 @@ abbrev pub GetsAscii : List ℕ → ℕ → Option AsciiChar → Type 0
 GetsAscii bytes i result = MatchOption result (¬ (HasCodeAt bytes i))
     (λ ch. HasCodeAt bytes i × (code_of ch ≡ slice_index bytes i))
 
--- ---- cited by private functions only
-
 -- every byte at a position from `s` up to, but not including, `e` is less than 128
 abbrev pub AsciiBetween : List ℕ → ℕ → ℕ → Type 0
 AsciiBetween bytes s e = (k : ℕ) → s ≤ k → k < e → slice_index bytes k < 128
+
+-- ---- cited by private functions only
 
 -- the start and end of a range that fits and whose bytes are all ASCII
 pub record IsAsciiBounds (bytes : List ℕ) (r : AsciiRange) (bounds : ℕ × ℕ) : Type 0 where

@@ -459,6 +459,7 @@ impl<A: Allocator> AsciiString<A> {
     pub fn write_char(&mut self, ch: char) -> fmt::Result
         ensures { Writes (ch ∷ []) self.old self.new result }
     {
+        // Tells the prover that the text fits the capacity.
         let _capacity = self.capacity();
         let Ok(ch) = ch.to_ascii_char() else {
             return Err(fmt::Error);
@@ -482,6 +483,7 @@ impl<A: Allocator> fmt::Write for AsciiString<A> {
         ensures ok { IsOk result → self.new.text ≡ self.old.text ++ s.now }
         ensures writes { Writes s.now self.old self.new result }
     {
+        // Tells the prover that the text fits the capacity.
         let _capacity = self.capacity();
         let Ok(view) = text::as_ascii_str(s) else {
             return Err(fmt::Error);

@@ -8,7 +8,7 @@ use ascii_base::kernels;
 use ascii_base::range::AsciiRange;
 
 /// The start and the end of a range of a source that fits and holds only bytes under 128.
-/// The fit is looked at before any byte, and each byte of the range at most once.
+/// The fit is tested before any byte is read, and the range is scanned once.
 pub(crate) fn checked_bounds(
     source: &[u8],
     range: AsciiRange,

@@ -13,7 +13,9 @@ use crate::ascii_str_mut::AsciiStrMut;
 use crate::bounds::checked_bounds;
 use ascii_base::range::AsciiRange;
 
-/// The part of the source that the range names, for writing. Nothing is checked.
+/// Returns a mutable view of the part of the source in `range`. Nothing is checked.
+///
+/// Condition: the range fits, and every byte of the source in it is ASCII.
 ///
 ///     let mut source = *b"foo";
 ///     bytes::slice_ascii_mut_unchecked(&mut source, AsciiRange::From(1)).make_ascii_uppercase();
@@ -33,7 +35,9 @@ pub fn slice_ascii_mut_unchecked(source: &mut [u8], range: AsciiRange) -> AsciiS
     }
 }
 
-/// The whole source, for writing. Nothing is checked.
+/// Returns a mutable view of the whole source. Nothing is checked.
+///
+/// Condition: every byte of the source is ASCII.
 ///
 ///     let mut source = *b"foo";
 ///     bytes::as_mut_ascii_str_unchecked(&mut source).make_ascii_uppercase();
@@ -47,9 +51,12 @@ pub fn as_mut_ascii_str_unchecked(source: &mut [u8]) -> AsciiStrMut<'_>
     slice_ascii_mut_unchecked(source, AsciiRange::Full)
 }
 
-/// The part of the source that the range names, for writing. A range that does not fit is refused
-/// with the length of the source, and one that fits with the position in the source of its first
-/// byte over 127. A refused source is unchanged, and bytes outside the range do not matter.
+/// Returns a mutable view of the part of the source in `range`, or an error: with the length of the
+/// source if the range does not fit, and otherwise with the position in the source of the first
+/// byte over 127 in the range. Bytes outside the range do not matter.
+///
+/// On error, the source is unchanged. On success, once the view is dropped, the source is the bytes
+/// before the range, the last text of the view, and the bytes after the range.
 ///
 ///     let mut source = *b"foo\xc4";
 ///     if let Ok(mut view) = bytes::slice_ascii_mut(&mut source, AsciiRange::To(2)) {
@@ -73,8 +80,11 @@ pub fn slice_ascii_mut(
     Ok(searched.view)
 }
 
-/// The whole source for writing, or the position of its first byte over 127. A refused source is
-/// unchanged.
+/// Returns a mutable view of the whole source, or an error with the position of its first byte over
+/// 127.
+///
+/// On error, the source is unchanged. On success, once the view is dropped, the source is the last
+/// text of the view.
 ///
 ///     let mut source = *b"foo";
 ///     if let Ok(mut view) = bytes::as_mut_ascii_str(&mut source) {

@@ -1,8 +1,9 @@
 //! The searches and maps over bytes, each equal to its plain definition at every length.
 //!
-//! Each goes through the bytes in chunks of 32, the comparison by two at once. What is left behind the last
-//! whole chunk takes a step or two of 32, 16, 8 or 4 bytes, the last of which may take bytes again, and fewer
-//! go one by one.
+//! Each goes through the bytes in chunks of 32, the comparison two chunks at a time. In the searches and
+//! the comparison, the bytes after the last whole chunk take one or two steps of 32, 16, 8 or 4 bytes, the
+//! last of which may overlap the one before it; fewer bytes go one by one. The two case maps change the
+//! bytes after the last whole chunk in a plain loop.
 
 ghost use Rattle.std.specs.Prelude.{◌≡◌, ◌↔◌, ◌+◌, ◌<◌, ◌≤◌, IsTrue, length, map, take, drop, ◌++◌, All, MatchOption};
 ghost use Rattle.std.specs.Str.{IsAscii};
