@@ -1,16 +1,21 @@
 -- Runs of commands, one step after another.
-use Rattle.std.proofs.Common.{◌≡◌, ◌≢◌, ℕ, ◌≤◌, zero, suc, List, [], ◌∷◌, ◌++◌, ◌∙◌, ap, map, refl, subst, sym, take, inl, inr, arith}
+use Rattle.std.proofs.Common.{◌≡◌, ◌≢◌, ℕ, ◌≤◌, zero, suc, List, [], ◌∷◌, ◌++◌, ◌∙◌, ap, length}
+use Rattle.std.proofs.Common.{map, refl, subst, sym, take, inl, inr, arith}
 use Rattle.std.proofs.lemmas.List.Elements.{All-cons, All-head, All-nil, All-tail}
 use Rattle.std.proofs.lemmas.Option.{none-some}
 use Rattle.std.specs.Prelude.{Some, slice_get, unwrap_or}
 use Rattle.ascii.specs.StringState.{StringState}
 use Rattle.ascii_run.specs.declared.commands.Cmd.{Cmd}
-use Rattle.ascii_run.specs.declared.commands.Cmd.TheVariants.{Push, PushStr, Insert, InsertStr, Reserve, Shrink}
+use Rattle.ascii_run.specs.declared.commands.Cmd.TheVariants.{Push, PushStr, Insert, InsertStr}
+use Rattle.ascii_run.specs.declared.commands.Cmd.TheVariants.{Reserve, Shrink}
 use Rattle.ascii_run.specs.declared.faults.EngineFault.{EngineFault}
 use Rattle.ascii_run.specs.declared.faults.EngineFault.TheVariants.{Position, Memory}
 use Rattle.ascii_run.specs.declared.commands.Reply.{Reply}
-use Rattle.ascii_run.specs.Step.{MayRunOutIn, MayRunOut, ReplyValue, Step, after, answer, no_memory, value_of_reply}
-use Rattle.ascii_run.specs.Run.{Agree, AreRuns, HasNoFault, IsFault, IsFaultPlace, IsNoFault, IsPlainRun, IsNotOutOfMemory, Run, NeverOutOfMemory, plain_replies, plain_text}
+use Rattle.ascii_run.specs.Step.{MayRunOutIn, MayRunOut, ReplyValue, Step, after, answer, no_memory}
+use Rattle.ascii_run.specs.Step.{value_of_reply}
+use Rattle.ascii_run.specs.Run.{Agree, AreRuns, HasNoFault, IsFault, IsFaultPlace, IsNoFault}
+use Rattle.ascii_run.specs.Run.{IsPlainRun, IsNotOutOfMemory, Outcome, Run, NeverOutOfMemory}
+use Rattle.ascii_run.specs.Run.{outcome, plain_replies, plain_text}
 use Rattle.ascii_run.specs.Edit.{StopsAt, StopsEdits}
 
 -- a run goes on by one step
@@ -32,7 +37,8 @@ step_plain sure t cmd r t2 (inr wants) some = absurd (some wants.0)
 
 -- a run without want of memory is the plain run
 pub run_plain : {A : Type 0} (sure : ℕ) (t : List ℕ) (cmds : List Cmd) (replies : List (Reply A)) (t2 : List ℕ)
-    → Run sure t cmds replies t2 → NeverOutOfMemory replies → IsPlainRun t cmds replies t2
+    → Run sure t cmds replies t2 → NeverOutOfMemory replies
+    → IsPlainRun t cmds (outcome replies t2)
 run_plain {A} sure t [] [] t2 h some = (refl, h)
 run_plain {A} sure t [] (r ∷ replies) t2 h some = absurd h
 run_plain {A} sure t (cmd ∷ cmds) [] t2 h some = absurd h
@@ -57,16 +63,27 @@ run_front {A} sure t (cmd ∷ cmds) (r ∷ replies) t2 (suc k) h some =
     rw (step.0, rest, step.1) refl
 
 -- two runs of the same commands from the same text agree
-pub runs_agree : {A B : Type 0} (cmds : List Cmd) (first : List (Reply A)) (t1 : List ℕ) (second : List (Reply B)) (t2 : List ℕ)
-    → AreRuns cmds first t1 second t2 → Agree first t1 second t2
-runs_agree {A} {B} cmds first t1 second t2 runs = record {
-  front = λ k none1 none2.
-      run_front runs.sure1 runs.text cmds first t1 k runs.run1 none1 ∙ sym (run_front runs.sure2 runs.text cmds second t2 k runs.run2 none2);
-  replies = λ none1 none2.
-      (run_plain runs.sure1 runs.text cmds first t1 runs.run1 none1).0 ∙ sym ((run_plain runs.sure2 runs.text cmds second t2 runs.run2 none2).0);
-  text = λ none1 none2.
-      (run_plain runs.sure1 runs.text cmds first t1 runs.run1 none1).1 ∙ sym ((run_plain runs.sure2 runs.text cmds second t2 runs.run2 none2).1);
-}
+pub runs_agree : {A B : Type 0} (cmds : List Cmd) (first : Outcome A) (second : Outcome B)
+    → AreRuns cmds first second → Agree first second
+runs_agree {A} {B} cmds first second runs =
+    let front1 = run_front runs.sure1 runs.text cmds first.replies first.text in
+    let front2 = run_front runs.sure2 runs.text cmds second.replies second.text in
+    let plain1 = run_plain runs.sure1 runs.text cmds first.replies first.text runs.run1 in
+    let plain2 = run_plain runs.sure2 runs.text cmds second.replies second.text runs.run2 in record {
+      front = λ k none1 none2. front1 k runs.run1 none1 ∙ sym (front2 k runs.run2 none2);
+      replies = λ none1 none2. (plain1 none1).0 ∙ sym ((plain2 none2).0);
+      text = λ none1 none2. (plain1 none1).1 ∙ sym ((plain2 none2).1);
+    }
+
+-- a run gives as many replies as there are commands
+pub Run-count : {A : Type 0} (sure : ℕ) (t : List ℕ) (cmds : List Cmd)
+    (replies : List (Reply A)) (t2 : List ℕ)
+    → Run sure t cmds replies t2 → length replies ≡ length cmds
+Run-count sure t [] [] t2 run = refl
+Run-count sure t [] (r ∷ replies) t2 run = absurd run
+Run-count sure t (cmd ∷ cmds) [] t2 run = absurd run
+Run-count sure t (cmd ∷ cmds) (r ∷ replies) t2 run =
+    omega (arith, Run-count sure run.0 cmds replies t2 run.2)
 
 -- memory that may be wanting past a sure length may be wanting past a smaller one
 may_refuse_less : (sure less : ℕ) (t : List ℕ) (cmd : Cmd) → less ≤ sure → MayRunOut sure t cmd → MayRunOut less t cmd

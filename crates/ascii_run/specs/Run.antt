@@ -1,12 +1,15 @@
--- What a run of commands does: one reply a command, in order, and the text at the end.
-use Rattle.std.specs.Prelude.{◌≡◌, ◌≢◌, ℕ, List, [], ◌∷◌, All, map, take}
+-- What a run of commands does: one reply for each command, in order, and the text at the end.
+use Rattle.std.specs.Prelude.{◌≡◌, ◌≢◌, ⊤, ℕ, List, [], ◌∷◌, All, map, take}
 use Rattle.ascii.specs.First.{IsFirstAt}
+use Rattle.ascii.specs.StringState.{StringState}
 use Rattle.ascii_run.specs.declared.commands.Cmd.{Cmd}
 use Rattle.ascii_run.specs.declared.commands.Cmd.TheVariants.{Shrink}
 use Rattle.ascii_run.specs.declared.commands.Reply.{Reply}
-use Rattle.ascii_run.specs.Step.{ReplyValue, Step, after, answer, bad_position, no_memory, refused, value_of_reply, too_many}
+use Rattle.ascii_run.specs.Step.{ReplyValue, Step, after, answer, bad_position, no_memory, refused}
+use Rattle.ascii_run.specs.Step.{value_of_reply, too_many}
 
--- the replies and the text at the end, step by step
+-- the commands, carried out in order from the text `t` by steps with the sure length `sure`, give
+-- `replies`, one for each command, and leave the text `t2`
 abbrev pub Run : {A : Type 0} → ℕ → List ℕ → List Cmd → List (Reply A) → List ℕ → Type 0
 Run sure t [] [] t2 = t2 ≡ t
 Run sure t [] (r ∷ replies) t2 = ⊥
@@ -14,62 +17,86 @@ Run sure t (cmd ∷ cmds) [] t2 = ⊥
 Run sure t (cmd ∷ cmds) (r ∷ replies) t2 =
     (mid : List ℕ) × Step sure t cmd (value_of_reply r) mid × Run sure mid cmds replies t2
 
--- the text behind a run in which no memory is wanting
+-- `Run` from the text of the old state to the text of the new one
+abbrev pub RunOf : {A : Type 0} → ℕ → StringState → List Cmd → List (Reply A) → StringState → Type 0
+RunOf sure old cmds replies new = Run sure old.text cmds replies new.text
+
+-- the replies of a run, and the text that it leaves
+pub record Outcome (A : Type 0) : Type 0 where
+  pub replies : List (Reply A)
+  pub text : List ℕ
+
+-- an outcome, by its replies and its text
+abbrev pub outcome : {A : Type 0} → List (Reply A) → List ℕ → Outcome A
+outcome replies text = record { replies = replies; text = text }
+
+-- the text after the commands if no allocation fails
 abbrev pub plain_text : List ℕ → List Cmd → List ℕ
 plain_text t [] = t
 plain_text t (cmd ∷ cmds) = plain_text (after t cmd) cmds
 
--- what the replies of a run say in which no memory is wanting
+-- the values of the replies to the commands if no allocation fails
 abbrev pub plain_replies : List ℕ → List Cmd → List ReplyValue
 plain_replies t [] = []
 plain_replies t (cmd ∷ cmds) = answer t cmd ∷ plain_replies (after t cmd) cmds
 
--- the reply is not want of memory
+-- the reply is not `NoMemory`
 abbrev pub IsNotOutOfMemory : {A : Type 0} → Reply A → Type 0
 IsNotOutOfMemory r = value_of_reply r ≢ no_memory
 
--- no reply is want of memory
+-- no reply is `NoMemory`
 abbrev pub NeverOutOfMemory : {A : Type 0} → List (Reply A) → Type 0
 NeverOutOfMemory replies = All IsNotOutOfMemory replies
 
--- the replies and the text at the end are those of the run in which no memory is wanting
-abbrev pub IsPlainRun : {A : Type 0} → List ℕ → List Cmd → List (Reply A) → List ℕ → Type 0
-IsPlainRun t cmds replies t2 = (map value_of_reply replies ≡ plain_replies t cmds) × (t2 ≡ plain_text t cmds)
+-- `run` is the outcome of the commands over the text `t` if no allocation fails
+abbrev pub IsPlainRun : {A : Type 0} → List ℕ → List Cmd → Outcome A → Type 0
+IsPlainRun t cmds run =
+    (map value_of_reply run.replies ≡ plain_replies t cmds) × (run.text ≡ plain_text t cmds)
 
--- two runs of the same commands from the same text, each with a sure length of its own
-pub record AreRuns {A B : Type 0} (cmds : List Cmd) (first : List (Reply A)) (t1 : List ℕ) (second : List (Reply B)) (t2 : List ℕ) : Type 0 where
+-- `first` and `second` are outcomes of two runs of the commands from one text, `text`, each with a
+-- sure length of its own
+pub record AreRuns {A B : Type 0} (cmds : List Cmd) (first : Outcome A) (second : Outcome B) :
+    Type 0 where
   pub text : List ℕ
   pub sure1 : ℕ
   pub sure2 : ℕ
-  pub run1 : Run sure1 text cmds first t1
-  pub run2 : Run sure2 text cmds second t2
+  pub run1 : Run sure1 text cmds first.replies first.text
+  pub run2 : Run sure2 text cmds second.replies second.text
 
--- two runs agree: their replies are alike up to the first want of memory of either, and with none in either so are
--- all replies and the texts at the end
-pub record Agree {A B : Type 0} (first : List (Reply A)) (t1 : List ℕ) (second : List (Reply B)) (t2 : List ℕ) : Type 0 where
-  pub front : (k : ℕ) → NeverOutOfMemory (take k first) → NeverOutOfMemory (take k second) → map value_of_reply (take k first) ≡ map value_of_reply (take k second)
-  pub replies : NeverOutOfMemory first → NeverOutOfMemory second → map value_of_reply first ≡ map value_of_reply second
-  pub text : NeverOutOfMemory first → NeverOutOfMemory second → t1 ≡ t2
+-- the first `k` replies of both lists have the same values if none of them is `NoMemory`
+abbrev pub AgreeUpTo : {A B : Type 0} → ℕ → List (Reply A) → List (Reply B) → Type 0
+AgreeUpTo k first second =
+    NeverOutOfMemory (take k first) → NeverOutOfMemory (take k second)
+    → map value_of_reply (take k first) ≡ map value_of_reply (take k second)
 
--- no command gives room back
+-- the two outcomes agree: their replies have the same values up to the first `NoMemory` of either;
+-- if neither has one, then all replies have the same values and the texts are equal
+pub record Agree {A B : Type 0} (first : Outcome A) (second : Outcome B) : Type 0 where
+  pub front : (k : ℕ) → AgreeUpTo k first.replies second.replies
+  pub replies : NeverOutOfMemory first.replies → NeverOutOfMemory second.replies
+      → map value_of_reply first.replies ≡ map value_of_reply second.replies
+  pub text : NeverOutOfMemory first.replies → NeverOutOfMemory second.replies
+      → first.text ≡ second.text
+
+-- no command is `Shrink`, which gives room back
 abbrev pub NeverShrinks : List Cmd → Type 0
 NeverShrinks cmds = All (λ cmd. cmd ≢ Shrink) cmds
 
--- an answer that refuses a command for its number or its range
+-- the reply rejects its command for a position, a range or a number
 abbrev pub IsFault : ReplyValue → Type 0
-IsFault bad_position = Unit {0}
-IsFault (refused n) = Unit {0}
-IsFault too_many = Unit {0}
+IsFault bad_position = ⊤
+IsFault (refused n) = ⊤
+IsFault too_many = ⊤
 IsFault other = ⊥
 
--- an answer that does not refuse
+-- the reply does not reject its command for a position, a range or a number
 abbrev pub IsNoFault : ReplyValue → Type 0
 IsNoFault r = ¬ (IsFault r)
 
--- k is the place, counted from 0, of the first command that is refused where no memory is wanting
+-- `k`, counted from 0, is the index of the first command that is rejected if no allocation fails
 abbrev pub IsFaultPlace : List ℕ → List Cmd → ℕ → Type 0
 IsFaultPlace t cmds k = IsFirstAt IsNoFault IsFault (plain_replies t cmds) k
 
--- no command is refused where no memory is wanting
+-- no command is rejected if no allocation fails
 abbrev pub HasNoFault : List ℕ → List Cmd → Type 0
 HasNoFault t cmds = All IsNoFault (plain_replies t cmds)

@@ -1,10 +1,14 @@
 //! Runs of commands over a text.
 
 ghost use Rattle.std.specs.Prelude.{◌≡◌, ◌≢◌, ℕ, ◌≤◌, List, [], IfErr, IfOk, IsOk, OnErr, OnOk};
+ghost use Rattle.std.specs.Prelude.{length, vec_len};
 ghost use Rattle.ascii.specs.View.{text_of};
 ghost use Rattle.ascii_run.specs.Edit.{StopsAt, StopsEdits};
-ghost use Rattle.ascii_run.specs.Run.{Agree, AreRuns, HasNoFault, IsNoFault, IsPlainRun, IsNotOutOfMemory, NeverShrinks, Run, NeverOutOfMemory, plain_text};
-ghost use Rattle.ascii_run.specs.Step.{MayRunOutIn, Step, after, answer, no_memory, value_of_reply, value_of_growth};
+ghost use Rattle.ascii_run.specs.Run.{Agree, AreRuns, HasNoFault, IsNoFault, IsPlainRun};
+ghost use Rattle.ascii_run.specs.Run.{IsNotOutOfMemory, NeverShrinks, Run, RunOf, NeverOutOfMemory};
+ghost use Rattle.ascii_run.specs.Run.{outcome, plain_text};
+ghost use Rattle.ascii_run.specs.Step.{RunsOutIn, Step, StepOf, after, answer, value_of_reply};
+ghost use Rattle.ascii_run.specs.Step.{value_of_growth};
 
 use crate::buf::AsciiBuf;
 use crate::faults::EngineFault;
@@ -78,10 +82,14 @@ pub enum Reply<A: Allocator = Global> {
     TooMany,
 }
 
-/// Carries out the commands in order over a text in any form, and gives one reply for each. The room
-/// for all replies is taken before the first command, and where it is refused the text stays; with no
-/// command it is not. Memory is wanting only for a copy, or for a text or a room that is over the
-/// sure length of the form; where no command gives room back, over the capacity before.
+/// Carries out the commands in order over a string, and returns one reply for each, or an error if
+/// the room for the replies cannot be allocated; the text is then unchanged. Does not fail if there
+/// is no command.
+///
+/// A reply is `NoMemory` only if an allocation fails that its command needs: for a copy of at least
+/// one character, for a text or room longer than the sure length of the string type, or for
+/// `Cmd::Shrink`, if no length is sure. If no command is `Cmd::Shrink`, the capacity does not
+/// shrink, and an edit needs an allocation only for a text or room longer than the capacity before.
 ///
 ///     let mut text = view("foo").to_ascii_string(alloc)?;
 ///     run(alloc, &mut text, &[Cmd::Pop, Cmd::Len])? // [Char(Some('o')), Number(2)]
@@ -91,9 +99,13 @@ pub fn run<A: Allocator + Copy, B: AsciiBuf>(
     buf: &mut B,
     cmds: &[Cmd<'_>],
 ) -> Result<Vec<Reply<A>, A>, AllocError>
-    ensures run { IfOk result (λ replies. Run B.sure (B.state buf.old).text cmds.now replies.items (B.state buf.new).text) }
-    ensures within { NeverShrinks cmds.now → IfOk result (λ replies. Run (B.state buf.old).capacity (B.state buf.old).text cmds.now replies.items (B.state buf.new).text) }
-    ensures capacity { NeverShrinks cmds.now → (B.state buf.old).capacity ≤ (B.state buf.new).capacity }
+    ensures run { IfOk result
+        (λ replies. RunOf B.sure (B.state buf.old) cmds.now replies.items (B.state buf.new)) }
+    ensures within { let old = B.state buf.old in NeverShrinks cmds.now → IfOk result
+        (λ replies. RunOf old.capacity old cmds.now replies.items (B.state buf.new)) }
+    ensures capacity { let old = B.state buf.old in
+        NeverShrinks cmds.now → old.capacity ≤ (B.state buf.new).capacity }
+    ensures count { IfOk result (λ replies. vec_len replies ≡ length cmds.now) }
     ensures err { OnErr result (buf.new ≡ buf.old) }
     ensures nothing { cmds.now ≡ [] → IsOk result }
 {
@@ -104,18 +116,20 @@ pub fn run<A: Allocator + Copy, B: AsciiBuf>(
     Ok(replies)
 }
 
-/// A law, and no work: the replies of a run in which no memory is wanting, and its text at the end,
-/// are those that the text before and the commands alone decide.
+/// Lemma with no run-time effect: if no reply of a run is `NoMemory`, then the text before and the
+/// commands decide its replies and the text that it leaves.
 ///
 ///     let mut text = view("foo").to_ascii_string(alloc)?;
 ///     let replies = run(alloc, &mut text, &[Cmd::Len])?;
 ///     plain_run(&[Cmd::Len], &replies) // ()
 pub fn plain_run<A: Allocator>(cmds: &[Cmd<'_>], replies: &[Reply<A>])
-    ensures { (sure : ℕ) → (t t2 : List ℕ) → Run sure t cmds.now replies.now t2 → NeverOutOfMemory replies.now → IsPlainRun t cmds.now replies.now t2 }
+    ensures { (sure : ℕ) → (t t2 : List ℕ)
+        → Run sure t cmds.now replies.now t2 → NeverOutOfMemory replies.now
+        → IsPlainRun t cmds.now (outcome replies.now t2) }
 {}
 
-/// A law, and no work: two runs of the same commands from the same text have the same replies up to
-/// the first want of memory of either, and with none in either they have the same text at the end.
+/// Lemma with no run-time effect: two runs of one list of commands from one text have the same
+/// replies up to the first `NoMemory` of either; if neither has one, they leave the same text.
 ///
 ///     let mut text = view("foo").to_ascii_string(alloc)?;
 ///     let replies = run(alloc, &mut text, &[Cmd::Len])?;
@@ -125,14 +139,17 @@ pub fn runs_agree<A: Allocator, B: Allocator>(
     first: &[Reply<A>],
     second: &[Reply<B>],
 )
-    ensures { (t1 t2 : List ℕ) → AreRuns cmds.now first.now t1 second.now t2 → Agree first.now t1 second.now t2 }
+    ensures { (t1 t2 : List ℕ)
+        → AreRuns cmds.now (outcome first.now t1) (outcome second.now t2)
+        → Agree (outcome first.now t1) (outcome second.now t2) }
 {}
 
 /// Carries out one command.
 fn step<A: Allocator, B: AsciiBuf>(alloc: A, buf: &mut B, cmd: Cmd<'_>) -> Reply<A>
-    ensures step { Step 0 (B.state buf.old).text cmd.entry (value_of_reply result) (B.state buf.new).text }
-    ensures room { value_of_reply result ≡ no_memory → MayRunOutIn B.sure (B.state buf.old) cmd.entry }
-    ensures capacity { cmd.entry ≢ Cmd.Shrink → (B.state buf.old).capacity ≤ (B.state buf.new).capacity }
+    ensures step { StepOf (B.state buf.old) cmd.entry result (B.state buf.new) }
+    ensures room { RunsOutIn B.sure (B.state buf.old) cmd.entry result }
+    ensures capacity { let old = B.state buf.old in
+        cmd.entry ≢ Cmd.Shrink → old.capacity ≤ (B.state buf.new).capacity }
 {
     match cmd {
         Cmd::Push(ch) => growth_reply(buf.push(ch)),
@@ -182,8 +199,8 @@ fn growth_reply<A: Allocator>(growth: Result<(), AllocError>) -> Reply<A>
 
 /// Puts a character before a position.
 fn insert<A: Allocator, B: AsciiBuf>(buf: &mut B, idx: usize, ch: AsciiChar) -> Reply<A>
-    ensures step { Step 0 (B.state buf.old).text (Cmd.Insert idx ch) (value_of_reply result) (B.state buf.new).text }
-    ensures room { value_of_reply result ≡ no_memory → MayRunOutIn B.sure (B.state buf.old) (Cmd.Insert idx ch) }
+    ensures step { StepOf (B.state buf.old) (Cmd.Insert idx ch) result (B.state buf.new) }
+    ensures room { RunsOutIn B.sure (B.state buf.old) (Cmd.Insert idx ch) result }
     ensures capacity { (B.state buf.old).capacity ≤ (B.state buf.new).capacity }
 {
     if idx > buf.as_ascii_str().len() {
@@ -194,8 +211,9 @@ fn insert<A: Allocator, B: AsciiBuf>(buf: &mut B, idx: usize, ch: AsciiChar) -> 
 
 /// Puts a view before a position.
 fn insert_str<A: Allocator, B: AsciiBuf>(buf: &mut B, idx: usize, view: AsciiStr<'_>) -> Reply<A>
-    ensures step { Step 0 (B.state buf.old).text (Cmd.InsertStr idx view.entry) (value_of_reply result) (B.state buf.new).text }
-    ensures room { value_of_reply result ≡ no_memory → MayRunOutIn B.sure (B.state buf.old) (Cmd.InsertStr idx view.entry) }
+    ensures step { let cmd = Cmd.InsertStr idx view.entry in
+        StepOf (B.state buf.old) cmd result (B.state buf.new) }
+    ensures room { RunsOutIn B.sure (B.state buf.old) (Cmd.InsertStr idx view.entry) result }
     ensures capacity { (B.state buf.old).capacity ≤ (B.state buf.new).capacity }
 {
     if idx > buf.as_ascii_str().len() {
@@ -233,8 +251,8 @@ fn set<A: Allocator, B: AsciiBuf>(buf: &mut B, idx: usize, ch: AsciiChar) -> Rep
 
 /// Makes room for more characters.
 fn reserve<A: Allocator, B: AsciiBuf>(buf: &mut B, additional: usize) -> Reply<A>
-    ensures step { Step 0 (B.state buf.old).text (Cmd.Reserve additional) (value_of_reply result) (B.state buf.new).text }
-    ensures room { value_of_reply result ≡ no_memory → MayRunOutIn B.sure (B.state buf.old) (Cmd.Reserve additional) }
+    ensures step { StepOf (B.state buf.old) (Cmd.Reserve additional) result (B.state buf.new) }
+    ensures room { RunsOutIn B.sure (B.state buf.old) (Cmd.Reserve additional) result }
     ensures capacity { (B.state buf.old).capacity ≤ (B.state buf.new).capacity }
 {
     if additional > usize::MAX - buf.as_ascii_str().len() {
@@ -245,7 +263,8 @@ fn reserve<A: Allocator, B: AsciiBuf>(buf: &mut B, additional: usize) -> Reply<A
 
 /// Copies the part of a view that a range names.
 fn copy<A: Allocator>(alloc: A, view: AsciiStr<'_>, range: AsciiRange) -> Reply<A>
-    ensures { Step 0 (text_of view.entry) (Cmd.Copy range) (value_of_reply result) (text_of view.entry) }
+    ensures { let text = text_of view.entry in
+        Step 0 text (Cmd.Copy range) (value_of_reply result) text }
 {
     match view.slice_ascii(range) {
         Err(refusal) => Reply::Refused(refusal),

@@ -5,7 +5,7 @@ ghost use Rattle.ascii_base.specs.Case.{lower_image};
 ghost use Rattle.ascii_base.specs.Code.{code_of};
 ghost use Rattle.ascii.specs.View.{text_of};
 ghost use Rattle.ascii_run.specs.Inline.{inline_size};
-ghost use Rattle.ascii_run.specs.Run.{NeverShrinks, Run};
+ghost use Rattle.ascii_run.specs.Run.{NeverShrinks, RunOf};
 
 use ascii::{AsciiChar, AsciiStr, AsciiString};
 use ascii_run::{AsciiBuf, Cmd, Reply, SmallAsciiString, run};
@@ -45,8 +45,9 @@ pub fn run_over_a_string<A: Allocator + Copy, B: Allocator>(
     buf: &mut AsciiString<B>,
     cmds: &[Cmd<'_>],
 ) -> Result<Vec<Reply<A>, A>, AllocError>
-    ensures run { IfOk result (λ replies. Run 0 buf.old.text cmds.now replies.items buf.new.text) }
-    ensures within { NeverShrinks cmds.now → IfOk result (λ replies. Run buf.old.capacity buf.old.text cmds.now replies.items buf.new.text) }
+    ensures run { IfOk result (λ replies. RunOf 0 buf.old cmds.now replies.items buf.new) }
+    ensures within { NeverShrinks cmds.now → IfOk result (λ replies.
+        RunOf buf.old.capacity buf.old cmds.now replies.items buf.new) }
     ensures capacity { NeverShrinks cmds.now → buf.old.capacity ≤ buf.new.capacity }
     ensures err { OnErr result (buf.new ≡ buf.old) }
     ensures nothing { cmds.now ≡ [] → IsOk result }

@@ -1,4 +1,5 @@
-use Rattle.std.proofs.Common.{◌≡◌, ◌≢◌, ◌+◌, ◌<◌, ◌++◌, ◌∷◌, ◌∙◌, [], ap, length, refl, sym, take, arith}
+use Rattle.std.proofs.Common.{◌≡◌, ◌≢◌, ◌+◌, ◌<◌, ◌++◌, ◌∷◌, ◌∙◌, [], ap, length, refl, sym, take}
+use Rattle.std.proofs.Common.{arith}
 use Rattle.std.proofs.lemmas.List.{take_more}
 use Rattle.std.proofs.lemmas.List.Elements.{All-get_or}
 use Rattle.ascii_run.specs.declared.commands.Cmd.TheVariants.{Shrink}
@@ -18,10 +19,13 @@ loop-cmd-preserved g c =
     λ never. rw c.cmd-item.is (All-get_or (λ cmd. cmd ≢ Shrink) cmds i item lt never) in
     rw (more, c.in_ok-push.ensures.items) record {
       run = run_more _ _ _ _ _ _ _ _ c.loop-cmd.invariant.run
-          (step_sure _ _ _ _ _ c.step.ensures.step c.step.ensures.room (g.met.B.AsciiBuf.holds_sure c.loop-cmd.buf));
+          (step_sure _ _ _ _ _ c.step.ensures.step c.step.ensures.room
+          (g.met.B.AsciiBuf.holds_sure c.loop-cmd.buf));
       within = λ never. run_more _ _ _ _ _ _ _ _ (c.loop-cmd.invariant.within never)
-          (step_within _ _ _ _ _ _ c.step.ensures.step c.step.ensures.room (c.loop-cmd.invariant.capacity never) (keeps never));
-      capacity = λ never. omega (arith, c.loop-cmd.invariant.capacity never, c.step.ensures.capacity (keeps never));
+          (step_within _ _ _ _ _ _ c.step.ensures.step c.step.ensures.room
+          (c.loop-cmd.invariant.capacity never) (keeps never));
+      capacity = λ never.
+          omega (arith, c.loop-cmd.invariant.capacity never, c.step.ensures.capacity (keeps never));
       len = rw (c.in_ok-push.ensures.len, c.loop-cmd.invariant.len) refl;
       room = omega (arith, c.loop-cmd.invariant.room, c.push.ensures.capacity);
     }

@@ -4,7 +4,7 @@ use Rattle.ascii_run.proofs.RunsLemmas.{runs_agree}
 use Rattle.ascii_run.proofs.forms.run_both.Goals as goal
 
 pub returns-clause-agree : goal.returns-clause-agree
-returns-clause-agree c = runs_agree c.args.cmds.now _ _ _ _ record {
+returns-clause-agree c = runs_agree c.args.cmds.now _ _ record {
   text = text_of c.args.view;
   sure1 = 0;
   sure2 = inline_size;
