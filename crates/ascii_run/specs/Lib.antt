@@ -4,7 +4,7 @@ pub mod Engine
 pub mod Inline
 pub mod JsonText
 pub mod ModeOutput
-pub mod Outgoing
+pub mod OutputState
 pub mod Run
 pub mod Step
 pub mod Wrapped

@@ -1,10 +1,10 @@
-//! The output of `json`.
+//! The output of the mode `Json`.
 
 ghost use Rattle.std.specs.Prelude.{◌≡◌, ◌<◌, [], ◌∷◌, IfOk, OnErr, OnOk, map};
 ghost use Rattle.std.specs.List.{flat_map};
 ghost use Rattle.ascii.specs.View.{text_of};
 ghost use Rattle.ascii_run.specs.JsonText.{AreForms, json_code, json_text};
-ghost use Rattle.ascii_run.specs.Outgoing.{MayFail, PutIn, out};
+ghost use Rattle.ascii_run.specs.OutputState.{MayFail, AppendsTo, output_state};
 
 use crate::devices::Sink;
 use crate::page::Page;
@@ -13,19 +13,18 @@ use ascii::{AsciiStr, AsciiString, bytes};
 use json::Writer;
 use std::alloc::{AllocError, Allocator};
 
-/// How long a text may be that is put in as one piece.
+/// The length up to which a text is appended as one piece.
 const SHORT: usize = 4_096;
 
-/// Puts in the text as a compact JSON string. All growth is made before; nothing is put in where memory
-/// is refused.
+/// Appends the text as a compact JSON string. If an allocation fails, nothing has been appended.
 pub(crate) fn put_json<K: Sink, A: Allocator + Copy>(
     alloc: A,
     text: AsciiStr<'_>,
     page: &mut Page<A>,
     writer: &mut K,
 ) -> Result<(), AllocError>
-    requires { MayFail (out K.Sink writer.old page.old) }
-    ensures ok { OnOk result (PutIn K.Sink writer.old page.old writer.new page.new
+    requires { MayFail (output_state K.Sink writer.old page.old) }
+    ensures ok { OnOk result (AppendsTo K.Sink writer.old page.old writer.new page.new
         (json_text (text_of text.entry))) }
     ensures kept { OnErr result (writer.new ≡ writer.old) }
 {
@@ -50,7 +49,7 @@ fn json_string<A: Allocator>(alloc: A, text: AsciiStr<'_>) -> Result<AsciiString
     Ok(AsciiString::from_ascii_unchecked(writer.into_inner()))
 }
 
-/// The JSON string of each character by itself, by its code.
+/// The JSON string of each character by itself, indexed by its code.
 fn forms<A: Allocator + Copy>(alloc: A) -> Result<Vec<AsciiString<A>, A>, AllocError>
     ensures { IfOk result (λ forms. AreForms 128 (map (λ form. form.text) forms.items)) }
 {
@@ -61,16 +60,17 @@ fn forms<A: Allocator + Copy>(alloc: A) -> Result<Vec<AsciiString<A>, A>, AllocE
     Ok(forms)
 }
 
-/// Puts in each character by its form. What stands between two that are escaped goes in as one run.
+/// Appends each character by its form. The characters between two that are escaped are appended in
+/// one call.
 fn put_by_forms<K: Sink, A: Allocator>(
     text: AsciiStr<'_>,
     forms: &[AsciiString<A>],
     page: &mut Page<A>,
     writer: &mut K,
 )
-    requires fail { MayFail (out K.Sink writer.old page.old) }
+    requires fail { MayFail (output_state K.Sink writer.old page.old) }
     requires forms { AreForms 128 (map (λ form. form.text) forms.now) }
-    ensures { PutIn K.Sink writer.old page.old writer.new page.new
+    ensures { AppendsTo K.Sink writer.old page.old writer.new page.new
         (flat_map json_code (text_of text.entry)) }
 {
     let mut remaining = text.as_bytes();
@@ -82,17 +82,17 @@ fn put_by_forms<K: Sink, A: Allocator>(
     page.put(writer, remaining);
 }
 
-/// Puts in a character as it stands in a JSON string.
+/// Appends a character as it appears in a JSON string.
 fn put_form<K: Sink, A: Allocator>(
     code: u8,
     forms: &[AsciiString<A>],
     page: &mut Page<A>,
     writer: &mut K,
 )
-    requires fail { MayFail (out K.Sink writer.old page.old) }
+    requires fail { MayFail (output_state K.Sink writer.old page.old) }
     requires forms { AreForms 128 (map (λ form. form.text) forms.now) }
     requires ascii { code < 128 }
-    ensures { PutIn K.Sink writer.old page.old writer.new page.new (json_code code) }
+    ensures { AppendsTo K.Sink writer.old page.old writer.new page.new (json_code code) }
 {
     let form = form_of(code, forms);
     page.put(writer, &form[1..form.len() - 1]);

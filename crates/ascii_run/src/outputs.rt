@@ -6,7 +6,7 @@ ghost use Rattle.std.specs.List.{flat_map};
 ghost use Rattle.ascii.specs.Spans.{line_in};
 ghost use Rattle.ascii.specs.View.{text_of};
 ghost use Rattle.ascii_run.specs.Engine.{StopsOutput, WritesOutput, write_failures};
-ghost use Rattle.ascii_run.specs.Outgoing.{MayFail, OutputIn, PutIn, out};
+ghost use Rattle.ascii_run.specs.OutputState.{MayFail, AppendsOutputTo, AppendsTo, output_state};
 ghost use Rattle.ascii_run.specs.ModeOutput.{IsShown, answer_text, caret_text, ending_word, span_text, with_line_feed};
 ghost use Rattle.ascii_run.specs.Run.{HasNoFault, plain_text};
 
@@ -23,8 +23,8 @@ use itoa::Buffer;
 use memchr::memmem::Finder;
 use std::alloc::{AllocError, Allocator};
 
-/// Writes the output of the mode for a text, and flushes. All growth is made before the first byte
-/// goes out.
+/// Writes the output of the mode for a text, and flushes. All allocations are made before the first
+/// byte is written.
 pub(crate) fn write_output<K: Sink, A: Allocator + Copy>(
     alloc: A,
     mode: Mode<'_>,
@@ -41,7 +41,7 @@ pub(crate) fn write_output<K: Sink, A: Allocator + Copy>(
     page.finish(writer)
 }
 
-/// Puts in the output of the mode for a text. Nothing is put in where it fails.
+/// Appends the output of the mode for a text. On error, nothing has been appended.
 fn put_output<K: Sink, A: Allocator + Copy>(
     alloc: A,
     mode: Mode<'_>,
@@ -49,8 +49,8 @@ fn put_output<K: Sink, A: Allocator + Copy>(
     page: &mut Page<A>,
     writer: &mut K,
 ) -> Result<(), EngineFault>
-    requires { MayFail (out K.Sink writer.old page.old) }
-    ensures ok { OnOk result (OutputIn mode.entry (text_of text.entry)
+    requires { MayFail (output_state K.Sink writer.old page.old) }
+    ensures ok { OnOk result (AppendsOutputTo mode.entry (text_of text.entry)
         K.Sink writer.old page.old writer.new page.new) }
     ensures err { IfErr result (StopsOutput mode.entry (text_of text.entry)) }
     ensures kept { OnErr result (writer.new ≡ writer.old) }
@@ -71,11 +71,11 @@ fn put_output<K: Sink, A: Allocator + Copy>(
     Ok(())
 }
 
-/// Puts in the body of each line and LF, from the front: the text without each CR that stands before LF, and
-/// LF behind a last line that has none.
+/// Appends the body of each line and LF, in order: the text without each CR that is before LF, and
+/// LF after a last line that has none.
 fn put_lines<K: Sink, A: Allocator>(text: AsciiStr<'_>, page: &mut Page<A>, writer: &mut K)
-    requires { MayFail (out K.Sink writer.old page.old) }
-    ensures { OutputIn Mode.Lines (text_of text.entry)
+    requires { MayFail (output_state K.Sink writer.old page.old) }
+    ensures { AppendsOutputTo Mode.Lines (text_of text.entry)
         K.Sink writer.old page.old writer.new page.new }
 {
     let ending = Finder::new(b"\r\n");
@@ -91,10 +91,10 @@ fn put_lines<K: Sink, A: Allocator>(text: AsciiStr<'_>, page: &mut Page<A>, writ
     }
 }
 
-/// Puts in the body of each line and LF, from the back.
+/// Appends the body of each line and LF, the last line first.
 fn put_tac<K: Sink, A: Allocator>(text: AsciiStr<'_>, page: &mut Page<A>, writer: &mut K)
-    requires { MayFail (out K.Sink writer.old page.old) }
-    ensures { OutputIn Mode.Tac (text_of text.entry)
+    requires { MayFail (output_state K.Sink writer.old page.old) }
+    ensures { AppendsOutputTo Mode.Tac (text_of text.entry)
         K.Sink writer.old page.old writer.new page.new }
 {
     for body in text.lines().rev() {
@@ -102,21 +102,21 @@ fn put_tac<K: Sink, A: Allocator>(text: AsciiStr<'_>, page: &mut Page<A>, writer
     }
 }
 
-/// Puts in a body and LF.
+/// Appends a body and LF.
 fn put_line<K: Sink, A: Allocator>(body: AsciiStr<'_>, page: &mut Page<A>, writer: &mut K)
-    requires { MayFail (out K.Sink writer.old page.old) }
-    ensures { PutIn K.Sink writer.old page.old writer.new page.new
+    requires { MayFail (output_state K.Sink writer.old page.old) }
+    ensures { AppendsTo K.Sink writer.old page.old writer.new page.new
         (with_line_feed (text_of body.entry)) }
 {
     page.put(writer, body.as_bytes());
     page.put(writer, b"\n");
 }
 
-/// Puts in each character; a control character other than LF as `^` and its caret letter. What
-/// stands between two of these goes in as one run.
+/// Appends each character; a control character other than LF as `^` and its caret letter. The
+/// characters between two of these are appended in one call.
 fn put_caret<K: Sink, A: Allocator>(text: AsciiStr<'_>, page: &mut Page<A>, writer: &mut K)
-    requires { MayFail (out K.Sink writer.old page.old) }
-    ensures { PutIn K.Sink writer.old page.old writer.new page.new
+    requires { MayFail (output_state K.Sink writer.old page.old) }
+    ensures { AppendsTo K.Sink writer.old page.old writer.new page.new
         (flat_map caret_text (text_of text.entry)) }
 {
     let mut remaining = text.as_bytes();
@@ -128,26 +128,26 @@ fn put_caret<K: Sink, A: Allocator>(text: AsciiStr<'_>, page: &mut Page<A>, writ
     page.put(writer, remaining);
 }
 
-/// Puts in a control character other than LF: `^` and its caret letter.
+/// Appends a control character other than LF: `^` and its caret letter.
 fn put_control<K: Sink, A: Allocator>(code: u8, page: &mut Page<A>, writer: &mut K)
-    requires fail { MayFail (out K.Sink writer.old page.old) }
+    requires fail { MayFail (output_state K.Sink writer.old page.old) }
     requires control { ¬ IsShown code }
     requires ascii { code < 128 }
-    ensures { PutIn K.Sink writer.old page.old writer.new page.new (caret_text code) }
+    ensures { AppendsTo K.Sink writer.old page.old writer.new page.new (caret_text code) }
 {
     let letter = if code < 32 { code + 64 } else { b'?' };
     page.put(writer, &[b'^', letter]);
 }
 
-/// Puts in what one iterator of lines gives to a script of ends, a line for each end.
+/// Appends what one iterator of lines yields to a script of ends, a line for each end.
 fn put_ends<K: Sink, A: Allocator>(
     text: AsciiStr<'_>,
     script: &[End],
     page: &mut Page<A>,
     writer: &mut K,
 )
-    requires { MayFail (out K.Sink writer.old page.old) }
-    ensures { OutputIn (Mode.Ends script.entry) (text_of text.entry)
+    requires { MayFail (output_state K.Sink writer.old page.old) }
+    ensures { AppendsOutputTo (Mode.Ends script.entry) (text_of text.entry)
         K.Sink writer.old page.old writer.new page.new }
 {
     let mut lines = text.lines();
@@ -156,14 +156,14 @@ fn put_ends<K: Sink, A: Allocator>(
     }
 }
 
-/// Puts in an answer: `+`, the body and LF, or `-` and LF.
+/// Appends an answer: `+`, the body and LF, or `-` and LF.
 fn put_answer<K: Sink, A: Allocator>(
     answer: Option<AsciiStr<'_>>,
     page: &mut Page<A>,
     writer: &mut K,
 )
-    requires { MayFail (out K.Sink writer.old page.old) }
-    ensures { PutIn K.Sink writer.old page.old writer.new page.new
+    requires { MayFail (output_state K.Sink writer.old page.old) }
+    ensures { AppendsTo K.Sink writer.old page.old writer.new page.new
         (answer_text (option_map text_of answer.entry)) }
 {
     match answer {
@@ -175,15 +175,15 @@ fn put_answer<K: Sink, A: Allocator>(
     }
 }
 
-/// The same as `put_ends` with the start and the ending of each line.
+/// Like `put_ends`, but with the start and the ending of each line.
 fn put_ends_spans<K: Sink, A: Allocator>(
     text: AsciiStr<'_>,
     script: &[End],
     page: &mut Page<A>,
     writer: &mut K,
 )
-    requires { MayFail (out K.Sink writer.old page.old) }
-    ensures { OutputIn (Mode.EndsSpans script.entry) (text_of text.entry)
+    requires { MayFail (output_state K.Sink writer.old page.old) }
+    ensures { AppendsOutputTo (Mode.EndsSpans script.entry) (text_of text.entry)
         K.Sink writer.old page.old writer.new page.new }
 {
     let mut lines = text.line_spans();
@@ -192,11 +192,11 @@ fn put_ends_spans<K: Sink, A: Allocator>(
     }
 }
 
-/// Puts in an answer with its place: `+`, the start, the ending's word and the body with spaces
+/// Appends an answer with its start: `+`, the start, the ending's word and the body with spaces
 /// between, and LF; or `-` and LF.
 fn put_span<K: Sink, A: Allocator>(answer: Option<LineSpan<'_>>, page: &mut Page<A>, writer: &mut K)
-    requires { MayFail (out K.Sink writer.old page.old) }
-    ensures { PutIn K.Sink writer.old page.old writer.new page.new
+    requires { MayFail (output_state K.Sink writer.old page.old) }
+    ensures { AppendsTo K.Sink writer.old page.old writer.new page.new
         (span_text (option_map line_in answer.entry)) }
 {
     let Some(span) = answer else {
@@ -209,7 +209,7 @@ fn put_span<K: Sink, A: Allocator>(answer: Option<LineSpan<'_>>, page: &mut Page
     put_line(span.text, page, writer);
 }
 
-/// The word of an ending, with a space before and behind it.
+/// The word of an ending, with a space before and after it.
 fn word_of_ending(ending: Ending) -> &'static [u8]
     ensures { result.now ≡ codes " " ++ (ending_word ending ++ codes " ") }
 {

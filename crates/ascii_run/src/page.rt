@@ -1,55 +1,56 @@
-//! What goes out through one buffer of fixed size.
+//! An output buffer of fixed size.
 
 ghost use Rattle.std.specs.Prelude.{◌≡◌, ◌+◌, ◌<◌, ◌≤◌, ◌++◌, IfErr, IfOk, OnOk, [], false, length};
 ghost use Rattle.std.specs.Io.KnownBytes.{Appends};
 ghost use Rattle.ascii_run.specs.Engine.{AppendsFront, write_failures};
-ghost use Rattle.ascii_run.specs.Outgoing.{FinishesBy, MayFail, PutIn, out};
+ghost use Rattle.ascii_run.specs.OutputState.{AppendsTo, FinishOutcome, MayFail, output_state};
 
 use crate::devices::Sink;
 use crate::faults::EngineFault;
 use std::alloc::{AllocError, Allocator};
 use std::marker::Model;
 
-/// How many bytes a page holds.
+/// The size of a page in bytes.
 pub(crate) const PAGE: usize = 65_536;
 
-/// The bytes that were put in and have not gone out yet. After a failure of the writer no more bytes
-/// go out.
+/// An output buffer: bytes that were appended and that the writer has not taken yet. After a write
+/// has failed, nothing more is written.
 #[derive(Drop)]
 pub(crate) struct Page<A: Allocator> {
-    held: Vec<u8, A>,
+    bytes: Vec<u8, A>,
     is_broken: bool,
 }
 
 impl<A: Allocator> Model for Page<A> {
     ghost use Rattle.std.specs.Prelude.{◌≤◌, length, vec_capacity};
-    ghost use Rattle.ascii_run.specs.Outgoing.{HeldBack};
+    ghost use Rattle.ascii_run.specs.OutputState.{BufferState};
 
-    ghost Value = { HeldBack };
+    ghost Value = { BufferState };
 
-    ghost view = { λ page. record { bytes = page.held.items; is_broken = page.is_broken } };
+    ghost view = { λ page. record { bytes = page.bytes.items; is_broken = page.is_broken } };
 
-    ghost invariant = { λ page. (length page.held.items ≤ 65536) × (65536 ≤ vec_capacity page.held) };
+    ghost invariant = { λ page.
+        (length page.bytes.items ≤ 65536) × (65536 ≤ vec_capacity page.bytes) };
 }
 
 impl<A: Allocator> Page<A> {
-    /// An empty page.
+    /// Creates an empty page, or returns an error if the allocation fails.
     pub(crate) fn new(alloc: A) -> Result<Page<A>, AllocError>
         ensures { IfOk result (λ page. (page.bytes ≡ []) × (page.is_broken ≡ false)) }
     {
         Ok(Page {
-            held: Vec::with_capacity(alloc, PAGE)?,
+            bytes: Vec::with_capacity(alloc, PAGE)?,
             is_broken: false,
         })
     }
 
-    /// Puts bytes in. They go out by full pages.
+    /// Appends bytes. If there is no room for them, the page is written first.
     #[inline]
     pub(crate) fn put<K: Sink>(&mut self, writer: &mut K, bytes: &[u8])
-        requires { MayFail (out K.Sink writer.old self.old) }
-        ensures { PutIn K.Sink writer.old self.old writer.new self.new bytes.now }
+        requires { MayFail (output_state K.Sink writer.old self.old) }
+        ensures { AppendsTo K.Sink writer.old self.old writer.new self.new bytes.now }
     {
-        if bytes.len() <= PAGE - self.held.len() {
+        if bytes.len() <= PAGE - self.bytes.len() {
             self.hold(bytes);
         } else {
             self.send(writer);
@@ -57,21 +58,21 @@ impl<A: Allocator> Page<A> {
         }
     }
 
-    /// Holds bytes that there is room for.
+    /// Appends bytes that there is room for.
     #[inline]
     fn hold(&mut self, bytes: &[u8])
         requires { length self.old.bytes + length bytes.now ≤ PAGE }
         ensures bytes { self.new.bytes ≡ self.old.bytes ++ bytes.now }
         ensures broken { self.new.is_broken ≡ self.old.is_broken }
     {
-        let _ = self.held.extend_from_slice(bytes);
+        let _ = self.bytes.extend_from_slice(bytes);
     }
 
-    /// Holds bytes, or writes them at once where they are longer than a page.
+    /// Appends bytes to an empty page, or writes them at once if they are longer than a page.
     fn pass<K: Sink>(&mut self, writer: &mut K, bytes: &[u8])
-        requires fail { MayFail (out K.Sink writer.old self.old) }
+        requires fail { MayFail (output_state K.Sink writer.old self.old) }
         requires empty { self.old.bytes ≡ [] }
-        ensures { PutIn K.Sink writer.old self.old writer.new self.new bytes.now }
+        ensures { AppendsTo K.Sink writer.old self.old writer.new self.new bytes.now }
     {
         if bytes.len() <= PAGE {
             self.hold(bytes);
@@ -80,23 +81,24 @@ impl<A: Allocator> Page<A> {
         }
     }
 
-    /// Sends all that is held.
+    /// Writes the bytes of the page, unless a write has failed, and empties it.
     #[inline(never)]
     fn send<K: Sink>(&mut self, writer: &mut K)
-        requires { MayFail (out K.Sink writer.old self.old) }
-        ensures puts { PutIn K.Sink writer.old self.old writer.new self.new [] }
+        requires { MayFail (output_state K.Sink writer.old self.old) }
+        ensures puts { AppendsTo K.Sink writer.old self.old writer.new self.new [] }
         ensures empty { self.new.bytes ≡ [] }
     {
         if !self.is_broken {
-            self.is_broken = write_each(writer, &self.held).is_err();
+            self.is_broken = write_each(writer, &self.bytes).is_err();
         }
-        self.held.clear();
+        self.bytes.clear();
     }
 
-    /// Sends what is held, and flushes the writer.
+    /// Writes the bytes of the page and flushes the writer. Returns `EngineFault::Write` if a write
+    /// or the flush fails, or if a write had failed before.
     pub(crate) fn finish<K: Sink>(self, writer: &mut K) -> Result<(), EngineFault>
-        requires { MayFail (out K.Sink writer.old self) }
-        ensures { FinishesBy self.is_broken (out K.Sink writer.old self)
+        requires { MayFail (output_state K.Sink writer.old self) }
+        ensures { FinishOutcome self.is_broken (output_state K.Sink writer.old self)
             (K.taken writer.new) (K.failures writer.new) result }
     {
         let mut page = self;
@@ -108,7 +110,7 @@ impl<A: Allocator> Page<A> {
     }
 }
 
-/// Writes all of the bytes, in as many writes as the writer takes.
+/// Writes all of the bytes, in as many writes as the writer needs.
 pub(crate) fn write_each<K: Sink>(writer: &mut K, bytes: &[u8]) -> Result<(), EngineFault>
     requires { K.failures writer.old < u64.MAX }
     ensures ok { OnOk result (Appends (K.taken writer.old) (K.taken writer.new) bytes.now) }

@@ -4,12 +4,15 @@ use Rattle.std.specs.List.{flat_map}
 use Rattle.ascii.specs.View.{text_of}
 use Rattle.ascii_run.specs.JsonText.{IsUnescaped, json_code}
 use Rattle.ascii_run.proofs.PlainRunLemmas.{json_plain, shown_all, shown_more}
-use Rattle.ascii_run.proofs.PageLemmas.{MayFail-still, Puts-is, Puts-nil, Puts-trans}
+use Rattle.ascii_run.proofs.PageLemmas.{MayFail-still, AppendsBytes-is, AppendsBytes-nil}
+use Rattle.ascii_run.proofs.PageLemmas.{AppendsBytes-trans}
 use Rattle.ascii_run.proofs.SinkLemmas.{sent_more}
 use Rattle.ascii_run.proofs.json_strings.put_by_forms.Goals as goal
 
 pub segments-init : goal.segments-init
-segments-init g c = (c.requires.fail, c.as_bytes-remaining.ensures.ascii, ([], c.as_bytes-remaining.ensures.codes, Puts-nil _))
+segments-init g c =
+    let start = c.as_bytes-remaining.ensures in
+    (c.requires.fail, start.ascii, ([], start.codes, AppendsBytes-nil _))
 
 pub segments-preserved : goal.segments-preserved
 segments-preserved g c =
@@ -18,13 +21,16 @@ segments-preserved g c =
     let done = c.segments.invariant.2.0 in
     let segment = take place remaining in
     let shown = json_code (get_or remaining place 0) in
-    let both = Puts-trans segment shown c.put.ensures c.put_form.ensures in (
+    let before = c.segments.invariant.2.2 in
+    let both = AppendsBytes-trans segment shown c.put.ensures c.put_form.ensures in (
       MayFail-still (segment ++ shown) c.segments.invariant.0 both,
       IsAscii-take _ _ (IsAscii-drop remaining (place + 1) c.segments.invariant.1),
       (
         done ++ take (place + 1) remaining,
         sent_more done remaining (text_of c.args.text) (place + 1) c.segments.invariant.2.1,
-        Puts-is (shown_more IsUnescaped json_code json_plain done remaining place c.in-Some.ensures) (Puts-trans (flat_map json_code done) (segment ++ shown) c.segments.invariant.2.2 both),
+        AppendsBytes-is
+            (shown_more IsUnescaped json_code json_plain done remaining place c.in-Some.ensures)
+            (AppendsBytes-trans (flat_map json_code done) (segment ++ shown) before both),
       ),
     )
 
@@ -32,5 +38,9 @@ pub returns : goal.returns
 returns g c =
     let done = c.segments.invariant.2.0 in
     let remaining = c.segments.remaining.now in
-    Puts-is (shown_all IsUnescaped json_code json_plain done remaining (text_of c.args.text) c.in_default.ensures c.segments.invariant.2.1)
-    (Puts-trans (flat_map json_code done) remaining c.segments.invariant.2.2 c.put-2.ensures)
+    let text = text_of c.args.text in
+    let invariant = c.segments.invariant.2 in
+    AppendsBytes-is
+    (shown_all IsUnescaped json_code json_plain done remaining text
+    c.in_default.ensures invariant.1)
+    (AppendsBytes-trans (flat_map json_code done) remaining invariant.2 c.put-2.ensures)

@@ -3,9 +3,10 @@ use Rattle.std.specs.Prelude.{codes}
 use Rattle.std.specs.Option.{option_map}
 use Rattle.ascii.specs.View.{text_of}
 use Rattle.ascii_run.specs.ModeOutput.{answer_text}
-use Rattle.ascii_run.proofs.PageLemmas.{Puts-is, Puts-trans}
+use Rattle.ascii_run.proofs.PageLemmas.{AppendsBytes-is, AppendsBytes-trans}
 use Rattle.ascii_run.proofs.outputs.put_answer.Goals as goal
 
 pub returns-in-Some : goal.returns-in-Some
 returns-in-Some g c =
-    Puts-is (ap (λ answer. answer_text (option_map text_of answer)) (sym c.in-Some.is)) (Puts-trans (codes "+") _ c.put.ensures c.put_line.ensures)
+    AppendsBytes-is (ap (λ answer. answer_text (option_map text_of answer)) (sym c.in-Some.is))
+    (AppendsBytes-trans (codes "+") _ c.put.ensures c.put_line.ensures)

@@ -4,7 +4,7 @@ use Rattle.std.specs.List.{flat_map}
 use Rattle.ascii.specs.View.{text_of}
 use Rattle.ascii_run.specs.ModeOutput.{IsShown, caret_text}
 use Rattle.ascii_run.proofs.PlainRunLemmas.{caret_plain, shown_all, shown_more}
-use Rattle.ascii_run.proofs.PageLemmas.{MayFail-still, Puts-is, Puts-trans}
+use Rattle.ascii_run.proofs.PageLemmas.{MayFail-still, AppendsBytes-is, AppendsBytes-trans}
 use Rattle.ascii_run.proofs.SinkLemmas.{sent_more}
 use Rattle.ascii_run.proofs.outputs.put_caret.Goals as goal
 
@@ -15,13 +15,16 @@ segments-preserved g c =
     let done = c.segments.invariant.2.0 in
     let segment = take place remaining in
     let shown = caret_text (get_or remaining place 0) in
-    let both = Puts-trans segment shown c.put.ensures c.put_control.ensures in (
+    let before = c.segments.invariant.2.2 in
+    let both = AppendsBytes-trans segment shown c.put.ensures c.put_control.ensures in (
       MayFail-still (segment ++ shown) c.segments.invariant.0 both,
       IsAscii-take _ _ (IsAscii-drop remaining (place + 1) c.segments.invariant.1),
       (
         done ++ take (place + 1) remaining,
         sent_more done remaining (text_of c.args.text) (place + 1) c.segments.invariant.2.1,
-        Puts-is (shown_more IsShown caret_text caret_plain done remaining place c.in-Some.ensures) (Puts-trans (flat_map caret_text done) (segment ++ shown) c.segments.invariant.2.2 both),
+        AppendsBytes-is
+            (shown_more IsShown caret_text caret_plain done remaining place c.in-Some.ensures)
+            (AppendsBytes-trans (flat_map caret_text done) (segment ++ shown) before both),
       ),
     )
 
@@ -29,5 +32,8 @@ pub returns : goal.returns
 returns g c =
     let done = c.segments.invariant.2.0 in
     let remaining = c.segments.remaining.now in
-    Puts-is (shown_all IsShown caret_text caret_plain done remaining (text_of c.args.text) c.in_default.ensures c.segments.invariant.2.1)
-    (Puts-trans (flat_map caret_text done) remaining c.segments.invariant.2.2 c.put-2.ensures)
+    let text = text_of c.args.text in
+    let invariant = c.segments.invariant.2 in
+    AppendsBytes-is
+    (shown_all IsShown caret_text caret_plain done remaining text c.in_default.ensures invariant.1)
+    (AppendsBytes-trans (flat_map caret_text done) remaining invariant.2 c.put-2.ensures)

@@ -1,13 +1,15 @@
 use Rattle.std.proofs.Common.{List, ℕ, take}
 use Rattle.ascii.specs.Lines.{bodies}
-use Rattle.ascii_run.specs.Outgoing.{MayFail, Puts, out}
+use Rattle.ascii_run.specs.OutputState.{MayFail, AppendsBytes, output_state}
 use Rattle.ascii_run.specs.ModeOutput.{answer_text}
 use Rattle.ascii_run.proofs.EndsOutputLemmas.{ShowsSoFar}
 use Rattle.ascii_run.proofs.outputs.put_ends.Given as goal
 
--- the answers to the ends so far were put in, and what is still owed
+-- the answers to the ends so far were appended, and which lines remain
 abbrev pub invariant-loop-end : goal.invariant-loop-end
 invariant-loop-end g l =
-    MayFail (out g.K.Sink l.writer l.page) × ((output : List ℕ)
-    × Puts (out g.K.Sink l.fn.writer l.fn.page) (out g.K.Sink l.writer l.page) output
-    × ShowsSoFar answer_text (bodies l.initial.lines) (take l.end-index l.script) output (bodies l.lines))
+    let old = output_state g.K.Sink l.fn.writer l.fn.page in
+    let new = output_state g.K.Sink l.writer l.page in
+    MayFail new × ((output : List ℕ) × AppendsBytes old new output
+    × ShowsSoFar answer_text (bodies l.initial.lines) (take l.end-index l.script) output
+    (bodies l.lines))

@@ -1,12 +1,13 @@
 use Rattle.std.proofs.Common.{List, ℕ, take}
-use Rattle.ascii_run.specs.Outgoing.{MayFail, Puts, out}
+use Rattle.ascii_run.specs.OutputState.{MayFail, AppendsBytes, output_state}
 use Rattle.ascii_run.specs.ModeOutput.{span_text}
 use Rattle.ascii_run.proofs.EndsOutputLemmas.{ShowsSoFar}
 use Rattle.ascii_run.proofs.outputs.put_ends_spans.Given as goal
 
--- the answers to the ends so far were put in, and what is still owed
+-- the answers to the ends so far were appended, and which lines remain
 abbrev pub invariant-loop-end : goal.invariant-loop-end
 invariant-loop-end g l =
-    MayFail (out g.K.Sink l.writer l.page) × ((output : List ℕ)
-    × Puts (out g.K.Sink l.fn.writer l.fn.page) (out g.K.Sink l.writer l.page) output
+    let old = output_state g.K.Sink l.fn.writer l.fn.page in
+    let new = output_state g.K.Sink l.writer l.page in
+    MayFail new × ((output : List ℕ) × AppendsBytes old new output
     × ShowsSoFar span_text (l.initial.lines) (take l.end-index l.script) output (l.lines))

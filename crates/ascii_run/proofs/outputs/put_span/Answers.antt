@@ -5,7 +5,7 @@ use Rattle.std.specs.Option.{option_map}
 use Rattle.ascii.specs.Spans.{line_in}
 use Rattle.ascii.specs.View.{text_of}
 use Rattle.ascii_run.specs.ModeOutput.{ending_word, span_text, with_line_feed}
-use Rattle.ascii_run.proofs.PageLemmas.{Puts-is, Puts-trans}
+use Rattle.ascii_run.proofs.PageLemmas.{AppendsBytes-is, AppendsBytes-trans}
 use Rattle.ascii_run.proofs.outputs.put_span.Goals as goal
 
 pub returns : goal.returns
@@ -15,8 +15,12 @@ returns g c =
     let start = decimal span.start in
     let ending = ending_word span.ending in
     let word = codes " " ++ (ending ++ codes " ") in
-    let number = Puts-is (c.as_bytes.ensures.value ∙ c.format.ensures.text) c.put-3.ensures in
-    Puts-is
-    (ap (λ xs. codes "+" ++ (start ++ (codes " " ++ xs))) (append_assoc ending (codes " ") line) ∙ ap (λ answer. span_text (option_map line_in answer)) (sym c.in-Some.is))
-    (Puts-trans (codes "+") (start ++ (word ++ line)) c.put-2.ensures
-    (Puts-trans start (word ++ line) number (Puts-trans word line (Puts-is c.word_of_ending.ensures c.put-4.ensures) c.put_line.ensures)))
+    let is = c.as_bytes.ensures.value ∙ c.format.ensures.text in
+    let number = AppendsBytes-is is c.put-3.ensures in
+    let middle = AppendsBytes-is c.word_of_ending.ensures c.put-4.ensures in
+    AppendsBytes-is
+    (ap (λ xs. codes "+" ++ (start ++ (codes " " ++ xs))) (append_assoc ending (codes " ") line)
+    ∙ ap (λ answer. span_text (option_map line_in answer)) (sym c.in-Some.is))
+    (AppendsBytes-trans (codes "+") (start ++ (word ++ line)) c.put-2.ensures
+    (AppendsBytes-trans start (word ++ line) number
+    (AppendsBytes-trans word line middle c.put_line.ensures)))
