@@ -2,6 +2,6 @@
 use Rattle.std.specs.Prelude.{◌≡◌, ℕ, ◌+◌, MatchResult}
 use Rattle.std.specs.declared.result.Result.{Result}
 
--- a refusal, and a refusal alone, adds one to the count of failures
+-- the count of failures: unchanged on `Ok`, one more on `Err`
 abbrev pub CountsFault : {T E : Type 0} → ℕ → ℕ → Result T E → Type 0
 CountsFault old new result = MatchResult result (λ _. new ≡ old) (λ _. new ≡ old + 1)

@@ -1,5 +1,5 @@
--- What `engine` tells of the bytes that it read and of those that went out.
-use Rattle.std.specs.Prelude.{◌≡◌, ℕ, ◌+◌, List, ◌++◌, length}
+-- What `engine` ensures of the bytes that it read and of those that it wrote.
+use Rattle.std.specs.Prelude.{◌≡◌, ⊤, ℕ, ◌+◌, List, ◌++◌, length}
 use Rattle.std.specs.Str.{IsAscii}
 use Rattle.std.specs.Io.KnownBytes.{Appends, Consumes, IsAtEnd, Keeps}
 use Rattle.std.specs.declared.option.Option.{Option}
@@ -7,28 +7,34 @@ use Rattle.std.specs.declared.result.Result.{Result}
 use Rattle.std.specs.declared.result.Result.TheVariants.{Ok, Err}
 use Rattle.ascii_base.specs.Bytes.{FirstOther}
 use Rattle.ascii_run.specs.declared.faults.EngineFault.{EngineFault}
-use Rattle.ascii_run.specs.declared.faults.EngineFault.TheVariants.{NotAscii, Position, Memory, Read, Write}
+use Rattle.ascii_run.specs.declared.faults.EngineFault.TheVariants.{NotAscii, Position, Memory}
+use Rattle.ascii_run.specs.declared.faults.EngineFault.TheVariants.{Read, Write}
 use Rattle.ascii_run.specs.declared.modes.Mode.{Mode}
 use Rattle.ascii_run.specs.ModeOutput.{IsFaultOf, IsOutput}
 
--- the reader gave these bytes and is at its end
+-- between its old and its new remaining bytes the reader gave `bytes`, and it is at its end
 pub record ReadsAll (old new : Option (List ℕ)) (bytes : List ℕ) : Type 0 where
   pub gave : Consumes old new bytes
   pub ended : IsAtEnd new
 
--- the reader gave a text and is at its end, and this is the output of the text
-pub record IsOutputOfInput (mode : Mode) (old new : Option (List ℕ)) (output : List ℕ) : Type 0 where
+-- the reader gave an ASCII text and is at its end, and `output` is the output of the mode for it
+pub record IsOutputOfInput (mode : Mode) (old new : Option (List ℕ)) (output : List ℕ) :
+    Type 0 where
   pub text : List ℕ
   pub read : ReadsAll old new text
   pub ascii : IsAscii text
   pub output_of : IsOutput mode text output
 
--- what the reader has left to give, and what the writer has taken
+-- the bytes that the reader has yet to give, and those that the writer has taken, if they are known
 pub record IoState : Type 0 where
   pub remaining : Option (List ℕ)
   pub taken : Option (List ℕ)
 
--- at its answer: what the reader gave and the writer took between the old state and the new one
+-- what the reader gave and the writer took between the old state and the new one. `Ok`: the writer
+-- took the output of the mode for all that the reader gave. `NotAscii`: the reader is at its end,
+-- and the error holds the position of the first byte over 127. `Position`: the reader is at its
+-- end, and the error holds the fault place of the mode. `Write`: the writer took a prefix of the
+-- output. The writer took nothing except on `Ok` and `Write`.
 abbrev pub EngineOutcome : Mode → Result (Unit {0}) EngineFault → IoState → IoState → Type 0
 EngineOutcome mode (Ok _) old new =
     (output : List ℕ) × IsOutputOfInput mode old.remaining new.remaining output
@@ -45,32 +51,38 @@ EngineOutcome mode (Err Write) old new =
     (sent others : List ℕ) × IsOutputOfInput mode old.remaining new.remaining (sent ++ others)
     × Appends old.taken new.taken sent
 
--- the reader's failures after an answer: one more at `Read` alone
+-- the reader's count of failures after a result: one more for `Read`, otherwise unchanged
 abbrev pub read_failures : {T : Type 0} → ℕ → Result T EngineFault → ℕ
 read_failures n (Err Read) = n + 1
 read_failures n other = n
 
--- the writer's failures after an answer: one more at `Write` alone
+-- the writer's count of failures after a result: one more for `Write`, otherwise unchanged
 abbrev pub write_failures : {T : Type 0} → ℕ → Result T EngineFault → ℕ
 write_failures n (Err Write) = n + 1
 write_failures n other = n
 
--- ---- cited by private functions alone
+-- ---- cited by private functions only
 
--- the writer took a beginning of the bytes
+-- the writer took a prefix of the bytes
 abbrev pub AppendsFront : Option (List ℕ) → Option (List ℕ) → List ℕ → Type 0
-AppendsFront old new bytes = (sent others : List ℕ) × Appends old new sent × (sent ++ others ≡ bytes)
+AppendsFront old new bytes =
+    (sent others : List ℕ) × Appends old new sent × (sent ++ others ≡ bytes)
 
--- the faults that end the making of an output
+-- why no output of the mode for the text was made. `Position`: it holds the fault place of the
+-- mode. `Memory`: an allocation failed.
 abbrev pub StopsOutput : Mode → List ℕ → EngineFault → Type 0
 StopsOutput mode text (Position k) = IsFaultOf mode text k
-StopsOutput mode text Memory = Unit {0}
+StopsOutput mode text Memory = ⊤
 StopsOutput mode text other = ⊥
 
--- at its answer: what the writer took of the output of a text
-abbrev pub WritesOutput : Mode → List ℕ → Result (Unit {0}) EngineFault → Option (List ℕ) → Option (List ℕ) → Type 0
-WritesOutput mode text (Ok _) old new = (output : List ℕ) × IsOutput mode text output × Appends old new output
+-- what the writer took of the output of the mode for the text. `Ok`: all of it. `Write`: a prefix.
+-- `Position`: nothing, and the error holds the fault place of the mode. `Memory`: nothing.
+abbrev pub WritesOutput : Mode → List ℕ
+    → Result (Unit {0}) EngineFault → Option (List ℕ) → Option (List ℕ) → Type 0
+WritesOutput mode text (Ok _) old new =
+    (output : List ℕ) × IsOutput mode text output × Appends old new output
 WritesOutput mode text (Err (Position k)) old new = IsFaultOf mode text k × Keeps old new
 WritesOutput mode text (Err Memory) old new = Keeps old new
-WritesOutput mode text (Err Write) old new = (sent others : List ℕ) × IsOutput mode text (sent ++ others) × Appends old new sent
+WritesOutput mode text (Err Write) old new =
+    (sent others : List ℕ) × IsOutput mode text (sent ++ others) × Appends old new sent
 WritesOutput mode text other old new = ⊥

@@ -1,19 +1,19 @@
--- A text that stands in the value itself while it is short.
+-- A string whose text is in the value itself while it is short.
 use Rattle.std.specs.Prelude.{ℕ, ◌≤◌, List, length, max}
 use Rattle.std.specs.Str.{IsAscii}
 use Rattle.ascii.specs.StringState.{StringState}
 
--- how many characters stand in the value itself
+-- how many characters the value itself has room for
 abbrev pub inline_size : ℕ
 inline_size = 24
 
--- what is state, with room for at least as many as stand in the value itself
+-- the state of a string, with a capacity of at least what the value itself has room for
 abbrev pub with_inline_room : StringState → StringState
 with_inline_room state = record { text = state.text; capacity = max inline_size state.capacity }
 
--- ---- cited by private items alone
+-- ---- cited by private items only
 
--- the bytes are codes, with room for them and for as many as stand in the value itself
+-- the bytes are ASCII, and the capacity is at least their number and `inline_size`
 pub record IsSmallText (bytes : List ℕ) (capacity : ℕ) : Type 0 where
   pub ascii : IsAscii bytes
   pub room : length bytes ≤ capacity

@@ -1,9 +1,11 @@
 -- The compact JSON text of a text: a double quote, its characters one by one, a double quote.
-use Rattle.std.specs.Prelude.{◌≡◌, ◌≤◌, ◌<◌, length, get_or, ℕ, ◌/◌, ◌%◌, List, [], ◌∷◌, ◌++◌, if◌then◌else◌, ◌==◌, nat_lt, codes}
+use Rattle.std.specs.Prelude.{◌≡◌, ◌≢◌, ◌≤◌, ◌<◌, length, get_or, ℕ, ◌/◌, ◌%◌, List, [], ◌∷◌, ◌++◌}
+use Rattle.std.specs.Prelude.{if◌then◌else◌, ◌==◌, nat_lt, codes}
 use Rattle.std.specs.Char.{digit_char}
 use Rattle.std.specs.List.{flat_map}
 
--- a code in a JSON string: `\b`, `\t`, `\n`, `\f`, `\r`, `\"`, `\\`, `\u00` and two digits for the other codes under 32, and else itself
+-- a code as it appears in a JSON string: `\b`, `\t`, `\n`, `\f`, `\r`, `\"`, `\\`, `\u00` and two
+-- hexadecimal digits for the other codes less than 32, otherwise itself
 abbrev pub json_code : ℕ → List ℕ
 json_code n =
     if n == 8 then codes "\\b"
@@ -13,18 +15,21 @@ json_code n =
     else (if n == 13 then codes "\\r"
     else (if n == 34 then codes "\\\""
     else (if n == 92 then codes "\\\\"
-    else (if nat_lt n 32 then codes "\\u00" ++ digit_char (n / 16) ∷ digit_char (n % 16) ∷ [] else n ∷ [])))))))
+    else (if nat_lt n 32 then codes "\\u00" ++ digit_char (n / 16) ∷ digit_char (n % 16) ∷ []
+    else n ∷ [])))))))
 
--- a text as a JSON string
+-- a text as a compact JSON string
 abbrev pub json_text : List ℕ → List ℕ
 json_text text = codes "\"" ++ (flat_map json_code text ++ codes "\"")
 
--- What follows no public clause cites.
+-- ---- cited by private functions only
 
--- a code that stands as itself in a JSON string
+-- the code appears as itself in a JSON string
 abbrev pub IsUnescaped : ℕ → Type 0
-IsUnescaped n = (32 ≤ n) × (n ≡ 34 → ⊥) × (n ≡ 92 → ⊥)
+IsUnescaped n = (32 ≤ n) × (n ≢ 34) × (n ≢ 92)
 
--- the JSON strings of the first n characters, each by itself
+-- `texts` are the JSON strings of the first `n` characters, each character by itself
 abbrev pub AreForms : ℕ → List (List ℕ) → Type 0
-AreForms n texts = (length texts ≡ n) × ((code : ℕ) → code < n → get_or texts code [] ≡ json_text (code ∷ []))
+AreForms n texts =
+    (length texts ≡ n)
+    × ((code : ℕ) → code < n → get_or texts code [] ≡ json_text (code ∷ []))

@@ -22,25 +22,25 @@ pub enum Cmd<'a> {
     Push(AsciiChar),
     /// Appends a view.
     PushStr(AsciiStr<'a>),
-    /// Puts a character before a position; at the length it is appended.
+    /// Inserts a character before a position; at the length it is appended.
     Insert(usize, AsciiChar),
-    /// Puts a view before a position; at the length it is appended.
+    /// Inserts a view before a position; at the length it is appended.
     InsertStr(usize, AsciiStr<'a>),
-    /// Takes out the character at a position.
+    /// Removes the character at a position.
     Remove(usize),
-    /// Takes off the last character.
+    /// Removes the last character.
     Pop,
-    /// Keeps the first characters, as many as the number says, or all where there are fewer.
+    /// Keeps the first n characters, or all if there are fewer.
     Truncate(usize),
-    /// Takes off all characters.
+    /// Removes all characters.
     Clear,
-    /// Puts a character in the place of the one at a position.
+    /// Replaces the character at a position.
     Set(usize, AsciiChar),
     /// Changes `a` to `z` to `A` to `Z`.
     Upper,
     /// Changes `A` to `Z` to `a` to `z`.
     Lower,
-    /// Makes room for this many more characters.
+    /// Makes room for n more characters.
     Reserve(usize),
     /// Gives back the room that the text does not need.
     Shrink,
@@ -58,13 +58,13 @@ pub enum Cmd<'a> {
     EqIgnoreCase(AsciiStr<'a>),
 }
 
-/// The answer to one command. Every answer but `Done` and the `Char` of `Remove` and `Pop` leaves
-/// the text.
+/// The reply to one command. Every reply leaves the text unchanged, except `Done` and the `Char` of
+/// `Remove` and `Pop`.
 #[derive(Drop, Debug)]
 pub enum Reply<A: Allocator = Global> {
     /// The command was carried out.
     Done,
-    /// The character that was asked for or taken out, or `None` where there is no such character.
+    /// The character that was asked for or removed, or `None` if there is no such character.
     Char(Option<AsciiChar>),
     /// The number of characters.
     Number(usize),
@@ -74,11 +74,11 @@ pub enum Reply<A: Allocator = Global> {
     Text(AsciiString<A>),
     /// The position of an edit is outside the text.
     BadPosition,
-    /// The range of a copy does not fit; the error names the length of the text.
+    /// The range of a copy does not fit; the error holds the length of the text.
     Refused(AsAsciiStrError),
-    /// A growth was refused.
+    /// An allocation failed.
     NoMemory,
-    /// A reserve passes the largest length that there is.
+    /// The length and the number of a reserve together are more than the largest length.
     TooMany,
 }
 
@@ -197,7 +197,7 @@ fn growth_reply<A: Allocator>(growth: Result<(), AllocError>) -> Reply<A>
     }
 }
 
-/// Puts a character before a position.
+/// Inserts a character before a position.
 fn insert<A: Allocator, B: AsciiBuf>(buf: &mut B, idx: usize, ch: AsciiChar) -> Reply<A>
     ensures step { StepOf (B.state buf.old) (Cmd.Insert idx ch) result (B.state buf.new) }
     ensures room { RunsOutIn B.sure (B.state buf.old) (Cmd.Insert idx ch) result }
@@ -209,7 +209,7 @@ fn insert<A: Allocator, B: AsciiBuf>(buf: &mut B, idx: usize, ch: AsciiChar) -> 
     growth_reply(buf.insert(idx, ch))
 }
 
-/// Puts a view before a position.
+/// Inserts a view before a position.
 fn insert_str<A: Allocator, B: AsciiBuf>(buf: &mut B, idx: usize, view: AsciiStr<'_>) -> Reply<A>
     ensures step { let cmd = Cmd.InsertStr idx view.entry in
         StepOf (B.state buf.old) cmd result (B.state buf.new) }
@@ -222,7 +222,7 @@ fn insert_str<A: Allocator, B: AsciiBuf>(buf: &mut B, idx: usize, view: AsciiStr
     growth_reply(buf.insert_str(idx, view))
 }
 
-/// Takes out the character at a position.
+/// Removes the character at a position.
 fn remove<A: Allocator, B: AsciiBuf>(buf: &mut B, idx: usize) -> Reply<A>
     ensures reply { value_of_reply result ≡ answer (B.state buf.old).text (Cmd.Remove idx) }
     ensures text { (B.state buf.new).text ≡ after (B.state buf.old).text (Cmd.Remove idx) }
@@ -235,7 +235,7 @@ fn remove<A: Allocator, B: AsciiBuf>(buf: &mut B, idx: usize) -> Reply<A>
     }
 }
 
-/// Puts a character in the place of the one at a position.
+/// Replaces the character at a position.
 fn set<A: Allocator, B: AsciiBuf>(buf: &mut B, idx: usize, ch: AsciiChar) -> Reply<A>
     ensures reply { value_of_reply result ≡ answer (B.state buf.old).text (Cmd.Set idx ch) }
     ensures text { (B.state buf.new).text ≡ after (B.state buf.old).text (Cmd.Set idx ch) }
@@ -275,8 +275,8 @@ fn copy<A: Allocator>(alloc: A, view: AsciiStr<'_>, range: AsciiRange) -> Reply<
     }
 }
 
-/// Carries out the commands in order and keeps no reply. It stops at the first command that is
-/// refused, with its place, or that finds no memory.
+/// Carries out the commands in order and keeps no reply. Stops at the first command that is
+/// rejected, with its index, or whose allocation fails.
 pub(crate) fn edit<A: Allocator + Copy, B: Allocator>(
     alloc: A,
     buf: &mut AsciiString<B>,
@@ -292,7 +292,7 @@ pub(crate) fn edit<A: Allocator + Copy, B: Allocator>(
     Ok(())
 }
 
-/// Whether the reply to the command at the place `k` lets the edits go on.
+/// Returns an error if the reply to the command at index `k` stops the edits.
 fn check_reply<A: Allocator>(reply: Reply<A>, k: usize) -> Result<(), EngineFault>
     ensures fault { OnOk result (IsNoFault (value_of_reply reply)) }
     ensures memory { OnOk result (IsNotOutOfMemory reply) }

@@ -13,7 +13,7 @@ pub struct DeviceFault;
 
 /// A device that gives bytes.
 pub trait Source {
-    // The bytes to come, or `None` where they are untold.
+    // The bytes that it has yet to give, or `None` if they are not known.
     ghost rest: { Self → Option (List ℕ) };
 
     // How many calls have failed.
@@ -25,8 +25,8 @@ pub trait Source {
     fn failures(&self) -> u64
         ensures { result ≡ failures self.now };
 
-    /// Moves bytes from the front of the rest to the front of `buf`, and gives their number, which
-    /// is 0 only where no byte is left.
+    /// Moves the next bytes to the start of `buf` and returns their number, which is 0 only if
+    /// there are none left.
     ///
     ///     let mut input = Input::new(b"ab".as_slice());
     ///     let mut buffer = [0; 3];
@@ -35,14 +35,15 @@ pub trait Source {
     fn read(&mut self, buf: &mut [u8]) -> Result<usize, DeviceFault>
         requires room { 0 < length buf.old }
         requires count { failures self.old < u64.MAX }
-        ensures bytes { IfOk result (λ n. (n ≤ length buf.new) × Consumes (rest self.old) (rest self.new) (take n buf.new)) }
+        ensures bytes { IfOk result (λ n. (n ≤ length buf.new)
+            × Consumes (rest self.old) (rest self.new) (take n buf.new)) }
         ensures end { IfOk result (λ n. n ≡ 0 → IsAtEnd (rest self.new)) }
         ensures count { CountsFault (failures self.old) (failures self.new) result };
 }
 
 /// A device that takes bytes.
 pub trait Sink {
-    // The bytes that it has taken, or `None` where they are untold.
+    // The bytes that it has taken, or `None` if they are not known.
     ghost taken: { Self → Option (List ℕ) };
 
     // How many calls have failed.
@@ -54,7 +55,7 @@ pub trait Sink {
     fn failures(&self) -> u64
         ensures { result ≡ failures self.now };
 
-    /// Appends bytes from the front of `bytes`, at least one, and gives their number.
+    /// Takes a prefix of `bytes` of at least one byte, and returns its length.
     ///
     ///     let mut output = Output::new(Vec::new(alloc));
     ///     output.write(b"ab") // Ok(2)
@@ -68,7 +69,7 @@ pub trait Sink {
             (λ _. Keeps (taken self.old) (taken self.new)) }
         ensures count { CountsFault (failures self.old) (failures self.new) result };
 
-    /// Passes on what is held back. The bytes that were taken stay.
+    /// Passes on the bytes that it holds. The bytes that it has taken are unchanged.
     ///
     ///     Output::new(Vec::new(alloc)).flush() // Ok(())
     fn flush(&mut self) -> Result<(), DeviceFault>

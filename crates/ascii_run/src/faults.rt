@@ -8,12 +8,12 @@ use std::alloc::AllocError;
 /// Why a run stopped.
 #[derive(Clone, Copy, PartialEq, Eq, Debug)]
 pub enum EngineFault {
-    /// The byte of the input at this position, counted from 0, is the first over 127.
+    /// The byte of the input at this position, counted from 0, is the first that is not ASCII.
     NotAscii(usize),
-    /// The command at this place, counted from 0, is the first that is refused for its position,
+    /// The command at this index, counted from 0, is the first that is rejected for its position,
     /// its range or its number.
     Position(usize),
-    /// A growth was refused.
+    /// An allocation failed.
     Memory,
     /// The reader failed.
     Read,

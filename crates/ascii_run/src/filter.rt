@@ -10,9 +10,9 @@ use crate::outputs::write_output;
 use ascii::bytes;
 use std::alloc::Allocator;
 
-/// Reads the input to its end, and then writes the output of the mode and flushes it. All growth is
-/// made before the first byte goes out. After `NotAscii`, `Position`, `Memory` and `Read` nothing was
-/// written; after `Write` a beginning of the output went out.
+/// Reads the input to its end, and then writes the output of the mode and flushes it, or returns
+/// why it stopped. All allocations are made before the first byte is written: after `NotAscii`,
+/// `Position`, `Memory` and `Read` nothing was written; after `Write` a prefix of the output was.
 ///
 ///     let mut output = Output::new(Vec::new(alloc));
 ///     engine(alloc, Mode::Tac, &mut Input::new(b"x\ny\n".as_slice()), &mut output) // Ok(())

@@ -1,7 +1,7 @@
 //! Runs over ASCII text: a filter from bytes to bytes in one of several modes.
 //!
-//! In an example `view("ab")` is the view of that text, `alloc` an allocator, and behind `//` stands what `{:?}`
-//! prints of the value.
+//! In an example `view("ab")` is the view of that text, `alloc` is an allocator, and the comment
+//! after `//` is the `{:?}` output of the value.
 #![tactic(auto)]
 
 pub mod buf;

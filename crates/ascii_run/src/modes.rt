@@ -14,11 +14,12 @@ pub enum Mode<'a> {
     Tac,
     /// Each character; a control character other than LF as `^` and its caret letter.
     Caret,
-    /// For each end of the script what one iterator of lines gives: `+`, the body and LF, or `-` and
-    /// LF where none is left.
+    /// For each end of the script what one iterator of lines yields: `+`, the body and LF, or `-`
+    /// and LF if there are none left.
     Ends(&'a [End]),
-    /// The same with the place where each line starts and how it ends: `+`, the start in decimal, a
-    /// space, `lf`, `crlf` or `none`, a space, the body and LF, or `-` and LF where none is left.
+    /// Like `Ends`, but with the start and the ending of each line: `+`, the start in decimal, a
+    /// space, `lf`, `crlf` or `none`, a space, the body and LF, or `-` and LF if there are none
+    /// left.
     EndsSpans(&'a [End]),
     /// The text after the commands, in order.
     Edit(&'a [Cmd<'a>]),

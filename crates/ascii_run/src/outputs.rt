@@ -7,7 +7,8 @@ ghost use Rattle.ascii.specs.Spans.{line_in};
 ghost use Rattle.ascii.specs.View.{text_of};
 ghost use Rattle.ascii_run.specs.Engine.{StopsOutput, WritesOutput, write_failures};
 ghost use Rattle.ascii_run.specs.OutputState.{MayFail, AppendsOutputTo, AppendsTo, output_state};
-ghost use Rattle.ascii_run.specs.ModeOutput.{IsShown, answer_text, caret_text, ending_word, span_text, with_line_feed};
+ghost use Rattle.ascii_run.specs.ModeOutput.{IsShown, answer_text, caret_text, ending_word};
+ghost use Rattle.ascii_run.specs.ModeOutput.{span_text, with_line_feed};
 ghost use Rattle.ascii_run.specs.Run.{HasNoFault, plain_text};
 
 use crate::commands::{Cmd, edit};

@@ -69,7 +69,8 @@ impl Plain for Unescaped {
 
 /// The place of the first code that is not of the class.
 pub(crate) fn first_other<P: Plain>(bytes: &[u8]) -> Option<usize>
-    ensures { MatchOption result (All P.is_plain bytes.now) (IsFirstNot P.is_plain bytes.now 0 (length bytes.now)) }
+    ensures { MatchOption result (All P.is_plain bytes.now)
+        (IsFirstNot P.is_plain bytes.now 0 (length bytes.now)) }
 {
     let mut at = 0;
     'chunks: while bytes.len() - at >= LANES {
@@ -85,7 +86,8 @@ pub(crate) fn first_other<P: Plain>(bytes: &[u8]) -> Option<usize>
 /// The place of the first code that is not of the class, looked for byte by byte from a place on.
 fn first_one_by_one<P: Plain>(bytes: &[u8], from: usize) -> Option<usize>
     requires { AllBefore P.is_plain bytes.now from }
-    ensures { MatchOption result (All P.is_plain bytes.now) (IsFirstNot P.is_plain bytes.now 0 (length bytes.now)) }
+    ensures { MatchOption result (All P.is_plain bytes.now)
+        (IsFirstNot P.is_plain bytes.now 0 (length bytes.now)) }
 {
     for at in from..bytes.len() {
         if !P::has(bytes[at]) {

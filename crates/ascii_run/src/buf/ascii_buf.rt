@@ -1,21 +1,23 @@
-//! The edits of a text, in whichever form it is kept.
+//! The edits of a string, whichever string type holds it.
 
-ghost use Rattle.std.specs.Prelude.{◌≡◌, ℕ, ◌+◌, ◌-◌, ◌<◌, ◌≤◌, [], ◌∷◌, ◌++◌, OnErr, insert, length, map, remove, slice_get, slice_index, slice_set, take};
+ghost use Rattle.std.specs.Prelude.{◌≡◌, ℕ, ◌+◌, ◌-◌, ◌<◌, ◌≤◌, [], ◌∷◌, ◌++◌, OnErr, insert};
+ghost use Rattle.std.specs.Prelude.{length, map, remove, slice_get, slice_index, slice_set, take};
 ghost use Rattle.std.specs.Option.{option_map};
 ghost use Rattle.ascii_base.specs.Case.{lower_image, upper_image};
 ghost use Rattle.ascii_base.specs.Code.{code_of};
-ghost use Rattle.ascii.specs.StringState.{EditsInPlace, GrowsTo, StringState, Reserves, insert_text};
+ghost use Rattle.ascii.specs.StringState.{EditsInPlace, GrowsTo, StringState, Reserves};
+ghost use Rattle.ascii.specs.StringState.{insert_text};
 ghost use Rattle.ascii.specs.View.{text_of};
 
 use ascii::{AsciiChar, AsciiStr, AsciiString};
 use std::alloc::{AllocError, Allocator};
 
-/// A text that can be edited.
+/// A string type whose text can be edited.
 pub trait AsciiBuf {
-    // The text, and how long it can get with no growth.
+    // The text, and the length up to which it does not have to grow.
     ghost state: { Self → StringState };
 
-    // The sure length: no text up to it wants memory.
+    // The sure length: an edit never allocates for a text up to it.
     ghost sure: { ℕ };
 
     /// A view of the whole text.
@@ -24,8 +26,9 @@ pub trait AsciiBuf {
     fn as_ascii_str(&self) -> AsciiStr<'_>
         ensures { text_of result ≡ (state self.now).text };
 
-    /// Makes room for `additional` more bytes. The text stays, and a refusal of memory comes only
-    /// where the room was missing; room for none never is.
+    /// Makes room for `additional` more bytes. The text is unchanged. Fails only if there is no
+    /// room for them and the allocation fails; never fails if `additional` is 0. Condition: the
+    /// length and `additional` together are at most `usize::MAX`.
     ///
     ///     let mut text = SmallAsciiString::new(alloc);
     ///     text.reserve(24) // Ok(())
@@ -33,8 +36,8 @@ pub trait AsciiBuf {
         requires { length (state self.old).text + additional ≤ usize.MAX }
         ensures { Reserves additional (state self.old) (state self.new) result };
 
-    /// Gives back the room that the text does not need. The text stays; a refusal of memory comes
-    /// only where there is such room, and never where some length is sure.
+    /// Gives back the room that the text does not need. The text is unchanged. Fails only if there
+    /// is such room and the allocation fails; never fails if the sure length is not 0.
     ///
     ///     let mut text = view("foo").to_ascii_string(alloc)?;
     ///     AsciiBuf::shrink_to_fit(&mut text) // Ok(())
@@ -46,46 +49,53 @@ pub trait AsciiBuf {
         ensures capacity { (state self.new).capacity ≤ (state self.old).capacity }
         ensures room { length (state self.new).text ≤ (state self.new).capacity };
 
-    /// Appends a character. It is never refused where the longer text fits the capacity; a refusal
-    /// of memory leaves the text.
+    /// Appends a character. Fails only if the longer text does not fit the capacity and the
+    /// allocation fails; the text is then unchanged.
     ///
     ///     let mut text = SmallAsciiString::new(alloc);
     ///     text.push(AsciiChar::a) // Ok(())
     ///     text // "a"
     fn push(&mut self, ch: AsciiChar) -> Result<(), AllocError>
-        ensures { GrowsTo ((state self.old).text ++ code_of ch ∷ []) (state self.old) (state self.new) result };
+        ensures { let old = state self.old in
+            GrowsTo (old.text ++ code_of ch ∷ []) old (state self.new) result };
 
-    /// Appends a view. It is never refused where the longer text fits the capacity, as it does with
-    /// the empty view; a refusal of memory leaves the text.
+    /// Appends a view. Fails only if the longer text does not fit the capacity and the allocation
+    /// fails; the text is then unchanged. Never fails if the view is empty.
     ///
     ///     let mut text = SmallAsciiString::new(alloc);
     ///     text.push_str(view("foo")) // Ok(())
     ///     text // "foo"
     fn push_str(&mut self, view: AsciiStr<'_>) -> Result<(), AllocError>
-        ensures { GrowsTo ((state self.old).text ++ text_of view.entry) (state self.old) (state self.new) result };
+        ensures { let old = state self.old in
+            GrowsTo (old.text ++ text_of view.entry) old (state self.new) result };
 
-    /// Puts a character before the position `idx`; at the length it is appended. It is never refused
-    /// where the longer text fits the capacity; a refusal of memory leaves the text.
+    /// Inserts a character before the position `idx`; at the length it is appended. Fails only if
+    /// the longer text does not fit the capacity and the allocation fails; the text is then
+    /// unchanged. Condition: `idx` is at most the length.
     ///
     ///     let mut text = SmallAsciiString::from_ascii_str(alloc, view("fo"))?;
     ///     text.insert(0, AsciiChar::z) // Ok(())
     ///     text // "zfo"
     fn insert(&mut self, idx: usize, ch: AsciiChar) -> Result<(), AllocError>
         requires { idx ≤ length (state self.old).text }
-        ensures { GrowsTo (insert (state self.old).text idx (code_of ch)) (state self.old) (state self.new) result };
+        ensures { let old = state self.old in
+            GrowsTo (insert old.text idx (code_of ch)) old (state self.new) result };
 
-    /// Puts a view before the position `idx`; at the length it is appended. It is never refused where
-    /// the longer text fits the capacity, as it does with the empty view; a refusal of memory leaves
-    /// the text.
+    /// Inserts a view before the position `idx`; at the length it is appended. Fails only if the
+    /// longer text does not fit the capacity and the allocation fails; the text is then unchanged.
+    /// Never fails if the view is empty.
+    /// Condition: `idx` is at most the length.
     ///
     ///     let mut text = SmallAsciiString::from_ascii_str(alloc, view("fo"))?;
     ///     text.insert_str(1, view("lo")) // Ok(())
     ///     text // "floo"
     fn insert_str(&mut self, idx: usize, view: AsciiStr<'_>) -> Result<(), AllocError>
         requires { idx ≤ length (state self.old).text }
-        ensures { GrowsTo (insert_text (state self.old).text idx (text_of view.entry)) (state self.old) (state self.new) result };
+        ensures { let old = state self.old in
+            GrowsTo (insert_text old.text idx (text_of view.entry)) old (state self.new) result };
 
-    /// Takes out the character at a position from 0 that is under the length.
+    /// Removes the character at the position `idx` and returns it.
+    /// Condition: `idx` is less than the length.
     ///
     ///     let mut text = SmallAsciiString::from_ascii_str(alloc, view("foo"))?;
     ///     text.remove(0) // 'f'
@@ -93,26 +103,30 @@ pub trait AsciiBuf {
     fn remove(&mut self, idx: usize) -> AsciiChar
         requires { idx < length (state self.old).text }
         ensures removed { code_of result ≡ slice_index (state self.old).text idx }
-        ensures edits { EditsInPlace (remove (state self.old).text idx) (state self.old) (state self.new) };
+        ensures edits { let old = state self.old in
+            EditsInPlace (remove old.text idx) old (state self.new) };
 
-    /// Takes off the last character, or answers `None` of the empty text.
+    /// Removes the last character and returns it, or returns `None` if the text is empty.
     ///
     ///     let mut text = SmallAsciiString::from_ascii_str(alloc, view("fo"))?;
     ///     text.pop() // Some('o')
     ///     text // "f"
     fn pop(&mut self) -> Option<AsciiChar>
-        ensures popped { let text = (state self.old).text in option_map code_of result ≡ slice_get text (length text - 1) }
-        ensures edits { let text = (state self.old).text in EditsInPlace (take (length text - 1) text) (state self.old) (state self.new) };
+        ensures popped { let old = state self.old in
+            option_map code_of result ≡ slice_get old.text (length old.text - 1) }
+        ensures edits { let old = state self.old in
+            EditsInPlace (take (length old.text - 1) old.text) old (state self.new) };
 
-    /// Keeps the first `n` characters, or all where there are fewer.
+    /// Keeps the first `n` characters, or all if there are fewer.
     ///
     ///     let mut text = SmallAsciiString::from_ascii_str(alloc, view("foo"))?;
     ///     text.truncate(2);
     ///     text // "fo"
     fn truncate(&mut self, n: usize)
-        ensures { EditsInPlace (take n (state self.old).text) (state self.old) (state self.new) };
+        ensures { let old = state self.old in
+            EditsInPlace (take n old.text) old (state self.new) };
 
-    /// Takes off all characters. The capacity stays.
+    /// Removes all characters. The capacity is unchanged.
     ///
     ///     let mut text = SmallAsciiString::from_ascii_str(alloc, view("foo"))?;
     ///     text.clear();
@@ -120,32 +134,36 @@ pub trait AsciiBuf {
     fn clear(&mut self)
         ensures { EditsInPlace [] (state self.old) (state self.new) };
 
-    /// Puts a character in the place of the one at a position from 0 that is under the length.
+    /// Replaces the character at the position `i`.
+    /// Condition: `i` is less than the length.
     ///
     ///     let mut text = SmallAsciiString::from_ascii_str(alloc, view("foo"))?;
     ///     text.set(0, AsciiChar::z);
     ///     text // "zoo"
     fn set(&mut self, i: usize, ch: AsciiChar)
         requires { i < length (state self.old).text }
-        ensures { EditsInPlace (slice_set (state self.old).text i (code_of ch)) (state self.old) (state self.new) };
+        ensures { let old = state self.old in
+            EditsInPlace (slice_set old.text i (code_of ch)) old (state self.new) };
 
-    /// Changes `a` to `z` to `A` to `Z`, and leaves every other character.
+    /// Changes `a` to `z` to `A` to `Z`. Every other character is unchanged.
     ///
     ///     let mut text = SmallAsciiString::from_ascii_str(alloc, view("foo"))?;
     ///     text.make_ascii_uppercase();
     ///     text // "FOO"
     fn make_ascii_uppercase(&mut self)
-        ensures { EditsInPlace (map upper_image (state self.old).text) (state self.old) (state self.new) };
+        ensures { let old = state self.old in
+            EditsInPlace (map upper_image old.text) old (state self.new) };
 
-    /// Changes `A` to `Z` to `a` to `z`, and leaves every other character.
+    /// Changes `A` to `Z` to `a` to `z`. Every other character is unchanged.
     ///
     ///     let mut text = SmallAsciiString::from_ascii_str(alloc, view("FOO"))?;
     ///     text.make_ascii_lowercase();
     ///     text // "foo"
     fn make_ascii_lowercase(&mut self)
-        ensures { EditsInPlace (map lower_image (state self.old).text) (state self.old) (state self.new) };
+        ensures { let old = state self.old in
+            EditsInPlace (map lower_image old.text) old (state self.new) };
 
-    // The sure length is within every capacity.
+    // The sure length is at most every capacity.
     ghost holds_sure: { (buf : Self) → sure ≤ (state buf).capacity };
 }
 

@@ -1,6 +1,7 @@
-//! Text that stands in the value itself while it is short.
+//! A string type whose text is in the value itself while it is short.
 
-ghost use Rattle.std.specs.Prelude.{◌≡◌, ◌+◌, ◌<◌, ◌≤◌, ◌↔◌, ◌++◌, ◌∷◌, [], IfErr, IfOk, IsOk, IsTrue, MatchResult, OnOk, length};
+ghost use Rattle.std.specs.Prelude.{◌≡◌, ◌+◌, ◌<◌, ◌≤◌, ◌↔◌, ◌++◌, ◌∷◌, [], IfErr, IfOk, IsOk};
+ghost use Rattle.std.specs.Prelude.{IsTrue, MatchResult, OnOk, length};
 ghost use Rattle.ascii.specs.StringState.{Writes};
 ghost use Rattle.ascii.specs.View.{text_of};
 ghost use Rattle.ascii_run.specs.Inline.{inline_size, with_inline_room};
@@ -14,10 +15,10 @@ use std::fmt;
 use std::hash::{Hash, Hasher};
 use std::marker::Model;
 
-/// A text of ASCII characters that keeps up to 24 of them in the value itself, and more in an
-/// allocation. Labels of hosts and names of headers mostly fit, and then take no memory.
+/// An owned string of ASCII characters that keeps up to 24 of them in the value itself (inline),
+/// and more in an allocation. Most host labels and header names fit, and then nothing is allocated.
 ///
-/// Its cost is its size, 40 bytes wherever the value stands or is moved, and at each call a test of
+/// Its cost is its size, 40 bytes wherever the value is stored or moved, and at each call a test of
 /// where the text is.
 #[derive(Drop)]
 pub struct SmallAsciiString {
@@ -36,7 +37,7 @@ impl Model for SmallAsciiString {
 }
 
 impl SmallAsciiString {
-    /// The empty text. It takes no memory.
+    /// Creates an empty string. Does not allocate.
     ///
     ///     SmallAsciiString::new(alloc).len() // 0
     #[inline]
@@ -49,16 +50,18 @@ impl SmallAsciiString {
         }
     }
 
-    /// A copy of a view. Up to 24 characters it is inline and takes no memory.
+    /// Copies a view. A view of up to 24 characters is copied inline: this cannot fail. Otherwise
+    /// returns an error if the allocation fails.
     ///
     ///     SmallAsciiString::from_ascii_str(alloc, view("foo"))? // "foo"
     pub fn from_ascii_str(alloc: Global, view: AsciiStr<'_>) -> Result<SmallAsciiString, AllocError>
         ensures text { IfOk result (λ string. string.text ≡ text_of view.entry) }
-        ensures inline { length (text_of view.entry) ≤ inline_size → IfOk result (λ string. string.capacity ≡ inline_size) }
+        ensures inline { length (text_of view.entry) ≤ inline_size
+            → IfOk result (λ string. string.capacity ≡ inline_size) }
         ensures succeeds { length (text_of view.entry) ≤ inline_size → IsOk result }
     {
         let bytes = SmallVec::from_slice(alloc, view.as_bytes())?;
-        // These tell that there is room for the bytes, and for 24.
+        // These tell the prover that there is room for the bytes, and for 24.
         let _len = bytes.len();
         let _capacity = bytes.capacity();
         Ok(SmallAsciiString { bytes })
@@ -74,7 +77,8 @@ impl SmallAsciiString {
         bytes::as_ascii_str_unchecked(self.bytes.as_slice())
     }
 
-    /// Whether the text stands in the value itself. One that grew into an allocation stays there.
+    /// Returns `true` if the text is in the value itself. A text that has grown into an allocation
+    /// remains there.
     ///
     ///     SmallAsciiString::from_ascii_str(alloc, view("foo"))?.is_inline() // true
     #[inline]
@@ -94,7 +98,7 @@ impl SmallAsciiString {
         self.bytes.len()
     }
 
-    /// Whether the text has no character.
+    /// Returns `true` if the text is empty.
     ///
     ///     SmallAsciiString::new(alloc).is_empty() // true
     #[inline]
@@ -104,7 +108,8 @@ impl SmallAsciiString {
         self.bytes.is_empty()
     }
 
-    /// The number of bytes that the text can have before it has to grow, at least its length and 24.
+    /// The number of bytes up to which the text does not have to grow: at least its length, and at
+    /// least 24.
     ///
     ///     SmallAsciiString::new(alloc).capacity() // 24
     #[inline]
@@ -116,8 +121,8 @@ impl SmallAsciiString {
         self.bytes.capacity()
     }
 
-    /// The text as an `AsciiString`. One in an allocation keeps it, and is never refused; an inline
-    /// one is copied, and where memory is refused it comes back.
+    /// Converts the string into an `AsciiString`. A text in an allocation keeps it, and this cannot
+    /// fail. An inline text is copied: if the allocation fails, returns the string as the error.
     ///
     ///     SmallAsciiString::from_ascii_str(alloc, view("foo"))?.into_ascii_string().ok() // Some("foo")
     pub fn into_ascii_string(self) -> Result<AsciiString, SmallAsciiString>
@@ -151,7 +156,7 @@ impl AsciiBuf for SmallAsciiString {
         self.bytes.reserve(additional)
     }
 
-    /// Does nothing, and is never refused.
+    /// Does nothing, and cannot fail.
     ///
     ///     let mut text = SmallAsciiString::from_ascii_str(alloc, view("foo"))?;
     ///     text.shrink_to_fit() // Ok(())
@@ -161,6 +166,7 @@ impl AsciiBuf for SmallAsciiString {
         ensures unchanged { self.new ≡ self.old }
         ensures room { length self.new.text ≤ self.new.capacity }
     {
+        // This tells the prover that there is room for the text.
         let _room = self.capacity();
         Ok(())
     }
@@ -168,6 +174,7 @@ impl AsciiBuf for SmallAsciiString {
     #[inline]
     fn push(&mut self, ch: AsciiChar) -> Result<(), AllocError> {
         self.bytes.push(ch.as_byte())?;
+        // This tells the prover that the longer text fits the capacity.
         let _fits = self.bytes.len();
         Ok(())
     }
@@ -175,6 +182,7 @@ impl AsciiBuf for SmallAsciiString {
     #[inline]
     fn push_str(&mut self, view: AsciiStr<'_>) -> Result<(), AllocError> {
         self.bytes.extend_from_slice(view.as_bytes())?;
+        // This tells the prover that the longer text fits the capacity.
         let _fits = self.bytes.len();
         Ok(())
     }
@@ -234,12 +242,15 @@ impl Clone for SmallAsciiString {
 
     ghost is_infallible = { λ string. length string.text ≤ inline_size };
 
-    /// The same text. Up to 24 characters it is inline and takes no memory.
+    /// Copies the string. A text of up to 24 characters is copied inline: this cannot fail.
+    /// Otherwise returns an error if the allocation fails.
     ///
     ///     SmallAsciiString::from_ascii_str(alloc, view("foo"))?.clone()? // "foo"
     fn clone(&self) -> Result<SmallAsciiString, AllocError>
-        ensures cases { MatchResult result (λ copy. copy.text ≡ self.now.text) (λ _. ¬ (length self.now.text ≤ inline_size)) }
-        ensures inline { length self.now.text ≤ inline_size → IfOk result (λ copy. copy.capacity ≡ inline_size) }
+        ensures cases { MatchResult result (λ copy. copy.text ≡ self.now.text)
+            (λ _. ¬ (length self.now.text ≤ inline_size)) }
+        ensures inline { length self.now.text ≤ inline_size
+            → IfOk result (λ copy. copy.capacity ≡ inline_size) }
     {
         SmallAsciiString::from_ascii_str(*self.bytes.allocator(), self.as_ascii_str())
     }
@@ -278,7 +289,8 @@ impl PartialOrd for SmallAsciiString {
 
     ghost partial_cmp = { as_partial_cmp (on (λ string. string.text) (slice_cmp nat_cmp)) };
 
-    ghost laws = { partial_order_from_own_ties (Prim.search (comparing, rules)) (Prim.search (comparing, rules)) };
+    ghost laws = { partial_order_from_own_ties
+        (Prim.search (comparing, rules)) (Prim.search (comparing, rules)) };
 
     ///     SmallAsciiString::new(alloc) < SmallAsciiString::from_ascii_str(alloc, view("foo"))? // true
     fn partial_cmp(&self, other: &SmallAsciiString) -> Option<Ordering> {
@@ -352,7 +364,8 @@ impl fmt::Debug for SmallAsciiString {
 impl SmallAsciiString {
     ghost use Rattle.std.specs.Str.{IsAscii};
 
-    /// Appends a character. One past 127, or a refusal of memory, is an error and leaves the text.
+    /// Appends a character. Fails if it is not ASCII, or if the string has to grow and the
+    /// allocation fails; the text is then unchanged.
     ///
     ///     let mut text = SmallAsciiString::new(alloc);
     ///     text.write_char('a') // Ok(())
@@ -361,6 +374,7 @@ impl SmallAsciiString {
     pub fn write_char(&mut self, ch: char) -> fmt::Result
         ensures { Writes (ch ∷ []) (with_inline_room self.old) (with_inline_room self.new) result }
     {
+        // This tells the prover that the text fits the capacity, which is at least 24.
         let _capacity = self.capacity();
         let Ok(ch) = ch.to_ascii_char() else {
             return Err(fmt::Error);
@@ -374,16 +388,19 @@ impl fmt::Write for SmallAsciiString {
 
     ghost write_str_gives = { λ old bytes new. new.text ≡ old.text ++ bytes };
 
-    /// Appends a text. One with a character past 127, or a refusal of memory, is an error and leaves
-    /// the text: no part of it goes in.
+    /// Appends a text. Fails if it has a character that is not ASCII, or if the string has to grow
+    /// and the allocation fails; the text is then unchanged, and no part of the other one was
+    /// appended.
     ///
     ///     let mut text = SmallAsciiString::new(alloc);
     ///     write!(text, "foo{}", 7) // Ok(())
     ///     text // "foo7"
     fn write_str(&mut self, s: &str) -> fmt::Result
         ensures ok { IsOk result → self.new.text ≡ self.old.text ++ s.now }
-        ensures writes { Writes s.now (with_inline_room self.old) (with_inline_room self.new) result }
+        ensures writes { Writes s.now
+            (with_inline_room self.old) (with_inline_room self.new) result }
     {
+        // This tells the prover that the text fits the capacity, which is at least 24.
         let _capacity = self.capacity();
         let Ok(view) = text::as_ascii_str(s) else {
             return Err(fmt::Error);
