@@ -69,12 +69,11 @@ no_number Lower of = omega (arith, ap (λ word. get_or word 0 0) of)
 no_number other of = absurd of
 
 first_bad : IsFirstBadWord (codes "u" ∷ (codes "rx" ∷ [])) 2
-first_bad = record {
-  before = codes "u" ∷ [];
-  word = codes "rx";
-  after = [];
-  whole = refl;
-  number = refl;
-  good = All-cons IsWord (codes "u") [] (Upper, refl) (All-nil IsWord);
-  bad = λ is. no_number is.0 is.1;
-}
+first_bad = (
+  1,
+  refl,
+  record {
+    here = λ is. no_number is.0 is.1;
+    before = All-cons IsWord (codes "u") [] (Upper, refl) (All-nil IsWord);
+  },
+)

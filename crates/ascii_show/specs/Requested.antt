@@ -1,4 +1,4 @@
--- What words may ask for: a mode of the engine, with the ends or the commands that it takes.
+-- What the words may ask for: a mode of the engine, with the ends or the commands that it takes.
 use Rattle.std.specs.Prelude.{List}
 use Rattle.ascii.specs.declared.iter.walks.End.{End}
 use Rattle.ascii_run.specs.declared.commands.Cmd.{Cmd}
@@ -7,7 +7,7 @@ use Rattle.ascii_run.specs.declared.modes.Mode.TheVariants as mode
 use Rattle.ascii_show.specs.declared.arguments.Request.{Request}
 use Rattle.ascii_show.specs.declared.arguments.Request.TheVariants as request
 
--- a mode, with what its words name
+-- a mode, with the ends or the commands that its words stand for
 pub data Requested : Type 0 where
   copy : Requested
   lines : Requested
@@ -18,7 +18,7 @@ pub data Requested : Type 0 where
   edit : List Cmd → Requested
   json : Requested
 
--- what a mode does
+-- what a mode of the engine is, as a request
 abbrev pub requested_mode : Mode → Requested
 requested_mode mode.Copy = copy
 requested_mode mode.Lines = lines
@@ -29,7 +29,7 @@ requested_mode (mode.EndsSpans script) = ends_spans script.now
 requested_mode (mode.Edit cmds) = edit cmds.now
 requested_mode mode.Json = json
 
--- what a request asks for
+-- what a request of the program asks for
 abbrev pub requested_by : {A : Type 0} → Request A → Requested
 requested_by (request.Plain mode) = requested_mode mode
 requested_by (request.Ends script) = ends script.items

@@ -1,10 +1,12 @@
--- The status that the program ends with.
+-- The status that the program ends with, and the line that it prints.
 use Rattle.std.specs.Prelude.{ℕ, List, ◌+◌, ◌++◌, codes, decimal, min, ◌^◌, ◌-◌}
-use Rattle.ascii_run.specs.declared.faults.EngineFault.TheVariants.{NotAscii, Position, Memory, Read, Write}
+use Rattle.ascii_run.specs.declared.faults.EngineFault.TheVariants.{NotAscii, Position, Memory}
+use Rattle.ascii_run.specs.declared.faults.EngineFault.TheVariants.{Read, Write}
 use Rattle.ascii_show.specs.declared.failure.Failure.{Failure}
 use Rattle.ascii_show.specs.declared.failure.Failure.TheVariants.{Usage, BadWord, Engine}
 
--- 1 for input that is not ASCII, 2 for a fault in the words, 3 for memory and devices
+-- the status of a failure: 1 for input that is not ASCII, 2 for a fault in the words, 3 for memory
+-- and devices
 abbrev pub status_of : Failure → ℕ
 status_of (Engine (NotAscii n)) = 1
 status_of Usage = 2
@@ -14,7 +16,7 @@ status_of (Engine Memory) = 3
 status_of (Engine Read) = 3
 status_of (Engine Write) = 3
 
--- the line that says why; words are counted from 1, and bytes from 0
+-- the line that says why the program failed; words are counted from 1, and bytes from 0
 abbrev pub line_of : Failure → List ℕ
 line_of Usage = codes "usage: ascii_show copy|lines|tac|caret|ends [-s] SCRIPT|edit WORD..|json"
 line_of (BadWord n) = codes "bad word " ++ decimal n

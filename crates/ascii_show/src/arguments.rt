@@ -1,11 +1,14 @@
 //! What the words after the program's name ask for.
 
-ghost use Rattle.std.specs.Prelude.{◌≡◌, ◌==◌, [], ◌∷◌, MatchOption, MatchResult, ℕ, codes, position};
+ghost use Rattle.std.specs.Prelude.{◌≡◌, ◌==◌, [], ◌∷◌, MatchOption, MatchResult, ℕ, codes};
+ghost use Rattle.std.specs.Prelude.{position};
 ghost use Rattle.std.specs.List.{AllZip};
 ghost use Rattle.ascii.specs.View.{text_of};
 ghost use Rattle.ascii_show.specs.Requested.{requested_by, requested_mode};
-ghost use Rattle.ascii_show.specs.Call.{Requests, IsEditsFault, IsScriptFault, IsWordsFault, TakesNoArgument, words_of};
-ghost use Rattle.ascii_show.specs.Words.{AreDigitsOf, AreEndsOf, IsInsertion, IsNotEndLetter, IsWord, IsWordOf, letter_of};
+ghost use Rattle.ascii_show.specs.Call.{Requests, IsEditsFault, IsScriptFault, IsWordsFault};
+ghost use Rattle.ascii_show.specs.Call.{TakesNoArgument, words_of};
+ghost use Rattle.ascii_show.specs.Words.{AreDigitsOf, AreEndsOf, IsInsertion, IsNotEndLetter};
+ghost use Rattle.ascii_show.specs.Words.{IsWord, IsWordOf, letter_of};
 
 use crate::failure::Failure;
 use ascii::iter::End;
@@ -37,9 +40,12 @@ impl<'a, A: Allocator> Request<'a, A> {
     }
 }
 
-/// What the words ask for. The number of words is looked at before any word behind the mode.
+/// What the words ask for, or why they ask for nothing. The number of words is checked before any
+/// word after the mode.
 pub fn request_of<'a, A: Allocator>(alloc: A, args: &[&'a str]) -> Result<Request<'a, A>, Failure>
-    ensures { MatchResult result (λ request. Requests (words_of args.now) (requested_by request)) (IsWordsFault (words_of args.now)) }
+    ensures { MatchResult result
+        (λ request. Requests (words_of args.now) (requested_by request))
+        (IsWordsFault (words_of args.now)) }
 {
     let Some((mode, others)) = args.split_first() else {
         return Err(Failure::Usage);
@@ -60,7 +66,8 @@ pub fn request_of<'a, A: Allocator>(alloc: A, args: &[&'a str]) -> Result<Reques
 
 /// The mode of a name that takes no further word.
 fn plain_mode(name: &str) -> Option<Mode<'static>>
-    ensures { MatchOption result (¬ (TakesNoArgument name.now)) (λ mode. Requests (name.now ∷ []) (requested_mode mode)) }
+    ensures { MatchOption result (¬ (TakesNoArgument name.now))
+        (λ mode. Requests (name.now ∷ []) (requested_mode mode)) }
 {
     match name {
         "copy" => Some(Mode::Copy),
@@ -72,9 +79,11 @@ fn plain_mode(name: &str) -> Option<Mode<'static>>
     }
 }
 
-/// What the words behind `ends` ask for: a script alone, or `-s` and a script.
+/// What the words after `ends` ask for: a script only, or `-s` and a script.
 fn ends_request<'a, A: Allocator>(alloc: A, others: &[&'a str]) -> Result<Request<'a, A>, Failure>
-    ensures { MatchResult result (λ request. Requests (codes "ends" ∷ words_of others.now) (requested_by request)) (IsWordsFault (codes "ends" ∷ words_of others.now)) }
+    ensures { MatchResult result
+        (λ request. Requests (codes "ends" ∷ words_of others.now) (requested_by request))
+        (IsWordsFault (codes "ends" ∷ words_of others.now)) }
 {
     match others {
         [script] => {
@@ -92,10 +101,11 @@ fn ends_request<'a, A: Allocator>(alloc: A, others: &[&'a str]) -> Result<Reques
     }
 }
 
-/// The ends that a script names, `F` for the front and `B` for the back. The number is that of the
+/// The ends that a script names, `F` for the front and `B` for the back. `number` is that of the
 /// script among the words.
 fn script_of<A: Allocator>(alloc: A, script: &[u8], number: usize) -> Result<Vec<End, A>, Failure>
-    ensures { MatchResult result (λ ends. AreEndsOf script.now ends.items) (IsScriptFault script.now number) }
+    ensures { MatchResult result (λ ends. AreEndsOf script.now ends.items)
+        (IsScriptFault script.now number) }
 {
     let mut ends = Vec::with_capacity(alloc, script.len())?;
     for letter in script {
@@ -120,7 +130,8 @@ fn end_of(letter: u8) -> Option<End>
 
 /// The commands that the words of an edit name.
 fn commands_of<'a, A: Allocator>(alloc: A, words: &[&'a str]) -> Result<Vec<Cmd<'a>, A>, Failure>
-    ensures { MatchResult result (λ cmds. AllZip IsWordOf (words_of words.now) cmds.items) (IsEditsFault (words_of words.now)) }
+    ensures { MatchResult result (λ cmds. AllZip IsWordOf (words_of words.now) cmds.items)
+        (IsEditsFault (words_of words.now)) }
 {
     let mut cmds = Vec::with_capacity(alloc, words.len())?;
     for (i, word) in words.iter().enumerate() {
@@ -151,7 +162,7 @@ fn command_of(word: &str) -> Option<Cmd<'_>>
     }
 }
 
-/// The place of the first colon.
+/// The position of the first colon.
 fn colon_of(bytes: &[u8]) -> Option<usize>
     ensures { result ≡ position (λ byte. byte == 58) bytes.now }
 {
@@ -160,16 +171,20 @@ fn colon_of(bytes: &[u8]) -> Option<usize>
 
 /// The insertion of a number, a colon and a text: the first colon ends the number.
 fn insertion_of(word: AsciiStr<'_>) -> Option<Cmd<'_>>
-    ensures { MatchOption result (¬ ((n : ℕ) × (view : AsciiStr) × IsInsertion (text_of word.entry) n view)) (λ cmd. (n : ℕ) × (view : AsciiStr) × (cmd ≡ Cmd.InsertStr n view) × IsInsertion (text_of word.entry) n view) }
+    ensures { MatchOption result
+        (¬ ((n : ℕ) × (view : AsciiStr) × IsInsertion (text_of word.entry) n view))
+        (λ cmd. (n : ℕ) × (view : AsciiStr) × (cmd ≡ Cmd.InsertStr n view)
+        × IsInsertion (text_of word.entry) n view) }
 {
     let colon = colon_of(word.as_bytes())?;
     let idx = number_of(word.slice(AsciiRange::To(colon)))?;
     Some(Cmd::InsertStr(idx, word.slice(AsciiRange::From(colon + 1))))
 }
 
-/// The number that one or more digits name, where it is at most the largest `usize`.
+/// The number that one or more digits name, if it fits a `usize`.
 fn number_of(digits: AsciiStr<'_>) -> Option<usize>
-    ensures { MatchOption result (¬ ((n : ℕ) × AreDigitsOf (text_of digits.entry) n)) (AreDigitsOf (text_of digits.entry)) }
+    ensures { MatchOption result (¬ ((n : ℕ) × AreDigitsOf (text_of digits.entry) n))
+        (AreDigitsOf (text_of digits.entry)) }
 {
     if digits.as_bytes().first() == Some(&b'+') {
         return None;

@@ -20,9 +20,10 @@ use std::io;
 use std::process::ExitCode;
 use words::Words;
 
-/// Runs the words after the program's name: reads `input`, writes `output`, and writes one line to
-/// `errors` where it fails. The answer is the status: 0 done, 1 not ASCII, 2 a fault in the words,
-/// 3 no memory or a failing device. A failure of `errors` changes no status.
+/// Runs the words after the program's name: reads `input`, writes `output`, and if that fails
+/// writes one line to `errors`. Returns the status: 0 for success, 1 for input that is not ASCII, 2
+/// for a fault in the words, 3 for a failed allocation or device. A failure of `errors` does not
+/// change it.
 pub fn show<A: Allocator + Copy, I: io::Read + Drop, O: io::Write + Drop, E: io::Write + Drop>(
     alloc: A,
     args: &[&str],
@@ -30,7 +31,9 @@ pub fn show<A: Allocator + Copy, I: io::Read + Drop, O: io::Write + Drop, E: io:
     output: O,
     errors: E,
 ) -> u8
-    ensures { (answer : Result (Unit {0}) Failure) × MayReturn (words_of args.now) (I.remaining input) answer × (result ≡ status_of_result answer) }
+    ensures { (answer : Result (Unit {0}) Failure)
+        × MayReturn (words_of args.now) (I.remaining input) answer
+        × (result ≡ status_of_result answer) }
 {
     match run_words(alloc, args, input, output) {
         Ok(()) => 0,
@@ -41,7 +44,7 @@ pub fn show<A: Allocator + Copy, I: io::Read + Drop, O: io::Write + Drop, E: io:
 /// More bytes than the line of a failure has.
 const LINE: usize = 128;
 
-/// Writes the line of a failure in one write, and gives its status. It takes no memory.
+/// Writes the line of a failure in one write, and returns its status. Does not allocate.
 fn report<E: io::Write + Drop>(failure: Failure, mut errors: E) -> u8
     ensures { result ≡ status_of failure }
 {
