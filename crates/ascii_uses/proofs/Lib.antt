@@ -1,13 +1,10 @@
-pub mod FirstLemmas
-pub mod HeaderLemmas
 pub mod HostLemmas
 pub mod LastLinesLemmas
 pub mod LineReaderLemmas
+pub mod ListLemmas
 pub mod LinesLemmas
 pub mod Relent
-pub mod RowLemmas
 pub mod ScreenLemmas
 pub mod SettingLemmas
 pub mod TakenLemmas
-pub mod WalkLemmas
 pub mod WindowLemmas

@@ -1,11 +1,12 @@
 -- The header lines of a message: a name, a colon and a value.
-use Rattle.std.specs.Prelude.{◌≡◌, ◌≢◌, ℕ, ◌⊎◌, List, [], ◌∷◌, ◌++◌, Option, Some, MatchOption, MatchResult, codes, length, slice_get, take, ⊤}
+use Rattle.std.specs.Prelude.{◌≡◌, ◌≢◌, ℕ, ◌⊎◌, List, [], ◌∷◌, ◌++◌, Option, MatchOption}
+use Rattle.std.specs.Prelude.{MatchResult, codes, ⊤}
 use Rattle.std.specs.List.{All, AllZip, Contains}
 use Rattle.std.specs.declared.alloc.Global.{Global}
 use Rattle.std.specs.declared.result.Result.{Result}
 use Rattle.std.specs.declared.vec.Vec.{Vec}
-use Rattle.ascii_base.specs.Bytes.{IsFirstNot}
 use Rattle.ascii_base.specs.Class.{IsAlphanumeric}
+use Rattle.ascii.specs.First.{IsFirstAt}
 use Rattle.ascii.specs.Lines.{Line}
 use Rattle.ascii.specs.Spans.{LineSpansOf, WithStart}
 use Rattle.ascii.specs.Trim.{Trims}
@@ -18,58 +19,68 @@ use Rattle.ascii_uses.specs.declared.headers.Header.{Header}
 use Rattle.ascii_uses.specs.declared.headers.HeaderFault.{HeaderFault}
 use Rattle.ascii_uses.specs.declared.headers.HeaderFault.TheVariants.{NoColon, NoName, NotToken}
 
--- a character of a name: a letter, a digit or one of these marks
+-- a code that a header name may contain: a letter, a digit or one of these marks
 unfoldable pub IsTokenCode : ℕ → Type 0
 IsTokenCode code = IsAlphanumeric code ⊎ Contains (codes "!#$%&'*+-.^_`|~") code
 
--- a line is a name of such characters, a colon and a value with white space around it
+-- `line` is `name`, a colon and a text that without leading and trailing whitespace is `value`;
+-- `name` is not empty, and its codes are those that a header name may contain
 pub record IsHeader (line name value : List ℕ) : Type 0 where
   pub some : name ≢ []
   pub token : All IsTokenCode name
-  pub behind : List ℕ
-  pub joined : name ++ 58 ∷ behind ≡ line
-  pub trimmed : Trims behind value
+  pub after : List ℕ
+  pub joined : name ++ 58 ∷ after ≡ line
+  pub trimmed : Trims after value
 
--- there is no colon; nothing stands before the first one; or this character before it is the first that no name has
+-- why `line` is not a header. `NoColon`: it contains no colon. `NoName`: it starts with a colon.
+-- `NotToken`: the code at the position that the fault holds is the first one that a header name
+-- may not contain, of those before the first colon
 abbrev pub IsHeaderFault : List ℕ → HeaderFault → Type 0
 IsHeaderFault line NoColon = ¬ (Contains line 58)
-IsHeaderFault line NoName = (behind : List ℕ) × (58 ∷ behind ≡ line)
-IsHeaderFault line (NotToken place) =
-    (name : List ℕ) × (behind : List ℕ) × IsCutAt 58 line name behind × IsFirstNot IsTokenCode name 0 (length name) place
+IsHeaderFault line NoName = (after : List ℕ) × (58 ∷ after ≡ line)
+IsHeaderFault line (NotToken place) = (name : List ℕ) × (after : List ℕ)
+    × IsCutAt 58 line name after
+    × IsFirstAt IsTokenCode (λ code. ¬ (IsTokenCode code)) name place
 
--- the header of a line, or what is wrong with it
+-- `Ok`: the header of `line`. `Err`: why `line` is not a header
 abbrev pub ReadsHeader : List ℕ → Result Header HeaderFault → Type 0
-ReadsHeader line result = MatchResult result (λ header. IsHeader line (text_of header.name) (text_of header.value)) (IsHeaderFault line)
+ReadsHeader line result =
+    MatchResult result (λ header. IsHeader line (text_of header.name) (text_of header.value))
+    (IsHeaderFault line)
 
 -- ---- a block of lines
 
--- the header of a line
+-- `header` is the header of the body of `line`
 abbrev pub IsHeaderOf : WithStart Line → Header → Type 0
 IsHeaderOf line header = IsHeader line.item.body (text_of header.name) (text_of header.value)
 
--- some header is that of the line
+-- the body of `line` is a header
 abbrev pub HasHeader : WithStart Line → Type 0
 HasHeader line = (header : Header) × IsHeaderOf line header
 
--- the first line that is no header, by its number and its start, and what is wrong with it; or memory was refused
+-- why `lines` are not all headers. `InLine`: the line at index `number` is the first that is not a
+-- header; it begins at `start`, and `fault` says why it is none. `Memory` says nothing of `lines`
 abbrev pub IsBlockFault : List (WithStart Line) → BlockFault → Type 0
 IsBlockFault lines (InLine number start fault) =
-    ((line : WithStart Line) × (slice_get lines number ≡ Some line) × (line.start ≡ start) × IsHeaderFault line.item.body fault)
-    × All HasHeader (take number lines)
+    IsFirstAt HasHeader (λ line. (line.start ≡ start) × IsHeaderFault line.item.body fault)
+    lines number
 IsBlockFault lines Memory = ⊤
 
--- the headers of the lines, in order, or what is wrong with the block
+-- `Ok`: the headers of the lines of `block`, in order. `Err`: why they are not all headers, or
+-- `Memory`
 abbrev pub ReadsHeaders : List ℕ → Result (Vec Header Global) BlockFault → Type 0
 ReadsHeaders block result = (lines : List (WithStart Line)) × LineSpansOf 0 block lines
     × MatchResult result (λ headers. AllZip IsHeaderOf lines headers.items) (IsBlockFault lines)
 
 -- ---- headers by name
 
--- the header has this name, where case does not count
+-- the name of `header` is `name` if the case of letters is ignored
 abbrev pub IsNamed : List ℕ → Header → Type 0
 IsNamed name header = EqIgnoringCase (text_of header.name) name
 
--- the first header of the name, or None where there is none
+-- `None` if no header has the name `name`; otherwise the first that has
 abbrev pub FindsHeader : List Header → List ℕ → Option Header → Type 0
-FindsHeader headers name result = MatchOption result (All (λ header. ¬ (IsNamed name header)) headers)
-    (λ found. IsNamed name found × ((i : ℕ) × (slice_get headers i ≡ Some found) × All (λ header. ¬ (IsNamed name header)) (take i headers)))
+FindsHeader headers name result =
+    MatchOption result (All (λ header. ¬ (IsNamed name header)) headers)
+    (λ found. (i : ℕ) × IsFirstAt (λ header. ¬ (IsNamed name header))
+    (λ header. IsNamed name header × (header ≡ found)) headers i)

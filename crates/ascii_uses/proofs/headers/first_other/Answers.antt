@@ -5,10 +5,11 @@ use borrow.Author.Tests.{tests}
 use Rattle.ascii_base.specs.Code.{code_of}
 use Rattle.ascii.specs.View.{text_of}
 use Rattle.ascii_uses.specs.Headers.{IsTokenCode}
-use Rattle.ascii_uses.proofs.FirstLemmas.{first_not}
+use Rattle.ascii_uses.proofs.ListLemmas.{IsFirstAt-position}
 use Rattle.ascii_uses.proofs.headers.first_other.Goals as goal
 
 pub returns : goal.returns
-returns c = first_not IsTokenCode _ _ (IsFirst-from_position _ _ _ (λ code. ¬ (IsTokenCode code)) IsTokenCode c.position.ensures.ran
+returns c = IsFirstAt-position IsTokenCode _ _ (IsFirst-from_position _ _ _
+    (λ code. ¬ (IsTokenCode code)) IsTokenCode c.position.ensures.ran
     (YieldsList-from_first code_of (λ chars. chars) (text_of c.args.text) c.chars.ensures)
     (λ x q k. search (rules, tests)) (λ x q k. search (rules, tests)))

@@ -5,7 +5,7 @@ use Rattle.ascii.specs.View.{text_of}
 use Rattle.ascii_uses.specs.Headers.{IsHeaderOf}
 use Rattle.ascii_uses.proofs.headers.read_headers.Given as goal
 
--- the lines so far are headers, and those that the block has left stand behind them
+-- the lines so far are headers, and before those that the block has left
 abbrev pub invariant-loop-line : goal.invariant-loop-line
 invariant-loop-line l = record {
   whole : LineSpansOf 0 (text_of l.block) (map line_in l.yielded ++ l.line-iterator);

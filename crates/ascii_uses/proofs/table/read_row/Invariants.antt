@@ -4,11 +4,11 @@ use Rattle.ascii.specs.View.{text_of}
 use Rattle.ascii_uses.specs.Rows.{AllFilled}
 use Rattle.ascii_uses.proofs.table.read_row.Given as goal
 
--- the fields so far are filled, and those that the row has left stand behind them
+-- the fields so far are filled, and before those that the row has left
 abbrev pub invariant-loop-span : goal.invariant-loop-span
 invariant-loop-span l = record {
   whole : PieceSpans 0 (text_of l.row) 9 (map piece_in l.yielded ++ l.span-iterator.items);
   same : map text_of l.fields.items ≡ items_of (map piece_in l.yielded);
-  filled : AllFilled (items_of (map piece_in l.yielded));
-  within : length l.yielded ≤ l.columns;
+  filled : AllFilled (map piece_in l.yielded);
+  within : length l.fields.items ≤ l.columns;
 }

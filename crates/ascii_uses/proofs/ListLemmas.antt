@@ -1,0 +1,112 @@
+-- Facts on lists.
+use Rattle.std.proofs.Common.{◌≡◌, ℕ, ◌<◌, List, [], ◌∷◌, ◌++◌, None, Option, Some, ap, arith}
+use Rattle.std.proofs.Common.{inl, inr, length, length-append, map, refl, subst, sym, ◌∙◌}
+use Rattle.std.proofs.Math.Seq.{get_or-append_seam}
+use Rattle.std.proofs.lemmas.List.{append_assoc, get_or-take, length-take, map_push, take_at}
+use Rattle.std.proofs.lemmas.List.Elements.{All-cons, All-from_all_within, All-nil, All-push}
+use Rattle.std.proofs.lemmas.Option.{slice_get_cases}
+use Rattle.std.specs.List.{All, AllWithin, AllZip, HoldsAt, slice_get}
+use Rattle.std.specs.Option.{IsSomeAnd, MatchOption}
+use Rattle.ascii.specs.First.{IsFirstAt}
+
+-- ---- what holds of each item
+
+-- what holds of each item of a list holds of the one behind the first
+pub All-seam : {A : Type 0} (P : A → Type 0) (before after : List A) (here : A)
+    → All P (before ++ here ∷ after) → P here
+All-seam P before after here each =
+    subst P (get_or-append_seam before here after here)
+    (each (length before) here (omega (arith, length-append before (here ∷ after))))
+
+-- a pair more at the end
+pub AllZip-push : {A B : Type 0} (R : A → B → Type 0) (xs : List A) (ys : List B) (x : A) (y : B)
+    → AllZip R xs ys → R x y → AllZip R (xs ++ x ∷ []) (ys ++ y ∷ [])
+AllZip-push R [] [] x y all this = (this, tt)
+AllZip-push R [] (b ∷ ys) x y all this = absurd all
+AllZip-push R (a ∷ xs) [] x y all this = absurd all
+AllZip-push R (a ∷ xs) (b ∷ ys) x y all this = (all.0, AllZip-push R xs ys x y all.1 this)
+
+-- what holds of the images so far and of one more
+pub All-map_push : {A B : Type 0} (P : B → Type 0) (f : A → B) (xs : List A) (x : A)
+    → All P (map f xs) → P (f x) → All P (map f (xs ++ x ∷ []))
+All-map_push P f xs x each this =
+    subst (All P) (sym (map_push f xs x)) (All-push P (map f xs) (f x) each this)
+
+-- each item has the one that it goes with
+pub All-from_zip : {A B : Type 0} (R : A → B → Type 0) (xs : List A) (ys : List B)
+    → AllZip R xs ys → All (λ x. (y : B) × R x y) xs
+All-from_zip {B = B} R [] ys all = All-nil (λ x. (y : B) × R x y)
+All-from_zip R (x ∷ xs) [] all = absurd all
+All-from_zip {B = B} R (x ∷ xs) (y ∷ ys) all =
+    All-cons (λ x. (y : B) × R x y) x xs (y, all.0) (All-from_zip R xs ys all.1)
+
+-- ---- one item of a list is taken
+
+-- the item moves from the list to the items that were taken
+pub map-push_front : {A B : Type 0} (f : A → B) (taken : List A) (here : A) (rest : List B)
+    → map f (taken ++ here ∷ []) ++ rest ≡ map f taken ++ f here ∷ rest
+map-push_front f taken here rest =
+    ap (λ xs. xs ++ rest) (map_push f taken here) ∙ append_assoc (map f taken) (f here ∷ []) rest
+
+-- ---- the first item with a property
+
+slice_get-seam : {A : Type 0} (before after : List A) (here : A)
+    → slice_get (before ++ here ∷ after) (length before) ≡ Some here
+slice_get-seam [] after here = refl
+slice_get-seam (x ∷ before) after here = slice_get-seam before after here
+
+-- the item behind those that have the other property is the first
+pub IsFirstAt-seam : {A : Type 0} (Before Here : A → Type 0) (before after : List A) (here : A)
+    → All Before before → Here here → (k : ℕ) → length before ≡ k
+    → IsFirstAt Before Here (before ++ here ∷ after) k
+IsFirstAt-seam Before Here before after here each is k long =
+    subst (IsFirstAt Before Here (before ++ here ∷ after)) long (record {
+      here = subst (λ o. IsSomeAnd o Here) (sym (slice_get-seam before after here)) is;
+      before = subst (All Before) (sym (take_at before (here ∷ after) (length before) refl)) each;
+    })
+
+-- the item at a place is the first, as searches say it
+pub IsFirstAt-from_at : {A : Type 0} (Before Here : A → Type 0) (items : List A) (i : ℕ)
+    → i < length items → HoldsAt Here items i → AllWithin Before items 0 i
+    → IsFirstAt Before Here items i
+IsFirstAt-from_at Before Here items i inside is each = record {
+  here = elim (slice_get_cases items i).1 [
+    | inl at ↦ subst (λ o. IsSomeAnd o Here) (sym at.2) (subst Here at.3 (is at.0))
+    | inr past ↦ absurd (omega (arith, past.0, inside))
+  ];
+  before = λ k d low.
+      let early : k < i = omega (arith, low, length-take i items) in
+      rw (get_or-take i items k d early) (each k d (omega arith) early);
+}
+
+-- the first item without a property, which `position` finds
+pub IsFirstAt-position : {A : Type 0} (Is : A → Type 0) (items : List A) (found : Option ℕ)
+    → MatchOption found (AllWithin Is items 0 (length items))
+    (λ i. (i < length items) × HoldsAt (λ item. ¬ (Is item)) items i × AllWithin Is items 0 i)
+    → MatchOption found (All Is items) (IsFirstAt Is (λ item. ¬ (Is item)) items)
+IsFirstAt-position Is items None each = All-from_all_within Is items each
+IsFirstAt-position Is items (Some i) first =
+    IsFirstAt-from_at Is (λ item. ¬ (Is item)) items i first.0 first.1 first.2
+
+-- the first item with a property, which `find` finds
+pub IsFirstAt-find : {A : Type 0} (Is : A → Type 0) (items : List A) (found : Option A)
+    → MatchOption found (AllWithin (λ item. ¬ (Is item)) items 0 (length items))
+    (λ it. Is it × (i : ℕ) × (i < length items) × HoldsAt (λ item. item ≡ it) items i
+    × AllWithin (λ item. ¬ (Is item)) items 0 i)
+    → MatchOption found (All (λ item. ¬ (Is item)) items)
+    (λ it. (i : ℕ) × IsFirstAt (λ item. ¬ (Is item)) (λ item. Is item × (item ≡ it)) items i)
+IsFirstAt-find Is items None each = All-from_all_within (λ item. ¬ (Is item)) items each
+IsFirstAt-find Is items (Some it) first = (
+  first.1,
+  IsFirstAt-from_at (λ item. ¬ (Is item)) (λ item. Is item × (item ≡ it)) items first.1 first.2
+      (λ d. (subst Is (sym (first.3 d)) first.0, first.3 d)) first.4,
+)
+
+-- where an item is the first without a property, not all items have it
+pub IsFirstAt-not_all : {A : Type 0} (Is : A → Type 0) (items : List A) (k : ℕ)
+    → IsFirstAt Is (λ item. ¬ (Is item)) items k → ¬ (All Is items)
+IsFirstAt-not_all Is items k first all = elim (slice_get_cases items k).1 [
+  | inl at ↦ subst (λ o. IsSomeAnd o (λ item. ¬ (Is item))) at.2 first.here
+      (subst Is at.3 (all k at.0 at.1))
+  | inr past ↦ subst (λ o. IsSomeAnd o (λ item. ¬ (Is item))) past.1 first.here
+]
