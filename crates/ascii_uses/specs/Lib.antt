@@ -5,7 +5,6 @@ pub mod Hosts
 pub mod KeptLines
 pub mod LastLines
 pub mod LineReader
-pub mod Raised
 pub mod Rows
 pub mod Screen
 pub mod Settings

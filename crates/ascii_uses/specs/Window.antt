@@ -1,8 +1,8 @@
--- What a buffer of fixed size holds between two fills.
+-- What a buffer of fixed size holds between two reads.
 use Rattle.std.specs.Prelude.{◌≡◌, ◌≢◌, ℕ, ◌-◌, ◌<◌, ◌≤◌, List, length, slice_index}
 
--- its size, the bytes taken last, those that it holds, how many of these, from the first, are known to be under 128, and the room
--- behind them
+-- what contracts see of a buffer: its size; the bytes taken last; the bytes that it holds; how many
+-- of these, from the first, are known to be less than 128; the room after them
 pub record Buffered : Type 0 where
   pub size : ℕ
   pub given : List ℕ
@@ -10,18 +10,19 @@ pub record Buffered : Type 0 where
   pub checked : ℕ
   pub spare : ℕ
 
--- none of the first n bytes is LF
+-- none of the first `n` bytes is LF
 abbrev pub FreeUpTo : List ℕ → ℕ → Type 0
 FreeUpTo bytes n = (k : ℕ) → k < n → slice_index bytes k ≢ 10
 
--- the first n bytes end in their only LF
+-- the last of the first `n` bytes is LF, and no byte before it is
 pub record EndsLine (bytes : List ℕ) (n : ℕ) : Type 0 where
   pub some : 0 < n
   pub feed : slice_index bytes (n - 1) ≡ 10
   pub free : FreeUpTo bytes (n - 1)
 
--- how the bytes lie: those taken last from `given` on, those held from `from` to `filled`, of which those before `searched` are no LF
--- and those before `checked` are under 128, and the one at `checked` is not
+-- where the bytes of a buffer are: those taken last from `given` to `from`, and those held from
+-- `from` to `filled`. Of the bytes held, none before `searched` is LF. All of these bytes before
+-- `checked` are less than 128, and the one at `checked` is not, if it is before `filled`
 pub record IsLaidOut (bytes : List ℕ) (given from searched checked filled : ℕ) : Type 0 where
   pub given_first : given ≤ from
   pub then_from : from ≤ searched

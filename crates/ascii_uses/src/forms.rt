@@ -1,6 +1,7 @@
 //! Texts in either form: one that keeps short texts inline, and any form that a caller is handed.
 
-ghost use Rattle.std.specs.Prelude.{◌≡◌, ◌+◌, ◌≤◌, ◌++◌, ◌∷◌, [], IfOk, IsOk, OnErr, OnOk, length, map};
+ghost use Rattle.std.specs.Prelude.{◌≡◌, ◌+◌, ◌≤◌, ◌++◌, ◌∷◌, [], IfOk, IsOk, OnErr, OnOk, length};
+ghost use Rattle.std.specs.Prelude.{map};
 ghost use Rattle.ascii_base.specs.Case.{lower_image};
 ghost use Rattle.ascii_base.specs.Code.{code_of};
 ghost use Rattle.ascii.specs.View.{text_of};
@@ -26,15 +27,18 @@ pub fn letter(alloc: Global, ch: AsciiChar) -> SmallAsciiString
     ensures { result.text ≡ code_of ch ∷ [] }
 {
     let mut string = SmallAsciiString::new(alloc);
+    // This is `Ok`: an empty string has room for one character inline.
     let _never_fails = string.push(ch);
     string
 }
 
 /// Appends a view to a text in any form. Up to the sure length of the form it is never refused.
 pub fn append<B: AsciiBuf>(buf: &mut B, view: AsciiStr<'_>) -> Result<(), AllocError>
-    ensures ok { OnOk result ((B.state buf.new).text ≡ (B.state buf.old).text ++ text_of view.entry) }
+    ensures ok { OnOk result
+        ((B.state buf.new).text ≡ (B.state buf.old).text ++ text_of view.entry) }
     ensures err { OnErr result ((B.state buf.new).text ≡ (B.state buf.old).text) }
-    ensures sure { length (B.state buf.old).text + length (text_of view.entry) ≤ B.sure → IsOk result }
+    ensures sure { length (B.state buf.old).text + length (text_of view.entry) ≤ B.sure
+        → IsOk result }
 {
     buf.push_str(view)
 }

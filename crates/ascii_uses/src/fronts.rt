@@ -17,7 +17,8 @@ pub fn first_pieces<'a>(
     on: AsciiChar,
     n: usize,
 ) -> Result<Vec<AsciiStr<'a>>, AllocError>
-    ensures { IfOk result (λ given. OfPieces view.entry on (λ pieces. map text_of given.items ≡ take n pieces)) }
+    ensures { IfOk result (λ given.
+        OfPieces view.entry on (λ pieces. map text_of given.items ≡ take n pieces)) }
 {
     view.split(on).take(n).collect(alloc)
 }
@@ -28,7 +29,8 @@ pub fn first_bodies<'a>(
     view: AsciiStr<'a>,
     n: usize,
 ) -> Result<Vec<AsciiStr<'a>>, AllocError>
-    ensures { IfOk result (λ given. OfLines view.entry (λ lines. map text_of given.items ≡ take n (bodies lines))) }
+    ensures { IfOk result (λ given.
+        OfLines view.entry (λ lines. map text_of given.items ≡ take n (bodies lines))) }
 {
     view.lines().take(n).collect(alloc)
 }
@@ -40,7 +42,8 @@ pub fn first_piece_spans<'a>(
     on: AsciiChar,
     n: usize,
 ) -> Result<Vec<SplitSpan<'a>>, AllocError>
-    ensures { IfOk result (λ given. OfPieceSpans view.entry on (λ spans. map piece_in given.items ≡ take n spans)) }
+    ensures { IfOk result (λ given.
+        OfPieceSpans view.entry on (λ spans. map piece_in given.items ≡ take n spans)) }
 {
     view.split_spans(on).take(n).collect(alloc)
 }
@@ -51,7 +54,8 @@ pub fn first_line_spans<'a>(
     view: AsciiStr<'a>,
     n: usize,
 ) -> Result<Vec<LineSpan<'a>>, AllocError>
-    ensures { IfOk result (λ given. OfLineSpans view.entry (λ spans. map line_in given.items ≡ take n spans)) }
+    ensures { IfOk result (λ given.
+        OfLineSpans view.entry (λ spans. map line_in given.items ≡ take n spans)) }
 {
     view.line_spans().take(n).collect(alloc)
 }

@@ -1,12 +1,14 @@
 //! Holding the name of a host: labels of letters, digits and hyphens, joined by dots. Case does not count.
 
-ghost use Rattle.std.specs.Prelude.{◌≡◌, ◌+◌, ◌≤◌, ◌↔◌, IfErr, IfOk, IsTrue, MatchResult, OnOk, length};
+ghost use Rattle.std.specs.Prelude.{◌≡◌, ◌+◌, ◌≤◌, ◌↔◌, IfErr, IfOk, IsTrue, MatchResult, OnOk};
+ghost use Rattle.std.specs.Prelude.{length};
 ghost use Rattle.ascii_base.specs.Code.{code_of};
 ghost use Rattle.ascii.specs.Spans.{piece_in};
 ghost use Rattle.ascii.specs.View.{text_of};
 ghost use Rattle.ascii_uses.specs.Cases.{EqIgnoringCase, lower_text, order_ignoring_case};
 ghost use Rattle.ascii_uses.specs.Cuts.{FindsOther};
-ghost use Rattle.ascii_uses.specs.Hosts.{OnlyFailsOnAlloc, IsHost, IsHostFault, IsLabel, IsLabelCode, IsLabelFault, host_text};
+ghost use Rattle.ascii_uses.specs.Hosts.{OnlyFailsOnAlloc, IsHost, IsHostFault, IsLabel};
+ghost use Rattle.ascii_uses.specs.Hosts.{IsLabelCode, IsLabelFault, host_text};
 
 use ascii::iter::SplitSpan;
 use ascii::{AsciiChar, AsciiStr};
@@ -78,7 +80,8 @@ impl Host {
 
 /// Whether two names are those of one host: `WWW.a.example` and `www.A.example` are.
 pub fn same_host(alloc: Global, a: AsciiStr<'_>, b: AsciiStr<'_>) -> Result<bool, HostFault>
-    ensures same { IfOk result (λ same. IsTrue same ↔ EqIgnoringCase (text_of a.entry) (text_of b.entry)) }
+    ensures same { IfOk result (λ same.
+        IsTrue same ↔ EqIgnoringCase (text_of a.entry) (text_of b.entry)) }
     ensures hosts { OnOk result (IsHost (text_of a.entry) × IsHost (text_of b.entry)) }
     ensures exact { IsHost (text_of a.entry) → IsHost (text_of b.entry) → OnlyFailsOnAlloc result }
 {
@@ -87,7 +90,8 @@ pub fn same_host(alloc: Global, a: AsciiStr<'_>, b: AsciiStr<'_>) -> Result<bool
 
 /// The order of the hosts of two names: that of the names in lower case.
 pub fn host_order(alloc: Global, a: AsciiStr<'_>, b: AsciiStr<'_>) -> Result<Ordering, HostFault>
-    ensures order { IfOk result (λ order. order ≡ order_ignoring_case (text_of a.entry) (text_of b.entry)) }
+    ensures order { IfOk result (λ order.
+        order ≡ order_ignoring_case (text_of a.entry) (text_of b.entry)) }
     ensures hosts { OnOk result (IsHost (text_of a.entry) × IsHost (text_of b.entry)) }
     ensures exact { IsHost (text_of a.entry) → IsHost (text_of b.entry) → OnlyFailsOnAlloc result }
 {
@@ -97,7 +101,8 @@ pub fn host_order(alloc: Global, a: AsciiStr<'_>, b: AsciiStr<'_>) -> Result<Ord
 /// Rejects what is no label.
 fn check_label(label: SplitSpan<'_>) -> Result<(), HostFault>
     requires { label.start + length (text_of label.text) ≤ usize.MAX }
-    ensures { MatchResult result (λ _. IsLabel (text_of label.entry.text)) (IsLabelFault (piece_in label.entry)) }
+    ensures { MatchResult result (λ _. IsLabel (text_of label.entry.text))
+        (IsLabelFault (piece_in label.entry)) }
 {
     let SplitSpan { start, text } = label;
     if text.is_empty() {

@@ -1,6 +1,7 @@
 //! Callers of the iterators of a view: loops and adapters, and what they gave.
 
-ghost use Rattle.std.specs.Prelude.{◌≡◌, ◌+◌, ◌≤◌, ◌++◌, ◌∷◌, IfOk, IsOk, OnOk, ℕ, length, map, reverse, string_bytes, codes, take};
+ghost use Rattle.std.specs.Prelude.{◌≡◌, ◌+◌, ◌≤◌, ◌++◌, ◌∷◌, IfOk, IsOk, OnOk, ℕ, length, map};
+ghost use Rattle.std.specs.Prelude.{reverse, string_bytes, codes, take};
 ghost use Rattle.std.specs.List.{flat_map};
 ghost use Rattle.ascii_base.specs.Case.{upper_image};
 ghost use Rattle.ascii.specs.View.{debug_text};
@@ -24,7 +25,8 @@ pub fn piece_lengths(
     view: AsciiStr<'_>,
     on: AsciiChar,
 ) -> Result<Vec<usize>, AllocError>
-    ensures { IfOk result (λ lengths. OfPieces view.entry on (λ pieces. lengths.items ≡ map length pieces)) }
+    ensures { IfOk result (λ lengths.
+        OfPieces view.entry on (λ pieces. lengths.items ≡ map length pieces)) }
 {
     let mut lengths = Vec::new(alloc);
     for piece in view.split(on) {
@@ -39,7 +41,8 @@ pub fn piece_lengths_by_map(
     view: AsciiStr<'_>,
     on: AsciiChar,
 ) -> Result<Vec<usize>, AllocError>
-    ensures { IfOk result (λ lengths. OfPieces view.entry on (λ pieces. lengths.items ≡ map length pieces)) }
+    ensures { IfOk result (λ lengths.
+        OfPieces view.entry on (λ pieces. lengths.items ≡ map length pieces)) }
 {
     view.split(on).map(|piece| piece.len()).collect(alloc)
 }
@@ -50,7 +53,8 @@ pub fn pieces_reversed<'a>(
     view: AsciiStr<'a>,
     on: AsciiChar,
 ) -> Result<Vec<AsciiStr<'a>>, AllocError>
-    ensures { IfOk result (λ views. OfPieces view.entry on (λ pieces. map text_of views.items ≡ reverse pieces)) }
+    ensures { IfOk result (λ views.
+        OfPieces view.entry on (λ pieces. map text_of views.items ≡ reverse pieces)) }
 {
     view.split(on).rev().collect(alloc)
 }
@@ -64,7 +68,8 @@ pub fn line_count(view: AsciiStr<'_>) -> usize
 
 /// The lengths of the lines of a view, without their endings, by a loop.
 pub fn line_lengths_by_for(alloc: Global, view: AsciiStr<'_>) -> Result<Vec<usize>, AllocError>
-    ensures { IfOk result (λ lengths. OfLines view.entry (λ lines. lengths.items ≡ map length (bodies lines))) }
+    ensures { IfOk result (λ lengths.
+        OfLines view.entry (λ lines. lengths.items ≡ map length (bodies lines))) }
 {
     let mut lengths = Vec::new(alloc);
     for body in view.lines() {
@@ -78,14 +83,16 @@ pub fn bodies_reversed<'a>(
     alloc: Global,
     view: AsciiStr<'a>,
 ) -> Result<Vec<AsciiStr<'a>>, AllocError>
-    ensures { IfOk result (λ views. OfLines view.entry (λ lines. map text_of views.items ≡ reverse (bodies lines))) }
+    ensures { IfOk result (λ views.
+        OfLines view.entry (λ lines. map text_of views.items ≡ reverse (bodies lines))) }
 {
     view.lines().rev().collect(alloc)
 }
 
 /// The lengths of the lines of a view, without their endings.
 pub fn line_lengths(alloc: Global, view: AsciiStr<'_>) -> Result<Vec<usize>, AllocError>
-    ensures { IfOk result (λ lengths. OfLines view.entry (λ lines. lengths.items ≡ map length (bodies lines))) }
+    ensures { IfOk result (λ lengths.
+        OfLines view.entry (λ lines. lengths.items ≡ map length (bodies lines))) }
 {
     view.lines().map(|line| line.len()).collect(alloc)
 }
@@ -93,30 +100,36 @@ pub fn line_lengths(alloc: Global, view: AsciiStr<'_>) -> Result<Vec<usize>, All
 /// Appends the characters of a view in upper case. Where memory is refused, those before the refused
 /// one stay; it is never refused where all of them fit the capacity.
 pub fn push_upper(string: &mut AsciiString, view: AsciiStr<'_>) -> Result<(), AllocError>
-    ensures ok { OnOk result (string.new.text ≡ string.old.text ++ map upper_image (text_of view.entry)) }
-    ensures front { (n : ℕ) × (string.new.text ≡ string.old.text ++ map upper_image (take n (text_of view.entry))) }
-    ensures succeeds { length string.old.text + length (text_of view.entry) ≤ string.old.capacity → IsOk result }
+    ensures ok { OnOk result
+        (string.new.text ≡ string.old.text ++ map upper_image (text_of view.entry)) }
+    ensures front { (n : ℕ)
+        × (string.new.text ≡ string.old.text ++ map upper_image (take n (text_of view.entry))) }
+    ensures succeeds { length string.old.text + length (text_of view.entry) ≤ string.old.capacity
+        → IsOk result }
 {
     string.extend_chars(view.chars().map(|ch| ch.to_ascii_uppercase()))
 }
 
 /// The text of a view without its separators.
 pub fn without(alloc: Global, view: AsciiStr<'_>, on: AsciiChar) -> Result<AsciiString, AllocError>
-    ensures { IfOk result (λ string. OfPieces view.entry on (λ pieces. string.text ≡ flat_map (λ piece. piece) pieces)) }
+    ensures { IfOk result (λ string.
+        OfPieces view.entry on (λ pieces. string.text ≡ flat_map (λ piece. piece) pieces)) }
 {
     AsciiString::collect_strs(alloc, view.split(on))
 }
 
 /// The text of a view without its line endings.
 pub fn without_line_endings(alloc: Global, view: AsciiStr<'_>) -> Result<AsciiString, AllocError>
-    ensures { IfOk result (λ string. OfLines view.entry (λ lines. string.text ≡ flat_map (λ line. line.body) lines)) }
+    ensures { IfOk result (λ string.
+        OfLines view.entry (λ lines. string.text ≡ flat_map (λ line. line.body) lines)) }
 {
     AsciiString::collect_strs(alloc, view.lines())
 }
 
 /// A view between square brackets.
 pub fn in_brackets(alloc: Global, view: AsciiStr<'_>) -> Result<String, AllocError>
-    ensures { IfOk result (λ text. string_bytes text ≡ codes "[" ++ (text_of view.entry ++ codes "]")) }
+    ensures { IfOk result (λ text.
+        string_bytes text ≡ codes "[" ++ (text_of view.entry ++ codes "]")) }
 {
     format!(in alloc; "[{view}]")
 }

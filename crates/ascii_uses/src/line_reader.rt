@@ -1,10 +1,12 @@
 //! A reader of lines over any source, through one buffer of fixed size.
 
-ghost use Rattle.std.specs.Prelude.{◌≡◌, ◌≢◌, ◌⊎◌, ◌<◌, ◌≤◌, ◌∷◌, [], IfErr, IfOk, None, OnOk, length, ℕ};
+ghost use Rattle.std.specs.Prelude.{◌≡◌, ◌≢◌, ◌⊎◌, ◌<◌, ◌≤◌, ◌∷◌, [], IfErr, IfOk, None, OnOk};
+ghost use Rattle.std.specs.Prelude.{length, ℕ};
 ghost use Rattle.std.specs.Io.KnownBytes.{Consumes, IsAtEnd};
 ghost use Rattle.std.specs.Str.{IsAscii};
 ghost use Rattle.ascii.specs.Spans.{LineSpansOf, line_size};
-ghost use Rattle.ascii_uses.specs.LineReader.{Finds, IsOneLine, IsText, Stops, Takes, failures_after, read_line_in, error_at};
+ghost use Rattle.ascii_uses.specs.LineReader.{Finds, IsOneLine, IsText, Stops, Takes};
+ghost use Rattle.ascii_uses.specs.LineReader.{failures_after, read_line_in, error_at};
 ghost use Rattle.ascii_uses.specs.Window.{EndsLine};
 
 use crate::line_reader::window::Window;
@@ -68,7 +70,8 @@ pub struct LineReader<S, A: Allocator = Global> {
 impl<S: Source, A: Allocator> LineReader<S, A> {
     ghost use Rattle.std.specs.Borrow.{sem};
     ghost use Rattle.std.specs.Io.BufRead.{Rests};
-    ghost use Rattle.ascii_uses.specs.LineReader.{AdvancesFrom, IsFresh, Next, state_of_reader, source_of};
+    ghost use Rattle.ascii_uses.specs.LineReader.{AdvancesFrom, IsFresh, Next, state_of_reader};
+    ghost use Rattle.ascii_uses.specs.LineReader.{source_of};
     ghost use Rattle.ascii_uses.specs.contracts.line_reader.LineReader.{the_row};
 
     /// A reader over a source, with a buffer of this many bytes; no more memory is taken later. A line is
@@ -77,7 +80,8 @@ impl<S: Source, A: Allocator> LineReader<S, A> {
     pub fn new(alloc: A, source: S, size: usize) -> Result<LineReader<S, A>, AllocError>
     where
         S: Drop,
-        ensures fresh { IfOk result (λ reader. IsFresh size (state_of_reader S.rest S.failures reader)) }
+        ensures fresh { IfOk result (λ reader.
+            IsFresh size (state_of_reader S.rest S.failures reader)) }
         ensures source { IfOk result (λ reader. source_of reader ≡ source) }
     {
         let window = Window::new(alloc, size)?;
@@ -96,9 +100,26 @@ impl<S: Source, A: Allocator> LineReader<S, A> {
         self.source
     }
 
-    /// The next line with its start and its ending, lent until the next call, or `None` where the input has
-    /// ended. What `LineFault` names is refused behind the lines before it. A refusal is answered for good, and
-    /// so is `None`: the source is not called again.
+    /// Returns the next line with its start and its ending, or `None` if there are no more lines, or
+    /// an error. A line ends in LF or in CR LF; only the last one of the input may have no ending.
+    /// With its ending it is no longer than the buffer.
+    ///
+    /// `None` is returned when every byte of the input was in a line that was returned, and the source
+    /// is at its end. An error is returned instead of the next line:
+    ///
+    /// - `NotAscii` if that line has a non-ASCII byte among those of its bytes that fit in the buffer.
+    ///   The error has the position of the first one.
+    /// - `TooLong` if that line is longer than the buffer, and those of its bytes that fit are ASCII.
+    ///   The error has the start of the line.
+    /// - `TooFar` if that line has a byte at the position `u64::MAX` or after it.
+    /// - `Read` if a call of the source failed, or `u64::MAX` calls have failed before.
+    ///
+    /// Once a call has returned `None` or an error, every later call returns the same, and leaves the
+    /// reader and its source unchanged. The source's count of failures rises by one when `Read` is
+    /// first returned, unless it is `u64::MAX`; otherwise no call changes it.
+    ///
+    /// The result borrows the reader, also if it is `None` or an error. What the call promises of the
+    /// reader and its source, it promises for when that borrow has ended.
     ///
     /// `"ab\r\n\nc"` has `ab` at 0 with CR LF, the empty body at 4 with LF, and `c` at 5 with no ending.
     pub fn next_line(&mut self) -> Result<Option<ReadLine<'_>>, LineFault>
@@ -169,7 +190,8 @@ fn seek<S: Source, A: Allocator>(
     source: &mut S,
     start: u64,
 ) -> Result<Option<usize>, LineFault>
-    ensures text { OnOk result (IsText window.old.held (S.rest source.old) (S.rest source.new) window.new.held) }
+    ensures text { OnOk result
+        (IsText window.old.held (S.rest source.old) (S.rest source.new) window.new.held) }
     ensures found { IfOk result (Finds window.new (S.rest source.new)) }
     ensures err { IfErr result (Stops start window.old.size window.old.held
         (S.rest source.old) (S.rest source.new)) }
@@ -213,7 +235,8 @@ fn past_full<S: Source>(source: &mut S, start: u64) -> Result<Option<usize>, Lin
     requires { S.failures source.old < u64.MAX }
     ensures ok { IfOk result (λ found. (found ≡ None) × IsAtEnd (S.rest source.new)
         × Consumes (S.rest source.old) (S.rest source.new) []) }
-    ensures err { IfErr result (λ fault. (fault ≡ LineFault.Read) ⊎ ((fault ≡ LineFault.TooLong start)
+    ensures err { IfErr result (λ fault. (fault ≡ LineFault.Read)
+        ⊎ ((fault ≡ LineFault.TooLong start)
         × ((byte : ℕ) × Consumes (S.rest source.old) (S.rest source.new) (byte ∷ [])))) }
     ensures count { S.failures source.new ≡ failures_after (S.failures source.old) result }
 {

@@ -3,8 +3,9 @@
 ghost use Rattle.std.specs.Prelude.{◌≡◌, ◌++◌, OnOk, OnErr, IfErr, map};
 ghost use Rattle.ascii_base.specs.Case.{upper_image};
 ghost use Rattle.ascii.specs.Slice.{IsRejected};
-ghost use Rattle.ascii_uses.specs.Raised.{upper_part};
-ghost use Rattle.ascii.specs.WritingView.{before_of, mut_text_of, after_of, whole_source_of, borrow_of};
+ghost use Rattle.ascii_uses.specs.Cases.{upper_part};
+ghost use Rattle.ascii.specs.WritingView.{before_of, mut_text_of, after_of, whole_source_of};
+ghost use Rattle.ascii.specs.WritingView.{borrow_of};
 
 use ascii::{AsAsciiStrError, AsciiStrMut, bytes};
 use ascii_base::range::AsciiRange;
@@ -29,6 +30,7 @@ pub fn upper_in_one_call(source: &mut [u8], range: AsciiRange) -> Result<(), AsA
 {
     match bytes::slice_ascii_mut(source, range) {
         Ok(view) => {
+            // The edit is made; the view that comes back tells the prover what the source is then.
             let _raised = upper_view(view);
             Ok(())
         }
@@ -39,7 +41,8 @@ pub fn upper_in_one_call(source: &mut [u8], range: AsciiRange) -> Result<(), AsA
 /// The same view, its letters in upper case.
 fn upper_view<'a>(view: AsciiStrMut<'a>) -> AsciiStrMut<'a>
     ensures lender { borrow_of result ≡ borrow_of view.entry }
-    ensures whole { whole_source_of result ≡ before_of view.entry ++ map upper_image (mut_text_of view.entry) ++ after_of view.entry }
+    ensures whole { whole_source_of result
+        ≡ before_of view.entry ++ map upper_image (mut_text_of view.entry) ++ after_of view.entry }
 {
     let mut text = view;
     text.make_ascii_uppercase();

@@ -34,7 +34,8 @@ pub fn count_before_last(view: AsciiStr<'_>) -> usize
 
 /// The number of lines of a view, and an iterator that still owes them all.
 pub fn count_and_lines(view: AsciiStr<'_>) -> Result<(usize, Lines<'_>), AllocError>
-    ensures { IfOk result (λ answer. LinesOf (text_of view.entry) answer.1 × (answer.0 ≡ length answer.1)) }
+    ensures { IfOk result (λ answer.
+        LinesOf (text_of view.entry) answer.1 × (answer.0 ≡ length answer.1)) }
 {
     let lines = view.lines();
     let count = lines.clone()?.count();
@@ -43,7 +44,8 @@ pub fn count_and_lines(view: AsciiStr<'_>) -> Result<(usize, Lines<'_>), AllocEr
 
 /// What stands behind the first two separators.
 pub fn after_two_separators<'a>(view: AsciiStr<'a>, on: AsciiChar) -> Option<AsciiStr<'a>>
-    ensures { OfPieces view.entry on (λ pieces. MatchOption result (drop 2 pieces ≡ []) (λ rest. Pieces (text_of rest) (code_of on) (drop 2 pieces))) }
+    ensures { OfPieces view.entry on (λ pieces. MatchOption result (drop 2 pieces ≡ [])
+        (λ rest. Pieces (text_of rest) (code_of on) (drop 2 pieces))) }
 {
     let mut split = view.split(on);
     split.next();
@@ -54,7 +56,8 @@ pub fn after_two_separators<'a>(view: AsciiStr<'a>, on: AsciiChar) -> Option<Asc
 /// A split that owes the same pieces as one that was stopped, where any is left.
 pub fn resume_split<'a>(split: &Split<'a>, on: AsciiChar) -> Option<Split<'a>>
     requires { code_of on ≡ split.now.on }
-    ensures { MatchOption result (split.now.items ≡ []) (λ other. (other.items ≡ split.now.items) × (other.on ≡ split.now.on)) }
+    ensures { MatchOption result (split.now.items ≡ [])
+        (λ other. (other.items ≡ split.now.items) × (other.on ≡ split.now.on)) }
 {
     let rest = split.remainder()?;
     Some(rest.split(on))
@@ -71,7 +74,8 @@ pub fn resume_lines<'a>(lines: &Lines<'a>) -> Option<Lines<'a>>
 /// A split that owes the same pieces with the same starts, where any is left.
 pub fn resume_split_spans<'a>(split: &SplitSpans<'a>, on: AsciiChar) -> Option<SplitSpans<'a>>
     requires { code_of on ≡ split.now.on }
-    ensures { MatchOption result (split.now.items ≡ []) (λ other. (other.items ≡ split.now.items) × (other.on ≡ split.now.on)) }
+    ensures { MatchOption result (split.now.items ≡ [])
+        (λ other. (other.items ≡ split.now.items) × (other.on ≡ split.now.on)) }
 {
     let (start, rest) = split.remainder()?;
     Some(rest.split_spans_from(on, start))

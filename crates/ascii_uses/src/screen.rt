@@ -30,7 +30,8 @@ pub fn show_on_screen(
     ensures each { IfOk result (λ out. out.text.text ≡ screen_text width 0 (text_of view.entry)) }
     ensures column { IfOk result (λ out. out.column ≡ column_after 0 out.text.text) }
     ensures plain { IfOk result (λ out. IsPlain width out.text.text) }
-    ensures unchanged { IsPlain width (text_of view.entry) → IfOk result (λ out. out.text.text ≡ text_of view.entry) }
+    ensures unchanged { IsPlain width (text_of view.entry)
+        → IfOk result (λ out. out.text.text ≡ text_of view.entry) }
 {
     let mut text = AsciiString::new(alloc);
     let mut column = 0;
@@ -49,8 +50,10 @@ fn put(
 ) -> Result<usize, AllocError>
     requires width { 2 ≤ width }
     requires column { column ≤ width }
-    ensures text { IfOk result (λ _. out.new.text ≡ out.old.text ++ rendered width column (code_of ch)) }
-    ensures column { IfOk result (λ next. next ≡ column_after column (rendered width column (code_of ch))) }
+    ensures text { IfOk result (λ _.
+        out.new.text ≡ out.old.text ++ rendered width column (code_of ch)) }
+    ensures column { IfOk result (λ next.
+        next ≡ column_after column (rendered width column (code_of ch))) }
     ensures inside { IfOk result (λ next. next ≤ width) }
 {
     if ch == AsciiChar::LineFeed {
@@ -94,7 +97,8 @@ fn put_cell(
 ) -> Result<usize, AllocError>
     requires room { column + length (cell width column (code_of ch)) ≤ width }
     requires other { code_of ch ≢ 10 }
-    ensures text { IfOk result (λ _. out.new.text ≡ out.old.text ++ cell width column (code_of ch)) }
+    ensures text { IfOk result (λ _.
+        out.new.text ≡ out.old.text ++ cell width column (code_of ch)) }
     ensures column { IfOk result (λ next. next ≡ column + length (cell width column (code_of ch))) }
 {
     if ch == AsciiChar::Tab {

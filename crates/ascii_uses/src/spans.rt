@@ -20,7 +20,8 @@ pub fn piece_starts(
     view: AsciiStr<'_>,
     on: AsciiChar,
 ) -> Result<Vec<usize>, AllocError>
-    ensures { IfOk result (λ starts. OfPieceSpans view.entry on (λ spans. starts.items ≡ map (λ span. span.start) spans)) }
+    ensures { IfOk result (λ starts.
+        OfPieceSpans view.entry on (λ spans. starts.items ≡ map (λ span. span.start) spans)) }
 {
     view.split_spans(on).map(|span| span.start).collect(alloc)
 }
@@ -31,7 +32,8 @@ pub fn piece_starts_by_for(
     view: AsciiStr<'_>,
     on: AsciiChar,
 ) -> Result<Vec<usize>, AllocError>
-    ensures { IfOk result (λ starts. OfPieceSpans view.entry on (λ spans. starts.items ≡ map (λ span. span.start) spans)) }
+    ensures { IfOk result (λ starts.
+        OfPieceSpans view.entry on (λ spans. starts.items ≡ map (λ span. span.start) spans)) }
 {
     let mut starts = Vec::new(alloc);
     for span in view.split_spans(on) {
@@ -46,7 +48,8 @@ pub fn piece_spans_reversed<'a>(
     view: AsciiStr<'a>,
     on: AsciiChar,
 ) -> Result<Vec<SplitSpan<'a>>, AllocError>
-    ensures { IfOk result (λ given. OfPieceSpans view.entry on (λ spans. map piece_in given.items ≡ reverse spans)) }
+    ensures { IfOk result (λ given.
+        OfPieceSpans view.entry on (λ spans. map piece_in given.items ≡ reverse spans)) }
 {
     view.split_spans(on).rev().collect(alloc)
 }
@@ -60,14 +63,16 @@ pub fn line_span_count(view: AsciiStr<'_>) -> usize
 
 /// The places where the lines of a view start.
 pub fn line_starts(alloc: Global, view: AsciiStr<'_>) -> Result<Vec<usize>, AllocError>
-    ensures { IfOk result (λ starts. OfLineSpans view.entry (λ spans. starts.items ≡ map (λ span. span.start) spans)) }
+    ensures { IfOk result (λ starts.
+        OfLineSpans view.entry (λ spans. starts.items ≡ map (λ span. span.start) spans)) }
 {
     view.line_spans().map(|span| span.start).collect(alloc)
 }
 
 /// The same by a loop.
 pub fn line_starts_by_for(alloc: Global, view: AsciiStr<'_>) -> Result<Vec<usize>, AllocError>
-    ensures { IfOk result (λ starts. OfLineSpans view.entry (λ spans. starts.items ≡ map (λ span. span.start) spans)) }
+    ensures { IfOk result (λ starts.
+        OfLineSpans view.entry (λ spans. starts.items ≡ map (λ span. span.start) spans)) }
 {
     let mut starts = Vec::new(alloc);
     for span in view.line_spans() {
@@ -81,7 +86,8 @@ pub fn line_spans_reversed<'a>(
     alloc: Global,
     view: AsciiStr<'a>,
 ) -> Result<Vec<LineSpan<'a>>, AllocError>
-    ensures { IfOk result (λ given. OfLineSpans view.entry (λ spans. map line_in given.items ≡ reverse spans)) }
+    ensures { IfOk result (λ given.
+        OfLineSpans view.entry (λ spans. map line_in given.items ≡ reverse spans)) }
 {
     view.line_spans().rev().collect(alloc)
 }

@@ -1,6 +1,7 @@
 //! Strings that are written again in the room that they have.
 
-ghost use Rattle.std.specs.Prelude.{◌≡◌, ◌+◌, ◌-◌, ◌<◌, ◌++◌, ◌∷◌, [], IsOk, IsOkAnd, codes, length, remove, slice_index, string_bytes, take};
+ghost use Rattle.std.specs.Prelude.{◌≡◌, ◌+◌, ◌-◌, ◌<◌, ◌++◌, ◌∷◌, [], IsOk, IsOkAnd, codes};
+ghost use Rattle.std.specs.Prelude.{length, remove, slice_index, string_bytes, take};
 ghost use Rattle.ascii_base.specs.Code.{code_of};
 
 use ascii::{AsciiChar, AsciiString};
@@ -11,7 +12,8 @@ use std::fmt::{self, Write};
 pub fn replace_last(string: &mut AsciiString, ch: AsciiChar) -> Result<(), AllocError>
     requires { 0 < length string.old.text }
     ensures ok { IsOk result }
-    ensures text { string.new.text ≡ take (length string.old.text - 1) string.old.text ++ code_of ch ∷ [] }
+    ensures text { string.new.text
+        ≡ take (length string.old.text - 1) string.old.text ++ code_of ch ∷ [] }
 {
     string.pop();
     string.push(ch)
@@ -21,7 +23,8 @@ pub fn replace_last(string: &mut AsciiString, ch: AsciiChar) -> Result<(), Alloc
 pub fn move_to_end(string: &mut AsciiString, idx: usize) -> Result<(), AllocError>
     requires { idx < length string.old.text }
     ensures ok { IsOk result }
-    ensures text { string.new.text ≡ remove string.old.text idx ++ slice_index string.old.text idx ∷ [] }
+    ensures text { string.new.text
+        ≡ remove string.old.text idx ++ slice_index string.old.text idx ∷ [] }
 {
     let ch = string.remove(idx);
     string.push(ch)

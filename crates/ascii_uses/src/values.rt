@@ -6,7 +6,7 @@ use ascii::AsciiString;
 use ascii::json::{JsonError, string_from_json};
 use std::alloc::Global;
 
-/// A string as a JSON value and back: where memory is found, it is the same text.
+/// Converts a string into a JSON value and back. On `Ok`, the text is the same.
 pub fn through_json(alloc: Global, string: &AsciiString) -> Result<AsciiString, JsonError>
     ensures { IfOk result (λ copy. copy.text ≡ string.now.text) }
 {

@@ -1,7 +1,8 @@
 //! The lines of a source as texts of their own.
 
 ghost use Rattle.std.specs.Prelude.{◌≡◌, IfOk};
-ghost use Rattle.ascii_uses.specs.KeptLines.{AreFirstLines, YieldsUntil, kept_line_in, kept_lines_in};
+ghost use Rattle.ascii_uses.specs.KeptLines.{AreFirstLines, YieldsUntil, kept_line_in};
+ghost use Rattle.ascii_uses.specs.KeptLines.{kept_lines_in};
 ghost use Rattle.ascii_uses.specs.LineReader.{IsOpen, read_line_in, state_of_reader};
 
 use crate::line_reader::{LineFault, LineReader, ReadLine};
@@ -42,8 +43,8 @@ pub fn keep_lines<S: Source, A: Allocator>(
     requires { IsOpen reader.old }
     ensures runs { IfOk result (λ kept. YieldsUntil (state_of_reader S.rest S.failures reader.old)
         (kept_lines_in kept) kept.fault (state_of_reader S.rest S.failures reader.new)) }
-    ensures first { IfOk result (λ kept. AreFirstLines (state_of_reader S.rest S.failures reader.old)
-        (kept_lines_in kept) kept.fault) }
+    ensures first { IfOk result (λ kept. AreFirstLines
+        (state_of_reader S.rest S.failures reader.old) (kept_lines_in kept) kept.fault) }
 {
     let mut lines = Vec::new(alloc);
     'lines: loop {

@@ -1,6 +1,7 @@
 //! A buffer of fixed size between a source and its lines.
 
-ghost use Rattle.std.specs.Prelude.{◌≡◌, ℕ, ◌+◌, ◌-◌, ◌<◌, ◌≤◌, ◌++◌, ◌↔◌, [], IfOk, IsTrue, List, MatchOption, OnErr, drop, length, slice_range, take};
+ghost use Rattle.std.specs.Prelude.{◌≡◌, ℕ, ◌+◌, ◌-◌, ◌<◌, ◌≤◌, ◌++◌, ◌↔◌, [], IfOk, IsTrue, List};
+ghost use Rattle.std.specs.Prelude.{MatchOption, OnErr, drop, length, slice_range, take};
 ghost use Rattle.std.specs.Io.KnownBytes.{Consumes, IsAtEnd};
 ghost use Rattle.std.specs.Str.{IsAscii};
 ghost use Rattle.ascii_base.specs.Bytes.{FirstOther};
@@ -83,7 +84,8 @@ impl<A: Allocator> Window<A> {
     pub(crate) fn other(&self) -> Option<usize>
         ensures place { MatchOption result
             ((self.now.checked ≡ length self.now.held) × IsAscii self.now.held)
-            (λ place. (place ≡ self.now.checked) × FirstOther self.now.held 0 (length self.now.held) place) }
+            (λ place. (place ≡ self.now.checked)
+            × FirstOther self.now.held 0 (length self.now.held) place) }
         ensures within { length self.now.held ≤ self.now.size }
     {
         (self.checked < self.filled).then_some(self.checked - self.from)
@@ -102,7 +104,8 @@ impl<A: Allocator> Window<A> {
     /// searched once.
     #[inline]
     pub(crate) fn find_line(&mut self) -> Option<usize>
-        ensures found { MatchOption result (FreeUpTo self.old.held self.old.checked) (λ n. (n ≤ self.old.checked) × EndsLine self.old.held n) }
+        ensures found { MatchOption result (FreeUpTo self.old.held self.old.checked)
+            (λ n. (n ≤ self.old.checked) × EndsLine self.old.held n) }
         ensures same { self.new ≡ self.old }
     {
         match memchr(b'\n', &self.bytes[self.searched..self.checked]) {
@@ -150,8 +153,11 @@ impl<A: Allocator> Window<A> {
         requires room { length self.old.held < self.old.size }
         requires checked { self.old.checked ≡ length self.old.held }
         requires count { S.failures source.old < u64.MAX }
-        ensures bytes { IfOk result (λ n. (read : List ℕ) × (length read ≡ n) × Consumes (S.rest source.old) (S.rest source.new) read × (self.new.held ≡ self.old.held ++ read)) }
-        ensures end { IfOk result (λ n. n ≡ 0 → IsAtEnd (S.rest source.new) × (self.new.checked ≡ length self.new.held)) }
+        ensures bytes { IfOk result (λ n. (read : List ℕ) × (length read ≡ n)
+            × Consumes (S.rest source.old) (S.rest source.new) read
+            × (self.new.held ≡ self.old.held ++ read)) }
+        ensures end { IfOk result (λ n.
+            n ≡ 0 → IsAtEnd (S.rest source.new) × (self.new.checked ≡ length self.new.held)) }
         ensures count { CountsFault (S.failures source.old) (S.failures source.new) result }
         ensures size { self.new.size ≡ self.old.size }
     {
@@ -175,7 +181,8 @@ fn read_behind<S: Source>(
     ensures front { take filled bytes.new ≡ take filled bytes.old }
     ensures len { length bytes.new ≡ length bytes.old }
     ensures within { IfOk result (λ n. filled + n ≤ length bytes.new) }
-    ensures bytes { IfOk result (λ n. Consumes (S.rest source.old) (S.rest source.new) (slice_range bytes.new filled (filled + n))) }
+    ensures bytes { IfOk result (λ n. Consumes (S.rest source.old) (S.rest source.new)
+        (slice_range bytes.new filled (filled + n))) }
     ensures end { IfOk result (λ n. n ≡ 0 → IsAtEnd (S.rest source.new)) }
     ensures count { CountsFault (S.failures source.old) (S.failures source.new) result }
 {
