@@ -1,6 +1,8 @@
 //! Owned ASCII text.
 
-ghost use Rattle.std.specs.Prelude.{◌≡◌, ◌+◌, ◌-◌, ◌<◌, ◌≤◌, ◌↔◌, ◌++◌, ◌∷◌, [], IfOk, IsOk, IsTrue, OnErr, OnOk, insert, length, map, remove, slice_get, slice_index, slice_set, take, vec_capacity, vec_len};
+ghost use Rattle.std.specs.Prelude.{◌≡◌, ◌+◌, ◌-◌, ◌<◌, ◌≤◌, ◌↔◌, ◌++◌, ◌∷◌, [], IfOk, IsOk};
+ghost use Rattle.std.specs.Prelude.{IsTrue, OnErr, OnOk, insert, length, map, remove, slice_get};
+ghost use Rattle.std.specs.Prelude.{slice_index, slice_set, take, vec_capacity, vec_len};
 ghost use Rattle.std.specs.Option.{option_map};
 ghost use Rattle.ascii_base.specs.Case.{lower_image, upper_image};
 ghost use Rattle.ascii_base.specs.Code.{code_of, code_text};

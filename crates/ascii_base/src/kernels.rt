@@ -5,12 +5,14 @@
 //! last of which may overlap the one before it; fewer bytes go one by one. The two case maps change the
 //! bytes after the last whole chunk in a plain loop.
 
-ghost use Rattle.std.specs.Prelude.{◌≡◌, ◌↔◌, ◌+◌, ◌<◌, ◌≤◌, IsTrue, length, map, take, drop, ◌++◌, All, MatchOption};
+ghost use Rattle.std.specs.Prelude.{◌≡◌, ◌↔◌, ◌+◌, ◌<◌, ◌≤◌, IsTrue, length, map, take, drop, ◌++◌};
+ghost use Rattle.std.specs.Prelude.{All, MatchOption};
 ghost use Rattle.std.specs.Str.{IsAscii};
 ghost use Rattle.ascii_base.specs.Bytes.{FirstOther, IsFirstNot, IsLastNot};
 ghost use Rattle.ascii_base.specs.Case.{upper_image, lower_image};
 ghost use Rattle.ascii_base.specs.Class.{IsWhitespace};
-ghost use Rattle.ascii_base.specs.Lanes.{AllBefore, AllFrom, FindsFirstNot, FindsLastNot, SameBefore};
+ghost use Rattle.ascii_base.specs.Lanes.{AllBefore, AllFrom, FindsFirstNot, FindsLastNot};
+ghost use Rattle.ascii_base.specs.Lanes.{SameBefore};
 
 use crate::lanes::{
     LANES, QUIET, WIDE, highest, is_quiet, is_same, lower_of, not_whitespace, others, upper_of,
