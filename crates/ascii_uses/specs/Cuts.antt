@@ -1,4 +1,5 @@
--- A text that is cut at the first of a code, and the first code that is not of a class.
+-- A text that is cut at the first or the last of a code, and the first code that is not of a
+-- class.
 use Rattle.std.specs.Prelude.{◌≡◌, ℕ, List, ◌∷◌, ◌++◌, MatchOption, Option}
 use Rattle.std.specs.List.{All, Contains}
 use Rattle.ascii.specs.declared.ascii_str.AsciiStr.{AsciiStr}
@@ -14,6 +15,16 @@ pub record IsCutAt (on : ℕ) (text before after : List ℕ) : Type 0 where
 abbrev pub SplitsOnce : ℕ → List ℕ → Option (AsciiStr × AsciiStr) → Type 0
 SplitsOnce on text result = MatchOption result (¬ (Contains text on))
     (λ sides. IsCutAt on text (text_of sides.0) (text_of sides.1))
+
+-- `text` is `before`, the code `on` and `after`, and `after` does not contain `on`
+pub record IsCutAtLast (on : ℕ) (text before after : List ℕ) : Type 0 where
+  pub joined : before ++ on ∷ after ≡ text
+  pub last : ¬ (Contains after on)
+
+-- `None` if `text` does not contain `on`; otherwise the texts before and after its last `on`
+abbrev pub SplitsOnceAtLast : ℕ → List ℕ → Option (AsciiStr × AsciiStr) → Type 0
+SplitsOnceAtLast on text result = MatchOption result (¬ (Contains text on))
+    (λ sides. IsCutAtLast on text (text_of sides.0) (text_of sides.1))
 
 -- `None` if all codes of `text` are of the class `Is`; otherwise the index of the first that is not
 abbrev pub FindsOther : (ℕ → Type 0) → List ℕ → Option ℕ → Type 0

@@ -1,8 +1,8 @@
-//! Cutting a text in two at the first of a character, without a copy.
+//! Cutting a text in two at the first or the last of a character, without a copy.
 
 ghost use Rattle.ascii_base.specs.Code.{code_of};
 ghost use Rattle.ascii.specs.View.{text_of};
-ghost use Rattle.ascii_uses.specs.Cuts.{SplitsOnce};
+ghost use Rattle.ascii_uses.specs.Cuts.{SplitsOnce, SplitsOnceAtLast};
 
 use ascii::{AsciiChar, AsciiStr};
 
@@ -15,4 +15,16 @@ pub fn split_once<'a>(view: AsciiStr<'a>, on: AsciiChar) -> Option<(AsciiStr<'a>
     let front = pieces.next()?;
     let behind = pieces.remainder()?;
     Some((front, behind))
+}
+
+/// Returns the parts of a view before and after its last `on`, or `None` if the view does not contain
+/// `on`: for `a=b=c` at `=`, `a=b` and `c`.
+#[tactic(auto, using(ascii::proofs::CallerLemmas::join_with_last))]
+pub fn rsplit_once<'a>(view: AsciiStr<'a>, on: AsciiChar) -> Option<(AsciiStr<'a>, AsciiStr<'a>)>
+    ensures { SplitsOnceAtLast (code_of on) (text_of view.entry) result }
+{
+    let mut pieces = view.split(on);
+    let after = pieces.next_back()?;
+    let before = pieces.remainder()?;
+    Some((before, after))
 }

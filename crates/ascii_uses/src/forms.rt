@@ -58,3 +58,14 @@ pub fn run_over_a_string<A: Allocator + Copy, B: Allocator>(
 {
     run(alloc, buf, cmds)
 }
+
+/// Runs the commands, and returns the number of replies: one for each command.
+pub fn count_replies<A: Allocator + Copy, B: AsciiBuf>(
+    alloc: A,
+    buf: &mut B,
+    cmds: &[Cmd<'_>],
+) -> Result<usize, AllocError>
+    ensures { IfOk result (λ count. count ≡ length cmds.now) }
+{
+    Ok(run(alloc, buf, cmds)?.len())
+}

@@ -97,6 +97,24 @@ pub fn line_lengths(alloc: Global, view: AsciiStr<'_>) -> Result<Vec<usize>, All
     view.lines().map(|line| line.len()).collect(alloc)
 }
 
+/// Appends the characters of a view one by one. On error, the characters before the one that did not
+/// fit have been appended.
+#[tactic(auto, using(ascii::proofs::CallerLemmas::extends_chars))]
+pub fn append_chars(string: &mut AsciiString, view: AsciiStr<'_>) -> Result<(), AllocError>
+    ensures { OnOk result (string.new.text ≡ string.old.text ++ text_of view.entry) }
+{
+    string.extend_chars(view.chars())
+}
+
+/// Copies a view character by character.
+#[tactic(auto, using(ascii::proofs::CallerLemmas::collects_chars))]
+pub fn copy_chars(alloc: Global, view: AsciiStr<'_>) -> Result<AsciiString, AllocError>
+    ensures { IfOk result (λ string. string.text ≡ text_of view.entry) }
+{
+    let string = AsciiString::collect_chars(alloc, view.chars())?;
+    Ok(string)
+}
+
 /// Appends the characters of a view in upper case. Where memory is refused, those before the refused
 /// one stay; it is never refused where all of them fit the capacity.
 pub fn push_upper(string: &mut AsciiString, view: AsciiStr<'_>) -> Result<(), AllocError>

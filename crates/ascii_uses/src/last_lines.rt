@@ -1,12 +1,13 @@
 //! Giving the last lines of a text, as `tail -n` does, without a walk over those before them.
 
-ghost use Rattle.std.specs.Prelude.{◌≡◌, ◌++◌, List, ℕ};
-ghost use Rattle.ascii.specs.Lines.{LinesOf};
+ghost use Rattle.std.specs.Prelude.{◌≡◌, ◌+◌, ◌++◌, ◌↔◌, IsTrue, List, MatchOption, [], length, ℕ};
+ghost use Rattle.ascii.specs.Lines.{Line, LinesOf};
+ghost use Rattle.ascii.specs.Spans.{WithStart};
 ghost use Rattle.ascii.specs.View.{text_of};
-ghost use Rattle.ascii_uses.specs.LastLines.{HasLastLines, HasLinesBefore};
+ghost use Rattle.ascii_uses.specs.LastLines.{HasLastLine, HasLastLines, HasLinesBefore};
 
 use ascii::AsciiStr;
-use ascii::iter::Lines;
+use ascii::iter::{Ending, Lines};
 use ascii_base::range::AsciiRange;
 
 /// The end of a view that has its last `n` lines, with their endings: the whole view where it has fewer, and
@@ -32,6 +33,27 @@ pub fn without_last_lines<'a>(view: AsciiStr<'a>, n: usize) -> AsciiStr<'a>
         }
     }
     remaining_text(&lines)
+}
+
+/// Returns the position after the body of the last line, or `None` if the view is empty: 4 for `a\nbc\n`.
+pub fn last_body_end(view: AsciiStr<'_>) -> Option<usize>
+    ensures { MatchOption result (text_of view.entry ≡ []) (λ end. (last : WithStart Line)
+        × HasLastLine (text_of view.entry) last × (end ≡ last.start + length last.item.body)) }
+{
+    let last = view.line_spans().next_back()?;
+    Some(last.start + last.text.len())
+}
+
+/// Returns `true` if the view has a last line without an ending: for `a\nb`, but not for `a\n` or an
+/// empty view.
+pub fn is_open(view: AsciiStr<'_>) -> bool
+    ensures { IsTrue result ↔ ((last : WithStart Line)
+        × HasLastLine (text_of view.entry) last × (last.item.ending ≡ Ending.Absent)) }
+{
+    match view.line_spans().next_back() {
+        Some(last) => last.ending == Ending::Absent,
+        None => false,
+    }
 }
 
 /// The lines that an iterator still owes, as a view: an empty one where it owes none.

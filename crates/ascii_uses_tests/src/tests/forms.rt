@@ -3,7 +3,7 @@
 use super::{ascii, same};
 use ascii::{AsciiChar, AsciiString};
 use ascii_run::{Cmd, Reply, SmallAsciiString};
-use ascii_uses::forms::{append, header_name, letter, run_over_a_string};
+use ascii_uses::forms::{append, count_replies, header_name, letter, run_over_a_string};
 
 #[test]
 fn names_and_letters(rt: HostRuntime) {
@@ -26,4 +26,6 @@ fn a_run_over_a_string(rt: HostRuntime) {
     same(&rt, replies.len(), 2);
     assert!(rt; matches!(replies.as_slice().last(), Some(Reply::Number(3))));
     same(&rt, string.as_ascii_str().as_str(), "abc");
+    let count = count_replies(rt.alloc(), &mut string, &cmds).expect(&rt, "refused");
+    same(&rt, count, 2);
 }

@@ -3,12 +3,12 @@
 use super::{ascii, shows};
 use ascii::{AsciiChar, AsciiString};
 use ascii_uses::iterators::{
-    bodies_reversed, in_brackets, line_lengths, piece_count, piece_lengths, push_upper, in_quotes,
-    without_line_endings, without,
+    append_chars, bodies_reversed, copy_chars, in_brackets, in_quotes, line_lengths, piece_count,
+    piece_lengths, push_upper, without, without_line_endings,
 };
 use ascii_uses::strings::{
-    replace_with_char, blank, truncate_with_mark, into_bytes_with_end, into_string_with_end, move_to_end, replace_last,
-    spare_room, write_nothing,
+    blank, into_bytes_with_end, into_string_with_end, move_to_end, replace_last, replace_with_char,
+    spare_room, truncate_with_mark, write_nothing,
 };
 
 #[test]
@@ -32,6 +32,9 @@ fn texts(rt: HostRuntime) {
     let mut string = AsciiString::new(alloc);
     shows(&rt, &push_upper(&mut string, ascii("aB1")), "Ok(())");
     shows(&rt, &string, "\"AB1\"");
+    shows(&rt, &append_chars(&mut string, ascii("cD")), "Ok(())");
+    shows(&rt, &string, "\"AB1cD\"");
+    shows(&rt, &copy_chars(alloc, ascii("aB1")), "Ok(\"aB1\")");
     shows(
         &rt,
         &without(alloc, ascii("a,b,,c"), AsciiChar::Comma),
@@ -61,7 +64,11 @@ fn edits(rt: HostRuntime) {
     shows(&rt, &move_to_end(&mut string, 1), "Ok(())");
     shows(&rt, &string, "\"acxb\"");
     assert!(rt; 2 < string.len());
-    shows(&rt, &truncate_with_mark(&mut string, 2, AsciiChar::Tilde), "Ok(())");
+    shows(
+        &rt,
+        &truncate_with_mark(&mut string, 2, AsciiChar::Tilde),
+        "Ok(())",
+    );
     shows(&rt, &string, "\"ac~\"");
 }
 

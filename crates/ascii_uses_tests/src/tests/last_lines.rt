@@ -1,7 +1,7 @@
 //! The last lines of texts with each ending.
 
 use super::{ascii, same};
-use ascii_uses::last_lines::{last_lines, without_last_lines};
+use ascii_uses::last_lines::{is_open, last_body_end, last_lines, without_last_lines};
 
 /// A text, a number of lines, its last lines, and what stands before them.
 static ROWS: [(&str, usize, &str, &str); 12] = [
@@ -24,5 +24,23 @@ fn rows(rt: HostRuntime) {
     for &(source, n, last, before) in &ROWS {
         same(&rt, last_lines(ascii(source), n), ascii(last));
         same(&rt, without_last_lines(ascii(source), n), ascii(before));
+    }
+}
+
+/// A text, the position after the body of its last line, and whether that line has no ending.
+static ENDS: [(&str, Option<usize>, bool); 6] = [
+    ("", None, false),
+    ("a", Some(1), true),
+    ("a\nbc\n", Some(4), false),
+    ("a\r\nbc\r\n", Some(5), false),
+    ("a\nb\r", Some(4), true),
+    ("a\n\n", Some(2), false),
+];
+
+#[test]
+fn last_body_ends_before_its_ending(rt: HostRuntime) {
+    for &(source, end, open) in &ENDS {
+        same(&rt, last_body_end(ascii(source)), end);
+        same(&rt, is_open(ascii(source)), open);
     }
 }

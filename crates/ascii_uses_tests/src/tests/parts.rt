@@ -2,7 +2,7 @@
 
 use super::same;
 use ascii::AsciiRange;
-use ascii_uses::parts::{upper_in_one_call, upper_in};
+use ascii_uses::parts::{upper_in, upper_in_one_call};
 
 const SOURCE: [u8; 5] = [0x61, 0xc4, 0x8d, 0x42, 0x62];
 
@@ -21,7 +21,11 @@ fn a_part_is_raised(rt: HostRuntime) {
         let mut first = SOURCE;
         let mut second = SOURCE;
         let is_done = upper_in(&mut first[..], range).is_ok();
-        same(&rt, upper_in_one_call(&mut second[..], range).is_ok(), is_done);
+        same(
+            &rt,
+            upper_in_one_call(&mut second[..], range).is_ok(),
+            is_done,
+        );
         same(&rt, is_done, edited.is_some());
         same(&rt, first, edited.unwrap_or(SOURCE));
         same(&rt, second, first);

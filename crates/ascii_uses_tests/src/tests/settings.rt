@@ -2,7 +2,7 @@
 
 use super::{ascii, same};
 use ascii::AsciiChar;
-use ascii_uses::cuts::split_once;
+use ascii_uses::cuts::{rsplit_once, split_once};
 use ascii_uses::settings::{Setting, SettingFault, read_setting};
 
 /// Lines with a setting, its key and its value.
@@ -60,5 +60,10 @@ fn cuts(rt: HostRuntime) {
     same(&rt, sides, Some((ascii("a"), ascii("b=c"))));
     same(&rt, split_once(ascii("abc"), AsciiChar::Equal), None);
     let sides = split_once(ascii("="), AsciiChar::Equal);
+    same(&rt, sides, Some((ascii(""), ascii(""))));
+    let sides = rsplit_once(ascii("a=b=c"), AsciiChar::Equal);
+    same(&rt, sides, Some((ascii("a=b"), ascii("c"))));
+    same(&rt, rsplit_once(ascii("abc"), AsciiChar::Equal), None);
+    let sides = rsplit_once(ascii("="), AsciiChar::Equal);
     same(&rt, sides, Some((ascii(""), ascii(""))));
 }

@@ -8,7 +8,7 @@ use ascii_uses::iterators::{
     line_count, line_lengths_by_for, piece_lengths_by_map, pieces_reversed,
 };
 use ascii_uses::resuming::{
-    after_two_separators, count_before_last, count_after_first, count_and_lines, lengths_left,
+    after_two_separators, count_after_first, count_and_lines, count_before_last, lengths_left,
     resume_line_spans, resume_lines, resume_split, resume_split_spans, take_line_span,
 };
 use ascii_uses::spans::{
