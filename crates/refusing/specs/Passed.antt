@@ -1,6 +1,6 @@
--- The allocator that the calls are passed on to.
+-- The allocator that a `Refusing` passes its calls on to.
 use Rattle.refusing.specs.declared.Refusing.{Refusing}
 
--- the one inside
+-- the allocator inside a `Refusing`
 abbrev pub inner_of : {B : Type 0} → Refusing B → B
 inner_of heap = heap.inner

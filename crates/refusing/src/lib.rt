@@ -1,4 +1,4 @@
-//! An allocator for tests, which refuses one growth and passes every other call on.
+//! An allocator for tests, of which one allocation fails.
 #![tactic(auto)]
 
 ghost use Rattle.std.specs.Prelude.{◌≡◌, ◌+◌, ◌↔◌, ◌⊎◌, IsTrue, MatchOption};
@@ -9,16 +9,16 @@ use std::alloc::{AllocError, Allocator};
 use std::cell::Cell;
 use std::fmt;
 
-/// An allocator that asks another one for each block, but refuses one growth: the one that comes behind as
-/// many others as it was told. A growth is a block that is asked for, be it a new one or one in the place of
-/// a smaller or larger one. Blocks go back to the other allocator.
+/// An allocator that passes each call on to another one, except that one allocation fails: the one
+/// after the given number of others. A block that replaces a smaller or larger one is an allocation
+/// too.
 pub struct Refusing<B: Allocator> {
     inner: B,
     left: Cell<Option<u64>>,
 }
 
 impl<B: Allocator> Refusing<B> {
-    /// Over `inner`, with `left` growths to pass before the one that is refused.
+    /// Creates an allocator over `inner`, with `left` allocations before the one that fails.
     pub fn new(inner: B, left: u64) -> Refusing<B>
         ensures { inner_of result ≡ inner }
     {
@@ -28,13 +28,13 @@ impl<B: Allocator> Refusing<B> {
         }
     }
 
-    /// Whether a growth was refused.
+    /// Returns `true` if an allocation has failed.
     pub fn met(&self) -> bool {
         self.left.get().is_none()
     }
 }
 
-/// The growths that are left to pass after one more came; `None` once one was refused.
+/// The number of allocations left before the one that fails, after one more; `None` once it failed.
 fn count_down(left: Option<u64>) -> Option<u64>
     ensures { MatchOption result ((left ≡ None) ⊎ (left ≡ Some 0)) (λ n. left ≡ Some (n + 1)) }
 {
@@ -44,14 +44,14 @@ fn count_down(left: Option<u64>) -> Option<u64>
     }
 }
 
-/// Whether the growth that comes is the one to refuse.
+/// Returns `true` if the next allocation is the one that fails.
 fn is_due(left: Option<u64>) -> bool
-    ensures { IsTrue result ↔ left ≡ Some 0 }
+    ensures { IsTrue result ↔ (left ≡ Some 0) }
 {
     left == Some(0)
 }
 
-/// Counts a growth, and tells whether it is refused.
+/// Counts an allocation, and returns `true` if it fails.
 fn refuses(left: &Cell<Option<u64>>) -> bool {
     let before = left.get();
     left.set(count_down(before));
@@ -81,7 +81,7 @@ impl<B: Allocator> Drop for Refusing<B> {
     }
 }
 
-/// Prints the growths that are left to pass.
+/// Prints the number of allocations left before the one that fails.
 impl<B: Allocator> fmt::Debug for Refusing<B> {
     fn fmt<W: fmt::Write>(&self, f: &mut fmt::Formatter<W>) -> fmt::Result {
         f.debug_struct("Refusing")

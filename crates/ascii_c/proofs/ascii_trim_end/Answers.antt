@@ -3,4 +3,6 @@ use Rattle.ascii.proofs.TrimLemmas.{TrimsEnd-cut}
 use Rattle.ascii_c.proofs.ascii_trim_end.Goals as goal
 
 pub returns-clause-trims : goal.returns-clause-trims
-returns-clause-trims c = TrimsEnd-cut c.args.bytes.now c.last_not_whitespace.result c.map_or.result c.last_not_whitespace.ensures (search rules)
+returns-clause-trims c =
+    TrimsEnd-cut c.args.bytes.now c.last_not_whitespace.result c.map_or.result
+    c.last_not_whitespace.ensures (search rules)
