@@ -1,5 +1,6 @@
 -- Edits of a text that may stand in the value itself leave it codes, with room.
-use Rattle.std.proofs.Common.{ℕ, ◌≡◌, ◌+◌, ◌<◌, ◌≤◌, List, ◌++◌, arith, drop, length, map, refl, subst, suc, sym, take}
+use Rattle.std.proofs.Common.{ℕ, ◌≡◌, ◌+◌, ◌<◌, ◌≤◌, List, ◌++◌, arith, drop, length, map, refl}
+use Rattle.std.proofs.Common.{subst, suc, sym, take}
 use Rattle.std.specs.List.{insert, length_refill, refill, remove}
 use Rattle.std.proofs.lemmas.List.Edits.{length-insert, length-remove}
 use Rattle.std.proofs.lemmas.Str.{IsAscii-append, IsAscii-drop, IsAscii-take}

@@ -1,34 +1,21 @@
 -- The compact JSON text of a text is what the kit's writer gives, and is itself a text.
-use Rattle.std.proofs.Common.{◌≡◌, ℕ, ◌<◌, List, [], ◌∷◌, ◌++◌, refl, ap, ◌∙◌, sym, arith, append-nil, length, map, take, drop, length-append, ◌+◌, ◌-◌, ◌≤◌, subst, nat_lt, Bool, true, false, ◌&&◌, zero, suc, ⊎_elim, get_or}
+use Rattle.std.proofs.Common.{◌≡◌, ℕ, ◌<◌, List, [], ◌∷◌, ◌++◌, refl, ap, ◌∙◌, sym, arith}
+use Rattle.std.proofs.Common.{append-nil, length, map, take, drop, length-append, ◌+◌, ◌-◌, ◌≤◌}
+use Rattle.std.proofs.Common.{subst, nat_lt, Bool, true, ⊎_elim, get_or}
 use Rattle.std.proofs.lemmas.Bool.Decides.{nat_tests}
 use Rattle.std.proofs.lemmas.Str.Ascii.{All-from_ascii, IsAscii-from_all}
 use Rattle.std.proofs.lemmas.Grind.{common_steps}
 use Rattle.std.proofs.lemmas.List.{get_or-map, get_or_append_left, length-map, map-append}
 use Rattle.std.proofs.Math.Seq.{get_or-append_seam}
-use Rattle.std.proofs.lemmas.List.Elements.{All-append, All-from_get_or, All-cons, All-head, All-nil, All-tail}
-use Rattle.std.proofs.lemmas.Bool.{cases_lt, ltb-true}
+use Rattle.std.proofs.lemmas.List.Elements.{All-append, All-from_get_or, All-cons, All-head}
+use Rattle.std.proofs.lemmas.List.Elements.{All-nil, All-tail}
+use Rattle.std.proofs.lemmas.Bool.{agree_below_at, cases_lt, ltb-true}
 use Rattle.std.proofs.lemmas.List.Sums.{AllPass-from_list_all}
 use Rattle.std.specs.List.{All, AllPass, flat_map, list_all}
 use Rattle.std.specs.Str.{IsAscii}
 use Rattle.json.specs.Print.{escape_byte, print, print_from}
 use Rattle.json.specs.Token.{Token, string}
 use Rattle.ascii_run.specs.JsonText.{AreForms, json_code, json_text}
-
--- a test at each number below n
-abbrev all_below : (ℕ → Bool) → ℕ → Bool
-all_below test zero = true
-all_below test (suc n) = test n && all_below test n
-
-both : (a b : Bool) → (a && b) ≡ true → (a ≡ true) × (b ≡ true)
-both true true h = (refl, refl)
-both true false h = absurd cc
-both false b h = absurd cc
-
-all_below-at : (test : ℕ → Bool) (n c : ℕ) → all_below test n ≡ true → c < n → test c ≡ true
-all_below-at test zero c ok low = absurd (omega arith)
-all_below-at test (suc n) c ok low =
-    let parts = both (test n) (all_below test n) ok in
-    ⊎_elim (λ below. all_below-at test n c parts.1 below) (λ high. let e : c ≡ n = omega arith in ap test e ∙ parts.0) (cases_lt c n)
 
 -- a code in a JSON string, as the writer has it
 json_code-is : (n : ℕ) → json_code n ≡ escape_byte n
@@ -49,8 +36,10 @@ json_code-ascii : (n : ℕ) → n < 128 → All (λ b. b < 128) (json_code n)
 json_code-ascii n low =
     let test : ℕ → Bool = λ b. nat_lt b 128 in
     let pass : AllPass test (json_code n) =
-    AllPass-from_list_all test (json_code n) (all_below-at (λ c. list_all test (json_code c)) 128 n refl low) in
-    All-from_get_or (λ b. b < 128) (json_code n) 0 (λ k inside. ltb-true (get_or (json_code n) k 0) 128 (pass k 0 inside))
+    AllPass-from_list_all test (json_code n)
+    (agree_below_at (λ c. list_all test (json_code c)) (λ _. true) 128 n refl low) in
+    All-from_get_or (λ b. b < 128) (json_code n) 0
+    (λ k inside. ltb-true (get_or (json_code n) k 0) 128 (pass k 0 inside))
 
 json_codes-ascii : (t : List ℕ) → All (λ b. b < 128) t → All (λ b. b < 128) (flat_map json_code t)
 json_codes-ascii [] h = All-nil (λ b. b < 128)

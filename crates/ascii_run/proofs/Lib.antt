@@ -2,8 +2,8 @@ pub mod EndsOutputLemmas
 pub mod InlineLemmas
 pub mod JsonTextLemmas
 pub mod LineFeedLemmas
+pub mod ListLemmas
 pub mod PageLemmas
 pub mod PlainRunLemmas
 mod RunExamples
 pub mod RunsLemmas
-pub mod SinkLemmas

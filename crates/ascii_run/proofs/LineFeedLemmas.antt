@@ -1,5 +1,9 @@
--- The output of `lines` as one text: without each CR that stands before LF, and with LF behind a last line that has none.
-use Rattle.std.proofs.Common.{append-nil, ◌≡◌, ◌≢◌, ℕ, zero, suc, ◌+◌, ◌-◌, ◌<◌, Bool, true, false, eqb, cond, ◌&&◌, List, [], ◌∷◌, ◌++◌, length, get_or, take, drop, refl, sym, ap, ◌∙◌, subst, arith, eqb-true, append_assoc, Some, length-drop}
+-- The output of `lines` as one text: without each CR that is before LF, and with LF after a last
+-- line that has none.
+use Rattle.std.proofs.Common.{append-nil, ◌≡◌, ◌≢◌, ℕ, zero, suc, ◌+◌, ◌-◌, ◌<◌, Bool, true, false}
+use Rattle.std.proofs.Common.{eqb, cond, ◌&&◌, List, [], ◌∷◌, ◌++◌, length, get_or, take, drop}
+use Rattle.std.proofs.Common.{refl, sym, ap, ◌∙◌, subst, arith, eqb-true, append_assoc, Some}
+use Rattle.std.proofs.Common.{length-drop}
 use Rattle.std.specs.List.{All, Contains, flat_map}
 use Rattle.std.specs.Prelude.{slice_index}
 use Rattle.std.proofs.lemmas.List.Elements.{All-head, All-tail}
@@ -15,8 +19,9 @@ use Rattle.ascii.proofs.LinesLemmas.{LinesOf-lines_of}
 use Rattle.ascii.proofs.PiecesLemmas.{Free-from_absent}
 use Rattle.ascii_run.specs.declared.modes.Mode.TheVariants.{Lines}
 use Rattle.ascii_run.specs.ModeOutput.{IsOutput, with_line_feed}
+use Rattle.ascii_run.proofs.ListLemmas.{last_is}
 
--- a text with LF for each ending, and behind a last line that has none
+-- a text with LF for each ending, and after a last line that has none
 abbrev pub with_line_feeds : List ℕ → List ℕ
 with_line_feeds [] = []
 with_line_feeds (c ∷ []) = cond (eqb c 10) (c ∷ []) (c ∷ 10 ∷ [])
@@ -42,19 +47,11 @@ no_feed c other is = false≢true (sym other ∙ ap (λ x. eqb x 10) is)
 
 -- ---- the body of a line
 
--- the last code of a list of one
-last_one : (c : ℕ) → get_or (c ∷ []) (length (c ∷ []) - 1) 0 ≡ c
-last_one c = let n : length (c ∷ []) - 1 ≡ 0 = omega arith in ap (λ m. get_or (c ∷ []) m 0) n
-
--- the last code of a longer list
-last_is : (c d : ℕ) (cs : List ℕ) → get_or (c ∷ d ∷ cs) (length (c ∷ d ∷ cs) - 1) 0 ≡ get_or (d ∷ cs) (length (d ∷ cs) - 1) 0
-last_is c d cs = let n : length (c ∷ d ∷ cs) - 1 ≡ suc (length (d ∷ cs) - 1) = omega arith in ap (λ m. get_or (c ∷ d ∷ cs) m 0) n
-
 -- no CR at the end of a body before LF
 spliced : (body : List ℕ) (d : ℕ) (ds : List ℕ) → Free 10 body → (d ≡ 10 → get_or body (length body - 1) 0 ≡ 13 → ⊥)
     → with_line_feeds (body ++ d ∷ ds) ≡ body ++ with_line_feeds (d ∷ ds)
 spliced [] d ds free may = refl
-spliced (c ∷ []) d ds free may = keeps c d ds (λ at_cr at_lf. may at_lf (last_one c ∙ at_cr))
+spliced (c ∷ []) d ds free may = keeps c d ds (λ at_cr at_lf. may at_lf at_cr)
 spliced (c ∷ e ∷ es) d ds free may =
     let NoFeed : ℕ → Type 0 = λ code. eqb code 10 ≡ false in
     let rest = All-tail NoFeed c (e ∷ es) free in
@@ -181,7 +178,7 @@ pick false c = refl
 rest_by_end : (t : List ℕ) → t ≢ [] → Nowhere (OccursAt t end) 0 (length t + 1)
     → with_line_feeds t ≡ t ++ cond (eqb (get_or t (length t - 1) 0) 10) [] (10 ∷ [])
 rest_by_end [] some none = absurd (some refl)
-rest_by_end (c ∷ []) some none = pick (eqb c 10) c ∙ ap (λ code. c ∷ cond (eqb code 10) [] (10 ∷ [])) (sym (last_one c))
+rest_by_end (c ∷ []) some none = pick (eqb c 10) c
 rest_by_end (c ∷ d ∷ cs) some none =
     keeps c d cs (λ at_cr at_lf. none 0 (omega arith) (omega arith) (at_front c d cs at_cr at_lf))
     ∙ (ap (λ t. c ∷ t) (rest_by_end (d ∷ cs) (λ nil. cc) (λ j low high occurs. none (suc j) (omega arith) (omega (arith, high)) (before c (d ∷ cs) j occurs)))

@@ -18,14 +18,7 @@ use Rattle.ascii_run.specs.Engine.{WritesOutput}
 use Rattle.ascii_run.specs.OutputState.{AppendsBy, AppendsBytes, AppendsOutput, FinishOutcome}
 use Rattle.ascii_run.specs.OutputState.{MayFail, OutputState}
 use Rattle.ascii_run.specs.ModeOutput.{IsOutput}
-
--- what was sent of two pieces, and what of them the buffer holds
-joined : (sent more held mid before first second : List ℕ)
-    → sent ++ mid ≡ before ++ first → more ++ held ≡ mid ++ second
-    → (sent ++ more) ++ held ≡ before ++ (first ++ second)
-joined sent more held mid before first second one two =
-    append_assoc sent more held ∙ (ap (λ xs. sent ++ xs) two ∙ (sym (append_assoc sent mid second)
-    ∙ (ap (λ xs. xs ++ second) one ∙ append_assoc before first second)))
+use Rattle.ascii_run.proofs.ListLemmas.{append_two}
 
 -- one piece and then another
 appends_by : (p q r : Bool) (a b c : OutputState) (first second : List ℕ)
@@ -34,7 +27,7 @@ appends_by false false false a b c first second (sent, took, is, same)
     (more, took_more, is_more, same_more) = (
       sent ++ more,
       Appends-trans a.taken b.taken c.taken sent more took took_more,
-      joined sent more c.buffer.bytes b.buffer.bytes a.buffer.bytes first second is is_more,
+      append_two sent more c.buffer.bytes b.buffer.bytes a.buffer.bytes first second is is_more,
       same_more ∙ same,
     )
 appends_by false false true a b c first second (sent, took, is, same)
@@ -43,7 +36,7 @@ appends_by false false true a b c first second (sent, took, is, same)
         sent ++ more,
         others,
         Appends-trans a.taken b.taken c.taken sent more took took_more,
-        joined sent more others b.buffer.bytes a.buffer.bytes first second is is_more,
+        append_two sent more others b.buffer.bytes a.buffer.bytes first second is is_more,
       ),
       count ∙ ap (λ n. n + 1) same,
     )

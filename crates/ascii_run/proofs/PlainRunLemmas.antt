@@ -1,5 +1,7 @@
--- What a run of codes gives that are each shown as themselves. `plain` says that a code is one of these, and `shown` what a code is shown as.
-use Rattle.std.proofs.Common.{◌≡◌, ℕ, ◌+◌, ◌<◌, List, [], ◌∷◌, ◌++◌, length, take, get_or, append-nil, ap, arith, inl, inr, refl, sym, subst, ◌∙◌, length-take}
+-- What is shown of a run of codes that are each shown as themselves. `plain` says that a code is one
+-- of these, and `shown` what is shown of a code.
+use Rattle.std.proofs.Common.{◌≡◌, ℕ, ◌+◌, ◌<◌, List, [], ◌∷◌, ◌++◌, length, take, get_or}
+use Rattle.std.proofs.Common.{append-nil, ap, arith, inl, inr, refl, sym, subst, ◌∙◌, length-take}
 use Rattle.std.proofs.lemmas.Bool.Decides.{nat_tests}
 use Rattle.std.proofs.lemmas.Grind.{flat_map-append}
 use Rattle.std.proofs.lemmas.List.{get_or-take, take_more}

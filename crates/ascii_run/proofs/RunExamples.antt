@@ -7,7 +7,8 @@ use Rattle.ascii.specs.declared.ascii_str.AsciiStr.{AsciiStr}
 use Rattle.ascii.specs.View.{text_of}
 use Rattle.ascii_run.specs.declared.commands.Cmd.{Cmd}
 use Rattle.ascii_run.specs.declared.commands.Cmd.TheVariants as cmd
-use Rattle.ascii_run.specs.Step.{a_char, a_number, a_text, a_truth, bad_position, done, refused, too_many}
+use Rattle.ascii_run.specs.Step.{a_char, a_number, a_text, a_truth, bad_position, done, refused}
+use Rattle.ascii_run.specs.Step.{too_many}
 use Rattle.ascii_run.specs.Run.{IsFaultPlace, IsNoFault, plain_replies, plain_text}
 
 -- one command of each kind of reply, from `abc` to the empty text

@@ -6,7 +6,7 @@ use Rattle.ascii_run.specs.JsonText.{IsUnescaped, json_code}
 use Rattle.ascii_run.proofs.PlainRunLemmas.{json_plain, shown_all, shown_more}
 use Rattle.ascii_run.proofs.PageLemmas.{MayFail-still, AppendsBytes-is, AppendsBytes-nil}
 use Rattle.ascii_run.proofs.PageLemmas.{AppendsBytes-trans}
-use Rattle.ascii_run.proofs.SinkLemmas.{sent_more}
+use Rattle.ascii_run.proofs.ListLemmas.{sent_more}
 use Rattle.ascii_run.proofs.json_strings.put_by_forms.Goals as goal
 
 pub segments-init : goal.segments-init

@@ -5,7 +5,7 @@ use Rattle.ascii.specs.View.{text_of}
 use Rattle.ascii_run.specs.ModeOutput.{IsShown, caret_text}
 use Rattle.ascii_run.proofs.PlainRunLemmas.{caret_plain, shown_all, shown_more}
 use Rattle.ascii_run.proofs.PageLemmas.{MayFail-still, AppendsBytes-is, AppendsBytes-trans}
-use Rattle.ascii_run.proofs.SinkLemmas.{sent_more}
+use Rattle.ascii_run.proofs.ListLemmas.{sent_more}
 use Rattle.ascii_run.proofs.outputs.put_caret.Goals as goal
 
 pub segments-preserved : goal.segments-preserved

@@ -1,6 +1,6 @@
 use Rattle.std.proofs.Common.{◌++◌, ◌∙◌, take}
 use Rattle.std.proofs.KnownBytes.{Appends-trans}
-use Rattle.ascii_run.proofs.SinkLemmas.{sent_more}
+use Rattle.ascii_run.proofs.ListLemmas.{sent_more}
 use Rattle.ascii_run.proofs.page.write_each.Goals as goal
 
 pub writes-preserved : goal.writes-preserved
