@@ -65,6 +65,7 @@ impl<A: Allocator> Page<A> {
         ensures bytes { self.new.bytes ≡ self.old.bytes ++ bytes.now }
         ensures broken { self.new.is_broken ≡ self.old.is_broken }
     {
+        // Cannot fail, because there is room for the bytes.
         let _ = self.bytes.extend_from_slice(bytes);
     }
 
