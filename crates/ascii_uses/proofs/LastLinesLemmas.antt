@@ -1,15 +1,18 @@
 -- The last lines of a text, and the text before them.
-use Rattle.std.proofs.Common.{◌≡◌, ◌≢◌, ℕ, ◌+◌, ◌-◌, ◌<◌, List, [], ◌++◌, Option, None, Some, get_or, length, take, drop, refl, sym, ap, subst, ◌∙◌, arith}
+use Rattle.std.proofs.Common.{◌≡◌, ◌≢◌, ℕ, ◌+◌, ◌-◌, ◌<◌, List, [], ◌++◌, Option, None, Some}
+use Rattle.std.proofs.Common.{get_or, length, take, drop, sym, ap, subst, ◌∙◌, arith}
 use Rattle.std.specs.List.{All, Contains, flat_map}
 use Rattle.std.specs.Option.{UnwrapsOrElse}
-use Rattle.std.proofs.lemmas.List.{get_or-drop, get_or-take, length-drop, length-take, take-append-drop}
+use Rattle.std.proofs.lemmas.List.{get_or-drop, get_or-take, length-drop, length-take}
+use Rattle.std.proofs.lemmas.List.{take-append-drop}
 use Rattle.std.proofs.lemmas.List.Concat.{flat_map-append}
-use Rattle.std.proofs.lemmas.List.Elements.{All-drop, All-nil}
+use Rattle.std.proofs.lemmas.List.Elements.{All-drop}
 use Rattle.std.proofs.lemmas.List.Prefix.{front_rest}
 use Rattle.ascii.specs.declared.ascii_str.AsciiStr.{AsciiStr}
 use Rattle.ascii.specs.declared.iter.spans.Ending.TheVariants.{Absent}
 use Rattle.ascii.specs.Lines.{IsRemainderOfLines, Line, LinesOf, MayFollow, line_text}
 use Rattle.ascii.specs.View.{text_of}
+use Rattle.ascii.proofs.LinesLemmas.{LinesOf-lines_of}
 
 -- the first k lines and the others, one behind the other
 pub lines_joined : (text front : List ℕ) (lines : List Line) (k : ℕ) → LinesOf text lines → LinesOf front (take k lines)
@@ -40,18 +43,10 @@ lines_behind text front lines k of before = record {
   joined = sym (front_rest text front _ (sym (lines_joined text front lines k of before)));
 }
 
--- the empty text has no lines
-no_lines : LinesOf [] []
-no_lines = record {
-  bodies = All-nil (λ line. ¬ (Contains line.body 10));
-  endings = All-nil (λ line. MayFollow line.ending line.body);
-  ended = All-nil (λ line. line.ending ≢ Absent);
-  joined = refl;
-}
-
 -- the rest of lines, or the empty text where none is owed
 pub rest_or_nothing : (lines : List Line) (rest : Option AsciiStr) (view : AsciiStr) → IsRemainderOfLines lines rest
     → UnwrapsOrElse rest (λ v. text_of v ≡ []) view → LinesOf (text_of view) lines
 rest_or_nothing lines None view nothing empty =
-    subst (λ t. LinesOf t lines) (sym empty) (subst (λ ls. LinesOf [] ls) (sym nothing) no_lines)
+    subst (λ t. LinesOf t lines) (sym empty)
+    (subst (λ ls. LinesOf [] ls) (sym nothing) (LinesOf-lines_of []))
 rest_or_nothing lines (Some rest) view is same = subst (λ v. LinesOf (text_of v) lines) (sym same) is.0

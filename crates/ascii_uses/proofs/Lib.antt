@@ -2,7 +2,6 @@ pub mod HostLemmas
 pub mod LastLinesLemmas
 pub mod LineReaderLemmas
 pub mod ListLemmas
-pub mod LinesLemmas
 pub mod Relent
 pub mod ScreenLemmas
 pub mod SettingLemmas

@@ -10,9 +10,10 @@ use Rattle.std.proofs.lemmas.Grind.{flat_map-append}
 use Rattle.std.proofs.lemmas.List.{map-append, take_at}
 use Rattle.std.proofs.lemmas.List.Elements.{All-append, All-map, All-nil, All-take}
 use Rattle.ascii.specs.declared.iter.spans.Ending.TheVariants.{Absent}
-use Rattle.ascii_uses.proofs.LinesLemmas.{some_lines}
+use Rattle.ascii.specs.Found.{line_spans}
 use Rattle.ascii.specs.Lines.{Line, LinesOf, MayFollow, line_text}
 use Rattle.ascii.specs.Spans.{LineSpansOf, WithStart, items_of, line_size, with_starts}
+use Rattle.ascii.proofs.SpansLemmas.{line_spans_found}
 use Rattle.ascii_uses.specs.declared.line_reader.LineFault.{LineFault}
 use Rattle.ascii_uses.specs.declared.line_reader.LineFault.TheVariants.{TooLong, Read}
 use Rattle.ascii_uses.specs.declared.line_reader.LineReader.{LineReader}
@@ -135,15 +136,11 @@ told_parts None left read told is gave = absurd (let e : None ≡ Some told = is
 told_parts (Some xs) None read told is gave = absurd gave
 told_parts (Some xs) (Some ys) read told is gave = (ys, (let e : Some xs ≡ Some told = is in let same : xs ≡ told = cc in sym same ∙ gave), λ none. none)
 
-items-with_starts : (s : ℕ) (lines : List Line) → items_of (with_starts line_size s lines) ≡ lines
-items-with_starts s [] = refl
-items-with_starts s (line ∷ lines) = ap (λ ls. line ∷ ls) (items-with_starts (s + line_size line) lines)
-
-some_spans : (s : ℕ) (text : List ℕ) → (spans : List (WithStart Line)) × LineSpansOf s text spans
+some_spans : (s : ℕ) (text : List ℕ)
+    → (spans : List (WithStart Line)) × LineSpansOf s text spans
 some_spans s text =
-    let found = some_lines text in
-    let is = sym (items-with_starts s found.0) in
-    (with_starts line_size s found.0, record { lines = subst (LinesOf text) is found.1; starts = ap (with_starts line_size s) is })
+    let part : WithStart (List ℕ) = record { start = s; item = text } in
+    (line_spans part, line_spans_found part)
 
 going_is_not_done : (reading : ReaderState) → reading.stage ≡ Open → IsDone reading → ⊥
 going_is_not_done reading going done = let ended : reading.stage ≡ Ended = done.ended in cc

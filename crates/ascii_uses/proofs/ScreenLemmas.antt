@@ -10,17 +10,18 @@ use Rattle.ascii_uses.specs.Screen.{IsNoWider, cell, column_after, rendered, scr
 
 -- a character that takes a column
 abbrev pub Inked : ℕ → Type 0
-Inked n = (32 ≤ n) × (n ≡ 127 → ⊥)
+Inked n = (32 ≤ n) × (n ≢ 127)
 
 inked_other : (n : ℕ) → Inked n → n ≢ 10
 inked_other n inked is = omega (arith, inked.0)
 
-one_inked : (n : ℕ) → 32 ≤ n → (n ≡ 127 → ⊥) → All Inked (n ∷ [])
+one_inked : (n : ℕ) → 32 ≤ n → (n ≢ 127) → All Inked (n ∷ [])
 one_inked n low high = All-cons Inked n [] (low, high) (All-nil Inked)
 
 -- ---- cells
 
-caret_inked_by : (n : ℕ) → n ≢ 10 → (n < 32) ⊎ (32 ≤ n) → (n ≡ 127) ⊎ (n ≡ 127 → ⊥) → All Inked (caret_text n)
+caret_inked_by : (n : ℕ) → n ≢ 10 → (n < 32) ⊎ (32 ≤ n) → (n ≡ 127) ⊎ (n ≢ 127)
+    → All Inked (caret_text n)
 caret_inked_by n other (inl low) delete =
     let is : caret_text n ≡ 94 ∷ (n + 64) ∷ [] = grind (arith, nat_tests) in
     subst (All Inked) (sym is) (All-cons Inked 94 ((n + 64) ∷ []) (omega arith, λ is. omega arith) (one_inked (n + 64) (omega arith) (λ is. omega (arith, low))))
@@ -40,7 +41,7 @@ runs_inked (suc n) = All-cons Inked 32 (spaces n) (omega arith, λ is. omega ari
 spaces_inked : All Inked (codes "        ")
 spaces_inked = runs_inked 8
 
-cell_inked_by : (w c n : ℕ) → n ≢ 10 → (n ≡ 9) ⊎ (n ≡ 9 → ⊥) → All Inked (cell w c n)
+cell_inked_by : (w c n : ℕ) → n ≢ 10 → (n ≡ 9) ⊎ (n ≢ 9) → All Inked (cell w c n)
 cell_inked_by w c n other (inl is) = subst (λ m. All Inked (cell w c m)) (sym is) (All-take Inked (min (8 - c % 8) (w - c)) (codes "        ") spaces_inked)
 cell_inked_by w c n other (inr no_tab) =
     let is : cell w c n ≡ caret_text n = grind (arith, nat_tests) in
@@ -52,7 +53,7 @@ cell_inked w c n other = cell_inked_by w c n other (cases_eq n 9)
 caret_short : (n : ℕ) → length (caret_text n) ≤ 2
 caret_short n = grind (arith, nat_tests)
 
-cell_fits_by : (w n : ℕ) → 2 ≤ w → (n ≡ 9) ⊎ (n ≡ 9 → ⊥) → length (cell w 0 n) ≤ w
+cell_fits_by : (w n : ℕ) → 2 ≤ w → (n ≡ 9) ⊎ (n ≢ 9) → length (cell w 0 n) ≤ w
 cell_fits_by w n wide (inl is) = subst (λ m. length (cell w 0 m) ≤ w) (sym is) (omega (arith, length-take (min 8 (w - 0)) (codes "        ")))
 cell_fits_by w n wide (inr no_tab) =
     let is : cell w 0 n ≡ caret_text n = grind (arith, nat_tests) in
@@ -123,7 +124,8 @@ good_inked w c cs all fits = record {
   quiet = inked_shown cs all;
 }
 
-good_shown_by : (w c n : ℕ) → 2 ≤ w → c ≤ w → (n ≡ 10) ⊎ (n ≡ 10 → ⊥) → (w < c + length (cell w c n)) ⊎ (c + length (cell w c n) ≤ w) → IsGood w c (rendered w c n)
+good_shown_by : (w c n : ℕ) → 2 ≤ w → c ≤ w → (n ≡ 10) ⊎ (n ≢ 10)
+    → (w < c + length (cell w c n)) ⊎ (c + length (cell w c n) ≤ w) → IsGood w c (rendered w c n)
 good_shown_by w c n wide inside (inl is) fit = subst (λ m. IsGood w c (rendered w c m)) (sym is) (record {
   within = inl (refl, tt);
   column = omega arith;
@@ -194,7 +196,7 @@ narrow_within w c line (x ∷ text) size free narrow = ⊎_elim
     inr (other, omega (arith, length_is, fits), narrow_within w (c + 1) (line ++ x ∷ []) text length_is longer (subst (IsNoWider w) (sym joined) narrow)))
     (cases_eq x 10)
 
-plain_cell_by : (w c n : ℕ) → 32 ≤ n → (n ≡ 127 → ⊥) → cell w c n ≡ n ∷ []
+plain_cell_by : (w c n : ℕ) → 32 ≤ n → (n ≢ 127) → cell w c n ≡ n ∷ []
 plain_cell_by w c n low high = grind (arith, nat_tests)
 
 plain_next : (w c x : ℕ) (text : List ℕ) → x ≢ 10 → c + 1 ≤ w → IsShown x → screen_text w (c + 1) text ≡ text → screen_text w c (x ∷ text) ≡ x ∷ text

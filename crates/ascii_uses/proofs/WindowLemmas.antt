@@ -1,27 +1,23 @@
 -- A first LF among the bytes of a buffer, and what stands behind them after a read.
-use Rattle.std.proofs.Common.{◌≡◌, ◌≢◌, ℕ, ◌+◌, ◌-◌, ◌<◌, ◌≤◌, List, ◌++◌, length, get_or, take, drop, None, Some, Option, MatchOption, unwrap_or, sym, ap, subst, ◌∙◌, arith, eq-eqb, eqb-true, inl, inr, length-take, length-drop}
+use Rattle.std.proofs.Common.{◌≡◌, ◌≢◌, ℕ, ◌+◌, ◌-◌, ◌<◌, ◌≤◌, List, ◌++◌, length, get_or, take}
+use Rattle.std.proofs.Common.{drop, None, Some, Option, MatchOption, unwrap_or, sym, ap, subst, ◌∙◌}
+use Rattle.std.proofs.Common.{arith, eq-eqb, eqb-true, inl, inr}
 use Rattle.std.specs.List.{slice_range}
 use Rattle.std.specs.Str.{IsAscii}
 use Rattle.std.proofs.Math.Seq.{take-add}
 use Rattle.std.proofs.lemmas.Bool.{cases_lt}
-use Rattle.std.proofs.lemmas.List.{drop-drop, get_or-drop, get_or-take, take_at}
+use Rattle.std.proofs.lemmas.List.{drop-drop, get_or-take, take_at}
 use Rattle.std.proofs.lemmas.Slice.{between_is}
 use Rattle.ascii_base.specs.Bytes.{FirstOther}
+use Rattle.ascii.proofs.SliceLemmas.{length-slice_range, slice_range-at}
 use Rattle.memchr.specs.Find.{IsFirstByte, is_byte}
 use Rattle.ascii_uses.specs.Window.{EndsLine, FreeUpTo, IsLaidOut}
 
--- a byte of a part
-pub at_part : (bytes : List ℕ) (s e k : ℕ) → k < e - s → get_or (slice_range bytes s e) k 0 ≡ get_or bytes (s + k) 0
-at_part bytes s e k inside = get_or-take (e - s) (drop s bytes) k 0 inside ∙ get_or-drop s bytes k 0
-
--- and by its place in the whole
+-- a byte of a part, by its place in the whole
 at_place : (bytes : List ℕ) (s e k : ℕ) → s ≤ k → k < e → get_or (slice_range bytes s e) (k - s) 0 ≡ get_or bytes k 0
 at_place bytes s e k low high =
     let same : s + (k - s) ≡ k = omega arith in
-    at_part bytes s e (k - s) (omega arith) ∙ ap (λ j. get_or bytes j 0) same
-
-pub length_part : (bytes : List ℕ) (s e : ℕ) → e ≤ length bytes → length (slice_range bytes s e) ≡ e - s
-length_part bytes s e inside = omega (arith, length-take (e - s) (drop s bytes), length-drop s bytes)
+    slice_range-at bytes s e (k - s) (omega arith) ∙ ap (λ j. get_or bytes j 0) same
 
 -- ---- a search for LF
 
@@ -34,18 +30,21 @@ module _ (bytes : List ℕ) (given from searched checked filled : ℕ) (laid : I
   free_behind none k low high = λ is. elim (cases_lt k searched) [
     | inl before ↦ laid.free k low before is
     | inr after ↦
-        let long = length_part bytes searched checked (omega (arith, laid.then_checked, laid.inside)) in
+        let long = length-slice_range bytes searched checked low_end
+        (omega (arith, laid.then_checked, laid.inside)) in
         none (k - searched) (omega arith) (omega (arith, after, high, long)) (eq-eqb _ _ (at_place bytes searched checked k after high ∙ is))
   ]
 
   pub free_all : IsFirstByte (is_byte 10) (slice_range bytes searched checked) None → FreeUpTo (slice_range bytes from filled) (checked - from)
   free_all none k inside = λ is.
-      free_behind none (from + k) (omega arith) (omega (arith, inside)) (sym (at_part bytes from filled k (omega (arith, inside, laid.then_checked))) ∙ is)
+      free_behind none (from + k) (omega arith) (omega (arith, inside))
+      (sym (slice_range-at bytes from filled k (omega (arith, inside, laid.then_checked))) ∙ is)
 
   pub ends_line : (place : ℕ) → IsFirstByte (is_byte 10) (slice_range bytes searched checked) (Some place)
       → (searched + place + 1 - from ≤ checked - from) × EndsLine (slice_range bytes from filled) (searched + place + 1 - from)
   ends_line place found =
-      let long = length_part bytes searched checked (omega (arith, laid.then_checked, laid.inside)) in
+      let long = length-slice_range bytes searched checked low_end
+      (omega (arith, laid.then_checked, laid.inside)) in
       let high : searched + place < checked = omega (arith, found.0.high, long, low_end) in
       let part : searched + place - searched ≡ place = omega arith in
       let here : get_or bytes (searched + place) 0 ≡ 10 =
@@ -58,7 +57,9 @@ module _ (bytes : List ℕ) (given from searched checked filled : ℕ) (laid : I
           feed = ap (λ j. get_or (slice_range bytes from filled) j 0) last
               ∙ (at_place bytes from filled (searched + place) (omega (arith, laid.then_from)) (omega (arith, high, laid.then_checked)) ∙ here);
           free = λ k before is.
-              let at : get_or bytes (from + k) 0 ≡ 10 = sym (at_part bytes from filled k (omega (arith, before, high, laid.then_checked))) ∙ is in
+              let short : k < filled - from = omega (arith, before, high, laid.then_checked) in
+              let at : get_or bytes (from + k) 0 ≡ 10 =
+              sym (slice_range-at bytes from filled k short) ∙ is in
               elim (cases_lt (from + k) searched) [
                 | inl early ↦ laid.free (from + k) (omega arith) early at
                 | inr late ↦
@@ -102,10 +103,11 @@ module _ (old new : List ℕ) (filled : ℕ) (front : take filled new ≡ take f
     λ less. absurd (omega (arith, less, is)),
   )
   under_first n under (Some place) within is first =
-      let long = length_part new filled (filled + n) within in
+      let long = length-slice_range new filled (filled + n) (omega arith) within in
       let inside : place < n = omega (arith, first.inside, long) in
       let at : get_or (slice_range new filled (filled + n)) place 0 ≡ get_or new (filled + under) 0 =
-      at_part new filled (filled + n) place (omega (arith, inside)) ∙ ap (λ j. get_or new (filled + j) 0) (sym is) in (
+      slice_range-at new filled (filled + n) place (omega (arith, inside))
+      ∙ ap (λ j. get_or new (filled + j) 0) (sym is) in (
         omega (arith, is, inside),
         λ k low high. subst (λ x. x < 128) (at_place new filled (filled + n) k low (omega (arith, high, is, inside))) (first.least (k - filled) (omega arith) (omega (arith, high, is, low))),
         λ less. elim (cases_lt (get_or new (filled + under) 0) 128) [

@@ -1,6 +1,6 @@
-use Rattle.std.proofs.Common.{Ok, None, Some, ◌≡◌, ◌++◌, ◌∷◌, [], map, ap, sym, subst, ◌∙◌}
+use Rattle.std.proofs.Common.{Ok, ◌≡◌, ◌++◌, ◌∷◌, [], map, ap, sym, subst, ◌∙◌}
 use Rattle.std.proofs.lemmas.List.{map-append}
-use Rattle.ascii_uses.specs.declared.line_reader.LineFault.{LineFault}
+use Rattle.std.proofs.lemmas.Option.{none-some}
 use Rattle.ascii_uses.specs.KeptLines.{kept_line_in}
 use Rattle.ascii_uses.specs.LineReader.{YieldsLines, state_of_reader}
 use Rattle.ascii_uses.proofs.LineReaderLemmas.{first_lines, one_more}
@@ -19,13 +19,10 @@ lines-preserved g c =
     ap (map kept_line_in) c.in_ok-push-in-Ok-Some.ensures.items ∙ map-append kept_line_in c.lines.lines.items (kept ∷ []) in
     (subst (λ lines. YieldsLines old lines new) (sym is) more.0, more.1 ∙ c.lines.invariant.1)
 
-some_is_none : (fault : LineFault) → Some fault ≡ None → ⊥
-some_is_none fault is = cc
-
 pub returns-in-Err-clause-first : goal.returns-in-Err-clause-first
 returns-in-Err-clause-first g c =
     let old = state_of_reader g.S.Source.rest g.S.Source.failures c.args.reader.now in
     let before = state_of_reader g.S.Source.rest g.S.Source.failures c.lines.reader in
     λ told is.
     let first = first_lines old before (map kept_line_in c.lines.lines.items) told is c.lines.invariant.0 in
-    (first.0, first.1, λ none. absurd (some_is_none c.in-Err.fault none))
+    (first.0, first.1, λ none. absurd (none-some c.in-Err.fault (sym none)))

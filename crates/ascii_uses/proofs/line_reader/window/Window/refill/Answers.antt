@@ -1,7 +1,8 @@
-use Rattle.std.proofs.Common.{◌≡◌, ◌+◌, ◌-◌, ◌++◌, arith, sym, ap, subst, ◌∙◌, take, drop, length}
+use Rattle.std.proofs.Common.{◌≡◌, ◌≤◌, ◌+◌, ◌-◌, ◌++◌, arith, sym, ap, subst, ◌∙◌, take, drop, length}
 use Rattle.std.specs.List.{slice_range}
 use Rattle.ascii_uses.specs.Window.{Buffered, IsLaidOut}
-use Rattle.ascii_uses.proofs.WindowLemmas.{held_more, length_part, refilled, written}
+use Rattle.ascii.proofs.SliceLemmas.{length-slice_range}
+use Rattle.ascii_uses.proofs.WindowLemmas.{held_more, refilled, written}
 use Rattle.ascii_uses.proofs.line_reader.window.Window.refill.Goals as goal
 
 -- the bytes of the vector after the read
@@ -23,7 +24,10 @@ invariant_of-self-2 g c =
     let laid = c.self.invariant in
     let checked : i.checked - i.from ≡ length (slice_range i.bytes.items i.from i.filled) =
     ap (λ (w : Buffered). w.checked) c.self.view_is ∙ (c.move_to_front.ensures.checked ∙ (c.requires.checked ∙ sym (ap length (held g c)))) in
-    let all : i.checked ≡ i.filled = omega (arith, checked, length_part i.bytes.items i.from i.filled laid.inside, laid.then_from, laid.then_searched, laid.then_checked) in
+    let low : i.from ≤ i.checked = omega (arith, laid.then_from, laid.then_searched) in
+    let ordered : i.from ≤ i.filled = omega (arith, low, laid.then_checked) in
+    let long = length-slice_range i.bytes.items i.from i.filled ordered laid.inside in
+    let all : i.checked ≡ i.filled = omega (arith, checked, long, low, ordered) in
     let was : IsLaidOut i.bytes.items i.given i.from i.searched i.filled i.filled = subst (λ k. IsLaidOut i.bytes.items i.given i.from i.searched k i.filled) all laid in
     let read = rw (c.deref.ensures.value, put_back g c) at c.first_other.ensures in
     rw (put_back g c) (refilled i.bytes.items c.read_behind.new.bytes i.filled (front g c) i.given i.from i.searched c.in_ok-n.n c.unwrap_or.result c.first_other.result was
@@ -36,7 +40,11 @@ returns-clause-bytes g c =
     let new = c.read_behind.new.bytes in
     let laid = c.self.invariant in (
       slice_range new i.filled (i.filled + n),
-      omega (arith, length_part new i.filled (i.filled + n) c.in_ok-n.ensures.within),
+      omega (
+        arith,
+        length-slice_range new i.filled (i.filled + n) (omega arith)
+            c.in_ok-n.ensures.within,
+      ),
       c.in_ok-n.ensures.bytes,
       rw (put_back g c) (held_more i.bytes.items new i.filled (front g c) i.from n (omega (arith, laid.then_from, laid.then_searched, laid.then_checked))
           ∙ ap (λ xs. xs ++ slice_range new i.filled (i.filled + n)) (held g c)),
