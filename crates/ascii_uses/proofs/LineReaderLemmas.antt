@@ -19,31 +19,31 @@ use Rattle.ascii_uses.specs.declared.line_reader.LineFault.TheVariants.{TooLong,
 use Rattle.ascii_uses.specs.declared.line_reader.LineReader.{LineReader}
 use Rattle.ascii_uses.specs.declared.line_reader.ReadLine.{ReadLine}
 use Rattle.ascii_uses.specs.declared.line_reader.Stage.TheVariants.{Open, Ended}
-use Rattle.ascii_uses.specs.LineReader.{YieldsLines, IsDone, IsText, Next, NextFrom, ReaderState, Stops, read_line_in, state_of_reader}
+use Rattle.ascii_uses.specs.LineReader.{YieldsLines, IsDone, IsHeldThenRead, Next, NextFrom, ReaderState, IsLineFault, read_line_in, state_of_reader}
 use Rattle.ascii_uses.specs.Window.{FreeUpTo}
 
 -- a text is read in two parts
-pub IsText-more : (held : List ℕ) (rest mid left : Option (List ℕ)) (text more : List ℕ) → IsText held rest mid text → Consumes mid left more → IsText held rest left (text ++ more)
-IsText-more held rest mid left text more first then =
+pub IsHeldThenRead-more : (held : List ℕ) (rest mid left : Option (List ℕ)) (text more : List ℕ) → IsHeldThenRead held rest mid text → Consumes mid left more → IsHeldThenRead held rest left (text ++ more)
+IsHeldThenRead-more held rest mid left text more first then =
     (first.0 ++ more, Consumes-trans rest mid left first.0 more first.1 then, ap (λ xs. xs ++ more) first.2 ∙ append_assoc held first.0 more)
 
 -- ---- a line that fills the buffer
 
 -- what is value_of_reply where no LF and no byte over 127 is held and there is no room
 pub full : (start size : ℕ) (held text : List ℕ) (rest mid left : Option (List ℕ)) (result : Result (Option ℕ) LineFault)
-    → IsText held rest mid text → length text ≡ size → IsAscii text → FreeUpTo text size
+    → IsHeldThenRead held rest mid text → length text ≡ size → IsAscii text → FreeUpTo text size
     → IfErr result (λ fault. (fault ≡ Read) ⊎ ((fault ≡ TooLong start) × ((byte : ℕ) × Consumes mid left (byte ∷ []))))
-    → IfErr result (Stops start size held rest left)
+    → IfErr result (IsLineFault start size held rest left)
 full start size held text rest mid left (Ok found) is long ascii free told = tt
 full start size held text rest mid left (Err fault) is long ascii free told = elim told [
-  | inl failed ↦ subst (Stops start size held rest left) (sym failed) tt
+  | inl failed ↦ subst (IsLineFault start size held rest left) (sym failed) tt
   | inr more ↦
       let byte = more.1.0 in
       let all = text ++ byte ∷ [] in
       let front : take size all ≡ text = take_at text (byte ∷ []) size long in
-      subst (Stops start size held rest left) (sym more.0) (
+      subst (IsLineFault start size held rest left) (sym more.0) (
         all,
-        IsText-more held rest mid left text (byte ∷ []) is more.1.1,
+        IsHeldThenRead-more held rest mid left text (byte ∷ []) is more.1.1,
         (refl, omega (arith, length-append text (byte ∷ []), long), subst IsAscii (sym front) ascii, λ k inside here. free k inside (sym (get_or-append text (byte ∷ []) 0 k (omega (arith, inside, long))) ∙ here)),
       )
 ]

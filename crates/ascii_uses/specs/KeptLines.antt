@@ -7,7 +7,7 @@ use Rattle.ascii_uses.specs.declared.line_reader.LineFault.{LineFault}
 use Rattle.ascii_uses.specs.declared.line_reader.kept.KeptLine.{KeptLine}
 use Rattle.ascii_uses.specs.declared.line_reader.kept.KeptLines.{KeptLines}
 use Rattle.ascii_uses.specs.declared.line_reader.Stage.TheVariants.{Refused}
-use Rattle.ascii_uses.specs.LineReader.{YieldsLines, IsDone, ReaderState, Stops}
+use Rattle.ascii_uses.specs.LineReader.{YieldsLines, IsDone, ReaderState, IsLineFault}
 
 -- a `KeptLine` as a line with its start
 abbrev pub kept_line_in : KeptLine → WithStart Line
@@ -25,7 +25,7 @@ abbrev pub YieldsUntil
 YieldsUntil old lines None new = YieldsLines old lines new × IsDone new
 YieldsUntil old lines (Some fault) new = (new.stage ≡ Refused fault)
     × ((before : ReaderState) × YieldsLines old lines before
-    × Stops before.start before.size before.held before.rest new.rest fault)
+    × IsLineFault before.start before.size before.held before.rest new.rest fault)
 
 -- if it is known which bytes the source of a reader in the state `old` has yet to give, `lines` are
 -- the first lines of these and of the bytes held, and with no fault they are all of their lines

@@ -12,7 +12,7 @@ use Rattle.ascii.specs.Lines.{Line}
 use Rattle.ascii.specs.Spans.{LineSpansOf, WithStart, line_size}
 use Rattle.ascii.specs.View.{text_of}
 use Rattle.ascii_base.specs.Bytes.{FirstOther}
-use Rattle.ascii_uses.specs.Window.{Buffered, EndsLine, FreeUpTo}
+use Rattle.ascii_uses.specs.Window.{WindowState, EndsLine, FreeUpTo}
 use Rattle.ascii_uses.specs.declared.line_reader.LineFault.{LineFault}
 use Rattle.ascii_uses.specs.declared.line_reader.LineFault.TheVariants.{NotAscii, TooLong, TooFar}
 use Rattle.ascii_uses.specs.declared.line_reader.LineFault.TheVariants.{Read}
@@ -65,8 +65,9 @@ read_line_in line =
 
 -- `text` is the bytes `held`, and after them those that the source gave, which had yet to give
 -- `rest` before and `left` after
-abbrev pub IsText : List ℕ → Option (List ℕ) → Option (List ℕ) → List ℕ → Type 0
-IsText held rest left text = (read : List ℕ) × Consumes rest left read × (text ≡ held ++ read)
+abbrev pub IsHeldThenRead : List ℕ → Option (List ℕ) → Option (List ℕ) → List ℕ → Type 0
+IsHeldThenRead held rest left text =
+    (read : List ℕ) × Consumes rest left read × (text ≡ held ++ read)
 
 -- the reader has ended: it holds no bytes, and its source is at its end
 pub record IsDone (reading : ReaderState) : Type 0 where
@@ -80,7 +81,7 @@ pub record IsDone (reading : ReaderState) : Type 0 where
 pub record YieldsLines (old : ReaderState) (lines : List (WithStart Line)) (new : ReaderState)
     : Type 0 where
   pub handed : List ℕ
-  pub text : IsText old.held old.rest new.rest (handed ++ new.held)
+  pub text : IsHeldThenRead old.held old.rest new.rest (handed ++ new.held)
   pub exact : LineSpansOf old.start handed lines
   pub start : new.start ≡ old.start + length handed
   pub whole :
@@ -93,22 +94,22 @@ pub record YieldsLines (old : ReaderState) (lines : List (WithStart Line)) (new 
 -- line has more bytes than the buffer, of which the first `size` are ASCII; the fault holds its
 -- position. `TooFar`: the line has a byte at the position 2 ^ 64 - 1 or after it. `Read` says
 -- nothing of `text`
-abbrev pub Rejects : ℕ → ℕ → List ℕ → LineFault → Type 0
-Rejects start size text (NotAscii place) = (i : ℕ) × (place ≡ start + i) × (i < size)
+abbrev pub RejectsLine : ℕ → ℕ → List ℕ → LineFault → Type 0
+RejectsLine start size text (NotAscii place) = (i : ℕ) × (place ≡ start + i) × (i < size)
     × FirstOther text 0 (length text) i × FreeUpTo text i
-Rejects start size text (TooLong place) =
+RejectsLine start size text (TooLong place) =
     (place ≡ start) × (size < length text) × IsAscii (take size text) × FreeUpTo text size
-Rejects start size text TooFar =
+RejectsLine start size text TooFar =
     (n : ℕ) × (n ≤ length text) × FreeUpTo text (n - 1) × (2 ^ 64 - 1 < start + n)
-Rejects start size text Read = ⊤
+RejectsLine start size text Read = ⊤
 
 -- why a reader stops that held the bytes `held`. `Read` says nothing of the bytes that the source
--- gave. For another fault, `Rejects` is true of these and of the bytes held
-abbrev pub Stops
+-- gave. For another fault, `RejectsLine` is true of these and of the bytes held
+abbrev pub IsLineFault
     : ℕ → ℕ → List ℕ → Option (List ℕ) → Option (List ℕ) → LineFault → Type 0
-Stops start size held rest left Read = ⊤
-Stops start size held rest left fault =
-    (text : List ℕ) × IsText held rest left text × Rejects start size text fault
+IsLineFault start size held rest left Read = ⊤
+IsLineFault start size held rest left fault =
+    (text : List ℕ) × IsHeldThenRead held rest left text × RejectsLine start size text fault
 
 -- the failures of the source after a call that returns this, of `n` before: one more if the call
 -- returns `Read`, unless `n` is 2 ^ 64 - 1
@@ -124,7 +125,7 @@ YieldsNext old (Ok (Some line)) new =
     YieldsLines old (read_line_in line ∷ []) new × (line_size (read_line_in line).item ≤ old.size)
 YieldsNext old (Ok None) new = YieldsLines old [] new × IsDone new
 YieldsNext old (Err fault) new = (new.stage ≡ Refused fault)
-    × Stops old.start old.size old.held old.rest new.rest fault
+    × IsLineFault old.start old.size old.held old.rest new.rest fault
 
 module _ {S Z : Type 0} (rest : S → Option (List ℕ)) (failures : S → ℕ) where
   -- what a reader at a stage returns. At `Open`, `YieldsNext` says what, and `failures_after` how
@@ -156,37 +157,37 @@ error_at start i = if nat_lt (start + i) (2 ^ 64) then NotAscii (start + i) else
 
 -- what a search for the end of a line finds. `None`: the source is at its end, and the buffer holds
 -- no LF and only ASCII. `Some`: the number of bytes up to the first LF, which are all ASCII
-abbrev pub Finds : Buffered → Option (List ℕ) → Option ℕ → Type 0
-Finds window left None = IsAtEnd left × FreeUpTo window.held (length window.held)
+abbrev pub FindsLineEnd : WindowState → Option (List ℕ) → Option ℕ → Type 0
+FindsLineEnd window left None = IsAtEnd left × FreeUpTo window.held (length window.held)
     × (window.checked ≡ length window.held)
-Finds window left (Some n) = (n ≤ window.checked) × EndsLine window.held n
+FindsLineEnd window left (Some n) = (n ≤ window.checked) × EndsLine window.held n
 
 -- the bytes taken last are all that was left, without LF, and the source is at its end (`true`); or
 -- they end in their only LF (`false`)
-abbrev pub IsTaken : Bool → Buffered → Option (List ℕ) → Type 0
-IsTaken true window left =
+abbrev pub IsLineTaken : Bool → WindowState → Option (List ℕ) → Type 0
+IsLineTaken true window left =
     (window.held ≡ []) × IsAtEnd left × FreeUpTo window.given (length window.given)
-IsTaken false window left = EndsLine window.given (length window.given)
+IsLineTaken false window left = EndsLine window.given (length window.given)
 
 -- the bytes of the line at the position `start` were taken from the buffer. They end at the
 -- position `place`, and `is_last` tells whether the source is at its end
-pub record Takes (start : ℕ) (old new : Buffered) (rest left : Option (List ℕ)) (place : ℕ)
+pub record TakesLine (start : ℕ) (old new : WindowState) (rest left : Option (List ℕ)) (place : ℕ)
     (is_last : Bool) : Type 0 where
-  pub text : IsText old.held rest left (new.given ++ new.held)
+  pub text : IsHeldThenRead old.held rest left (new.given ++ new.held)
   pub place_is : place ≡ start + length new.given
-  pub taken : IsTaken is_last new left
+  pub taken : IsLineTaken is_last new left
 
 -- the outcome of taking the bytes of the next line, which are `given`. `true`: they are one line,
 -- and fit in the buffer. `false`: there are no more lines. `Err`: the reader has stopped, and why
 abbrev pub Advances : ReaderState → Result Bool LineFault → ReaderState → List ℕ → Type 0
 Advances old (Ok true) new given =
-    IsText old.held old.rest new.rest (given ++ new.held)
+    IsHeldThenRead old.held old.rest new.rest (given ++ new.held)
     × (new.start ≡ old.start + length given) × (new.size ≡ old.size)
     × IsOneLine given × (length given ≤ old.size)
     × (((new.stage ≡ Open) × EndsLine given (length given)) ⊎ IsDone new)
 Advances old (Ok false) new given = YieldsLines old [] new × IsDone new
 Advances old (Err fault) new given = (new.stage ≡ Refused fault)
-    × Stops old.start old.size old.held old.rest new.rest fault
+    × IsLineFault old.start old.size old.held old.rest new.rest fault
 
 module _ {S Z : Type 0} (rest : S → Option (List ℕ)) (failures : S → ℕ) where
   -- the outcome of taking the bytes of the next line, at a stage. At `Open`, `Advances` says which.

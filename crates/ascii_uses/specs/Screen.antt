@@ -6,18 +6,19 @@ use Rattle.ascii_run.specs.ModeOutput.{IsShown, caret_text}
 
 -- the output for a code that is not LF, if it has room at `column`: for a tab, spaces up to the
 -- next column that 8 divides or to the edge of the screen; otherwise its caret form
-abbrev pub cell : ℕ → ℕ → ℕ → List ℕ
-cell width column code =
+abbrev pub cell_text : ℕ → ℕ → ℕ → List ℕ
+cell_text width column code =
     if code == 9 then take (min (8 - column % 8) (width - column)) (codes "        ")
     else caret_text code
 
 -- the output for a code at `column`: for LF, itself; otherwise its cell, on a new line if it has no
 -- room on this one
-abbrev pub rendered : ℕ → ℕ → ℕ → List ℕ
-rendered width column code =
+abbrev pub char_on_screen : ℕ → ℕ → ℕ → List ℕ
+char_on_screen width column code =
     if code == 10 then codes "\n"
-    else (if nat_le (column + length (cell width column code)) width then cell width column code
-    else codes "\n" ++ cell width 0 code)
+    else (if nat_le (column + length (cell_text width column code)) width
+    then cell_text width column code
+    else codes "\n" ++ cell_text width 0 code)
 
 -- the column after output that starts at `column`: 0 after LF, one more after each other code
 abbrev pub column_after : ℕ → List ℕ → ℕ
@@ -29,8 +30,8 @@ column_after column (code ∷ codes) =
 -- the output before it ends at
 abbrev pub screen_text : ℕ → ℕ → List ℕ → List ℕ
 screen_text width column [] = []
-screen_text width column (code ∷ codes) = rendered width column code
-    ++ screen_text width (column_after column (rendered width column code)) codes
+screen_text width column (code ∷ codes) = char_on_screen width column code
+    ++ screen_text width (column_after column (char_on_screen width column code)) codes
 
 -- every part of `out` with no LF in it has at most `width` codes
 abbrev pub IsNoWider : ℕ → List ℕ → Type 0

@@ -3,7 +3,7 @@ use Rattle.std.specs.Prelude.{◌≡◌, ◌≢◌, ℕ, ◌-◌, ◌<◌, ◌�
 
 -- what contracts see of a buffer: its size; the bytes taken last; the bytes that it holds; how many
 -- of these, from the first, are known to be less than 128; the room after them
-pub record Buffered : Type 0 where
+pub record WindowState : Type 0 where
   pub size : ℕ
   pub given : List ℕ
   pub held : List ℕ

@@ -129,7 +129,11 @@ pub fn push_upper(string: &mut AsciiString, view: AsciiStr<'_>) -> Result<(), Al
 }
 
 /// The text of a view without its separators.
-pub fn without(alloc: Global, view: AsciiStr<'_>, on: AsciiChar) -> Result<AsciiString, AllocError>
+pub fn without_separators(
+    alloc: Global,
+    view: AsciiStr<'_>,
+    on: AsciiChar,
+) -> Result<AsciiString, AllocError>
     ensures { IfOk result (λ string.
         OfPieces view.entry on (λ pieces. string.text ≡ flat_map (λ piece. piece) pieces)) }
 {

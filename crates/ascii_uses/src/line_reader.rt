@@ -5,8 +5,8 @@ ghost use Rattle.std.specs.Prelude.{length, ℕ};
 ghost use Rattle.std.specs.Io.KnownBytes.{Consumes, IsAtEnd};
 ghost use Rattle.std.specs.Str.{IsAscii};
 ghost use Rattle.ascii.specs.Spans.{LineSpansOf, line_size};
-ghost use Rattle.ascii_uses.specs.LineReader.{Finds, IsOneLine, IsText, Stops, Takes};
-ghost use Rattle.ascii_uses.specs.LineReader.{failures_after, read_line_in, error_at};
+ghost use Rattle.ascii_uses.specs.LineReader.{FindsLineEnd, IsOneLine, IsHeldThenRead, IsLineFault};
+ghost use Rattle.ascii_uses.specs.LineReader.{TakesLine, failures_after, read_line_in, error_at};
 ghost use Rattle.ascii_uses.specs.Window.{EndsLine};
 
 use crate::line_reader::window::Window;
@@ -128,7 +128,7 @@ impl<S: Source, A: Allocator> LineReader<S, A> {
     {
         let start = self.start;
         if self.advance()? {
-            Ok(Some(line_at(start, self.window.given())))
+            Ok(Some(line_at(start, self.window.line_bytes())))
         } else {
             Ok(None)
         }
@@ -167,9 +167,9 @@ fn take_line<S: Source, A: Allocator>(
     source: &mut S,
     start: u64,
 ) -> Result<(u64, bool), LineFault>
-    ensures ok { IfOk result (λ taken. Takes start window.old window.new
+    ensures ok { IfOk result (λ taken. TakesLine start window.old window.new
         (S.rest source.old) (S.rest source.new) taken.0 taken.1) }
-    ensures err { IfErr result (Stops start window.old.size window.old.held
+    ensures err { IfErr result (IsLineFault start window.old.size window.old.held
         (S.rest source.old) (S.rest source.new)) }
     ensures count { S.failures source.new ≡ failures_after (S.failures source.old) result }
     ensures size { window.new.size ≡ window.old.size }
@@ -191,9 +191,9 @@ fn seek<S: Source, A: Allocator>(
     start: u64,
 ) -> Result<Option<usize>, LineFault>
     ensures text { OnOk result
-        (IsText window.old.held (S.rest source.old) (S.rest source.new) window.new.held) }
-    ensures found { IfOk result (Finds window.new (S.rest source.new)) }
-    ensures err { IfErr result (Stops start window.old.size window.old.held
+        (IsHeldThenRead window.old.held (S.rest source.old) (S.rest source.new) window.new.held) }
+    ensures found { IfOk result (FindsLineEnd window.new (S.rest source.new)) }
+    ensures err { IfErr result (IsLineFault start window.old.size window.old.held
         (S.rest source.old) (S.rest source.new)) }
     ensures count { S.failures source.new ≡ failures_after (S.failures source.old) result }
     ensures size { window.new.size ≡ window.old.size }
@@ -202,7 +202,7 @@ fn seek<S: Source, A: Allocator>(
         if let Some(n) = window.find_line() {
             return Ok(Some(n));
         }
-        if let Some(place) = window.other() {
+        if let Some(place) = window.first_non_ascii() {
             return Err(other_at(start, place));
         }
         if source.failures() == u64::MAX {

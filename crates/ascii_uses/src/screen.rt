@@ -3,7 +3,8 @@
 ghost use Rattle.std.specs.Prelude.{◌≡◌, ◌≢◌, ◌+◌, ◌-◌, ◌%◌, ◌≤◌, ◌++◌, IfOk, length, min};
 ghost use Rattle.ascii_base.specs.Code.{code_of};
 ghost use Rattle.ascii.specs.View.{text_of};
-ghost use Rattle.ascii_uses.specs.Screen.{IsPlain, cell, column_after, rendered, screen_text};
+ghost use Rattle.ascii_uses.specs.Screen.{IsPlain, cell_text, column_after, char_on_screen};
+ghost use Rattle.ascii_uses.specs.Screen.{screen_text};
 
 use ascii::{AsciiChar, AsciiStr, AsciiString, caret_encode, text};
 use ascii_base::range::AsciiRange;
@@ -51,9 +52,9 @@ fn put(
     requires width { 2 ≤ width }
     requires column { column ≤ width }
     ensures text { IfOk result (λ _.
-        out.new.text ≡ out.old.text ++ rendered width column (code_of ch)) }
+        out.new.text ≡ out.old.text ++ char_on_screen width column (code_of ch)) }
     ensures column { IfOk result (λ next.
-        next ≡ column_after column (rendered width column (code_of ch))) }
+        next ≡ column_after column (char_on_screen width column (code_of ch))) }
     ensures inside { IfOk result (λ next. next ≤ width) }
 {
     if ch == AsciiChar::LineFeed {
@@ -71,7 +72,7 @@ fn put(
 fn cell_size(ch: AsciiChar, column: usize, width: usize) -> usize
     requires column { column ≤ width }
     requires other { code_of ch ≢ 10 }
-    ensures { result ≡ length (cell width column (code_of ch)) }
+    ensures { result ≡ length (cell_text width column (code_of ch)) }
 {
     match ch {
         AsciiChar::Tab => spaces(column, width),
@@ -95,11 +96,12 @@ fn put_cell(
     column: usize,
     width: usize,
 ) -> Result<usize, AllocError>
-    requires room { column + length (cell width column (code_of ch)) ≤ width }
+    requires room { column + length (cell_text width column (code_of ch)) ≤ width }
     requires other { code_of ch ≢ 10 }
     ensures text { IfOk result (λ _.
-        out.new.text ≡ out.old.text ++ cell width column (code_of ch)) }
-    ensures column { IfOk result (λ next. next ≡ column + length (cell width column (code_of ch))) }
+        out.new.text ≡ out.old.text ++ cell_text width column (code_of ch)) }
+    ensures column { IfOk result (λ next.
+        next ≡ column + length (cell_text width column (code_of ch))) }
 {
     if ch == AsciiChar::Tab {
         let n = spaces(column, width);

@@ -32,9 +32,9 @@ pub(crate) struct Window<A: Allocator> {
 
 impl<A: Allocator> Model for Window<A> {
     ghost use Rattle.std.specs.Prelude.{◌-◌, slice_range, vec_len};
-    ghost use Rattle.ascii_uses.specs.Window.{Buffered, IsLaidOut};
+    ghost use Rattle.ascii_uses.specs.Window.{WindowState, IsLaidOut};
 
-    ghost Value = { Buffered };
+    ghost Value = { WindowState };
 
     ghost view = { λ w. record {
       size = vec_len w.bytes;
@@ -81,7 +81,7 @@ impl<A: Allocator> Window<A> {
 
     /// The place of the first byte over 127 among those that it holds.
     #[inline]
-    pub(crate) fn other(&self) -> Option<usize>
+    pub(crate) fn first_non_ascii(&self) -> Option<usize>
         ensures place { MatchOption result
             ((self.now.checked ≡ length self.now.held) × IsAscii self.now.held)
             (λ place. (place ≡ self.now.checked)
@@ -93,7 +93,7 @@ impl<A: Allocator> Window<A> {
 
     /// The bytes that were taken last.
     #[inline]
-    pub(crate) fn given(&self) -> &[u8]
+    pub(crate) fn line_bytes(&self) -> &[u8]
         ensures value { result.now ≡ self.now.given }
         ensures ascii { IsAscii self.now.given }
     {

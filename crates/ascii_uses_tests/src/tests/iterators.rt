@@ -4,7 +4,7 @@ use super::{ascii, shows};
 use ascii::{AsciiChar, AsciiString};
 use ascii_uses::iterators::{
     append_chars, bodies_reversed, copy_chars, in_brackets, in_quotes, line_lengths, piece_count,
-    piece_lengths, push_upper, without, without_line_endings,
+    piece_lengths, push_upper, without_line_endings, without_separators,
 };
 use ascii_uses::strings::{
     blank, into_bytes_with_end, into_string_with_end, move_to_end, replace_last, replace_with_char,
@@ -37,7 +37,7 @@ fn texts(rt: HostRuntime) {
     shows(&rt, &copy_chars(alloc, ascii("aB1")), "Ok(\"aB1\")");
     shows(
         &rt,
-        &without(alloc, ascii("a,b,,c"), AsciiChar::Comma),
+        &without_separators(alloc, ascii("a,b,,c"), AsciiChar::Comma),
         "Ok(\"abc\")",
     );
     shows(

@@ -3,7 +3,7 @@ use Rattle.std.specs.Prelude.{IfOk}
 use Rattle.std.proofs.lemmas.Grind.{common_steps}
 use Rattle.ascii_base.specs.Code.{code_of}
 use Rattle.ascii_uses.proofs.ScreenLemmas.{column_here, column_line, column_next}
-use Rattle.ascii_uses.specs.Screen.{cell}
+use Rattle.ascii_uses.specs.Screen.{cell_text}
 use Rattle.ascii_uses.proofs.screen.put.Goals as goal
 
 pub returns-then-eq-clause-column : goal.returns-then-eq-clause-column
@@ -12,11 +12,11 @@ returns-then-eq-clause-column c = sym (column_line c.args.width c.args.column (c
 pub returns-then-cell_size-width-clause-column : goal.returns-then-cell_size-width-clause-column
 returns-then-cell_size-width-clause-column c =
     let other : code_of c.args.ch ≢ 10 = search rules in
-    let fits : c.args.column + length (cell c.args.width c.args.column (code_of c.args.ch)) ≤ c.args.width = grind (arith, common_steps) in
+    let fits : c.args.column + length (cell_text c.args.width c.args.column (code_of c.args.ch)) ≤ c.args.width = grind (arith, common_steps) in
     subst (λ k. IfOk c.put_cell.result (λ next. next ≡ k)) (sym (column_here c.args.width c.args.column (code_of c.args.ch) other fits)) c.put_cell.ensures.column
 
 pub returns-clause-column : goal.returns-clause-column
 returns-clause-column c =
     let other : code_of c.args.ch ≢ 10 = search rules in
-    let full : c.args.width < c.args.column + length (cell c.args.width c.args.column (code_of c.args.ch)) = grind (arith, common_steps) in
+    let full : c.args.width < c.args.column + length (cell_text c.args.width c.args.column (code_of c.args.ch)) = grind (arith, common_steps) in
     subst (λ k. IfOk c.put_cell-2.result (λ next. next ≡ k)) (sym (column_next c.args.width c.args.column (code_of c.args.ch) other full)) c.put_cell-2.ensures.column

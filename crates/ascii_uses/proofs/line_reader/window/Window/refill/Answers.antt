@@ -1,6 +1,6 @@
 use Rattle.std.proofs.Common.{◌≡◌, ◌≤◌, ◌+◌, ◌-◌, ◌++◌, arith, sym, ap, subst, ◌∙◌, take, drop, length}
 use Rattle.std.specs.List.{slice_range}
-use Rattle.ascii_uses.specs.Window.{Buffered, IsLaidOut}
+use Rattle.ascii_uses.specs.Window.{WindowState, IsLaidOut}
 use Rattle.ascii.proofs.SliceLemmas.{length-slice_range}
 use Rattle.ascii_uses.proofs.WindowLemmas.{held_more, refilled, written}
 use Rattle.ascii_uses.proofs.line_reader.window.Window.refill.Goals as goal
@@ -16,14 +16,14 @@ front : (g : _) (c : goal.After-self-3-1 g) → take c.self.inside.filled c.read
 front g c = c.read_behind.ensures.front ∙ ap (take c.self.inside.filled) c.deref_mut.ensures.value
 
 held : (g : _) (c : goal.After-self-3-1 g) → slice_range c.self.inside.bytes.items c.self.inside.from c.self.inside.filled ≡ c.args.self.now.held
-held g c = ap (λ (w : Buffered). w.held) c.self.view_is ∙ c.move_to_front.ensures.held
+held g c = ap (λ (w : WindowState). w.held) c.self.view_is ∙ c.move_to_front.ensures.held
 
 pub invariant_of-self-2 : goal.invariant_of-self-2
 invariant_of-self-2 g c =
     let i = c.self.inside in
     let laid = c.self.invariant in
     let checked : i.checked - i.from ≡ length (slice_range i.bytes.items i.from i.filled) =
-    ap (λ (w : Buffered). w.checked) c.self.view_is ∙ (c.move_to_front.ensures.checked ∙ (c.requires.checked ∙ sym (ap length (held g c)))) in
+    ap (λ (w : WindowState). w.checked) c.self.view_is ∙ (c.move_to_front.ensures.checked ∙ (c.requires.checked ∙ sym (ap length (held g c)))) in
     let low : i.from ≤ i.checked = omega (arith, laid.then_from, laid.then_searched) in
     let ordered : i.from ≤ i.filled = omega (arith, low, laid.then_checked) in
     let long = length-slice_range i.bytes.items i.from i.filled ordered laid.inside in

@@ -4,7 +4,7 @@ use Rattle.ascii.specs.Steps.{StepsPiece}
 use Rattle.ascii.specs.View.{text_of}
 use Rattle.ascii.proofs.ExtendLemmas.{if_ok, pieces_from_drains}
 use Rattle.ascii.proofs.StepsLemmas.{road_from_first_and}
-use Rattle.ascii_uses.proofs.iterators.without.Goals as goal
+use Rattle.ascii_uses.proofs.iterators.without_separators.Goals as goal
 
 pub returns : goal.returns
 returns c = if_ok c.collect_strs.result c.collect_strs.ensures (λ string given. (
