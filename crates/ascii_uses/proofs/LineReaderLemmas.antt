@@ -1,5 +1,7 @@
 -- What a reader of lines has read and handed out.
-use Rattle.std.proofs.Common.{◌≡◌, ◌≢◌, ◌⊎◌, ℕ, ◌+◌, ◌-◌, List, [], ◌∷◌, ◌++◌, length, take, None, Some, Ok, Err, Option, Result, IfErr, refl, sym, ap, subst, ◌∙◌, arith, inl, inr, length-append, append_assoc, append-nil, add-zero}
+use Rattle.std.proofs.Common.{◌≡◌, ◌≢◌, ◌⊎◌, ℕ, ◌+◌, ◌-◌, List, [], ◌∷◌, ◌++◌, length, take, None}
+use Rattle.std.proofs.Common.{Some, Ok, Err, Option, Result, IfErr, refl, sym, ap, subst, ◌∙◌}
+use Rattle.std.proofs.Common.{arith, inl, inr, length-append, append_assoc, append-nil, add-zero}
 use Rattle.std.specs.Io.KnownBytes.{Consumes, IsAtEnd}
 use Rattle.std.specs.Str.{IsAscii}
 use Rattle.std.specs.List.{All, Contains, flat_map}
@@ -19,11 +21,14 @@ use Rattle.ascii_uses.specs.declared.line_reader.LineFault.TheVariants.{TooLong,
 use Rattle.ascii_uses.specs.declared.line_reader.LineReader.{LineReader}
 use Rattle.ascii_uses.specs.declared.line_reader.ReadLine.{ReadLine}
 use Rattle.ascii_uses.specs.declared.line_reader.Stage.TheVariants.{Open, Ended}
-use Rattle.ascii_uses.specs.LineReader.{YieldsLines, IsDone, IsHeldThenRead, Next, NextFrom, ReaderState, IsLineFault, read_line_in, state_of_reader}
+use Rattle.ascii_uses.specs.LineReader.{YieldsLines, IsDone, IsHeldThenRead, Next, NextFrom}
+use Rattle.ascii_uses.specs.LineReader.{ReaderState, IsLineFault, read_line_in, state_of_reader}
 use Rattle.ascii_uses.specs.Window.{FreeUpTo}
 
 -- a text is read in two parts
-pub IsHeldThenRead-more : (held : List ℕ) (rest mid left : Option (List ℕ)) (text more : List ℕ) → IsHeldThenRead held rest mid text → Consumes mid left more → IsHeldThenRead held rest left (text ++ more)
+pub IsHeldThenRead-more : (held : List ℕ) (rest mid left : Option (List ℕ)) (text more : List ℕ)
+    → IsHeldThenRead held rest mid text → Consumes mid left more
+    → IsHeldThenRead held rest left (text ++ more)
 IsHeldThenRead-more held rest mid left text more first then =
     (first.0 ++ more, Consumes-trans rest mid left first.0 more first.1 then, ap (λ xs. xs ++ more) first.2 ∙ append_assoc held first.0 more)
 

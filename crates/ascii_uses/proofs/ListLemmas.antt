@@ -1,6 +1,6 @@
 -- Facts on lists.
-use Rattle.std.proofs.Common.{◌≡◌, ℕ, ◌<◌, List, [], ◌∷◌, ◌++◌, None, Option, Some, ap, arith}
-use Rattle.std.proofs.Common.{inl, inr, length, length-append, map, refl, subst, sym, ◌∙◌}
+use Rattle.std.proofs.Common.{◌≡◌, ℕ, ◌<◌, List, [], ◌∷◌, ◌++◌, None, Option, Some, ap, arith, inl}
+use Rattle.std.proofs.Common.{inr, length, length-append, map, refl, subst, sym, ◌∙◌}
 use Rattle.std.proofs.Math.Seq.{get_or-append_seam}
 use Rattle.std.proofs.lemmas.List.{append_assoc, get_or-take, length-take, map_push, take_at}
 use Rattle.std.proofs.lemmas.List.Elements.{All-cons, All-from_all_within, All-nil, All-push}

@@ -1,10 +1,13 @@
 -- What a screen shows: no control but LF, no line wider than the screen, and a text that needs no change as it is.
-use Rattle.std.proofs.Common.{◌≡◌, ◌≢◌, ℕ, ◌+◌, ◌-◌, ◌%◌, ◌<◌, ◌≤◌, ◌⊎◌, inl, inr, ⊎_elim, zero, suc, List, [], ◌∷◌, ◌++◌, length, min, refl, sym, ap, subst, ◌∙◌, arith, append_assoc, append-nil, length-append, length-take}
+use Rattle.std.proofs.Common.{◌≡◌, ◌≢◌, ℕ, ◌+◌, ◌-◌, ◌%◌, ◌<◌, ◌≤◌, ◌⊎◌, inl, inr, ⊎_elim, zero}
+use Rattle.std.proofs.Common.{suc, List, [], ◌∷◌, ◌++◌, length, min, refl, sym, ap, subst, ◌∙◌}
+use Rattle.std.proofs.Common.{arith, append_assoc, append-nil, length-append, length-take}
 use Rattle.std.specs.Prelude.{codes, ⊤}
 use Rattle.std.specs.List.{All}
 use Rattle.std.proofs.lemmas.Bool.{cases_eq, cases_lt}
 use Rattle.std.proofs.lemmas.Bool.Decides.{nat_tests}
-use Rattle.std.proofs.lemmas.List.Elements.{All-append, All-cons, All-head, All-nil, All-tail, All-take}
+use Rattle.std.proofs.lemmas.List.Elements.{All-append, All-cons, All-head, All-nil, All-tail}
+use Rattle.std.proofs.lemmas.List.Elements.{All-take}
 use Rattle.ascii_run.specs.ModeOutput.{IsShown, caret_text}
 use Rattle.ascii_uses.specs.Screen.{IsNoWider, cell_text, column_after, char_on_screen, screen_text}
 
@@ -42,7 +45,9 @@ spaces_inked : All Inked (codes "        ")
 spaces_inked = runs_inked 8
 
 cell_inked_by : (w c n : ℕ) → n ≢ 10 → (n ≡ 9) ⊎ (n ≢ 9) → All Inked (cell_text w c n)
-cell_inked_by w c n other (inl is) = subst (λ m. All Inked (cell_text w c m)) (sym is) (All-take Inked (min (8 - c % 8) (w - c)) (codes "        ") spaces_inked)
+cell_inked_by w c n other (inl is) =
+    subst (λ m. All Inked (cell_text w c m)) (sym is)
+    (All-take Inked (min (8 - c % 8) (w - c)) (codes "        ") spaces_inked)
 cell_inked_by w c n other (inr no_tab) =
     let is : cell_text w c n ≡ caret_text n = grind (arith, nat_tests) in
     subst (All Inked) (sym is) (caret_inked_by n other (cases_lt n 32) (cases_eq n 127))
@@ -54,7 +59,9 @@ caret_short : (n : ℕ) → length (caret_text n) ≤ 2
 caret_short n = grind (arith, nat_tests)
 
 cell_fits_by : (w n : ℕ) → 2 ≤ w → (n ≡ 9) ⊎ (n ≢ 9) → length (cell_text w 0 n) ≤ w
-cell_fits_by w n wide (inl is) = subst (λ m. length (cell_text w 0 m) ≤ w) (sym is) (omega (arith, length-take (min 8 (w - 0)) (codes "        ")))
+cell_fits_by w n wide (inl is) =
+    subst (λ m. length (cell_text w 0 m) ≤ w) (sym is)
+    (omega (arith, length-take (min 8 (w - 0)) (codes "        ")))
 cell_fits_by w n wide (inr no_tab) =
     let is : cell_text w 0 n ≡ caret_text n = grind (arith, nat_tests) in
     subst (λ cs. length cs ≤ w) (sym is) (omega (arith, caret_short n))
@@ -93,20 +100,26 @@ within_append w c (x ∷ a) b (inr (other, fits, first)) second =
 
 -- ---- the output for a character
 
-shown_here : (w c n : ℕ) → n ≢ 10 → c + length (cell_text w c n) ≤ w → char_on_screen w c n ≡ cell_text w c n
+shown_here : (w c n : ℕ) → n ≢ 10 → c + length (cell_text w c n) ≤ w
+    → char_on_screen w c n ≡ cell_text w c n
 shown_here w c n other fits = grind (arith, nat_tests)
 
-shown_next : (w c n : ℕ) → n ≢ 10 → w < c + length (cell_text w c n) → char_on_screen w c n ≡ 10 ∷ cell_text w 0 n
+shown_next : (w c n : ℕ) → n ≢ 10 → w < c + length (cell_text w c n)
+    → char_on_screen w c n ≡ 10 ∷ cell_text w 0 n
 shown_next w c n other full = grind (arith, nat_tests)
 
 pub column_line : (w c n : ℕ) → n ≡ 10 → column_after c (char_on_screen w c n) ≡ 0
 column_line w c n is = ap (λ m. column_after c (char_on_screen w c m)) is
 
-pub column_here : (w c n : ℕ) → n ≢ 10 → c + length (cell_text w c n) ≤ w → column_after c (char_on_screen w c n) ≡ c + length (cell_text w c n)
-column_here w c n other fits = ap (column_after c) (shown_here w c n other fits) ∙ column_inked c (cell_text w c n) (cell_inked w c n other)
+pub column_here : (w c n : ℕ) → n ≢ 10 → c + length (cell_text w c n) ≤ w
+    → column_after c (char_on_screen w c n) ≡ c + length (cell_text w c n)
+column_here w c n other fits = ap (column_after c) (shown_here w c n other fits)
+    ∙ column_inked c (cell_text w c n) (cell_inked w c n other)
 
-pub column_next : (w c n : ℕ) → n ≢ 10 → w < c + length (cell_text w c n) → column_after c (char_on_screen w c n) ≡ 0 + length (cell_text w 0 n)
-column_next w c n other full = ap (column_after c) (shown_next w c n other full) ∙ column_inked 0 (cell_text w 0 n) (cell_inked w 0 n other)
+pub column_next : (w c n : ℕ) → n ≢ 10 → w < c + length (cell_text w c n)
+    → column_after c (char_on_screen w c n) ≡ 0 + length (cell_text w 0 n)
+column_next w c n other full = ap (column_after c) (shown_next w c n other full)
+    ∙ column_inked 0 (cell_text w 0 n) (cell_inked w 0 n other)
 
 -- the output for a character stays within the width
 record IsGood (w c : ℕ) (cs : List ℕ) : Type 0 where
@@ -125,23 +138,29 @@ good_inked w c cs all fits = record {
 }
 
 good_shown_by : (w c n : ℕ) → 2 ≤ w → c ≤ w → (n ≡ 10) ⊎ (n ≢ 10)
-    → (w < c + length (cell_text w c n)) ⊎ (c + length (cell_text w c n) ≤ w) → IsGood w c (char_on_screen w c n)
-good_shown_by w c n wide inside (inl is) fit = subst (λ m. IsGood w c (char_on_screen w c m)) (sym is) (record {
-  within = inl (refl, tt);
-  column = omega arith;
-  quiet = All-cons IsShown 10 [] (inl refl) (All-nil IsShown);
-})
+    → (w < c + length (cell_text w c n)) ⊎ (c + length (cell_text w c n) ≤ w)
+    → IsGood w c (char_on_screen w c n)
+good_shown_by w c n wide inside (inl is) fit =
+    subst (λ m. IsGood w c (char_on_screen w c m)) (sym is) (record {
+      within = inl (refl, tt);
+      column = omega arith;
+      quiet = All-cons IsShown 10 [] (inl refl) (All-nil IsShown);
+    })
 good_shown_by w c n wide inside (inr other) (inl full) = subst (IsGood w c) (sym (shown_next w c n other full)) (
-    let rest : IsGood w 0 (cell_text w 0 n) = good_inked w 0 (cell_text w 0 n) (cell_inked w 0 n other) (omega (arith, cell_fits_by w n wide (cases_eq n 9))) in record {
+    let rest : IsGood w 0 (cell_text w 0 n) =
+    good_inked w 0 (cell_text w 0 n) (cell_inked w 0 n other)
+    (omega (arith, cell_fits_by w n wide (cases_eq n 9))) in record {
       within = inl (refl, rest.within);
       column = rest.column;
       quiet = All-cons IsShown 10 (cell_text w 0 n) (inl refl) rest.quiet;
     })
 good_shown_by w c n wide inside (inr other) (inr fits) =
-    subst (IsGood w c) (sym (shown_here w c n other fits)) (good_inked w c (cell_text w c n) (cell_inked w c n other) fits)
+    subst (IsGood w c) (sym (shown_here w c n other fits))
+    (good_inked w c (cell_text w c n) (cell_inked w c n other) fits)
 
 good_shown : (w c n : ℕ) → 2 ≤ w → c ≤ w → IsGood w c (char_on_screen w c n)
-good_shown w c n wide inside = good_shown_by w c n wide inside (cases_eq n 10) (cases_lt w (c + length (cell_text w c n)))
+good_shown w c n wide inside = good_shown_by w c n wide inside (cases_eq n 10)
+    (cases_lt w (c + length (cell_text w c n)))
 
 pub column_within : (w c n : ℕ) → 2 ≤ w → c ≤ w → column_after c (char_on_screen w c n) ≤ w
 column_within w c n wide inside = (good_shown w c n wide inside).column
@@ -151,12 +170,16 @@ column_within w c n wide inside = (good_shown w c n wide inside).column
 shown_within : (w c : ℕ) (text : List ℕ) → 2 ≤ w → c ≤ w → Within w c (screen_text w c text)
 shown_within w c [] wide inside = tt
 shown_within w c (n ∷ text) wide inside = let good = good_shown w c n wide inside in
-    within_append w c (char_on_screen w c n) (screen_text w (column_after c (char_on_screen w c n)) text) good.within (shown_within w (column_after c (char_on_screen w c n)) text wide good.column)
+    within_append w c (char_on_screen w c n)
+    (screen_text w (column_after c (char_on_screen w c n)) text) good.within
+    (shown_within w (column_after c (char_on_screen w c n)) text wide good.column)
 
 pub shown_quiet : (w c : ℕ) (text : List ℕ) → 2 ≤ w → c ≤ w → All IsShown (screen_text w c text)
 shown_quiet w c [] wide inside = All-nil IsShown
 shown_quiet w c (n ∷ text) wide inside = let good = good_shown w c n wide inside in
-    All-append IsShown (char_on_screen w c n) (screen_text w (column_after c (char_on_screen w c n)) text) good.quiet (shown_quiet w (column_after c (char_on_screen w c n)) text wide good.column)
+    All-append IsShown (char_on_screen w c n)
+    (screen_text w (column_after c (char_on_screen w c n)) text) good.quiet
+    (shown_quiet w (column_after c (char_on_screen w c n)) text wide good.column)
 
 -- behind a front the rest begins at some column
 skip : (w c : ℕ) (front rest : List ℕ) → c ≤ w → Within w c (front ++ rest) → (k : ℕ) × (k ≤ w) × Within w k rest
@@ -204,14 +227,18 @@ plain_next w c x text other fits (inl is) rest = absurd (other is)
 plain_next w c x text other fits (inr (low, high)) rest =
     let one : cell_text w c x ≡ x ∷ [] = plain_cell_by w c x low high in
     let size : length (cell_text w c x) ≡ 1 = ap length one in
-    let here : char_on_screen w c x ≡ x ∷ [] = shown_here w c x other (omega (arith, size, fits)) ∙ one in
-    let column : column_after c (char_on_screen w c x) ≡ c + 1 = ap (column_after c) here ∙ column_other c x [] other in
-    ap (λ cs. cs ++ screen_text w (column_after c (char_on_screen w c x)) text) here ∙ ap (λ k. x ∷ screen_text w k text) column ∙ ap (λ t. x ∷ t) rest
+    let here : char_on_screen w c x ≡ x ∷ [] =
+    shown_here w c x other (omega (arith, size, fits)) ∙ one in
+    let column : column_after c (char_on_screen w c x) ≡ c + 1 =
+    ap (column_after c) here ∙ column_other c x [] other in
+    ap (λ cs. cs ++ screen_text w (column_after c (char_on_screen w c x)) text) here
+    ∙ ap (λ k. x ∷ screen_text w k text) column ∙ ap (λ t. x ∷ t) rest
 
 plain_within : (w c : ℕ) (text : List ℕ) → All IsShown text → Within w c text → screen_text w c text ≡ text
 plain_within w c [] plain within = refl
 plain_within w c (x ∷ text) plain (inl (is, within)) =
-    let P : ℕ → Type 0 = λ m. char_on_screen w c m ++ screen_text w (column_after c (char_on_screen w c m)) text ≡ m ∷ text in
+    let P : ℕ → Type 0 = λ m. char_on_screen w c m ++ screen_text w
+    (column_after c (char_on_screen w c m)) text ≡ m ∷ text in
     subst P (sym is) (ap (λ t. 10 ∷ t) (plain_within w 0 text (All-tail IsShown x text plain) within))
 plain_within w c (x ∷ text) plain (inr (other, fits, within)) = plain_next w c x text other fits (All-head IsShown x text plain)
     (plain_within w (c + 1) text (All-tail IsShown x text plain) within)
@@ -237,13 +264,17 @@ pub record IsOnTheWay (w : ℕ) (text out : List ℕ) (c : ℕ) (rest : List ℕ
 pub begins : (w : ℕ) (text : List ℕ) → IsOnTheWay w text [] 0 text
 begins w text = record { column = refl; inside = omega arith; whole = refl }
 
-pub goes_on : (w : ℕ) (text out : List ℕ) (c n next : ℕ) (rest : List ℕ) → 2 ≤ w → IsOnTheWay w text out c (n ∷ rest) → next ≡ column_after c (char_on_screen w c n)
+pub goes_on : (w : ℕ) (text out : List ℕ) (c n next : ℕ) (rest : List ℕ) → 2 ≤ w
+    → IsOnTheWay w text out c (n ∷ rest) → next ≡ column_after c (char_on_screen w c n)
     → IsOnTheWay w text (out ++ char_on_screen w c n) next rest
-goes_on w text out c n next rest wide way is = subst (λ k. IsOnTheWay w text (out ++ char_on_screen w c n) k rest) (sym is) (record {
-  column = ap (λ k. column_after k (char_on_screen w c n)) way.column ∙ sym (column_append 0 out (char_on_screen w c n));
-  inside = column_within w c n wide way.inside;
-  whole = append_assoc out (char_on_screen w c n) (screen_text w (column_after c (char_on_screen w c n)) rest) ∙ way.whole;
-})
+goes_on w text out c n next rest wide way is =
+    subst (λ k. IsOnTheWay w text (out ++ char_on_screen w c n) k rest) (sym is) (record {
+      column = ap (λ k. column_after k (char_on_screen w c n)) way.column
+          ∙ sym (column_append 0 out (char_on_screen w c n));
+      inside = column_within w c n wide way.inside;
+      whole = append_assoc out (char_on_screen w c n)
+          (screen_text w (column_after c (char_on_screen w c n)) rest) ∙ way.whole;
+    })
 
 pub arrives : (w : ℕ) (text out : List ℕ) (c : ℕ) → IsOnTheWay w text out c [] → out ≡ screen_text w 0 text
 arrives w text out c way = sym (append-nil out) ∙ way.whole

@@ -33,7 +33,8 @@ returns-in-Err c =
       _,
       whole,
       IsFirstAt-seam HasHeader
-          (λ line. (line.start ≡ c.in-Some.line.start) × IsHeaderFault line.item.body c.in-Err.fault)
+          (λ line. (line.start ≡ c.in-Some.line.start)
+          × IsHeaderFault line.item.body c.in-Err.fault)
           front _ (line_in c.in-Some.line) (All-from_zip IsHeaderOf front _ inv.each)
           (refl, c.in-Err.ensures) _ many,
     )

@@ -5,7 +5,8 @@ use Rattle.ascii_uses.proofs.line_reader.seek.Given as goal
 -- the bytes that are held are those that were, and behind them what the source gave; no read has failed
 abbrev pub invariant-fills : goal.invariant-fills
 invariant-fills g l =
-    IsHeldThenRead l.fn.window.held (g.S.Source.rest l.fn.source) (g.S.Source.rest l.source) l.window.held
+    IsHeldThenRead l.fn.window.held (g.S.Source.rest l.fn.source)
+    (g.S.Source.rest l.source) l.window.held
     × (g.S.Source.failures l.source ≡ g.S.Source.failures l.fn.source)
     × (l.window.size ≡ l.fn.window.size)
 

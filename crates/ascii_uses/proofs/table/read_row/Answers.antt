@@ -1,5 +1,5 @@
-use Rattle.std.proofs.Common.{◌≡◌, ◌≢◌, ◌<◌, ◌++◌, [], ap, arith, length, map, refl, rules}
-use Rattle.std.proofs.Common.{subst, sym}
+use Rattle.std.proofs.Common.{◌≡◌, ◌≢◌, ◌<◌, ◌++◌, [], ap, arith, length, map, refl, rules, subst}
+use Rattle.std.proofs.Common.{sym}
 use Rattle.std.proofs.lemmas.List.{length-map, length_push, map_push}
 use Rattle.ascii.specs.Spans.{PieceSpans, piece_in}
 use Rattle.ascii.specs.View.{text_of}

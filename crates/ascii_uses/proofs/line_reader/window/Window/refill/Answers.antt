@@ -1,4 +1,5 @@
-use Rattle.std.proofs.Common.{◌≡◌, ◌≤◌, ◌+◌, ◌-◌, ◌++◌, arith, sym, ap, subst, ◌∙◌, take, drop, length}
+use Rattle.std.proofs.Common.{◌≡◌, ◌≤◌, ◌+◌, ◌-◌, ◌++◌, arith, sym, ap, subst, ◌∙◌, take, drop}
+use Rattle.std.proofs.Common.{length}
 use Rattle.std.specs.List.{slice_range}
 use Rattle.ascii_uses.specs.Window.{WindowState, IsLaidOut}
 use Rattle.ascii.proofs.SliceLemmas.{length-slice_range}
@@ -23,7 +24,8 @@ invariant_of-self-2 g c =
     let i = c.self.inside in
     let laid = c.self.invariant in
     let checked : i.checked - i.from ≡ length (slice_range i.bytes.items i.from i.filled) =
-    ap (λ (w : WindowState). w.checked) c.self.view_is ∙ (c.move_to_front.ensures.checked ∙ (c.requires.checked ∙ sym (ap length (held g c)))) in
+    ap (λ (w : WindowState). w.checked) c.self.view_is
+    ∙ (c.move_to_front.ensures.checked ∙ (c.requires.checked ∙ sym (ap length (held g c)))) in
     let low : i.from ≤ i.checked = omega (arith, laid.then_from, laid.then_searched) in
     let ordered : i.from ≤ i.filled = omega (arith, low, laid.then_checked) in
     let long = length-slice_range i.bytes.items i.from i.filled ordered laid.inside in
