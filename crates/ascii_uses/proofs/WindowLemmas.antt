@@ -6,7 +6,7 @@ use Rattle.std.specs.List.{slice_range}
 use Rattle.std.specs.Str.{IsAscii}
 use Rattle.std.proofs.Math.Seq.{take-add}
 use Rattle.std.proofs.lemmas.Bool.{cases_lt}
-use Rattle.std.proofs.lemmas.List.{drop-drop, get_or-take, take_at}
+use Rattle.std.proofs.lemmas.List.{drop-drop, get_or-take}
 use Rattle.std.proofs.lemmas.Slice.{between_is}
 use Rattle.ascii_base.specs.Bytes.{FirstOther}
 use Rattle.ascii.proofs.SliceLemmas.{length-slice_range, slice_range-at}
@@ -71,10 +71,6 @@ module _ (bytes : List ℕ) (given from searched checked filled : ℕ) (laid : I
       )
 
 -- ---- a read behind the bytes
-
--- bytes that were lent whole for writing, put back
-pub written : (new old : List ℕ) (n : ℕ) → length new ≡ length old → length old ≡ n → take n (new ++ drop (length new) old) ≡ new
-written new old n same long = take_at new (drop (length new) old) n (same ∙ long)
 
 module _ (old new : List ℕ) (filled : ℕ) (front : take filled new ≡ take filled old) where
   pub at_front : (k : ℕ) → k < filled → get_or new k 0 ≡ get_or old k 0

@@ -1,22 +1,30 @@
 use Rattle.std.proofs.Common.{◌≡◌, ◌≤◌, ◌+◌, ◌-◌, ◌++◌, arith, sym, ap, subst, ◌∙◌, take, drop}
 use Rattle.std.proofs.Common.{length}
 use Rattle.std.specs.List.{slice_range}
+use Rattle.std.proofs.lemmas.List.{take_at}
 use Rattle.ascii_uses.specs.Window.{WindowState, IsLaidOut}
 use Rattle.ascii.proofs.SliceLemmas.{length-slice_range}
-use Rattle.ascii_uses.proofs.WindowLemmas.{held_more, refilled, written}
+use Rattle.ascii_uses.proofs.WindowLemmas.{held_more, refilled}
 use Rattle.ascii_uses.proofs.line_reader.window.Window.refill.Goals as goal
 
 -- the bytes of the vector after the read
 put_back : (g : _) (c : goal.After-self-3-1 g)
-    → take c.self.inside.bytes.len (c.read_behind.new.bytes ++ drop (length c.read_behind.new.bytes) c.self.inside.bytes.items) ≡ c.read_behind.new.bytes
-put_back g c =
-    written c.read_behind.new.bytes c.self.inside.bytes.items c.self.inside.bytes.len
-    (c.read_behind.ensures.len ∙ ap length c.deref_mut.ensures.value) (sym (ap length c.deref_mut.ensures.value) ∙ c.deref_mut.ensures.len)
+    → take c.self.inside.bytes.len (c.read_behind.new.bytes
+    ++ drop (length c.read_behind.new.bytes) c.self.inside.bytes.items)
+    ≡ c.read_behind.new.bytes
+put_back g c = take_at c.read_behind.new.bytes _ c.self.inside.bytes.len
+    (c.read_behind.ensures.len ∙ c.deref_mut.ensures.len)
 
-front : (g : _) (c : goal.After-self-3-1 g) → take c.self.inside.filled c.read_behind.new.bytes ≡ take c.self.inside.filled c.self.inside.bytes.items
+-- the bytes before the read are unchanged
+front : (g : _) (c : goal.After-self-3-1 g)
+    → take c.self.inside.filled c.read_behind.new.bytes
+    ≡ take c.self.inside.filled c.self.inside.bytes.items
 front g c = c.read_behind.ensures.front ∙ ap (take c.self.inside.filled) c.deref_mut.ensures.value
 
-held : (g : _) (c : goal.After-self-3-1 g) → slice_range c.self.inside.bytes.items c.self.inside.from c.self.inside.filled ≡ c.args.self.now.held
+-- the bytes held are those held at the start
+held : (g : _) (c : goal.After-self-3-1 g)
+    → slice_range c.self.inside.bytes.items c.self.inside.from c.self.inside.filled
+    ≡ c.args.self.now.held
 held g c = ap (λ (w : WindowState). w.held) c.self.view_is ∙ c.move_to_front.ensures.held
 
 pub invariant_of-self-2 : goal.invariant_of-self-2
