@@ -19,7 +19,8 @@ use Rattle.ascii.specs.Spans.{with_starts}
 use Rattle.ascii.specs.Steps.{DropsFirst, StepsPiece, YieldsFirstAnd}
 use Rattle.ascii.specs.StringState.{StringState}
 use Rattle.ascii.specs.View.{text_of}
-use Rattle.ascii.proofs.ExtendLemmas.{all_from_extends, ok_from_extends, pieces_from_drains, singles}
+use Rattle.ascii.proofs.ExtendLemmas.{all_from_extends, ok_from_extends, pieces_from_drains}
+use Rattle.ascii.proofs.ExtendLemmas.{singles}
 use Rattle.ascii.proofs.PiecesLemmas.{Free-from_absent, Pieces-only, pieces_of-free}
 use Rattle.ascii.proofs.SpansLemmas.{room, room-lines, room-pieces, with_starts-last}
 use Rattle.ascii.proofs.StepsLemmas.{road_from_first_and}
@@ -38,7 +39,8 @@ join_with_last on (piece ∷ next ∷ others) last some =
 last_has : {A : Type 0} (P : A → Type 0) (items : List A) (last : A)
     → All P (items ++ last ∷ []) → P last
 last_has P [] last all = All-head P last [] all
-last_has P (item ∷ items) last all = last_has P items last (All-tail P item (items ++ last ∷ []) all)
+last_has P (item ∷ items) last all =
+    last_has P items last (All-tail P item (items ++ last ∷ []) all)
 
 -- the text of the other pieces, the separator and the last piece are the text
 pub last_of_pieces : (on : ℕ) (text front last : List ℕ) (pieces : List (List ℕ))

@@ -1,5 +1,6 @@
 -- A text of one byte is a code.
-use Rattle.std.proofs.Common.{◌≡◌, ℕ, ◌+◌, ◌<◌, ◌≤◌, List, [], ◌∷◌, ◌++◌, length, get_or, arith, ap, sym, ◌∙◌, subst, length-append, ⊎_elim}
+use Rattle.std.proofs.Common.{◌≡◌, ℕ, ◌+◌, ◌<◌, ◌≤◌, List, [], ◌∷◌, ◌++◌, length, get_or, arith, ap}
+use Rattle.std.proofs.Common.{sym, ◌∙◌, subst, length-append, ⊎_elim}
 use Rattle.std.proofs.Math.Utf8.{encode, encodes}
 use Rattle.std.proofs.lemmas.Bool.{cases_lt}
 use Rattle.std.proofs.lemmas.Bool.Decides.{nat_tests}
@@ -15,7 +16,8 @@ long c past = grind (arith, nat_tests)
 first_byte : (cs : List ℕ) → length (encodes cs) ≡ 1 → get_or (encodes cs) 0 0 < 128
 first_byte [] one = omega arith
 first_byte (c ∷ cs) one =
-    let size : length (encode c) + length (encodes cs) ≡ 1 = sym (length-append (encode c) (encodes cs)) ∙ one in
+    let size : length (encode c) + length (encodes cs) ≡ 1 =
+    sym (length-append (encode c) (encodes cs)) ∙ one in
     let here : length (encode c) ≡ len_utf8 c = length-encode c in
     ⊎_elim
     (λ low. let e : encode c ≡ c ∷ [] = encode_ascii c low in

@@ -1,4 +1,5 @@
--- What rests in a lent source where a function answers with a view of it or with an error, and how a
+-- What rests in a lent source where a function answers with a view of it or with an error, and how
+-- a
 -- walk by hand gives the source up. Assumes `Logic`.
 use mathlib.Core.Path.{◌≡◌, refl}
 use mathlib.Core.List.{List, [], ◌∷◌}
@@ -11,7 +12,8 @@ use base.Fml.{GName, fex, feq, fsep, fres, fauth, fobs}
 use types.Logic.{Logic, sem}
 use mathlib.Core.Option.{some, none}
 use Rattle.std.specs.Prelude.{⊤}
-use types.Kit.{use0, ‵, ◌$◌, ◌∵◌, !, qed, each, assume, keep, drop, rewrite, fpick, fsplit, fsplit3, fjoin, fpack, feq_i, updating, now, done}
+use types.Kit.{use0, ‵, ◌$◌, ◌∵◌, !, qed, each, assume, keep, drop, rewrite, fpick, fsplit, fsplit3}
+use types.Kit.{fjoin, fpack, feq_i, updating, now, done}
 use types.Tokens.{name_done}
 use denote.RattleType.{RattleType}
 use denote.Ref.{MutBor, NamedLft}
@@ -42,58 +44,84 @@ module _ {M : Type 1} {𝓤 : Ura M} (𝓛 : Logic 𝓤) where
   follows_same γ =
       let code = Bytes.coded.code in
       let From = λ (z w : List ℕ). fsep (feq (List ℕ) z w) (fauth γ (code w)) in
-      let said = qed 𝓛 [] ∵ each ! (λ (w : List ℕ). wand 𝓤 (A.res γ (code w)) (A.res γ (code w))) (λ w. assume ! (‵ (fres γ (code w))) $ done !) in
-      let back = qed 𝓛 [] ∵ each ! (λ (z : List ℕ). wand 𝓤 (A.auth γ (code z)) (sem 𝓛 (fex (List ℕ) (From z)))) (λ z. assume ! (‵ (fauth γ (code z))) $
+      let said = qed 𝓛 [] ∵ each ! (λ (w : List ℕ). wand 𝓤 (A.res γ (code w)) (A.res γ (code w)))
+      (λ w. assume ! (‵ (fres γ (code w))) $ done !) in
+      let back =
+      qed 𝓛 [] ∵ each !
+      (λ (z : List ℕ). wand 𝓤 (A.auth γ (code z)) (sem 𝓛 (fex (List ℕ) (From z))))
+      (λ z. assume ! (‵ (fauth γ (code z))) $
       feq_i ! (List ℕ) z z refl $ fjoin ! $ fpack ! (List ℕ) (From z) z $ done !) in
       record { apply = λ a p. (said.apply a p, back.apply a p) }
 
   module _ (X E : Type 0) (name : X → GName) where
     -- at `Ok` with the lent borrow itself, the source rests at the last value of the view
     pub rests_ok : (b : ℕ × ℕ) (old : List ℕ) (v : X)
-        → ent 𝓤 (emp 𝓤) (sem 𝓛 (RestsIfErr Bytes (record { ref_ptr = b; ghost_name = name v; now = old }) name {E = E} (Ok v) (λ n. n ≡ old)))
+        → ent 𝓤 (emp 𝓤)
+        (sem 𝓛 (RestsIfErr Bytes (record { ref_ptr = b; ghost_name = name v; now = old })
+        name {E = E} (Ok v) (λ n. n ≡ old)))
     unfolding such_by follows_by
     rests_ok b old v =
         let code = Bytes.coded.code in
-        let From = λ (s : (x : (List ℕ → List ℕ) × List ℕ) × ((w : List ℕ) → x.0 w ≡ w) × ⊤). follows_by (List ℕ) (List ℕ) code code (name v) (some (name v)) s.0.0 s.0.1 in
-        qed 𝓛 [] ∵ use0 𝓛 (‵ (follows Bytes Bytes (name v) (name v) (λ w. w))) (follows_same (name v)) $
-        fpack ! ((x : (List ℕ → List ℕ) × List ℕ) × ((w : List ℕ) → x.0 w ≡ w) × ⊤) From (((λ w. w), old), (λ w. refl), tt) $ done !
+        let From = λ (s : (x : (List ℕ → List ℕ) × List ℕ) × ((w : List ℕ) → x.0 w ≡ w) × ⊤).
+        follows_by (List ℕ) (List ℕ) code code (name v) (some (name v)) s.0.0 s.0.1 in
+        qed 𝓛 [] ∵ use0 𝓛 (‵ (follows Bytes Bytes (name v) (name v) (λ w. w)))
+        (follows_same (name v)) $
+        fpack ! ((x : (List ℕ → List ℕ) × List ℕ) × ((w : List ℕ) → x.0 w ≡ w) × ⊤) From
+        (((λ w. w), old), (λ w. refl), tt) $ done !
 
     -- at `Err` the source rests at the value that it is known to have
     pub rests_err : (s : MutBor (List ℕ)) (e : E)
-        → ent 𝓤 (A.res s.ghost_name (Bytes.coded.code s.now)) (sem 𝓛 (RestsIfErr Bytes s name (Err e) (λ n. n ≡ s.now)))
+        → ent 𝓤 (A.res s.ghost_name (Bytes.coded.code s.now))
+        (sem 𝓛 (RestsIfErr Bytes s name (Err e) (λ n. n ≡ s.now)))
     unfolding such_by follows_by
     rests_err s e =
         let code = Bytes.coded.code in
-        let From = λ (r : (x : (List ℕ → List ℕ) × List ℕ) × (List ℕ → ⊤) × (x.1 ≡ s.now)). follows_by (List ℕ) (List ℕ) code code s.ghost_name none r.0.0 r.0.1 in
+        let From = λ (r : (x : (List ℕ → List ℕ) × List ℕ) × (List ℕ → ⊤) × (x.1 ≡ s.now)).
+        follows_by (List ℕ) (List ℕ) code code s.ghost_name none r.0.0 r.0.1 in
         qed 𝓛 (‵ (fres s.ghost_name (code s.now)) ∷ []) ∵
-        fpack ! ((x : (List ℕ → List ℕ) × List ℕ) × (List ℕ → ⊤) × (x.1 ≡ s.now)) From (((λ w. w), s.now), (λ w. tt), refl) $ done !
+        fpack ! ((x : (List ℕ → List ℕ) × List ℕ) × (List ℕ → ⊤) × (x.1 ≡ s.now)) From
+        (((λ w. w), s.now), (λ w. tt), refl) $ done !
 
     -- and so it has that value
     pub rested : (s : MutBor (List ℕ)) (e : E)
-        → ent 𝓤 (sem 𝓛 (RestsIfErr Bytes s name (Err e) (λ n. n ≡ s.now))) (A.res s.ghost_name (Bytes.coded.code s.now))
+        → ent 𝓤 (sem 𝓛 (RestsIfErr Bytes s name (Err e) (λ n. n ≡ s.now)))
+        (A.res s.ghost_name (Bytes.coded.code s.now))
     unfolding such_by follows_by
     rested s e =
         let code = Bytes.coded.code in
-        let From = λ (r : (x : (List ℕ → List ℕ) × List ℕ) × (List ℕ → ⊤) × (x.1 ≡ s.now)). follows_by (List ℕ) (List ℕ) code code s.ghost_name none r.0.0 r.0.1 in
-        qed 𝓛 (‵ (fex ((x : (List ℕ → List ℕ) × List ℕ) × (List ℕ → ⊤) × (x.1 ≡ s.now)) From) ∷ []) ∵
-        fpick ! (λ r. rewrite ! 0 (λ (xs : List ℕ). ‵ (fres s.ghost_name (code xs))) r.2 refl $ done !)
+        let From = λ (r : (x : (List ℕ → List ℕ) × List ℕ) × (List ℕ → ⊤) × (x.1 ≡ s.now)).
+        follows_by (List ℕ) (List ℕ) code code s.ghost_name none r.0.0 r.0.1 in
+        qed 𝓛 (‵ (fex ((x : (List ℕ → List ℕ) × List ℕ) × (List ℕ → ⊤) × (x.1 ≡ s.now)) From)
+        ∷ []) ∵
+        fpick ! (λ r. rewrite ! 0 (λ (xs : List ℕ). ‵ (fres s.ghost_name (code xs))) r.2 refl $
+        done !)
 
   -- a view that is let go leaves its source at the value that it has then
   pub given_up : (a : NamedLft) (v : AsciiStrMut) (vs : List Val)
-      → ent 𝓤 (sem 𝓛 ((V.the_row a).own_val v vs)) (H.⇛ (A.res v.bytes.ghost_name (Bytes.coded.code v.bytes.now)))
-  given_up a v vs = qed 𝓛 (‵ ((V.the_row a).own_val v vs) ∷ []) ∵ updating ! $ fpick ! (λ us. fsplit ! $ drop ! $ fsplit ! $ keep ! (0 ∷ []) $
+      → ent 𝓤 (sem 𝓛 ((V.the_row a).own_val v vs))
+      (H.⇛ (A.res v.bytes.ghost_name (Bytes.coded.code v.bytes.now)))
+  given_up a v vs = qed 𝓛 (‵ ((V.the_row a).own_val v vs) ∷ []) ∵ updating ! $ fpick !
+      (λ us. fsplit ! $ drop ! $ fsplit ! $ keep ! (0 ∷ []) $
       fsplit3 ! $ keep ! (1 ∷ []) $
-      rewrite ! 0 (λ (l : List ℕ). ‵ (fobs v.bytes.ghost_name (Bytes.coded.code l))) (heres_id u8 v.bytes.now) refl $ name_done ! tt $ now ! $ done !)
+      rewrite ! 0 (λ (l : List ℕ). ‵ (fobs v.bytes.ghost_name (Bytes.coded.code l)))
+      (heres_id u8 v.bytes.now) refl $ name_done ! tt $ now ! $ done !)
 
   -- what a search has is the view that it found, written as its fields say
   pub found_view : (a : NamedLft) (r : Searched) (vs : List Val)
-      → ent 𝓤 (sem 𝓛 ((S.the_row a).own_val r vs)) (sem 𝓛 ((V.the_row a).own_val r.view (view_laws.lowered r.view ∷ [])))
-  found_view a r vs = qed 𝓛 (‵ ((S.the_row a).own_val r vs) ∷ []) ∵ fpick ! (λ us. fsplit ! $ drop ! $ fsplit ! $ keep ! (0 ∷ []) $
+      → ent 𝓤 (sem 𝓛 ((S.the_row a).own_val r vs))
+      (sem 𝓛 ((V.the_row a).own_val r.view (view_laws.lowered r.view ∷ [])))
+  found_view a r vs = qed 𝓛 (‵ ((S.the_row a).own_val r vs) ∷ []) ∵ fpick !
+      (λ us. fsplit ! $ drop ! $ fsplit ! $ keep ! (0 ∷ []) $
       peeks ! (V.the_row a) _ (shows 𝓛 (V.the_row a)) r.view us.0 (λ is.
-      rewrite ! 0 (λ (ws : List Val). ‵ ((V.the_row a).own_val r.view ws)) ((view_laws.lowers a).val_is r.view us.0 is) refl $ done !))
+      rewrite ! 0 (λ (ws : List Val). ‵ ((V.the_row a).own_val r.view ws))
+      ((view_laws.lowers a).val_is r.view us.0 is) refl $ done !))
 
 -- the error of a position, made of its number
 pub error_made : {M : Type 1} {𝓤 : Ura M} (𝓛 : Logic 𝓤) (n : ℕ) → n < 2 ^ 64
-    → ent 𝓤 (emp 𝓤) (sem 𝓛 (E.the_row.own_val (record { valid_up_to = n }) (vstruct (vcons (vint w64 n) vnil) ∷ [])))
-error_made 𝓛 n fits = makes_shadow 𝓛 (E.the_row.own_val (record { valid_up_to = n }) (vstruct (vcons (vint w64 n) vnil) ∷ [])) (λ _. (tt, ((tt, tt), tt)))
+    → ent 𝓤 (emp 𝓤)
+    (sem 𝓛 (E.the_row.own_val (record { valid_up_to = n })
+    (vstruct (vcons (vint w64 n) vnil) ∷ [])))
+error_made 𝓛 n fits = makes_shadow 𝓛
+    (E.the_row.own_val (record { valid_up_to = n }) (vstruct (vcons (vint w64 n) vnil) ∷ []))
+    (λ _. (tt, ((tt, tt), tt)))
     ((vint w64 n ∷ [], tt), (refl, ((refl, fits), tt)))

@@ -1,17 +1,24 @@
 -- The pieces and the lines of a text with their starts, and how they break at either end.
-use Rattle.std.proofs.Common.{◌≡◌, ◌≢◌, ℕ, suc, ◌+◌, ◌≤◌, List, [], ◌∷◌, ◌++◌, length, append-nil, refl, sym, ap, ◌∙◌, subst, arith, length-append}
+use Rattle.std.proofs.Common.{◌≡◌, ◌≢◌, ℕ, suc, ◌+◌, ◌≤◌, List, [], ◌∷◌, ◌++◌, length, append-nil}
+use Rattle.std.proofs.Common.{refl, sym, ap, ◌∙◌, subst, arith, length-append}
 use Rattle.std.specs.List.{Contains, flat_map, join_with_byte}
 use Rattle.std.proofs.lemmas.List.Splits.{join_with_byte-slice_split}
 use Rattle.ascii.specs.declared.iter.cursor.Cursor.{Cursor}
 use Rattle.ascii.specs.declared.iter.spans.Ending.TheVariants.{Absent}
-use Rattle.ascii.specs.Found.{Free, HasWholeLines, IsCutBehindLastFeed, IsCutFirst, IsCutLast, ended_line, line_spans, lines_of, part_in, piece_spans, pieces_of}
+use Rattle.ascii.specs.Found.{Free, HasWholeLines, IsCutBehindLastFeed, IsCutFirst, IsCutLast}
+use Rattle.ascii.specs.Found.{ended_line, line_spans, lines_of, part_in, piece_spans, pieces_of}
 use Rattle.ascii.specs.Lines.{Line, LinesOf, line_text}
 use Rattle.ascii.specs.Pieces.{Pieces}
 use Rattle.ascii.specs.declared.iter.spans.SplitSpan.{SplitSpan}
-use Rattle.ascii.specs.Spans.{LineSpansOf, PieceSpans, piece_in, WithStart, items_of, line_size, piece_size, with_starts}
+use Rattle.ascii.specs.Spans.{LineSpansOf, PieceSpans, piece_in, WithStart, items_of, line_size}
+use Rattle.ascii.specs.Spans.{piece_size, with_starts}
 use Rattle.ascii.specs.View.{text_of}
-use Rattle.ascii.proofs.LinesLemmas.{LinesOf-lines_of, LinesOf-only, length-lines_of, line_text-ended, lines_of-cut_first, lines_of-last_ended, lines_of-last_open, lines_of-open, lines_of-some, not_whole}
-use Rattle.ascii.proofs.PiecesLemmas.{absent-from_Free, Pieces-only, Pieces-pieces_of, length-pieces_of, pieces_of-cut_first, pieces_of-cut_last, pieces_of-free, slice_split-some}
+use Rattle.ascii.proofs.LinesLemmas.{LinesOf-lines_of, LinesOf-only, length-lines_of}
+use Rattle.ascii.proofs.LinesLemmas.{line_text-ended, lines_of-cut_first, lines_of-last_ended}
+use Rattle.ascii.proofs.LinesLemmas.{lines_of-last_open, lines_of-open, lines_of-some, not_whole}
+use Rattle.ascii.proofs.PiecesLemmas.{absent-from_Free, Pieces-only, Pieces-pieces_of}
+use Rattle.ascii.proofs.PiecesLemmas.{length-pieces_of, pieces_of-cut_first, pieces_of-cut_last}
+use Rattle.ascii.proofs.PiecesLemmas.{pieces_of-free, slice_split-some}
 
 -- ---- items one behind the other
 
@@ -21,39 +28,51 @@ room size [] = 0
 room size (item ∷ items) = size item + room size items
 
 pub with_starts-last : {A : Type 0} (size : A → ℕ) (start : ℕ) (items : List A) (item : A)
-    → with_starts size start (items ++ item ∷ []) ≡ with_starts size start items ++ record { start = start + room size items; item = item } ∷ []
+    → with_starts size start (items ++ item ∷ []) ≡ with_starts size start items ++ record
+    { start = start + room size items; item = item } ∷ []
 with_starts-last {A} size start [] item =
     let at : ℕ → List (WithStart A) = λ n. record { start = n; item = item } ∷ [] in
     let none : start ≡ start + 0 = omega arith in
     ap at none
 with_starts-last {A} size start (first ∷ items) item =
-    let at : ℕ → List (WithStart A) = λ n. with_starts size (start + size first) items ++ record { start = n; item = item } ∷ [] in
-    let sum : start + size first + room size items ≡ start + (size first + room size items) = omega arith in
-    ap (λ others. record { start = start; item = first } ∷ others) (with_starts-last size (start + size first) items item ∙ ap at sum)
+    let at : ℕ → List (WithStart A) =
+    λ n. with_starts size (start + size first) items ++ record
+    { start = n; item = item } ∷ [] in
+    let sum : start + size first + room size items ≡ start + (size first + room size items) =
+    omega arith in
+    ap (λ others. record { start = start; item = first } ∷ others)
+    (with_starts-last size (start + size first) items item ∙ ap at sum)
 
 -- the items alone
-pub items-with_starts : {A : Type 0} (size : A → ℕ) (start : ℕ) (items : List A) → items_of (with_starts size start items) ≡ items
+pub items-with_starts : {A : Type 0} (size : A → ℕ) (start : ℕ) (items : List A)
+    → items_of (with_starts size start items) ≡ items
 items-with_starts size start [] = refl
-items-with_starts size start (item ∷ items) = ap (λ others. item ∷ others) (items-with_starts size (start + size item) items)
+items-with_starts size start (item ∷ items) =
+    ap (λ others. item ∷ others) (items-with_starts size (start + size item) items)
 
-length-with_starts : {A : Type 0} (size : A → ℕ) (start : ℕ) (items : List A) → length (with_starts size start items) ≡ length items
+length-with_starts : {A : Type 0} (size : A → ℕ) (start : ℕ) (items : List A)
+    → length (with_starts size start items) ≡ length items
 length-with_starts size start [] = refl
-length-with_starts size start (item ∷ items) = ap suc (length-with_starts size (start + size item) items)
+length-with_starts size start (item ∷ items) =
+    ap suc (length-with_starts size (start + size item) items)
 
 -- ---- pieces
 
 -- pieces take the room of the text and one separator
-pub room-pieces : (on : ℕ) (pieces : List (List ℕ)) → pieces ≢ [] → room piece_size pieces ≡ length (join_with_byte on pieces) + 1
+pub room-pieces : (on : ℕ) (pieces : List (List ℕ)) → pieces ≢ []
+    → room piece_size pieces ≡ length (join_with_byte on pieces) + 1
 room-pieces on [] some = absurd (some refl)
 room-pieces on (piece ∷ []) some = omega arith
 room-pieces on (piece ∷ next ∷ others) some =
     let more = room-pieces on (next ∷ others) (λ none. cc) in
-    let joined : length (join_with_byte on (piece ∷ next ∷ others)) ≡ length piece + (length (join_with_byte on (next ∷ others)) + 1) =
+    let joined : length (join_with_byte on (piece ∷ next ∷ others)) ≡ length
+    piece + (length (join_with_byte on (next ∷ others)) + 1) =
     length-append piece (on ∷ join_with_byte on (next ∷ others)) ∙ (omega arith) in
     omega (arith, more, joined)
 
 room-pieces_of : (on : ℕ) (t : List ℕ) → room piece_size (pieces_of on t) ≡ length t + 1
-room-pieces_of on t = room-pieces on (pieces_of on t) (slice_split-some _ t) ∙ ap (λ xs. length xs + 1) (join_with_byte-slice_split on t)
+room-pieces_of on t = room-pieces on (pieces_of on t) (slice_split-some _ t)
+    ∙ ap (λ xs. length xs + 1) (join_with_byte-slice_split on t)
 
 -- a piece that the search found to be free of the separator does not contain it
 pub free_piece : (on byte : ℕ) (cursor : Cursor) (span : SplitSpan) → byte ≡ on
@@ -66,19 +85,23 @@ free_piece on byte cursor span byte_is free is =
 
 module _ (on : ℕ) (part : WithStart (List ℕ)) where
   -- the first piece stands before the first separator
-  pub piece_spans_first : (byte : ℕ) (cut : Cursor × Cursor) (first : WithStart (List ℕ)) → byte ≡ on → IsCutFirst byte part cut → first ≡ part_in cut.0
+  pub piece_spans_first : (byte : ℕ) (cut : Cursor × Cursor) (first : WithStart (List ℕ))
+      → byte ≡ on → IsCutFirst byte part cut → first ≡ part_in cut.0
       → piece_spans on part ≡ first ∷ piece_spans on (part_in cut.1)
   piece_spans_first byte cut first byte_is found first_is =
       let is = subst (λ b. IsCutFirst b part cut) byte_is found in
       let others = pieces_of on (text_of cut.1.view) in
       let at : ℕ → WithStart (List ℕ) = λ n. record { start = n; item = text_of cut.0.view } in
-      ap (with_starts piece_size part.start) (pieces_of-cut_first on part.item (text_of cut.0.view) (text_of cut.1.view) is.0.text is.1)
+      ap (with_starts piece_size part.start)
+      (pieces_of-cut_first on part.item (text_of cut.0.view) (text_of cut.1.view) is.0.text
+      is.1)
       ∙ (ap (λ n. at part.start ∷ with_starts piece_size n others) (sym is.0.behind)
       ∙ (ap (λ n. at n ∷ piece_spans on (part_in cut.1)) (sym is.0.before)
       ∙ ap (λ one. one ∷ piece_spans on (part_in cut.1)) (sym first_is)))
 
   -- the last piece stands behind the last separator
-  pub piece_spans_last : (byte : ℕ) (cut : Cursor × Cursor) (last : WithStart (List ℕ)) → byte ≡ on → IsCutLast byte part cut → last ≡ part_in cut.1
+  pub piece_spans_last : (byte : ℕ) (cut : Cursor × Cursor) (last : WithStart (List ℕ))
+      → byte ≡ on → IsCutLast byte part cut → last ≡ part_in cut.1
       → piece_spans on part ≡ piece_spans on (part_in cut.0) ++ last ∷ []
   piece_spans_last byte cut last byte_is found last_is =
       let is = subst (λ b. IsCutLast b part cut) byte_is found in
@@ -86,30 +109,45 @@ module _ (on : ℕ) (part : WithStart (List ℕ)) where
       let at : ℕ → WithStart (List ℕ) = λ n. record { start = n; item = text_of cut.1.view } in
       let here : part.start + room piece_size front ≡ cut.1.start =
       ap (λ n. part.start + n) (room-pieces_of on (text_of cut.0.view)) ∙ sym is.0.behind in
-      ap (with_starts piece_size part.start) (pieces_of-cut_last on part.item (text_of cut.0.view) (text_of cut.1.view) is.0.text is.1)
+      ap (with_starts piece_size part.start)
+      (pieces_of-cut_last on part.item (text_of cut.0.view) (text_of cut.1.view) is.0.text
+      is.1)
       ∙ (with_starts-last piece_size part.start front (text_of cut.1.view)
       ∙ (ap (λ n. with_starts piece_size part.start front ++ at n ∷ []) here
       ∙ (ap (λ n. with_starts piece_size n front ++ part_in cut.1 ∷ []) (sym is.0.before)
       ∙ ap (λ one. piece_spans on (part_in cut.0) ++ one ∷ []) (sym last_is))))
 
   -- a text without the separator is its one piece
-  pub piece_spans_free : (byte : ℕ) (whole : WithStart (List ℕ)) → byte ≡ on → Free byte part.item → whole ≡ part → piece_spans on part ≡ whole ∷ []
+  pub piece_spans_free : (byte : ℕ) (whole : WithStart (List ℕ)) → byte ≡ on
+      → Free byte part.item → whole ≡ part → piece_spans on part ≡ whole ∷ []
   piece_spans_free byte whole byte_is free whole_is =
-      ap (with_starts piece_size part.start) (pieces_of-free on part.item (subst (λ b. Free b part.item) byte_is free))
+      ap (with_starts piece_size part.start)
+      (pieces_of-free on part.item (subst (λ b. Free b part.item) byte_is free))
       ∙ ap (λ one. one ∷ []) (sym whole_is)
 
   -- the pieces found are in the relation, and no others are
   pub piece_spans_found : PieceSpans part.start part.item on (piece_spans on part)
   piece_spans_found =
       let alone = sym (items-with_starts piece_size part.start (pieces_of on part.item)) in
-      record { pieces = subst (Pieces part.item on) alone (Pieces-pieces_of part.item on); starts = ap (with_starts piece_size part.start) alone }
+      record {
+        pieces = subst (Pieces part.item on) alone (Pieces-pieces_of part.item on);
+        starts = ap (with_starts piece_size part.start) alone;
+      }
 
-  pub piece_spans_only : (spans : List (WithStart (List ℕ))) → PieceSpans part.start part.item on spans → spans ≡ piece_spans on part
-  piece_spans_only spans held = held.starts ∙ ap (with_starts piece_size part.start) (Pieces-only part.item on (items_of spans) held.pieces)
+  pub piece_spans_only : (spans : List (WithStart (List ℕ)))
+      → PieceSpans part.start part.item on spans → spans ≡ piece_spans on part
+  piece_spans_only spans held = held.starts
+      ∙ ap (with_starts piece_size part.start)
+      (Pieces-only part.item on (items_of spans) held.pieces)
 
   -- there is at most one more than the codes of the text
   pub piece_spans_fit : length (piece_spans on part) ≤ length part.item + 1
-  piece_spans_fit = omega (arith, length-with_starts piece_size part.start (pieces_of on part.item), length-pieces_of on part.item)
+  piece_spans_fit =
+      omega (
+        arith,
+        length-with_starts piece_size part.start (pieces_of on part.item),
+        length-pieces_of on part.item,
+      )
 
 -- ---- lines
 
@@ -117,7 +155,8 @@ module _ (on : ℕ) (part : WithStart (List ℕ)) where
 pub room-lines : (lines : List Line) → room line_size lines ≡ length (flat_map line_text lines)
 room-lines [] = refl
 room-lines (line ∷ lines) =
-    ap (λ n. line_size line + n) (room-lines lines) ∙ sym (length-append (line_text line) (flat_map line_text lines))
+    ap (λ n. line_size line + n) (room-lines lines)
+    ∙ sym (length-append (line_text line) (flat_map line_text lines))
 
 room-lines_of : (t : List ℕ) → room line_size (lines_of t) ≡ length t
 room-lines_of t = room-lines (lines_of t) ∙ ap length ((LinesOf-lines_of t).joined)
@@ -131,16 +170,19 @@ module _ (part : WithStart (List ℕ)) where
       let others = lines_of (text_of cut.1.view) in
       let line = ended_line (text_of cut.0.view) in
       let size : line_size line ≡ length (text_of cut.0.view) + 1 =
-      ap length (line_text-ended (text_of cut.0.view)) ∙ length-append (text_of cut.0.view) (10 ∷ []) in
+      ap length (line_text-ended (text_of cut.0.view))
+      ∙ length-append (text_of cut.0.view) (10 ∷ []) in
       let at : ℕ → WithStart Line = λ n. record { start = n; item = line } in
-      ap (with_starts line_size part.start) (lines_of-cut_first part.item (text_of cut.0.view) (text_of cut.1.view) is.0.text is.1)
+      ap (with_starts line_size part.start)
+      (lines_of-cut_first part.item (text_of cut.0.view) (text_of cut.1.view) is.0.text is.1)
       ∙ (ap (λ n. at part.start ∷ with_starts line_size (part.start + n) others) size
       ∙ (ap (λ n. at part.start ∷ with_starts line_size n others) (sym is.0.behind)
       ∙ (ap (λ n. at n ∷ line_spans (part_in cut.1)) (sym is.0.before)
       ∙ ap (λ one. one ∷ line_spans (part_in cut.1)) (sym first_is))))
 
   -- a text without LF is one line, and none where it is empty
-  pub line_spans_open : (cursor : Cursor) (only : WithStart Line) → Free 10 part.item → part.item ≢ [] → text_of cursor.view ≡ []
+  pub line_spans_open : (cursor : Cursor) (only : WithStart Line) → Free 10 part.item
+      → part.item ≢ [] → text_of cursor.view ≡ []
       → only ≡ record { start = part.start; item = record { body = part.item; ending = Absent } }
       → line_spans part ≡ only ∷ line_spans (part_in cursor)
   line_spans_open cursor only free some none only_is =
@@ -154,60 +196,92 @@ module _ (part : WithStart (List ℕ)) where
   -- a text that is not empty has a line
   pub line_spans_some : part.item ≢ [] → line_spans part ≢ []
   line_spans_some some none =
-      absurd (lines_of-some part.item some (sym (items-with_starts line_size part.start (lines_of part.item)) ∙ ap items_of none))
+      absurd (lines_of-some part.item some
+      (sym (items-with_starts line_size part.start (lines_of part.item)) ∙ ap items_of none))
 
   -- the last line stands behind whole lines
-  line_spans_behind : (cut : Cursor × Cursor) (line : Line) → cut.0.start ≡ part.start → cut.1.start ≡ part.start + length (text_of cut.0.view)
+  line_spans_behind : (cut : Cursor × Cursor) (line : Line) → cut.0.start ≡ part.start
+      → cut.1.start ≡ part.start + length (text_of cut.0.view)
       → lines_of part.item ≡ lines_of (text_of cut.0.view) ++ line ∷ []
-      → line_spans part ≡ line_spans (part_in cut.0) ++ record { start = cut.1.start; item = line } ∷ []
+      → line_spans part ≡ line_spans (part_in cut.0) ++ record
+      { start = cut.1.start; item = line } ∷ []
   line_spans_behind cut line before behind is =
       let front = lines_of (text_of cut.0.view) in
       let at : ℕ → WithStart Line = λ n. record { start = n; item = line } in
-      let here : part.start + room line_size front ≡ cut.1.start = ap (λ n. part.start + n) (room-lines_of (text_of cut.0.view)) ∙ sym behind in
+      let here : part.start + room line_size front ≡ cut.1.start =
+      ap (λ n. part.start + n) (room-lines_of (text_of cut.0.view)) ∙ sym behind in
       ap (with_starts line_size part.start) is
       ∙ (with_starts-last line_size part.start front line
       ∙ (ap (λ n. with_starts line_size part.start front ++ at n ∷ []) here
       ∙ ap (λ n. with_starts line_size n front ++ at cut.1.start ∷ []) (sym before)))
 
   -- the last line of a text that ends in LF, which is cut in front of that
-  pub line_spans_last_ended : (front : Cursor) (cut : Cursor × Cursor) (last : WithStart Line) → part.item ≡ text_of front.view ++ 10 ∷ [] → front.start ≡ part.start
-      → IsCutBehindLastFeed (part_in front) cut → last ≡ record { start = cut.1.start; item = ended_line (text_of cut.1.view) }
+  pub line_spans_last_ended : (front : Cursor) (cut : Cursor × Cursor) (last : WithStart Line)
+      → part.item ≡ text_of front.view ++ 10 ∷ [] → front.start ≡ part.start
+      → IsCutBehindLastFeed (part_in front) cut
+      → last ≡ record { start = cut.1.start; item = ended_line (text_of cut.1.view) }
       → line_spans part ≡ line_spans (part_in cut.0) ++ last ∷ []
   line_spans_last_ended front cut last ends starts is last_is =
-      line_spans_behind cut (ended_line (text_of cut.1.view)) (is.before ∙ starts) (is.behind ∙ ap (λ n. n + length (text_of cut.0.view)) starts)
-      (ap lines_of ends ∙ lines_of-last_ended (text_of front.view) (text_of cut.0.view) (text_of cut.1.view) is.text is.whole is.free)
+      line_spans_behind cut (ended_line (text_of cut.1.view)) (is.before ∙ starts)
+      (is.behind ∙ ap (λ n. n + length (text_of cut.0.view)) starts)
+      (ap lines_of ends ∙ lines_of-last_ended (text_of front.view) (text_of cut.0.view)
+      (text_of cut.1.view) is.text is.whole is.free)
       ∙ ap (λ one. line_spans (part_in cut.0) ++ one ∷ []) (sym last_is)
 
   -- the last line of a text that does not
-  pub line_spans_last_open : (front : List ℕ) (code : ℕ) (cut : Cursor × Cursor) (last : WithStart Line) → part.item ≡ front ++ code ∷ [] → code ≢ 10
-      → IsCutBehindLastFeed part cut → last ≡ record { start = cut.1.start; item = record { body = text_of cut.1.view; ending = Absent } }
+  pub line_spans_last_open : (front : List ℕ) (code : ℕ) (cut : Cursor × Cursor)
+      (last : WithStart Line) → part.item ≡ front ++ code ∷ [] → code ≢ 10
+      → IsCutBehindLastFeed part cut
+      → last ≡ record {
+        start = cut.1.start;
+        item =
+            record { body = text_of cut.1.view; ending = Absent };
+      }
       → line_spans part ≡ line_spans (part_in cut.0) ++ last ∷ []
   line_spans_last_open front code cut last ends other is last_is =
       let some : text_of cut.1.view ≢ [] = λ none. not_whole front code other
-      (subst HasWholeLines (sym (append-nil (text_of cut.0.view)) ∙ (ap (λ b. text_of cut.0.view ++ b) (sym none) ∙ (sym is.text ∙ ends))) is.whole) in
-      line_spans_behind cut (record { body = text_of cut.1.view; ending = Absent }) is.before is.behind
-      (lines_of-last_open part.item (text_of cut.0.view) (text_of cut.1.view) is.text is.whole is.free some)
+      (subst HasWholeLines (sym (append-nil (text_of cut.0.view))
+      ∙ (ap (λ b. text_of cut.0.view ++ b) (sym none) ∙ (sym is.text ∙ ends))) is.whole) in
+      line_spans_behind cut (record { body = text_of cut.1.view; ending = Absent }) is.before
+      is.behind
+      (lines_of-last_open part.item (text_of cut.0.view) (text_of cut.1.view) is.text is.whole
+      is.free some)
       ∙ ap (λ one. line_spans (part_in cut.0) ++ one ∷ []) (sym last_is)
 
   -- the lines found are in the relation, and no others are
   pub line_spans_found : LineSpansOf part.start part.item (line_spans part)
   line_spans_found =
       let alone = sym (items-with_starts line_size part.start (lines_of part.item)) in
-      record { lines = subst (LinesOf part.item) alone (LinesOf-lines_of part.item); starts = ap (with_starts line_size part.start) alone }
+      record {
+        lines = subst (LinesOf part.item) alone (LinesOf-lines_of part.item);
+        starts =
+            ap (with_starts line_size part.start) alone;
+      }
 
-  pub line_spans_only : (spans : List (WithStart Line)) → LineSpansOf part.start part.item spans → spans ≡ line_spans part
-  line_spans_only spans held = held.starts ∙ ap (with_starts line_size part.start) (LinesOf-only part.item (items_of spans) held.lines)
+  pub line_spans_only : (spans : List (WithStart Line)) → LineSpansOf part.start part.item spans
+      → spans ≡ line_spans part
+  line_spans_only spans held = held.starts
+      ∙ ap (with_starts line_size part.start) (LinesOf-only part.item (items_of spans) held.lines)
 
   -- there is at most one more than the codes of the text
   pub line_spans_fit : length (line_spans part) ≤ length part.item + 1
-  line_spans_fit = omega (arith, length-with_starts line_size part.start (lines_of part.item), length-lines_of part.item)
+  line_spans_fit =
+      omega (
+        arith,
+        length-with_starts line_size part.start (lines_of part.item),
+        length-lines_of
+            part.item,
+      )
 
 -- ---- two lists of one text are one
 
-pub same_pieces : (t : List ℕ) (on : ℕ) (pieces others : List (List ℕ)) → Pieces t on pieces → Pieces t on others → others ≡ pieces
-same_pieces t on pieces others one two = Pieces-only t on others two ∙ sym (Pieces-only t on pieces one)
+pub same_pieces : (t : List ℕ) (on : ℕ) (pieces others : List (List ℕ)) → Pieces t on pieces
+    → Pieces t on others → others ≡ pieces
+same_pieces t on pieces others one two =
+    Pieces-only t on others two ∙ sym (Pieces-only t on pieces one)
 
-pub same_lines : (t : List ℕ) (lines others : List Line) → LinesOf t lines → LinesOf t others → others ≡ lines
+pub same_lines : (t : List ℕ) (lines others : List Line) → LinesOf t lines → LinesOf t others
+    → others ≡ lines
 same_lines t lines others one two = LinesOf-only t others two ∙ sym (LinesOf-only t lines one)
 
 -- items are some where their spans are

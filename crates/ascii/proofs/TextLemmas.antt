@@ -1,5 +1,6 @@
 -- Edits of a text leave codes alone.
-use Rattle.std.proofs.Common.{ℕ, ◌≡◌, map, ◌<◌, List, ◌∷◌, ◌++◌, ◌≤◌, length, take, drop, arith, Err, refl, subst, sym}
+use Rattle.std.proofs.Common.{ℕ, ◌≡◌, map, ◌<◌, List, ◌∷◌, ◌++◌, ◌≤◌, length, take, drop, arith}
+use Rattle.std.proofs.Common.{Err, refl, subst, sym}
 use Rattle.std.proofs.lemmas.Bool.Decides.{nat_tests}
 use Rattle.std.specs.Str.{IsAscii}
 use Rattle.std.specs.List.{insert}
@@ -19,32 +20,42 @@ pub lower_image-below : (n : ℕ) → n < 128 → lower_image n < 128
 lower_image-below n h = grind (arith, nat_tests)
 
 -- a text with another one inside is a text
-pub IsAscii-insert_text : (t : List ℕ) (i : ℕ) (piece : List ℕ) → IsAscii t → IsAscii piece → IsAscii (insert_text t i piece)
+pub IsAscii-insert_text : (t : List ℕ) (i : ℕ) (piece : List ℕ) → IsAscii t → IsAscii piece
+    → IsAscii (insert_text t i piece)
 IsAscii-insert_text t i piece a b =
-    IsAscii-append (take i t) (piece ++ drop i t) (IsAscii-take t i a) (IsAscii-append piece (drop i t) b (IsAscii-drop t i a))
+    IsAscii-append (take i t) (piece ++ drop i t) (IsAscii-take t i a)
+    (IsAscii-append piece (drop i t) b (IsAscii-drop t i a))
 
 -- a text with a code inside is a text
 pub IsAscii-insert : (t : List ℕ) (i n : ℕ) → IsAscii t → n < 128 → IsAscii (insert t i n)
 IsAscii-insert t i n a b =
-    IsAscii-append (take i t) (n ∷ drop i t) (IsAscii-take t i a) (IsAscii-cons n (drop i t) b (IsAscii-drop t i a))
+    IsAscii-append (take i t) (n ∷ drop i t) (IsAscii-take t i a)
+    (IsAscii-cons n (drop i t) b (IsAscii-drop t i a))
 
 -- the bytes of a buffer after the front of them is written anew
-IsAscii-written : (n : ℕ) (new old : List ℕ) → IsAscii new → IsAscii old → IsAscii (take n (new ++ drop (length new) old))
+IsAscii-written : (n : ℕ) (new old : List ℕ) → IsAscii new → IsAscii old
+    → IsAscii (take n (new ++ drop (length new) old))
 IsAscii-written n new old a b =
-    IsAscii-take (new ++ drop (length new) old) n (IsAscii-append new (drop (length new) old) a (IsAscii-drop old (length new) b))
+    IsAscii-take (new ++ drop (length new) old) n
+    (IsAscii-append new (drop (length new) old) a (IsAscii-drop old (length new) b))
 
 -- the bytes of a buffer after a text in front of them is mapped to codes
-pub IsAscii-mapped : (f : ℕ → ℕ) → ((b : ℕ) → b < 128 → f b < 128) → (n : ℕ) (new shown old : List ℕ)
-    → new ≡ map f shown → shown ≡ old → IsAscii old → IsAscii (take n (new ++ drop (length new) old))
+pub IsAscii-mapped : (f : ℕ → ℕ) → ((b : ℕ) → b < 128 → f b < 128)
+    → (n : ℕ) (new shown old : List ℕ)
+    → new ≡ map f shown → shown ≡ old → IsAscii old
+    → IsAscii (take n (new ++ drop (length new) old))
 IsAscii-mapped f small n new shown old mapped is ascii =
-    IsAscii-written n new old (subst IsAscii (sym mapped) (IsAscii-map f shown small (subst IsAscii (sym is) ascii))) ascii
+    IsAscii-written n new old
+    (subst IsAscii (sym mapped) (IsAscii-map f shown small (subst IsAscii (sym is) ascii)))
+    ascii
 
 -- a byte past 127 is no text, and no empty one
 pub no_text : (bytes : List ℕ) (i : ℕ) → FirstOther bytes 0 (length bytes) i → ¬ (IsAscii bytes)
 no_text bytes i other ascii = omega (arith, other.other, ascii i)
 
 -- what is no text is refused by writing, and the string stays
-pub Writes-refused : (piece : List ℕ) (held : StringState) (e : Error) → length held.text ≤ held.capacity → ¬ (IsAscii piece) → Writes piece held held (Err e)
+pub Writes-refused : (piece : List ℕ) (held : StringState) (e : Error)
+    → length held.text ≤ held.capacity → ¬ (IsAscii piece) → Writes piece held held (Err e)
 Writes-refused piece held e room none = record {
   ok = tt;
   ascii = tt;

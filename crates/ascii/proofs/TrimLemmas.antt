@@ -1,5 +1,6 @@
 -- The places of the first and of the last byte that is no white space cut a text as a trim does.
-use Rattle.std.proofs.Common.{◌≡◌, ℕ, ◌+◌, ◌-◌, ◌<◌, List, [], length, get_or, take, drop, arith, Option, None, Some, MatchOption, unwrap_or, sym, subst}
+use Rattle.std.proofs.Common.{◌≡◌, ℕ, ◌+◌, ◌-◌, ◌<◌, List, [], length, get_or, take, drop, arith}
+use Rattle.std.proofs.Common.{Option, None, Some, MatchOption, unwrap_or, sym, subst}
 use Rattle.std.specs.Option.{IfSome, option_map_or}
 use Rattle.std.specs.List.{All, slice_get}
 use Rattle.std.proofs.lemmas.Grind.{common_steps}
@@ -11,21 +12,24 @@ use Rattle.ascii_base.specs.Class.{IsWhitespace}
 use Rattle.ascii.specs.Trim.{TrimsEnd, TrimsStart}
 
 -- a list whose element at a place is no white space
-bounded_at : (t : List ℕ) (i x : ℕ) → i < length t → get_or t i 0 ≡ x → ¬ (IsWhitespace x) → IfSome (slice_get t i) (λ c. ¬ (IsWhitespace c))
+bounded_at : (t : List ℕ) (i x : ℕ) → i < length t → get_or t i 0 ≡ x → ¬ (IsWhitespace x)
+    → IfSome (slice_get t i) (λ c. ¬ (IsWhitespace c))
 bounded_at t i x inside is other =
     let P : Option ℕ → Type 0 = λ o. IfSome o (λ c. ¬ (IsWhitespace c)) in
     let Q : ℕ → Type 0 = λ c. ¬ (IsWhitespace c) in
     subst P (sym (slice_get-get_or t i 0 inside)) (subst Q (sym is) other)
 
 -- a trim of the front
-pub TrimsStart-cut : (t : List ℕ) (r : Option ℕ) (start : ℕ) → MatchOption r (All IsWhitespace t) (IsFirstNot IsWhitespace t 0 (length t))
+pub TrimsStart-cut : (t : List ℕ) (r : Option ℕ) (start : ℕ)
+    → MatchOption r (All IsWhitespace t) (IsFirstNot IsWhitespace t 0 (length t))
     → start ≡ unwrap_or r (length t) → TrimsStart t (take (length t - start) (drop start t))
 TrimsStart-cut t None start white is = record {
   cut = t;
   parts = grind (arith, common_steps);
   white = white;
   bounded = let e : take (length t - start) (drop start t) ≡ [] = grind (arith, common_steps) in
-      let P : List ℕ → Type 0 = λ m. IfSome (slice_get m 0) (λ c. ¬ (IsWhitespace c)) in subst P (sym e) tt;
+      let P : List ℕ → Type 0 = λ m. IfSome (slice_get m 0) (λ c. ¬ (IsWhitespace c)) in
+      subst P (sym e) tt;
 }
 TrimsStart-cut t (Some i) start first is =
     let inside : i < length t = first.inside in
@@ -43,14 +47,16 @@ TrimsStart-cut t (Some i) start first is =
     }
 
 -- a trim of the back
-pub TrimsEnd-cut : (t : List ℕ) (r : Option ℕ) (end : ℕ) → MatchOption r (All IsWhitespace t) (IsLastNot IsWhitespace t)
+pub TrimsEnd-cut : (t : List ℕ) (r : Option ℕ) (end : ℕ)
+    → MatchOption r (All IsWhitespace t) (IsLastNot IsWhitespace t)
     → end ≡ option_map_or (λ last. last + 1) r 0 → TrimsEnd t (take end t)
 TrimsEnd-cut t None end white is = record {
   cut = t;
   parts = grind (arith, common_steps);
   white = white;
   bounded = let e : take end t ≡ [] = grind (arith, common_steps) in
-      let P : List ℕ → Type 0 = λ m. IfSome (slice_get m (length m - 1)) (λ c. ¬ (IsWhitespace c)) in subst P (sym e) tt;
+      let P : List ℕ → Type 0 = λ m. IfSome (slice_get m (length m - 1))
+      (λ c. ¬ (IsWhitespace c)) in subst P (sym e) tt;
 }
 TrimsEnd-cut t (Some i) end last is =
     let inside : i < length t = last.inside in

@@ -1,5 +1,6 @@
 -- What the bounds of an accepted part say of a writing view of it.
-use Rattle.std.proofs.Common.{map, ap, sym, ◌∙◌, ◌≡◌, ℕ, ◌-◌, ◌+◌, ◌<◌, ◌≤◌, List, length, get_or, arith, subst}
+use Rattle.std.proofs.Common.{map, ap, sym, ◌∙◌, ◌≡◌, ℕ, ◌-◌, ◌+◌, ◌<◌, ◌≤◌, List, length, get_or}
+use Rattle.std.proofs.Common.{arith, subst}
 use Rattle.std.specs.List.{slice_range}
 use Rattle.std.specs.Str.{IsAscii}
 use Rattle.ascii_base.specs.declared.range.AsciiRange.{AsciiRange}
@@ -15,7 +16,8 @@ use Rattle.ascii.proofs.ListLemmas.{slice_range-at, length-slice_range}
 use Rattle.ascii.proofs.TextLemmas.{lower_image-below, upper_image-below}
 
 -- a part that holds only bytes under 128 holds them between its ends
-pub AsciiBetween-part : (bytes : List ℕ) (s e : ℕ) → IsAscii (slice_range bytes s e) → AsciiBetween bytes s e
+pub AsciiBetween-part : (bytes : List ℕ) (s e : ℕ) → IsAscii (slice_range bytes s e)
+    → AsciiBetween bytes s e
 AsciiBetween-part bytes s e ascii k from to =
     let P : ℕ → Type 0 = λ n. n < 128 in
     let place : s + (k - s) ≡ k = omega arith in
@@ -31,25 +33,32 @@ bounds_hold bytes r s e bounds =
     let end : e ≡ end_of r n = bounds.end in
     let ordered : start_of r ≤ end_of r n = bounds.fits.0 in
     let inside : end_of r n ≤ n = bounds.fits.1 in
-    let part : AsciiBetween bytes (start_of r) (end_of r n) = AsciiBetween-part bytes (start_of r) (end_of r n) bounds.ascii in
+    let part : AsciiBetween bytes (start_of r) (end_of r n) =
+    AsciiBetween-part bytes (start_of r) (end_of r n) bounds.ascii in
     (omega arith, omega arith, λ k from to. part k (omega arith) (omega arith))
 
 -- bytes under 128 between the ends of a part are those of the part
-IsAscii-part : (bytes : List ℕ) (s e : ℕ) → s ≤ e → e ≤ length bytes → AsciiBetween bytes s e → IsAscii (slice_range bytes s e)
+IsAscii-part : (bytes : List ℕ) (s e : ℕ) → s ≤ e → e ≤ length bytes → AsciiBetween bytes s e
+    → IsAscii (slice_range bytes s e)
 IsAscii-part bytes s e ordered inside ascii =
     let P : ℕ → Type 0 = λ n. n < 128 in
-    let long : length (slice_range bytes s e) ≡ e - s = length-slice_range bytes s e ordered inside in
+    let long : length (slice_range bytes s e) ≡ e - s =
+    length-slice_range bytes s e ordered inside in
     IsAscii-from_reads (slice_range bytes s e) (e - s) (omega arith) (λ k below.
     subst P (sym (slice_range-at bytes s e k below)) (ascii (s + k) (omega arith) (omega arith)))
 
 -- a part that is mapped to bytes under 128 keeps to them
-AsciiBetween-mapped : (f : ℕ → ℕ) → ((b : ℕ) → b < 128 → f b < 128) → (xs ys : List ℕ) (s e : ℕ) → s ≤ e → e ≤ length xs → AsciiBetween xs s e
+AsciiBetween-mapped : (f : ℕ → ℕ) → ((b : ℕ) → b < 128 → f b < 128) → (xs ys : List ℕ) (s e : ℕ)
+    → s ≤ e → e ≤ length xs → AsciiBetween xs s e
     → ys ≡ map f (slice_range xs s e) → AsciiBetween (put_mid s (e - s) xs ys) s e
 AsciiBetween-mapped f small xs ys s e ordered inside ascii is =
-    let long : length ys ≡ e - s = ap length is ∙ length-map (slice_range xs s e) f ∙ length-slice_range xs s e ordered inside in
-    let part : slice_range (put_mid s (e - s) xs ys) s e ≡ map f (slice_range xs s e) = between-put_mid s (e - s) xs ys e (omega arith) long ∙ is in
+    let long : length ys ≡ e - s = ap length is ∙ length-map (slice_range xs s e) f
+    ∙ length-slice_range xs s e ordered inside in
+    let part : slice_range (put_mid s (e - s) xs ys) s e ≡ map f (slice_range xs s e) =
+    between-put_mid s (e - s) xs ys e (omega arith) long ∙ is in
     AsciiBetween-part (put_mid s (e - s) xs ys) s e
-    (subst IsAscii (sym part) (IsAscii-map f (slice_range xs s e) small (IsAscii-part xs s e ordered inside ascii)))
+    (subst IsAscii (sym part)
+    (IsAscii-map f (slice_range xs s e) small (IsAscii-part xs s e ordered inside ascii)))
 
 -- a part keeps to bytes under 128 in either case
 pub AsciiBetween-upper : (xs ys : List ℕ) (s e : ℕ) → s ≤ e → e ≤ length xs → AsciiBetween xs s e

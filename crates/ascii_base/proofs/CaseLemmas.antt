@@ -1,9 +1,17 @@
 -- Images in upper and lower case, of vectors, of parts and of whole lists.
-use Rattle.std.proofs.Common.{◌≡◌, ◌↔◌, ℕ, ◌+◌, ◌-◌, ◌%◌, ◌^◌, ◌<◌, ◌≤◌, ltb, eqb, not, true, cond, List, [], ◌∷◌, ◌++◌, map, length, get_or, take, drop, replicate, Fits, w8, bit_and, bit_or, refl, sym, ap, ap₂, ◌∙◌, arith, inl, inr, take-add, drop-drop}
+use Rattle.std.proofs.Common.{◌≡◌, ◌↔◌, ℕ, ◌+◌, ◌-◌, ◌%◌, ◌^◌, ◌<◌, ◌≤◌, ltb, eqb, not, true, cond}
+use Rattle.std.proofs.Common.{List, [], ◌∷◌, ◌++◌, map, length, get_or, take, drop, replicate, Fits}
+use Rattle.std.proofs.Common.{w8, bit_and, bit_or, refl, sym, ap, ap₂, ◌∙◌, arith, inl, inr}
+use Rattle.std.proofs.Common.{take-add, drop-drop}
 use Rattle.std.proofs.Math.Seq.{take-append_seam, drop-append_seam}
-use Rattle.std.proofs.lemmas.Bool.{agree_below, agree_below_at, eqb-true, eqb-false, eq-eqb, cases_Bool}
-use Rattle.std.proofs.lemmas.List.{length-map, map-append, append_assoc, append-nil, append_cancel_left, take-append-drop, take-take, take-map, take_all, drop_all, length-take, length-take-le, length-drop, map_more}
-use Rattle.std.proofs.lemmas.Simd.{put_chunk_is, length-chunk, length-zip2, bitmask_splat, splat_is_map, zip2_of_maps, zip2_splat, map-map}
+use Rattle.std.proofs.lemmas.Bool.{agree_below, agree_below_at, eqb-true, eqb-false, eq-eqb}
+use Rattle.std.proofs.lemmas.Bool.{cases_Bool}
+use Rattle.std.proofs.lemmas.List.{length-map, map-append, append_assoc, append-nil}
+use Rattle.std.proofs.lemmas.List.{append_cancel_left, take-append-drop, take-take, take-map}
+use Rattle.std.proofs.lemmas.List.{take_all, drop_all, length-take, length-take-le, length-drop}
+use Rattle.std.proofs.lemmas.List.{map_more}
+use Rattle.std.proofs.lemmas.Simd.{put_chunk_is, length-chunk, length-zip2, bitmask_splat}
+use Rattle.std.proofs.lemmas.Simd.{splat_is_map, zip2_of_maps, zip2_splat, map-map}
 use borrow.Rule.Slice.PartMut.{put_mid, mid_of}
 use lib.Bits.{bit_xor}
 use lib.Lanes.{zip2, mask_l, top, sel_l, chunk, put_chunk, Each1}
@@ -12,64 +20,105 @@ use Rattle.ascii_base.specs.Lanes.{SameBefore}
 use Rattle.ascii_base.proofs.LanesLemmas.{chosen}
 
 -- two maps that agree on each byte agree on a vector
-pub same_on_bytes : (f g : ℕ → ℕ) → agree_below (λ x. eqb (f x) (g x)) (λ _. true) 256 ≡ true → (lanes : List ℕ) → Each1 (Fits w8) lanes → map f lanes ≡ map g lanes
+pub same_on_bytes : (f g : ℕ → ℕ) → agree_below (λ x. eqb (f x) (g x)) (λ _. true) 256 ≡ true
+    → (lanes : List ℕ) → Each1 (Fits w8) lanes → map f lanes ≡ map g lanes
 same_on_bytes f g all [] fits = refl
 same_on_bytes f g all (x ∷ xs) fits =
-    ap₂ (λ a r. a ∷ r) (eqb-true _ _ (agree_below_at (λ y. eqb (f y) (g y)) (λ _. true) 256 x all fits.0.fits)) (same_on_bytes f g all xs fits.1)
+    ap₂ (λ a r. a ∷ r)
+    (eqb-true _ _ (agree_below_at (λ y. eqb (f y) (g y)) (λ _. true) 256 x all fits.0.fits))
+    (same_on_bytes f g all xs fits.1)
 
 -- a map of the chunk at i, behind bytes that are mapped
-pub map_chunk_more : (f : ℕ → ℕ) (xs ys : List ℕ) (i n : ℕ) → i + n ≤ length xs → ys ≡ map f (take i xs) ++ drop i xs
+pub map_chunk_more : (f : ℕ → ℕ) (xs ys : List ℕ) (i n : ℕ) → i + n ≤ length xs
+    → ys ≡ map f (take i xs) ++ drop i xs
     → put_chunk i ys (map f (chunk i n ys)) ≡ map f (take (i + n) xs) ++ drop (i + n) xs
 map_chunk_more f xs ys i n room e =
     let front = map f (take i xs) in
     let at : length front ≡ i = length-map (take i xs) f ∙ length-take-le i xs (omega arith) in
-    let rest : drop i ys ≡ drop i xs = ap (drop i) e ∙ ap (λ k. drop k (front ++ drop i xs)) (sym at) ∙ drop-append_seam front (drop i xs) in
-    let before : take i ys ≡ front = ap (take i) e ∙ ap (λ k. take k (front ++ drop i xs)) (sym at) ∙ take-append_seam front (drop i xs) in
-    let size : length (map f (chunk i n ys)) ≡ n = length-map (chunk i n ys) f ∙ ap (λ l. length (take n l)) rest ∙ length-chunk i n xs room in
-    let whole : length ys ≡ length xs = omega (arith, ap length rest, length-drop i ys, length-drop i xs, ap length before, length-take i ys) in
+    let rest : drop i ys ≡ drop i xs =
+    ap (drop i) e ∙ ap (λ k. drop k (front ++ drop i xs)) (sym at)
+    ∙ drop-append_seam front (drop i xs) in
+    let before : take i ys ≡ front =
+    ap (take i) e ∙ ap (λ k. take k (front ++ drop i xs)) (sym at)
+    ∙ take-append_seam front (drop i xs) in
+    let size : length (map f (chunk i n ys)) ≡ n =
+    length-map (chunk i n ys) f ∙ ap (λ l. length (take n l)) rest
+    ∙ length-chunk i n xs room in
+    let whole : length ys ≡ length xs =
+    omega (
+      arith,
+      ap length rest,
+      length-drop i ys,
+      length-drop i xs,
+      ap length before,
+      length-take i ys,
+    ) in
     put_chunk_is i ys (map f (chunk i n ys)) (omega arith)
-    ∙ ap₂ (λ a b. a ++ b) before (ap₂ (λ a b. a ++ b) (ap (λ l. map f (take n l)) rest) (ap₂ drop size rest ∙ drop-drop n i xs))
+    ∙ ap₂ (λ a b. a ++ b) before
+    (ap₂ (λ a b. a ++ b) (ap (λ l. map f (take n l)) rest)
+    (ap₂ drop size rest ∙ drop-drop n i xs))
     ∙ sym (append_assoc front (map f (chunk i n xs)) (drop (i + n) xs))
-    ∙ ap (λ l. l ++ drop (i + n) xs) (sym (map-append f (take i xs) (chunk i n xs)) ∙ ap (map f) (sym (take-add i n xs)))
+    ∙ ap (λ l. l ++ drop (i + n) xs)
+    (sym (map-append f (take i xs) (chunk i n xs)) ∙ ap (map f) (sym (take-add i n xs)))
 
 -- a map of the rest, behind bytes that are mapped, is the map of the whole
-pub mapped_whole : (f : ℕ → ℕ) (xs ys : List ℕ) (at : ℕ) (zs : List ℕ) → at ≤ length ys → length ys ≡ length xs → ys ≡ map f (take at xs) ++ drop at xs
+pub mapped_whole : (f : ℕ → ℕ) (xs ys : List ℕ) (at : ℕ) (zs : List ℕ) → at ≤ length ys
+    → length ys ≡ length xs → ys ≡ map f (take at xs) ++ drop at xs
     → zs ≡ map f (mid_of at (length ys - at) ys) → put_mid at (length ys - at) ys zs ≡ map f xs
 mapped_whole f xs ys at zs inside whole e rest =
     let front = map f (take at xs) in
     let long : length front ≡ at = length-map (take at xs) f ∙ length-take-le at xs (omega arith) in
-    let left : drop at ys ≡ drop at xs = ap (drop at) e ∙ ap (λ k. drop k (front ++ drop at xs)) (sym long) ∙ drop-append_seam front (drop at xs) in
-    let before : take at ys ≡ front = ap (take at) e ∙ ap (λ k. take k (front ++ drop at xs)) (sym long) ∙ take-append_seam front (drop at xs) in
-    let none : drop (length ys - at) (drop at ys) ≡ [] = drop_all (length ys - at) (drop at ys) (omega (arith, length-drop at ys)) in
-    let all : take (length ys - at) (drop at ys) ≡ drop at ys = take_all (length ys - at) (drop at ys) (omega (arith, length-drop at ys)) in
-    ap₂ (λ a b. a ++ b) before (ap₂ (λ a b. a ++ b) (rest ∙ ap (map f) (all ∙ left)) none ∙ append-nil (map f (drop at xs)))
+    let left : drop at ys ≡ drop at xs =
+    ap (drop at) e ∙ ap (λ k. drop k (front ++ drop at xs)) (sym long)
+    ∙ drop-append_seam front (drop at xs) in
+    let before : take at ys ≡ front =
+    ap (take at) e ∙ ap (λ k. take k (front ++ drop at xs)) (sym long)
+    ∙ take-append_seam front (drop at xs) in
+    let none : drop (length ys - at) (drop at ys) ≡ [] =
+    drop_all (length ys - at) (drop at ys) (omega (arith, length-drop at ys)) in
+    let all : take (length ys - at) (drop at ys) ≡ drop at ys =
+    take_all (length ys - at) (drop at ys) (omega (arith, length-drop at ys)) in
+    ap₂ (λ a b. a ++ b) before (ap₂ (λ a b. a ++ b) (rest ∙ ap (map f) (all ∙ left)) none
+    ∙ append-nil (map f (drop at xs)))
     ∙ sym (map-append f (take at xs) (drop at xs)) ∙ ap (map f) (take-append-drop at xs)
 
--- the bits that count of a byte in which another differs from it: all, but for the bit of the case of a letter
+-- the bits that count of a byte in which another differs from it: all, but for the bit of the case
+-- of a letter
 abbrev pub counted : ℕ → ℕ
 counted a = cond (top 7 (cond (ltb ((bit_or a 32 + (256 - 97)) % 256) 26) 255 0)) 223 255
 
--- two bytes differ in no bit that counts just where their lower case is one: computed over all pairs
-apart_tells : agree_below (λ a. agree_below (λ b. eqb (bit_and (bit_xor a b) (counted a)) 0) (λ b. eqb (lower_image a) (lower_image b)) 256) (λ _. true) 256 ≡ true
+-- two bytes differ in no bit that counts just where their lower case is one: computed over all
+-- pairs
+apart_tells : agree_below
+    (λ a. agree_below (λ b. eqb (bit_and (bit_xor a b) (counted a)) 0)
+    (λ b. eqb (lower_image a) (lower_image b)) 256) (λ _. true) 256 ≡ true
 apart_tells = refl
 
-apart_at : (a b : ℕ) → Fits w8 a → Fits w8 b → eqb (bit_and (bit_xor a b) (counted a)) 0 ≡ eqb (lower_image a) (lower_image b)
+apart_at : (a b : ℕ) → Fits w8 a → Fits w8 b
+    → eqb (bit_and (bit_xor a b) (counted a)) 0 ≡ eqb (lower_image a) (lower_image b)
 apart_at a b fits_a fits_b =
-    agree_below_at (λ y. eqb (bit_and (bit_xor a y) (counted a)) 0) (λ y. eqb (lower_image a) (lower_image y)) 256 b
-    (agree_below_at (λ x. agree_below (λ y. eqb (bit_and (bit_xor x y) (counted x)) 0) (λ y. eqb (lower_image x) (lower_image y)) 256) (λ _. true) 256 a apart_tells fits_a.fits) fits_b.fits
+    agree_below_at (λ y. eqb (bit_and (bit_xor a y) (counted a)) 0)
+    (λ y. eqb (lower_image a) (lower_image y)) 256 b
+    (agree_below_at
+    (λ x. agree_below (λ y. eqb (bit_and (bit_xor x y) (counted x)) 0)
+    (λ y. eqb (lower_image x) (lower_image y)) 256) (λ _. true) 256 a apart_tells
+    fits_a.fits) fits_b.fits
 
 -- the bits that count, over two vectors
-pub apart_of : (xs ys cs : List ℕ) → cs ≡ map counted xs → zip2 bit_and (zip2 bit_xor xs ys) cs ≡ zip2 (λ a b. bit_and (bit_xor a b) (counted a)) xs ys
+pub apart_of : (xs ys cs : List ℕ) → cs ≡ map counted xs
+    → zip2 bit_and (zip2 bit_xor xs ys) cs ≡ zip2 (λ a b. bit_and (bit_xor a b) (counted a)) xs ys
 apart_of xs ys cs e = ap (zip2 bit_and (zip2 bit_xor xs ys)) e ∙ go xs ys
   where
-    go : (us vs : List ℕ) → zip2 bit_and (zip2 bit_xor us vs) (map counted us) ≡ zip2 (λ a b. bit_and (bit_xor a b) (counted a)) us vs
+    go : (us vs : List ℕ) → zip2 bit_and (zip2 bit_xor us vs) (map counted us) ≡ zip2
+        (λ a b. bit_and (bit_xor a b) (counted a)) us vs
     go [] vs = refl
     go (u ∷ us) [] = refl
     go (u ∷ us) (v ∷ vs) = ap (λ r. bit_and (bit_xor u v) (counted u) ∷ r) (go us vs)
 
 -- no bit that counts differs just where the images are one
 pub none_apart : (xs ys : List ℕ) → length xs ≡ length ys → Each1 (Fits w8) xs → Each1 (Fits w8) ys
-    → (mask_l (map (λ z. not (eqb z 0)) (zip2 (λ a b. bit_and (bit_xor a b) (counted a)) xs ys)) ≡ 0) ↔ (map lower_image xs ≡ map lower_image ys)
+    → (mask_l (map (λ z. not (eqb z 0)) (zip2 (λ a b. bit_and (bit_xor a b) (counted a)) xs ys))
+    ≡ 0) ↔ (map lower_image xs ≡ map lower_image ys)
 none_apart [] [] e fx fy = (λ _. refl, λ _. refl)
 none_apart [] (v ∷ vs) e fx fy = absurd (omega arith)
 none_apart (u ∷ us) [] e fx fy = absurd (omega arith)
@@ -78,40 +127,71 @@ none_apart (u ∷ us) (v ∷ vs) e fx fy =
     let here = apart_at u v fx.0 fy.0 in
     elim (cases_Bool (eqb (lower_image u) (lower_image v))) [
       | inl t ↦
-          let low : cond {A = ℕ} (not (eqb (bit_and (bit_xor u v) (counted u)) 0)) 1 0 ≡ 0 = ap (λ b. cond {A = ℕ} (not b) 1 0) (here ∙ t) in
-          (λ z. ap₂ (λ x xs. x ∷ xs) (eqb-true _ _ t) (r.0 (omega (arith, low))), λ eq. omega (arith, low, r.1 (ap (drop 1) eq)))
+          let low : cond {A = ℕ} (not (eqb (bit_and (bit_xor u v) (counted u)) 0)) 1 0 ≡ 0 =
+          ap (λ b. cond {A = ℕ} (not b) 1 0) (here ∙ t) in (
+            λ z. ap₂ (λ x xs. x ∷ xs) (eqb-true _ _ t) (r.0 (omega (arith, low))),
+            λ eq. omega
+                (arith, low, r.1 (ap (drop 1) eq)),
+          )
       | inr f ↦
-          let low : cond {A = ℕ} (not (eqb (bit_and (bit_xor u v) (counted u)) 0)) 1 0 ≡ 1 = ap (λ b. cond {A = ℕ} (not b) 1 0) (here ∙ f) in
-          (λ z. absurd (omega (arith, low)), λ eq. absurd (eqb-false _ _ f (ap (λ l. get_or l 0 0) eq)))
+          let low : cond {A = ℕ} (not (eqb (bit_and (bit_xor u v) (counted u)) 0)) 1 0 ≡ 1 =
+          ap (λ b. cond {A = ℕ} (not b) 1 0) (here ∙ f) in (
+            λ z. absurd (omega (arith, low)),
+            λ eq. absurd
+                (eqb-false _ _ f (ap (λ l. get_or l 0 0) eq)),
+          )
     ]
 
 -- the test of two vectors by the bits that count
-pub no_mark : (xs ys : List ℕ) (n : ℕ) → length xs ≡ n → length ys ≡ n → n ≤ 64 → Each1 (Fits w8) xs → Each1 (Fits w8) ys
+pub no_mark : (xs ys : List ℕ) (n : ℕ) → length xs ≡ n → length ys ≡ n → n ≤ 64
+    → Each1 (Fits w8) xs → Each1 (Fits w8) ys
     → (eqb (mask_l (map (top 7) (zip2 (λ a b. cond (not (eqb a b)) 255 0)
-    (zip2 bit_and (zip2 bit_xor xs ys) (sel_l (map (top 7) (zip2 (λ a b. cond (ltb a b) 255 0) (zip2 (λ a b. (a + (256 - b)) % 256) (zip2 bit_or xs (replicate n 32)) (replicate n 97)) (replicate n 26))) (replicate n 223) (replicate n 255)))
+    (zip2 bit_and (zip2 bit_xor xs ys)
+    (sel_l (map (top 7)
+    (zip2 (λ a b. cond (ltb a b) 255 0)
+    (zip2 (λ a b. (a + (256 - b)) % 256) (zip2 bit_or xs (replicate n 32)) (replicate n 97))
+    (replicate n 26))) (replicate n 223) (replicate n 255)))
     (replicate n 0))) % 2 ^ 64) 0 ≡ true)
     ↔ (map lower_image xs ≡ map lower_image ys)
-no_mark xs ys n long_x long_y few fits_x fits_y = (λ t. told.0 (sym mask ∙ eqb-true _ _ t), λ e. eq-eqb _ _ (mask ∙ told.1 e))
+no_mark xs ys n long_x long_y few fits_x fits_y =
+    (λ t. told.0 (sym mask ∙ eqb-true _ _ t), λ e. eq-eqb _ _ (mask ∙ told.1 e))
   where
-    below : zip2 {C = ℕ} (λ a b. cond (ltb a b) 255 0) (zip2 (λ a b. (a + (256 - b)) % 256) (zip2 bit_or xs (replicate n 32)) (replicate n 97)) (replicate n 26)
+    below : zip2 {C = ℕ} (λ a b. cond (ltb a b) 255 0)
+        (zip2 (λ a b. (a + (256 - b)) % 256) (zip2 bit_or xs (replicate n 32)) (replicate n 97))
+        (replicate n 26)
         ≡ map (λ x. cond (ltb ((bit_or x 32 + (256 - 97)) % 256) 26) 255 0) xs
     below = zip2_of_maps (λ a b. cond (ltb a b) 255 0) _ _ xs
-        (zip2_of_maps (λ a b. (a + (256 - b)) % 256) _ _ xs (zip2_splat bit_or xs n 32 long_x) (splat_is_map xs n 97 long_x)) (splat_is_map xs n 26 long_x)
+        (zip2_of_maps (λ a b. (a + (256 - b)) % 256) _ _ xs (zip2_splat bit_or xs n 32 long_x)
+        (splat_is_map xs n 97 long_x)) (splat_is_map xs n 26 long_x)
 
     cs : List ℕ
-    cs = sel_l (map (top 7) (zip2 (λ a b. cond (ltb a b) 255 0) (zip2 (λ a b. (a + (256 - b)) % 256) (zip2 bit_or xs (replicate n 32)) (replicate n 97)) (replicate n 26))) (replicate n 223) (replicate n 255)
+    cs = sel_l
+        (map (top 7)
+        (zip2 (λ a b. cond (ltb a b) 255 0)
+        (zip2 (λ a b. (a + (256 - b)) % 256) (zip2 bit_or xs (replicate n 32)) (replicate n 97))
+        (replicate n 26))) (replicate n 223) (replicate n 255)
 
-    bits : zip2 bit_and (zip2 bit_xor xs ys) cs ≡ zip2 (λ a b. bit_and (bit_xor a b) (counted a)) xs ys
-    bits = apart_of xs ys cs (chosen (λ x. top 7 (cond (ltb ((bit_or x 32 + (256 - 97)) % 256) 26) 255 0)) 223 255 xs n long_x (ap (map (top 7)) below ∙ map-map (top 7) _ xs))
+    bits : zip2 bit_and (zip2 bit_xor xs ys) cs ≡ zip2 (λ a b. bit_and (bit_xor a b) (counted a))
+        xs ys
+    bits = apart_of xs ys cs
+        (chosen (λ x. top 7 (cond (ltb ((bit_or x 32 + (256 - 97)) % 256) 26) 255 0)) 223 255 xs
+        n long_x (ap (map (top 7)) below ∙ map-map (top 7) _ xs))
 
     long : length (zip2 bit_and (zip2 bit_xor xs ys) cs) ≡ n
-    long = ap length bits ∙ length-zip2 (λ a b. bit_and (bit_xor a b) (counted a)) xs ys (long_x ∙ sym long_y) ∙ long_x
+    long = ap length bits ∙ length-zip2 (λ a b. bit_and (bit_xor a b) (counted a)) xs ys
+        (long_x ∙ sym long_y) ∙ long_x
 
-    mask : mask_l (map (top 7) (zip2 (λ a b. cond (not (eqb a b)) 255 0) (zip2 bit_and (zip2 bit_xor xs ys) cs) (replicate n 0))) % 2 ^ 64
+    mask : mask_l
+        (map (top 7)
+        (zip2 (λ a b. cond (not (eqb a b)) 255 0) (zip2 bit_and (zip2 bit_xor xs ys) cs)
+        (replicate n 0))) % 2 ^ 64
         ≡ mask_l (map (λ z. not (eqb z 0)) (zip2 (λ a b. bit_and (bit_xor a b) (counted a)) xs ys))
-    mask = bitmask_splat w8 (λ a b. not (eqb a b)) (zip2 bit_and (zip2 bit_xor xs ys) cs) n 0 long few ∙ ap (λ l. mask_l (map (λ z. not (eqb z 0)) l)) bits
+    mask = bitmask_splat w8 (λ a b. not (eqb a b)) (zip2 bit_and (zip2 bit_xor xs ys) cs) n 0
+        long few ∙ ap (λ l. mask_l (map (λ z. not (eqb z 0)) l)) bits
 
-    told : (mask_l (map (λ z. not (eqb z 0)) (zip2 (λ a b. bit_and (bit_xor a b) (counted a)) xs ys)) ≡ 0) ↔ (map lower_image xs ≡ map lower_image ys)
+    told : (mask_l
+        (map (λ z. not (eqb z 0)) (zip2 (λ a b. bit_and (bit_xor a b) (counted a)) xs ys)) ≡ 0) ↔
+        (map lower_image xs ≡ map lower_image ys)
     told = none_apart xs ys (long_x ∙ sym long_y) fits_x fits_y
 
 -- parts of lists with equal images
@@ -119,31 +199,45 @@ pub same_shorter : (xs ys : List ℕ) (i j : ℕ) → i ≤ j → SameBefore xs 
 same_shorter xs ys i j le same = part xs ∙ ap (take i) same ∙ sym (part ys)
   where
     part : (l : List ℕ) → map lower_image (take i l) ≡ take i (map lower_image (take j l))
-    part l = ap (map lower_image) (sym (take-take i j l le)) ∙ sym (take-map lower_image i (take j l))
+    part l = ap (map lower_image) (sym (take-take i j l le))
+        ∙ sym (take-map lower_image i (take j l))
 
--- lists with equal images have equal images of each front, and those of the whole fronts are the images
-pub same_front : (xs ys : List ℕ) (i : ℕ) → map lower_image xs ≡ map lower_image ys → SameBefore xs ys i
-same_front xs ys i same = sym (take-map lower_image i xs) ∙ ap (take i) same ∙ take-map lower_image i ys
+-- lists with equal images have equal images of each front, and those of the whole fronts are the
+-- images
+pub same_front : (xs ys : List ℕ) (i : ℕ) → map lower_image xs ≡ map lower_image ys
+    → SameBefore xs ys i
+same_front xs ys i same = sym (take-map lower_image i xs) ∙ ap (take i) same
+    ∙ take-map lower_image i ys
 
-pub same_whole : (xs ys : List ℕ) (i : ℕ) → length xs ≤ i → length ys ≤ i → SameBefore xs ys i → map lower_image xs ≡ map lower_image ys
-same_whole xs ys i in_xs in_ys same = ap (map lower_image) (sym (take_all i xs in_xs)) ∙ same ∙ ap (map lower_image) (take_all i ys in_ys)
+pub same_whole : (xs ys : List ℕ) (i : ℕ) → length xs ≤ i → length ys ≤ i → SameBefore xs ys i
+    → map lower_image xs ≡ map lower_image ys
+same_whole xs ys i in_xs in_ys same =
+    ap (map lower_image) (sym (take_all i xs in_xs)) ∙ same
+    ∙ ap (map lower_image) (take_all i ys in_ys)
 
 -- fronts with equal images go on over a chunk just where the images of the chunks are one
 pub same_more : (xs ys : List ℕ) (at n : ℕ) → SameBefore xs ys at
-    → (map lower_image (chunk at n xs) ≡ map lower_image (chunk at n ys)) ↔ SameBefore xs ys (at + n)
+    → (map lower_image (chunk at n xs) ≡ map lower_image (chunk at n ys)) ↔ SameBefore xs ys
+    (at + n)
 same_more xs ys at n before = (
   (λ e. parts xs ∙ ap₂ (λ a b. a ++ b) before e ∙ sym (parts ys)),
-  (λ e. append_cancel_left (map lower_image (take at ys)) _ _ (ap (λ a. a ++ map lower_image (chunk at n xs)) (sym before) ∙ sym (parts xs) ∙ e ∙ parts ys)),
+  (λ e. append_cancel_left (map lower_image (take at ys)) _ _
+      (ap (λ a. a ++ map lower_image (chunk at n xs)) (sym before) ∙ sym (parts xs) ∙ e
+      ∙ parts ys)),
 )
   where
-    parts : (l : List ℕ) → map lower_image (take (at + n) l) ≡ map lower_image (take at l) ++ map lower_image (chunk at n l)
-    parts l = ap (map lower_image) (take-add at n l) ∙ map-append lower_image (take at l) (chunk at n l)
+    parts : (l : List ℕ) → map lower_image (take (at + n) l) ≡ map lower_image (take at l) ++ map
+        lower_image (chunk at n l)
+    parts l = ap (map lower_image) (take-add at n l)
+        ∙ map-append lower_image (take at l) (chunk at n l)
 
 -- the same over one byte
 pub same_byte : (xs ys : List ℕ) (at : ℕ) → at < length xs → at < length ys → SameBefore xs ys at
     → (lower_image (get_or xs at 0) ≡ lower_image (get_or ys at 0)) ↔ SameBefore xs ys (at + 1)
 same_byte xs ys at in_xs in_ys before = (
-  (λ e. map_more lower_image xs at 0 in_xs ∙ ap₂ (λ a x. a ++ x ∷ []) before e ∙ sym (map_more lower_image ys at 0 in_ys)),
+  (λ e. map_more lower_image xs at 0 in_xs ∙ ap₂ (λ a x. a ++ x ∷ []) before e
+      ∙ sym (map_more lower_image ys at 0 in_ys)),
   (λ e. ap (λ l. get_or l 0 0) (append_cancel_left (map lower_image (take at ys)) _ _
-      (ap (λ a. a ++ lower_image (get_or xs at 0) ∷ []) (sym before) ∙ sym (map_more lower_image xs at 0 in_xs) ∙ e ∙ map_more lower_image ys at 0 in_ys))),
+      (ap (λ a. a ++ lower_image (get_or xs at 0) ∷ []) (sym before)
+      ∙ sym (map_more lower_image xs at 0 in_xs) ∙ e ∙ map_more lower_image ys at 0 in_ys))),
 )

@@ -57,7 +57,8 @@ letters : lower_image 90 ≡ lower_image 122
 letters = refl
 
 -- null, line feed and delete have pictures, space has none
-pictures : (printable_of 0 ≡ 9216) × (printable_of 10 ≡ 9226) × (printable_of 127 ≡ 9249) × (printable_of 32 ≡ 32)
+pictures : (printable_of 0 ≡ 9216) × (printable_of 10 ≡ 9226) × (printable_of 127 ≡ 9249)
+    × (printable_of 32 ≡ 32)
 pictures = (refl, refl, refl, refl)
 
 -- vertical tab is whitespace by one class and not by the other

@@ -1,11 +1,14 @@
 -- From the vectors of a load to the bytes that it is of.
-use Rattle.std.proofs.Common.{◌≡◌, ℕ, ◌+◌, ◌-◌, ◌*◌, ◌%◌, ◌^◌, ◌<◌, ◌≤◌, suc, Bool, true, false, leb, cond, List, [], ◌∷◌, map, length, get_or, replicate, Fits, w8, bit_or, refl, sym, ap, ◌∙◌, subst, arith, inl, inr}
+use Rattle.std.proofs.Common.{◌≡◌, ℕ, ◌+◌, ◌-◌, ◌*◌, ◌%◌, ◌^◌, ◌<◌, ◌≤◌, suc, Bool, true, false}
+use Rattle.std.proofs.Common.{leb, cond, List, [], ◌∷◌, map, length, get_or, replicate, Fits, w8}
+use Rattle.std.proofs.Common.{bit_or, refl, sym, ap, ◌∙◌, subst, arith, inl, inr}
 use Rattle.std.specs.Int.{bit_at}
 use Rattle.std.proofs.lemmas.Bool.{agree_below, agree_below_at, cases_lt, cases_Bool, leb-false}
 use Rattle.std.proofs.lemmas.List.{length-map, get_or-map, get_or_past}
 use Rattle.std.proofs.lemmas.Nat.{le_or_l, le_or_r}
 use Rattle.std.proofs.lemmas.Nat.Bits.{bit_at-zero, bit_at_cat_high}
-use Rattle.std.proofs.lemmas.Simd.{map-map, tops_compared, zip2_splat_left, mask_l-mod, bit_mask_l, length-chunk, get_or-chunk, get_or-zip2, length-zip2}
+use Rattle.std.proofs.lemmas.Simd.{map-map, tops_compared, zip2_splat_left, mask_l-mod, bit_mask_l}
+use Rattle.std.proofs.lemmas.Simd.{length-chunk, get_or-chunk, get_or-zip2, length-zip2}
 use lib.Lanes.{mask_l, top, sel_l, chunk, zip2}
 use Rattle.ascii_base.specs.Bytes.{IsFirstNot, IsLastNot}
 use Rattle.ascii_base.specs.Lanes.{Marks, AllBefore, AllFrom}
@@ -15,20 +18,28 @@ itself [] = refl
 itself (x ∷ xs) = ap (λ r. x ∷ r) (itself xs)
 
 -- a choice of two splats, lane by lane
-pub chosen : (test : ℕ → Bool) (here other : ℕ) (lanes : List ℕ) (n : ℕ) {ms : List Bool} → length lanes ≡ n → ms ≡ map test lanes
+pub chosen : (test : ℕ → Bool) (here other : ℕ) (lanes : List ℕ) (n : ℕ) {ms : List Bool}
+    → length lanes ≡ n → ms ≡ map test lanes
     → sel_l ms (replicate n here) (replicate n other) ≡ map (λ x. cond (test x) here other) lanes
 chosen test here other lanes n long e =
-    ap (λ m. sel_l m (replicate n here) (replicate n other)) e ∙ ap (λ k. sel_l (map test lanes) (replicate k here) (replicate k other)) (sym long) ∙ go lanes
+    ap (λ m. sel_l m (replicate n here) (replicate n other)) e
+    ∙ ap (λ k. sel_l (map test lanes) (replicate k here) (replicate k other)) (sym long)
+    ∙ go lanes
   where
-    go : (xs : List ℕ) → sel_l (map test xs) (replicate (length xs) here) (replicate (length xs) other) ≡ map (λ x. cond (test x) here other) xs
+    go : (xs : List ℕ) → sel_l (map test xs) (replicate (length xs) here)
+        (replicate (length xs) other) ≡ map (λ x. cond (test x) here other) xs
     go [] = refl
     go (x ∷ xs) = ap (λ r. cond (test x) here other ∷ r) (go xs)
 
--- the mask of a vector z that is computed lane by lane from a load: its top bits are what the test says of each byte
-module _ (Is : ℕ → Type 0) (test : ℕ → Bool) (outside : (x : ℕ) → test x ≡ true → ¬ (Is x)) (within : (x : ℕ) → test x ≡ false → Is x)
+-- the mask of a vector z that is computed lane by lane from a load: its top bits are what the test
+-- says of each byte
+module _ (Is : ℕ → Type 0) (test : ℕ → Bool) (outside : (x : ℕ) → test x ≡ true → ¬ (Is x))
+    (within : (x : ℕ) → test x ≡ false → Is x)
     (f : ℕ → ℕ) (all : agree_below (λ x. top 7 (f x)) test 256 ≡ true) where
-  pub marks_of : (bytes : List ℕ) (at n : ℕ) → at + n ≤ length bytes → n ≤ 64 → ((k : ℕ) → Fits w8 (get_or bytes k 0))
-      → (z : List ℕ) → z ≡ map f (chunk at n bytes) → Marks Is bytes at n (mask_l (map (top 7) z) % 2 ^ 64)
+  pub marks_of : (bytes : List ℕ) (at n : ℕ) → at + n ≤ length bytes → n ≤ 64
+      → ((k : ℕ) → Fits w8 (get_or bytes k 0))
+      → (z : List ℕ) → z ≡ map f (chunk at n bytes)
+      → Marks Is bytes at n (mask_l (map (top 7) z) % 2 ^ 64)
   marks_of bytes at n room few fits z e = record {
     set = λ k is. elim (cases_lt k n) [
       | inl l ↦ elim (cases_Bool (test (get_or bytes (at + k) 0))) [
@@ -50,13 +61,21 @@ module _ (Is : ℕ → Type 0) (test : ℕ → Bool) (outside : (x : ℕ) → te
       long = length-map (chunk at n bytes) (λ x. top 7 (f x)) ∙ length-chunk at n bytes room
 
       any : (k : ℕ) → bit_at (mask_l (map (top 7) z) % 2 ^ 64) k ≡ cond (get_or ms k false) 1 0
-      any k = ap (λ m. bit_at m k) (ap (λ l. mask_l l % 2 ^ 64) (ap (map (top 7)) e ∙ map-map (top 7) f (chunk at n bytes)) ∙ mask_l-mod ms 64 (omega (arith, long))) ∙ bit_mask_l ms k
+      any k = ap (λ m. bit_at m k)
+          (ap (λ l. mask_l l % 2 ^ 64) (ap (map (top 7)) e
+          ∙ map-map (top 7) f (chunk at n bytes)) ∙ mask_l-mod ms 64 (omega (arith, long)))
+          ∙ bit_mask_l ms k
 
-      bit : (k : ℕ) → k < n → bit_at (mask_l (map (top 7) z) % 2 ^ 64) k ≡ cond (test (get_or bytes (at + k) 0)) 1 0
+      bit : (k : ℕ) → k < n → bit_at (mask_l (map (top 7) z) % 2 ^ 64) k ≡ cond
+          (test (get_or bytes (at + k) 0)) 1 0
       bit k l =
-          let inside : k < length (chunk at n bytes) = omega (arith, length-chunk at n bytes room) in
-          let here = get_or-map (λ x. top 7 (f x)) (chunk at n bytes) k 0 false inside ∙ ap (λ x. top 7 (f x)) (get_or-chunk at n bytes k 0 l) in
-          any k ∙ ap (λ b. cond b 1 0) (here ∙ agree_below_at (λ x. top 7 (f x)) test 256 (get_or bytes (at + k) 0) all (fits (at + k)).fits)
+          let inside : k < length (chunk at n bytes) =
+          omega (arith, length-chunk at n bytes room) in
+          let here = get_or-map (λ x. top 7 (f x)) (chunk at n bytes) k 0 false inside
+          ∙ ap (λ x. top 7 (f x)) (get_or-chunk at n bytes k 0 l) in
+          any k ∙ ap (λ b. cond b 1 0) (here
+          ∙ agree_below_at (λ x. top 7 (f x)) test 256 (get_or bytes (at + k) 0) all
+          (fits (at + k)).fits)
 
       past : (k : ℕ) → n ≤ k → bit_at (mask_l (map (top 7) z) % 2 ^ 64) k ≡ 0
       past k g = any k ∙ ap (λ b. cond b 1 0) (get_or_past ms k false (omega (arith, long)))
@@ -66,42 +85,61 @@ pub highest_bit : (m k : ℕ) → 2 ^ k ≤ m → m < 2 * 2 ^ k → bit_at m k �
 highest_bit m k low high =
     let parts : 1 * 2 ^ k + (m - 2 ^ k) ≡ m = omega arith in
     let first : k - k ≡ 0 = omega arith in
-    ap (λ x. bit_at x k) (sym parts) ∙ bit_at_cat_high 1 k (m - 2 ^ k) k (omega arith) (omega arith) ∙ ap (bit_at 1) first
+    ap (λ x. bit_at x k) (sym parts)
+    ∙ bit_at_cat_high 1 k (m - 2 ^ k) k (omega arith) (omega arith) ∙ ap (bit_at 1) first
 
-module _ (Is : ℕ → Type 0) (bytes : List ℕ) (at n mask : ℕ) (marks : Marks Is bytes at n mask) (room : at + n ≤ length bytes) where
+module _ (Is : ℕ → Type 0) (bytes : List ℕ) (at n mask : ℕ) (marks : Marks Is bytes at n mask)
+    (room : at + n ≤ length bytes) where
   -- bytes of the class go on over the lanes before the first mark
-  pub before_more : (m : ℕ) → m ≤ n → ((k : ℕ) → k < m → bit_at mask k ≡ 0) → AllBefore Is bytes at → AllBefore Is bytes (at + m)
+  pub before_more : (m : ℕ) → m ≤ n → ((k : ℕ) → k < m → bit_at mask k ≡ 0)
+      → AllBefore Is bytes at → AllBefore Is bytes (at + m)
   before_more m le clear before k to =
       elim (cases_lt k at) [
         | inl l ↦ before k l
         | inr g ↦
             let same : at + (k - at) ≡ k = omega arith in
-            subst (λ j. Is (get_or bytes j 0)) same (marks.clear (k - at) (clear (k - at) (omega arith)) (omega arith))
+            subst (λ j. Is (get_or bytes j 0)) same
+            (marks.clear (k - at) (clear (k - at) (omega arith)) (omega arith))
       ]
 
   -- the same from the back, over the lanes behind the last mark
-  pub from_more : (m : ℕ) → ((k : ℕ) → m ≤ k → bit_at mask k ≡ 0) → AllFrom Is bytes (at + n) → AllFrom Is bytes (at + m)
+  pub from_more : (m : ℕ) → ((k : ℕ) → m ≤ k → bit_at mask k ≡ 0) → AllFrom Is bytes (at + n)
+      → AllFrom Is bytes (at + m)
   from_more m clear after k from to =
       elim (cases_lt k (at + n)) [
         | inl l ↦
             let same : at + (k - at) ≡ k = omega arith in
-            subst (λ j. Is (get_or bytes j 0)) same (marks.clear (k - at) (clear (k - at) (omega arith)) (omega arith))
+            subst (λ j. Is (get_or bytes j 0)) same
+            (marks.clear (k - at) (clear (k - at) (omega arith)) (omega arith))
         | inr g ↦ after k g to
       ]
 
   -- the first mark
-  pub first_mark : (k : ℕ) → bit_at mask k ≡ 1 → ((j : ℕ) → j < k → bit_at mask j ≡ 0) → AllBefore Is bytes at → IsFirstNot Is bytes 0 (length bytes) (at + k)
+  pub first_mark : (k : ℕ) → bit_at mask k ≡ 1 → ((j : ℕ) → j < k → bit_at mask j ≡ 0)
+      → AllBefore Is bytes at → IsFirstNot Is bytes 0 (length bytes) (at + k)
   first_mark k set clear before =
       let is = marks.set k set in
       let short : k < n = is.0 in
-      record { at_least = omega arith; inside = omega arith; other = is.1; least = λ j from to. before_more k (omega arith) clear before j to }
+      record {
+        at_least = omega arith;
+        inside = omega arith;
+        other = is.1;
+        least =
+            λ j from to. before_more k (omega arith) clear before j to;
+      }
 
   -- the last mark
-  pub last_mark : (k : ℕ) → bit_at mask k ≡ 1 → ((j : ℕ) → k < j → bit_at mask j ≡ 0) → AllFrom Is bytes (at + n) → IsLastNot Is bytes (at + k)
+  pub last_mark : (k : ℕ) → bit_at mask k ≡ 1 → ((j : ℕ) → k < j → bit_at mask j ≡ 0)
+      → AllFrom Is bytes (at + n) → IsLastNot Is bytes (at + k)
   last_mark k set clear after =
       let is = marks.set k set in
       let short : k < n = is.0 in
-      record { inside = omega arith; other = is.1; greatest = λ j from to. from_more (suc k) (λ i l. clear i (omega arith)) after j (omega arith) to }
+      record {
+        inside = omega arith;
+        other = is.1;
+        greatest =
+            λ j from to. from_more (suc k) (λ i l. clear i (omega arith)) after j (omega arith) to;
+      }
 
 -- a mask with no bit
 pub no_bit : (mask : ℕ) → mask ≡ 0 → (k : ℕ) → bit_at mask k ≡ 0
@@ -111,21 +149,31 @@ no_bit mask none k = ap (λ m. bit_at m k) none ∙ bit_at-zero k
 length-joined : (xs ys : List ℕ) → length xs ≡ 32 → length ys ≡ 32 → length (zip2 bit_or xs ys) ≡ 32
 length-joined xs ys long_x long_y = length-zip2 bit_or xs ys (long_x ∙ sym long_y) ∙ long_x
 
-low_joined : (xs ys : List ℕ) → length xs ≡ 32 → length ys ≡ 32 → ((k : ℕ) → k < 32 → get_or (zip2 bit_or xs ys) k 0 < 128)
+low_joined : (xs ys : List ℕ) → length xs ≡ 32 → length ys ≡ 32
+    → ((k : ℕ) → k < 32 → get_or (zip2 bit_or xs ys) k 0 < 128)
     → (k : ℕ) → k < 32 → (get_or xs k 0 < 128) × (get_or ys k 0 < 128)
 low_joined xs ys long_x long_y low k l =
-    let at = get_or-zip2 bit_or xs ys k 0 0 0 (omega arith) (omega arith) in
-    (omega (arith, at, low k l, le_or_l (get_or xs k 0) (get_or ys k 0)), omega (arith, at, low k l, le_or_r (get_or xs k 0) (get_or ys k 0)))
+    let at = get_or-zip2 bit_or xs ys k 0 0 0 (omega arith) (omega arith) in (
+      omega (arith, at, low k l, le_or_l (get_or xs k 0) (get_or ys k 0)),
+      omega
+          (arith, at, low k l, le_or_r (get_or xs k 0) (get_or ys k 0)),
+    )
 
 -- where no bit is set, no lane of a vector is over 127
-all_low : (lanes : List ℕ) → length lanes ≡ 32 → mask_l (map (top 7) (zip2 (λ a b. cond (leb a b) 255 0) (replicate 32 128) lanes)) % 2 ^ 64 ≡ 0
+all_low : (lanes : List ℕ) → length lanes ≡ 32
+    → mask_l (map (top 7) (zip2 (λ a b. cond (leb a b) 255 0) (replicate 32 128) lanes)) % 2 ^
+    64 ≡ 0
     → (k : ℕ) → k < 32 → get_or lanes k 0 < 128
 all_low lanes long empty k l =
     let ms = map (leb 128) lanes in
-    let mask : mask_l (map (top 7) (zip2 (λ a b. cond (leb a b) 255 0) (replicate 32 128) lanes)) % 2 ^ 64 ≡ mask_l ms =
-    ap (λ m. mask_l m % 2 ^ 64) (tops_compared w8 leb (replicate 32 128) lanes ∙ zip2_splat_left leb 128 32 lanes long) ∙ mask_l-mod ms 64 (omega (arith, length-map lanes (leb 128))) in
+    let mask : mask_l (map (top 7) (zip2 (λ a b. cond (leb a b) 255 0) (replicate 32 128) lanes))
+    % 2 ^ 64 ≡ mask_l ms =
+    ap (λ m. mask_l m % 2 ^ 64) (tops_compared w8 leb (replicate 32 128) lanes
+    ∙ zip2_splat_left leb 128 32 lanes long)
+    ∙ mask_l-mod ms 64 (omega (arith, length-map lanes (leb 128))) in
     let bit : cond (leb 128 (get_or lanes k 0)) 1 0 ≡ 0 =
-    ap (λ b. cond b 1 0) (sym (get_or-map (leb 128) lanes k 0 false (omega arith))) ∙ sym (bit_mask_l ms k) ∙ ap (λ m. bit_at m k) (sym mask ∙ empty) ∙ bit_at-zero k in
+    ap (λ b. cond b 1 0) (sym (get_or-map (leb 128) lanes k 0 false (omega arith)))
+    ∙ sym (bit_mask_l ms k) ∙ ap (λ m. bit_at m k) (sym mask ∙ empty) ∙ bit_at-zero k in
     elim (cases_Bool (leb 128 (get_or lanes k 0))) [
       | inl t ↦ absurd (omega (arith, bit, ap (λ b. cond {A = ℕ} b 1 0) t))
       | inr t ↦ leb-false 128 _ t
@@ -134,7 +182,8 @@ all_low lanes long empty k l =
 -- the bytes of four chunks are under 128 where the bits of all four leave no mark
 pub four_low : (bytes : List ℕ) (at : ℕ) → at + 128 ≤ length bytes
     → mask_l (map (top 7) (zip2 (λ a b. cond (leb a b) 255 0) (replicate 32 128)
-    (zip2 bit_or (zip2 bit_or (chunk at 32 bytes) (chunk (at + 32) 32 bytes)) (zip2 bit_or (chunk (at + 64) 32 bytes) (chunk (at + 96) 32 bytes))))) % 2 ^ 64 ≡ 0
+    (zip2 bit_or (zip2 bit_or (chunk at 32 bytes) (chunk (at + 32) 32 bytes))
+    (zip2 bit_or (chunk (at + 64) 32 bytes) (chunk (at + 96) 32 bytes))))) % 2 ^ 64 ≡ 0
     → (k : ℕ) → at ≤ k → k < at + 128 → get_or bytes k 0 < 128
 four_low bytes at room empty k from to =
     elim (cases_lt k (at + 32)) [
@@ -157,17 +206,26 @@ four_low bytes at room empty k from to =
     long_back : length (zip2 bit_or (chunk (at + 64) 32 bytes) (chunk (at + 96) 32 bytes)) ≡ 32
     long_back = length-joined _ _ (long (at + 64) (omega arith)) (long (at + 96) (omega arith))
 
-    all : (j : ℕ) → j < 32 → (get_or (zip2 bit_or (chunk at 32 bytes) (chunk (at + 32) 32 bytes)) j 0 < 128) × (get_or (zip2 bit_or (chunk (at + 64) 32 bytes) (chunk (at + 96) 32 bytes)) j 0 < 128)
-    all = low_joined _ _ long_front long_back (all_low _ (length-joined _ _ long_front long_back) empty)
+    all : (j : ℕ) → j < 32
+        → (get_or (zip2 bit_or (chunk at 32 bytes) (chunk (at + 32) 32 bytes)) j 0 < 128)
+        × (get_or (zip2 bit_or (chunk (at + 64) 32 bytes) (chunk (at + 96) 32 bytes)) j 0 < 128)
+    all = low_joined _ _ long_front long_back
+        (all_low _ (length-joined _ _ long_front long_back) empty)
 
-    front : (j : ℕ) → j < 32 → (get_or (chunk at 32 bytes) j 0 < 128) × (get_or (chunk (at + 32) 32 bytes) j 0 < 128)
-    front = low_joined _ _ (long at (omega arith)) (long (at + 32) (omega arith)) (λ j l. (all j l).0)
+    front : (j : ℕ) → j < 32 → (get_or (chunk at 32 bytes) j 0 < 128)
+        × (get_or (chunk (at + 32) 32 bytes) j 0 < 128)
+    front = low_joined _ _ (long at (omega arith)) (long (at + 32) (omega arith))
+        (λ j l. (all j l).0)
 
-    back : (j : ℕ) → j < 32 → (get_or (chunk (at + 64) 32 bytes) j 0 < 128) × (get_or (chunk (at + 96) 32 bytes) j 0 < 128)
-    back = low_joined _ _ (long (at + 64) (omega arith)) (long (at + 96) (omega arith)) (λ j l. (all j l).1)
+    back : (j : ℕ) → j < 32 → (get_or (chunk (at + 64) 32 bytes) j 0 < 128)
+        × (get_or (chunk (at + 96) 32 bytes) j 0 < 128)
+    back = low_joined _ _ (long (at + 64) (omega arith)) (long (at + 96) (omega arith))
+        (λ j l. (all j l).1)
 
-    here : (i k : ℕ) → ((j : ℕ) → j < 32 → get_or (chunk i 32 bytes) j 0 < 128) → i ≤ k → k < i + 32 → get_or bytes k 0 < 128
+    here : (i k : ℕ) → ((j : ℕ) → j < 32 → get_or (chunk i 32 bytes) j 0 < 128) → i ≤ k
+        → k < i + 32 → get_or bytes k 0 < 128
     here i k low from to =
         let same : i + (k - i) ≡ k = omega arith in
-        let at = get_or-chunk i 32 bytes (k - i) 0 (omega arith) ∙ ap (λ j. get_or bytes j 0) same in
+        let at = get_or-chunk i 32 bytes (k - i) 0 (omega arith)
+        ∙ ap (λ j. get_or bytes j 0) same in
         omega (arith, at, low (k - i) (omega arith))

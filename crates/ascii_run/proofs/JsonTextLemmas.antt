@@ -24,12 +24,14 @@ json_code-is n = grind (arith, nat_tests)
 
 json_codes : (t : List ℕ) → flat_map escape_byte t ≡ flat_map json_code t
 json_codes [] = refl
-json_codes (x ∷ xs) = ap (λ c. c ++ flat_map escape_byte xs) (sym (json_code-is x)) ∙ ap (λ cs. json_code x ++ cs) (json_codes xs)
+json_codes (x ∷ xs) = ap (λ c. c ++ flat_map escape_byte xs) (sym (json_code-is x))
+    ∙ ap (λ cs. json_code x ++ cs) (json_codes xs)
 
 -- what the writer prints for a text
 pub print-string : (t : List ℕ) → print (string t ∷ []) ≡ json_text t
 unfolding print_from
-print-string t = append-nil (34 ∷ (flat_map escape_byte t ++ 34 ∷ [])) ∙ ap (λ cs. 34 ∷ (cs ++ 34 ∷ [])) (json_codes t)
+print-string t = append-nil (34 ∷ (flat_map escape_byte t ++ 34 ∷ []))
+    ∙ ap (λ cs. 34 ∷ (cs ++ 34 ∷ [])) (json_codes t)
 
 -- the bytes of a code in a JSON string are codes
 json_code-ascii : (n : ℕ) → n < 128 → All (λ b. b < 128) (json_code n)
@@ -45,7 +47,8 @@ json_codes-ascii : (t : List ℕ) → All (λ b. b < 128) t → All (λ b. b < 1
 json_codes-ascii [] h = All-nil (λ b. b < 128)
 json_codes-ascii (x ∷ xs) h =
     All-append (λ b. b < 128) (json_code x) (flat_map json_code xs)
-    (json_code-ascii x (All-head (λ b. b < 128) x xs h)) (json_codes-ascii xs (All-tail (λ b. b < 128) x xs h))
+    (json_code-ascii x (All-head (λ b. b < 128) x xs h))
+    (json_codes-ascii xs (All-tail (λ b. b < 128) x xs h))
 
 -- the compact JSON text of a text is a text
 pub IsAscii-json_text : (t : List ℕ) → IsAscii t → IsAscii (json_text t)
@@ -54,44 +57,61 @@ IsAscii-json_text t h =
     let quote : 34 < 128 = omega arith in
     let end : All Low (34 ∷ []) = All-cons Low 34 [] quote (All-nil Low) in
     IsAscii-from_all (json_text t)
-    (All-cons Low 34 (flat_map json_code t ++ 34 ∷ []) quote (All-append Low (flat_map json_code t) (34 ∷ []) (json_codes-ascii t (All-from_ascii t h)) end))
+    (All-cons Low 34 (flat_map json_code t ++ 34 ∷ []) quote
+    (All-append Low (flat_map json_code t) (34 ∷ [])
+    (json_codes-ascii t (All-from_ascii t h)) end))
 
 -- what the writer holds after one string
-pub printed : (items before : List ℕ) (tokens old : List Token) (t text : List ℕ) → items ≡ before ++ print tokens → before ≡ []
+pub printed : (items before : List ℕ) (tokens old : List Token) (t text : List ℕ)
+    → items ≡ before ++ print tokens → before ≡ []
     → tokens ≡ old ++ string t ∷ [] → old ≡ [] → t ≡ text → items ≡ json_text text
 printed items before tokens old t text is none held empty same =
-    is ∙ (ap (λ b. b ++ print tokens) none ∙ (ap print (held ∙ ap (λ o. o ++ string t ∷ []) empty) ∙ (print-string t ∙ ap json_text same)))
+    is ∙ (ap (λ b. b ++ print tokens) none
+    ∙ (ap print (held ∙ ap (λ o. o ++ string t ∷ []) empty)
+    ∙ (print-string t ∙ ap json_text same)))
 
 -- the form of a code, by its place
-pub form_at : {F : Type 0} (text : F → List ℕ) (forms : List F) (code : ℕ) (form : F) → AreForms 128 (map text forms) → code < 128
+pub form_at : {F : Type 0} (text : F → List ℕ) (forms : List F) (code : ℕ) (form : F)
+    → AreForms 128 (map text forms) → code < 128
     → form ≡ get_or forms code form → text form ≡ json_text (code ∷ [])
 form_at text forms code form are low is =
-    ap text is ∙ (sym (get_or-map text forms code form [] (omega (arith, length-map forms text, are.0))) ∙ are.1 code low)
+    ap text is
+    ∙ (sym (get_or-map text forms code form [] (omega (arith, length-map forms text, are.0)))
+    ∙ are.1 code low)
 
 -- one form more
-pub form_more : {F : Type 0} (text : F → List ℕ) (forms : List F) (form : F) (n : ℕ) → AreForms n (map text forms) → text form ≡ json_text (n ∷ [])
+pub form_more : {F : Type 0} (text : F → List ℕ) (forms : List F) (form : F) (n : ℕ)
+    → AreForms n (map text forms) → text form ≡ json_text (n ∷ [])
     → AreForms (n + 1) (map text (forms ++ form ∷ []))
 form_more text forms form n are is =
     let texts = map text forms in
-    let more : map text (forms ++ form ∷ []) ≡ texts ++ text form ∷ [] = map-append text forms (form ∷ []) in
+    let more : map text (forms ++ form ∷ []) ≡ texts ++ text form ∷ [] =
+    map-append text forms (form ∷ []) in
     let last : get_or (texts ++ text form ∷ []) n [] ≡ json_text (n ∷ []) =
-    subst (λ k. get_or (texts ++ text form ∷ []) k [] ≡ json_text (n ∷ [])) are.0 (get_or-append_seam texts (text form) [] [] ∙ is) in
+    subst (λ k. get_or (texts ++ text form ∷ []) k [] ≡ json_text (n ∷ [])) are.0
+    (get_or-append_seam texts (text form) [] [] ∙ is) in
     subst (AreForms (n + 1)) (sym more) (
       omega (arith, length-append texts (text form ∷ []), are.0),
       λ code low.
-          ⊎_elim (λ below. get_or_append_left texts (text form ∷ []) [] code (omega (arith, are.0)) ∙ are.1 code below)
-          (λ high. let e : code ≡ n = omega arith in subst (λ k. get_or (texts ++ text form ∷ []) k [] ≡ json_text (k ∷ [])) (sym e) last) (cases_lt code n),
+          ⊎_elim (λ below. get_or_append_left texts (text form ∷ []) [] code
+          (omega (arith, are.0)) ∙ are.1 code below)
+          (λ high. let e : code ≡ n = omega arith in
+          subst (λ k. get_or (texts ++ text form ∷ []) k [] ≡ json_text (k ∷ [])) (sym e)
+          last) (cases_lt code n),
     )
 
 -- the JSON string of one character is a quote, its code in a JSON string, and a quote
-form_is : (form : List ℕ) (code : ℕ) → form ≡ json_text (code ∷ []) → form ≡ 34 ∷ (json_code code ++ 34 ∷ [])
+form_is : (form : List ℕ) (code : ℕ) → form ≡ json_text (code ∷ [])
+    → form ≡ 34 ∷ (json_code code ++ 34 ∷ [])
 form_is form code is = is ∙ ap (λ xs. 34 ∷ (xs ++ 34 ∷ [])) (append-nil (json_code code))
 
 pub form_long : (form : List ℕ) (code : ℕ) → form ≡ json_text (code ∷ []) → 2 ≤ length form
-form_long form code is = subst (λ xs. 2 ≤ length xs) (sym (form_is form code is)) (omega (arith, length-append (json_code code) (34 ∷ [])))
+form_long form code is = subst (λ xs. 2 ≤ length xs) (sym (form_is form code is))
+    (omega (arith, length-append (json_code code) (34 ∷ [])))
 
 -- the JSON string of one character without its quotes
-pub form_inner : (form : List ℕ) (code : ℕ) → form ≡ json_text (code ∷ []) → take (length form - 1 - 1) (drop 1 form) ≡ json_code code
+pub form_inner : (form : List ℕ) (code : ℕ) → form ≡ json_text (code ∷ [])
+    → take (length form - 1 - 1) (drop 1 form) ≡ json_code code
 form_inner form code is =
     subst (λ xs. take (length xs - 1 - 1) (drop 1 xs) ≡ json_code code) (sym (form_is form code is))
     (grind (arith, common_steps))

@@ -1,6 +1,6 @@
 -- Lists.
-use Rattle.std.proofs.Common.{◌≡◌, ◌∙◌, ℕ, ◌-◌, suc, List, ◌∷◌, ◌++◌, length, get_or, take}
-use Rattle.std.proofs.Common.{drop, ap, arith, sym}
+use Rattle.std.proofs.Common.{◌≡◌, ◌∙◌, ℕ, ◌-◌, suc, List, ◌∷◌, ◌++◌, length, get_or, take, drop}
+use Rattle.std.proofs.Common.{ap, arith, sym}
 use Rattle.std.proofs.lemmas.Grind.{common_steps}
 use Rattle.std.proofs.lemmas.List.{append_assoc, take-append-drop}
 

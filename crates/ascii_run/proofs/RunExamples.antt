@@ -14,7 +14,8 @@ use Rattle.ascii_run.specs.Run.{IsFaultPlace, IsNoFault, plain_replies, plain_te
 -- one command of each kind of reply, from `abc` to the empty text
 abbrev worked : AsciiStr → List Cmd
 worked b =
-    cmd.Insert 4 ch.x ∷ cmd.Insert 3 ch.x ∷ cmd.Remove 4 ∷ cmd.Remove 0 ∷ cmd.Set 3 ch.z ∷ cmd.Truncate 1
+    cmd.Insert 4 ch.x ∷ cmd.Insert 3 ch.x ∷ cmd.Remove 4 ∷ cmd.Remove 0 ∷ cmd.Set 3
+    ch.z ∷ cmd.Truncate 1
     ∷ cmd.Upper ∷ cmd.EqIgnoreCase b ∷ cmd.Copy (range.From 2) ∷ cmd.Copy (range.Inclusive 1 0)
     ∷ cmd.Reserve (2 ^ 64 - 1) ∷ cmd.Len ∷ cmd.Pop ∷ cmd.Pop ∷ []
 
@@ -35,4 +36,9 @@ abbrev faulty : List Cmd
 faulty = cmd.Pop ∷ cmd.Remove 2 ∷ cmd.Set 9 ch.z ∷ []
 
 worked_fault : IsFaultPlace abc faulty 1
-worked_fault = record { here = tt; before = All-cons IsNoFault (a_char (Some 99)) [] (λ fault. fault) (All-nil IsNoFault) }
+worked_fault =
+    record {
+      here = tt;
+      before = All-cons IsNoFault (a_char (Some 99)) [] (λ fault. fault)
+          (All-nil IsNoFault);
+    }

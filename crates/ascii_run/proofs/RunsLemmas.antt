@@ -19,7 +19,8 @@ use Rattle.ascii_run.specs.Run.{outcome, plain_replies, plain_text}
 use Rattle.ascii_run.specs.Edit.{StopsAt, StopsEdits}
 
 -- a run goes on by one step
-pub run_more : {A : Type 0} (sure : ℕ) (t : List ℕ) (cmds : List Cmd) (replies : List (Reply A)) (mid : List ℕ) (cmd : Cmd) (r : Reply A) (t2 : List ℕ)
+pub run_more : {A : Type 0} (sure : ℕ) (t : List ℕ) (cmds : List Cmd) (replies : List (Reply A))
+    (mid : List ℕ) (cmd : Cmd) (r : Reply A) (t2 : List ℕ)
     → Run sure t cmds replies mid → Step sure mid cmd (value_of_reply r) t2
     → Run sure t (cmds ++ cmd ∷ []) (replies ++ r ∷ []) t2
 run_more {A} sure t [] [] mid cmd r t2 h s =
@@ -36,21 +37,25 @@ step_plain sure t cmd r t2 (inl plain) some = plain
 step_plain sure t cmd r t2 (inr wants) some = absurd (some wants.0)
 
 -- a run without want of memory is the plain run
-pub run_plain : {A : Type 0} (sure : ℕ) (t : List ℕ) (cmds : List Cmd) (replies : List (Reply A)) (t2 : List ℕ)
+pub run_plain : {A : Type 0} (sure : ℕ) (t : List ℕ) (cmds : List Cmd) (replies : List (Reply A))
+    (t2 : List ℕ)
     → Run sure t cmds replies t2 → NeverOutOfMemory replies
     → IsPlainRun t cmds (outcome replies t2)
 run_plain {A} sure t [] [] t2 h some = (refl, h)
 run_plain {A} sure t [] (r ∷ replies) t2 h some = absurd h
 run_plain {A} sure t (cmd ∷ cmds) [] t2 h some = absurd h
 run_plain {A} sure t (cmd ∷ cmds) (r ∷ replies) t2 h some =
-    let step = step_plain sure t cmd (value_of_reply r) h.0 h.1 (All-head IsNotOutOfMemory r replies some) in
-    let rest = run_plain sure h.0 cmds replies t2 h.2 (All-tail IsNotOutOfMemory r replies some) in (
+    let step = step_plain sure t cmd (value_of_reply r) h.0 h.1
+    (All-head IsNotOutOfMemory r replies some) in
+    let rest = run_plain sure h.0 cmds replies t2 h.2 (All-tail IsNotOutOfMemory r replies some)
+    in (
       rw (step.0, rest.0, step.1) refl,
       rw (rest.1, step.1) refl,
     )
 
 -- up to the first want of memory the replies of a run are those of the plain run
-pub run_front : {A : Type 0} (sure : ℕ) (t : List ℕ) (cmds : List Cmd) (replies : List (Reply A)) (t2 : List ℕ) (k : ℕ)
+pub run_front : {A : Type 0} (sure : ℕ) (t : List ℕ) (cmds : List Cmd) (replies : List (Reply A))
+    (t2 : List ℕ) (k : ℕ)
     → Run sure t cmds replies t2 → NeverOutOfMemory (take k replies)
     → map value_of_reply (take k replies) ≡ take k (plain_replies t cmds)
 run_front {A} sure t cmds replies t2 zero h some = refl
@@ -58,8 +63,10 @@ run_front {A} sure t [] [] t2 (suc k) h some = refl
 run_front {A} sure t [] (r ∷ replies) t2 (suc k) h some = absurd h
 run_front {A} sure t (cmd ∷ cmds) [] t2 (suc k) h some = absurd h
 run_front {A} sure t (cmd ∷ cmds) (r ∷ replies) t2 (suc k) h some =
-    let step = step_plain sure t cmd (value_of_reply r) h.0 h.1 (All-head IsNotOutOfMemory r (take k replies) some) in
-    let rest = run_front sure h.0 cmds replies t2 k h.2 (All-tail IsNotOutOfMemory r (take k replies) some) in
+    let step = step_plain sure t cmd (value_of_reply r) h.0 h.1
+    (All-head IsNotOutOfMemory r (take k replies) some) in
+    let rest = run_front sure h.0 cmds replies t2 k h.2
+    (All-tail IsNotOutOfMemory r (take k replies) some) in
     rw (step.0, rest, step.1) refl
 
 -- two runs of the same commands from the same text agree
@@ -69,7 +76,8 @@ runs_agree {A} {B} cmds first second runs =
     let front1 = run_front runs.sure1 runs.text cmds first.replies first.text in
     let front2 = run_front runs.sure2 runs.text cmds second.replies second.text in
     let plain1 = run_plain runs.sure1 runs.text cmds first.replies first.text runs.run1 in
-    let plain2 = run_plain runs.sure2 runs.text cmds second.replies second.text runs.run2 in record {
+    let plain2 = run_plain runs.sure2 runs.text cmds second.replies second.text runs.run2 in
+    record {
       front = λ k none1 none2. front1 k runs.run1 none1 ∙ sym (front2 k runs.run2 none2);
       replies = λ none1 none2. (plain1 none1).0 ∙ sym ((plain2 none2).0);
       text = λ none1 none2. (plain1 none1).1 ∙ sym ((plain2 none2).1);
@@ -86,7 +94,8 @@ Run-count sure t (cmd ∷ cmds) (r ∷ replies) t2 run =
     omega (arith, Run-count sure run.0 cmds replies t2 run.2)
 
 -- memory that may be wanting past a sure length may be wanting past a smaller one
-may_refuse_less : (sure less : ℕ) (t : List ℕ) (cmd : Cmd) → less ≤ sure → MayRunOut sure t cmd → MayRunOut less t cmd
+may_refuse_less : (sure less : ℕ) (t : List ℕ) (cmd : Cmd) → less ≤ sure → MayRunOut sure t cmd
+    → MayRunOut less t cmd
 may_refuse_less sure less t (Push ch) le h = (h.0, omega (arith, h.1))
 may_refuse_less sure less t (PushStr view) le h = (h.0, omega (arith, h.1))
 may_refuse_less sure less t (Insert i ch) le h = (h.0, (h.1.0, omega (arith, h.1.1)))
@@ -96,20 +105,24 @@ may_refuse_less sure less t Shrink le h = omega arith
 may_refuse_less sure less t other le h = h
 
 -- where room is missing for a command that gives none back, the capacity is a sure length
-lacks_room : (sure : ℕ) (held : StringState) (cmd : Cmd) → cmd ≢ Shrink → MayRunOutIn sure held cmd → MayRunOut held.capacity held.text cmd
+lacks_room : (sure : ℕ) (held : StringState) (cmd : Cmd) → cmd ≢ Shrink
+    → MayRunOutIn sure held cmd → MayRunOut held.capacity held.text cmd
 lacks_room sure held Shrink ne h = absurd (ne refl)
 lacks_room sure held other ne h = h
 
 -- where room is missing, memory may be wanting past the sure length
-lacks_may_refuse : (sure : ℕ) (held : StringState) (cmd : Cmd) → sure ≤ held.capacity → MayRunOutIn sure held cmd → MayRunOut sure held.text cmd
+lacks_may_refuse : (sure : ℕ) (held : StringState) (cmd : Cmd) → sure ≤ held.capacity
+    → MayRunOutIn sure held cmd → MayRunOut sure held.text cmd
 lacks_may_refuse sure held Shrink le h = h.0
 lacks_may_refuse sure held other le h = may_refuse_less held.capacity sure held.text other le h
 
 -- a step wants memory past the sure length alone
 pub step_sure : (sure : ℕ) (held : StringState) (cmd : Cmd) (r : ReplyValue) (t2 : List ℕ)
-    → Step 0 held.text cmd r t2 → (r ≡ no_memory → MayRunOutIn sure held cmd) → sure ≤ held.capacity → Step sure held.text cmd r t2
+    → Step 0 held.text cmd r t2 → (r ≡ no_memory → MayRunOutIn sure held cmd)
+    → sure ≤ held.capacity → Step sure held.text cmd r t2
 step_sure sure held cmd r t2 (inl plain) lacks le = inl plain
-step_sure sure held cmd r t2 (inr wants) lacks le = inr (wants.0, lacks_may_refuse sure held cmd le (lacks wants.0), wants.2)
+step_sure sure held cmd r t2 (inr wants) lacks le =
+    inr (wants.0, lacks_may_refuse sure held cmd le (lacks wants.0), wants.2)
 
 -- up to the capacity every length is sure
 pub step_within : (sure start : ℕ) (held : StringState) (cmd : Cmd) (r : ReplyValue) (t2 : List ℕ)
@@ -117,7 +130,12 @@ pub step_within : (sure start : ℕ) (held : StringState) (cmd : Cmd) (r : Reply
     → start ≤ held.capacity → cmd ≢ Shrink → Step start held.text cmd r t2
 step_within sure start held cmd r t2 (inl plain) lacks le ne = inl plain
 step_within sure start held cmd r t2 (inr wants) lacks le ne =
-    inr (wants.0, may_refuse_less held.capacity start held.text cmd le (lacks_room sure held cmd ne (lacks wants.0)), wants.2)
+    inr (
+      wants.0,
+      may_refuse_less held.capacity start held.text cmd le
+          (lacks_room sure held cmd ne (lacks wants.0)),
+      wants.2,
+    )
 
 -- a refusal is not want of memory
 fault_served : (r : ReplyValue) → IsFault r → r ≢ no_memory
@@ -137,12 +155,14 @@ plain_text_more t (c ∷ cmds) cmd = plain_text_more (after t c) cmds cmd
 
 -- one command more that is not refused
 pub no_fault_more : (t : List ℕ) (cmds : List Cmd) (cmd : Cmd)
-    → HasNoFault t cmds → IsNoFault (answer (plain_text t cmds) cmd) → HasNoFault t (cmds ++ cmd ∷ [])
+    → HasNoFault t cmds → IsNoFault (answer (plain_text t cmds) cmd)
+    → HasNoFault t (cmds ++ cmd ∷ [])
 no_fault_more t [] cmd none good = All-cons IsNoFault (answer t cmd) [] good (All-nil IsNoFault)
 no_fault_more t (c ∷ cmds) cmd none good =
     All-cons IsNoFault (answer t c) (plain_replies (after t c) (cmds ++ cmd ∷ []))
     (All-head IsNoFault (answer t c) (plain_replies (after t c) cmds) none)
-    (no_fault_more (after t c) cmds cmd (All-tail IsNoFault (answer t c) (plain_replies (after t c) cmds) none) good)
+    (no_fault_more (after t c) cmds cmd
+    (All-tail IsNoFault (answer t c) (plain_replies (after t c) cmds) none) good)
 
 -- the first command that is refused is at the fault place
 pub fault_here : (t : List ℕ) (cmds : List Cmd) (k : ℕ) (cmd : Cmd)
@@ -150,30 +170,37 @@ pub fault_here : (t : List ℕ) (cmds : List Cmd) (k : ℕ) (cmd : Cmd)
     → IsFault (answer (plain_text t (take k cmds)) cmd) → IsFaultPlace t cmds k
 fault_here t [] k cmd at none fault = absurd (none-some cmd at)
 fault_here t (c ∷ cmds) zero cmd at none fault = record {
-  here = let P : Cmd → Type 0 = λ x. IsFault (answer t x) in subst P (sym (ap (λ found. unwrap_or found cmd) at)) fault;
+  here = let P : Cmd → Type 0 = λ x. IsFault (answer t x) in
+      subst P (sym (ap (λ found. unwrap_or found cmd) at)) fault;
   before = All-nil IsNoFault;
 }
 fault_here t (c ∷ cmds) (suc k) cmd at none fault =
     let front = plain_replies (after t c) (take k cmds) in
-    let later = fault_here (after t c) cmds k cmd at (All-tail IsNoFault (answer t c) front none) fault in record {
+    let later = fault_here (after t c) cmds k cmd at (All-tail IsNoFault (answer t c) front none)
+    fault in record {
       here = later.here;
-      before = All-cons IsNoFault (answer t c) (take k (plain_replies (after t c) cmds)) (All-head IsNoFault (answer t c) front none) later.before;
+      before = All-cons IsNoFault (answer t c) (take k (plain_replies (after t c) cmds))
+          (All-head IsNoFault (answer t c) front none) later.before;
     }
 
 -- edits that stop at a command tell why
-pub edits_stop : (t : List ℕ) (cmds : List Cmd) (k : ℕ) (cmd : Cmd) (mid : List ℕ) (r : ReplyValue) (t2 : List ℕ) (fault : EngineFault)
+pub edits_stop : (t : List ℕ) (cmds : List Cmd) (k : ℕ) (cmd : Cmd) (mid : List ℕ)
+    (r : ReplyValue) (t2 : List ℕ) (fault : EngineFault)
     → slice_get cmds k ≡ Some cmd → HasNoFault t (take k cmds) → mid ≡ plain_text t (take k cmds)
     → Step 0 mid cmd r t2 → StopsAt k r fault → StopsEdits t cmds fault
 edits_stop t cmds k cmd mid r t2 (Position i) at none text step stops =
     let P : List ℕ → Type 0 = λ x. IsFault (answer x cmd) in
-    let here = fault_here t cmds k cmd at none (subst P text (step_fault mid cmd r t2 step stops.1)) in
+    let here = fault_here t cmds k cmd at none
+    (subst P text (step_fault mid cmd r t2 step stops.1)) in
     subst (IsFaultPlace t cmds) (sym stops.0) here
 edits_stop t cmds k cmd mid r t2 Memory at none text step stops = tt
 edits_stop t cmds k cmd mid r t2 other at none text step stops = stops
 
 -- edits that go on behind a command have its plain text
-pub edit_more : (t : List ℕ) (front : List Cmd) (mid : List ℕ) (cmd : Cmd) (r : ReplyValue) (t2 : List ℕ)
-    → HasNoFault t front → mid ≡ plain_text t front → Step 0 mid cmd r t2 → IsNoFault r → r ≢ no_memory
+pub edit_more : (t : List ℕ) (front : List Cmd) (mid : List ℕ) (cmd : Cmd) (r : ReplyValue)
+    (t2 : List ℕ)
+    → HasNoFault t front → mid ≡ plain_text t front → Step 0 mid cmd r t2 → IsNoFault r
+    → r ≢ no_memory
     → HasNoFault t (front ++ cmd ∷ []) × (t2 ≡ plain_text t (front ++ cmd ∷ []))
 edit_more t front mid cmd r t2 none text step good some =
     let plain = step_plain 0 mid cmd r t2 step some in

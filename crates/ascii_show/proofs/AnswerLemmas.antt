@@ -1,5 +1,6 @@
 -- What the engine answers to a mode that words ask for.
-use Rattle.std.proofs.Common.{◌≡◌, ◌∙◌, ℕ, List, ◌++◌, append-nil, ap, sym, refl, subst, inl, inr, length, Some, None, Ok, Err}
+use Rattle.std.proofs.Common.{◌≡◌, ◌∙◌, ℕ, List, ◌++◌, append-nil, ap, sym, refl, subst, inl, inr}
+use Rattle.std.proofs.Common.{length, Some, None, Ok, Err}
 use Rattle.std.specs.Prelude.{IfSome}
 use Rattle.std.specs.Result.{IsErrAnd}
 use Rattle.std.specs.Str.{IsAscii}
@@ -9,10 +10,12 @@ use Rattle.ascii_base.specs.Bytes.{FirstOther}
 use Rattle.ascii_run.specs.Engine.{EngineOutcome, IoState, ReadsAll}
 use Rattle.ascii_run.specs.ModeOutput.{IsFaultOf}
 use Rattle.ascii_run.specs.declared.faults.EngineFault.{EngineFault}
-use Rattle.ascii_run.specs.declared.faults.EngineFault.TheVariants.{NotAscii, Position, Memory, Read, Write}
+use Rattle.ascii_run.specs.declared.faults.EngineFault.TheVariants.{NotAscii, Position, Memory}
+use Rattle.ascii_run.specs.declared.faults.EngineFault.TheVariants.{Read, Write}
 use Rattle.ascii_run.specs.declared.modes.Mode.{Mode}
 use Rattle.ascii_show.specs.Answer.{HasOutput, MayReturn}
-use Rattle.ascii_show.specs.Requested.{Requested, copy, lines, tac, caret, ends, ends_spans, edit, json, requested_mode}
+use Rattle.ascii_show.specs.Requested.{Requested, copy, lines, tac, caret, ends, ends_spans, edit}
+use Rattle.ascii_show.specs.Requested.{json, requested_mode}
 use Rattle.ascii_show.specs.Call.{Requests, IsCall}
 use Rattle.ascii_show.proofs.ScriptLemmas.{letters_are_no_option}
 use Rattle.ascii_show.specs.declared.failure.Failure.{Failure}
@@ -25,15 +28,18 @@ call words lines is = rw is (inl (inr (inl refl), refl))
 call words tac is = rw is (inl (inr (inr (inl refl)), refl))
 call words caret is = rw is (inl (inr (inr (inr (inl refl))), refl))
 call words json is = rw is (inl (inr (inr (inr (inr refl))), refl))
-call words (ends script) asks = rw asks.1 (inr (inl (refl, (asks.0, 1, inl (refl, letters_are_no_option asks.0 script asks.2, refl)))))
+call words (ends script) asks = rw asks.1
+    (inr (inl (refl, (asks.0, 1, inl (refl, letters_are_no_option asks.0 script asks.2, refl)))))
 call words (ends_spans script) asks = rw asks.1 (inr (inl (refl, (asks.0, 2, inr (refl, refl)))))
 call words (edit cmds) asks = rw asks.1 (inr (inr refl))
 
 -- what holds of all that was read holds of what is known
-reads : (P : List ℕ → Type 0) (known left : Option (List ℕ)) (bytes : List ℕ) → ReadsAll known left bytes → P bytes → IfSome known P
+reads : (P : List ℕ → Type 0) (known left : Option (List ℕ)) (bytes : List ℕ)
+    → ReadsAll known left bytes → P bytes → IfSome known P
 reads P None left bytes all of = tt
 reads P (Some xs) None bytes all of = absurd all.gave
-reads P (Some xs) (Some ys) bytes all of = subst P (sym (all.gave ∙ (ap (λ zs. bytes ++ zs) all.ended ∙ append-nil bytes))) of
+reads P (Some xs) (Some ys) bytes all of =
+    subst P (sym (all.gave ∙ (ap (λ zs. bytes ++ zs) all.ended ∙ append-nil bytes))) of
 
 nothing : (known : Option (List ℕ)) → IfSome known (λ bytes. Unit {0})
 nothing None = tt
@@ -41,24 +47,45 @@ nothing (Some bytes) = tt
 
 -- a fault of the engine is one that the words and the input allow
 pub failed : (words : List (List ℕ)) (mode : Mode) (fault : EngineFault) (old new : IoState)
-    → Requests words (requested_mode mode) → EngineOutcome mode (Err fault) old new → MayReturn words old.remaining (Err (Engine fault))
-failed words mode (NotAscii n) old new asks outcome =
-    (mode, asks, reads (λ bytes. FirstOther bytes 0 (length bytes) n) old.remaining new.remaining outcome.0 outcome.1 outcome.2)
-failed words mode (Position k) old new asks outcome =
-    (mode, asks, reads (λ bytes. IsAscii bytes × IsFaultOf mode bytes k) old.remaining new.remaining outcome.0 outcome.1 (outcome.2, outcome.3))
+    → Requests words (requested_mode mode) → EngineOutcome mode (Err fault) old new
+    → MayReturn words old.remaining (Err (Engine fault))
+failed words mode (NotAscii n) old new asks outcome = (
+  mode,
+  asks,
+  reads (λ bytes. FirstOther bytes 0 (length bytes) n) old.remaining new.remaining
+      outcome.0 outcome.1 outcome.2,
+)
+failed words mode (Position k) old new asks outcome = (
+  mode,
+  asks,
+  reads (λ bytes. IsAscii bytes × IsFaultOf mode bytes k) old.remaining
+      new.remaining outcome.0 outcome.1 (outcome.2, outcome.3),
+)
 failed words mode Memory old new asks outcome = call words (requested_mode mode) asks
 failed words mode Read old new asks outcome = (mode, asks, nothing old.remaining)
-failed words mode Write old new asks outcome =
-    (mode, asks, reads (HasOutput mode) old.remaining new.remaining outcome.2.text outcome.2.read (outcome.2.ascii, (outcome.0 ++ outcome.1, outcome.2.output_of)))
+failed words mode Write old new asks outcome = (
+  mode,
+  asks,
+  reads (HasOutput mode) old.remaining new.remaining outcome.2.text outcome.2.read
+      (outcome.2.ascii, (outcome.0 ++ outcome.1, outcome.2.output_of)),
+)
 
 -- and so is its success
 pub done : (words : List (List ℕ)) (mode : Mode) (old new : IoState)
-    → Requests words (requested_mode mode) → EngineOutcome mode (Ok tt) old new → MayReturn words old.remaining (Ok tt)
-done words mode old new asks outcome =
-    (mode, asks, reads (HasOutput mode) old.remaining new.remaining outcome.1.text outcome.1.read (outcome.1.ascii, (outcome.0, outcome.1.output_of)))
+    → Requests words (requested_mode mode) → EngineOutcome mode (Ok tt) old new
+    → MayReturn words old.remaining (Ok tt)
+done words mode old new asks outcome = (
+  mode,
+  asks,
+  reads (HasOutput mode) old.remaining new.remaining outcome.1.text outcome.1.read
+      (outcome.1.ascii, (outcome.0, outcome.1.output_of)),
+)
 
 -- a failure handed on by `?`
-pub handed_on : (words : List (List ℕ)) (known : Option (List ℕ)) (fault : EngineFault) (result : Result (Unit {0}) Failure)
-    → IsErrAnd result (λ failure. failure ≡ Engine fault) → MayReturn words known (Err (Engine fault)) → MayReturn words known result
+pub handed_on : (words : List (List ℕ)) (known : Option (List ℕ)) (fault : EngineFault)
+    (result : Result (Unit {0}) Failure)
+    → IsErrAnd result (λ failure. failure ≡ Engine fault)
+    → MayReturn words known (Err (Engine fault)) → MayReturn words known result
 handed_on words known fault (Ok _) is may = absurd is
-handed_on words known fault (Err failure) is may = subst (λ failure. MayReturn words known (Err failure)) (sym is) may
+handed_on words known fault (Err failure) is may =
+    subst (λ failure. MayReturn words known (Err failure)) (sym is) may

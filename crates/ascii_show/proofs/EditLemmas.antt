@@ -8,7 +8,7 @@ use Rattle.std.proofs.lemmas.Option.{slice_get-get_or}
 use Rattle.std.proofs.lemmas.List.Elements.{All-cons, All-nil}
 use Rattle.ascii_run.specs.declared.commands.Cmd.{Cmd}
 use Rattle.ascii_show.specs.Words.{IsFirstBadWord, IsWord, IsWordOf}
-use Rattle.ascii_show.proofs.ListLemmas.{AllZip-push}
+use Rattle.ascii.proofs.ListLemmas.{AllZip-push}
 
 -- one more word and its command
 pub more_words : (words : List (List ℕ)) (cmds : List Cmd) (i : ℕ) (word : List ℕ) (cmd : Cmd)

@@ -1,7 +1,6 @@
 pub mod AnswerLemmas
 pub mod EditLemmas
 pub mod InsertionLemmas
-pub mod ListLemmas
 pub mod ScriptLemmas
 mod WordExamples
 pub mod WordLemmas

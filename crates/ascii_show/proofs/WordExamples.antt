@@ -1,5 +1,6 @@
 -- Words that are known from outside, computed by the definitions.
-use Rattle.std.proofs.Common.{◌≡◌, ◌≢◌, List, ℕ, [], ◌∷◌, ◌++◌, drop, get_or, length, refl, sym, ap, subst, arith, inl, inr}
+use Rattle.std.proofs.Common.{◌≡◌, ◌≢◌, List, ℕ, [], ◌∷◌, ◌++◌, drop, get_or, length, refl, sym, ap}
+use Rattle.std.proofs.Common.{subst, arith, inl, inr}
 use Rattle.std.specs.Prelude.{codes}
 use Rattle.std.specs.Str.{IsAscii}
 use Rattle.std.proofs.lemmas.List.Elements.{All-cons, All-nil}
@@ -8,9 +9,11 @@ use Rattle.ascii.specs.declared.ascii_str.AsciiStr.{AsciiStr}
 use Rattle.ascii.specs.declared.iter.walks.End.{End}
 use Rattle.ascii.specs.declared.iter.walks.End.TheVariants.{Front, Back}
 use Rattle.ascii_run.specs.declared.commands.Cmd.{Cmd}
-use Rattle.ascii_run.specs.declared.commands.Cmd.TheVariants.{PushStr, InsertStr, Remove, Truncate, Pop, Upper, Lower}
+use Rattle.ascii_run.specs.declared.commands.Cmd.TheVariants.{PushStr, InsertStr, Remove, Truncate}
+use Rattle.ascii_run.specs.declared.commands.Cmd.TheVariants.{Pop, Upper, Lower}
 use Rattle.ascii_show.specs.Call.{HasScript, IsCall}
-use Rattle.ascii_show.specs.Words.{AreDigitsOf, AreEndsOf, IsFirstBadWord, IsNotScript, IsWord, IsWordOf, letter_of}
+use Rattle.ascii_show.specs.Words.{AreDigitsOf, AreEndsOf, IsFirstBadWord, IsNotScript, IsWord}
+use Rattle.ascii_show.specs.Words.{IsWordOf, letter_of}
 use Rattle.ascii_show.proofs.ScriptLemmas.{no_script}
 
 -- calls
@@ -48,13 +51,19 @@ bad_script = no_script (codes "FXB") 1 (omega arith) other_letter
 
 -- words of an edit
 number : AreDigitsOf (codes "0003") 3
-number = ((omega arith, (omega arith, (omega arith, (omega arith, (omega arith, tt))))), refl, omega arith)
+number = (
+  (omega arith, (omega arith, (omega arith, (omega arith, (omega arith, tt))))),
+  refl,
+  omega arith,
+)
 
 one : AreDigitsOf (codes "1") 1
 one = ((omega arith, (omega arith, tt)), refl, omega arith)
 
-insertion : (view : AsciiStr) → text_of view ≡ codes "def" → IsAscii (text_of view) → IsWordOf (codes "i1:def") (InsertStr 1 view)
-insertion view is ascii = (codes "1:def", refl, (codes "1", ap (λ text. codes "1:" ++ text) (sym is), one, ascii))
+insertion : (view : AsciiStr) → text_of view ≡ codes "def" → IsAscii (text_of view)
+    → IsWordOf (codes "i1:def") (InsertStr 1 view)
+insertion view is ascii =
+    (codes "1:def", refl, (codes "1", ap (λ text. codes "1:" ++ text) (sym is), one, ascii))
 
 no_number : (cmd : Cmd) → ¬ (IsWordOf (codes "rx") cmd)
 no_number (PushStr view) of = omega (arith, ap (λ word. get_or word 0 0) of.0)

@@ -1,5 +1,6 @@
 -- The letter that the word of a command begins with, and what stands behind it.
-use Rattle.std.proofs.Common.{◌≡◌, ◌≤◌, ℕ, List, [], ◌∷◌, Option, Some, None, MatchOption, get_or, drop, refl, sym, ap, subst, arith}
+use Rattle.std.proofs.Common.{◌≡◌, ◌≤◌, ℕ, List, [], ◌∷◌, Option, Some, None, MatchOption, get_or}
+use Rattle.std.proofs.Common.{drop, refl, sym, ap, subst, arith}
 use Rattle.std.specs.Str.{IsAscii}
 use Rattle.std.specs.Str.Parse.{AllDigits}
 use Rattle.std.proofs.lemmas.Str.{IsAscii-append}
@@ -8,24 +9,29 @@ use Rattle.std.proofs.lemmas.Str.Parse.{digit_from_value}
 use Rattle.ascii.specs.View.{text_of}
 use Rattle.ascii.specs.declared.ascii_str.AsciiStr.{AsciiStr}
 use Rattle.ascii_run.specs.declared.commands.Cmd.{Cmd}
-use Rattle.ascii_run.specs.declared.commands.Cmd.TheVariants.{PushStr, InsertStr, Remove, Pop, Truncate, Upper, Lower}
+use Rattle.ascii_run.specs.declared.commands.Cmd.TheVariants.{PushStr, InsertStr, Remove, Pop}
+use Rattle.ascii_run.specs.declared.commands.Cmd.TheVariants.{Truncate, Upper, Lower}
 use Rattle.ascii_show.specs.Words.{IsInsertion, IsWord, IsWordOf}
 
 digits_ascii : (digits : List ℕ) → AllDigits 10 digits → IsAscii digits
 digits_ascii [] all = IsAscii-nil
 digits_ascii (digit ∷ digits) all =
-    IsAscii-cons digit digits (omega (arith, digit_from_value digit all.0)) (digits_ascii digits all.1)
+    IsAscii-cons digit digits (omega (arith, digit_from_value digit all.0))
+    (digits_ascii digits all.1)
 
 -- a word that stands for a command is ASCII
 word_ascii : (word : List ℕ) (cmd : Cmd) → IsWordOf word cmd → IsAscii word
-word_ascii word (PushStr view) of = subst IsAscii (sym of.0) (IsAscii-cons 112 (text_of view) (omega arith) of.1)
+word_ascii word (PushStr view) of =
+    subst IsAscii (sym of.0) (IsAscii-cons 112 (text_of view) (omega arith) of.1)
 word_ascii word (InsertStr n view) of =
     let digits = digits_ascii of.2.0 of.2.2.0.1 in
     let text = IsAscii-cons 58 (text_of view) (omega arith) of.2.3 in
     let rest = subst IsAscii (sym of.2.1) (IsAscii-append of.2.0 (58 ∷ text_of view) digits text) in
     subst IsAscii (sym of.1) (IsAscii-cons 105 of.0 (omega arith) rest)
-word_ascii word (Remove n) of = subst IsAscii (sym of.1) (IsAscii-cons 114 of.0 (omega arith) (digits_ascii of.0 of.2.0.1))
-word_ascii word (Truncate n) of = subst IsAscii (sym of.1) (IsAscii-cons 116 of.0 (omega arith) (digits_ascii of.0 of.2.0.1))
+word_ascii word (Remove n) of = subst IsAscii (sym of.1)
+    (IsAscii-cons 114 of.0 (omega arith) (digits_ascii of.0 of.2.0.1))
+word_ascii word (Truncate n) of =
+    subst IsAscii (sym of.1) (IsAscii-cons 116 of.0 (omega arith) (digits_ascii of.0 of.2.0.1))
 word_ascii word Pop of = subst IsAscii (sym of) (IsAscii-cons 111 [] (omega arith) IsAscii-nil)
 word_ascii word Upper of = subst IsAscii (sym of) (IsAscii-cons 117 [] (omega arith) IsAscii-nil)
 word_ascii word Lower of = subst IsAscii (sym of) (IsAscii-cons 108 [] (omega arith) IsAscii-nil)
@@ -35,9 +41,11 @@ pub no_other_word : (word : List ℕ) (i : ℕ) → 128 ≤ get_or word i 0 → 
 no_other_word word i other is = omega (arith, other, word_ascii word is.0 is.1 i)
 
 -- a word that begins with `i` is an insertion
-pub only_insertion : (rest : List ℕ) (cmd : Cmd) → IsWordOf (105 ∷ rest) cmd → (n : ℕ) × (view : AsciiStr) × (cmd ≡ InsertStr n view) × IsInsertion rest n view
+pub only_insertion : (rest : List ℕ) (cmd : Cmd) → IsWordOf (105 ∷ rest) cmd
+    → (n : ℕ) × (view : AsciiStr) × (cmd ≡ InsertStr n view) × IsInsertion rest n view
 only_insertion rest (PushStr view) of = absurd (omega (arith, ap (λ word. get_or word 0 0) of.0))
-only_insertion rest (InsertStr n view) of = (n, view, refl, subst (λ word. IsInsertion word n view) (sym (ap (drop 1) of.1)) of.2)
+only_insertion rest (InsertStr n view) of =
+    (n, view, refl, subst (λ word. IsInsertion word n view) (sym (ap (drop 1) of.1)) of.2)
 only_insertion rest (Remove n) of = absurd (omega (arith, ap (λ word. get_or word 0 0) of.1))
 only_insertion rest (Truncate n) of = absurd (omega (arith, ap (λ word. get_or word 0 0) of.1))
 only_insertion rest Pop of = absurd (omega (arith, ap (λ word. get_or word 0 0) of))
@@ -47,7 +55,9 @@ only_insertion rest other of = absurd of
 
 -- what stands behind the `i` tells the word
 pub insertion_word : (rest : List ℕ) (result : Option Cmd)
-    → MatchOption result (¬ ((n : ℕ) × (view : AsciiStr) × IsInsertion rest n view)) (λ cmd. (n : ℕ) × (view : AsciiStr) × (cmd ≡ InsertStr n view) × IsInsertion rest n view)
+    → MatchOption result (¬ ((n : ℕ) × (view : AsciiStr) × IsInsertion rest n view))
+    (λ cmd. (n : ℕ) × (view : AsciiStr) × (cmd ≡ InsertStr n view) × IsInsertion rest n view)
     → MatchOption result (¬ (IsWord (105 ∷ rest))) (IsWordOf (105 ∷ rest))
-insertion_word rest None none = λ is. let of = only_insertion rest is.0 is.1 in none (of.0, of.1, of.3)
+insertion_word rest None none = λ is. let of = only_insertion rest is.0 is.1 in
+    none (of.0, of.1, of.3)
 insertion_word rest (Some cmd) of = subst (IsWordOf (105 ∷ rest)) (sym of.2) (rest, refl, of.3)

@@ -15,7 +15,8 @@ use Rattle.ascii.specs.View.{text_of}
 use Rattle.ascii.proofs.LinesLemmas.{LinesOf-lines_of}
 
 -- the first k lines and the others, one behind the other
-pub lines_joined : (text front : List ℕ) (lines : List Line) (k : ℕ) → LinesOf text lines → LinesOf front (take k lines)
+pub lines_joined : (text front : List ℕ) (lines : List Line) (k : ℕ) → LinesOf text lines
+    → LinesOf front (take k lines)
     → front ++ flat_map line_text (drop k lines) ≡ text
 lines_joined text front lines k of before =
     ap (λ t. t ++ flat_map line_text (drop k lines)) (sym before.joined)
@@ -24,14 +25,19 @@ lines_joined text front lines k of before =
 
 -- all but the last of the others are among all but the last
 ended_behind : (lines : List Line) (k i : ℕ) (d : Line) → i < length (drop k lines) - 1
-    → All (λ line. line.ending ≢ Absent) (take (length lines - 1) lines) → (get_or (drop k lines) i d).ending ≢ Absent
+    → All (λ line. line.ending ≢ Absent) (take (length lines - 1) lines)
+    → (get_or (drop k lines) i d).ending ≢ Absent
 ended_behind lines k i d within ended =
     let all_within : k + i < length lines - 1 = omega (arith, length-drop k lines) in
-    let short : k + i < length (take (length lines - 1) lines) = omega (arith, length-take (length lines - 1) lines) in
-    rw get_or-drop (rw (get_or-take (length lines - 1) lines (k + i) d all_within) at (ended (k + i) d short))
+    let short : k + i < length (take (length lines - 1) lines) =
+    omega (arith, length-take (length lines - 1) lines) in
+    rw get_or-drop
+    (rw (get_or-take (length lines - 1) lines (k + i) d all_within) at
+    (ended (k + i) d short))
 
 -- the text behind the first k lines has the others
-pub lines_behind : (text front : List ℕ) (lines : List Line) (k : ℕ) → LinesOf text lines → LinesOf front (take k lines)
+pub lines_behind : (text front : List ℕ) (lines : List Line) (k : ℕ) → LinesOf text lines
+    → LinesOf front (take k lines)
     → LinesOf (drop (length front) text) (drop k lines)
 lines_behind text front lines k of before = record {
   bodies = All-drop (λ line. ¬ (Contains line.body 10)) k lines of.bodies;
@@ -44,9 +50,11 @@ lines_behind text front lines k of before = record {
 }
 
 -- the rest of lines, or the empty text where none is owed
-pub rest_or_nothing : (lines : List Line) (rest : Option AsciiStr) (view : AsciiStr) → IsRemainderOfLines lines rest
+pub rest_or_nothing : (lines : List Line) (rest : Option AsciiStr) (view : AsciiStr)
+    → IsRemainderOfLines lines rest
     → UnwrapsOrElse rest (λ v. text_of v ≡ []) view → LinesOf (text_of view) lines
 rest_or_nothing lines None view nothing empty =
     subst (λ t. LinesOf t lines) (sym empty)
     (subst (λ ls. LinesOf [] ls) (sym nothing) (LinesOf-lines_of []))
-rest_or_nothing lines (Some rest) view is same = subst (λ v. LinesOf (text_of v) lines) (sym same) is.0
+rest_or_nothing lines (Some rest) view is same =
+    subst (λ v. LinesOf (text_of v) lines) (sym same) is.0

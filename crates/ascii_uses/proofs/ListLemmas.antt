@@ -18,14 +18,6 @@ All-seam P before after here each =
     subst P (get_or-append_seam before here after here)
     (each (length before) here (omega (arith, length-append before (here ∷ after))))
 
--- a pair more at the end
-pub AllZip-push : {A B : Type 0} (R : A → B → Type 0) (xs : List A) (ys : List B) (x : A) (y : B)
-    → AllZip R xs ys → R x y → AllZip R (xs ++ x ∷ []) (ys ++ y ∷ [])
-AllZip-push R [] [] x y all this = (this, tt)
-AllZip-push R [] (b ∷ ys) x y all this = absurd all
-AllZip-push R (a ∷ xs) [] x y all this = absurd all
-AllZip-push R (a ∷ xs) (b ∷ ys) x y all this = (all.0, AllZip-push R xs ys x y all.1 this)
-
 -- what holds of the images so far and of one more
 pub All-map_push : {A B : Type 0} (P : B → Type 0) (f : A → B) (xs : List A) (x : A)
     → All P (map f xs) → P (f x) → All P (map f (xs ++ x ∷ []))

@@ -1,4 +1,5 @@
--- What a screen shows: no control but LF, no line wider than the screen, and a text that needs no change as it is.
+-- What a screen shows: no control but LF, no line wider than the screen, and a text that needs no
+-- change as it is.
 use Rattle.std.proofs.Common.{◌≡◌, ◌≢◌, ℕ, ◌+◌, ◌-◌, ◌%◌, ◌<◌, ◌≤◌, ◌⊎◌, inl, inr, ⊎_elim, zero}
 use Rattle.std.proofs.Common.{suc, List, [], ◌∷◌, ◌++◌, length, min, refl, sym, ap, subst, ◌∙◌}
 use Rattle.std.proofs.Common.{arith, append_assoc, append-nil, length-append, length-take}
@@ -27,11 +28,15 @@ caret_inked_by : (n : ℕ) → n ≢ 10 → (n < 32) ⊎ (32 ≤ n) → (n ≡ 1
     → All Inked (caret_text n)
 caret_inked_by n other (inl low) delete =
     let is : caret_text n ≡ 94 ∷ (n + 64) ∷ [] = grind (arith, nat_tests) in
-    subst (All Inked) (sym is) (All-cons Inked 94 ((n + 64) ∷ []) (omega arith, λ is. omega arith) (one_inked (n + 64) (omega arith) (λ is. omega (arith, low))))
+    subst (All Inked) (sym is)
+    (All-cons Inked 94 ((n + 64) ∷ []) (omega arith, λ is. omega arith)
+    (one_inked (n + 64) (omega arith) (λ is. omega (arith, low))))
 caret_inked_by n other (inr high) (inl is) = subst (λ m. All Inked (caret_text m)) (sym is)
-    (All-cons Inked 94 (63 ∷ []) (omega arith, λ is. omega arith) (one_inked 63 (omega arith) (λ is. omega arith)))
+    (All-cons Inked 94 (63 ∷ []) (omega arith, λ is. omega arith)
+    (one_inked 63 (omega arith) (λ is. omega arith)))
 caret_inked_by n other (inr high) (inr below) =
-    let is : caret_text n ≡ n ∷ [] = grind (arith, nat_tests) in subst (All Inked) (sym is) (one_inked n high below)
+    let is : caret_text n ≡ n ∷ [] = grind (arith, nat_tests) in
+    subst (All Inked) (sym is) (one_inked n high below)
 
 abbrev spaces : ℕ → List ℕ
 spaces zero = []
@@ -77,7 +82,8 @@ column_other c x xs other = grind (arith, nat_tests)
 pub column_inked : (c : ℕ) (s : List ℕ) → All Inked s → column_after c s ≡ c + length s
 column_inked c [] all = omega arith
 column_inked c (x ∷ s) all =
-    column_other c x s (inked_other x (All-head Inked x s all)) ∙ column_inked (c + 1) s (All-tail Inked x s all) ∙ omega arith
+    column_other c x s (inked_other x (All-head Inked x s all))
+    ∙ column_inked (c + 1) s (All-tail Inked x s all) ∙ omega arith
 
 -- ---- lines within the width
 
@@ -89,14 +95,30 @@ within_inked : (w c : ℕ) (s : List ℕ) → All Inked s → c + length s ≤ w
 within_inked w c [] all fits = tt
 within_inked w c (x ∷ s) all fits =
     let size : length (x ∷ s) ≡ length s + 1 = omega arith in
-    inr (inked_other x (All-head Inked x s all), omega (arith, fits, size), within_inked w (c + 1) s (All-tail Inked x s all) (omega (arith, fits, size)))
+    inr (
+      inked_other x (All-head Inked x s all),
+      omega (arith, fits, size),
+      within_inked w
+          (c + 1) s (All-tail Inked x s all) (omega (arith, fits, size)),
+    )
 
-within_append : (w c : ℕ) (a b : List ℕ) → Within w c a → Within w (column_after c a) b → Within w c (a ++ b)
+within_append : (w c : ℕ) (a b : List ℕ) → Within w c a → Within w (column_after c a) b
+    → Within w c (a ++ b)
 within_append w c [] b first second = second
 within_append w c (x ∷ a) b (inl (is, first)) second =
-    inl (is, within_append w 0 a b first (subst (λ k. Within w k b) (ap (λ y. column_after c (y ∷ a)) is ∙ column_line_feed c a) second))
+    inl (
+      is,
+      within_append w 0 a b first
+          (subst (λ k. Within w k b) (ap (λ y. column_after c (y ∷ a)) is ∙ column_line_feed c a)
+          second),
+    )
 within_append w c (x ∷ a) b (inr (other, fits, first)) second =
-    inr (other, fits, within_append w (c + 1) a b first (subst (λ k. Within w k b) (column_other c x a other) second))
+    inr (
+      other,
+      fits,
+      within_append w (c + 1) a b first
+          (subst (λ k. Within w k b) (column_other c x a other) second),
+    )
 
 -- ---- the output for a character
 
@@ -146,7 +168,8 @@ good_shown_by w c n wide inside (inl is) fit =
       column = omega arith;
       quiet = All-cons IsShown 10 [] (inl refl) (All-nil IsShown);
     })
-good_shown_by w c n wide inside (inr other) (inl full) = subst (IsGood w c) (sym (shown_next w c n other full)) (
+good_shown_by w c n wide inside (inr other) (inl full) =
+    subst (IsGood w c) (sym (shown_next w c n other full)) (
     let rest : IsGood w 0 (cell_text w 0 n) =
     good_inked w 0 (cell_text w 0 n) (cell_inked w 0 n other)
     (omega (arith, cell_fits_by w n wide (cases_eq n 9))) in record {
@@ -182,47 +205,62 @@ shown_quiet w c (n ∷ text) wide inside = let good = good_shown w c n wide insi
     (shown_quiet w (column_after c (char_on_screen w c n)) text wide good.column)
 
 -- behind a front the rest begins at some column
-skip : (w c : ℕ) (front rest : List ℕ) → c ≤ w → Within w c (front ++ rest) → (k : ℕ) × (k ≤ w) × Within w k rest
+skip : (w c : ℕ) (front rest : List ℕ) → c ≤ w → Within w c (front ++ rest)
+    → (k : ℕ) × (k ≤ w) × Within w k rest
 skip w c [] rest inside all = (c, inside, all)
 skip w c (x ∷ front) rest inside (inl (is, all)) = skip w 0 front rest (omega arith) all
 skip w c (x ∷ front) rest inside (inr (other, fits, all)) = skip w (c + 1) front rest fits all
 
-part_short : (w c : ℕ) (part behind : List ℕ) → c ≤ w → Within w c (part ++ behind) → All (λ code. code ≢ 10) part → c + length part ≤ w
+part_short : (w c : ℕ) (part behind : List ℕ) → c ≤ w → Within w c (part ++ behind)
+    → All (λ code. code ≢ 10) part → c + length part ≤ w
 part_short w c [] behind inside all free = omega (arith, inside)
-part_short w c (x ∷ part) behind inside (inl (is, all)) free = absurd (All-head (λ code. code ≢ 10) x part free is)
+part_short w c (x ∷ part) behind inside (inl (is, all)) free =
+    absurd (All-head (λ code. code ≢ 10) x part free is)
 part_short w c (x ∷ part) behind inside (inr (other, fits, all)) free =
-    let rest : c + 1 + length part ≤ w = part_short w (c + 1) part behind fits all (All-tail (λ code. code ≢ 10) x part free) in
+    let rest : c + 1 + length part ≤ w =
+    part_short w (c + 1) part behind fits all (All-tail (λ code. code ≢ 10) x part free) in
     let size : length (x ∷ part) ≡ length part + 1 = omega arith in omega (arith, rest, size)
 
 pub shown_narrow : (w : ℕ) (text : List ℕ) → 2 ≤ w → IsNoWider w (screen_text w 0 text)
 shown_narrow w text wide before part behind joined free =
-    let all : Within w 0 (before ++ (part ++ behind)) = subst (Within w 0) (sym joined) (shown_within w 0 text wide (omega arith)) in
+    let all : Within w 0 (before ++ (part ++ behind)) =
+    subst (Within w 0) (sym joined) (shown_within w 0 text wide (omega arith)) in
     let at = skip w 0 before (part ++ behind) (omega arith) all in
     omega (arith, part_short w at.0 part behind at.1 at.2 free)
 
 -- ---- a text that needs no change
 
-narrow_within : (w c : ℕ) (line text : List ℕ) → length line ≡ c → All (λ code. code ≢ 10) line → IsNoWider w (line ++ text) → Within w c text
+narrow_within : (w c : ℕ) (line text : List ℕ) → length line ≡ c → All (λ code. code ≢ 10) line
+    → IsNoWider w (line ++ text) → Within w c text
 narrow_within w c line [] size free narrow = tt
 narrow_within w c line (x ∷ text) size free narrow = ⊎_elim
     (λ is. inl (
       is,
       narrow_within w 0 [] text refl (All-nil (λ code. code ≢ 10))
-          (λ before part behind joined. narrow (line ++ x ∷ before) part behind (append_assoc line (x ∷ before) (part ++ behind) ∙ ap (λ t. line ++ x ∷ t) joined)),
+          (λ before part behind joined. narrow (line ++ x ∷ before) part behind
+          (append_assoc line (x ∷ before) (part ++ behind) ∙ ap (λ t. line ++ x ∷ t) joined)),
     ))
     (λ other.
     let longer : All (λ code. code ≢ 10) (line ++ x ∷ []) =
-    All-append (λ code. code ≢ 10) line (x ∷ []) free (All-cons (λ code. code ≢ 10) x [] other (All-nil (λ code. code ≢ 10))) in
+    All-append (λ code. code ≢ 10) line (x ∷ []) free
+    (All-cons (λ code. code ≢ 10) x [] other (All-nil (λ code. code ≢ 10))) in
     let joined : (line ++ x ∷ []) ++ text ≡ line ++ x ∷ text = append_assoc line (x ∷ []) text in
-    let length_is : length (line ++ x ∷ []) ≡ c + 1 = omega (arith, length-append line (x ∷ []), size) in
+    let length_is : length (line ++ x ∷ []) ≡ c + 1 =
+    omega (arith, length-append line (x ∷ []), size) in
     let fits : length (line ++ x ∷ []) ≤ w = narrow [] (line ++ x ∷ []) text joined longer in
-    inr (other, omega (arith, length_is, fits), narrow_within w (c + 1) (line ++ x ∷ []) text length_is longer (subst (IsNoWider w) (sym joined) narrow)))
+    inr (
+      other,
+      omega (arith, length_is, fits),
+      narrow_within w (c + 1) (line ++ x ∷ []) text
+          length_is longer (subst (IsNoWider w) (sym joined) narrow),
+    ))
     (cases_eq x 10)
 
 plain_cell_by : (w c n : ℕ) → 32 ≤ n → (n ≢ 127) → cell_text w c n ≡ n ∷ []
 plain_cell_by w c n low high = grind (arith, nat_tests)
 
-plain_next : (w c x : ℕ) (text : List ℕ) → x ≢ 10 → c + 1 ≤ w → IsShown x → screen_text w (c + 1) text ≡ text → screen_text w c (x ∷ text) ≡ x ∷ text
+plain_next : (w c x : ℕ) (text : List ℕ) → x ≢ 10 → c + 1 ≤ w → IsShown x
+    → screen_text w (c + 1) text ≡ text → screen_text w c (x ∷ text) ≡ x ∷ text
 plain_next w c x text other fits (inl is) rest = absurd (other is)
 plain_next w c x text other fits (inr (low, high)) rest =
     let one : cell_text w c x ≡ x ∷ [] = plain_cell_by w c x low high in
@@ -234,25 +272,34 @@ plain_next w c x text other fits (inr (low, high)) rest =
     ap (λ cs. cs ++ screen_text w (column_after c (char_on_screen w c x)) text) here
     ∙ ap (λ k. x ∷ screen_text w k text) column ∙ ap (λ t. x ∷ t) rest
 
-plain_within : (w c : ℕ) (text : List ℕ) → All IsShown text → Within w c text → screen_text w c text ≡ text
+plain_within : (w c : ℕ) (text : List ℕ) → All IsShown text → Within w c text
+    → screen_text w c text ≡ text
 plain_within w c [] plain within = refl
 plain_within w c (x ∷ text) plain (inl (is, within)) =
     let P : ℕ → Type 0 = λ m. char_on_screen w c m ++ screen_text w
     (column_after c (char_on_screen w c m)) text ≡ m ∷ text in
-    subst P (sym is) (ap (λ t. 10 ∷ t) (plain_within w 0 text (All-tail IsShown x text plain) within))
-plain_within w c (x ∷ text) plain (inr (other, fits, within)) = plain_next w c x text other fits (All-head IsShown x text plain)
+    subst P (sym is)
+    (ap (λ t. 10 ∷ t) (plain_within w 0 text (All-tail IsShown x text plain) within))
+plain_within w c (x ∷ text) plain (inr (other, fits, within)) =
+    plain_next w c x text other fits (All-head IsShown x text plain)
     (plain_within w (c + 1) text (All-tail IsShown x text plain) within)
 
-pub plain_shown : (w : ℕ) (text : List ℕ) → All IsShown text → IsNoWider w text → screen_text w 0 text ≡ text
-plain_shown w text plain narrow = plain_within w 0 text plain (narrow_within w 0 [] text refl (All-nil (λ code. code ≢ 10)) narrow)
+pub plain_shown : (w : ℕ) (text : List ℕ) → All IsShown text → IsNoWider w text
+    → screen_text w 0 text ≡ text
+plain_shown w text plain narrow =
+    plain_within w 0 text plain
+    (narrow_within w 0 [] text refl (All-nil (λ code. code ≢ 10)) narrow)
 
 -- ---- a walk over a text
 
-pub column_append : (c : ℕ) (a b : List ℕ) → column_after c (a ++ b) ≡ column_after (column_after c a) b
+pub column_append : (c : ℕ) (a b : List ℕ)
+    → column_after c (a ++ b) ≡ column_after (column_after c a) b
 column_append c [] b = refl
 column_append c (x ∷ a) b = ⊎_elim
-    (λ is. let P : ℕ → Type 0 = λ y. column_after c (y ∷ (a ++ b)) ≡ column_after (column_after c (y ∷ a)) b in subst P (sym is) (column_append 0 a b))
-    (λ other. column_other c x (a ++ b) other ∙ column_append (c + 1) a b ∙ ap (λ k. column_after k b) (sym (column_other c x a other)))
+    (λ is. let P : ℕ → Type 0 = λ y. column_after c (y ∷ (a ++ b)) ≡ column_after
+    (column_after c (y ∷ a)) b in subst P (sym is) (column_append 0 a b))
+    (λ other. column_other c x (a ++ b) other ∙ column_append (c + 1) a b
+    ∙ ap (λ k. column_after k b) (sym (column_other c x a other)))
     (cases_eq x 10)
 
 -- what went out, the column and what is to come, on the way to the output for a text
@@ -276,5 +323,6 @@ goes_on w text out c n next rest wide way is =
           (screen_text w (column_after c (char_on_screen w c n)) rest) ∙ way.whole;
     })
 
-pub arrives : (w : ℕ) (text out : List ℕ) (c : ℕ) → IsOnTheWay w text out c [] → out ≡ screen_text w 0 text
+pub arrives : (w : ℕ) (text out : List ℕ) (c : ℕ) → IsOnTheWay w text out c []
+    → out ≡ screen_text w 0 text
 arrives w text out c way = sym (append-nil out) ∙ way.whole

@@ -11,8 +11,10 @@ returns-in_err-engine g c =
     let fault = c.in_err-engine.field-0.0 in
     let asks = subst (Requests words) (sym c.mode.ensures) c.in_ok-request.ensures in
     let may = failed words c.mode.result fault _ _ asks c.in_err-engine.ensures.outcome in
-    handed_on words (g.I.Read.remaining c.args.input) fault c.from_residual-in_err-engine.result c.from_residual-in_err-engine.ensures.1
-    (subst (λ reader. MayReturn words (g.I.Read.remaining reader) (Err (Engine fault))) c.new.ensures.reader may)
+    handed_on words (g.I.Read.remaining c.args.input) fault c.from_residual-in_err-engine.result
+    c.from_residual-in_err-engine.ensures.1
+    (subst (λ reader. MayReturn words (g.I.Read.remaining reader) (Err (Engine fault)))
+    c.new.ensures.reader may)
 
 pub returns : goal.returns
 returns g c =

@@ -8,7 +8,8 @@ use base.Logic.{id⊢}
 use base.Fml.{ftrue}
 use contract.Monad.{fact}
 use contract.Running.{tables}
-use types.Kit.{‵, raw, later, some, ◌⊛◌, ◌$◌, ◌∵◌, !, qed, by, move, keep, drop, use1, use2, split, join, fjoin, pick, await}
+use types.Kit.{‵, raw, later, some, ◌⊛◌, ◌$◌, ◌∵◌, !, qed, by, move, keep, drop, use1, use2, split}
+use types.Kit.{join, fjoin, pick, await}
 use types.Part.{whole, sub, agg}
 use types.Run.{stop, fld, hop, from, addr, lit, and_then, no_more, returns, enter}
 use types.ByLocal.{alloc_all, pass_all, free_all, look_at, look_in_at, get, get_in, sets, lands_as}
@@ -55,39 +56,69 @@ stayed = (stay_dropped (mut_slice_of (0 ∷ []) tt (plain (λ _. u8))) no, tt)
 
 pub as_mut_ascii_str_spec : {M : Type 1} → statement M
 as_mut_ascii_str_spec 𝓤 𝓛 𝓜 𝓡 wired =
-    let c = f.clauses 𝓛 𝓜.mem 𝓡.returns in let W = walk_of 𝓛 f.ended stayed c in let 𝓣 = tables 𝓤 𝓛.H 𝓜 𝓡 𝓡.env in
+    let c = f.clauses 𝓛 𝓜.mem 𝓡.returns in let W = walk_of 𝓛 f.ended stayed c in let 𝓣 =
+    tables 𝓤 𝓛.H 𝓜 𝓡 𝓡.env in
     let told = range_laws.the_told in
     proved 𝓛 f.ended stayed c 𝓜 𝓡 (Goes-spent_slice 𝓛 1 (0 ∷ []) tt (plain (λ _. u8)), tt)
     f.Key.name code.function (code.unfolded 𝓤 𝓛.H 𝓜 𝓡 wired)
-    (λ κs. (mut_slice_vals, tt)) (λ κs. (mut_slice_Tells (named 0) κs.0 u8, tt)) (λ κs qs bounds a _ are.
+    (λ κs. (mut_slice_vals, tt)) (λ κs. (mut_slice_Tells (named 0) κs.0 u8, tt))
+    (λ κs qs bounds a _ are.
     let s : MutBor (List ℕ) = a.0 in
     let long = are.0.0.1 in
     let whole_range : AsciiRange = Full in
     let G = triple_of 𝓛 g.signature (g.spec 𝓛 𝓜.mem 𝓡.returns) in
-    let z : G.Ghost = ((κs, qs, bounds, (s, (whole_range, tt)), (mut_slice_vals s, (told.val whole_range ∷ [], tt))), tt) in
+    let z : G.Ghost = (
+      (
+        κs,
+        qs,
+        bounds,
+        (s, (whole_range, tt)),
+        (mut_slice_vals s, (told.val whole_range ∷ [], tt)),
+      ),
+      tt,
+    ) in
     let y : W.Ghost = ((κs, qs, bounds, a, (mut_slice_vals s, tt)), tt) in
-    qed 𝓛 ((raw (alive 𝓛 f.signature κs qs) ⊛ ‵ ((MutSlice (named 0) κs.0 u8).own_val s (mut_slice_vals s)) ⊛ ‵ ftrue) ∷ ‵ ftrue ∷ []) ∵
+    qed 𝓛 ((raw (alive 𝓛 f.signature κs qs) ⊛ ‵
+    ((MutSlice (named 0) κs.0 u8).own_val s (mut_slice_vals s)) ⊛ ‵ ftrue) ∷ ‵ ftrue ∷ []) ∵
     split ! $ move ! (1 ∷ []) $ split ! $
     -- [the source; nothing; the tokens; nothing]
-    owned ! range.the_row _ (enum_laws.makes range.the_type range_laws.the_plain 𝓛) whole_range _ (enum_laws.owes range.the_type range_laws.the_laws whole_range tt) $
-    nothing ! $ move ! (1 ∷ 0 ∷ []) $ fjoin ! $ move ! (1 ∷ 0 ∷ []) $ fjoin ! $ move ! (2 ∷ 0 ∷ []) $ join ! $
+    owned ! range.the_row _ (enum_laws.makes range.the_type range_laws.the_plain 𝓛) whole_range _
+    (enum_laws.owes range.the_type range_laws.the_laws whole_range tt) $
+    nothing ! $ move ! (1 ∷ 0 ∷ []) $ fjoin ! $ move ! (1 ∷ 0 ∷ []) $ fjoin ! $ move !
+    (2 ∷ 0 ∷ []) $ join ! $
     use2 𝓛 (raw (G.pre z)) (id⊢ 𝓤 _) $ keep ! (0 ∷ []) $ enter ! _ _ _ _ _ $
     alloc_all ! (λ l. pass_all ! refl ((tt, (tt, (record { fits = long.0 }, tt))), tt) $
-    sets ! (addr ! (from ! (fld ! refl (hop ! (look_in_at ! 1 (sub ! 0 refl (whole !))) (stop !))))) refl (tt, tt) $
-    sets ! (agg ! (and_then ! (get ! refl) (and_then ! (get_in ! (fld ! refl (stop !)) (sub ! 1 refl (whole !))) (no_more !)))) refl (tt, (tt, (record { fits = long.0 }, tt))) $
+    sets ! (addr !
+    (from ! (fld ! refl (hop ! (look_in_at ! 1 (sub ! 0 refl (whole !))) (stop !))))) refl
+    (tt, tt) $
+    sets ! (agg !
+    (and_then ! (get ! refl)
+    (and_then ! (get_in ! (fld ! refl (stop !)) (sub ! 1 refl (whole !))) (no_more !)))) refl
+    (tt, (tt, (record { fits = long.0 }, tt))) $
     sets ! (agg ! (and_then ! (lit ! tt) (no_more !))) refl (tt, (record { fits = lit< tt }, tt)) $
-    calls_at ! (framed 𝓤 𝓛.H 𝓜 𝓣) G (met 𝓤 𝓛 𝓜 𝓡 (code.calls-ascii::bytes_mut::slice_ascii_mut 𝓡.env wired)) z
+    calls_at ! (framed 𝓤 𝓛.H 𝓜 𝓣) G
+    (met 𝓤 𝓛 𝓜 𝓡 (code.calls-ascii::bytes_mut::slice_ascii_mut 𝓡.env wired)) z
     (and_then ! (get ! refl) (and_then ! (get ! refl) (no_more !))) (λ v.
     let lft = named_lft 1 0 tt κs in
     let Out = RS.the_row (V.the_row lft) E.the_row in
     let Answers = λ (r : Result AsciiStrMut AsAsciiStrError). MutSliceOutcome s.now Full r in
-    let Lender = λ (r : Result AsciiStrMut AsAsciiStrError). IfOk r (λ w. borrow_of w ≡ s.ghost_name) in
-    use1 𝓛 (later (some (λ (r : Result AsciiStrMut AsAsciiStrError). (raw (alive 𝓛 g.signature κs qs) ⊛ ‵ (Out.own_val r (v ∷ []))) ⊛
-    some (λ (ws : Unit {0} × (Unit {0} × Unit {0})). ‵ (lasts g.ended κs (s, (whole_range, tt)) ws) ⊛ (raw (fact 𝓤 (Answers r)) ⊛ raw (fact 𝓤 (Lender r)) ⊛ ‵ (RestsIfErr Bytes s borrow_of r (λ m. m ≡ s.now))))))) (id⊢ 𝓤 _) $
-    await ! tt $ pick ! (λ r. split ! $ move ! (1 ∷ []) $ pick ! (λ ws. split ! $ drop ! $ move ! (1 ∷ []) $ split ! $ move ! (1 ∷ []) $
+    let Lender = λ (r : Result AsciiStrMut AsAsciiStrError). IfOk r
+    (λ w. borrow_of w ≡ s.ghost_name) in
+    use1 𝓛 (later
+    (some (λ (r : Result AsciiStrMut AsAsciiStrError).
+    (raw (alive 𝓛 g.signature κs qs) ⊛ ‵ (Out.own_val r (v ∷ []))) ⊛
+    some (λ (ws : Unit {0} × (Unit {0} × Unit {0})). ‵
+    (lasts g.ended κs (s, (whole_range, tt)) ws) ⊛
+    (raw (fact 𝓤 (Answers r)) ⊛ raw (fact 𝓤 (Lender r)) ⊛ ‵
+    (RestsIfErr Bytes s borrow_of r (λ m. m ≡ s.now))))))) (id⊢ 𝓤 _) $
+    await ! tt $ pick !
+    (λ r. split ! $ move ! (1 ∷ []) $ pick !
+    (λ ws. split ! $ drop ! $ move ! (1 ∷ []) $ split ! $ move ! (1 ∷ []) $
     -- [the answer; the tokens; what is promised of it]
     peeks ! Out _ (shows 𝓛 Out) r (v ∷ []) (λ is.
-    let typed : Typed Out.mir (v ∷ []) = ((result_laws (V.the_row lft) E.the_row (view_laws.the_row_laws lft) error_laws.the_row_laws).lawful 𝓛).typed r (v ∷ []) is in
+    let typed : Typed Out.mir (v ∷ []) =
+    ((result_laws (V.the_row lft) E.the_row (view_laws.the_row_laws lft)
+    error_laws.the_row_laws).lawful 𝓛).typed r (v ∷ []) is in
     lands_as ! refl refl typed.0 $
     returns ! (look_at ! 0 refl) $ free_all ! refl $
     nothing ! $ nothing ! $ fjoin ! $ move ! (2 ∷ 0 ∷ 1 ∷ 3 ∷ []) $

@@ -5,5 +5,6 @@ use Rattle.ascii_base.proofs.kernels.eq_ignore_case.Goals as goal
 pub returns-then-not-is_same : goal.returns-then-not-is_same
 returns-then-not-is_same c = (
   (λ no. absurd (search (rules, no))),
-  (λ e. let same = c.is_same.ensures.1 (same_front c.args.first.now c.args.second.now _ e) in absurd (search (rules, same))),
+  (λ e. let same = c.is_same.ensures.1 (same_front c.args.first.now c.args.second.now _ e) in
+      absurd (search (rules, same))),
 )

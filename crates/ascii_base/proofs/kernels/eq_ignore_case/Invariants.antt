@@ -4,7 +4,8 @@ use Rattle.ascii_base.proofs.kernels.eq_ignore_case.Given as goal
 
 -- the bytes before `at` are the same when case doesn't count
 abbrev pub invariant-loop-at : goal.invariant-loop-at
-invariant-loop-at l = record { inside : l.at ≤ length l.first; before : SameBefore l.first l.second l.at }
+invariant-loop-at l =
+    record { inside : l.at ≤ length l.first; before : SameBefore l.first l.second l.at }
 
 abbrev pub decreases-loop-at : goal.decreases-loop-at
 decreases-loop-at l = length l.first - l.at

@@ -5,7 +5,8 @@ use Rattle.ascii_base.proofs.kernels.first_not_whitespace.Given as goal
 
 -- the bytes before `at` are whitespace
 abbrev pub invariant-loop-at : goal.invariant-loop-at
-invariant-loop-at l = record { inside : l.at ≤ length l.bytes; before : AllBefore IsWhitespace l.bytes l.at }
+invariant-loop-at l =
+    record { inside : l.at ≤ length l.bytes; before : AllBefore IsWhitespace l.bytes l.at }
 
 abbrev pub decreases-loop-at : goal.decreases-loop-at
 decreases-loop-at l = length l.bytes - l.at

@@ -4,7 +4,11 @@ use Rattle.ascii_base.proofs.kernels.first_other.Given as goal
 
 -- the bytes before `at` are under 128
 abbrev pub invariant-loop-at : goal.invariant-loop-at
-invariant-loop-at l = record { inside : l.at ≤ length l.bytes; before : AllBefore (λ byte. byte < 128) l.bytes l.at }
+invariant-loop-at l =
+    record {
+      inside : l.at ≤ length l.bytes;
+      before : AllBefore (λ byte. byte < 128) l.bytes l.at;
+    }
 
 abbrev pub decreases-loop-at : goal.decreases-loop-at
 decreases-loop-at l = length l.bytes - l.at

@@ -11,5 +11,6 @@ loop-bytes-preserved c =
     let room : l.at + 32 ≤ length c.args.bytes.now = omega arith in
     record {
       inside = omega (arith, length-put_chunk l.at l.bytes c.lower_of.result);
-      mapped = ap (put_chunk l.at l.bytes) c.lower_of.ensures ∙ map_chunk_more lower_image c.args.bytes.now l.bytes l.at 32 room l.invariant.mapped;
+      mapped = ap (put_chunk l.at l.bytes) c.lower_of.ensures
+          ∙ map_chunk_more lower_image c.args.bytes.now l.bytes l.at 32 room l.invariant.mapped;
     }

@@ -6,5 +6,9 @@ pub returns-then-lower : goal.returns-then-lower
 returns-then-lower c =
     let xs = c.args.first.now in
     let ys = c.args.second.now in
-    let at = c.loop-at.at in
-    (λ no. absurd (search (rules, no)), λ e. let here = (same_byte xs ys at (omega arith) (omega arith) c.loop-at.invariant).1 (same_front xs ys (at + 1) e) in search (rules, here))
+    let at = c.loop-at.at in (
+      λ no. absurd (search (rules, no)),
+      λ e. let here =
+          (same_byte xs ys at (omega arith) (omega arith) c.loop-at.invariant).1
+          (same_front xs ys (at + 1) e) in search (rules, here),
+    )

@@ -11,4 +11,5 @@ loop-byte-preserved c =
     let x = get_or ys i 0 in
     let inside : i < length ys = omega arith in
     rw c.upper.ensures
-    (map_over_more upper_image c.args.bytes.now ys i x (omega arith) c.loop-byte.invariant (get_or_default ys i 0 x inside))
+    (map_over_more upper_image c.args.bytes.now ys i x (omega arith) c.loop-byte.invariant
+    (get_or_default ys i 0 x inside))

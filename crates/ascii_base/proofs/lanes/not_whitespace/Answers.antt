@@ -1,4 +1,5 @@
-use Rattle.std.proofs.Common.{ℕ, ◌≡◌, ◌+◌, ◌-◌, ◌%◌, leb, eqb, not, ◌&&◌, ◌||◌, true, false, cond, bit_and, refl, rules}
+use Rattle.std.proofs.Common.{ℕ, ◌≡◌, ◌+◌, ◌-◌, ◌%◌, leb, eqb, not, ◌&&◌, ◌||◌, true, false, cond}
+use Rattle.std.proofs.Common.{bit_and, refl, rules}
 use Rattle.std.proofs.lemmas.Simd.{splat_is_map, zip2_of_maps, zip2_splat, length-chunk}
 use lib.Lanes.{chunk}
 use Rattle.ascii_base.specs.Class.{IsWhitespace}
@@ -18,5 +19,6 @@ returns g c =
     marks_of IsWhitespace (λ x. not (leb 9 x && leb x 13 || eqb x 32)) outside within _ refl
     c.args.bytes.now c.args.at g.row.N c.requires.room c.requires.lanes c.type_inv.bytes _
     (zip2_of_maps bit_and _ _ v
-    (zip2_of_maps (λ a b. cond (leb a b) 255 0) _ _ v (splat_is_map v g.row.N 5 long) (zip2_splat {Y = ℕ} (λ a b. (a + (256 - b)) % 256) v g.row.N 9 long))
+    (zip2_of_maps (λ a b. cond (leb a b) 255 0) _ _ v (splat_is_map v g.row.N 5 long)
+    (zip2_splat {Y = ℕ} (λ a b. (a + (256 - b)) % 256) v g.row.N 9 long))
     (zip2_splat {Y = ℕ} (λ a b. cond (not (eqb a b)) 255 0) v g.row.N 32 long))

@@ -9,6 +9,7 @@ pub returns : goal.returns
 returns g c =
     let v = chunk c.args.at g.row.N c.args.bytes.now in
     let long = length-chunk c.args.at g.row.N c.args.bytes.now c.requires.room in
-    marks_of (λ b. b < 128) (leb 128) (λ x t low. absurd (omega (arith, leb-true 128 x t))) (λ x t. leb-false 128 x t) (λ x. cond (leb 128 x) 255 0) refl
+    marks_of (λ b. b < 128) (leb 128) (λ x t low. absurd (omega (arith, leb-true 128 x t)))
+    (λ x t. leb-false 128 x t) (λ x. cond (leb 128 x) 255 0) refl
     c.args.bytes.now c.args.at g.row.N c.requires.room c.requires.lanes c.type_inv.bytes _
     (zip2_of_maps (λ a b. cond (leb a b) 255 0) _ _ v (splat_is_map v g.row.N 128 long) (itself v))

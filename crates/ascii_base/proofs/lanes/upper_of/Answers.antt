@@ -12,5 +12,7 @@ returns c =
     let long = c.fits-lanes.0 in
     let from = zip2_splat (λ a b. (a + (256 - b)) % 256) v 32 97 long in
     let below = zip2_of_maps (λ a b. cond (ltb a b) 255 0) _ _ v from (splat_is_map v 32 26 long) in
-    let change = chosen (λ x. top 7 (cond (ltb ((x + (256 - 97)) % 256) 26) 255 0)) 32 0 v 32 long (ap (map (top 7)) below ∙ map-map (top 7) _ v) in
-    zip2_of_maps (λ a b. (a + (256 - b)) % 256) _ _ v (itself v) change ∙ same_on_bytes _ upper_image refl v c.fits-lanes.1
+    let change = chosen (λ x. top 7 (cond (ltb ((x + (256 - 97)) % 256) 26) 255 0)) 32 0 v 32
+    long (ap (map (top 7)) below ∙ map-map (top 7) _ v) in
+    zip2_of_maps (λ a b. (a + (256 - b)) % 256) _ _ v (itself v) change
+    ∙ same_on_bytes _ upper_image refl v c.fits-lanes.1

@@ -8,7 +8,8 @@ writes-preserved g c =
     let sent = c.writes.invariant.0 in
     let remaining = c.writes.remaining.now in (
       sent ++ take c.in-Ok.n remaining,
-      Appends-trans _ _ _ sent (take c.in-Ok.n remaining) c.writes.invariant.1 c.in-Ok.ensures.bytes,
+      Appends-trans _ _ _ sent (take c.in-Ok.n remaining) c.writes.invariant.1
+          c.in-Ok.ensures.bytes,
       sent_more sent remaining c.args.bytes.now c.in-Ok.n c.writes.invariant.2,
       c.in-Ok.ensures.count ∙ c.writes.invariant.3,
     )

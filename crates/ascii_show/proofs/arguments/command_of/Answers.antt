@@ -10,4 +10,5 @@ returns-in_err-word c = rw c.from_residual.ensures (search (rules, no_other_word
 pub returns-in-105 : goal.returns-in-105
 returns-in-105 c =
     let word : c.args.word.now ≡ 105 ∷ text_of c.slice-rest.result = grind (arith, common_steps) in
-    rw word (insertion_word (text_of c.slice-rest.result) c.insertion_of.result c.insertion_of.ensures)
+    rw word (insertion_word (text_of c.slice-rest.result) c.insertion_of.result
+    c.insertion_of.ensures)

@@ -3,4 +3,8 @@ use Rattle.ascii_show.proofs.ScriptLemmas.{no_script}
 use Rattle.ascii_show.proofs.arguments.script_of.Goals as goal
 
 pub returns-in_default : goal.returns-in_default
-returns-in_default g c = (refl, no_script c.args.script.now c.loop-letter.letter-index (omega (arith, c.loop-letter-test.true)) c.in_default.ensures)
+returns-in_default g c = (
+  refl,
+  no_script c.args.script.now c.loop-letter.letter-index
+      (omega (arith, c.loop-letter-test.true)) c.in_default.ensures,
+)

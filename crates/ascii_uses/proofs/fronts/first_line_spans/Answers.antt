@@ -11,5 +11,8 @@ pub returns : goal.returns
 returns c = if_ok c.collect.result c.collect.ensures.ran (λ given ran. (
   c.line_spans.result,
   c.line_spans.ensures.iterates.spans,
-  ap (map line_in) ran.2.0 ∙ taken c.args.n c.take.result ran.0 (YieldsList-at c.take.ensures.source (road_from_first_and line_in (λ lines. lines) DropsFirstSpan c.line_spans.result refl)) c.take.ensures.count ran.1,
+  ap (map line_in) ran.2.0 ∙ taken c.args.n c.take.result ran.0
+      (YieldsList-at c.take.ensures.source
+      (road_from_first_and line_in (λ lines. lines) DropsFirstSpan c.line_spans.result refl))
+      c.take.ensures.count ran.1,
 ))

@@ -12,5 +12,8 @@ pub returns : goal.returns
 returns c = if_ok c.collect.result c.collect.ensures.ran (λ given ran. (
   c.split_spans.result.items,
   c.split_spans.ensures.iterates.spans,
-  ap (map piece_in) ran.2.0 ∙ taken c.args.n c.take.result ran.0 (YieldsList-at c.take.ensures.source (road_from_first_and piece_in (λ (split : Remaining (WithStart (List ℕ))). split.items) StepsPieceSpan c.split_spans.result.items refl)) c.take.ensures.count ran.1,
+  ap (map piece_in) ran.2.0 ∙ taken c.args.n c.take.result ran.0
+      (YieldsList-at c.take.ensures.source
+      (road_from_first_and piece_in (λ (split : Remaining (WithStart (List ℕ))). split.items)
+      StepsPieceSpan c.split_spans.result.items refl)) c.take.ensures.count ran.1,
 ))

@@ -12,5 +12,8 @@ pub returns : goal.returns
 returns c = if_ok c.collect.result c.collect.ensures.ran (λ given ran. (
   c.split.result.items,
   c.split.ensures.iterates.pieces,
-  ap (map text_of) ran.2.0 ∙ taken c.args.n c.take.result ran.0 (YieldsList-at c.take.ensures.source (road_from_first_and text_of (λ (split : Remaining (List ℕ)). split.items) StepsPiece c.split.result.items refl)) c.take.ensures.count ran.1,
+  ap (map text_of) ran.2.0 ∙ taken c.args.n c.take.result ran.0
+      (YieldsList-at c.take.ensures.source
+      (road_from_first_and text_of (λ (split : Remaining (List ℕ)). split.items) StepsPiece
+      c.split.result.items refl)) c.take.ensures.count ran.1,
 ))

@@ -10,5 +10,6 @@ returns c =
     let marks = codes "!#$%&'*+-.^_`|~" in
     let byte = c.as_byte.result in
     let found = c.contains.result in
-    let decides = Decides-contains marks byte found (contains_decides eqb Decides-eqb marks byte found c.contains.ensures.cases) in
+    let decides = Decides-contains marks byte found
+    (contains_decides eqb Decides-eqb marks byte found c.contains.ensures.cases) in
     subst (λ code. Decides found (Contains marks code)) c.as_byte.ensures.code decides

@@ -4,7 +4,8 @@ use Rattle.std.proofs.lemmas.Slice.Zip.{AllZip-long}
 use Rattle.ascii.specs.Spans.{LineSpansOf, line_in}
 use Rattle.ascii.specs.View.{text_of}
 use Rattle.ascii_uses.specs.Headers.{HasHeader, IsHeaderFault, IsHeaderOf}
-use Rattle.ascii_uses.proofs.ListLemmas.{All-from_zip, AllZip-push, IsFirstAt-seam, map-push_front}
+use Rattle.ascii.proofs.ListLemmas.{AllZip-push}
+use Rattle.ascii_uses.proofs.ListLemmas.{All-from_zip, IsFirstAt-seam, map-push_front}
 use Rattle.ascii_uses.proofs.headers.read_headers.Goals as goal
 
 pub loop-line-preserved : goal.loop-line-preserved

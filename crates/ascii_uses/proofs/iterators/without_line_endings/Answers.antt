@@ -11,6 +11,7 @@ pub returns : goal.returns
 returns c = if_ok c.collect_strs.result c.collect_strs.ensures (λ string given. (
   c.lines.result,
   c.lines.ensures.iterates.lines,
-  given.2 ∙ pieces_from_drains (λ body. body) given.0 given.1 (road_from_first_and text_of bodies DropsFirst (bodies c.lines.result) refl)
+  given.2 ∙ pieces_from_drains (λ body. body) given.0 given.1
+      (road_from_first_and text_of bodies DropsFirst (bodies c.lines.result) refl)
       ∙ flat_map-map (λ body. body) (λ line. line.body) c.lines.result,
 ))

@@ -11,5 +11,9 @@ returns-clause-prefix c =
     let lines = c.lines-lines.result in
     let k = length lines - c.args.n in
     let left : c.loop-test.lines ≡ take k lines = grind (arith, common_steps) in
-    let before = subst (λ ls. LinesOf (text_of c.remaining_text.result) ls) left c.remaining_text.ensures in
-    (flat_map line_text (drop k lines), lines_joined _ _ lines k c.lines-lines.ensures.iterates.lines before)
+    let before = subst (λ ls. LinesOf (text_of c.remaining_text.result) ls) left
+    c.remaining_text.ensures in (
+      flat_map line_text (drop k lines),
+      lines_joined _ _ lines k
+          c.lines-lines.ensures.iterates.lines before,
+    )

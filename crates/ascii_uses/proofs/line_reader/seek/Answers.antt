@@ -15,6 +15,8 @@ returns-then-is_full-clause-err g c =
     sym (ap (λ (w : WindowState). w.checked) same)
     ∙ (c.in_default-first_non_ascii.ensures.place.0
     ∙ (ap (λ (w : WindowState). length w.held) same ∙ long)) in
-    full c.args.start c.args.window.now.size c.args.window.now.held text (g.S.Source.rest c.args.source.now) (g.S.Source.rest c.fills.source) (g.S.Source.rest c.past_full.new.source) c.past_full.result
+    full c.args.start c.args.window.now.size c.args.window.now.held text
+    (g.S.Source.rest c.args.source.now) (g.S.Source.rest c.fills.source)
+    (g.S.Source.rest c.past_full.new.source) c.past_full.result
     c.fills.invariant.0 long (rw same at c.in_default-first_non_ascii.ensures.place.1)
     (subst (FreeUpTo text) checked c.in_default.ensures.found) c.past_full.ensures.err

@@ -2,7 +2,8 @@ use Rattle.std.proofs.Common.{◌≡◌, ◌-◌, length}
 use Rattle.ascii_uses.specs.LineReader.{IsHeldThenRead}
 use Rattle.ascii_uses.proofs.line_reader.seek.Given as goal
 
--- the bytes that are held are those that were, and behind them what the source gave; no read has failed
+-- the bytes that are held are those that were, and behind them what the source gave; no read has
+-- failed
 abbrev pub invariant-fills : goal.invariant-fills
 invariant-fills g l =
     IsHeldThenRead l.fn.window.held (g.S.Source.rest l.fn.source)

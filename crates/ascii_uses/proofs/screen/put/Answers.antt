@@ -7,7 +7,8 @@ use Rattle.ascii_uses.specs.Screen.{cell_text}
 use Rattle.ascii_uses.proofs.screen.put.Goals as goal
 
 pub returns-then-eq-clause-column : goal.returns-then-eq-clause-column
-returns-then-eq-clause-column c = sym (column_line c.args.width c.args.column (code_of c.args.ch) (search rules))
+returns-then-eq-clause-column c =
+    sym (column_line c.args.width c.args.column (code_of c.args.ch) (search rules))
 
 pub returns-then-cell_size-width-clause-column : goal.returns-then-cell_size-width-clause-column
 returns-then-cell_size-width-clause-column c =
@@ -15,11 +16,15 @@ returns-then-cell_size-width-clause-column c =
     let fits : c.args.column + length
     (cell_text c.args.width c.args.column (code_of c.args.ch)) ≤ c.args.width =
     grind (arith, common_steps) in
-    subst (λ k. IfOk c.put_cell.result (λ next. next ≡ k)) (sym (column_here c.args.width c.args.column (code_of c.args.ch) other fits)) c.put_cell.ensures.column
+    subst (λ k. IfOk c.put_cell.result (λ next. next ≡ k))
+    (sym (column_here c.args.width c.args.column (code_of c.args.ch) other fits))
+    c.put_cell.ensures.column
 
 pub returns-clause-column : goal.returns-clause-column
 returns-clause-column c =
     let other : code_of c.args.ch ≢ 10 = search rules in
     let full : c.args.width < c.args.column + length
     (cell_text c.args.width c.args.column (code_of c.args.ch)) = grind (arith, common_steps) in
-    subst (λ k. IfOk c.put_cell-2.result (λ next. next ≡ k)) (sym (column_next c.args.width c.args.column (code_of c.args.ch) other full)) c.put_cell-2.ensures.column
+    subst (λ k. IfOk c.put_cell-2.result (λ next. next ≡ k))
+    (sym (column_next c.args.width c.args.column (code_of c.args.ch) other full))
+    c.put_cell-2.ensures.column

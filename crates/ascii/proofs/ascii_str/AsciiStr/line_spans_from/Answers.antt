@@ -7,7 +7,8 @@ use Rattle.ascii.proofs.ascii_str.AsciiStr.line_spans_from.Goals as goal
 
 pub returns-clause-iterates : goal.returns-clause-iterates
 returns-clause-iterates c =
-    let part : WithStart (List ℕ) = record { start = c.args.offset; item = text_of c.args.self } in record {
+    let part : WithStart (List ℕ) =
+    record { start = c.args.offset; item = text_of c.args.self } in record {
       spans = line_spans_found part;
       only = line_spans_only part;
       fits = omega (arith, line_spans_fit part, c.requires);

@@ -11,7 +11,8 @@ returns-clause-iterates c =
     let found = c.line_spans.ensures.iterates.spans.lines in record {
       lines = found;
       only = λ other is. same_lines _ (items_of spans) other found is;
-      fits = omega (arith, length-map spans (λ span. span.item), c.line_spans.ensures.iterates.fits);
+      fits = omega
+          (arith, length-map spans (λ span. span.item), c.line_spans.ensures.iterates.fits);
     }
 
 pub returns-clause-loops : goal.returns-clause-loops

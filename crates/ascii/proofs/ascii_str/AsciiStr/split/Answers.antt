@@ -12,7 +12,8 @@ returns-clause-iterates c =
       pieces = found;
       only = λ other is. same_pieces _ _ (items_of spans) other found is;
       separator = c.split_spans.ensures.iterates.separator;
-      fits = omega (arith, length-map spans (λ span. span.item), c.split_spans.ensures.iterates.fits);
+      fits = omega
+          (arith, length-map spans (λ span. span.item), c.split_spans.ensures.iterates.fits);
     }
 
 pub returns-clause-loops : goal.returns-clause-loops

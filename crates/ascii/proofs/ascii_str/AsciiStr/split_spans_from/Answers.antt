@@ -8,7 +8,8 @@ use Rattle.ascii.proofs.ascii_str.AsciiStr.split_spans_from.Goals as goal
 
 pub returns-clause-iterates : goal.returns-clause-iterates
 returns-clause-iterates c =
-    let part : WithStart (List ℕ) = record { start = c.args.offset; item = text_of c.args.self } in record {
+    let part : WithStart (List ℕ) =
+    record { start = c.args.offset; item = text_of c.args.self } in record {
       spans = piece_spans_found (code_of c.args.on) part;
       only = piece_spans_only (code_of c.args.on) part;
       separator = refl;

@@ -1,4 +1,5 @@
-use Rattle.std.proofs.Common.{ℕ, ◌≡◌, ltb, eqb, not, ◌&&◌, ◌||◌, true, false, cond, bit_and, bit_or, refl, rules, arith}
+use Rattle.std.proofs.Common.{ℕ, ◌≡◌, ltb, eqb, not, ◌&&◌, ◌||◌, true, false, cond, bit_and, bit_or}
+use Rattle.std.proofs.Common.{refl, rules, arith}
 use Rattle.std.proofs.lemmas.Simd.{zip2_of_maps, zip2_splat, length-chunk}
 use lib.Lanes.{chunk}
 use Rattle.ascii_run.specs.ModeOutput.{IsShown}
@@ -18,5 +19,6 @@ returns c =
     marks_of IsShown (λ x. (ltb x 32 && not (eqb x 10)) || eqb x 127) outside within _ refl
     c.args.bytes.now c.args.at 32 c.requires (omega arith) c.type_inv.bytes _
     (zip2_of_maps bit_or _ _ v
-    (zip2_of_maps bit_and _ _ v (zip2_splat {Y = ℕ} (λ a b. cond (ltb a b) 255 0) v 32 32 long) (zip2_splat {Y = ℕ} (λ a b. cond (not (eqb a b)) 255 0) v 32 10 long))
+    (zip2_of_maps bit_and _ _ v (zip2_splat {Y = ℕ} (λ a b. cond (ltb a b) 255 0) v 32 32 long)
+    (zip2_splat {Y = ℕ} (λ a b. cond (not (eqb a b)) 255 0) v 32 10 long))
     (zip2_splat {Y = ℕ} (λ a b. cond (eqb a b) 255 0) v 32 127 long))

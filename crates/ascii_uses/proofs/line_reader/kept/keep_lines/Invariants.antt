@@ -6,7 +6,9 @@ use Rattle.ascii_uses.proofs.line_reader.kept.keep_lines.Given as goal
 -- the lines so far were handed out, the reader goes on where it was, and no read has failed
 abbrev pub invariant-lines : goal.invariant-lines
 invariant-lines g l =
-    YieldsLines (state_of_reader g.S.Source.rest g.S.Source.failures l.fn.reader) (map kept_line_in l.lines.items) (state_of_reader g.S.Source.rest g.S.Source.failures l.reader)
+    YieldsLines (state_of_reader g.S.Source.rest g.S.Source.failures l.fn.reader)
+    (map kept_line_in l.lines.items)
+    (state_of_reader g.S.Source.rest g.S.Source.failures l.reader)
     × (g.S.Source.failures l.reader.source ≡ g.S.Source.failures l.fn.reader.source)
 
 -- the room left below the largest length

@@ -11,13 +11,17 @@ returns-in-Some c =
     let text = text_of c.args.self.view in
     let place = c.in-Some.place in
     let found = c.in-Some.ensures in
-    let long : length (take (place + 1) text) ≡ place + 1 = let inside = found.0.high in grind (arith, common_steps) in
+    let long : length (take (place + 1) text) ≡ place + 1 = let inside = found.0.high in
+    grind (arith, common_steps) in
     record {
-      text = sym (take-append-drop (place + 1) text) ∙ (ap (λ a. a ++ drop (place + 1) text) (sym c.to.ensures.text)
+      text = sym (take-append-drop (place + 1) text)
+          ∙ (ap (λ a. a ++ drop (place + 1) text) (sym c.to.ensures.text)
           ∙ ap (λ b. text_of c.to.result.view ++ b) (sym c.from.ensures.text));
       before = c.to.ensures.start;
-      behind = c.from.ensures.start ∙ ap (λ n. c.args.self.start + n) (sym (ap length c.to.ensures.text ∙ long));
-      whole = subst HasWholeLines (sym c.to.ensures.text) (whole_at text place found.0.high found.1);
+      behind = c.from.ensures.start ∙ ap (λ n. c.args.self.start + n)
+          (sym (ap length c.to.ensures.text ∙ long));
+      whole = subst HasWholeLines (sym c.to.ensures.text)
+          (whole_at text place found.0.high found.1);
       free = subst (Free 10) (sym c.from.ensures.text) (cut_at_last 10 text place found).1;
     }
 

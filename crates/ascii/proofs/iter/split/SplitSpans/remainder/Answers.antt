@@ -8,5 +8,7 @@ use Rattle.ascii.proofs.iter.split.SplitSpans.remainder.Goals as goal
 pub returns-clause-remainder : goal.returns-clause-remainder
 returns-clause-remainder c =
     let cursor = c.in_ok-cursor.cursor in
-    let now_is : piece_spans c.args.self.now.on (part_in cursor) ≡ c.args.self.now.items = search rules in
-    subst (PieceSpans cursor.start (text_of cursor.view) c.args.self.now.on) now_is (piece_spans_found c.args.self.now.on (part_in cursor))
+    let now_is : piece_spans c.args.self.now.on (part_in cursor) ≡ c.args.self.now.items =
+    search rules in
+    subst (PieceSpans cursor.start (text_of cursor.view) c.args.self.now.on) now_is
+    (piece_spans_found c.args.self.now.on (part_in cursor))

@@ -5,4 +5,5 @@ use Rattle.ascii_run.proofs.buf.small.SmallAsciiString.write_char.Goals as goal
 
 pub returns-in_default : goal.returns-in_default
 returns-in_default c =
-    Writes-refused (c.args.ch ∷ []) (with_inline_room c.args.self.now) _ (search rules) (λ ascii. let low = ascii 0 in search rules)
+    Writes-refused (c.args.ch ∷ []) (with_inline_room c.args.self.now) _ (search rules)
+    (λ ascii. let low = ascii 0 in search rules)

@@ -6,4 +6,6 @@ pub invariant_of-self-2 : goal.invariant_of-self-2
 invariant_of-self-2 c =
     let same = ap length c.reserve.ensures.items in
     rw (c.in_ok-insert.ensures.ok, c.reserve.ensures.items)
-    (IsSmallText-insert _ _ _ c.self.inside.bytes.capacity _ c.self.invariant c.as_byte.ensures.small (search rules) (omega arith) (omega (arith, c.in_ok-reserve.ensures.ok)))
+    (IsSmallText-insert _ _ _ c.self.inside.bytes.capacity _ c.self.invariant
+    c.as_byte.ensures.small (search rules) (omega arith)
+    (omega (arith, c.in_ok-reserve.ensures.ok)))

@@ -5,4 +5,5 @@ use Rattle.ascii_run.proofs.buf.small.SmallAsciiStringAsciiBuf.make_ascii_upperc
 
 pub invariant_of-self : goal.invariant_of-self
 invariant_of-self c =
-    IsSmallText-mapped upper_image upper_image-below _ _ c.upper_in_place.new.bytes _ c.self.invariant c.upper_in_place.ensures c.deref_mut.ensures.value
+    IsSmallText-mapped upper_image upper_image-below _ _ c.upper_in_place.new.bytes _
+    c.self.invariant c.upper_in_place.ensures c.deref_mut.ensures.value

@@ -7,4 +7,5 @@ use Rattle.ascii_run.proofs.buf.small.SmallAsciiStringAsciiBuf.set.Goals as goal
 pub invariant_of-self : goal.invariant_of-self
 invariant_of-self c =
     IsSmallText-written _ _ _ c.self.invariant
-    (IsAscii-set _ _ _ (subst IsAscii (sym c.deref_mut.ensures.value) c.self.invariant.ascii) c.as_byte.ensures.small)
+    (IsAscii-set _ _ _ (subst IsAscii (sym c.deref_mut.ensures.value) c.self.invariant.ascii)
+    c.as_byte.ensures.small)

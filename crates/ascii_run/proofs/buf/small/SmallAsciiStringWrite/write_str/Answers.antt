@@ -6,4 +6,5 @@ use Rattle.ascii_run.proofs.buf.small.SmallAsciiStringWrite.write_str.Goals as g
 pub returns-in_default-clause-writes : goal.returns-in_default-clause-writes
 returns-in_default-clause-writes c =
     Writes-refused c.args.s.now (with_inline_room c.args.self.now) _ (search rules)
-    (⊎_elim (λ unfit. absurd (search rules)) (λ other. no_text c.args.s.now _ other.1) c.in_default.ensures)
+    (⊎_elim (λ unfit. absurd (search rules)) (λ other. no_text c.args.s.now _ other.1)
+    c.in_default.ensures)

@@ -21,9 +21,13 @@ invariant_of-self g c =
 pub returns-in-Some-clause-found : goal.returns-in-Some-clause-found
 returns-in-Some-clause-found g c =
     let i = c.self.inside in
-    rw (← c.self.view_is) (ends_line i.bytes.items i.given i.from i.searched i.checked i.filled c.self.invariant c.in-Some.place (rw c.deref.ensures.value at c.in-Some.ensures))
+    rw (← c.self.view_is)
+    (ends_line i.bytes.items i.given i.from i.searched i.checked i.filled c.self.invariant
+    c.in-Some.place (rw c.deref.ensures.value at c.in-Some.ensures))
 
 pub returns-in-None-clause-found : goal.returns-in-None-clause-found
 returns-in-None-clause-found g c =
     let i = c.self.inside in
-    rw (← c.self.view_is) (free_all i.bytes.items i.given i.from i.searched i.checked i.filled c.self.invariant (rw c.deref.ensures.value at c.in-None.ensures))
+    rw (← c.self.view_is)
+    (free_all i.bytes.items i.given i.from i.searched i.checked i.filled c.self.invariant
+    (rw c.deref.ensures.value at c.in-None.ensures))
