@@ -1,7 +1,8 @@
 -- Runs of commands, one step after another.
 use Rattle.std.proofs.Common.{◌≡◌, ◌≢◌, ℕ, ◌≤◌, zero, suc, List, [], ◌∷◌, ◌++◌, ◌∙◌, ap, length}
 use Rattle.std.proofs.Common.{map, refl, subst, sym, take, inl, inr, arith}
-use Rattle.std.proofs.lemmas.List.Elements.{All-cons, All-head, All-nil, All-tail}
+use Rattle.std.specs.List.{All}
+use Rattle.std.proofs.lemmas.List.Elements.{All-cons, All-head, All-nil, All-push, All-tail}
 use Rattle.std.proofs.lemmas.Option.{none-some}
 use Rattle.std.specs.Prelude.{Some, slice_get, unwrap_or}
 use Rattle.ascii.specs.StringState.{StringState}
@@ -73,12 +74,11 @@ run_front {A} sure t (cmd ∷ cmds) (r ∷ replies) t2 (suc k) h some =
 pub runs_agree : {A B : Type 0} (cmds : List Cmd) (first : Outcome A) (second : Outcome B)
     → AreRuns cmds first second → Agree first second
 runs_agree {A} {B} cmds first second runs =
-    let front1 = run_front runs.sure1 runs.text cmds first.replies first.text in
-    let front2 = run_front runs.sure2 runs.text cmds second.replies second.text in
-    let plain1 = run_plain runs.sure1 runs.text cmds first.replies first.text runs.run1 in
-    let plain2 = run_plain runs.sure2 runs.text cmds second.replies second.text runs.run2 in
+    let plain1 = run_plain _ _ cmds _ _ runs.run1 in
+    let plain2 = run_plain _ _ cmds _ _ runs.run2 in
     record {
-      front = λ k none1 none2. front1 k runs.run1 none1 ∙ sym (front2 k runs.run2 none2);
+      front = λ k none1 none2.
+          run_front _ _ cmds _ _ k runs.run1 none1 ∙ sym (run_front _ _ cmds _ _ k runs.run2 none2);
       replies = λ none1 none2. (plain1 none1).0 ∙ sym ((plain2 none2).0);
       text = λ none1 none2. (plain1 none1).1 ∙ sym ((plain2 none2).1);
     }
@@ -116,36 +116,31 @@ lacks_may_refuse : (sure : ℕ) (held : StringState) (cmd : Cmd) → sure ≤ he
 lacks_may_refuse sure held Shrink le h = h.0
 lacks_may_refuse sure held other le h = may_refuse_less held.capacity sure held.text other le h
 
--- a step wants memory past the sure length alone
-pub step_sure : (sure : ℕ) (held : StringState) (cmd : Cmd) (r : ReplyValue) (t2 : List ℕ)
-    → Step 0 held.text cmd r t2 → (r ≡ no_memory → MayRunOutIn sure held cmd)
-    → sure ≤ held.capacity → Step sure held.text cmd r t2
-step_sure sure held cmd r t2 (inl plain) lacks le = inl plain
-step_sure sure held cmd r t2 (inr wants) lacks le =
-    inr (wants.0, lacks_may_refuse sure held cmd le (lacks wants.0), wants.2)
+module _ (held : StringState) (cmd : Cmd) (r : ReplyValue) (t2 : List ℕ)
+    (step : Step 0 held.text cmd r t2) (sure : ℕ)
+    (lacks : r ≡ no_memory → MayRunOutIn sure held cmd) where
+  -- a step runs out of memory only past the sure length
+  pub step_sure : sure ≤ held.capacity → Step sure held.text cmd r t2
+  step_sure le = elim step [
+    | inl plain ↦ inl plain
+    | inr out ↦ inr (out.0, lacks_may_refuse sure held cmd le (lacks out.0), out.2)
+  ]
 
--- up to the capacity every length is sure
-pub step_within : (sure start : ℕ) (held : StringState) (cmd : Cmd) (r : ReplyValue) (t2 : List ℕ)
-    → Step 0 held.text cmd r t2 → (r ≡ no_memory → MayRunOutIn sure held cmd)
-    → start ≤ held.capacity → cmd ≢ Shrink → Step start held.text cmd r t2
-step_within sure start held cmd r t2 (inl plain) lacks le ne = inl plain
-step_within sure start held cmd r t2 (inr wants) lacks le ne =
-    inr (
-      wants.0,
-      may_refuse_less held.capacity start held.text cmd le
-          (lacks_room sure held cmd ne (lacks wants.0)),
-      wants.2,
-    )
+  -- up to the capacity every length is sure
+  pub step_within : (start : ℕ) → start ≤ held.capacity → cmd ≢ Shrink
+      → Step start held.text cmd r t2
+  step_within start le ne = elim step [
+    | inl plain ↦ inl plain
+    | inr out ↦
+        let short = lacks_room sure held cmd ne (lacks out.0) in
+        inr (out.0, may_refuse_less held.capacity start held.text cmd le short, out.2)
+  ]
 
--- a refusal is not want of memory
-fault_served : (r : ReplyValue) → IsFault r → r ≢ no_memory
-fault_served r fault e = subst IsFault e fault
-
--- a step whose reply refuses has the plain reply
+-- the reply of a step that rejects its command is the plain reply
 pub step_fault : (t : List ℕ) (cmd : Cmd) (r : ReplyValue) (t2 : List ℕ)
     → Step 0 t cmd r t2 → IsFault r → IsFault (answer t cmd)
 step_fault t cmd r t2 step fault =
-    subst IsFault ((step_plain 0 t cmd r t2 step (fault_served r fault)).0) fault
+    subst IsFault ((step_plain 0 t cmd r t2 step (λ out. subst IsFault out fault)).0) fault
 
 -- the plain text behind one command more
 pub plain_text_more : (t : List ℕ) (cmds : List Cmd) (cmd : Cmd)
@@ -153,16 +148,19 @@ pub plain_text_more : (t : List ℕ) (cmds : List Cmd) (cmd : Cmd)
 plain_text_more t [] cmd = refl
 plain_text_more t (c ∷ cmds) cmd = plain_text_more (after t c) cmds cmd
 
--- one command more that is not refused
+-- one command more that is not rejected
 pub no_fault_more : (t : List ℕ) (cmds : List Cmd) (cmd : Cmd)
     → HasNoFault t cmds → IsNoFault (answer (plain_text t cmds) cmd)
     → HasNoFault t (cmds ++ cmd ∷ [])
-no_fault_more t [] cmd none good = All-cons IsNoFault (answer t cmd) [] good (All-nil IsNoFault)
-no_fault_more t (c ∷ cmds) cmd none good =
-    All-cons IsNoFault (answer t c) (plain_replies (after t c) (cmds ++ cmd ∷ []))
-    (All-head IsNoFault (answer t c) (plain_replies (after t c) cmds) none)
-    (no_fault_more (after t c) cmds cmd
-    (All-tail IsNoFault (answer t c) (plain_replies (after t c) cmds) none) good)
+no_fault_more t cmds cmd none good =
+    subst (All IsNoFault) (sym (plain_replies_more t cmds))
+    (All-push IsNoFault (plain_replies t cmds) (answer (plain_text t cmds) cmd) none good)
+  where
+    plain_replies_more : (t : List ℕ) (cmds : List Cmd) → plain_replies t (cmds ++ cmd ∷ [])
+        ≡ plain_replies t cmds ++ answer (plain_text t cmds) cmd ∷ []
+    plain_replies_more t [] = refl
+    plain_replies_more t (c ∷ cmds) =
+        ap (λ replies. answer t c ∷ replies) (plain_replies_more (after t c) cmds)
 
 -- the first command that is refused is at the fault place
 pub fault_here : (t : List ℕ) (cmds : List Cmd) (k : ℕ) (cmd : Cmd)

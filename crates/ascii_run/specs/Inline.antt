@@ -11,7 +11,7 @@ inline_size = 24
 abbrev pub with_inline_room : StringState → StringState
 with_inline_room state = record { text = state.text; capacity = max inline_size state.capacity }
 
--- ---- cited by private items only
+-- ---- cited by private functions only
 
 -- the bytes are ASCII, and the capacity is at least their number and `inline_size`
 pub record IsSmallText (bytes : List ℕ) (capacity : ℕ) : Type 0 where

@@ -63,16 +63,12 @@ pub record AreRuns {A B : Type 0} (cmds : List Cmd) (first : Outcome A) (second 
   pub run1 : Run sure1 text cmds first.replies first.text
   pub run2 : Run sure2 text cmds second.replies second.text
 
--- the first `k` replies of both lists have the same values if none of them is `NoMemory`
-abbrev pub AgreeUpTo : {A B : Type 0} → ℕ → List (Reply A) → List (Reply B) → Type 0
-AgreeUpTo k first second =
-    NeverOutOfMemory (take k first) → NeverOutOfMemory (take k second)
-    → map value_of_reply (take k first) ≡ map value_of_reply (take k second)
-
 -- the two outcomes agree: their replies have the same values up to the first `NoMemory` of either;
 -- if neither has one, then all replies have the same values and the texts are equal
 pub record Agree {A B : Type 0} (first : Outcome A) (second : Outcome B) : Type 0 where
-  pub front : (k : ℕ) → AgreeUpTo k first.replies second.replies
+  pub front : (k : ℕ)
+      → NeverOutOfMemory (take k first.replies) → NeverOutOfMemory (take k second.replies)
+      → map value_of_reply (take k first.replies) ≡ map value_of_reply (take k second.replies)
   pub replies : NeverOutOfMemory first.replies → NeverOutOfMemory second.replies
       → map value_of_reply first.replies ≡ map value_of_reply second.replies
   pub text : NeverOutOfMemory first.replies → NeverOutOfMemory second.replies

@@ -31,10 +31,7 @@ module _ (Z : Al) where
 
   pub parts : {M : Type 1} {𝓤 : Ura M} (𝓛 : Logic 𝓤) (κ : Lft) (p : ℕ × ℕ) (heap : Whole.Denot)
       → ent 𝓤 (sem 𝓛 (hidden_shr Whole κ heap p.0 p.1))
-      (sep 𝓤 (sem 𝓛 (hidden_shr Count κ heap.left (count_at p).0 (count_at p).1))
-      (sem 𝓛 (seen Z κ (inner_at p) heap.inner)))
+      (sep 𝓤 (sem 𝓛 (hidden_shr Count κ heap.left (count_at p).0 (count_at p).1)) (sem 𝓛 (seen Z κ (inner_at p) heap.inner)))
   parts {𝓤 = 𝓤} 𝓛 κ p heap =
-      qed 𝓛 (‵ (hidden_shr Whole κ heap p.0 p.1) ∷ []) ∵ unhide ! $ fsplit ! $ fsplit ! $ move !
-      (1 ∷ []) $ fsplit ! $
-      move ! (2 ∷ []) $ use1 𝓛 (‵ (seen Z κ (inner_at p) heap.inner)) (id⊢ 𝓤 _) $ keep !
-      (1 ∷ 0 ∷ []) $ done !
+      qed 𝓛 (‵ (hidden_shr Whole κ heap p.0 p.1) ∷ []) ∵ unhide ! $ fsplit ! $ fsplit ! $ move ! (1 ∷ []) $ fsplit ! $
+      move ! (2 ∷ []) $ use1 𝓛 (‵ (seen Z κ (inner_at p) heap.inner)) (id⊢ 𝓤 _) $ keep ! (1 ∷ 0 ∷ []) $ done !

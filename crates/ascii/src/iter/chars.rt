@@ -1,6 +1,6 @@
 //! The characters of a view.
 
-ghost use Rattle.std.specs.Prelude.{◌≡◌, IfSome, Some, length};
+ghost use Rattle.std.specs.Prelude.{⊤, ◌≡◌, IfSome, Some, length};
 ghost use Rattle.std.specs.Iterator.{UpTo, YieldsFirstBy, YieldsLastBy, item_count};
 ghost use Rattle.std.specs.Iterator.SizeHint.{IsWithinCount};
 ghost use Rattle.std.specs.Slice.Iter.{iter_rest};
@@ -51,7 +51,7 @@ impl<'a> Chars<'a> {
 impl Clone for Chars<'_> {
     ghost is_clone = { λ chars copy. copy ≡ chars };
 
-    ghost is_infallible = { λ _. Unit {0} };
+    ghost is_infallible = { λ _. ⊤ };
 
     /// An iterator over the same characters. It is never refused.
     ///
@@ -141,7 +141,7 @@ impl<'a> CharsRef<'a> {
 impl Clone for CharsRef<'_> {
     ghost is_clone = { λ chars copy. copy ≡ chars };
 
-    ghost is_infallible = { λ _. Unit {0} };
+    ghost is_infallible = { λ _. ⊤ };
 
     /// An iterator over the same characters. It is never refused.
     ///

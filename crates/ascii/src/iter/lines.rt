@@ -1,14 +1,13 @@
 //! The lines of a view, with and without their starts and endings.
 
-ghost use Rattle.std.specs.Prelude.{◌≡◌, ◌+◌, ◌≤◌, ◌∷◌, ◌++◌, [], IfSome, MatchOption, length};
+ghost use Rattle.std.specs.Prelude.{⊤, ◌≡◌, ◌+◌, ◌≤◌, ◌∷◌, ◌++◌, [], IfSome, MatchOption, length};
 ghost use Rattle.std.specs.Iterator.{item_count};
 ghost use Rattle.ascii.specs.Found.{ended_line, line_spans, part_in};
 ghost use Rattle.ascii.specs.Lines.{IsRemainderOfLines, IteratesLines, bodies};
 ghost use Rattle.ascii.specs.Spans.{EndFits, IsRemainderOfLineSpans, IteratesLineSpans, line_in};
 ghost use Rattle.ascii.specs.Steps.{DropsFirst, DropsFirstSpan, DropsLast, DropsLastSpan};
-ghost use Rattle.ascii.specs.Steps.{LoopsBackOverLineSpans, LoopsBackOverLines};
-ghost use Rattle.ascii.specs.Steps.{LoopsOverLineSpans, LoopsOverLines};
-ghost use Rattle.ascii.specs.Steps.{YieldsFirstAnd, YieldsLastAnd};
+ghost use Rattle.ascii.specs.Steps.{LoopsBackOverLineSpans, LoopsBackOverLines, LoopsOverLineSpans};
+ghost use Rattle.ascii.specs.Steps.{LoopsOverLines, YieldsFirstAnd, YieldsLastAnd};
 ghost use Rattle.ascii.specs.View.{text_of};
 
 use crate::ascii_str::AsciiStr;
@@ -111,7 +110,7 @@ impl<'a> Model for LineSpans<'a> {
 impl Clone for LineSpans<'_> {
     ghost is_clone = { λ lines copy. copy ≡ lines };
 
-    ghost is_infallible = { λ _. Unit {0} };
+    ghost is_infallible = { λ _. ⊤ };
 
     /// An iterator that owes the same lines with the same starts. It is never refused.
     ///
@@ -190,7 +189,7 @@ impl<'a> Model for Lines<'a> {
 impl Clone for Lines<'_> {
     ghost is_clone = { λ lines copy. copy ≡ lines };
 
-    ghost is_infallible = { λ _. Unit {0} };
+    ghost is_infallible = { λ _. ⊤ };
 
     /// An iterator that owes the same lines. It is never refused.
     ///

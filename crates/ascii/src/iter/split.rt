@@ -1,6 +1,6 @@
 //! The pieces of a view between separators, with and without their starts.
 
-ghost use Rattle.std.specs.Prelude.{◌≡◌, ◌+◌, ◌≤◌, ◌∷◌, ◌++◌, [], IfSome, length};
+ghost use Rattle.std.specs.Prelude.{⊤, ◌≡◌, ◌+◌, ◌≤◌, ◌∷◌, ◌++◌, [], IfSome, length};
 ghost use Rattle.std.specs.Iterator.{item_count};
 ghost use Rattle.std.specs.List.{Contains};
 ghost use Rattle.std.specs.Option.{option_map};
@@ -90,7 +90,7 @@ impl<'a> Model for SplitSpans<'a> {
 impl Clone for SplitSpans<'_> {
     ghost is_clone = { λ split copy. copy ≡ split };
 
-    ghost is_infallible = { λ _. Unit {0} };
+    ghost is_infallible = { λ _. ⊤ };
 
     /// An iterator that owes the same pieces with the same starts. It is never refused.
     ///
@@ -168,7 +168,7 @@ impl<'a> Model for Split<'a> {
 impl Clone for Split<'_> {
     ghost is_clone = { λ split copy. copy ≡ split };
 
-    ghost is_infallible = { λ _. Unit {0} };
+    ghost is_infallible = { λ _. ⊤ };
 
     /// An iterator that owes the same pieces. It is never refused.
     ///

@@ -19,10 +19,10 @@ loop-cmd-preserved g c =
     λ never. rw c.cmd-item.is (All-get_or (λ cmd. cmd ≢ Shrink) cmds i item lt never) in
     rw (more, c.in_ok-push.ensures.items) record {
       run = run_more _ _ _ _ _ _ _ _ c.loop-cmd.invariant.run
-          (step_sure _ _ _ _ _ c.step.ensures.step c.step.ensures.room
+          (step_sure _ _ _ _ c.step.ensures.step _ c.step.ensures.room
           (g.met.B.AsciiBuf.holds_sure c.loop-cmd.buf));
       within = λ never. run_more _ _ _ _ _ _ _ _ (c.loop-cmd.invariant.within never)
-          (step_within _ _ _ _ _ _ c.step.ensures.step c.step.ensures.room
+          (step_within _ _ _ _ c.step.ensures.step _ c.step.ensures.room _
           (c.loop-cmd.invariant.capacity never) (keeps never));
       capacity = λ never.
           omega (arith, c.loop-cmd.invariant.capacity never, c.step.ensures.capacity (keeps never));
