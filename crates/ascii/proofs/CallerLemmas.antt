@@ -1,7 +1,7 @@
 -- Lemmas for the proofs of callers. Each can be named in a proof file, or in an attribute on the
 -- caller as `#[tactic(auto, using(ascii::proofs::CallerLemmas::last_of_pieces))]`.
 use Rattle.std.proofs.Common.{◌≡◌, ◌≢◌, ℕ, ◌+◌, ◌≤◌, List, [], ◌∷◌, ◌++◌, length, append-nil, refl}
-use Rattle.std.proofs.Common.{arith, append_assoc, sym, ap, subst, ◌∙◌, Ok, Err, Result, IsOk, OnOk}
+use Rattle.std.proofs.Common.{arith, append_assoc, sym, ap, subst, ◌∙◌, Result, IsOk, OnOk}
 use Rattle.std.specs.Iterator.{YieldsFirstBy}
 use Rattle.std.specs.List.{All, Contains, flat_map, join_with_byte}
 use Rattle.std.specs.declared.alloc.AllocError.{AllocError}

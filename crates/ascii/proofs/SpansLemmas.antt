@@ -30,18 +30,14 @@ room size (item ∷ items) = size item + room size items
 pub with_starts-last : {A : Type 0} (size : A → ℕ) (start : ℕ) (items : List A) (item : A)
     → with_starts size start (items ++ item ∷ []) ≡ with_starts size start items ++ record
     { start = start + room size items; item = item } ∷ []
-with_starts-last {A} size start [] item =
-    let at : ℕ → List (WithStart A) = λ n. record { start = n; item = item } ∷ [] in
-    let none : start ≡ start + 0 = omega arith in
-    ap at none
+with_starts-last size start [] item = ap (λ n. record { start = n; item = item } ∷ []) (omega arith)
 with_starts-last {A} size start (first ∷ items) item =
-    let at : ℕ → List (WithStart A) =
-    λ n. with_starts size (start + size first) items ++ record
-    { start = n; item = item } ∷ [] in
+    let at : ℕ → List (WithStart A) = λ n. record { start = n; item = item } ∷ [] in
     let sum : start + size first + room size items ≡ start + (size first + room size items) =
     omega arith in
     ap (λ others. record { start = start; item = first } ∷ others)
-    (with_starts-last size (start + size first) items item ∙ ap at sum)
+    (with_starts-last size (start + size first) items item
+    ∙ ap (λ n. with_starts size (start + size first) items ++ at n) sum)
 
 -- the items alone
 pub items-with_starts : {A : Type 0} (size : A → ℕ) (start : ℕ) (items : List A)
@@ -63,12 +59,11 @@ pub room-pieces : (on : ℕ) (pieces : List (List ℕ)) → pieces ≢ []
     → room piece_size pieces ≡ length (join_with_byte on pieces) + 1
 room-pieces on [] some = absurd (some refl)
 room-pieces on (piece ∷ []) some = omega arith
-room-pieces on (piece ∷ next ∷ others) some =
-    let more = room-pieces on (next ∷ others) (λ none. cc) in
-    let joined : length (join_with_byte on (piece ∷ next ∷ others)) ≡ length
-    piece + (length (join_with_byte on (next ∷ others)) + 1) =
-    length-append piece (on ∷ join_with_byte on (next ∷ others)) ∙ (omega arith) in
-    omega (arith, more, joined)
+room-pieces on (piece ∷ next ∷ others) some = omega (
+  arith,
+  room-pieces on (next ∷ others) (λ none. cc),
+  length-append piece (on ∷ join_with_byte on (next ∷ others)),
+)
 
 room-pieces_of : (on : ℕ) (t : List ℕ) → room piece_size (pieces_of on t) ≡ length t + 1
 room-pieces_of on t = room-pieces on (pieces_of on t) (slice_split-some _ t)
@@ -78,10 +73,8 @@ room-pieces_of on t = room-pieces on (pieces_of on t) (slice_split-some _ t)
 pub free_piece : (on byte : ℕ) (cursor : Cursor) (span : SplitSpan) → byte ≡ on
     → Free byte (text_of cursor.view) → piece_in span ≡ part_in cursor
     → ¬ (Contains (text_of span.text) on)
-free_piece on byte cursor span byte_is free is =
-    let P : List ℕ → Type 0 = λ text. ¬ (Contains text on) in
-    subst P (sym (ap (λ one. one.item) is)) (absent-from_Free on (text_of cursor.view)
-    (subst (λ n. Free n (text_of cursor.view)) byte_is free))
+free_piece on byte cursor span byte_is free is = rw (ap (λ one. one.item) is)
+    (absent-from_Free on (text_of cursor.view) (rw byte_is at free))
 
 module _ (on : ℕ) (part : WithStart (List ℕ)) where
   -- the first piece stands before the first separator
@@ -90,14 +83,8 @@ module _ (on : ℕ) (part : WithStart (List ℕ)) where
       → piece_spans on part ≡ first ∷ piece_spans on (part_in cut.1)
   piece_spans_first byte cut first byte_is found first_is =
       let is = subst (λ b. IsCutFirst b part cut) byte_is found in
-      let others = pieces_of on (text_of cut.1.view) in
-      let at : ℕ → WithStart (List ℕ) = λ n. record { start = n; item = text_of cut.0.view } in
-      ap (with_starts piece_size part.start)
-      (pieces_of-cut_first on part.item (text_of cut.0.view) (text_of cut.1.view) is.0.text
-      is.1)
-      ∙ (ap (λ n. at part.start ∷ with_starts piece_size n others) (sym is.0.behind)
-      ∙ (ap (λ n. at n ∷ piece_spans on (part_in cut.1)) (sym is.0.before)
-      ∙ ap (λ one. one ∷ piece_spans on (part_in cut.1)) (sym first_is)))
+      rw (first_is, is.0.before, is.0.behind) (ap (with_starts piece_size part.start)
+      (pieces_of-cut_first on part.item (text_of cut.0.view) (text_of cut.1.view) is.0.text is.1))
 
   -- the last piece stands behind the last separator
   pub piece_spans_last : (byte : ℕ) (cut : Cursor × Cursor) (last : WithStart (List ℕ))
@@ -105,25 +92,17 @@ module _ (on : ℕ) (part : WithStart (List ℕ)) where
       → piece_spans on part ≡ piece_spans on (part_in cut.0) ++ last ∷ []
   piece_spans_last byte cut last byte_is found last_is =
       let is = subst (λ b. IsCutLast b part cut) byte_is found in
-      let front = pieces_of on (text_of cut.0.view) in
-      let at : ℕ → WithStart (List ℕ) = λ n. record { start = n; item = text_of cut.1.view } in
-      let here : part.start + room piece_size front ≡ cut.1.start =
-      ap (λ n. part.start + n) (room-pieces_of on (text_of cut.0.view)) ∙ sym is.0.behind in
-      ap (with_starts piece_size part.start)
-      (pieces_of-cut_last on part.item (text_of cut.0.view) (text_of cut.1.view) is.0.text
-      is.1)
-      ∙ (with_starts-last piece_size part.start front (text_of cut.1.view)
-      ∙ (ap (λ n. with_starts piece_size part.start front ++ at n ∷ []) here
-      ∙ (ap (λ n. with_starts piece_size n front ++ part_in cut.1 ∷ []) (sym is.0.before)
-      ∙ ap (λ one. piece_spans on (part_in cut.0) ++ one ∷ []) (sym last_is))))
+      let front = text_of cut.0.view in
+      rw (last_is, is.0.before, is.0.behind, ← room-pieces_of on front)
+      (ap (with_starts piece_size part.start)
+      (pieces_of-cut_last on part.item front (text_of cut.1.view) is.0.text is.1)
+      ∙ with_starts-last piece_size part.start (pieces_of on front) (text_of cut.1.view))
 
   -- a text without the separator is its one piece
   pub piece_spans_free : (byte : ℕ) (whole : WithStart (List ℕ)) → byte ≡ on
       → Free byte part.item → whole ≡ part → piece_spans on part ≡ whole ∷ []
-  piece_spans_free byte whole byte_is free whole_is =
-      ap (with_starts piece_size part.start)
-      (pieces_of-free on part.item (subst (λ b. Free b part.item) byte_is free))
-      ∙ ap (λ one. one ∷ []) (sym whole_is)
+  piece_spans_free byte whole byte_is free whole_is = rw whole_is
+      (ap (with_starts piece_size part.start) (pieces_of-free on part.item (rw byte_is at free)))
 
   -- the pieces found are in the relation, and no others are
   pub piece_spans_found : PieceSpans part.start part.item on (piece_spans on part)
@@ -154,9 +133,8 @@ module _ (on : ℕ) (part : WithStart (List ℕ)) where
 -- lines take the room of the text
 pub room-lines : (lines : List Line) → room line_size lines ≡ length (flat_map line_text lines)
 room-lines [] = refl
-room-lines (line ∷ lines) =
-    ap (λ n. line_size line + n) (room-lines lines)
-    ∙ sym (length-append (line_text line) (flat_map line_text lines))
+room-lines (line ∷ lines) = omega
+    (arith, room-lines lines, length-append (line_text line) (flat_map line_text lines))
 
 room-lines_of : (t : List ℕ) → room line_size (lines_of t) ≡ length t
 room-lines_of t = room-lines (lines_of t) ∙ ap length ((LinesOf-lines_of t).joined)
@@ -167,37 +145,31 @@ module _ (part : WithStart (List ℕ)) where
       → first ≡ record { start = cut.0.start; item = ended_line (text_of cut.0.view) }
       → line_spans part ≡ first ∷ line_spans (part_in cut.1)
   line_spans_first cut first is first_is =
-      let others = lines_of (text_of cut.1.view) in
-      let line = ended_line (text_of cut.0.view) in
-      let size : line_size line ≡ length (text_of cut.0.view) + 1 =
-      ap length (line_text-ended (text_of cut.0.view))
-      ∙ length-append (text_of cut.0.view) (10 ∷ []) in
-      let at : ℕ → WithStart Line = λ n. record { start = n; item = line } in
-      ap (with_starts line_size part.start)
-      (lines_of-cut_first part.item (text_of cut.0.view) (text_of cut.1.view) is.0.text is.1)
-      ∙ (ap (λ n. at part.start ∷ with_starts line_size (part.start + n) others) size
-      ∙ (ap (λ n. at part.start ∷ with_starts line_size n others) (sym is.0.behind)
-      ∙ (ap (λ n. at n ∷ line_spans (part_in cut.1)) (sym is.0.before)
-      ∙ ap (λ one. one ∷ line_spans (part_in cut.1)) (sym first_is))))
+      let front = text_of cut.0.view in
+      rw (
+        first_is,
+        is.0.before,
+        is.0.behind,
+        ← length-append front (10 ∷ []),
+        ← line_text-ended front,
+      ) (ap (with_starts line_size part.start)
+      (lines_of-cut_first part.item front (text_of cut.1.view) is.0.text is.1))
 
   -- a text without LF is one line, and none where it is empty
   pub line_spans_open : (cursor : Cursor) (only : WithStart Line) → Free 10 part.item
       → part.item ≢ [] → text_of cursor.view ≡ []
       → only ≡ record { start = part.start; item = record { body = part.item; ending = Absent } }
       → line_spans part ≡ only ∷ line_spans (part_in cursor)
-  line_spans_open cursor only free some none only_is =
-      ap (with_starts line_size part.start) (lines_of-open part.item free some)
-      ∙ (ap (λ one. one ∷ []) (sym only_is)
-      ∙ ap (λ t. only ∷ with_starts line_size cursor.start (lines_of t)) (sym none))
+  line_spans_open cursor only free some none only_is = rw (only_is, none)
+      (ap (with_starts line_size part.start) (lines_of-open part.item free some))
 
   pub line_spans_none : part.item ≡ [] → line_spans part ≡ []
-  line_spans_none none = ap (λ t. with_starts line_size part.start (lines_of t)) none
+  line_spans_none none = rw none
 
   -- a text that is not empty has a line
   pub line_spans_some : part.item ≢ [] → line_spans part ≢ []
-  line_spans_some some none =
-      absurd (lines_of-some part.item some
-      (sym (items-with_starts line_size part.start (lines_of part.item)) ∙ ap items_of none))
+  line_spans_some some none = lines_of-some part.item some
+      (sym (items-with_starts line_size part.start (lines_of part.item)) ∙ ap items_of none)
 
   -- the last line stands behind whole lines
   line_spans_behind : (cut : Cursor × Cursor) (line : Line) → cut.0.start ≡ part.start
@@ -206,14 +178,9 @@ module _ (part : WithStart (List ℕ)) where
       → line_spans part ≡ line_spans (part_in cut.0) ++ record
       { start = cut.1.start; item = line } ∷ []
   line_spans_behind cut line before behind is =
-      let front = lines_of (text_of cut.0.view) in
-      let at : ℕ → WithStart Line = λ n. record { start = n; item = line } in
-      let here : part.start + room line_size front ≡ cut.1.start =
-      ap (λ n. part.start + n) (room-lines_of (text_of cut.0.view)) ∙ sym behind in
-      ap (with_starts line_size part.start) is
-      ∙ (with_starts-last line_size part.start front line
-      ∙ (ap (λ n. with_starts line_size part.start front ++ at n ∷ []) here
-      ∙ ap (λ n. with_starts line_size n front ++ at cut.1.start ∷ []) (sym before)))
+      let front = text_of cut.0.view in
+      rw (before, behind, ← room-lines_of front) (ap (with_starts line_size part.start) is
+      ∙ with_starts-last line_size part.start (lines_of front) line)
 
   -- the last line of a text that ends in LF, which is cut in front of that
   pub line_spans_last_ended : (front : Cursor) (cut : Cursor × Cursor) (last : WithStart Line)
@@ -221,12 +188,10 @@ module _ (part : WithStart (List ℕ)) where
       → IsCutBehindLastFeed (part_in front) cut
       → last ≡ record { start = cut.1.start; item = ended_line (text_of cut.1.view) }
       → line_spans part ≡ line_spans (part_in cut.0) ++ last ∷ []
-  line_spans_last_ended front cut last ends starts is last_is =
-      line_spans_behind cut (ended_line (text_of cut.1.view)) (is.before ∙ starts)
-      (is.behind ∙ ap (λ n. n + length (text_of cut.0.view)) starts)
-      (ap lines_of ends ∙ lines_of-last_ended (text_of front.view) (text_of cut.0.view)
-      (text_of cut.1.view) is.text is.whole is.free)
-      ∙ ap (λ one. line_spans (part_in cut.0) ++ one ∷ []) (sym last_is)
+  line_spans_last_ended front cut last ends starts is last_is = rw last_is
+      (line_spans_behind cut (ended_line (text_of cut.1.view)) (is.before ∙ starts)
+      (rw starts at is.behind) (ap lines_of ends ∙ lines_of-last_ended (text_of front.view)
+      (text_of cut.0.view) (text_of cut.1.view) is.text is.whole is.free))
 
   -- the last line of a text that does not
   pub line_spans_last_open : (front : List ℕ) (code : ℕ) (cut : Cursor × Cursor)
@@ -239,14 +204,13 @@ module _ (part : WithStart (List ℕ)) where
       }
       → line_spans part ≡ line_spans (part_in cut.0) ++ last ∷ []
   line_spans_last_open front code cut last ends other is last_is =
+      let a = text_of cut.0.view in
       let some : text_of cut.1.view ≢ [] = λ none. not_whole front code other
-      (subst HasWholeLines (sym (append-nil (text_of cut.0.view))
-      ∙ (ap (λ b. text_of cut.0.view ++ b) (sym none) ∙ (sym is.text ∙ ends))) is.whole) in
-      line_spans_behind cut (record { body = text_of cut.1.view; ending = Absent }) is.before
-      is.behind
-      (lines_of-last_open part.item (text_of cut.0.view) (text_of cut.1.view) is.text is.whole
-      is.free some)
-      ∙ ap (λ one. line_spans (part_in cut.0) ++ one ∷ []) (sym last_is)
+      (subst HasWholeLines (sym (append-nil a) ∙ (ap (λ b. a ++ b) (sym none)
+      ∙ (sym is.text ∙ ends))) is.whole) in
+      rw last_is (line_spans_behind cut (record { body = text_of cut.1.view; ending = Absent })
+      is.before is.behind
+      (lines_of-last_open part.item a (text_of cut.1.view) is.text is.whole is.free some))
 
   -- the lines found are in the relation, and no others are
   pub line_spans_found : LineSpansOf part.start part.item (line_spans part)
