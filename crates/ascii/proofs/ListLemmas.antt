@@ -1,14 +1,13 @@
 -- Facts on lists alone.
 use Rattle.std.proofs.Common.{◌≡◌, ◌≢◌, ℕ, ◌+◌, ◌-◌, ◌<◌, ◌≤◌, List, [], ◌∷◌, ◌++◌, length, get_or}
-use Rattle.std.proofs.Common.{suc, take, drop, arith, ap, ◌∙◌}
+use Rattle.std.proofs.Common.{take, arith}
 use Rattle.std.proofs.lemmas.Grind.{common_steps}
-use Rattle.std.proofs.lemmas.List.{get_or-take, get_or-drop}
 use Rattle.std.specs.List.{AllZip, slice_range}
 
 -- a byte of `&bytes[s..e]` is the byte of the source s places later
 pub slice_range-at : (bytes : List ℕ) (s e k : ℕ) → k < e - s
     → get_or (slice_range bytes s e) k 0 ≡ get_or bytes (s + k) 0
-slice_range-at bytes s e k h = get_or-take (e - s) (drop s bytes) k 0 h ∙ get_or-drop s bytes k 0
+slice_range-at bytes s e k h = grind (arith, common_steps)
 
 -- the length of `&bytes[s..e]`
 pub length-slice_range : (bytes : List ℕ) (s e : ℕ) → s ≤ e → e ≤ length bytes
@@ -24,13 +23,11 @@ append-some (x ∷ xs) ys some = λ none. cc
 pub front_is : {X : Type 0} (x y : X) (xs : List X)
     → take (length (x ∷ y ∷ xs) - 1) (x ∷ y ∷ xs) ≡ x ∷ take (length (y ∷ xs) - 1) (y ∷ xs)
 front_is x y xs =
-    let n : length (x ∷ y ∷ xs) - 1 ≡ suc (length (y ∷ xs) - 1) = omega arith in
-    ap (λ m. take m (x ∷ y ∷ xs)) n
+    grind (arith, common_steps)
 
 -- two lists of any types whose items are related pair by pair, with one more pair
 pub AllZip-push : {A B : Type 0} (R : A → B → Type 0) (xs : List A) (ys : List B) (x : A) (y : B)
     → AllZip R xs ys → R x y → AllZip R (xs ++ x ∷ []) (ys ++ y ∷ [])
 AllZip-push R [] [] x y all last = (last, tt)
 AllZip-push R (a ∷ xs) (b ∷ ys) x y all last = (all.0, AllZip-push R xs ys x y all.1 last)
-AllZip-push R [] (b ∷ ys) x y all last = absurd all
-AllZip-push R (a ∷ xs) [] x y all last = absurd all
+AllZip-push R xs ys x y all last = absurd all

@@ -1,6 +1,6 @@
 -- Edits of a text leave codes alone.
-use Rattle.std.proofs.Common.{ℕ, ◌≡◌, map, ◌<◌, List, ◌∷◌, ◌++◌, ◌≤◌, length, take, drop, arith}
-use Rattle.std.proofs.Common.{Err, refl, subst, sym}
+use Rattle.std.proofs.Common.{ℕ, ◌≡◌, map, ◌<◌, List, ◌++◌, ◌≤◌, length, take, drop, arith, Err}
+use Rattle.std.proofs.Common.{refl}
 use Rattle.std.proofs.lemmas.Bool.Decides.{nat_tests}
 use Rattle.std.specs.Str.{IsAscii}
 use Rattle.std.specs.List.{insert}
@@ -9,7 +9,7 @@ use Rattle.std.proofs.lemmas.Str.Ascii.{IsAscii-cons, IsAscii-map, IsAscii-nil}
 use Rattle.std.specs.declared.fmt.Error.{Error}
 use Rattle.ascii_base.specs.Bytes.{FirstOther}
 use Rattle.ascii_base.specs.Case.{upper_image, lower_image}
-use Rattle.ascii.specs.StringState.{StringState, Writes, insert_text}
+use Rattle.ascii.specs.StringState.{StringState, Writes}
 
 -- the upper image of a code is a code
 pub upper_image-below : (n : ℕ) → n < 128 → upper_image n < 128
@@ -19,25 +19,9 @@ upper_image-below n h = grind (arith, nat_tests)
 pub lower_image-below : (n : ℕ) → n < 128 → lower_image n < 128
 lower_image-below n h = grind (arith, nat_tests)
 
--- a text with another one inside is a text
-pub IsAscii-insert_text : (t : List ℕ) (i : ℕ) (piece : List ℕ) → IsAscii t → IsAscii piece
-    → IsAscii (insert_text t i piece)
-IsAscii-insert_text t i piece a b =
-    IsAscii-append (take i t) (piece ++ drop i t) (IsAscii-take t i a)
-    (IsAscii-append piece (drop i t) b (IsAscii-drop t i a))
-
 -- a text with a code inside is a text
 pub IsAscii-insert : (t : List ℕ) (i n : ℕ) → IsAscii t → n < 128 → IsAscii (insert t i n)
-IsAscii-insert t i n a b =
-    IsAscii-append (take i t) (n ∷ drop i t) (IsAscii-take t i a)
-    (IsAscii-cons n (drop i t) b (IsAscii-drop t i a))
-
--- the bytes of a buffer after the front of them is written anew
-IsAscii-written : (n : ℕ) (new old : List ℕ) → IsAscii new → IsAscii old
-    → IsAscii (take n (new ++ drop (length new) old))
-IsAscii-written n new old a b =
-    IsAscii-take (new ++ drop (length new) old) n
-    (IsAscii-append new (drop (length new) old) a (IsAscii-drop old (length new) b))
+IsAscii-insert t i n a b = search (IsAscii-append, IsAscii-cons, IsAscii-take, IsAscii-drop)
 
 -- the bytes of a buffer after a text in front of them is mapped to codes
 pub IsAscii-mapped : (f : ℕ → ℕ) → ((b : ℕ) → b < 128 → f b < 128)
@@ -45,9 +29,7 @@ pub IsAscii-mapped : (f : ℕ → ℕ) → ((b : ℕ) → b < 128 → f b < 128)
     → new ≡ map f shown → shown ≡ old → IsAscii old
     → IsAscii (take n (new ++ drop (length new) old))
 IsAscii-mapped f small n new shown old mapped is ascii =
-    IsAscii-written n new old
-    (subst IsAscii (sym mapped) (IsAscii-map f shown small (subst IsAscii (sym is) ascii)))
-    ascii
+    rw (mapped, is) (search (IsAscii-append, IsAscii-map, IsAscii-take, IsAscii-drop))
 
 -- a byte past 127 is no text, and no empty one
 pub no_text : (bytes : List ℕ) (i : ℕ) → FirstOther bytes 0 (length bytes) i → ¬ (IsAscii bytes)
@@ -61,7 +43,7 @@ Writes-refused piece held e room none = record {
   ascii = tt;
   err = refl;
   succeeds = λ ascii fits. absurd (none ascii);
-  nothing = λ empty. absurd (none (subst IsAscii (sym empty) IsAscii-nil));
+  nothing = λ empty. absurd (none (rw empty IsAscii-nil));
   capacity = omega arith;
   room = room;
 }

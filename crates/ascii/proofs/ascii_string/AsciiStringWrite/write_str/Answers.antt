@@ -4,6 +4,5 @@ use Rattle.ascii.proofs.ascii_string.AsciiStringWrite.write_str.Goals as goal
 
 pub returns-in_default-clause-writes : goal.returns-in_default-clause-writes
 returns-in_default-clause-writes g c =
-    Writes-refused c.args.s.now c.args.self.now _ (omega (arith, c.capacity-capacity.ensures.room))
-    (⊎_elim (λ unfit. absurd (search rules)) (λ other. no_text c.args.s.now _ other.1)
-    c.in_default.ensures)
+    Writes-refused _ _ _ (omega arith) (⊎_elim (λ unfit. absurd (search rules))
+    (λ other. no_text _ _ other.1) c.in_default.ensures)
