@@ -1,11 +1,9 @@
 -- The answers of an iterator, or of a list, to a script of ends.
-use Rattle.std.proofs.Common.{arith, ◌≤◌, ◌≡◌, ℕ, ◌+◌, ◌<◌, List, [], ◌∷◌, ◌++◌, length, get_or}
-use Rattle.std.proofs.Common.{take, map, Option, None, Some, Result, Ok, Err, IfOk, MatchOption}
-use Rattle.std.proofs.Common.{refl, sym, ap, subst, ◌∙◌}
+use Rattle.std.proofs.Common.{◌≤◌, ◌≡◌, ℕ, ◌+◌, ◌<◌, List, [], ◌∷◌, ◌++◌, length, get_or, take, map}
+use Rattle.std.proofs.Common.{Option, None, Some, Result, Ok, Err, IfOk, MatchOption, refl, ap}
 use Rattle.std.specs.Iterator.{YieldsFirstBy, YieldsLastBy}
 use Rattle.std.specs.Option.{option_map}
-use Rattle.std.proofs.lemmas.Grind.{common_steps}
-use Rattle.std.proofs.lemmas.List.{take_more}
+use Rattle.std.proofs.lemmas.List.{take_all, take_more}
 use Rattle.ascii.specs.declared.iter.walks.End.{End}
 use Rattle.ascii.specs.declared.iter.walks.End.TheVariants.{Front, Back}
 use Rattle.ascii.specs.Walks.{AnswersTo, ListAnswers, ListAnswersTo, TakesEnd}
@@ -30,17 +28,14 @@ StepsAt-by front back Back s r t at_front at_back = at_back refl
 
 module _ {S A : Type 0} (takes : End → S → Option A → S → Type 0) where
   -- one more end of a script
-  pub AnswersTo-more : (items : S) (script : List End) (answers : List (Option A)) (mid left : S)
+  AnswersTo-more : (items : S) (script : List End) (answers : List (Option A)) (mid left : S)
       (end : End) (answer : Option A)
       → AnswersTo takes items script answers mid → takes end mid answer left
       → AnswersTo takes items (script ++ end ∷ []) (answers ++ answer ∷ []) left
-  AnswersTo-more items [] [] mid left end answer so_far more =
-      let P : S → Type 0 = λ m. takes end m answer left in
-      (left, subst P so_far more, refl)
-  AnswersTo-more items [] (one ∷ answers) mid left end answer so_far more = absurd so_far
-  AnswersTo-more items (first ∷ script) [] mid left end answer so_far more = absurd so_far
+  AnswersTo-more items [] [] mid left end answer so_far more = (left, rw (← so_far) more, refl)
   AnswersTo-more items (first ∷ script) (one ∷ answers) mid left end answer so_far more =
       (so_far.0, so_far.1, AnswersTo-more so_far.0 script answers mid left end answer so_far.2 more)
+  AnswersTo-more items script answers mid left end answer so_far more = absurd so_far
 
   -- the answers of a script up to the next place
   pub AnswersTo-step : (items mid left : S) (script : List End) (k : ℕ) (end : End)
@@ -49,10 +44,7 @@ module _ {S A : Type 0} (takes : End → S → Option A → S → Type 0) where
       → AnswersTo takes items (take k script) answers mid → takes end mid answer left
       → AnswersTo takes items (take (k + 1) script) (answers ++ answer ∷ []) left
   AnswersTo-step items mid left script k end answers answer inside here so_far more =
-      let P : List End → Type 0 = λ s. AnswersTo takes items s (answers ++ answer ∷ []) left in
-      let script_is : take (k + 1) script ≡ take k script ++ end ∷ [] =
-      take_more script k end inside ∙ ap (λ e. take k script ++ e ∷ []) here in
-      subst P (sym script_is)
+      rw (take_more script k end inside, here)
       (AnswersTo-more items (take k script) answers mid left end answer so_far more)
 
   -- the answers of the whole script
@@ -60,14 +52,11 @@ module _ {S A : Type 0} (takes : End → S → Option A → S → Type 0) where
       → length script ≤ k
       → AnswersTo takes items (take k script) answers left
       → AnswersTo takes items script answers left
-  AnswersTo-all items left script k answers past so_far =
-      let P : List End → Type 0 = λ s. AnswersTo takes items s answers left in
-      let whole : take k script ≡ script = grind (arith, common_steps) in
-      subst P whole so_far
+  AnswersTo-all items left script k answers past so_far = rw take_all at so_far
 
 -- the answers of an iterator are those of the list that it owes, where each of its steps takes an
 -- end of that
-pub ListAnswersTo-answers : {S A B : Type 0} (takes : End → S → Option A → S → Type 0)
+ListAnswersTo-answers : {S A B : Type 0} (takes : End → S → Option A → S → Type 0)
     (read : A → B) (owed : S → List B)
     → ((end : End) (s : S) (r : Option A) (t : S) → takes end s r t
     → TakesEnd end (owed s) (option_map read r) (owed t))
@@ -75,14 +64,12 @@ pub ListAnswersTo-answers : {S A B : Type 0} (takes : End → S → Option A →
     → AnswersTo takes s script answers t
     → ListAnswersTo (owed s) script (map (option_map read) answers) (owed t)
 ListAnswersTo-answers takes read owed each s [] [] t is = ap owed is
-ListAnswersTo-answers takes read owed each s [] (answer ∷ answers) t is = absurd is
-ListAnswersTo-answers takes read owed each s (end ∷ script) [] t is = absurd is
 ListAnswersTo-answers takes read owed each s (end ∷ script) (answer ∷ answers) t is = (
   owed is.0,
   each end s answer is.0 is.1,
-  ListAnswersTo-answers takes read owed each is.0
-      script answers t is.2,
+  ListAnswersTo-answers takes read owed each is.0 script answers t is.2,
 )
+ListAnswersTo-answers takes read owed each s script answers t is = absurd is
 
 -- what a walk of an iterator answered, as ends of the list that it owed
 pub ListAnswers-walked : {S A B V E X : Type 0} (front back : S → Option A → S → Type 0)
@@ -96,13 +83,11 @@ pub ListAnswers-walked : {S A B V E X : Type 0} (front back : S → Option A →
     × AnswersTo (StepsAt front back) s script (items answers) left)
     → IfOk result (λ answers. (y : X) × Q y
     × ListAnswers (list y) script (map (option_map read) (items answers)))
-ListAnswers-walked {B = B} front back read owed first last s script items (Ok answers) Q list x
-    holds is walked =
-    let P : List B → Type 0 =
-    λ xs. ListAnswers xs script (map (option_map read) (items answers)) in (
+ListAnswers-walked front back read owed first last s script items (Ok answers) Q list x holds is
+    walked = (
       x,
       holds,
-      subst P (sym is) (
+      rw is (
         owed walked.0,
         ListAnswersTo-answers (StepsAt front back) read owed each s script
             (items answers) walked.0 walked.1,

@@ -1,7 +1,7 @@
 -- What a string takes from an iterator, and from one that gives a known list.
-use Rattle.std.proofs.Common.{◌≡◌, ℕ, ◌+◌, ◌≤◌, List, [], ◌∷◌, ◌++◌, length, take, get_or, ◌<◌}
-use Rattle.std.proofs.Common.{MatchResult, Option, None, Some, Ok, Err, Result, IfOk, OnOk, IsOk}
-use Rattle.std.proofs.Common.{arith, length-append, refl, subst, sym, ap, ◌∙◌}
+use Rattle.std.proofs.Common.{◌≡◌, ℕ, ◌+◌, ◌≤◌, List, [], ◌∷◌, ◌++◌, length, take, ◌<◌, Option}
+use Rattle.std.proofs.Common.{None, Some, Ok, Err, Result, IfOk, OnOk, IsOk, arith, length-append}
+use Rattle.std.proofs.Common.{refl, sym, ap, ◌∙◌}
 use Rattle.std.specs.Iterator.{Drains, Yields}
 use Rattle.std.specs.List.{flat_map}
 use Rattle.std.specs.declared.alloc.AllocError.{AllocError}
@@ -32,12 +32,7 @@ Extends-refused {S} {A} steps piece iter old mid new items left refused after re
       left = left;
       gave = gave;
       text = stays ∙ so_far;
-      ended =
-          let P : Result (Unit {0}) AllocError → Type 0 = λ r. MatchResult r
-          (λ _. (end : S) × steps left None end)
-          (λ _. (x : A) × (u : S) × steps left (Some x) u
-          × (old.capacity < length (old.text ++ flat_map piece (items ++ x ∷ [])))) in
-          subst P (sym is) (refused, after, next, rw whole (omega arith));
+      ended = rw is (refused, after, next, rw whole (omega arith));
     }
 
 -- codes one by one are the text
@@ -94,12 +89,10 @@ module _ {S A B : Type 0} {steps : S → Option A → S → Type 0} {v : A → B
       sym (flat_map-map h v e.items)
       ∙ ap (flat_map h) (YieldsList-so_far road e.items e.left e.gave) in
       let room = length-flat_map-take h all (length e.items) (v refused) turn.0 in
-      let place : length (h (v refused)) ≡ length (h (get_or all (length e.items) (v refused))) =
-      ap (λ z. length (h z)) turn.1 in
       let full = e.ended.3 in
-      let whole : length (old.text ++ flat_map (λ x. h (v x)) (e.items ++ refused ∷ [])) ≡ length
-      old.text + (length (flat_map (λ x. h (v x)) e.items) + length (h (v refused))) =
-      grind (arith, common_steps, flat_map-append, length-append) in
-      let before_len : length (flat_map (λ x. h (v x)) e.items) ≡ length
-      (flat_map h (take (length e.items) all)) = ap length before in
-      absurd (omega (arith, fits, room, place, full, whole, before_len))
+      absurd (omega (
+        arith,
+        ap length before,
+        ap (λ z. length (h z)) turn.1,
+        simp (flat_map-append, length-append) at full,
+      ))

@@ -7,9 +7,7 @@ use Rattle.ascii.proofs.ascii_string.AsciiString.extend_strs.Goals as goal
 pub returns-in_err-push_str-clause-extends : goal.returns-in_err-push_str-clause-extends
 returns-in_err-push_str-clause-extends g c =
     let p = err_from_is_err_and c.from_residual.result c.from_residual.ensures.1 in
-    Extends-refused g.I.Iterator.next_gives text_of c.args.iter c.args.self.now c.loop-view.self
-    c.push_str.new.self
-    c.loop-view.yielded c.loop-view.view-iterator c.in-Some.view c.next.new.self
-    c.from_residual.result p.0 p.1
+    Extends-refused _ text_of _ _ c.loop-view.self _ c.loop-view.yielded c.loop-view.view-iterator
+    c.in-Some.view _ _ p.0 p.1
     (search rules) c.in-Some.ensures.steps c.loop-view.invariant.0 c.loop-view.invariant.1
     c.in_err-push_str.ensures.err c.in_err-push_str.ensures.full
