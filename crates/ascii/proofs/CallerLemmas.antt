@@ -2,14 +2,20 @@
 -- caller as `#[tactic(auto, using(ascii::proofs::CallerLemmas::last_of_pieces))]`.
 use Rattle.std.proofs.Common.{◌≡◌, ◌≢◌, ℕ, ◌+◌, ◌≤◌, List, [], ◌∷◌, ◌++◌, length, append-nil, refl}
 use Rattle.std.proofs.Common.{arith, append_assoc, sym, ap, subst, ◌∙◌, Result, IsOk, OnOk}
+use Rattle.std.proofs.Common.{◌-◌, ◌<◌, Option, Some, get_or, length-append, map}
 use Rattle.std.specs.Iterator.{YieldsFirstBy}
-use Rattle.std.specs.List.{All, Contains, flat_map, join_with_byte}
+use Rattle.std.specs.List.{All, Contains, flat_map, join_with_byte, slice_get}
+use Rattle.std.specs.Option.{IfSome}
 use Rattle.std.specs.declared.alloc.AllocError.{AllocError}
-use Rattle.std.proofs.lemmas.Grind.{flat_map-append}
+use Rattle.std.proofs.lemmas.Bool.Decides.{nat_tests}
+use Rattle.std.proofs.lemmas.Grind.{common_steps, flat_map-append}
+use Rattle.std.proofs.lemmas.Option.{slice_get-get_or}
 use Rattle.std.proofs.lemmas.Iterator.{YieldsList}
 use Rattle.std.proofs.lemmas.Iterator.Consumers.{YieldsList-from_first}
 use Rattle.std.proofs.lemmas.List.{append_cancel_left, map_push}
-use Rattle.std.proofs.lemmas.List.Elements.{All-cons, All-head, All-nil, All-tail, All-weaker}
+use Rattle.std.proofs.lemmas.List.Elements.{All-cons, All-get_or, All-head, All-nil, All-tail, All-weaker}
+use Rattle.ascii_base.specs.Case.{lower_image, upper_image}
+use Rattle.ascii_base.specs.Class.{IsWhitespace}
 use Rattle.ascii_base.specs.Code.{code_of, code_text}
 use Rattle.ascii.specs.Extend.{Collects, Extends}
 use Rattle.ascii.specs.Lines.{Line, LinesOf, bodies, line_text}
@@ -18,6 +24,7 @@ use Rattle.ascii.specs.Spans.{LineSpansOf, PieceSpans, WithStart, items_of, line
 use Rattle.ascii.specs.Spans.{with_starts}
 use Rattle.ascii.specs.Steps.{DropsFirst, StepsPiece, YieldsFirstAnd}
 use Rattle.ascii.specs.StringState.{StringState}
+use Rattle.ascii.specs.Trim.{Trims, TrimsEnd}
 use Rattle.ascii.specs.View.{text_of}
 use Rattle.ascii.proofs.ExtendLemmas.{all_from_extends, ok_from_extends, pieces_from_drains}
 use Rattle.ascii.proofs.ExtendLemmas.{singles}
@@ -221,3 +228,57 @@ pub collects_lines : (lines : List Line) (text : List ℕ)
 collects_lines lines text collects =
     collects.2 ∙ pieces_from_drains (λ body. body) collects.0 collects.1
     (road_from_first_and text_of bodies DropsFirst (bodies lines) refl)
+
+-- ---- what is done twice
+
+-- the upper case of a text in upper case is that text
+pub upper_twice : (t : List ℕ) → map upper_image (map upper_image t) ≡ map upper_image t
+upper_twice [] = refl
+upper_twice (n ∷ t) =
+    let here : upper_image (upper_image n) ≡ upper_image n = grind (arith, nat_tests) in
+    cc (here, upper_twice t)
+
+-- the lower case of a text in lower case is that text
+pub lower_twice : (t : List ℕ) → map lower_image (map lower_image t) ≡ map lower_image t
+lower_twice [] = refl
+lower_twice (n ∷ t) =
+    let here : lower_image (lower_image n) ≡ lower_image n = grind (arith, nat_tests) in
+    cc (here, lower_twice t)
+
+-- the code at a position of a text is not whitespace, if there is one
+abbrev IsBounded : List ℕ → ℕ → Type 0
+IsBounded t i = IfSome (slice_get t i) (λ code. ¬ (IsWhitespace code))
+
+-- a text that begins with another code has no leading whitespace to cut
+no_start : (t m cut : List ℕ) → cut ++ m ≡ t → All IsWhitespace cut → IsBounded t 0 → m ≡ t
+no_start t m [] parts white bounded = parts
+no_start t m (c ∷ cut) parts white bounded =
+    absurd (subst (λ xs. IsBounded xs 0) (sym parts) bounded (All-head IsWhitespace c cut white))
+
+-- a text that ends with another code has no trailing whitespace to cut
+no_end : (t m cut : List ℕ) → m ++ cut ≡ t → All IsWhitespace cut → IsBounded t (length t - 1)
+    → m ≡ t
+no_end t m [] parts white bounded = sym (append-nil m) ∙ parts
+no_end t m (c ∷ cut) parts white bounded =
+    let xs = m ++ c ∷ cut in
+    let last = length (c ∷ cut) - 1 in
+    let inside : length xs - 1 < length xs = omega (arith, length-append m (c ∷ cut)) in
+    let at : get_or xs (length xs - 1) 0 ≡ get_or (c ∷ cut) last 0 = grind (arith, common_steps) in
+    let is = slice_get-get_or xs (length xs - 1) 0 inside ∙ ap Some at in
+    let P : Option ℕ → Type 0 = λ o. IfSome o (λ code. ¬ (IsWhitespace code)) in
+    absurd (subst P is (subst (λ ys. IsBounded ys (length ys - 1)) (sym parts) bounded)
+    (All-get_or IsWhitespace (c ∷ cut) last 0 (omega arith) white))
+
+-- a text without leading whitespace has none after its trailing whitespace is cut
+still_bounded : (t m cut : List ℕ) → m ++ cut ≡ t → IsBounded t 0 → IsBounded m 0
+still_bounded t [] cut parts bounded = tt
+still_bounded t (c ∷ m) cut parts bounded =
+    subst (λ xs. IsBounded xs 0) (sym parts) bounded
+
+-- trimming a trimmed text leaves it as it is
+pub trims_twice : (t m again : List ℕ) → Trims t m → Trims m again → again ≡ m
+trims_twice t m again once twice =
+    let start = still_bounded once.0 m once.2.cut once.2.parts once.1.bounded in
+    let mid : twice.0 ≡ m = no_start m twice.0 twice.1.cut twice.1.parts twice.1.white start in
+    let end = subst (λ xs. TrimsEnd xs again) mid twice.2 in
+    no_end m again end.cut end.parts end.white once.2.bounded
