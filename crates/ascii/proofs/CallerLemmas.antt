@@ -1,21 +1,15 @@
 -- Lemmas for the proofs of callers. Each can be named in a proof file, or in an attribute on the
 -- caller as `#[tactic(auto, using(ascii::proofs::CallerLemmas::last_of_pieces))]`.
 use Rattle.std.proofs.Common.{◌≡◌, ◌≢◌, ℕ, ◌+◌, ◌≤◌, List, [], ◌∷◌, ◌++◌, length, append-nil, refl}
-use Rattle.std.proofs.Common.{arith, append_assoc, sym, ap, subst, ◌∙◌, Result, IsOk, OnOk}
-use Rattle.std.proofs.Common.{◌-◌, ◌<◌, Option, Some, get_or, length-append, map}
+use Rattle.std.proofs.Common.{arith, append_assoc, ap, ◌∙◌, Result, IsOk, OnOk}
 use Rattle.std.specs.Iterator.{YieldsFirstBy}
-use Rattle.std.specs.List.{All, Contains, flat_map, join_with_byte, slice_get}
-use Rattle.std.specs.Option.{IfSome}
+use Rattle.std.specs.List.{All, Contains, flat_map, join_with_byte}
 use Rattle.std.specs.declared.alloc.AllocError.{AllocError}
-use Rattle.std.proofs.lemmas.Bool.Decides.{nat_tests}
-use Rattle.std.proofs.lemmas.Grind.{common_steps, flat_map-append}
-use Rattle.std.proofs.lemmas.Option.{slice_get-get_or}
+use Rattle.std.proofs.lemmas.Grind.{flat_map-append}
 use Rattle.std.proofs.lemmas.Iterator.{YieldsList}
 use Rattle.std.proofs.lemmas.Iterator.Consumers.{YieldsList-from_first}
-use Rattle.std.proofs.lemmas.List.{append_cancel_left, map_push}
-use Rattle.std.proofs.lemmas.List.Elements.{All-cons, All-get_or, All-head, All-nil, All-tail, All-weaker}
-use Rattle.ascii_base.specs.Case.{lower_image, upper_image}
-use Rattle.ascii_base.specs.Class.{IsWhitespace}
+use Rattle.std.proofs.lemmas.List.{same_from_push, map_push}
+use Rattle.std.proofs.lemmas.List.Elements.{All-cons, All-nil}
 use Rattle.ascii_base.specs.Code.{code_of, code_text}
 use Rattle.ascii.specs.Extend.{Collects, Extends}
 use Rattle.ascii.specs.Lines.{Line, LinesOf, bodies, line_text}
@@ -24,13 +18,22 @@ use Rattle.ascii.specs.Spans.{LineSpansOf, PieceSpans, WithStart, items_of, line
 use Rattle.ascii.specs.Spans.{with_starts}
 use Rattle.ascii.specs.Steps.{DropsFirst, StepsPiece, YieldsFirstAnd}
 use Rattle.ascii.specs.StringState.{StringState}
-use Rattle.ascii.specs.Trim.{Trims, TrimsEnd}
 use Rattle.ascii.specs.View.{text_of}
 use Rattle.ascii.proofs.ExtendLemmas.{all_from_extends, ok_from_extends, pieces_from_drains}
 use Rattle.ascii.proofs.ExtendLemmas.{singles}
 use Rattle.ascii.proofs.PiecesLemmas.{Free-from_absent, Pieces-only, pieces_of-free}
 use Rattle.ascii.proofs.SpansLemmas.{room, room-lines, room-pieces, with_starts-last}
 use Rattle.ascii.proofs.StepsLemmas.{road_from_first_and}
+use Rattle.std.proofs.Common.{◌-◌, ◌<◌, Option, Some, get_or, length-append, map}
+use Rattle.std.specs.List.{slice_get}
+use Rattle.std.specs.Option.{IfSome}
+use Rattle.std.proofs.lemmas.Bool.Decides.{nat_tests}
+use Rattle.std.proofs.lemmas.Grind.{common_steps}
+use Rattle.std.proofs.lemmas.Option.{slice_get-get_or}
+use Rattle.std.proofs.lemmas.List.Elements.{All-get_or}
+use Rattle.ascii_base.specs.Case.{lower_image, upper_image}
+use Rattle.ascii_base.specs.Class.{IsWhitespace}
+use Rattle.ascii.specs.Trim.{Trims, TrimsEnd}
 
 -- ---- one item more at the back
 
@@ -40,27 +43,13 @@ pub join_with_last : (on : ℕ) (pieces : List (List ℕ)) (last : List ℕ) →
 join_with_last on [] last some = absurd (some refl)
 join_with_last on (piece ∷ []) last some = refl
 join_with_last on (piece ∷ next ∷ others) last some =
-    ap (λ t. piece ++ on ∷ t) (join_with_last on (next ∷ others) last (λ none. cc))
-    ∙ sym (append_assoc piece (on ∷ join_with_byte on (next ∷ others)) (on ∷ last))
-
-last_has : {A : Type 0} (P : A → Type 0) (items : List A) (last : A)
-    → All P (items ++ last ∷ []) → P last
-last_has P [] last all = All-head P last [] all
-last_has P (item ∷ items) last all =
-    last_has P items last (All-tail P item (items ++ last ∷ []) all)
+    rw (join_with_last on (next ∷ others) last (λ none. cc), append_assoc)
 
 -- the text of the other pieces, the separator and the last piece are the text
 pub last_of_pieces : (on : ℕ) (text front last : List ℕ) (pieces : List (List ℕ))
     → Pieces text on (pieces ++ last ∷ []) → Pieces front on pieces → front ++ on ∷ last ≡ text
 last_of_pieces on text front last pieces whole left =
-    ap (λ t. t ++ on ∷ last) (sym left.joined)
-    ∙ (sym (join_with_last on pieces last left.some) ∙ whole.joined)
-
--- the last piece does not contain the separator
-pub last_piece_free : (on : ℕ) (text last : List ℕ) (pieces : List (List ℕ))
-    → Pieces text on (pieces ++ last ∷ []) → ¬ (Contains last on)
-last_piece_free on text last pieces whole =
-    last_has (λ piece. ¬ (Contains piece on)) pieces last whole.free
+    rw (join_with_last on pieces last left.some, left.joined) at whole.joined
 
 -- a text without the separator is its one piece
 pub one_piece : (on : ℕ) (text : List ℕ) (pieces : List (List ℕ))
@@ -72,25 +61,16 @@ one_piece on text pieces whole absent =
 pub last_of_lines : (text front : List ℕ) (last : Line) (lines : List Line)
     → LinesOf text (lines ++ last ∷ []) → LinesOf front lines → front ++ line_text last ≡ text
 last_of_lines text front last lines whole left =
-    ap (λ t. t ++ line_text last) (sym left.joined)
-    ∙ (ap (λ t. flat_map line_text lines ++ t) (sym (append-nil (line_text last)))
-    ∙ (sym (flat_map-append line_text lines (last ∷ [])) ∙ whole.joined))
+    rw (flat_map-append, left.joined, append-nil (line_text last)) at whole.joined
 
 -- the last of items that are laid end to end starts where the others end
 last_start : {A : Type 0} (size : A → ℕ) (start : ℕ) (spans : List (WithStart A))
-    (last : WithStart A) → spans ≡ with_starts size start (items_of spans)
+    (last : WithStart A)
     → spans ++ last ∷ [] ≡ with_starts size start (items_of (spans ++ last ∷ []))
     → last.start ≡ start + room size (items_of spans)
-last_start {A} size start spans last left whole =
-    let items = items_of spans in
-    let here : WithStart A =
-    record { start = start + room size items; item = last.item } in
-    let at : spans ++ last ∷ [] ≡ spans ++ here ∷ [] =
-    whole ∙ (ap (with_starts size start) (map_push (λ span. span.item) spans last)
-    ∙ (with_starts-last size start items last.item ∙ ap (λ xs. xs ++ here ∷ []) (sym left))) in
-    let same : last ∷ [] ≡ here ∷ [] = append_cancel_left spans (last ∷ []) (here ∷ []) at in
-    let one : last ≡ here = cc in
-    ap (λ span. span.start) one
+last_start size start spans last whole =
+    ap (λ span. span.start) (same_from_push spans _ last _
+    (rw (map_push, with_starts-last size start (items_of spans) last.item) at whole)).1
 
 -- the last piece starts after the text of the others and one separator, and joins it to the text
 pub last_of_piece_spans : (start on : ℕ) (text front : List ℕ) (last : WithStart (List ℕ))
@@ -98,12 +78,14 @@ pub last_of_piece_spans : (start on : ℕ) (text front : List ℕ) (last : WithS
     → PieceSpans start text on (spans ++ last ∷ []) → PieceSpans start front on spans
     → (last.start ≡ start + length front + 1) × (front ++ on ∷ last.item ≡ text)
 last_of_piece_spans start on text front last spans whole left =
-    let items = items_of spans in
-    let long = room-pieces on items left.pieces.some in
-    let starts = last_start piece_size start spans last left.starts whole.starts in
-    let pieces = subst (Pieces text on) (map_push (λ span. span.item) spans last) whole.pieces in (
-      omega (arith, starts, long, ap length left.pieces.joined),
-      last_of_pieces on text front last.item items pieces left.pieces,
+    let items = items_of spans in (
+      omega (
+        arith,
+        last_start piece_size start spans last whole.starts,
+        room-pieces on items left.pieces.some,
+        ap length left.pieces.joined,
+      ),
+      last_of_pieces on text front last.item items (rw map_push at whole.pieces) left.pieces,
     )
 
 -- the last line starts after the text of the others, and joins it to the text
@@ -112,93 +94,82 @@ pub last_of_line_spans : (start : ℕ) (text front : List ℕ) (last : WithStart
     → LineSpansOf start text (spans ++ last ∷ []) → LineSpansOf start front spans
     → (last.start ≡ start + length front) × (front ++ line_text last.item ≡ text)
 last_of_line_spans start text front last spans whole left =
-    let items = items_of spans in
-    let long = room-lines items in
-    let starts = last_start line_size start spans last left.starts whole.starts in
-    let lines = subst (LinesOf text) (map_push (λ span. span.item) spans last) whole.lines in (
-      omega (arith, starts, long, ap length left.lines.joined),
-      last_of_lines text front last.item items lines left.lines,
+    let items = items_of spans in (
+      omega (
+        arith,
+        last_start line_size start spans last whole.starts,
+        room-lines items,
+        ap length left.lines.joined,
+      ),
+      last_of_lines text front last.item items (rw map_push at whole.lines) left.lines,
     )
 
 -- ---- where spans lie
 
 -- items that are laid end to end end where all of them end, or before
-inside_with_starts : {A : Type 0} (size : A → ℕ) (start : ℕ) (items : List A)
-    → All (λ span. span.start + size span.item ≤ start + room size items)
-    (with_starts size start items)
-inside_with_starts {A} size start [] = All-nil _
-inside_with_starts {A} size start (item ∷ items) =
+inside_with_starts : {A : Type 0} (size : A → ℕ) (start : ℕ) (items : List A) (end : ℕ)
+    → start + room size items ≤ end
+    → All (λ span. span.start + size span.item ≤ end) (with_starts size start items)
+inside_with_starts size start [] end fits = All-nil _
+inside_with_starts {A} size start (item ∷ items) end fits =
     let next = start + size item in
-    let P : ℕ → WithStart A → Type 0 = λ end span. span.start + size span.item ≤ end in
-    let end = start + (size item + room size items) in
-    All-cons (P end) (record { start = start; item = item }) (with_starts size next items)
-    (omega arith)
-    (All-weaker (P (next + room size items)) (P end) (λ span inside. omega (arith, inside))
-    (with_starts size next items) (inside_with_starts size next items))
+    All-cons (λ (span : WithStart A). span.start + size span.item ≤ end)
+    (record { start = start; item = item }) (with_starts size next items) (omega arith)
+    (inside_with_starts size next items end (omega arith))
 
 -- every piece lies inside the text that starts at `start`
 pub piece_spans_inside : (start on : ℕ) (text : List ℕ) (spans : List (WithStart (List ℕ)))
     → PieceSpans start text on spans
     → All (λ span. span.start + length span.item ≤ start + length text) spans
-piece_spans_inside start on text spans whole =
-    let items = items_of spans in
-    let P : ℕ → WithStart (List ℕ) → Type 0 = λ end span. span.start + piece_size span.item ≤ end in
-    let Q : WithStart (List ℕ) → Type 0 = λ span.
-    span.start + length span.item ≤ start + length text in
-    let long = room-pieces on items whole.pieces.some in
-    let end : start + room piece_size items ≡ start + length text + 1 =
-    omega (arith, long, ap length whole.pieces.joined) in
-    All-weaker (P (start + length text + 1)) Q (λ span inside. omega (arith, inside)) spans
-    (subst (All (P (start + length text + 1))) (sym whole.starts)
-    (subst (λ n. All (P n) (with_starts piece_size start items)) end
-    (inside_with_starts piece_size start items)))
+piece_spans_inside start on text spans whole k d inside =
+    let within : All (λ span. span.start + piece_size span.item ≤ start + length text + 1) spans =
+    rw whole.starts (inside_with_starts piece_size start (items_of spans) _ (omega (
+      arith,
+      room-pieces on (items_of spans) whole.pieces.some,
+      ap length whole.pieces.joined,
+    ))) in
+    omega (arith, within k d inside)
 
 -- every line lies, with its ending, inside the text that starts at `start`
 pub line_spans_inside : (start : ℕ) (text : List ℕ) (spans : List (WithStart Line))
     → LineSpansOf start text spans
     → All (λ span. span.start + line_size span.item ≤ start + length text) spans
 line_spans_inside start text spans whole =
-    let items = items_of spans in
-    let P : ℕ → WithStart Line → Type 0 = λ end span. span.start + line_size span.item ≤ end in
-    let end : start + room line_size items ≡ start + length text =
-    ap (λ n. start + n) (room-lines items ∙ ap length whole.lines.joined) in
-    subst (All (P (start + length text))) (sym whole.starts)
-    (subst (λ n. All (P n) (with_starts line_size start items)) end
-    (inside_with_starts line_size start items))
+    rw whole.starts (inside_with_starts line_size start (items_of spans) _
+    (omega (arith, room-lines (items_of spans), ap length whole.lines.joined)))
 
 -- ---- extends and collects over `chars()`, `split()` and `lines()`
 
 chars_road : (iter all : List ℕ) → iter ≡ all
-    → YieldsList (YieldsFirstBy code_of (λ (chars : List ℕ). chars)) code_of iter all
-chars_road iter all is = YieldsList-from_first code_of (λ (chars : List ℕ). chars) all is
+    → YieldsList (YieldsFirstBy code_of (λ chars. chars)) code_of iter all
+chars_road iter all is = YieldsList-from_first code_of _ all is
 
 split_road : (split : Remaining (List ℕ)) → YieldsList
-    (YieldsFirstAnd text_of (λ (s : Remaining (List ℕ)). s.items) StepsPiece)
+    (YieldsFirstAnd text_of (λ s. s.items) StepsPiece)
     text_of split split.items
-split_road split =
-    road_from_first_and text_of (λ (s : Remaining (List ℕ)). s.items) StepsPiece split.items refl
+split_road split = road_from_first_and _ _ _ split.items refl
 
 -- on `Ok`, extending from the characters of a text appends the text
 pub extends_chars : (iter all : List ℕ) (old new : StringState)
     (result : Result (Unit {0}) AllocError)
-    → Extends (YieldsFirstBy code_of (λ (chars : List ℕ). chars)) code_text iter old new result
+    → Extends (YieldsFirstBy code_of (λ chars. chars)) code_text iter old new result
     → iter ≡ all → OnOk result (new.text ≡ old.text ++ all)
 extends_chars iter all old new result extends is =
-    subst (λ text. OnOk result (new.text ≡ old.text ++ text)) (singles all)
+    rw (singles all) at
     (all_from_extends (λ code. code ∷ []) old new result extends (chars_road iter all is))
 
 -- extending from the characters of a text that fits the capacity succeeds
 pub extends_fitting_chars : (iter : List ℕ) (old new : StringState)
     (result : Result (Unit {0}) AllocError)
-    → Extends (YieldsFirstBy code_of (λ (chars : List ℕ). chars)) code_text iter old new result
+    → Extends (YieldsFirstBy code_of (λ chars. chars)) code_text iter old new result
     → length old.text + length iter ≤ old.capacity → IsOk result
 extends_fitting_chars iter old new result extends fits =
     ok_from_extends (λ code. code ∷ []) old new result extends (chars_road iter iter refl)
-    (subst (λ text. length old.text + length text ≤ old.capacity) (sym (singles iter)) fits)
+    (rw (singles iter) fits)
 
 -- collecting the characters of a text gives the text
 pub collects_chars : (iter text : List ℕ)
-    → Collects (YieldsFirstBy code_of (λ (chars : List ℕ). chars)) code_text iter text
+    → Collects (YieldsFirstBy code_of (λ chars. chars)) code_text iter text
     → text ≡ iter
 collects_chars iter text collects =
     collects.2 ∙ (pieces_from_drains (λ code. code ∷ []) collects.0 collects.1
@@ -207,7 +178,7 @@ collects_chars iter text collects =
 -- on `Ok`, extending from a split appends the pieces that remain
 pub extends_split : (split : Remaining (List ℕ)) (old new : StringState)
     (result : Result (Unit {0}) AllocError)
-    → Extends (YieldsFirstAnd text_of (λ (s : Remaining (List ℕ)). s.items) StepsPiece)
+    → Extends (YieldsFirstAnd text_of (λ s. s.items) StepsPiece)
     text_of split old new result
     → OnOk result (new.text ≡ old.text ++ flat_map (λ piece. piece) split.items)
 extends_split split old new result extends =
@@ -215,7 +186,7 @@ extends_split split old new result extends =
 
 -- collecting a split gives the pieces that remain, joined without a separator
 pub collects_split : (split : Remaining (List ℕ)) (text : List ℕ)
-    → Collects (YieldsFirstAnd text_of (λ (s : Remaining (List ℕ)). s.items) StepsPiece)
+    → Collects (YieldsFirstAnd text_of (λ s. s.items) StepsPiece)
     text_of split text
     → text ≡ flat_map (λ piece. piece) split.items
 collects_split split text collects =
@@ -227,7 +198,7 @@ pub collects_lines : (lines : List Line) (text : List ℕ)
     → text ≡ flat_map (λ body. body) (bodies lines)
 collects_lines lines text collects =
     collects.2 ∙ pieces_from_drains (λ body. body) collects.0 collects.1
-    (road_from_first_and text_of bodies DropsFirst (bodies lines) refl)
+    (road_from_first_and _ _ DropsFirst (bodies lines) refl)
 
 -- ---- what is done twice
 
