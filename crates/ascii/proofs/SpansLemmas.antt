@@ -9,9 +9,8 @@ use Rattle.ascii.specs.Found.{Free, HasWholeLines, IsCutBehindLastFeed, IsCutFir
 use Rattle.ascii.specs.Found.{ended_line, line_spans, lines_of, part_in, piece_spans, pieces_of}
 use Rattle.ascii.specs.Lines.{Line, LinesOf, line_text}
 use Rattle.ascii.specs.Pieces.{Pieces}
-use Rattle.ascii.specs.declared.iter.spans.SplitSpan.{SplitSpan}
-use Rattle.ascii.specs.Spans.{LineSpansOf, PieceSpans, piece_in, WithStart, items_of, line_size}
-use Rattle.ascii.specs.Spans.{piece_size, with_starts}
+use Rattle.ascii.specs.Spans.{LineSpansOf, PieceSpans, WithStart, items_of, line_size, piece_size}
+use Rattle.ascii.specs.Spans.{with_starts}
 use Rattle.ascii.specs.View.{text_of}
 use Rattle.ascii.proofs.LinesLemmas.{LinesOf-lines_of, LinesOf-only, length-lines_of}
 use Rattle.ascii.proofs.LinesLemmas.{line_text-ended, lines_of-cut_first, lines_of-last_ended}
@@ -70,11 +69,10 @@ room-pieces_of on t = room-pieces on (pieces_of on t) (slice_split-some _ t)
     ∙ ap (λ xs. length xs + 1) (join_with_byte-slice_split on t)
 
 -- a piece that the search found to be free of the separator does not contain it
-pub free_piece : (on byte : ℕ) (cursor : Cursor) (span : SplitSpan) → byte ≡ on
-    → Free byte (text_of cursor.view) → piece_in span ≡ part_in cursor
-    → ¬ (Contains (text_of span.text) on)
-free_piece on byte cursor span byte_is free is = rw (ap (λ one. one.item) is)
-    (absent-from_Free on (text_of cursor.view) (rw byte_is at free))
+pub free_piece : (on byte : ℕ) (part piece : WithStart (List ℕ)) → byte ≡ on → Free byte part.item
+    → piece ≡ part → ¬ (Contains piece.item on)
+free_piece on byte part piece byte_is free is =
+    rw is (absent-from_Free on part.item (rw byte_is at free))
 
 module _ (on : ℕ) (part : WithStart (List ℕ)) where
   -- the first piece stands before the first separator

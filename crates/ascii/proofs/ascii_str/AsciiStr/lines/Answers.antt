@@ -10,7 +10,7 @@ returns-clause-iterates c =
     let spans = c.line_spans.result in
     let found = c.line_spans.ensures.iterates.spans.lines in record {
       lines = found;
-      only = λ other is. same_lines _ (items_of spans) other found is;
+      only = λ other. same_lines _ (items_of spans) other found;
       fits = omega
           (arith, length-map spans (λ span. span.item), c.line_spans.ensures.iterates.fits);
     }

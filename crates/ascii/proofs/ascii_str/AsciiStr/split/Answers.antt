@@ -10,7 +10,7 @@ returns-clause-iterates c =
     let spans = c.split_spans.result.items in
     let found = c.split_spans.ensures.iterates.spans.pieces in record {
       pieces = found;
-      only = λ other is. same_pieces _ _ (items_of spans) other found is;
+      only = λ other. same_pieces _ _ (items_of spans) other found;
       separator = c.split_spans.ensures.iterates.separator;
       fits = omega
           (arith, length-map spans (λ span. span.item), c.split_spans.ensures.iterates.fits);

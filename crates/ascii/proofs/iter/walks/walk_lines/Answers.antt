@@ -1,12 +1,10 @@
 use Rattle.std.proofs.Common.{refl}
-use Rattle.ascii.specs.Lines.{LinesOf, bodies}
+use Rattle.ascii.specs.Lines.{bodies}
 use Rattle.ascii.specs.View.{text_of}
 use Rattle.ascii.proofs.EndsLemmas.{ListAnswers-walked}
 use Rattle.ascii.proofs.iter.walks.walk_lines.Goals as goal
 
 pub returns-clause-ends : goal.returns-clause-ends
-returns-clause-ends g c =
-    ListAnswers-walked _ _ text_of bodies (λ s r t is. is.0) (λ s r t is. is.0)
-    c.lines.result c.args.script.now (λ answers. answers.items) c.walk.result
-    (LinesOf (text_of c.args.view)) bodies c.lines.result c.lines.ensures.iterates.lines refl
-    c.walk.ensures.answers
+returns-clause-ends g c = ListAnswers-walked _ _ text_of bodies
+    (λ s r t is. is.0) (λ s r t is. is.0) _ _ (λ answers. answers.items) c.walk.result _ bodies _
+    c.lines.ensures.iterates.lines refl c.walk.ensures.answers

@@ -1,5 +1,4 @@
-use Rattle.std.proofs.Common.{◌≡◌, ◌<◌, ◌∷◌, Bor, List, MatchOption, None, Option, Some, ap, drop}
-use Rattle.std.proofs.Common.{length, slice_index, subst, sym, ℕ}
+use Rattle.std.proofs.Common.{◌≡◌, ◌∷◌, Bor, List, MatchOption, None, Option, Some, length, ℕ}
 use Rattle.std.specs.Slice.Iter.{iter_rest}
 use Rattle.std.specs.Str.{IsAscii}
 use Rattle.std.proofs.lemmas.Str.{IsAscii-drop}
@@ -9,17 +8,12 @@ use Rattle.ascii.proofs.iter.chars.CharsIterator.next.Goals as goal
 stays : {S : Type 0} (rest : S → List ℕ) (r : Option (Bor ℕ)) (s t : S)
     → MatchOption r ((length (rest s) ≡ 0) × (t ≡ s)) (λ x. rest s ≡ x.now ∷ rest t)
     → IsAscii (rest s) → IsAscii (rest t)
-stays rest None s t is ascii = subst (λ u. IsAscii (rest u)) (sym is.1) ascii
-stays rest (Some x) s t is ascii = subst IsAscii (ap (drop 1) is) (IsAscii-drop (rest s) 1 ascii)
+stays rest None s t is ascii = rw is.1 ascii
+stays rest (Some x) s t is ascii = rw is at (IsAscii-drop (rest s) 1 ascii)
 
 pub invariant_of-self-inside : goal.invariant_of-self-inside
-invariant_of-self-inside c = (
-  stays iter_rest c.next.result c.self.inside.bytes c.next.new.self c.next.ensures.steps
-      c.self.inside.ascii,
-  tt,
-)
+invariant_of-self-inside c =
+    (stays iter_rest c.next.result _ _ c.next.ensures.steps c.self.inside.ascii, tt)
 
 pub from_ascii_unchecked-requires : goal.from_ascii_unchecked-requires
-from_ascii_unchecked-requires c =
-    subst (λ (bytes : List ℕ). slice_index bytes 0 < 128) c.in_ok-first.ensures.steps
-    (c.self.inside.ascii 0)
+from_ascii_unchecked-requires c = rw c.in_ok-first.ensures.steps at (c.self.inside.ascii 0)

@@ -1,4 +1,4 @@
-use Rattle.std.proofs.Common.{◌≡◌, ◌++◌, ◌∷◌, [], length, take, ap, ◌∙◌, sym}
+use Rattle.std.proofs.Common.{◌≡◌, ◌++◌, ◌∷◌, []}
 use Rattle.std.proofs.Math.Seq.{take-append_seam}
 use Rattle.ascii.specs.Found.{part_in}
 use Rattle.ascii.specs.View.{text_of}
@@ -9,18 +9,13 @@ pub returns-then-last-eq10-clause-lines : goal.returns-then-last-eq10-clause-lin
 returns-then-last-eq10-clause-lines c =
     let text = text_of c.args.self.view in
     let front = c.in_ok-last.front.now in
-    let whole : text ≡ front ++ 10 ∷ [] =
-    c.in_ok-last.ensures.cases.0 ∙ ap (λ x. front ++ x ∷ []) c.if-last-eq10.true in
-    let cut : text_of c.to.result.view ≡ front =
-    c.to.ensures.text
-    ∙ (ap (λ t. take (length front) t) whole ∙ take-append_seam front (10 ∷ [])) in
-    line_spans_last_ended (part_in c.args.self) c.to.result c.cut_behind_last_feed.result _
-    (whole ∙ ap (λ t. t ++ 10 ∷ []) (sym cut)) c.to.ensures.start
+    let whole : text ≡ front ++ 10 ∷ [] = rw c.if-last-eq10.true at c.in_ok-last.ensures.cases.0 in
+    let cut : text_of c.to.result.view ≡ front = rw (c.to.ensures.text, whole, take-append_seam) in
+    line_spans_last_ended (part_in c.args.self) c.to.result _ _ (rw cut whole) c.to.ensures.start
     c.cut_behind_last_feed.ensures c.ended_line.ensures.line
 
 pub returns-else-last-eq10-clause-lines : goal.returns-else-last-eq10-clause-lines
 returns-else-last-eq10-clause-lines c =
-    line_spans_last_open (part_in c.args.self) c.in_ok-last.front.now c.in_ok-last.last.now
-    c.cut_behind_last_feed-else-last-eq10.result _
+    line_spans_last_open (part_in c.args.self) c.in_ok-last.front.now c.in_ok-last.last.now _ _
     c.in_ok-last.ensures.cases.0 c.if-last-eq10.false
     c.cut_behind_last_feed-else-last-eq10.ensures c.open_line.ensures.line

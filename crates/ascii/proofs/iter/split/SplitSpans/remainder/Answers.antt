@@ -1,7 +1,5 @@
-use Rattle.std.proofs.Common.{◌≡◌, subst, rules}
+use Rattle.std.proofs.Common.{◌≡◌, rules}
 use Rattle.ascii.specs.Found.{part_in, piece_spans}
-use Rattle.ascii.specs.Spans.{PieceSpans}
-use Rattle.ascii.specs.View.{text_of}
 use Rattle.ascii.proofs.SpansLemmas.{piece_spans_found}
 use Rattle.ascii.proofs.iter.split.SplitSpans.remainder.Goals as goal
 
@@ -10,5 +8,4 @@ returns-clause-remainder c =
     let cursor = c.in_ok-cursor.cursor in
     let now_is : piece_spans c.args.self.now.on (part_in cursor) ≡ c.args.self.now.items =
     search rules in
-    subst (PieceSpans cursor.start (text_of cursor.view) c.args.self.now.on) now_is
-    (piece_spans_found c.args.self.now.on (part_in cursor))
+    rw now_is at (piece_spans_found c.args.self.now.on (part_in cursor))
