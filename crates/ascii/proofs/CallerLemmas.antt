@@ -1,15 +1,16 @@
 -- Lemmas for the proofs of callers. Each can be named in a proof file, or in an attribute on the
 -- caller as `#[tactic(auto, using(ascii::proofs::CallerLemmas::last_of_pieces))]`.
 use Rattle.std.proofs.Common.{◌≡◌, ◌≢◌, ℕ, ◌+◌, ◌≤◌, List, [], ◌∷◌, ◌++◌, length, append-nil, refl}
-use Rattle.std.proofs.Common.{arith, append_assoc, ap, ◌∙◌, Result, IsOk, OnOk}
+use Rattle.std.proofs.Common.{arith, append_assoc, ap, ◌∙◌, Result, IsOk, OnOk, ◌-◌, ◌<◌, Option}
+use Rattle.std.proofs.Common.{Some, get_or, length-append, map, sym, subst}
 use Rattle.std.specs.Iterator.{YieldsFirstBy}
-use Rattle.std.specs.List.{All, Contains, flat_map, join_with_byte}
+use Rattle.std.specs.List.{All, Contains, flat_map, join_with_byte, slice_get}
 use Rattle.std.specs.declared.alloc.AllocError.{AllocError}
-use Rattle.std.proofs.lemmas.Grind.{flat_map-append}
+use Rattle.std.proofs.lemmas.Grind.{flat_map-append, common_steps}
 use Rattle.std.proofs.lemmas.Iterator.{YieldsList}
 use Rattle.std.proofs.lemmas.Iterator.Consumers.{YieldsList-from_first}
 use Rattle.std.proofs.lemmas.List.{same_from_push, map_push}
-use Rattle.std.proofs.lemmas.List.Elements.{All-cons, All-nil}
+use Rattle.std.proofs.lemmas.List.Elements.{All-cons, All-nil, All-get_or, All-head}
 use Rattle.ascii_base.specs.Code.{code_of, code_text}
 use Rattle.ascii.specs.Extend.{Collects, Extends}
 use Rattle.ascii.specs.Lines.{Line, LinesOf, bodies, line_text}
@@ -24,13 +25,9 @@ use Rattle.ascii.proofs.ExtendLemmas.{singles}
 use Rattle.ascii.proofs.PiecesLemmas.{Free-from_absent, Pieces-only, pieces_of-free}
 use Rattle.ascii.proofs.SpansLemmas.{room, room-lines, room-pieces, with_starts-last}
 use Rattle.ascii.proofs.StepsLemmas.{road_from_first_and}
-use Rattle.std.proofs.Common.{◌-◌, ◌<◌, Option, Some, get_or, length-append, map}
-use Rattle.std.specs.List.{slice_get}
 use Rattle.std.specs.Option.{IfSome}
 use Rattle.std.proofs.lemmas.Bool.Decides.{nat_tests}
-use Rattle.std.proofs.lemmas.Grind.{common_steps}
 use Rattle.std.proofs.lemmas.Option.{slice_get-get_or}
-use Rattle.std.proofs.lemmas.List.Elements.{All-get_or}
 use Rattle.ascii_base.specs.Case.{lower_image, upper_image}
 use Rattle.ascii_base.specs.Class.{IsWhitespace}
 use Rattle.ascii.specs.Trim.{Trims, TrimsEnd}
