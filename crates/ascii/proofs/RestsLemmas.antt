@@ -1,7 +1,6 @@
 -- What rests in a lent source where a function answers with a view of it or with an error, and how
--- a
--- walk by hand gives the source up. Assumes `Logic`.
-use mathlib.Core.Path.{◌≡◌, refl}
+-- a walk by hand gives the source up. Assumes `Logic`.
+use mathlib.Core.Path.{◌≡◌, refl, subst}
 use mathlib.Core.List.{List, [], ◌∷◌}
 use Prim.Native.Nat.{ℕ, ◌<◌, ◌^◌}
 use seplogic.Ra.Ura.{Ura}
@@ -25,6 +24,8 @@ use denote.Laws.{shows}
 use denote.Shadow.{makes_shadow}
 use denote.Steps.{peeks}
 use Rattle.std.specs.Borrow.{RestsIfErr}
+use Rattle.ascii.specs.WritingView.{FinalSource, borrow_of, whole_source_of}
+use Rattle.ascii.specs.declared.ascii_str.AsAsciiStrError.{AsAsciiStrError}
 use Rattle.std.specs.declared.result.Result.TheVariants.{Ok, Err}
 use Rattle.ascii.specs.declared.ascii_str_mut.AsciiStrMut.{AsciiStrMut}
 use Rattle.ascii.specs.contracts.ascii_str.AsAsciiStrError as E
@@ -53,48 +54,45 @@ module _ {M : Type 1} {𝓤 : Ura M} (𝓛 : Logic 𝓤) where
       feq_i ! (List ℕ) z z refl $ fjoin ! $ fpack ! (List ℕ) (From z) z $ done !) in
       record { apply = λ a p. (said.apply a p, back.apply a p) }
 
-  module _ (X E : Type 0) (name : X → GName) where
-    -- at `Ok` with the lent borrow itself, the source rests at the last value of the view
-    pub rests_ok : (b : ℕ × ℕ) (old : List ℕ) (v : X)
-        → ent 𝓤 (emp 𝓤)
-        (sem 𝓛 (RestsIfErr Bytes (record { ref_ptr = b; ghost_name = name v; now = old })
-        name {E = E} (Ok v) (λ n. n ≡ old)))
-    unfolding such_by follows_by
-    rests_ok b old v =
-        let code = Bytes.coded.code in
-        let From = λ (s : (x : (List ℕ → List ℕ) × List ℕ) × ((w : List ℕ) → x.0 w ≡ w) × ⊤).
-        follows_by (List ℕ) (List ℕ) code code (name v) (some (name v)) s.0.0 s.0.1 in
-        qed 𝓛 [] ∵ use0 𝓛 (‵ (follows Bytes Bytes (name v) (name v) (λ w. w)))
-        (follows_same (name v)) $
-        fpack ! ((x : (List ℕ → List ℕ) × List ℕ) × ((w : List ℕ) → x.0 w ≡ w) × ⊤) From
-        (((λ w. w), old), (λ w. refl), tt) $ done !
+  -- at `Ok` with the lent borrow itself, the source rests at the last value of the view
+  pub rests_ok : (s : MutBor (List ℕ)) (v : AsciiStrMut) → borrow_of v ≡ s.ghost_name
+      → ent 𝓤 (emp 𝓤) (sem 𝓛 (FinalSource s (Ok v)))
+  unfolding such_by follows_by
+  rests_ok s v lender =
+      let code = Bytes.coded.code in
+      let From = λ (x : (x : (List ℕ → List ℕ) × List ℕ) × ((w : List ℕ) → x.0 w ≡ w) × ⊤).
+      follows_by (List ℕ) (List ℕ) code code s.ghost_name (some (borrow_of v)) x.0.0 x.0.1 in
+      qed 𝓛 [] ∵ use0 𝓛 (‵ (follows Bytes Bytes s.ghost_name (borrow_of v) (λ w. w)))
+      (subst (λ γ. ent 𝓤 (emp 𝓤) (sem 𝓛 (follows Bytes Bytes γ (borrow_of v) (λ w. w)))) lender
+      (follows_same (borrow_of v))) $
+      fpack ! _ From (((λ w. w), s.now), (λ w. refl), tt) $ done !
 
-    -- at `Err` the source rests at the value that it is known to have
-    pub rests_err : (s : MutBor (List ℕ)) (e : E)
-        → ent 𝓤 (A.res s.ghost_name (Bytes.coded.code s.now))
-        (sem 𝓛 (RestsIfErr Bytes s name (Err e) (λ n. n ≡ s.now)))
-    unfolding such_by follows_by
-    rests_err s e =
-        let code = Bytes.coded.code in
-        let From = λ (r : (x : (List ℕ → List ℕ) × List ℕ) × (List ℕ → ⊤) × (x.1 ≡ s.now)).
-        follows_by (List ℕ) (List ℕ) code code s.ghost_name none r.0.0 r.0.1 in
-        qed 𝓛 (‵ (fres s.ghost_name (code s.now)) ∷ []) ∵
-        fpack ! ((x : (List ℕ → List ℕ) × List ℕ) × (List ℕ → ⊤) × (x.1 ≡ s.now)) From
-        (((λ w. w), s.now), (λ w. tt), refl) $ done !
+  -- at `Err` the source rests at the value that it is known to have
+  pub rests_err : (s : MutBor (List ℕ)) (v : AsciiStrMut) (e : AsAsciiStrError)
+      → borrow_of v ≡ s.ghost_name → whole_source_of v ≡ s.now
+      → ent 𝓤 (A.res (borrow_of v) (Bytes.coded.code (whole_source_of v)))
+      (sem 𝓛 (FinalSource s (Err e)))
+  unfolding such_by follows_by
+  rests_err s v e lender same =
+      let code = Bytes.coded.code in
+      let From = λ (r : (x : (List ℕ → List ℕ) × List ℕ) × (List ℕ → ⊤) × (x.1 ≡ s.now)).
+      follows_by (List ℕ) (List ℕ) code code s.ghost_name none r.0.0 r.0.1 in
+      qed 𝓛 (‵ (fres (borrow_of v) (code (whole_source_of v))) ∷ []) ∵
+      rewrite ! 0 (λ (γ : GName). ‵ (fres γ (code (whole_source_of v)))) lender refl $
+      fpack ! _ From (((λ w. w), whole_source_of v), (λ w. tt), same) $ done !
 
-    -- and so it has that value
-    pub rested : (s : MutBor (List ℕ)) (e : E)
-        → ent 𝓤 (sem 𝓛 (RestsIfErr Bytes s name (Err e) (λ n. n ≡ s.now)))
-        (A.res s.ghost_name (Bytes.coded.code s.now))
-    unfolding such_by follows_by
-    rested s e =
-        let code = Bytes.coded.code in
-        let From = λ (r : (x : (List ℕ → List ℕ) × List ℕ) × (List ℕ → ⊤) × (x.1 ≡ s.now)).
-        follows_by (List ℕ) (List ℕ) code code s.ghost_name none r.0.0 r.0.1 in
-        qed 𝓛 (‵ (fex ((x : (List ℕ → List ℕ) × List ℕ) × (List ℕ → ⊤) × (x.1 ≡ s.now)) From)
-        ∷ []) ∵
-        fpick ! (λ r. rewrite ! 0 (λ (xs : List ℕ). ‵ (fres s.ghost_name (code xs))) r.2 refl $
-        done !)
+  -- at `Err` the source has the value that it rests at
+  pub rested : (X E : Type 0) (name : X → GName) (s : MutBor (List ℕ)) (e : E)
+      → ent 𝓤 (sem 𝓛 (RestsIfErr Bytes s name (Err e) (λ n. n ≡ s.now)))
+      (A.res s.ghost_name (Bytes.coded.code s.now))
+  unfolding such_by follows_by
+  rested X E name s e =
+      let code = Bytes.coded.code in
+      let From = λ (r : (x : (List ℕ → List ℕ) × List ℕ) × (List ℕ → ⊤) × (x.1 ≡ s.now)).
+      follows_by (List ℕ) (List ℕ) code code s.ghost_name none r.0.0 r.0.1 in
+      qed 𝓛 (‵ (fex _ From) ∷ []) ∵
+      fpick ! (λ r. rewrite ! 0 (λ (xs : List ℕ). ‵ (fres s.ghost_name (code xs))) r.2 refl $
+      done !)
 
   -- a view that is let go leaves its source at the value that it has then
   pub given_up : (a : NamedLft) (v : AsciiStrMut) (vs : List Val)

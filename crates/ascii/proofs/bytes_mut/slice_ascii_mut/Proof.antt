@@ -2,16 +2,17 @@
 use mathlib.Core.Path.{◌≡◌, refl, ap, subst}
 use mathlib.Core.List.{List, [], ◌∷◌}
 use Prim.Native.Nat.{ℕ}
-use mathlib.Core.Bool.{Bool, true, false, not}
-use lib.Dec.{T, lit<}
+use mathlib.Core.Bool.{true, false}
+use lib.Dec.{lit<}
+use lib.Ieee.Bits.{is_true, is_false}
 use mir.Syntax.{named, w64}
-use mir.Val.{Val, vint, vstruct, vcons, vnil, of_list}
-use base.Logic.{id⊢, emp}
-use base.Fml.{GName, fres}
+use mir.Val.{vint, vstruct, vcons, vnil, of_list}
+use base.Logic.{id⊢}
+use base.Fml.{fres}
 use contract.Monad.{fact, fact_i}
 use contract.Running.{tables}
 use types.Kit.{‵, raw, later, some, at_ret, ◌⊛◌, ◌$◌, ◌∵◌, !, qed, by, move, drop, use0, use1}
-use types.Kit.{split, join, fjoin, pick, await, rewrite}
+use types.Kit.{split, join, fjoin, pick, await}
 use types.Part.{whole, sub, agg}
 use types.Run.{stop, fld, hop, from, addr, of_opd, lit, and_then, no_more, first, branches, skips}
 use types.Run.{exec, returns, returns_within, enter}
@@ -37,14 +38,12 @@ use Rattle.ascii_base.specs.Range.{start_of, end_of, Fits}
 use Rattle.ascii_base.specs.contracts.range.AsciiRange as range
 use Rattle.ascii_base.proofs.range.AsciiRange.TheLaws as range_laws
 use Rattle.ascii.specs.Slice.{IsRejected}
-use Rattle.ascii.specs.WritingView.{IsViewOf, whole_source_of, borrow_of}
+use Rattle.ascii.specs.WritingView.{FinalSource, IsViewOf, whole_source_of, borrow_of}
 use Rattle.ascii.specs.declared.bytes_mut.Searched.{Searched}
 use Rattle.ascii.specs.contracts.bytes_mut.Searched as S
 use Rattle.ascii.proofs.bytes_mut.Searched.TheLaws as found_laws
 use Rattle.ascii.proofs.RestsLemmas.{Bytes, error_made, given_up, found_view, rests_ok, rests_err}
-use Rattle.std.specs.Borrow.{RestsIfErr}
 use Rattle.ascii.specs.declared.ascii_str.AsAsciiStrError.{AsAsciiStrError}
-use Rattle.ascii.specs.declared.ascii_str_mut.AsciiStrMut.{AsciiStrMut}
 use Rattle.ascii.specs.contracts.ascii_str_mut.AsciiStrMut as V
 use Rattle.ascii.proofs.ascii_str_mut.AsciiStrMut.TheLaws as view_laws
 use Rattle.ascii.specs.contracts.bytes_mut.slice_ascii_mut as f
@@ -63,35 +62,27 @@ stayed = (
   (stay_dropped (plain (λ _. range.the_row)) yes, tt),
 )
 
-is_true : (b : Bool) → T b → b ≡ true
-is_true true t = refl
-is_true false t = absurd t
-
-is_false : (b : Bool) → T (not b) → b ≡ false
-is_false true t = absurd t
-is_false false t = refl
-
 pub slice_ascii_mut_spec : {M : Type 1} → statement M
 slice_ascii_mut_spec 𝓤 𝓛 𝓜 𝓡 wired =
     let c = f.clauses 𝓛 𝓜.mem 𝓡.returns in let W = walk_of 𝓛 f.ended stayed c in let 𝓣 =
     tables 𝓤 𝓛.H 𝓜 𝓡 𝓡.env in
-    let told = range_laws.the_told in
     proved 𝓛 f.ended stayed c 𝓜 𝓡 (
       Goes-spent_slice 𝓛 1 (0 ∷ []) tt (plain (λ _. u8)),
       (Goes-dropped 𝓛 1 (plain (λ _. range.the_row)) yes (λ κs x w. refl), tt),
     )
     f.Key.name code.function (code.unfolded 𝓤 𝓛.H 𝓜 𝓡 wired)
-    (λ κs. (mut_slice_vals, ((λ r. told.val r ∷ []), tt)))
-    (λ κs. (mut_slice_Tells (named 0) κs.0 u8, (told.tells, tt))) (λ κs qs bounds a _ are.
+    (λ κs. (mut_slice_vals, ((λ r. range_laws.the_told.val r ∷ []), tt)))
+    (λ κs. (mut_slice_Tells (named 0) κs.0 u8, (range_laws.the_told.tells, tt)))
+    (λ κs qs bounds a _ are.
     let s : MutBor (List ℕ) = a.0 in let r = a.1.0 in
     let n = length s.now in
     let G = triple_of 𝓛 g.signature (g.spec 𝓛 𝓜.mem 𝓡.returns) in
-    let z : G.Ghost = ((κs, qs, bounds, a, (mut_slice_vals s, (told.val r ∷ [], tt))), tt) in
-    let long = are.0.0.1 in
+    let z : G.Ghost =
+    ((κs, qs, bounds, a, (mut_slice_vals s, (range_laws.the_told.val r ∷ [], tt))), tt) in
     qed 𝓛 (raw (G.pre z) ∷ []) ∵ enter ! _ _ _ _ _ $
     alloc_all !
     (λ l. pass_all ! refl (
-      (tt, (tt, (record { fits = long.0 }, tt))),
+      (tt, (tt, (record { fits = are.0.0.1.0 }, tt))),
       (range_laws.the_row_laws.lawful 𝓛).typed r _
           are.1.0,
     ) $
@@ -101,95 +92,74 @@ slice_ascii_mut_spec 𝓤 𝓛 𝓜 𝓡 wired =
     sets ! (agg !
     (and_then ! (get ! refl)
     (and_then ! (get_in ! (fld ! refl (stop !)) (sub ! 1 refl (whole !))) (no_more !)))) refl
-    (tt, (tt, (record { fits = long.0 }, tt))) $
+    (tt, (tt, (record { fits = are.0.0.1.0 }, tt))) $
     calls_at ! (framed 𝓤 𝓛.H 𝓜 𝓣) G
     (met 𝓤 𝓛 𝓜 𝓡 (code.calls-ascii::bytes_mut::search 𝓡.env wired)) z
     (and_then ! (get ! refl) (and_then ! (get ! refl) (no_more !))) (λ v.
     let lft = named_lft 1 0 tt κs in
     let Row = S.the_row lft in
-    let Accepted = λ (d : Searched). d.is_refused ≡ false
-    → Fits r n × IsViewOf s.now (start_of r) (end_of r n) d.view in
-    let Refused = λ (d : Searched). d.is_refused ≡ true
-    → IsRejected s.now r (record { valid_up_to = d.valid_up_to }) in
-    let Whole = λ (d : Searched). whole_source_of d.view ≡ s.now in
-    let Lender = λ (d : Searched). borrow_of d.view ≡ s.ghost_name in
     use1 𝓛 (later
     (some (λ (d : Searched). (raw (alive 𝓛 g.signature κs qs) ⊛ ‵ (Row.own_val d (v ∷ []))) ⊛
-    some (λ (ws : Unit {0} × (Unit {0} × Unit {0})). ‵ (lasts g.ended κs a ws) ⊛ raw
-    (fact 𝓤 (Accepted d)) ⊛ raw (fact 𝓤 (Refused d)) ⊛ raw (fact 𝓤 (Whole d)) ⊛ raw
-    (fact 𝓤 (Lender d)))))) (id⊢ 𝓤 _) $
+    some (λ (ws : _). ‵ (lasts g.ended κs a ws) ⊛
+    raw (fact 𝓤 (d.is_refused ≡ false
+    → Fits r n × IsViewOf s.now (start_of r) (end_of r n) d.view)) ⊛
+    raw (fact 𝓤 (d.is_refused ≡ true
+    → IsRejected s.now r (record { valid_up_to = d.valid_up_to }))) ⊛
+    raw (fact 𝓤 (whole_source_of d.view ≡ s.now)) ⊛
+    raw (fact 𝓤 (borrow_of d.view ≡ s.ghost_name)))))) (id⊢ 𝓤 _) $
     await ! tt $ pick !
     (λ d. split ! $ move ! (1 ∷ []) $ pick !
-    (λ ws. split ! $ drop ! $ split ! $ heard ! (Accepted d) (λ accepted.
-    split ! $ heard ! (Refused d)
-    (λ refused. split ! $ heard ! (Whole d)
-    (λ same. heard ! (Lender d) (λ lender. split ! $ move ! (1 ∷ []) $
+    (λ ws. split ! $ drop ! $ split ! $ heard ! _ (λ accepted.
+    split ! $ heard ! _
+    (λ refused. split ! $ heard ! _
+    (λ same. heard ! _ (λ lender. split ! $ move ! (1 ∷ []) $
     -- [what was found; the tokens]
     peeks ! Row _ (shows 𝓛 Row) d (v ∷ []) (λ is.
     let value = (found_laws.lowers lft).val_is d (v ∷ []) is in
     let typed : Typed Row.mir (found_laws.lowered d ∷ []) =
-    subst (λ (us : List Val). Typed Row.mir us) value
+    subst (Typed Row.mir) value
     (((found_laws.the_row_laws lft).lawful 𝓛).typed d (v ∷ []) is) in
-    let whole_view = typed.0.1.0 in
-    let bound = typed.0.1.1.1.0 in
     let Out = RS.the_row (V.the_row lft) E.the_row in
     let e : AsAsciiStrError = record { valid_up_to = d.valid_up_to } in
     let ev = vstruct (vcons (vint w64 d.valid_up_to) vnil) in
-    let y : W.Ghost = ((κs, qs, bounds, a, (mut_slice_vals s, (told.val r ∷ [], tt))), tt) in
     lands_as ! (ap only value) refl typed.0 $
     sets ! (of_opd ! (get_in ! (fld ! refl (stop !)) (sub ! 1 refl (whole !)))) refl
     (tt, typed.0.1.1.0) $
-    first ! $ branches ! (get ! refl)
-    (λ is_refused.
-    let no_view : IsRejected s.now r e = refused (is_true d.is_refused is_refused) in
     use1 𝓛 (‵ ((V.the_row lft).own_val d.view (view_laws.lowered d.view ∷ [])))
     (found_view 𝓛 lft d (v ∷ [])) $
+    first ! $ branches ! (get ! refl)
+    (λ is_refused.
     use1 𝓛 (later (‵ (fres d.view.bytes.ghost_name (Bytes.coded.code d.view.bytes.now))))
     (given_up 𝓛 lft d.view (view_laws.lowered d.view ∷ [])) $ await ! tt $
-    rewrite ! 0 (λ (γ : GName). ‵ (fres γ (Bytes.coded.code d.view.bytes.now))) lender refl $
-    rewrite ! 0 (λ (xs : List ℕ). ‵ (fres s.ghost_name (Bytes.coded.code xs))) same refl $
-    use1 𝓛 (‵ (RestsIfErr Bytes s borrow_of (Err e) (λ m. m ≡ s.now)))
-    (rests_err 𝓛 AsciiStrMut AsAsciiStrError borrow_of s e) $
-    sets ! (of_opd ! (get_in ! (fld ! refl (stop !)) (sub ! 2 refl (whole !)))) refl (tt, bound) $
-    sets ! (agg ! (and_then ! (get ! refl) (no_more !))) refl (tt, (bound, tt)) $
+    use1 𝓛 (‵ (FinalSource s (Err e))) (rests_err 𝓛 s d.view e lender same) $
+    sets ! (of_opd ! (get_in ! (fld ! refl (stop !)) (sub ! 2 refl (whole !)))) refl
+    (tt, typed.0.1.1.1.0) $
+    sets ! (agg ! (and_then ! (get ! refl) (no_more !))) refl (tt, (typed.0.1.1.1.0, tt)) $
     sets ! (agg ! (and_then ! (lit ! tt) (and_then ! (get ! refl) (no_more !)))) refl
-    (tt, (record { fits = lit< tt }, ((bound, tt), tt))) $
-    returns_within ! (W.post y) refl (look_at ! 0 refl) $ free_all ! refl $
+    (tt, (record { fits = lit< tt }, ((typed.0.1.1.1.0, tt), tt))) $
+    returns_within ! (W.post z) refl (look_at ! 0 refl) $ free_all ! refl $
     -- [what rests; the tokens]
-    use0 𝓛 (raw (fact 𝓤 (⊤))) (fact_i 𝓤 (⊤) (emp 𝓤) tt) $ join ! $
-    use0 𝓛 (raw (fact 𝓤 (IsRejected s.now r e)))
-    (fact_i 𝓤 (IsRejected s.now r e) (emp 𝓤) no_view) $ join ! $
-    use0 𝓛 (‵ (E.the_row.own_val e (ev ∷ []))) (error_made 𝓛 d.valid_up_to bound.fits) $
+    use0 𝓛 (raw (fact 𝓤 ⊤)) (fact_i 𝓤 ⊤ _ tt) $ join ! $
+    use0 𝓛 (raw (fact 𝓤 _)) (fact_i 𝓤 _ _ (refused (is_true _ is_refused))) $ join ! $
+    use0 𝓛 (‵ (E.the_row.own_val e (ev ∷ []))) (error_made 𝓛 d.valid_up_to typed.0.1.1.1.0.fits) $
     use1 𝓛 (‵ (Out.own_val (Err e) (live 1 (of_list (ev ∷ [])) ∷ [])))
     (err_of 𝓛 (V.the_row lft) E.the_row e ev) $
     nothing ! $ nothing ! $ fjoin ! $ nothing ! $ fjoin ! $ move ! (3 ∷ 0 ∷ 1 ∷ 2 ∷ []) $
-    by ! (leaves 𝓛 f.ended stayed c y (live 1 (of_list (ev ∷ []))) (Err e) (tt, (tt, tt))
+    by ! (leaves 𝓛 f.ended stayed c z (live 1 (of_list (ev ∷ []))) (Err e) (tt, (tt, tt))
     (tt, (tt, tt))))
     (λ is_accepted. skips ! $ exec ! 𝓣.C 𝓣.Λ (env code.Mir.locals l) code.Mir.t-6
-    (at_ret _ (W.post y)) $
+    (at_ret _ (W.post z)) $
     sets ! (of_opd ! (get_in ! (fld ! refl (stop !)) (sub ! 0 refl (whole !)))) refl
-    (tt, whole_view) $
+    (tt, typed.0.1.0) $
     sets ! (agg ! (and_then ! (lit ! tt) (and_then ! (get ! refl) (no_more !)))) refl
-    (tt, (record { fits = lit< tt }, (whole_view, tt))) $
+    (tt, (record { fits = lit< tt }, (typed.0.1.0, tt))) $
     returns ! (look_at ! 0 refl) $ free_all ! refl $
-    use1 𝓛 (‵ ((V.the_row lft).own_val d.view (view_laws.lowered d.view ∷ [])))
-    (found_view 𝓛 lft d (v ∷ [])) $
     use1 𝓛 (‵ (Out.own_val (Ok d.view) (live 0 (of_list (view_laws.lowered d.view ∷ [])) ∷ [])))
     (ok_of 𝓛 (V.the_row lft) E.the_row d.view (view_laws.lowered d.view)) $
     move ! (1 ∷ 0 ∷ []) $
-    use0 𝓛 (‵
-    (RestsIfErr Bytes
-    (record { ref_ptr = s.ref_ptr; ghost_name = borrow_of d.view; now = s.now }) borrow_of
-    {E = AsAsciiStrError} (Ok d.view) (λ m. m ≡ s.now)))
-    (rests_ok 𝓛 AsciiStrMut AsAsciiStrError borrow_of s.ref_ptr s.now d.view) $
-    rewrite ! 0
-    (λ (γ : GName). ‵
-    (RestsIfErr Bytes (record { ref_ptr = s.ref_ptr; ghost_name = γ; now = s.now }) borrow_of
-    {E = AsAsciiStrError} (Ok d.view) (λ m. m ≡ s.now))) lender refl $
-    use0 𝓛 (raw (fact 𝓤 (Lender d))) (fact_i 𝓤 (Lender d) (emp 𝓤) lender) $ join ! $
-    use0 𝓛 (raw (fact 𝓤 (Fits r n × IsViewOf s.now (start_of r) (end_of r n) d.view)))
-    (fact_i 𝓤 (Fits r n × IsViewOf s.now (start_of r) (end_of r n) d.view) (emp 𝓤)
-    (accepted (is_false d.is_refused is_accepted))) $ join ! $
+    use0 𝓛 (‵ (FinalSource s (Ok d.view))) (rests_ok 𝓛 s d.view lender) $
+    use0 𝓛 (raw (fact 𝓤 _)) (fact_i 𝓤 _ _ lender) $ join ! $
+    use0 𝓛 (raw (fact 𝓤 _)) (fact_i 𝓤 _ _ (accepted (is_false _ is_accepted))) $ join ! $
     nothing ! $ nothing ! $ fjoin ! $ nothing ! $ fjoin ! $ move ! (2 ∷ 0 ∷ 3 ∷ 1 ∷ []) $
-    by ! (leaves 𝓛 f.ended stayed c y (live 0 (of_list (view_laws.lowered d.view ∷ [])))
+    by ! (leaves 𝓛 f.ended stayed c z (live 0 (of_list (view_laws.lowered d.view ∷ [])))
     (Ok d.view) (tt, (tt, tt)) (tt, (tt, tt))))))))))))))
