@@ -54,8 +54,8 @@ module _ {S A : Type 0} (takes : End → S → Option A → S → Type 0) where
       → AnswersTo takes items script answers left
   AnswersTo-all items left script k answers past so_far = rw take_all at so_far
 
--- the answers of an iterator are those of the list that it owes, where each of its steps takes an
--- end of that
+-- an iterator whose steps each take an end of the list that it has yet to yield answers a script as
+-- that list does
 ListAnswersTo-answers : {S A B : Type 0} (takes : End → S → Option A → S → Type 0)
     (read : A → B) (owed : S → List B)
     → ((end : End) (s : S) (r : Option A) (t : S) → takes end s r t

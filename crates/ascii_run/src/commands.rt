@@ -84,7 +84,7 @@ pub enum Reply<A: Allocator = Global> {
 
 /// Carries out the commands in order over a string, and returns one reply for each, or an error if
 /// the room for the replies cannot be allocated; the text is then unchanged. Does not fail if there
-/// is no command.
+/// are no commands.
 ///
 /// A reply is `NoMemory` only if an allocation fails that its command needs: for a copy of at least
 /// one character, for a text or room longer than the sure length of the string type, or for

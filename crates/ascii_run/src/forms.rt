@@ -25,7 +25,7 @@ pub struct BothRuns {
 
 /// Carries out the commands over an `AsciiString` and over a `SmallAsciiString`, each of them a
 /// copy of the view, or returns an error if an allocation for a copy or for the room of the replies
-/// fails. Does not fail if the view is empty and there is no command.
+/// fails. Does not fail if the view is empty and there are no commands.
 ///
 /// The replies have the same values up to the first `NoMemory` of either; if neither has one, then
 /// all replies and the two texts are the same. Over the `SmallAsciiString` a reply is `NoMemory`

@@ -28,7 +28,7 @@ all_words (word ∷ words) (cmd ∷ cmds) all =
 all_words [] (cmd ∷ cmds) all = absurd all
 all_words (word ∷ words) [] all = absurd all
 
--- a word after words with commands is the first that stands for none
+-- a word after words that are commands is the first that is not one
 pub first_bad_word : (words : List (List ℕ)) (cmds : List Cmd) (i : ℕ) (word : List ℕ)
     → i < length words → get_or words i [] ≡ word
     → AllZip IsWordOf (take i words) cmds → ¬ (IsWord word) → IsFirstBadWord words (i + 1)

@@ -40,7 +40,7 @@ IsCall (mode ∷ others) =
     ⊎ (mode ≡ codes "edit"))
 
 -- `n`, counted from 1 after the mode, is the number of the first word that the mode does not
--- accept: the script of `ends`, or the first word of `edit` that stands for no command
+-- accept: the script of `ends`, or the first word of `edit` that is not a command
 abbrev pub HasBadWord : List (List ℕ) → ℕ → Type 0
 HasBadWord words n =
     ((others : List (List ℕ)) × (script : List ℕ) × (words ≡ codes "ends" ∷ others)
@@ -88,7 +88,7 @@ IsScriptFault script number (Engine Memory) = ⊤
 IsScriptFault script number other = ⊥
 
 -- why the words of an edit give no commands. `BadWord`: it holds the number of the first word that
--- stands for no command. `Engine Memory`: an allocation failed.
+-- is not a command. `Engine Memory`: an allocation failed.
 abbrev pub IsEditsFault : List (List ℕ) → Failure → Type 0
 IsEditsFault edits (BadWord n) = IsFirstBadWord edits n
 IsEditsFault edits (Engine Memory) = ⊤

@@ -39,11 +39,11 @@ IsWordOf word other = ⊥
 abbrev pub IsWord : List ℕ → Type 0
 IsWord word = (cmd : Cmd) × IsWordOf word cmd
 
--- the word stands for no command of an edit
+-- the word is not a command of an edit
 abbrev pub IsNoWord : List ℕ → Type 0
 IsNoWord word = ¬ (IsWord word)
 
--- `n`, counted from 1, is the number of the first word that stands for no command
+-- `n`, counted from 1, is the number of the first word that is not a command
 abbrev pub IsFirstBadWord : List (List ℕ) → ℕ → Type 0
 IsFirstBadWord words n = (k : ℕ) × (n ≡ k + 1) × IsFirstAt IsWord IsNoWord words k
 
