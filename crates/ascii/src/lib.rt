@@ -23,8 +23,8 @@ pub mod vec;
 
 pub use ascii_base::ascii_char::{AsciiChar, ToAsciiChar, ToAsciiCharError};
 pub use ascii_base::free_functions::{caret_decode, caret_encode};
-pub use ascii_base::kernels;
 pub use ascii_base::range::AsciiRange;
+pub use ascii_base::{classes, kernels};
 pub use ascii_str::{AsAsciiStrError, AsciiStr};
 pub use ascii_str_mut::AsciiStrMut;
 pub use ascii_string::AsciiString;

@@ -1,5 +1,6 @@
 -- Images in upper and lower case, of vectors, of parts and of whole lists.
-use Rattle.std.proofs.Common.{◌≡◌, ◌↔◌, ℕ, ◌+◌, ◌-◌, ◌%◌, ◌^◌, ◌<◌, ◌≤◌, ltb, eqb, not, true, cond}
+use Rattle.std.proofs.Common.{◌≡◌, ◌↔◌, ℕ, ◌+◌, ◌-◌, ◌%◌, ◌^◌, ◌<◌, ◌≤◌, ltb, eqb, not, ◌&&◌}
+use Rattle.std.proofs.Common.{true, false, cond}
 use Rattle.std.proofs.Common.{List, [], ◌∷◌, ◌++◌, map, length, get_or, take, drop, replicate, Fits}
 use Rattle.std.proofs.Common.{w8, bit_and, bit_or, refl, sym, ap, ap₂, ◌∙◌, arith, inl, inr}
 use Rattle.std.proofs.Common.{take-add, drop-drop}
@@ -9,10 +10,9 @@ use Rattle.std.proofs.lemmas.Bool.{cases_Bool}
 use Rattle.std.proofs.lemmas.List.{length-map, map-append, append_assoc, append-nil}
 use Rattle.std.proofs.lemmas.List.{append_cancel_left, take-append-drop, take-take, take-map}
 use Rattle.std.proofs.lemmas.List.{take_all, drop_all, length-take, length-take-le, length-drop}
-use Rattle.std.proofs.lemmas.List.{map_more}
+use Rattle.std.proofs.lemmas.List.{map_more, length-append}
 use Rattle.std.proofs.lemmas.Simd.{put_chunk_is, length-chunk, length-zip2, bitmask_splat}
 use Rattle.std.proofs.lemmas.Simd.{splat_is_map, zip2_of_maps, zip2_splat, map-map}
-use borrow.Rule.Slice.PartMut.{put_mid, mid_of}
 use lib.Bits.{bit_xor}
 use lib.Lanes.{zip2, mask_l, top, sel_l, chunk, put_chunk, Each1}
 use Rattle.ascii_base.specs.Case.{lower_image}
@@ -61,26 +61,32 @@ map_chunk_more f xs ys i n room e =
     ∙ ap (λ l. l ++ drop (i + n) xs)
     (sym (map-append f (take i xs) (chunk i n xs)) ∙ ap (map f) (sym (take-add i n xs)))
 
--- a map of the rest, behind bytes that are mapped, is the map of the whole
-pub mapped_whole : (f : ℕ → ℕ) (xs ys : List ℕ) (at : ℕ) (zs : List ℕ) → at ≤ length ys
-    → length ys ≡ length xs → ys ≡ map f (take at xs) ++ drop at xs
-    → zs ≡ map f (mid_of at (length ys - at) ys) → put_mid at (length ys - at) ys zs ≡ map f xs
-mapped_whole f xs ys at zs inside whole e rest =
-    let front = map f (take at xs) in
-    let long : length front ≡ at = length-map (take at xs) f ∙ length-take-le at xs (omega arith) in
-    let left : drop at ys ≡ drop at xs =
-    ap (drop at) e ∙ ap (λ k. drop k (front ++ drop at xs)) (sym long)
-    ∙ drop-append_seam front (drop at xs) in
-    let before : take at ys ≡ front =
-    ap (take at) e ∙ ap (λ k. take k (front ++ drop at xs)) (sym long)
-    ∙ take-append_seam front (drop at xs) in
-    let none : drop (length ys - at) (drop at ys) ≡ [] =
-    drop_all (length ys - at) (drop at ys) (omega (arith, length-drop at ys)) in
-    let all : take (length ys - at) (drop at ys) ≡ drop at ys =
-    take_all (length ys - at) (drop at ys) (omega (arith, length-drop at ys)) in
-    ap₂ (λ a b. a ++ b) before (ap₂ (λ a b. a ++ b) (rest ∙ ap (map f) (all ∙ left)) none
-    ∙ append-nil (map f (drop at xs)))
-    ∙ sym (map-append f (take at xs) (drop at xs)) ∙ ap (map f) (take-append-drop at xs)
+-- a map of the last n bytes, after bytes that are mapped up to there at least, is the map of the
+-- whole
+pub mapped_whole : (f : ℕ → ℕ) (xs ys : List ℕ) (last n at : ℕ) → last + n ≡ length xs → last ≤ at
+    → at ≤ length xs → ys ≡ map f (take at xs) ++ drop at xs
+    → put_chunk last ys (map f (chunk last n xs)) ≡ map f xs
+mapped_whole f xs ys last n at ends past inside e =
+    let start = map f (take at xs) in
+    let long : length start ≡ at = length-map (take at xs) f ∙ length-take-le at xs inside in
+    let whole : length ys ≡ length xs =
+    ap length e ∙ length-append start (drop at xs) ∙ omega (arith, long, length-drop at xs) in
+    let shown : take at ys ≡ start =
+    ap (take at) e ∙ ap (λ k. take k (start ++ drop at xs)) (sym long)
+    ∙ take-append_seam start (drop at xs) in
+    let before : take last ys ≡ map f (take last xs) =
+    sym (take-take last at ys past) ∙ ap (take last) shown ∙ take-map f last (take at xs)
+    ∙ ap (map f) (take-take last at xs past) in
+    let all : chunk last n xs ≡ drop last xs =
+    take_all n (drop last xs) (omega (arith, length-drop last xs)) in
+    let size : length (map f (chunk last n xs)) ≡ n =
+    length-map (chunk last n xs) f ∙ length-chunk last n xs (omega arith) in
+    let none : drop (length (map f (chunk last n xs))) (drop last ys) ≡ [] =
+    drop_all _ (drop last ys) (omega (arith, length-drop last ys, whole, size)) in
+    put_chunk_is last ys (map f (chunk last n xs)) (omega (arith, whole, size))
+    ∙ ap₂ (λ a b. a ++ b) before
+    (ap₂ (λ a b. a ++ b) (ap (map f) all) none ∙ append-nil (map f (drop last xs)))
+    ∙ sym (map-append f (take last xs) (drop last xs)) ∙ ap (map f) (take-append-drop last xs)
 
 -- the bits that count of a byte in which another differs from it: all, but for the bit of the case
 -- of a letter
@@ -103,6 +109,24 @@ apart_at a b fits_a fits_b =
     (λ x. agree_below (λ y. eqb (bit_and (bit_xor x y) (counted x)) 0)
     (λ y. eqb (lower_image x) (lower_image y)) 256) (λ _. true) 256 a apart_tells
     fits_a.fits) fits_b.fits
+
+-- two bytes with one lower image differ in no bit but that of the case: computed over all pairs
+near_tells : agree_below
+    (λ a. agree_below
+    (λ b. eqb (lower_image a) (lower_image b) && not (eqb (bit_and (bit_xor a b) 223) 0))
+    (λ _. false) 256) (λ _. true) 256 ≡ true
+near_tells = refl
+
+pub near_at : (a b : ℕ) → Fits w8 a → Fits w8 b
+    → eqb (lower_image a) (lower_image b) && not (eqb (bit_and (bit_xor a b) 223) 0) ≡ false
+near_at a b fits_a fits_b =
+    agree_below_at
+    (λ y. eqb (lower_image a) (lower_image y) && not (eqb (bit_and (bit_xor a y) 223) 0))
+    (λ _. false) 256 b
+    (agree_below_at
+    (λ x. agree_below
+    (λ y. eqb (lower_image x) (lower_image y) && not (eqb (bit_and (bit_xor x y) 223) 0))
+    (λ _. false) 256) (λ _. true) 256 a near_tells fits_a.fits) fits_b.fits
 
 -- the bits that count, over two vectors
 pub apart_of : (xs ys cs : List ℕ) → cs ≡ map counted xs

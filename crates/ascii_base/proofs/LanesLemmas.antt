@@ -1,12 +1,15 @@
 -- From the vectors of a load to the bytes that it is of.
 use Rattle.std.proofs.Common.{◌≡◌, ℕ, ◌+◌, ◌-◌, ◌*◌, ◌%◌, ◌^◌, ◌<◌, ◌≤◌, suc, Bool, true, false}
 use Rattle.std.proofs.Common.{leb, cond, List, [], ◌∷◌, map, length, get_or, replicate, Fits, w8}
+use Rattle.std.proofs.Common.{w64, ◌≢◌}
 use Rattle.std.proofs.Common.{bit_or, refl, sym, ap, ◌∙◌, subst, arith, inl, inr}
 use Rattle.std.specs.Int.{bit_at}
-use Rattle.std.proofs.lemmas.Bool.{agree_below, agree_below_at, cases_lt, cases_Bool, leb-false}
+use Rattle.std.proofs.lemmas.Bool.{agree_below, agree_below_at, cases_lt, cases_eq, cases_Bool}
+use Rattle.std.proofs.lemmas.Bool.{leb-false}
 use Rattle.std.proofs.lemmas.List.{length-map, get_or-map, get_or_past}
 use Rattle.std.proofs.lemmas.Nat.{le_or_l, le_or_r}
-use Rattle.std.proofs.lemmas.Nat.Bits.{bit_at-zero, bit_at_cat_high}
+use Rattle.std.proofs.lemmas.Nat.Bits.{bit_at-zero, bit_at_cat_high, bit_at_set_same}
+use Rattle.std.proofs.lemmas.Nat.Bits.{bit_at_set_other}
 use Rattle.std.proofs.lemmas.Simd.{map-map, tops_compared, zip2_splat_left, mask_l-mod, bit_mask_l}
 use Rattle.std.proofs.lemmas.Simd.{length-chunk, get_or-chunk, get_or-zip2, length-zip2}
 use lib.Lanes.{mask_l, top, sel_l, chunk, zip2}
@@ -140,6 +143,41 @@ module _ (Is : ℕ → Type 0) (bytes : List ℕ) (at n mask : ℕ) (marks : Mar
         greatest =
             λ j from to. from_more (suc k) (λ i l. clear i (omega arith)) after j (omega arith) to;
       }
+
+-- one byte more that is not in the class sets its bit, and one in the class leaves it clear
+module _ (Is : ℕ → Type 0) (bytes : List ℕ) (at k mask : ℕ) where
+  pub mark_more : k < 64 → Marks Is bytes at k mask → ¬ (Is (get_or bytes (at + k) 0))
+      → Marks Is bytes at (k + 1) (bit_or mask (1 * 2 ^ k % 2 ^ 64))
+  mark_more few marks out = record {
+    set = λ j is. elim (cases_eq j k) [
+      | inl same ↦ (
+        omega arith,
+        subst (λ i. ¬ (Is (get_or bytes (at + i) 0))) (sym same) out,
+      )
+      | inr other ↦
+          let old = marks.set j (sym (bit_at_set_other w64 mask k few j other) ∙ is) in
+          let short : j < k = old.0 in (omega arith, old.1)
+    ];
+    clear = λ j is l. elim (cases_eq j k) [
+      | inl same ↦
+          let set : bit_at (bit_or mask (1 * 2 ^ k % 2 ^ 64)) j ≡ 1 =
+          ap (bit_at (bit_or mask (1 * 2 ^ k % 2 ^ 64))) same ∙ bit_at_set_same w64 mask k few in
+          absurd (omega (arith, is, set))
+      | inr other ↦
+          let apart : j ≢ k = other in
+          marks.clear j (sym (bit_at_set_other w64 mask k few j other) ∙ is) (omega arith)
+    ];
+  }
+
+  pub mark_none : Marks Is bytes at k mask → Is (get_or bytes (at + k) 0)
+      → Marks Is bytes at (k + 1) mask
+  mark_none marks here = record {
+    set = λ j is. let old = marks.set j is in let short : j < k = old.0 in (omega arith, old.1);
+    clear = λ j is l. elim (cases_eq j k) [
+      | inl same ↦ subst (λ i. Is (get_or bytes (at + i) 0)) (sym same) here
+      | inr other ↦ let apart : j ≢ k = other in marks.clear j is (omega arith)
+    ];
+  }
 
 -- a mask with no bit
 pub no_bit : (mask : ℕ) → mask ≡ 0 → (k : ℕ) → bit_at mask k ≡ 0

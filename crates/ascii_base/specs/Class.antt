@@ -1,6 +1,7 @@
 -- The classes of characters, as sets of codes.
 use Rattle.std.specs.Prelude.{◌⊎◌, ℕ, ◌≡◌, ◌-◌, ◌<◌, Option, Some, None, IsSomeAnd, if◌then◌else◌}
-use Rattle.std.specs.Prelude.{nat_le, ◌&&◌}
+use Rattle.std.specs.Prelude.{nat_le, ◌&&◌, codes}
+use Rattle.std.specs.List.{Contains}
 use Rattle.std.specs.Int.{IsInRange}
 
 -- `A` to `Z`
@@ -54,6 +55,14 @@ IsPrintable n = IsInRange 32 126 n
 -- a visible (graphic) character that is neither a digit nor a letter
 abbrev pub IsPunctuation : ℕ → Type 0
 IsPunctuation n = IsInRange 33 47 n ⊎ IsInRange 58 64 n ⊎ IsInRange 91 96 n ⊎ IsInRange 123 126 n
+
+-- a character of a token, such as the name of a header: a letter, a digit or one of these marks
+unfoldable pub IsTokenCode : ℕ → Type 0
+IsTokenCode n = IsAlphanumeric n ⊎ Contains (codes "!#$%&'*+-.^_`|~") n
+
+-- a character of a label of a host name: a letter, a digit or a hyphen
+abbrev pub IsLabelCode : ℕ → Type 0
+IsLabelCode n = IsAlphanumeric n ⊎ (n ≡ 45)
 
 -- the value of a code as a digit: 0 to 9 for `0` to `9`, and 10 to 35 for a letter of either case
 abbrev pub digit_value : ℕ → Option ℕ

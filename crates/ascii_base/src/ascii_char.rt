@@ -1,12 +1,16 @@
 //! The characters of US-ASCII.
 
-ghost use Rattle.std.specs.Prelude.{◌≡◌, ◌<◌, ◌≤◌, ◌↔◌, IsTrue, ℤ, pos, MatchResult, bit_or};
+ghost use Rattle.std.specs.Prelude.{◌≡◌, ◌<◌, ◌≤◌, ◌↔◌, IsTrue, ℤ, pos, MatchResult};
 ghost use Rattle.ascii_base.specs.Code.{code_of, code_text};
 ghost use Rattle.ascii_base.specs.Class.{IsAlphabetic, IsDigitIn, IsDigit, IsAlphanumeric, IsBlank, IsWhitespace, IsAsciiWhitespace, IsControl, IsGraphic, IsPrintable, IsLowercase, IsUppercase, IsPunctuation, IsHexdigit};
 ghost use Rattle.ascii_base.specs.Case.{upper_image, lower_image};
 ghost use Rattle.ascii_base.specs.Printable.{printable_of};
 ghost use Rattle.ascii_base.specs.ToAscii.{HasCode, IsCode, IsNotAscii, not_ascii_text};
 
+use crate::classes::{
+    Alphabetic, Alphanumeric, AsciiWhitespace, Blank, Class, Control, Digit, Graphic, Hexdigit,
+    Lowercase, Printable, Punctuation, Uppercase, Whitespace,
+};
 use std::cmp::Ordering;
 use std::fmt;
 use std::hash::{Hash, Hasher};
@@ -206,15 +210,6 @@ impl AsciiChar {
         self.as_byte() as char
     }
 
-    /// The code with bit 5 set: of an upper case letter the lower case one, of a lower case letter
-    /// itself. Other characters may change too.
-    #[inline]
-    fn to_not_upper(self) -> u8
-        ensures { result ≡ bit_or (code_of self) 32 }
-    {
-        self.as_byte() | 0b010_0000
-    }
-
     /// Whether the character is a letter, `A` to `Z` or `a` to `z`.
     ///
     ///     AsciiChar::a.is_alphabetic() // true
@@ -222,7 +217,7 @@ impl AsciiChar {
     pub fn is_alphabetic(self) -> bool
         ensures { IsTrue result ↔ IsAlphabetic (code_of self) }
     {
-        (self.to_not_upper() >= b'a') & (self.to_not_upper() <= b'z')
+        Alphabetic::has(self.as_byte())
     }
 
     /// Whether the character is a letter, `A` to `Z` or `a` to `z`.
@@ -260,7 +255,7 @@ impl AsciiChar {
     pub fn is_ascii_digit(&self) -> bool
         ensures { IsTrue result ↔ IsDigit (code_of self.now) }
     {
-        (self.as_byte() >= b'0') & (self.as_byte() <= b'9')
+        Digit::has(self.as_byte())
     }
 
     /// Whether the character is a letter or a decimal digit.
@@ -270,7 +265,7 @@ impl AsciiChar {
     pub fn is_alphanumeric(self) -> bool
         ensures { IsTrue result ↔ IsAlphanumeric (code_of self) }
     {
-        self.is_alphabetic() | self.is_ascii_digit()
+        Alphanumeric::has(self.as_byte())
     }
 
     /// Whether the character is a letter or a decimal digit.
@@ -291,7 +286,7 @@ impl AsciiChar {
     pub fn is_ascii_blank(&self) -> bool
         ensures { IsTrue result ↔ IsBlank (code_of self.now) }
     {
-        (self.as_byte() == b' ') | (self.as_byte() == b'\t')
+        Blank::has(self.as_byte())
     }
 
     /// Whether the character is space, tab, line feed, vertical tab, form feed or carriage return.
@@ -301,7 +296,7 @@ impl AsciiChar {
     pub fn is_whitespace(self) -> bool
         ensures { IsTrue result ↔ IsWhitespace (code_of self) }
     {
-        (self.as_byte() == b' ') | (self.as_byte().wrapping_sub(b'\t') < 5)
+        Whitespace::has(self.as_byte())
     }
 
     /// Whether the character is space, tab, line feed, form feed or carriage return: vertical tab is
@@ -312,10 +307,7 @@ impl AsciiChar {
     pub fn is_ascii_whitespace(&self) -> bool
         ensures { IsTrue result ↔ IsAsciiWhitespace (code_of self.now) }
     {
-        self.is_ascii_blank()
-            | (self.as_byte() == b'\n')
-            | (self.as_byte() == b'\r')
-            | (self.as_byte() == 0x0c)
+        AsciiWhitespace::has(self.as_byte())
     }
 
     /// Whether the character is a control character, 0 to 31 or 127.
@@ -325,7 +317,7 @@ impl AsciiChar {
     pub fn is_ascii_control(&self) -> bool
         ensures { IsTrue result ↔ IsControl (code_of self.now) }
     {
-        (self.as_byte() < b' ') | (self.as_byte() == 127)
+        Control::has(self.as_byte())
     }
 
     /// Whether the character leaves ink: neither a control character nor space.
@@ -335,7 +327,7 @@ impl AsciiChar {
     pub fn is_ascii_graphic(&self) -> bool
         ensures { IsTrue result ↔ IsGraphic (code_of self.now) }
     {
-        self.as_byte().wrapping_sub(b' ' + 1) < 0x5e
+        Graphic::has(self.as_byte())
     }
 
     /// Whether the character leaves ink or is space: it is no control character.
@@ -345,7 +337,7 @@ impl AsciiChar {
     pub fn is_ascii_printable(&self) -> bool
         ensures { IsTrue result ↔ IsPrintable (code_of self.now) }
     {
-        self.as_byte().wrapping_sub(b' ') < 0x5f
+        Printable::has(self.as_byte())
     }
 
     /// Whether the character is a lower case letter, `a` to `z`.
@@ -355,7 +347,7 @@ impl AsciiChar {
     pub fn is_lowercase(self) -> bool
         ensures { IsTrue result ↔ IsLowercase (code_of self) }
     {
-        self.as_byte().wrapping_sub(b'a') < 26
+        Lowercase::has(self.as_byte())
     }
 
     /// Whether the character is a lower case letter, `a` to `z`.
@@ -375,7 +367,7 @@ impl AsciiChar {
     pub fn is_uppercase(self) -> bool
         ensures { IsTrue result ↔ IsUppercase (code_of self) }
     {
-        self.as_byte().wrapping_sub(b'A') < 26
+        Uppercase::has(self.as_byte())
     }
 
     /// Whether the character is an upper case letter, `A` to `Z`.
@@ -395,7 +387,7 @@ impl AsciiChar {
     pub fn is_ascii_punctuation(&self) -> bool
         ensures { IsTrue result ↔ IsPunctuation (code_of self.now) }
     {
-        self.is_ascii_graphic() & !self.is_alphanumeric()
+        Punctuation::has(self.as_byte())
     }
 
     /// Whether the character is a hexadecimal digit, in either case.
@@ -405,7 +397,7 @@ impl AsciiChar {
     pub fn is_ascii_hexdigit(&self) -> bool
         ensures { IsTrue result ↔ IsHexdigit (code_of self.now) }
     {
-        self.is_ascii_digit() | ((self.as_byte() | 0x20).wrapping_sub(b'a') < 6)
+        Hexdigit::has(self.as_byte())
     }
 
     /// A `char` that shows the character: the pictures from U+2400 on for the codes 0 to 31, U+2421

@@ -1,11 +1,12 @@
 //! The searches and maps over bytes, each equal to its plain definition at every length.
 //!
-//! Each goes through the bytes in chunks of 32, the comparison two chunks at a time. In the searches and
-//! the comparison, the bytes after the last whole chunk take one or two steps of 32, 16, 8 or 4 bytes, the
-//! last of which may overlap the one before it; fewer bytes go one by one. The two case maps change the
-//! bytes after the last whole chunk in a plain loop.
+//! A search is over a class of `classes`: `first_not` and `last_not` take any class, the calls after
+//! them are searches that texts need all the time. A search goes through the bytes 32 at a time and
+//! ends with one step of 32 over the end, which may test bytes again. Up to 64 bytes take two
+//! overlapping steps of 32, 16, 8 or 4 bytes, and fewer than 4 bytes go one by one. The maps and the
+//! comparison take the same steps.
 
-ghost use Rattle.std.specs.Prelude.{◌≡◌, ◌↔◌, ◌+◌, ◌<◌, ◌≤◌, IsTrue, length, map, take, drop, ◌++◌};
+ghost use Rattle.std.specs.Prelude.{◌≡◌, ◌≢◌, ◌↔◌, ◌+◌, ◌<◌, ◌≤◌, IsTrue, length, map};
 ghost use Rattle.std.specs.Prelude.{All, MatchOption};
 ghost use Rattle.std.specs.Str.{IsAscii};
 ghost use Rattle.ascii_base.specs.Bytes.{FirstOther, IsFirstNot, IsLastNot};
@@ -14,35 +15,54 @@ ghost use Rattle.ascii_base.specs.Class.{IsWhitespace};
 ghost use Rattle.ascii_base.specs.Lanes.{AllBefore, AllFrom, FindsFirstNot, FindsLastNot};
 ghost use Rattle.ascii_base.specs.Lanes.{SameBefore};
 
-use crate::lanes::{
-    LANES, QUIET, WIDE, highest, is_quiet, is_same, lower_of, not_whitespace, others, upper_of,
-};
+use crate::classes::{Ascii, Class, ClassBy, Searched, Whitespace};
+use crate::images::{Image, ImageBy, Lower, Upper};
+use crate::lanes::{LANES, QUIET, WIDE, highest, is_quiet, is_same};
 use std::simd::prelude::*;
 
-/// How many bytes at an end are looked at one by one first: few texts have more white space there.
+/// How many bytes at an end of a text are tested one by one first: few texts have more whitespace
+/// there.
 const NEAR: usize = 8;
 
-/// The position of the first byte over 127, or `None` where every byte is under 128.
+/// Returns the position of the first byte that is not in the class, or `None` if all bytes are in it.
+///
+///     first_not::<Digit>(b"42px") // Some(2)
+///     first_not::<Digit>(b"42") // None
+pub fn first_not<C: Searched>(bytes: &[u8]) -> Option<usize>
+    ensures { MatchOption result (All C.is bytes.now)
+        (IsFirstNot C.is bytes.now 0 (length bytes.now)) }
+{
+    first_from::<C>(bytes, 0)
+}
+
+/// Returns the position of the last byte that is not in the class, or `None` if all bytes are in it.
+///
+///     last_not::<Digit>(b"v42") // Some(0)
+///     last_not::<Digit>(b"42") // None
+pub fn last_not<C: Searched>(bytes: &[u8]) -> Option<usize>
+    ensures { MatchOption result (All C.is bytes.now) (IsLastNot C.is bytes.now) }
+{
+    last_before::<C>(bytes, bytes.len())
+}
+
+/// Returns the position of the first non-ASCII byte, or `None` if all bytes are ASCII.
 ///
 ///     first_other(b"ab\xc4") // Some(2)
 pub fn first_other(bytes: &[u8]) -> Option<usize>
     ensures { MatchOption result (IsAscii bytes.now) (FirstOther bytes.now 0 (length bytes.now)) }
 {
     if bytes.len() < LANES {
-        return other_in_short(bytes);
+        other_in_short(bytes)
+    } else if bytes.len() <= WIDE {
+        other_in_two::<LANES>(bytes)
+    } else if bytes.len() < QUIET {
+        first_from::<Ascii>(bytes, 0)
+    } else {
+        other_in_long(bytes)
     }
-    let mut at = quiet_front(bytes);
-    while bytes.len() - at >= LANES {
-        let found = other_in::<LANES>(bytes, at);
-        if found.is_some() {
-            return found;
-        }
-        at += LANES;
-    }
-    other_in::<LANES>(bytes, bytes.len() - LANES)
 }
 
-/// Changes each byte of `a` to `z` to that of `A` to `Z`. Every other byte stays.
+/// Changes each byte of `a` to `z` to that of `A` to `Z`. Every other byte is unchanged.
 ///
 ///     let mut bytes = *b"ab-7";
 ///     upper_in_place(&mut bytes);
@@ -50,11 +70,10 @@ pub fn first_other(bytes: &[u8]) -> Option<usize>
 pub fn upper_in_place(bytes: &mut [u8])
     ensures { bytes.new ≡ map upper_image bytes.old }
 {
-    let at = upper_chunks(bytes);
-    upper_each(&mut bytes[at..]);
+    map_in_place::<Upper>(bytes);
 }
 
-/// Changes each byte of `A` to `Z` to that of `a` to `z`. Every other byte stays.
+/// Changes each byte of `A` to `Z` to that of `a` to `z`. Every other byte is unchanged.
 ///
 ///     let mut bytes = *b"AB-7";
 ///     lower_in_place(&mut bytes);
@@ -62,12 +81,10 @@ pub fn upper_in_place(bytes: &mut [u8])
 pub fn lower_in_place(bytes: &mut [u8])
     ensures { bytes.new ≡ map lower_image bytes.old }
 {
-    let at = lower_chunks(bytes);
-    lower_each(&mut bytes[at..]);
+    map_in_place::<Lower>(bytes);
 }
 
-/// Whether two lists of bytes have the same length and are equal byte by byte when the case of the
-/// letters of ASCII doesn't count.
+/// Returns `true` if the two byte strings are equal when the case of letters is ignored.
 ///
 ///     eq_ignore_case(b"Host", b"HOST") // true
 pub fn eq_ignore_case(first: &[u8], second: &[u8]) -> bool
@@ -76,18 +93,25 @@ pub fn eq_ignore_case(first: &[u8], second: &[u8]) -> bool
     if first.len() != second.len() {
         return false;
     }
-    let mut at = 0;
-    while first.len() - at >= WIDE {
-        if !is_same::<WIDE>(first, second, at) {
-            return false;
-        }
-        at += WIDE;
+    if first.len() < 4 {
+        return same_one_by_one(first, second, 0);
     }
-    same_in_rest(first, second, at)
+    if are_apart(first[0], second[0]) {
+        return false;
+    }
+    if first.len() > LANES {
+        is_same::<16>(first, second, 0) && same_from(first, second, 16)
+    } else if first.len() >= 16 {
+        same_in_two::<16>(first, second)
+    } else if first.len() >= 8 {
+        same_in_two::<8>(first, second)
+    } else {
+        same_in_two::<4>(first, second)
+    }
 }
 
-/// The position of the first byte that is no whitespace, or `None` where every byte is whitespace:
-/// space, tab, line feed, vertical tab, form feed or carriage return.
+/// Returns the position of the first byte that is not whitespace, or `None` if every byte is
+/// whitespace: space, tab, line feed, vertical tab, form feed or carriage return.
 ///
 ///     first_not_whitespace(b" \tab") // Some(2)
 ///     first_not_whitespace(b"  ") // None
@@ -95,65 +119,96 @@ pub fn first_not_whitespace(bytes: &[u8]) -> Option<usize>
     ensures { MatchOption result (All IsWhitespace bytes.now)
         (IsFirstNot IsWhitespace bytes.now 0 (length bytes.now)) }
 {
-    let mut at = bytes.len().min(NEAR);
-    let found = first_one_by_one(bytes, 0, at);
-    if found.is_some() {
-        return found;
+    let near = bytes.len().min(NEAR);
+    match first_one_by_one::<Whitespace>(bytes, 0, near) {
+        None => first_from::<Whitespace>(bytes, near),
+        found => found,
     }
-    while bytes.len() - at >= LANES {
-        let found = first_in::<LANES>(bytes, at);
-        if found.is_some() {
-            return found;
-        }
-        at += LANES;
-    }
-    first_in_rest(bytes, at)
 }
 
-/// The position of the last byte that is no whitespace, or `None` where every byte is whitespace:
-/// space, tab, line feed, vertical tab, form feed or carriage return.
+/// Returns the position of the last byte that is not whitespace, or `None` if every byte is
+/// whitespace: space, tab, line feed, vertical tab, form feed or carriage return.
 ///
 ///     last_not_whitespace(b"ab \n") // Some(1)
 pub fn last_not_whitespace(bytes: &[u8]) -> Option<usize>
     ensures { MatchOption result (All IsWhitespace bytes.now) (IsLastNot IsWhitespace bytes.now) }
 {
-    let mut end = bytes.len().saturating_sub(NEAR);
-    let found = last_one_by_one(bytes, end, bytes.len());
-    if found.is_some() {
-        return found;
+    let end = bytes.len().saturating_sub(NEAR);
+    match last_one_by_one::<Whitespace>(bytes, end, bytes.len()) {
+        None => last_before::<Whitespace>(bytes, end),
+        found => found,
     }
-    while end >= LANES {
-        let found = last_in::<LANES>(bytes, end - LANES);
+}
+
+/// The first byte that is not in the class, if those before `from` are.
+#[inline(always)]
+fn first_from<C: Searched>(bytes: &[u8], from: usize) -> Option<usize>
+    requires inside { from ≤ length bytes.now }
+    requires before { AllBefore C.is bytes.now from }
+    ensures { FindsFirstNot C.is bytes.now (length bytes.now) result }
+{
+    if bytes.len() <= WIDE {
+        return first_in_short::<C>(bytes, from);
+    }
+    let last = bytes.len() - LANES;
+    let mut at = from;
+    while at < last {
+        let found = first_in::<C, LANES>(bytes, at);
         if found.is_some() {
             return found;
         }
-        end -= LANES;
+        at += LANES;
     }
-    last_in_rest(bytes, end)
+    first_in::<C, LANES>(bytes, last)
 }
 
-/// How many bytes at the front are told to be under 128 by tests of 128 bytes each.
+/// The first byte that is not in the class, with at most 64 bytes from `at` on.
 #[inline(always)]
-fn quiet_front(bytes: &[u8]) -> usize
-    ensures inside { result ≤ length bytes.now }
-    ensures quiet { AllBefore (λ byte. byte < 128) bytes.now result }
+fn first_in_short<C: Searched>(bytes: &[u8], at: usize) -> Option<usize>
+    requires inside { at ≤ length bytes.now }
+    requires short { length bytes.now ≤ at + WIDE }
+    requires before { AllBefore C.is bytes.now at }
+    ensures { FindsFirstNot C.is bytes.now (length bytes.now) result }
 {
-    let mut at = 0;
-    while bytes.len() - at >= QUIET && is_quiet(bytes, at) {
-        at += QUIET;
+    let left = bytes.len() - at;
+    if left >= LANES {
+        first_in_two::<C, LANES>(bytes, at)
+    } else if left >= 16 {
+        first_in_two::<C, 16>(bytes, at)
+    } else if left >= 8 {
+        first_in_two::<C, 8>(bytes, at)
+    } else if left >= 4 {
+        first_in_two::<C, 4>(bytes, at)
+    } else {
+        first_one_by_one::<C>(bytes, at, bytes.len())
     }
-    at
 }
 
-/// The first byte over 127 among the `N` from `at` on.
+/// The first byte that is not in the class, with at least `N` and at most twice as many bytes from
+/// `at` on: the first `N` of them and the last `N`, under one test if all are in the class.
 #[inline(always)]
-fn other_in<const N: usize>(bytes: &[u8], at: usize) -> Option<usize>
+fn first_in_two<C: ClassBy<N>, const N: usize>(bytes: &[u8], at: usize) -> Option<usize>
     requires lanes { N ≤ 64 }
     requires room { at + N ≤ length bytes.now }
-    requires before { AllBefore (λ byte. byte < 128) bytes.now at }
-    ensures { FindsFirstNot (λ byte. byte < 128) bytes.now (at + N) result }
+    requires short { length bytes.now ≤ at + N + N }
+    requires before { AllBefore C.is bytes.now at }
+    ensures { FindsFirstNot C.is bytes.now (length bytes.now) result }
 {
-    let marked = others::<N>(bytes, at);
+    match first_in::<C, N>(bytes, at) {
+        None => first_in::<C, N>(bytes, bytes.len() - N),
+        found => found,
+    }
+}
+
+/// The first byte that is not in the class among the `N` from `at` on.
+#[inline(always)]
+fn first_in<C: ClassBy<N>, const N: usize>(bytes: &[u8], at: usize) -> Option<usize>
+    requires lanes { N ≤ 64 }
+    requires room { at + N ≤ length bytes.now }
+    requires before { AllBefore C.is bytes.now at }
+    ensures { FindsFirstNot C.is bytes.now (at + N) result }
+{
+    let marked = C::marks(bytes, at);
     if marked == 0 {
         None
     } else {
@@ -161,29 +216,25 @@ fn other_in<const N: usize>(bytes: &[u8], at: usize) -> Option<usize>
     }
 }
 
-/// The first byte over 127 of at least `N` bytes and at most twice as many: its first `N` bytes and its
-/// last `N`, under one test where there is none.
+/// The first byte that is not in the class from `from` up to `to`, byte by byte.
 #[inline(always)]
-fn other_in_two<const N: usize>(bytes: &[u8]) -> Option<usize>
-    requires lanes { N ≤ 64 }
-    requires room { N ≤ length bytes.now }
-    requires short { length bytes.now ≤ N + N }
-    ensures { FindsFirstNot (λ byte. byte < 128) bytes.now (length bytes.now) result }
+fn first_one_by_one<C: Class>(bytes: &[u8], from: usize, to: usize) -> Option<usize>
+    requires inside { to ≤ length bytes.now }
+    requires before { AllBefore C.is bytes.now from }
+    ensures { FindsFirstNot C.is bytes.now to result }
 {
-    let last = bytes.len() - N;
-    if others::<N>(bytes, 0) | others::<N>(bytes, last) == 0 {
-        return None;
+    for at in from..to {
+        if !C::has(bytes[at]) {
+            return Some(at);
+        }
     }
-    match other_in::<N>(bytes, 0) {
-        None => other_in::<N>(bytes, last),
-        found => found,
-    }
+    None
 }
 
-/// The first byte over 127 of fewer than 32 bytes.
+/// The first non-ASCII byte of fewer than 32.
 #[inline(always)]
 fn other_in_short(bytes: &[u8]) -> Option<usize>
-    requires { length bytes.now ≤ LANES }
+    requires { length bytes.now < LANES }
     ensures { FindsFirstNot (λ byte. byte < 128) bytes.now (length bytes.now) result }
 {
     if bytes.len() >= 16 {
@@ -193,105 +244,239 @@ fn other_in_short(bytes: &[u8]) -> Option<usize>
     } else if bytes.len() >= 4 {
         other_in_two::<4>(bytes)
     } else {
-        other_one_by_one(bytes)
+        first_one_by_one::<Ascii>(bytes, 0, bytes.len())
     }
 }
 
-/// The first byte over 127, byte by byte.
+/// The first non-ASCII byte of at least `N` and at most twice as many: the first `N` and the last
+/// `N` take one test if there is none.
 #[inline(always)]
-fn other_one_by_one(bytes: &[u8]) -> Option<usize>
+fn other_in_two<const N: usize>(bytes: &[u8]) -> Option<usize>
+    requires lanes { N ≤ 64 }
+    requires room { N ≤ length bytes.now }
+    requires short { length bytes.now ≤ N + N }
     ensures { FindsFirstNot (λ byte. byte < 128) bytes.now (length bytes.now) result }
 {
-    for at in 0..bytes.len() {
-        if bytes[at] >= 128 {
+    let last = bytes.len() - N;
+    if <Ascii as ClassBy<N>>::marks(bytes, 0) | <Ascii as ClassBy<N>>::marks(bytes, last) == 0 {
+        return None;
+    }
+    first_in_two::<Ascii, N>(bytes, 0)
+}
+
+/// The first non-ASCII byte of at least 128: 128 at a time while they are ASCII, and the last 128.
+#[inline(always)]
+fn other_in_long(bytes: &[u8]) -> Option<usize>
+    requires { QUIET ≤ length bytes.now }
+    ensures { FindsFirstNot (λ byte. byte < 128) bytes.now (length bytes.now) result }
+{
+    let last = bytes.len() - QUIET;
+    let mut at = 0;
+    while at < last && is_quiet(bytes, at) {
+        at += QUIET;
+    }
+    if at >= last && is_quiet(bytes, last) {
+        return None;
+    }
+    first_from::<Ascii>(bytes, at)
+}
+
+/// The last byte that is not in the class, if those from `to` on are.
+#[inline(always)]
+fn last_before<C: Searched>(bytes: &[u8], to: usize) -> Option<usize>
+    requires inside { to ≤ length bytes.now }
+    requires after { AllFrom C.is bytes.now to }
+    ensures { FindsLastNot C.is bytes.now 0 result }
+{
+    if bytes.len() <= WIDE {
+        return last_in_short::<C>(bytes, to);
+    }
+    let mut end = to;
+    while end > LANES {
+        let found = last_in::<C, LANES>(bytes, end - LANES);
+        if found.is_some() {
+            return found;
+        }
+        end -= LANES;
+    }
+    last_in::<C, LANES>(bytes, 0)
+}
+
+/// The last byte that is not in the class, with at most 64 bytes before `end`.
+#[inline(always)]
+fn last_in_short<C: Searched>(bytes: &[u8], end: usize) -> Option<usize>
+    requires inside { end ≤ length bytes.now }
+    requires short { end ≤ WIDE }
+    requires after { AllFrom C.is bytes.now end }
+    ensures { FindsLastNot C.is bytes.now 0 result }
+{
+    if end >= LANES {
+        last_in_two::<C, LANES>(bytes, end)
+    } else if end >= 16 {
+        last_in_two::<C, 16>(bytes, end)
+    } else if end >= 8 {
+        last_in_two::<C, 8>(bytes, end)
+    } else if end >= 4 {
+        last_in_two::<C, 4>(bytes, end)
+    } else {
+        last_one_by_one::<C>(bytes, 0, end)
+    }
+}
+
+/// The last byte that is not in the class, with at least `N` and at most twice as many bytes before
+/// `end`.
+#[inline(always)]
+fn last_in_two<C: ClassBy<N>, const N: usize>(bytes: &[u8], end: usize) -> Option<usize>
+    requires lanes { N ≤ 64 }
+    requires room { N ≤ end }
+    requires short { end ≤ N + N }
+    requires inside { end ≤ length bytes.now }
+    requires after { AllFrom C.is bytes.now end }
+    ensures { FindsLastNot C.is bytes.now 0 result }
+{
+    match last_in::<C, N>(bytes, end - N) {
+        None => last_in::<C, N>(bytes, 0),
+        found => found,
+    }
+}
+
+/// The last byte that is not in the class among the `N` from `at` on.
+#[inline(always)]
+fn last_in<C: ClassBy<N>, const N: usize>(bytes: &[u8], at: usize) -> Option<usize>
+    requires lanes { N ≤ 64 }
+    requires room { at + N ≤ length bytes.now }
+    requires after { AllFrom C.is bytes.now (at + N) }
+    ensures { FindsLastNot C.is bytes.now at result }
+{
+    let marked = C::marks(bytes, at);
+    if marked == 0 {
+        None
+    } else {
+        Some(at + highest(marked))
+    }
+}
+
+/// The last byte that is not in the class from `from` up to `to`, byte by byte.
+#[inline(always)]
+fn last_one_by_one<C: Class>(bytes: &[u8], from: usize, to: usize) -> Option<usize>
+    requires inside { to ≤ length bytes.now }
+    requires after { AllFrom C.is bytes.now to }
+    ensures { FindsLastNot C.is bytes.now from result }
+{
+    for at in (from..to).rev() {
+        if !C::has(bytes[at]) {
             return Some(at);
         }
     }
     None
 }
 
-/// Changes whole chunks of 32 bytes to upper case, and gives the place where they end.
+/// Changes each byte to its image.
 #[inline(always)]
-fn upper_chunks(bytes: &mut [u8]) -> usize
-    ensures inside { result ≤ length bytes.old }
-    ensures mapped { bytes.new ≡ map upper_image (take result bytes.old) ++ drop result bytes.old }
+fn map_in_place<I: ImageBy<4> + ImageBy<8> + ImageBy<16> + ImageBy<32>>(bytes: &mut [u8])
+    ensures { bytes.new ≡ map I.image bytes.old }
 {
-    let mut at = 0;
-    while bytes.len() - at >= LANES {
-        let lanes = u8x32::from_slice(&bytes[at..]);
-        upper_of(lanes).copy_to_slice(&mut bytes[at..]);
-        at += LANES;
-    }
-    at
-}
-
-/// Changes whole chunks of 32 bytes to lower case, and gives the place where they end.
-#[inline(always)]
-fn lower_chunks(bytes: &mut [u8]) -> usize
-    ensures inside { result ≤ length bytes.old }
-    ensures mapped { bytes.new ≡ map lower_image (take result bytes.old) ++ drop result bytes.old }
-{
-    let mut at = 0;
-    while bytes.len() - at >= LANES {
-        let lanes = u8x32::from_slice(&bytes[at..]);
-        lower_of(lanes).copy_to_slice(&mut bytes[at..]);
-        at += LANES;
-    }
-    at
-}
-
-/// Changes each byte to upper case, byte by byte.
-#[inline(always)]
-fn upper_each(bytes: &mut [u8])
-    ensures { bytes.new ≡ map upper_image bytes.old }
-{
-    for byte in bytes.iter_mut() {
-        *byte = upper(*byte);
+    if bytes.len() >= LANES {
+        map_by::<I, LANES>(bytes);
+    } else if bytes.len() >= 16 {
+        map_by::<I, 16>(bytes);
+    } else if bytes.len() >= 8 {
+        map_by::<I, 8>(bytes);
+    } else if bytes.len() >= 4 {
+        map_by::<I, 4>(bytes);
+    } else {
+        map_one_by_one::<I>(bytes);
     }
 }
 
-/// Changes each byte to lower case, byte by byte.
+/// Changes each of at least `N` bytes to its image, `N` at a time. The last step takes the last `N`
+/// bytes, some of which the step before it may write, so it is read before any is written.
 #[inline(always)]
-fn lower_each(bytes: &mut [u8])
-    ensures { bytes.new ≡ map lower_image bytes.old }
-{
-    for byte in bytes.iter_mut() {
-        *byte = lower(*byte);
-    }
-}
-
-/// Whether a rest of at least `N` bytes and at most twice as many is the same in both.
-#[inline(always)]
-fn same_in_two<const N: usize>(first: &[u8], second: &[u8], at: usize) -> bool
+fn map_by<I: ImageBy<N>, const N: usize>(bytes: &mut [u8])
     requires lanes { N ≤ 64 }
+    requires some { 0 < N }
+    requires room { N ≤ length bytes.old }
+    ensures { bytes.new ≡ map I.image bytes.old }
+{
+    let last = bytes.len() - N;
+    let end = I::of_lanes(Simd::<u8, N>::from_slice(&bytes[last..]));
+    let mut at = 0;
+    while at < last {
+        let lanes = Simd::<u8, N>::from_slice(&bytes[at..]);
+        I::of_lanes(lanes).copy_to_slice(&mut bytes[at..]);
+        at += N;
+    }
+    end.copy_to_slice(&mut bytes[last..]);
+}
+
+/// Changes each byte to its image, byte by byte.
+#[inline(always)]
+fn map_one_by_one<I: Image>(bytes: &mut [u8])
+    ensures { bytes.new ≡ map I.image bytes.old }
+{
+    for byte in bytes.iter_mut() {
+        *byte = I::of(*byte);
+    }
+}
+
+/// Whether two bytes differ in a bit other than that of the case, as no two cases of a letter do.
+#[inline(always)]
+fn are_apart(first: u8, second: u8) -> bool
+    ensures { IsTrue result → lower_image first ≢ lower_image second }
+{
+    (first ^ second) & 0xdf != 0
+}
+
+/// Whether the bytes from `from` on are the same in both when case is ignored, 64 at a time.
+#[inline(always)]
+fn same_from(first: &[u8], second: &[u8], from: usize) -> bool
     requires same_length { length first.now ≡ length second.now }
-    requires room { at + N ≤ length first.now }
-    requires short { length first.now ≤ at + N + N }
-    requires before { SameBefore first.now second.now at }
+    requires long { LANES ≤ length first.now }
+    requires inside { from ≤ length first.now }
+    requires before { SameBefore first.now second.now from }
     ensures { IsTrue result ↔ (map lower_image first.now ≡ map lower_image second.now) }
 {
-    is_same::<N>(first, second, at) && is_same::<N>(first, second, first.len() - N)
+    let mut at = from;
+    while first.len() - at > WIDE {
+        if !is_same::<WIDE>(first, second, at) {
+            return false;
+        }
+        at += WIDE;
+    }
+    same_in_end(first, second, at)
 }
 
-/// Whether a rest of fewer than 64 bytes is the same in both when case doesn't count.
+/// Whether at most 64 bytes from `at` on are the same in both when case is ignored.
 #[inline(always)]
-fn same_in_rest(first: &[u8], second: &[u8], at: usize) -> bool
+fn same_in_end(first: &[u8], second: &[u8], at: usize) -> bool
     requires same_length { length first.now ≡ length second.now }
-    requires inside { at ≤ length first.now }
+    requires long { LANES ≤ length first.now }
     requires short { length first.now ≤ at + WIDE }
     requires before { SameBefore first.now second.now at }
     ensures { IsTrue result ↔ (map lower_image first.now ≡ map lower_image second.now) }
 {
-    match first.len() - at {
-        0..=3 => same_one_by_one(first, second, at),
-        4..=7 => same_in_two::<4>(first, second, at),
-        8..=15 => same_in_two::<8>(first, second, at),
-        16..=31 => same_in_two::<16>(first, second, at),
-        _ => same_in_two::<LANES>(first, second, at),
+    let last = first.len() - LANES;
+    if at < last {
+        is_same::<LANES>(first, second, at) && is_same::<LANES>(first, second, last)
+    } else {
+        is_same::<LANES>(first, second, last)
     }
 }
 
-/// Whether the bytes from `from` on are the same in both when case doesn't count, byte by byte.
+/// Whether at least `N` and at most twice as many bytes are the same in both when case is ignored.
+#[inline(always)]
+fn same_in_two<const N: usize>(first: &[u8], second: &[u8]) -> bool
+    requires lanes { N ≤ 64 }
+    requires same_length { length first.now ≡ length second.now }
+    requires room { N ≤ length first.now }
+    requires short { length first.now ≤ N + N }
+    ensures { IsTrue result ↔ (map lower_image first.now ≡ map lower_image second.now) }
+{
+    let last = first.len() - N;
+    is_same::<N>(first, second, 0) && (last == 0 || is_same::<N>(first, second, last))
+}
+
+/// Whether the bytes from `from` on are the same in both when case is ignored, byte by byte.
 #[inline(always)]
 fn same_one_by_one(first: &[u8], second: &[u8], from: usize) -> bool
     requires same_length { length first.now ≡ length second.now }
@@ -300,161 +485,9 @@ fn same_one_by_one(first: &[u8], second: &[u8], from: usize) -> bool
     ensures { IsTrue result ↔ (map lower_image first.now ≡ map lower_image second.now) }
 {
     for at in from..first.len() {
-        if lower(first[at]) != lower(second[at]) {
+        if Lower::of(first[at]) != Lower::of(second[at]) {
             return false;
         }
     }
     true
-}
-
-/// The first byte that is no whitespace among the `N` from `at` on.
-#[inline(always)]
-fn first_in<const N: usize>(bytes: &[u8], at: usize) -> Option<usize>
-    requires lanes { N ≤ 64 }
-    requires room { at + N ≤ length bytes.now }
-    requires before { AllBefore IsWhitespace bytes.now at }
-    ensures { FindsFirstNot IsWhitespace bytes.now (at + N) result }
-{
-    let marked = not_whitespace::<N>(bytes, at);
-    if marked == 0 {
-        None
-    } else {
-        Some(at + marked.trailing_zeros() as usize)
-    }
-}
-
-/// The first byte that is no whitespace of a rest of at least `N` bytes and at most twice as many.
-#[inline(always)]
-fn first_in_two<const N: usize>(bytes: &[u8], at: usize) -> Option<usize>
-    requires lanes { N ≤ 64 }
-    requires room { at + N ≤ length bytes.now }
-    requires short { length bytes.now ≤ at + N + N }
-    requires before { AllBefore IsWhitespace bytes.now at }
-    ensures { FindsFirstNot IsWhitespace bytes.now (length bytes.now) result }
-{
-    match first_in::<N>(bytes, at) {
-        None => first_in::<N>(bytes, bytes.len() - N),
-        found => found,
-    }
-}
-
-/// The first byte that is no whitespace of a rest of fewer than 32 bytes.
-#[inline(always)]
-fn first_in_rest(bytes: &[u8], at: usize) -> Option<usize>
-    requires inside { at ≤ length bytes.now }
-    requires short { length bytes.now ≤ at + LANES }
-    requires before { AllBefore IsWhitespace bytes.now at }
-    ensures { FindsFirstNot IsWhitespace bytes.now (length bytes.now) result }
-{
-    match bytes.len() - at {
-        0..=7 => first_one_by_one(bytes, at, bytes.len()),
-        8..=15 => first_in_two::<8>(bytes, at),
-        _ => first_in_two::<16>(bytes, at),
-    }
-}
-
-/// The first byte that is no whitespace from `from` up to `to`, byte by byte.
-#[inline(always)]
-fn first_one_by_one(bytes: &[u8], from: usize, to: usize) -> Option<usize>
-    requires inside { to ≤ length bytes.now }
-    requires before { AllBefore IsWhitespace bytes.now from }
-    ensures { FindsFirstNot IsWhitespace bytes.now to result }
-{
-    for at in from..to {
-        if !is_whitespace(bytes[at]) {
-            return Some(at);
-        }
-    }
-    None
-}
-
-/// The last byte that is no whitespace among the `N` from `at` on.
-#[inline(always)]
-fn last_in<const N: usize>(bytes: &[u8], at: usize) -> Option<usize>
-    requires lanes { N ≤ 64 }
-    requires room { at + N ≤ length bytes.now }
-    requires after { AllFrom IsWhitespace bytes.now (at + N) }
-    ensures { FindsLastNot IsWhitespace bytes.now at result }
-{
-    let marked = not_whitespace::<N>(bytes, at);
-    if marked == 0 {
-        None
-    } else {
-        Some(at + highest(marked))
-    }
-}
-
-/// The last byte that is no whitespace of a front of at least `N` bytes and at most twice as many.
-#[inline(always)]
-fn last_in_two<const N: usize>(bytes: &[u8], end: usize) -> Option<usize>
-    requires lanes { N ≤ 64 }
-    requires room { N ≤ end }
-    requires short { end ≤ N + N }
-    requires inside { end ≤ length bytes.now }
-    requires after { AllFrom IsWhitespace bytes.now end }
-    ensures { FindsLastNot IsWhitespace bytes.now 0 result }
-{
-    match last_in::<N>(bytes, end - N) {
-        None => last_in::<N>(bytes, 0),
-        found => found,
-    }
-}
-
-/// The last byte that is no whitespace of a front of fewer than 32 bytes.
-#[inline(always)]
-fn last_in_rest(bytes: &[u8], end: usize) -> Option<usize>
-    requires inside { end ≤ length bytes.now }
-    requires short { end ≤ LANES }
-    requires after { AllFrom IsWhitespace bytes.now end }
-    ensures { FindsLastNot IsWhitespace bytes.now 0 result }
-{
-    match end {
-        0..=7 => last_one_by_one(bytes, 0, end),
-        8..=15 => last_in_two::<8>(bytes, end),
-        _ => last_in_two::<16>(bytes, end),
-    }
-}
-
-/// The last byte that is no whitespace from `from` up to `to`, byte by byte.
-#[inline(always)]
-fn last_one_by_one(bytes: &[u8], from: usize, to: usize) -> Option<usize>
-    requires inside { to ≤ length bytes.now }
-    requires after { AllFrom IsWhitespace bytes.now to }
-    ensures { FindsLastNot IsWhitespace bytes.now from result }
-{
-    for at in (from..to).rev() {
-        if !is_whitespace(bytes[at]) {
-            return Some(at);
-        }
-    }
-    None
-}
-
-#[inline]
-fn upper(byte: u8) -> u8
-    ensures { result ≡ upper_image byte }
-{
-    if byte.is_ascii_lowercase() {
-        byte - 32
-    } else {
-        byte
-    }
-}
-
-#[inline]
-fn lower(byte: u8) -> u8
-    ensures { result ≡ lower_image byte }
-{
-    if byte.is_ascii_uppercase() {
-        byte + 32
-    } else {
-        byte
-    }
-}
-
-#[inline]
-fn is_whitespace(byte: u8) -> bool
-    ensures { IsTrue result ↔ IsWhitespace byte }
-{
-    matches!(byte, b' ' | b'\t' | b'\n' | 0x0b | 0x0c | b'\r')
 }

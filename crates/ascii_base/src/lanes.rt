@@ -1,11 +1,9 @@
-//! Tests and maps of several bytes at once, at any number of lanes up to 64.
+//! Tests of several bytes at once.
 
-ghost use Rattle.std.specs.Prelude.{ℕ, ◌≡◌, ◌≢◌, ◌<◌, ◌≤◌, ◌+◌, ◌*◌, ◌↔◌, IsTrue, map, length};
+ghost use Rattle.std.specs.Prelude.{ℕ, ◌≡◌, ◌≢◌, ◌<◌, ◌≤◌, ◌+◌, ◌*◌, ◌↔◌, IsTrue, length};
 ghost use Rattle.std.specs.Prelude.{slice_index};
 ghost use Rattle.std.specs.Int.{bit_at};
-ghost use Rattle.ascii_base.specs.Case.{upper_image, lower_image};
-ghost use Rattle.ascii_base.specs.Class.{IsWhitespace};
-ghost use Rattle.ascii_base.specs.Lanes.{Marks, SameBefore};
+ghost use Rattle.ascii_base.specs.Lanes.{SameBefore};
 
 use std::simd::prelude::*;
 
@@ -18,29 +16,6 @@ pub(crate) const WIDE: usize = 2 * LANES;
 /// How many bytes one test of `is_quiet` takes.
 pub(crate) const QUIET: usize = 4 * LANES;
 
-/// Marks the bytes over 127 among the `N` from `at` on.
-#[inline(always)]
-pub(crate) fn others<const N: usize>(bytes: &[u8], at: usize) -> u64
-    requires lanes { N ≤ 64 }
-    requires room { at + N ≤ length bytes.now }
-    ensures { Marks (λ byte. byte < 128) bytes.now at N result }
-{
-    let lanes = Simd::<u8, N>::from_slice(&bytes[at..]);
-    lanes.simd_ge(Simd::splat(128)).to_bitmask()
-}
-
-/// Marks the bytes that are no whitespace among the `N` from `at` on.
-#[inline(always)]
-pub(crate) fn not_whitespace<const N: usize>(bytes: &[u8], at: usize) -> u64
-    requires lanes { N ≤ 64 }
-    requires room { at + N ≤ length bytes.now }
-    ensures { Marks IsWhitespace bytes.now at N result }
-{
-    let lanes = Simd::<u8, N>::from_slice(&bytes[at..]);
-    let from_tab = lanes - Simd::splat(b'\t');
-    (from_tab.simd_ge(Simd::splat(5)) & lanes.simd_ne(Simd::splat(b' '))).to_bitmask()
-}
-
 /// Whether the 128 bytes from `at` on are all under 128, by one test.
 #[inline(always)]
 pub(crate) fn is_quiet(bytes: &[u8], at: usize) -> bool
@@ -51,24 +26,6 @@ pub(crate) fn is_quiet(bytes: &[u8], at: usize) -> bool
     let back = u8x32::from_slice(&bytes[at + 2 * LANES..])
         | u8x32::from_slice(&bytes[at + 3 * LANES..]);
     (front | back).simd_ge(u8x32::splat(128)).to_bitmask() == 0
-}
-
-/// Each byte of `a` to `z` as that of `A` to `Z`.
-#[inline(always)]
-pub(crate) fn upper_of(lanes: u8x32) -> u8x32
-    ensures { result ≡ map upper_image lanes }
-{
-    let is_lower = (lanes - u8x32::splat(b'a')).simd_lt(u8x32::splat(26));
-    lanes - is_lower.select(u8x32::splat(32), u8x32::splat(0))
-}
-
-/// Each byte of `A` to `Z` as that of `a` to `z`.
-#[inline(always)]
-pub(crate) fn lower_of(lanes: u8x32) -> u8x32
-    ensures { result ≡ map lower_image lanes }
-{
-    let is_upper = (lanes - u8x32::splat(b'A')).simd_lt(u8x32::splat(26));
-    lanes + is_upper.select(u8x32::splat(32), u8x32::splat(0))
 }
 
 /// Whether the `N` bytes from `at` on are the same in both when case doesn't count: no two bytes of a

@@ -5,7 +5,9 @@
 #![tactic(auto)]
 
 pub mod ascii_char;
+pub mod classes;
 pub mod free_functions;
+mod images;
 pub mod kernels;
 mod lanes;
 pub mod range;

@@ -1,6 +1,7 @@
 ghost use Rattle.std.specs.Prelude.{◌≤◌};
 
 use super::same;
+use ascii_base::classes::{Blank, Digit, Token};
 use ascii_base::kernels;
 
 #[test]
@@ -40,6 +41,22 @@ fn ends(rt: HostRuntime) {
 }
 
 #[test]
+fn searches_by_class(rt: HostRuntime) {
+    same(&rt, kernels::first_not::<Digit>(b"42px"), Some(2));
+    same(&rt, kernels::first_not::<Digit>(b"42"), None);
+    same(&rt, kernels::last_not::<Digit>(b"v42"), Some(0));
+    same(&rt, kernels::last_not::<Digit>(b""), None);
+    same(
+        &rt,
+        kernels::first_not::<Token>(b"Content-Type: a"),
+        Some(12),
+    );
+    let long = b"x-a-name-that-is-longer-than-sixty-four-bytes-so-that-all-steps-are-taken: y";
+    same(&rt, kernels::first_not::<Token>(long), Some(73));
+    same(&rt, kernels::last_not::<Token>(long), Some(74));
+}
+
+#[test]
 fn others(rt: HostRuntime) {
     let mut text = [0x7f; 64];
     same(&rt, kernels::first_other(&text), None);
@@ -49,70 +66,113 @@ fn others(rt: HostRuntime) {
     same(&rt, kernels::first_other(&text), Some(31));
 }
 
-// Texts of each length up to past the widest step, with a byte of another kind at each place: what a
-// kernel gives there beside a plain loop.
-const LONGEST: usize = 129;
+// Each kernel at each length and alignment, beside a plain loop: a text of up to 300 bytes that begins
+// at each of 64 places of a buffer, with two bytes of another kind in it.
+const LONGEST: usize = 300;
 
-fn marked(length: usize, places: [usize; 2], byte: u8, mark: u8) -> [u8; LONGEST]
-    requires { length ≤ LONGEST }
+const PLACES: usize = 64;
+
+const ROOM: usize = LONGEST + PLACES;
+
+/// Writes `length` bytes from `start` on: all are the first of `bytes`, except two, the second.
+fn write_marked(buffer: &mut [u8; ROOM], start: usize, length: usize, bytes: [u8; 2])
+    requires { start + length ≤ ROOM }
 {
-    let mut text = [b'-'; LONGEST];
-    for at in 0..length {
-        text[at] = if at == places[0] || at == places[1] {
-            mark
-        } else {
-            byte
-        };
+    for at in start..start + length {
+        buffer[at] = bytes[0];
     }
-    text
+    if length > 0 {
+        buffer[start + length / 3] = bytes[1];
+        buffer[start + length - 1 - length / 4] = bytes[1];
+    }
 }
 
 #[test]
-fn searches_at_each_place(rt: HostRuntime) {
-    for length in 0..LONGEST + 1 {
-        for place in 0..length + 1 {
-            let text = marked(length, [place, (place + length) / 2], b' ', 0x85);
-            let text = &text[..length];
+fn searches_at_each_length_and_alignment(rt: HostRuntime) {
+    let mut buffer = [b'-'; ROOM];
+    for start in 0..PLACES {
+        for length in 0..LONGEST + 1 {
+            write_marked(&mut buffer, start, length, [b' ', 0x85]);
+            let text = &buffer[start..start + length];
             let first = text.iter().position(|byte| *byte > 127);
             let last = text.iter().rposition(|byte| *byte > 127);
-            same(&rt, kernels::first_other(text), first);
-            same(&rt, kernels::first_not_whitespace(text), first);
-            same(&rt, kernels::last_not_whitespace(text), last);
+            let found = [
+                kernels::first_other(text),
+                kernels::first_not_whitespace(text),
+                kernels::first_not::<Blank>(text),
+            ];
+            assert!(rt; found == [first; 3], "{length} from {start}");
+            let found = [
+                kernels::last_not_whitespace(text),
+                kernels::last_not::<Blank>(text),
+            ];
+            assert!(rt; found == [last; 2], "{length} from {start}");
         }
     }
 }
 
 #[test]
-fn comparisons_at_each_place(rt: HostRuntime) {
-    for length in 0..LONGEST + 1 {
-        for place in 0..length {
-            let upper = marked(length, [place, place], b'Z', 0xda);
-            let lower = marked(length, [place, place], b'z', 0xda);
-            let other = marked(length, [place, place], b'z', 0xfa);
-            let (upper, lower, other) = (&upper[..length], &lower[..length], &other[..length]);
-            assert!(rt;
+fn comparisons_at_each_length_and_alignment(rt: HostRuntime) {
+    let mut upper = [b'-'; ROOM];
+    let mut lower = [b'-'; ROOM];
+    let mut other = [b'-'; ROOM];
+    for start in 0..PLACES {
+        for length in 0..LONGEST + 1 {
+            let end = start + length;
+            write_marked(&mut upper, start, length, [b'Z', 0xda]);
+            write_marked(&mut lower, start, length, [b'z', 0xda]);
+            write_marked(&mut other, start, length, [b'z', 0xfa]);
+            let (upper, lower, other) = (
+                &upper[start..end],
+                &lower[start..end],
+                &other[start..end],
+            );
+            let found = [
                 kernels::eq_ignore_case(upper, lower),
-                "{place} of {length}"
-            );
-            assert!(rt;
-                !kernels::eq_ignore_case(upper, other),
-                "{place} of {length}"
-            );
+                kernels::eq_ignore_case(upper, other),
+            ];
+            assert!(rt; found == [true, length == 0], "{length} from {start}");
         }
     }
 }
 
 #[test]
-fn changes_at_each_place(rt: HostRuntime) {
-    for length in 0..LONGEST + 1 {
-        for place in 0..length {
-            let upper = marked(length, [place, place], b'Z', 0xfa);
-            let lower = marked(length, [place, place], b'z', 0xfa);
+fn changes_at_each_length_and_alignment(rt: HostRuntime) {
+    let mut upper = [b'-'; ROOM];
+    let mut lower = [b'-'; ROOM];
+    for start in 0..PLACES {
+        for length in 0..LONGEST + 1 {
+            let end = start + length;
+            write_marked(&mut upper, start, length, [b'Z', 0xfa]);
+            write_marked(&mut lower, start, length, [b'z', 0xfa]);
             let (mut raised, mut lowered) = (lower, upper);
-            kernels::upper_in_place(&mut raised[..length]);
-            kernels::lower_in_place(&mut lowered[..length]);
-            assert!(rt; raised == upper, "{place} of {length}");
-            assert!(rt; lowered == lower, "{place} of {length}");
+            kernels::upper_in_place(&mut raised[start..end]);
+            kernels::lower_in_place(&mut lowered[start..end]);
+            assert!(rt;
+                raised[start..end] == upper[start..end],
+                "{length} from {start}"
+            );
+            assert!(rt;
+                lowered[start..end] == lower[start..end],
+                "{length} from {start}"
+            );
+            assert!(rt; raised[..start] == lower[..start], "{length} from {start}");
+            assert!(rt; raised[end..] == lower[end..], "{length} from {start}");
+        }
+    }
+}
+
+#[test]
+fn each_byte_past_127_at_each_place(rt: HostRuntime) {
+    let mut text = [b'~'; 130];
+    for length in 0..131 {
+        for place in 0..length {
+            for byte in 128..=255 {
+                text[place] = byte;
+                let found = kernels::first_other(&text[..length]);
+                assert!(rt; found == Some(place), "{byte} at {place} of {length}");
+            }
+            text[place] = b'~';
         }
     }
 }

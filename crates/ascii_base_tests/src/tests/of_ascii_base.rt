@@ -2,10 +2,11 @@
 
 use super::shows;
 use ascii_base::ascii_char::{AsciiChar, ToAsciiChar};
+use ascii_base::classes::{Ascii, ClassBy, Digit, Whitespace};
 use ascii_base::free_functions::{caret_decode, caret_encode};
 use ascii_base::kernels::{
-    eq_ignore_case, first_not_whitespace, first_other, last_not_whitespace, lower_in_place,
-    upper_in_place,
+    eq_ignore_case, first_not, first_not_whitespace, first_other, last_not, last_not_whitespace,
+    lower_in_place, upper_in_place,
 };
 use ascii_base::range::AsciiRange;
 use std::collections::HashSet;
@@ -214,6 +215,46 @@ fn to_ascii_char_error_1(rt: HostRuntime) {
 }
 
 #[test]
+fn classes_1(rt: HostRuntime) {
+    let alloc = rt.alloc();
+    shows(
+        &rt,
+        alloc,
+        &(
+            // classes::Class::has
+            Digit::has(b'7'),
+            // classes::ClassBy::marks
+            <Digit as ClassBy<4>>::marks(b"42px", 0),
+        ),
+        "(true, 12)",
+    );
+}
+
+#[test]
+fn ascii_1(rt: HostRuntime) {
+    let alloc = rt.alloc();
+    // ClassBy<N> for Ascii::marks
+    shows(
+        &rt,
+        alloc,
+        &<Ascii as ClassBy<4>>::marks(b"a\xc4b\xff", 0),
+        "10",
+    );
+}
+
+#[test]
+fn whitespace_1(rt: HostRuntime) {
+    let alloc = rt.alloc();
+    // ClassBy<N> for Whitespace::marks
+    shows(
+        &rt,
+        alloc,
+        &<Whitespace as ClassBy<4>>::marks(b"a \tb", 0),
+        "9",
+    );
+}
+
+#[test]
 fn free_functions_1(rt: HostRuntime) {
     let alloc = rt.alloc();
     shows(
@@ -233,14 +274,32 @@ fn free_functions_1(rt: HostRuntime) {
 #[test]
 fn kernels_1(rt: HostRuntime) {
     let alloc = rt.alloc();
-    // kernels::first_other
-    shows(&rt, alloc, &first_other(b"ab\xc4"), "Some(2)");
+    shows(
+        &rt,
+        alloc,
+        &(
+            // kernels::first_not
+            first_not::<Digit>(b"42px"),
+            first_not::<Digit>(b"42"),
+            // kernels::last_not
+            last_not::<Digit>(b"v42"),
+            last_not::<Digit>(b"42"),
+            // kernels::first_other
+            first_other(b"ab\xc4"),
+        ),
+        "(Some(2), None, Some(0), None, Some(2))",
+    );
     // kernels::upper_in_place
     {
         let mut bytes = *b"ab-7";
         upper_in_place(&mut bytes);
         shows(&rt, alloc, &(bytes == *b"AB-7"), "true");
     }
+}
+
+#[test]
+fn kernels_2(rt: HostRuntime) {
+    let alloc = rt.alloc();
     // kernels::lower_in_place
     {
         let mut bytes = *b"AB-7";
@@ -256,16 +315,11 @@ fn kernels_1(rt: HostRuntime) {
             // kernels::first_not_whitespace
             first_not_whitespace(b" \tab"),
             first_not_whitespace(b"  "),
+            // kernels::last_not_whitespace
+            last_not_whitespace(b"ab \n"),
         ),
-        "(true, Some(2), None)",
+        "(true, Some(2), None, Some(1))",
     );
-}
-
-#[test]
-fn kernels_2(rt: HostRuntime) {
-    let alloc = rt.alloc();
-    // kernels::last_not_whitespace
-    shows(&rt, alloc, &last_not_whitespace(b"ab \n"), "Some(1)");
 }
 
 #[test]

@@ -4,13 +4,13 @@ use Rattle.ascii_base.proofs.LanesLemmas.{before_more, first_mark, no_bit}
 use Rattle.ascii_base.proofs.kernels.first_in.Goals as goal
 
 pub returns-then-marked-eq0 : goal.returns-then-marked-eq0
-returns-then-marked-eq0 g c = before_more _ _ _ _ _ c.not_whitespace-marked.ensures
+returns-then-marked-eq0 g c = before_more _ _ _ _ _ c.marks-marked.ensures
     c.requires.room g.row.N (omega arith) (λ k l. no_bit _ c.if-marked-eq0.true k)
     c.requires.before
 
 pub returns-else-marked-eq0 : goal.returns-else-marked-eq0
 returns-else-marked-eq0 g c =
-    let low = bit_at-trailing_zeros w64 c.not_whitespace-marked.result (omega arith)
+    let low = bit_at-trailing_zeros w64 c.marks-marked.result (omega arith)
     (omega arith) in
-    first_mark _ _ _ _ _ c.not_whitespace-marked.ensures c.requires.room _ low.1 low.2
+    first_mark _ _ _ _ _ c.marks-marked.ensures c.requires.room _ low.1 low.2
     c.requires.before

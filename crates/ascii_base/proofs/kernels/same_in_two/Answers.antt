@@ -2,8 +2,8 @@ use Rattle.std.proofs.Common.{arith, rules}
 use Rattle.ascii_base.proofs.CaseLemmas.{same_shorter, same_front}
 use Rattle.ascii_base.proofs.kernels.same_in_two.Goals as goal
 
-pub is_same-requires-then-is_same-clause-before : goal.is_same-requires-then-is_same-clause-before
-is_same-requires-then-is_same-clause-before g c =
+pub is_same-requires-else-last-eq0-clause-before : goal.is_same-requires-else-last-eq0-clause-before
+is_same-requires-else-last-eq0-clause-before g c =
     same_shorter _ _ _ _ (omega arith) (c.is_same.ensures.0 c.if-is_same.true)
 
 pub returns-else-is_same : goal.returns-else-is_same

@@ -2,8 +2,8 @@ use Rattle.std.proofs.Common.{◌+◌, arith, rules}
 use Rattle.ascii_base.proofs.CaseLemmas.{same_front, same_byte}
 use Rattle.ascii_base.proofs.kernels.same_one_by_one.Goals as goal
 
-pub returns-then-lower : goal.returns-then-lower
-returns-then-lower c =
+pub returns-then-of : goal.returns-then-of
+returns-then-of c =
     let xs = c.args.first.now in
     let ys = c.args.second.now in
     let at = c.loop-at.at in (
