@@ -1,16 +1,12 @@
 -- The parts that a search by memchr cuts a text into.
-use Rattle.std.proofs.Common.{Bool, Option, ℕ, ◌≡◌, ◌+◌, ◌<◌, ◌==◌, false, ltb, List, ◌∷◌, ◌++◌}
-use Rattle.std.proofs.Common.{length, take, drop, None, Some, ap, ◌∙◌, subst, arith, inr, eqb-true}
+use Rattle.std.proofs.Common.{Bool, ℕ, ◌≡◌, ◌+◌, ◌-◌, ◌<◌, ◌≤◌, ◌==◌, false, List, ◌∷◌, ◌++◌}
+use Rattle.std.proofs.Common.{length, take, drop, None, Some, arith, inl, inr, eqb-true}
 use Rattle.std.proofs.Common.{length-drop}
-use Rattle.std.proofs.lemmas.Bool.{both_ways, cond_both, false_from_ne_true, ltb-true, ltb-false}
-use Rattle.std.proofs.lemmas.List.{get_or-drop, drop_more}
+use Rattle.std.proofs.lemmas.Bool.{cases_lt, false_from_ne_true}
+use Rattle.std.proofs.lemmas.List.{get_or-drop, get_or-take, length-take-le, take_all, drop_more}
 use Rattle.std.proofs.lemmas.Grind.{common_steps}
 use Rattle.std.proofs.lemmas.List.Elements.{All-from_get_or}
-use Rattle.std.proofs.lemmas.List.Sums.{fails_before_first, passes_at_first}
-use Rattle.std.specs.List.{position, position_or_len}
-use Rattle.memchr.specs.Find.{IsFirstByte, IsLastByte, Nowhere, Passes, TakesFirst, first_of}
-use Rattle.memchr.specs.Find.{is_byte, places}
-use Rattle.memchr.proofs.lemmas.ValueLemmas.{IsFirstByte-value}
+use Rattle.memchr.specs.Find.{IsFirstByte, IsLastByte, Nowhere, Passes, is_byte}
 use Rattle.ascii.specs.Found.{Free, HasWholeLines}
 
 module _ (on : ℕ) (codes : List ℕ) where
@@ -35,27 +31,60 @@ pub whole_at : (codes : List ℕ) (place : ℕ) → place < length codes
 whole_at codes place inside here =
     inr (take place codes, let feed = eqb-true _ _ here in grind (arith, common_steps))
 
--- the head of the list of places is the first place
-module _ (test : ℕ → Bool) (codes : List ℕ) where
-  first_position : IsFirstByte test codes (position test codes)
-  first_position =
-      let at = position_or_len test codes in
-      let before : Nowhere (Passes test codes) 0 at =
-      λ k low below. both_ways _ (fails_before_first test codes k 0 below) in
-      cond_both (ltb at (length codes)) (Some at) None (IsFirstByte test codes)
-      (λ inside. (
-        record { low = omega arith; high = ltb-true _ _ inside; before = before },
-        passes_at_first test codes 0 (ltb-true _ _ inside),
-      ))
-      (λ past k low high. before k low (omega (arith, ltb-false _ _ past)))
+-- a search of the first n codes, and then of those after them, is a search of all of them
+module _ (test : ℕ → Bool) (codes : List ℕ) (n : ℕ) (room : n ≤ length codes) where
+  pub first_near : (place : ℕ) → IsFirstByte test (take n codes) (Some place)
+      → IsFirstByte test codes (Some place)
+  first_near place near =
+      let short : place < n = omega (arith, near.0.high, length-take-le n codes room) in (
+        record {
+          low = omega arith;
+          high = omega (arith, short);
+          before = λ k low high here. near.0.before k low high
+              (rw (get_or-take n codes k 0 (omega (arith, short))) here);
+        },
+        rw (get_or-take n codes place 0 short) at near.1,
+      )
 
-  first_is : (answer : Option ℕ) → first_of (places test codes) ≡ answer
-      → IsFirstByte test codes answer
-  first_is answer is = subst (IsFirstByte test codes)
-      (IsFirstByte-value test codes _ first_position ∙ is) first_position
+  not_near : IsFirstByte test (take n codes) None → Nowhere (Passes test codes) 0 n
+  not_near none k low high here = none k low (omega (arith, length-take-le n codes room))
+      (rw (get_or-take n codes k 0 high) here)
 
-  pub first_of_places : (answer : Option ℕ) (others : List ℕ)
-      → TakesFirst (places test codes) answer others → IsFirstByte test codes answer
-  unfolding first_of
-  first_of_places None others none = first_is None (ap first_of none.0)
-  first_of_places (Some place) others some = first_is (Some place) (ap first_of some)
+  far_at : (k : ℕ) → n ≤ k → Passes test codes k → Passes test (drop n codes) (k - n)
+  far_at k past here =
+      let same : n + (k - n) ≡ k = omega arith in
+      rw (get_or-drop n codes (k - n) 0, same) here
+
+  nowhere_before : (end : ℕ) → end ≤ length codes → IsFirstByte test (take n codes) None
+      → Nowhere (Passes test (drop n codes)) 0 (end - n) → Nowhere (Passes test codes) 0 end
+  nowhere_before end inside near far k low high here = elim (cases_lt k n) [
+    | inl below ↦ not_near near k low below here
+    | inr past ↦ far (k - n) (omega arith) (omega arith) (far_at k past here)
+  ]
+
+  far_part : take (length codes - n) (drop n codes) ≡ drop n codes
+  far_part = take_all _ _ (omega (arith, length-drop n codes))
+
+  pub first_far : (place : ℕ) → IsFirstByte test (take n codes) None
+      → IsFirstByte test (take (length codes - n) (drop n codes)) (Some place)
+      → IsFirstByte test codes (Some (n + place))
+  first_far place near cut =
+      let far = rw far_part at cut in
+      let inside : n + place < length codes =
+      omega (arith, far.0.high, length-drop n codes) in (
+        record {
+          low = omega arith;
+          high = inside;
+          before = nowhere_before (n + place) (omega arith) near
+              (λ k low high. far.0.before k low (omega arith));
+        },
+        rw (get_or-drop n codes place 0) at far.1,
+      )
+
+  pub none_far : IsFirstByte test (take n codes) None
+      → IsFirstByte test (take (length codes - n) (drop n codes)) None
+      → IsFirstByte test codes None
+  none_far near cut =
+      let far = rw far_part at cut in
+      nowhere_before (length codes) (omega arith) near
+      (λ k low high. far k low (omega (arith, length-drop n codes)))

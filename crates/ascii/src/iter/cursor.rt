@@ -6,7 +6,8 @@ ghost use Rattle.std.proofs.Props.{props};
 ghost use Rattle.memchr.specs.Find.{IsFirstByte, is_byte};
 
 use crate::ascii_str::AsciiStr;
-use memchr::{memchr_iter, memrchr};
+use memchr::arch::all::memchr::One;
+use memchr::{memchr, memrchr};
 
 /// A part of a text, and where it starts.
 #[derive(Clone, Copy)]
@@ -16,14 +17,34 @@ pub(crate) struct Cursor<'a> {
     ghost fits: { start + length view.bytes.now < 2 ^ 64 } by { Prim.hlevel props },
 }
 
-/// The first place of a byte. The first step of the iterator looks at the next 32 bytes before it
-/// goes on in wide steps, which serves separators that stand close together.
+/// The number of bytes that are searched inline first: most separators are close together.
+const NEAR: usize = 32;
+
+/// Returns the position of the first byte that is `on`, or `None` if there is none. The search is
+/// inlined, and cut down by the compiler if there are at most `NEAR` bytes.
 #[inline(always)]
-#[tactic(auto, using(crate::proofs::SearchLemmas::first_of_places))]
-fn first_place(on: u8, bytes: &[u8]) -> Option<usize>
+fn find_near(on: u8, bytes: &[u8]) -> Option<usize>
     ensures { IsFirstByte (is_byte on) bytes.now result }
 {
-    memchr_iter(on, bytes).next()
+    One::new(on).find(bytes)
+}
+
+/// Returns the position of the first byte that is `on`, or `None` if there is none. Only a search
+/// past the first `NEAR` bytes is a call.
+#[inline(always)]
+fn find_first(on: u8, bytes: &[u8]) -> Option<usize>
+    ensures { IsFirstByte (is_byte on) bytes.now result }
+{
+    if bytes.len() < NEAR {
+        return find_near(on, bytes);
+    }
+    match find_near(on, &bytes[..NEAR]) {
+        Some(position) => Some(position),
+        None => match memchr(on, &bytes[NEAR..]) {
+            Some(position) => Some(NEAR + position),
+            None => None,
+        },
+    }
 }
 
 impl<'a> Cursor<'a> {
@@ -66,7 +87,7 @@ impl<'a> Cursor<'a> {
         ensures { MatchOption result (Free on (text_of self.entry.view))
             (IsCutFirst on (part_in self.entry)) }
     {
-        let place = first_place(on, self.view.bytes)?;
+        let place = find_first(on, self.view.bytes)?;
         Some((self.to(place), self.from(place + 1)))
     }
 
