@@ -1,18 +1,19 @@
 -- What a string takes from an iterator, and from one that gives a known list.
-use Rattle.std.proofs.Common.{◌≡◌, ℕ, ◌+◌, ◌≤◌, List, [], ◌∷◌, ◌++◌, length, take, ◌<◌, Option}
-use Rattle.std.proofs.Common.{None, Some, Ok, Err, Result, IfOk, OnOk, IsOk, arith, length-append}
-use Rattle.std.proofs.Common.{refl, sym, ap, ◌∙◌}
+use Rattle.std.proofs.Common.{◌≡◌, ℕ, zero, suc, ◌+◌, ◌≤◌, List, [], ◌∷◌, ◌++◌, length, map, take}
+use Rattle.std.proofs.Common.{◌<◌, Option, None, Some, Ok, Err, Result, IfOk, OnOk, IsOk, arith}
+use Rattle.std.proofs.Common.{length-append, refl, sym, ap, ◌∙◌}
 use Rattle.std.specs.Iterator.{Drains, Yields}
 use Rattle.std.specs.List.{flat_map}
 use Rattle.std.specs.declared.alloc.AllocError.{AllocError}
 use Rattle.std.proofs.lemmas.Grind.{common_steps, flat_map-append}
 use Rattle.std.proofs.lemmas.Iterator.{YieldsList}
 use Rattle.std.proofs.lemmas.Iterator.Consumers.{YieldsList-end, YieldsList-so_far, YieldsList-turn}
-use Rattle.std.proofs.lemmas.List.{map-id}
+use Rattle.std.proofs.lemmas.List.{length-map, length-take-le}
+use Rattle.std.proofs.lemmas.List.{map-append, map-id, take-map, take_all}
 use Rattle.std.proofs.lemmas.List.Concat.{flat_map_single}
 use Rattle.std.proofs.lemmas.List.Folds.{flat_map-map, length-flat_map-take}
 use Rattle.ascii.specs.StringState.{StringState}
-use Rattle.ascii.specs.Extend.{Extends}
+use Rattle.ascii.specs.Extend.{Extends, Fills, TakesFront}
 
 -- the pieces of the items so far, and the next piece did not fit
 pub Extends-refused : {S A : Type 0} (steps : S → Option A → S → Type 0) (piece : A → List ℕ)
@@ -34,6 +35,116 @@ Extends-refused {S} {A} steps piece iter old mid new items left refused after re
       text = stays ∙ so_far;
       ended = rw is (refused, after, next, rw whole (omega arith));
     }
+
+module _ {S A : Type 0} (steps : S → Option A → S → Type 0) where
+  pub yields_both : (xs ys : List A) (s t u : S) → Yields steps s xs t → Yields steps t ys u
+      → Yields steps s (xs ++ ys) u
+  yields_both [] ys s t u same after = rw same after
+  yields_both (x ∷ xs) ys s t u before after =
+      (before.0, before.1, yields_both xs ys before.0 t u before.2 after)
+
+  -- the state after the first items of a run, and the next item
+  next_of : (xs : List A) (k : ℕ) (s t : S) → k < length xs → Yields steps s xs t
+      → (left : S) × (x : A) × (after : S)
+      × Yields steps s (take k xs) left × steps left (Some x) after
+  next_of [] k s t inside run = absurd (omega (arith, inside))
+  next_of (x ∷ xs) zero s t inside run = (s, x, run.0, refl, run.1)
+  next_of (x ∷ xs) (suc k) s t inside run =
+      let later = next_of xs k run.0 t (omega (arith, inside)) run.2 in
+      (later.0, later.1, later.2, (run.0, run.1, later.3), later.4)
+
+  module _ (code : A → ℕ) where
+    -- the codes of the items that an iterator has yielded so far are appended
+    pub record Gathers (iter left : S) (old now : StringState) : Type 0 where
+      pub items : List A
+      pub gave : Yields steps iter items left
+      pub text : now.text ≡ old.text ++ map code items
+      pub capacity : old.capacity ≤ now.capacity
+
+    -- each item adds one code
+    length_with : (text : List ℕ) (items : List A) (x : A)
+        → length (text ++ flat_map (λ x. code x ∷ []) (items ++ x ∷ []))
+        ≡ length text + length items + 1
+    length_with text items x =
+        simp (flat_map_single, length-append, length-map) (omega arith)
+
+    module _ (iter mid next : S) (old now new : StringState) (codes : List ℕ) (count : ℕ)
+        (before : Gathers iter mid old now) (run : Fills steps code mid next codes count) where
+      gathers_run : (u : Unit {0}) → TakesFront (take count codes) now new (Ok u)
+          → Gathers iter run.left old new
+      gathers_run u front = record {
+        items = before.items ++ run.items;
+        gave = yields_both before.items run.items iter mid run.left before.gave run.gave;
+        text = grind (
+          arith,
+          common_steps,
+          map-append,
+          take_all,
+          front.text,
+          front.ended,
+          run.start,
+          before.text,
+        );
+        capacity = omega (arith, before.capacity, front.capacity);
+      }
+
+      -- the array is full, and the iterator may go on
+      pub gathers_more : (u : Unit {0}) → TakesFront (take count codes) now new (Ok u)
+          → count ≡ length codes → Gathers iter next old new
+      gathers_more u front full = rw (run.full full) at (gathers_run u front)
+
+      -- the array is not full, so the iterator has ended
+      pub Extends-gathered : (u : Unit {0}) → TakesFront (take count codes) now new (Ok u)
+          → count < length codes → Extends steps (λ x. code x ∷ []) iter old new (Ok u)
+      Extends-gathered u front short =
+          let all = gathers_run u front in
+          record {
+            items = all.items;
+            left = run.left;
+            gave = all.gave;
+            text = rw (flat_map_single code all.items) all.text;
+            ended = (next, run.ended short);
+          }
+
+      -- a code of the array did not fit
+      pub Extends-front : (result : Result (Unit {0}) AllocError) (e f : AllocError)
+          → result ≡ Err e → TakesFront (take count codes) now new (Err f)
+          → Extends steps (λ x. code x ∷ []) iter old new result
+      Extends-front result e f is front =
+          let inside : front.taken < length run.items =
+          omega (arith, ap length run.start, length-map run.items code) in
+          let stop = next_of run.items front.taken mid run.left inside run.gave in
+          let items = before.items ++ take front.taken run.items in
+          record {
+            items = items;
+            left = stop.0;
+            gave = yields_both before.items (take front.taken run.items) iter mid stop.0
+                before.gave stop.3;
+            text = rw (flat_map_single code items)
+                (grind (
+                  arith,
+                  common_steps,
+                  map-append,
+                  take-map,
+                  front.text,
+                  run.start,
+                  before.text,
+                ));
+            ended = rw is (
+              stop.1,
+              stop.2,
+              stop.4,
+              omega (
+                arith,
+                length_with old.text items stop.1,
+                ap length before.text,
+                length-append old.text (map code before.items),
+                length-map before.items code,
+                length-append before.items (take front.taken run.items),
+                length-take-le front.taken run.items (omega arith),
+              ),
+            );
+          }
 
 -- codes one by one are the text
 pub singles : (codes : List ℕ) → flat_map (λ code. code ∷ []) codes ≡ codes

@@ -1,6 +1,6 @@
 -- What extending a string from an iterator does.
-use Rattle.std.specs.Prelude.{◌≡◌, ℕ, ◌<◌, List, [], ◌∷◌, ◌++◌, length, Option, Some, None}
-use Rattle.std.specs.Prelude.{MatchResult}
+use Rattle.std.specs.Prelude.{◌≡◌, ℕ, ◌+◌, ◌<◌, ◌≤◌, List, [], ◌∷◌, ◌++◌, length, map, take}
+use Rattle.std.specs.Prelude.{Option, Some, None, MatchResult}
 use Rattle.std.specs.List.{flat_map}
 use Rattle.std.specs.Iterator.{Drains, Yields}
 use Rattle.std.specs.declared.result.Result.{Result}
@@ -26,3 +26,28 @@ abbrev pub Collects : {S A : Type 0} → (S → Option A → S → Type 0) → (
     → Type 0
 Collects {A = A} steps piece iter text =
     (items : List A) × Drains steps iter items × (text ≡ flat_map piece items)
+
+-- ---- cited by private functions only
+
+-- `codes` begins with the codes of `count` items that the iterator yielded, from its state `old` on.
+-- If `codes` has room for more, the iterator has no further item.
+pub record Fills {S A : Type 0} (steps : S → Option A → S → Type 0) (code : A → ℕ)
+    (old new : S) (codes : List ℕ) (count : ℕ) : Type 0 where
+  pub items : List A
+  pub left : S
+  pub gave : Yields steps old items left
+  pub inside : count ≤ length codes
+  pub start : take count codes ≡ map code items
+  pub full : count ≡ length codes → left ≡ new
+  pub ended : count < length codes → steps left None new
+
+-- The first `taken` codes are appended. `Ok`: they are all of `codes`. `Err`: with the next one the
+-- text would not fit the old capacity. The capacity never shrinks.
+pub record TakesFront (codes : List ℕ) (old new : StringState)
+    (result : Result (Unit {0}) AllocError) : Type 0 where
+  pub taken : ℕ
+  pub text : new.text ≡ old.text ++ take taken codes
+  pub ended : MatchResult result
+      (λ _. taken ≡ length codes)
+      (λ _. (taken < length codes) × (old.capacity < length old.text + taken + 1))
+  pub capacity : old.capacity ≤ new.capacity

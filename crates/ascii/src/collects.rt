@@ -1,22 +1,47 @@
 //! Owned text out of iterators.
 
-ghost use Rattle.std.specs.Prelude.{◌≡◌, ◌+◌, ◌≤◌, [], ◌∷◌, IfOk, List};
-ghost use Rattle.std.specs.Iterator.{Drains, IsFinite};
+ghost use Rattle.std.specs.Prelude.{◌≡◌, ◌+◌, ◌<◌, ◌≤◌, [], ◌∷◌, IfOk, List, length, take};
+ghost use Rattle.std.specs.Iterator.{Drains, IsFinite, IsNearerEnd};
 ghost use Rattle.std.specs.List.{flat_map};
-ghost use Rattle.ascii_base.specs.Code.{code_text};
+ghost use Rattle.std.specs.Str.{IsAscii};
+ghost use Rattle.ascii_base.specs.Code.{code_of, code_text};
 ghost use Rattle.ascii_base.specs.declared.ascii_char.AsciiChar.{AsciiChar as Char};
 ghost use Rattle.ascii.specs.declared.ascii_str.AsciiStr.{AsciiStr as View};
-ghost use Rattle.ascii.specs.Extend.{Collects, Extends};
+ghost use Rattle.ascii.specs.Extend.{Collects, Extends, Fills, TakesFront};
 ghost use Rattle.ascii.specs.View.{text_of};
 
 use crate::ascii_str::AsciiStr;
 use crate::ascii_string::AsciiString;
+use crate::bytes;
 use ascii_base::ascii_char::AsciiChar;
 use std::alloc::{AllocError, Allocator};
 
+/// The number of characters of an iterator that are gathered before they are appended at once.
+const GATHERED: usize = 64;
+
+/// Fills a slice from its start with the codes of the characters that an iterator yields, and
+/// returns their number: less than the length only if the iterator has ended.
+#[inline(always)]
+fn gather<I: Iterator<Item = AsciiChar>>(iter: &mut I, codes: &mut [u8]) -> usize
+    requires can { I.can_next iter.old }
+    requires ends { IsFinite (I.remaining iter.old) }
+    ensures fills { Fills I.next_gives code_of iter.old iter.new codes.new result }
+    ensures ascii { IsAscii (take result codes.new) }
+    ensures nearer { 0 < result → result ≡ length codes.new
+        → IsNearerEnd I.can_next I.remaining iter.old iter.new }
+{
+    for at in 0..codes.len() {
+        match iter.next() {
+            Some(ch) => codes[at] = ch.as_byte(),
+            None => return at,
+        }
+    }
+    codes.len()
+}
+
 impl<A: Allocator> AsciiString<A> {
-    /// Appends the characters of an iterator that ends, one by one. Where memory is refused, those
-    /// before the refused one stay. It is never refused where all of them fit the capacity.
+    /// Appends the characters of an iterator that ends. On error, the characters before the first that
+    /// did not fit have been appended. Never fails if all of them fit the capacity.
     ///
     ///     let mut text = view("foo").to_ascii_string(alloc)?;
     ///     text.extend_chars(view("bar").chars()) // Ok(())
@@ -30,8 +55,28 @@ impl<A: Allocator> AsciiString<A> {
         ensures extends { Extends I.next_gives code_text iter self.old self.new result }
         ensures capacity { self.old.capacity ≤ self.new.capacity }
     {
-        for ch in iter {
-            self.push(ch)?;
+        let mut iter = iter;
+        let mut codes = [0; GATHERED];
+        loop {
+            let count = gather(&mut iter, &mut codes);
+            self.push_gathered(&codes[..count])?;
+            if count < GATHERED {
+                return Ok(());
+            }
+        }
+    }
+
+    /// Appends ASCII codes at once. If the allocation for all of them fails, appends them one by one
+    /// up to the first that does not fit.
+    fn push_gathered(&mut self, codes: &[u8]) -> Result<(), AllocError>
+        requires { IsAscii codes.now }
+        ensures { TakesFront codes.now self.old self.new result }
+    {
+        if self.push_str(bytes::as_ascii_str_unchecked(codes)).is_ok() {
+            return Ok(());
+        }
+        for at in 0..codes.len() {
+            self.push(AsciiChar::from_ascii_unchecked(codes[at]))?;
         }
         Ok(())
     }

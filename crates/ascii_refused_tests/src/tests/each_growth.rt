@@ -6,8 +6,8 @@ use std::alloc::{AllocError, Allocator, Global};
 use std::fmt;
 use std::process::Abort;
 
-/// An allocator that refuses one growth.
-pub type Heap = Refusing<Global>;
+/// An allocator of which one allocation fails, or two in a row.
+pub type Heap = Refusing<Refusing<Global>>;
 
 /// More growths than any call of these tests makes.
 const MANY: u64 = 400;
@@ -25,10 +25,29 @@ where
     F: Fn(&Heap) -> Result<String, AllocError>,
     requires { F.IsAlwaysCallable run }
 {
+    each_failure(rt, call, wanted, false, run)
+}
+
+/// Like `each_growth`, but the next growth after the refused one is refused too.
+pub fn each_two_growths<R: Abort + AllocGlobal, F>(rt: &R, call: &str, wanted: &[&str], run: F)
+where
+    F: Fn(&Heap) -> Result<String, AllocError>,
+    requires { F.IsAlwaysCallable run }
+{
+    each_failure(rt, call, wanted, true, run)
+}
+
+/// Like `each_two_growths` if `twice`, and like `each_growth` otherwise.
+fn each_failure<R: Abort + AllocGlobal, F>(rt: &R, call: &str, wanted: &[&str], twice: bool, run: F)
+where
+    F: Fn(&Heap) -> Result<String, AllocError>,
+    requires { F.IsAlwaysCallable run }
+{
     let mut wanted = wanted;
     let mut answered = false;
     for left in 0..MANY {
-        let heap = Refusing::new(rt.alloc(), left);
+        let next = if twice { left } else { u64::MAX };
+        let heap = Refusing::new(Refusing::new(rt.alloc(), next), left);
         match run(&heap) {
             Ok(answer) => {
                 if answered {

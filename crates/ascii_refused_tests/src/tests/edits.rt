@@ -1,6 +1,6 @@
 //! Growths of a string.
 
-use super::each_growth::{Heap, each_growth, told, view};
+use super::each_growth::{Heap, each_growth, each_two_growths, told, view};
 use ascii::{AsciiChar, AsciiString};
 use std::alloc::{AllocError, Global};
 use std::fmt::Write;
@@ -86,19 +86,27 @@ fn what_came_before_stays(rt: HostRuntime) {
 
 const LONG: &str = "abcdefghijklmnopqrstuvwxyzabcdefghijklmnopqrstuvwxyzabcdefghijklmnopqrstuvwxyz";
 
-/// What extending the empty string by the characters of `LONG` answers, whether the text behind it is a front
-/// of them that fills its room, and whether it is all of them.
+/// What extending an empty string with room for 10 by the characters of `LONG` answers, whether the text after it
+/// is a prefix of `LONG` that fills the capacity, and whether it is all of `LONG`.
 fn extended(alloc: Global, heap: &Heap) -> Result<String, AllocError> {
-    let mut string = AsciiString::new(heap);
+    let mut string = AsciiString::with_capacity(heap, 10)?;
     let answer = string.extend_chars(view(LONG).chars());
     let text = string.as_ascii_str().as_str();
-    let front = LONG.starts_with(text) && text.len() == string.capacity();
-    format!(in alloc; "{answer:?} {front} {}", text == LONG)
+    let fills = LONG.starts_with(text) && text.len() == string.capacity();
+    format!(in alloc; "{answer:?} {fills} {}", text == LONG)
 }
 
 #[test]
 fn characters_before_stay(rt: HostRuntime) {
     let alloc = rt.alloc();
     let wanted = ["Err(AllocError) true false", "Ok(()) false true"];
-    each_growth(&rt, "extend_chars", &wanted, |heap| extended(alloc, heap))
+    each_two_growths(&rt, "extend_chars", &wanted, |heap| extended(alloc, heap))
+}
+
+#[test]
+fn characters_are_appended_one_by_one_after_a_failure(rt: HostRuntime) {
+    let alloc = rt.alloc();
+    each_growth(&rt, "extend_chars", &["Ok(()) false true"], |heap| {
+        extended(alloc, heap)
+    })
 }

@@ -1,6 +1,6 @@
 //! Calls that make a text, a list of characters or a list of answers: the source stays.
 
-use super::each_growth::{Heap, each_growth, shown, view};
+use super::each_growth::{Heap, each_growth, each_two_growths, shown, view};
 use ascii::iter::{End, walk_line_spans, walk_lines, walk_split, walk_split_spans};
 use ascii::{AsciiChar, AsciiString, BoxedAsciiStr, RcAsciiStr};
 use std::alloc::{AllocError, Global};
@@ -38,7 +38,7 @@ static TEXTS: [(&str, &[&str]); 10] = [
     ("with_capacity", &["Err(AllocError)", "Ok(\"\")"]),
     ("from_char", &["Err(AllocError)", "Ok(\"a\")"]),
     ("from_chars", &["Err(AllocError)", "Ok(\"aB\")"]),
-    ("collect_chars", &["Err(AllocError)", "Ok(\"aB,c\")"]),
+    ("collect_chars", &["Ok(\"aB,c\")"]),
     ("collect_strs", &["Err(AllocError)", "Ok(\"aBc\")"]),
     ("to_ascii_string", &["Err(AllocError)", "Ok(\"aB,c\")"]),
     ("to_ascii_uppercase", &["Err(AllocError)", "Ok(\"AB,C\")"]),
@@ -56,6 +56,15 @@ fn texts(rt: HostRuntime) {
     for &(call, wanted) in &TEXTS {
         each_growth(&rt, call, wanted, |heap| made(alloc, heap, call));
     }
+}
+
+#[test]
+fn collected_characters(rt: HostRuntime) {
+    let alloc = rt.alloc();
+    let wanted = ["Err(AllocError)", "Ok(\"aB,c\")"];
+    each_two_growths(&rt, "collect_chars", &wanted, |heap| {
+        made(alloc, heap, "collect_chars")
+    })
 }
 
 /// A walk from both ends over the pieces or lines of a text.

@@ -49,7 +49,7 @@ static ADDED: [(&str, &str); 11] = [
 fn nothing_to_add(rt: HostRuntime) {
     let alloc = rt.alloc();
     for &(call, wanted) in &ADDED {
-        let heap = Refusing::new(alloc, 0);
+        let heap = Refusing::new(Refusing::new(alloc, 0), 0);
         let said = on_empty(alloc, &heap, call).expect(&rt, "refused");
         let answer = said.as_str();
         right(&rt, answer == wanted && !heap.met(), call, 0, answer);
@@ -95,7 +95,7 @@ static MADE: [(&str, &str); 11] = [
 fn nothing_to_make(rt: HostRuntime) {
     let alloc = rt.alloc();
     for &(call, wanted) in &MADE {
-        let heap = Refusing::new(alloc, 0);
+        let heap = Refusing::new(Refusing::new(alloc, 0), 0);
         let said = made(alloc, &heap, call).expect(&rt, "refused");
         let answer = said.as_str();
         right(&rt, answer == wanted && !heap.met(), call, 0, answer);
