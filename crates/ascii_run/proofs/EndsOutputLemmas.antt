@@ -6,7 +6,7 @@ use Rattle.std.proofs.lemmas.Grind.{flat_map-append}
 use Rattle.ascii.specs.declared.iter.walks.End.{End}
 use Rattle.ascii.specs.Walks.{ListAnswersTo, TakesEnd}
 use Rattle.ascii.proofs.EndsLemmas.{AnswersTo-all, AnswersTo-step}
-use Rattle.ascii_run.specs.ModeOutput.{ShowsEnds}
+use Rattle.ascii_run.specs.Modes.Ends.{ShowsEnds}
 
 -- the output of the answers so far, and what is still owed
 abbrev pub ShowsSoFar : {A : Type 0} → (Option A → List ℕ) → List A → List End → List ℕ → List A

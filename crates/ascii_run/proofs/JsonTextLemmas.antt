@@ -15,7 +15,7 @@ use Rattle.std.specs.List.{All, AllPass, flat_map, list_all}
 use Rattle.std.specs.Str.{IsAscii}
 use Rattle.json.specs.Print.{escape_byte, print, print_from}
 use Rattle.json.specs.Token.{Token, string}
-use Rattle.ascii_run.specs.JsonText.{AreForms, json_code, json_text}
+use Rattle.ascii_run.specs.Modes.Json.{AreForms, json_code, json_text}
 
 -- a code in a JSON string, as the writer has it
 json_code-is : (n : ℕ) → json_code n ≡ escape_byte n

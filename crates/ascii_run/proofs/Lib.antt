@@ -3,7 +3,7 @@ pub mod InlineLemmas
 pub mod JsonTextLemmas
 pub mod LineFeedLemmas
 pub mod ListLemmas
-pub mod PageLemmas
+pub mod OutputBufferLemmas
 pub mod PlainRunLemmas
 mod RunExamples
 pub mod RunsLemmas

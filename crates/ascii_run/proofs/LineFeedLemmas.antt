@@ -18,7 +18,8 @@ use Rattle.ascii.specs.Lines.{EndsInCr, Line, MayFollow, bodies, ending_text, li
 use Rattle.ascii.proofs.LinesLemmas.{LinesOf-lines_of}
 use Rattle.ascii.proofs.PiecesLemmas.{Free-from_absent}
 use Rattle.ascii_run.specs.declared.modes.Mode.TheVariants.{Lines}
-use Rattle.ascii_run.specs.ModeOutput.{IsOutput, with_line_feed}
+use Rattle.ascii_run.specs.Modes.Lines.{with_line_feed}
+use Rattle.ascii_run.specs.Modes.{IsOutput}
 use Rattle.ascii_run.proofs.ListLemmas.{last_is}
 
 -- a text with LF for each ending, and after a last line that has none

@@ -9,8 +9,8 @@ use Rattle.std.proofs.lemmas.List.{get_or-take, take_more}
 use Rattle.std.proofs.lemmas.List.Elements.{All-from_get_or, All-head, All-tail}
 use Rattle.std.specs.List.{All, flat_map}
 use Rattle.ascii_base.specs.Bytes.{IsFirstNot}
-use Rattle.ascii_run.specs.JsonText.{IsUnescaped, json_code}
-use Rattle.ascii_run.specs.ModeOutput.{IsShown, caret_text}
+use Rattle.ascii_run.specs.Modes.Json.{IsUnescaped, json_code}
+use Rattle.ascii_run.specs.Modes.Caret.{IsShown, caret_text}
 
 -- a code with the plain property is shown as itself
 abbrev pub ShowsPlain : (ℕ → Type 0) → (ℕ → List ℕ) → Type 0

@@ -10,7 +10,7 @@ use Rattle.ascii_run.specs.declared.faults.EngineFault.{EngineFault}
 use Rattle.ascii_run.specs.declared.faults.EngineFault.TheVariants.{NotAscii, Position, Memory}
 use Rattle.ascii_run.specs.declared.faults.EngineFault.TheVariants.{Read, Write}
 use Rattle.ascii_run.specs.declared.modes.Mode.{Mode}
-use Rattle.ascii_run.specs.ModeOutput.{IsFaultOf, IsOutput}
+use Rattle.ascii_run.specs.Modes.{IsFaultOf, IsOutput}
 
 -- between its old and its new remaining bytes the reader gave `bytes`, and it is at its end
 pub record ReadsAll (old new : Option (List ℕ)) (bytes : List ℕ) : Type 0 where

@@ -2,8 +2,7 @@ pub mod Devices
 pub mod Edit
 pub mod Engine
 pub mod Inline
-pub mod JsonText
-pub mod ModeOutput
+pub mod Modes
 pub mod OutputState
 pub mod Run
 pub mod Step

@@ -9,7 +9,7 @@ use Rattle.ascii_run.specs.declared.faults.EngineFault.{EngineFault}
 use Rattle.ascii_run.specs.declared.faults.EngineFault.TheVariants.{Write}
 use Rattle.ascii_run.specs.declared.modes.Mode.{Mode}
 use Rattle.ascii_run.specs.Engine.{AppendsFront}
-use Rattle.ascii_run.specs.ModeOutput.{IsOutput}
+use Rattle.ascii_run.specs.Modes.{IsOutput}
 
 -- ---- cited by private functions only
 

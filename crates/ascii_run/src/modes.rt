@@ -1,7 +1,31 @@
-//! The modes of a run from bytes to bytes.
+//! The modes of a run from bytes to bytes: a line for each in the table `put_output`, and a file for
+//! the output of each.
+
+ghost use Rattle.std.specs.Prelude.{◌≡◌, IfErr, OnErr, OnOk};
+ghost use Rattle.ascii.specs.View.{text_of};
+ghost use Rattle.ascii_run.specs.Engine.{StopsOutput};
+ghost use Rattle.ascii_run.specs.OutputState.{AppendsOutputTo, MayFail, output_state};
+
+mod caret;
+mod edit;
+mod ends;
+mod json_string;
+mod lines;
+mod tac;
 
 use crate::commands::Cmd;
+use crate::devices::Sink;
+use crate::faults::EngineFault;
+use crate::output_buffer::OutputBuffer;
+use ascii::AsciiStr;
 use ascii::iter::End;
+use caret::put_caret;
+use edit::edit_output;
+use ends::{put_ends, put_ends_spans};
+use json_string::put_json;
+use lines::put_lines;
+use std::alloc::Allocator;
+use tac::put_tac;
 
 /// What a run does with the text of its input.
 #[derive(Clone, Copy)]
@@ -25,4 +49,34 @@ pub enum Mode<'a> {
     Edit(&'a [Cmd<'a>]),
     /// The text as a compact JSON string.
     Json,
+}
+
+/// Appends the output of the mode for a text. On error, nothing has been appended.
+pub(crate) fn put_output<K: Sink, A: Allocator + Copy>(
+    alloc: A,
+    mode: Mode<'_>,
+    text: AsciiStr<'_>,
+    buffer: &mut OutputBuffer<A>,
+    writer: &mut K,
+) -> Result<(), EngineFault>
+    requires { MayFail (output_state K.Sink writer.old buffer.old) }
+    ensures ok { OnOk result (AppendsOutputTo mode.entry (text_of text.entry)
+        K.Sink writer.old buffer.old writer.new buffer.new) }
+    ensures err { IfErr result (StopsOutput mode.entry (text_of text.entry)) }
+    ensures kept { OnErr result (writer.new ≡ writer.old) }
+{
+    match mode {
+        Mode::Copy => buffer.put(writer, text.as_bytes()),
+        Mode::Lines => put_lines(text, buffer, writer),
+        Mode::Tac => put_tac(text, buffer, writer),
+        Mode::Caret => put_caret(text, buffer, writer),
+        Mode::Ends(script) => put_ends(text, script, buffer, writer),
+        Mode::EndsSpans(script) => put_ends_spans(text, script, buffer, writer),
+        Mode::Edit(cmds) => buffer.put(
+            writer,
+            edit_output(alloc, text, cmds)?.as_ascii_str().as_bytes(),
+        ),
+        Mode::Json => put_json(alloc, text, buffer, writer)?,
+    }
+    Ok(())
 }

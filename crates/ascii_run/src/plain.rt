@@ -29,7 +29,7 @@ pub(crate) trait Plain {
 pub(crate) struct Shown;
 
 impl Plain for Shown {
-    ghost use Rattle.ascii_run.specs.ModeOutput.{IsShown};
+    ghost use Rattle.ascii_run.specs.Modes.Caret.{IsShown};
 
     ghost is_plain = { IsShown };
 
@@ -50,7 +50,7 @@ impl Plain for Shown {
 pub(crate) struct Unescaped;
 
 impl Plain for Unescaped {
-    ghost use Rattle.ascii_run.specs.JsonText.{IsUnescaped};
+    ghost use Rattle.ascii_run.specs.Modes.Json.{IsUnescaped};
 
     ghost is_plain = { IsUnescaped };
 

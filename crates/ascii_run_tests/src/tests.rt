@@ -10,7 +10,7 @@ mod edit_table;
 mod engine;
 mod lengths;
 mod of_ascii_run;
-mod pages;
+mod output_buffer;
 mod picks;
 mod places;
 mod random_runs;

@@ -8,7 +8,7 @@ use Rattle.std.specs.declared.option.Option.{Option}
 use Rattle.std.specs.declared.result.Result.{Result}
 use Rattle.ascii_base.specs.Bytes.{FirstOther}
 use Rattle.ascii_run.specs.Engine.{EngineOutcome, IoState, ReadsAll}
-use Rattle.ascii_run.specs.ModeOutput.{IsFaultOf}
+use Rattle.ascii_run.specs.Modes.{IsFaultOf}
 use Rattle.ascii_run.specs.declared.faults.EngineFault.{EngineFault}
 use Rattle.ascii_run.specs.declared.faults.EngineFault.TheVariants.{NotAscii, Position, Memory}
 use Rattle.ascii_run.specs.declared.faults.EngineFault.TheVariants.{Read, Write}

@@ -2,7 +2,7 @@ use Rattle.std.proofs.Common.{ℕ, ◌≡◌, ltb, eqb, not, ◌&&◌, ◌||◌,
 use Rattle.std.proofs.Common.{refl, rules, arith}
 use Rattle.std.proofs.lemmas.Simd.{zip2_of_maps, zip2_splat, length-chunk}
 use lib.Lanes.{chunk}
-use Rattle.ascii_run.specs.ModeOutput.{IsShown}
+use Rattle.ascii_run.specs.Modes.Caret.{IsShown}
 use Rattle.ascii_base.proofs.LanesLemmas.{marks_of}
 use Rattle.ascii_run.proofs.plain.ShownPlain.marks_others.Goals as goal
 

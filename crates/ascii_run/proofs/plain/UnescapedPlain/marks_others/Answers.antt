@@ -1,7 +1,7 @@
 use Rattle.std.proofs.Common.{ℕ, ◌≡◌, ltb, eqb, ◌||◌, true, false, cond, bit_or, refl, rules, arith}
 use Rattle.std.proofs.lemmas.Simd.{zip2_of_maps, zip2_splat, length-chunk}
 use lib.Lanes.{chunk}
-use Rattle.ascii_run.specs.JsonText.{IsUnescaped}
+use Rattle.ascii_run.specs.Modes.Json.{IsUnescaped}
 use Rattle.ascii_base.proofs.LanesLemmas.{marks_of}
 use Rattle.ascii_run.proofs.plain.UnescapedPlain.marks_others.Goals as goal
 

@@ -1,0 +1,41 @@
+use Rattle.std.proofs.Common.{[], ◌++◌, arith, refl, rules}
+use Rattle.std.specs.Option.{option_map}
+use Rattle.ascii.specs.Spans.{line_in}
+use Rattle.ascii.proofs.EndsLemmas.{TakesEnd-by}
+use Rattle.ascii_run.specs.Modes.Ends.{span_text}
+use Rattle.ascii_run.proofs.EndsOutputLemmas.{shows_all, shows_more}
+use Rattle.ascii_run.proofs.OutputBufferLemmas.{MayFail-still, AppendsBytes-nil, AppendsBytes-trans}
+use Rattle.ascii_run.proofs.modes.ends.put_ends_spans.Goals as goal
+
+pub loop-end-init : goal.loop-end-init
+loop-end-init g c = (search rules, ([], AppendsBytes-nil _, search rules))
+
+pub loop-end-preserved : goal.loop-end-preserved
+loop-end-preserved g c =
+    let output = c.loop-end.invariant.1.0 in
+    let items = c.line_spans-lines.result in
+    let left = c.take_end.new.items in
+    let shown = span_text (option_map line_in c.take_end.result) in (
+      MayFail-still shown c.loop-end.invariant.0 c.put_span.ensures,
+      (
+        output ++ shown,
+        AppendsBytes-trans output shown c.loop-end.invariant.1.1 c.put_span.ensures,
+        shows_more span_text items left c.args.script.now c.loop-end.end-index
+            (c.loop-end.lines) _ (option_map line_in c.take_end.result) output _
+            (omega arith) (search rules) c.loop-end.invariant.1.2
+            (TakesEnd-by line_in _ c.take_end.result _ _
+            (λ is. (c.take_end.ensures.front is).0) (λ is. (c.take_end.ensures.back is).0)) refl,
+      ),
+    )
+
+pub returns : goal.returns
+returns g c = (
+  c.loop-end.invariant.1.0,
+  (
+    c.line_spans-lines.result,
+    c.line_spans-lines.ensures.iterates.spans,
+    shows_all span_text (c.line_spans-lines.result) (c.loop-end.lines) c.args.script.now
+        c.loop-end.end-index c.loop-end.invariant.1.0 (omega arith) c.loop-end.invariant.1.2,
+  ),
+  c.loop-end.invariant.1.1,
+)

@@ -1,8 +1,0 @@
-use Rattle.ascii.specs.View.{text_of}
-use Rattle.ascii_run.proofs.PageLemmas.{writes_output}
-use Rattle.ascii_run.proofs.outputs.write_output.Goals as goal
-
-pub returns-clause-tells : goal.returns-clause-tells
-returns-clause-tells g c =
-    writes_output c.args.mode (text_of c.args.text) _ _ _ _ c.in_ok-page.ensures.0 c.finish.result
-    c.in_ok-page.ensures.1 c.in_ok-put_output.ensures.ok c.finish.ensures

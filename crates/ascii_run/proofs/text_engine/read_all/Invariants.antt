@@ -1,0 +1,13 @@
+use Rattle.std.proofs.Common.{◌≡◌, ◌-◌, ◌^◌, vec_len}
+use Rattle.std.specs.Io.KnownBytes.{Consumes}
+use Rattle.ascii_run.proofs.text_engine.read_all.Given as goal
+
+-- the input holds what the reader gave, and no read has failed
+abbrev pub invariant-reads : goal.invariant-reads
+invariant-reads g l =
+    Consumes (g.S.Source.rest l.fn.reader) (g.S.Source.rest l.reader) l.input.items
+    × (g.S.Source.failures l.reader ≡ g.S.Source.failures l.fn.reader)
+
+-- the room left below the largest length
+abbrev pub decreases-reads : goal.decreases-reads
+decreases-reads g l = 2 ^ 64 - vec_len l.input

@@ -1,0 +1,35 @@
+-- The mode `Json`: a double quote, the characters of the text one by one, a double quote.
+use Rattle.std.specs.Prelude.{◌≡◌, ◌≢◌, ◌≤◌, ◌<◌, length, get_or, ℕ, ◌/◌, ◌%◌, List, [], ◌∷◌, ◌++◌}
+use Rattle.std.specs.Prelude.{if◌then◌else◌, ◌==◌, nat_lt, codes}
+use Rattle.std.specs.Char.{digit_char}
+use Rattle.std.specs.List.{flat_map}
+
+-- a code as it appears in a JSON string: `\b`, `\t`, `\n`, `\f`, `\r`, `\"`, `\\`, `\u00` and two
+-- hexadecimal digits for the other codes less than 32, otherwise itself
+abbrev pub json_code : ℕ → List ℕ
+json_code n =
+    if n == 8 then codes "\\b"
+    else (if n == 9 then codes "\\t"
+    else (if n == 10 then codes "\\n"
+    else (if n == 12 then codes "\\f"
+    else (if n == 13 then codes "\\r"
+    else (if n == 34 then codes "\\\""
+    else (if n == 92 then codes "\\\\"
+    else (if nat_lt n 32 then codes "\\u00" ++ digit_char (n / 16) ∷ digit_char (n % 16) ∷ []
+    else n ∷ [])))))))
+
+-- a text as a compact JSON string
+abbrev pub json_text : List ℕ → List ℕ
+json_text text = codes "\"" ++ (flat_map json_code text ++ codes "\"")
+
+-- ---- cited by private functions only
+
+-- the code appears as itself in a JSON string
+abbrev pub IsUnescaped : ℕ → Type 0
+IsUnescaped n = (32 ≤ n) × (n ≢ 34) × (n ≢ 92)
+
+-- `texts` are the JSON strings of the first `n` characters, each character by itself
+abbrev pub AreForms : ℕ → List (List ℕ) → Type 0
+AreForms n texts =
+    (length texts ≡ n)
+    × ((code : ℕ) → code < n → get_or texts code [] ≡ json_text (code ∷ []))

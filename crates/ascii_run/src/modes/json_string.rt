@@ -1,0 +1,108 @@
+//! The mode `Json`.
+
+ghost use Rattle.std.specs.Prelude.{◌≡◌, ◌<◌, [], ◌∷◌, IfOk, OnErr, OnOk, map};
+ghost use Rattle.std.specs.List.{flat_map};
+ghost use Rattle.ascii.specs.View.{text_of};
+ghost use Rattle.ascii_run.specs.Modes.Json.{AreForms, json_code, json_text};
+ghost use Rattle.ascii_run.specs.OutputState.{MayFail, AppendsTo, output_state};
+
+use crate::devices::Sink;
+use crate::output_buffer::OutputBuffer;
+use crate::plain::{Unescaped, first_other};
+use ascii::{AsciiStr, AsciiString, bytes};
+use json::Writer;
+use std::alloc::{AllocError, Allocator};
+
+/// The length up to which a text is appended as one piece.
+const SHORT: usize = 4_096;
+
+/// Appends the text as a compact JSON string. If an allocation fails, nothing has been appended.
+pub(super) fn put_json<K: Sink, A: Allocator + Copy>(
+    alloc: A,
+    text: AsciiStr<'_>,
+    buffer: &mut OutputBuffer<A>,
+    writer: &mut K,
+) -> Result<(), AllocError>
+    requires { MayFail (output_state K.Sink writer.old buffer.old) }
+    ensures ok { OnOk result (AppendsTo K.Sink writer.old buffer.old writer.new buffer.new
+        (json_text (text_of text.entry))) }
+    ensures kept { OnErr result (writer.new ≡ writer.old) }
+{
+    if text.len() <= SHORT {
+        let output = json_string(alloc, text)?;
+        buffer.put(writer, output.as_ascii_str().as_bytes());
+    } else {
+        let forms = forms(alloc)?;
+        buffer.put(writer, b"\"");
+        put_by_forms(text, &forms, buffer, writer);
+        buffer.put(writer, b"\"");
+    }
+    Ok(())
+}
+
+/// The text as a compact JSON string.
+fn json_string<A: Allocator>(alloc: A, text: AsciiStr<'_>) -> Result<AsciiString<A>, AllocError>
+    ensures { IfOk result (λ output. output.text ≡ json_text (text_of text.entry)) }
+{
+    let mut writer = Writer::new(Vec::with_capacity(alloc, text.len().saturating_add(2))?);
+    writer.string(text.as_str())?;
+    Ok(AsciiString::from_ascii_unchecked(writer.into_inner()))
+}
+
+/// The JSON string of each character by itself, indexed by its code.
+fn forms<A: Allocator + Copy>(alloc: A) -> Result<Vec<AsciiString<A>, A>, AllocError>
+    ensures { IfOk result (λ forms. AreForms 128 (map (λ form. form.text) forms.items)) }
+{
+    let mut forms = Vec::with_capacity(alloc, 128)?;
+    for code in 0..128u8 {
+        forms.push(json_string(alloc, bytes::as_ascii_str_unchecked(&[code]))?)?;
+    }
+    Ok(forms)
+}
+
+/// Appends each character by its form. The characters between two that are escaped are appended in
+/// one call.
+fn put_by_forms<K: Sink, A: Allocator>(
+    text: AsciiStr<'_>,
+    forms: &[AsciiString<A>],
+    buffer: &mut OutputBuffer<A>,
+    writer: &mut K,
+)
+    requires fail { MayFail (output_state K.Sink writer.old buffer.old) }
+    requires forms { AreForms 128 (map (λ form. form.text) forms.now) }
+    ensures { AppendsTo K.Sink writer.old buffer.old writer.new buffer.new
+        (flat_map json_code (text_of text.entry)) }
+{
+    let mut remaining = text.as_bytes();
+    'segments: while let Some(place) = first_other::<Unescaped>(remaining) {
+        buffer.put(writer, &remaining[..place]);
+        put_form(remaining[place], forms, buffer, writer);
+        remaining = &remaining[place + 1..];
+    }
+    buffer.put(writer, remaining);
+}
+
+/// Appends a character as it appears in a JSON string.
+fn put_form<K: Sink, A: Allocator>(
+    code: u8,
+    forms: &[AsciiString<A>],
+    buffer: &mut OutputBuffer<A>,
+    writer: &mut K,
+)
+    requires fail { MayFail (output_state K.Sink writer.old buffer.old) }
+    requires forms { AreForms 128 (map (λ form. form.text) forms.now) }
+    requires ascii { code < 128 }
+    ensures { AppendsTo K.Sink writer.old buffer.old writer.new buffer.new (json_code code) }
+{
+    let form = form_of(code, forms);
+    buffer.put(writer, &form[1..form.len() - 1]);
+}
+
+/// The JSON string of a character.
+fn form_of<A: Allocator>(code: u8, forms: &[AsciiString<A>]) -> &[u8]
+    requires forms { AreForms 128 (map (λ form. form.text) forms.now) }
+    requires ascii { code < 128 }
+    ensures { result.now ≡ json_text (code ∷ []) }
+{
+    forms[code as usize].as_ascii_str().as_bytes()
+}
