@@ -2,7 +2,6 @@
 //! the output of each.
 
 ghost use Rattle.std.specs.Prelude.{◌≡◌, IfErr, OnErr, OnOk};
-ghost use Rattle.ascii.specs.View.{text_of};
 ghost use Rattle.ascii_run.specs.Engine.{StopsOutput};
 ghost use Rattle.ascii_run.specs.OutputState.{AppendsOutputTo, MayFail, output_state};
 
@@ -17,10 +16,10 @@ use crate::commands::Cmd;
 use crate::devices::Sink;
 use crate::faults::EngineFault;
 use crate::output_buffer::OutputBuffer;
-use ascii::AsciiStr;
+use ascii::AsciiString;
 use ascii::iter::End;
 use caret::put_caret;
-use edit::edit_output;
+use edit::put_edit;
 use ends::{put_ends, put_ends_spans};
 use json_string::put_json;
 use lines::put_lines;
@@ -55,28 +54,26 @@ pub enum Mode<'a> {
 pub(crate) fn put_output<K: Sink, A: Allocator + Copy>(
     alloc: A,
     mode: Mode<'_>,
-    text: AsciiStr<'_>,
+    text: AsciiString<A>,
     buffer: &mut OutputBuffer<A>,
     writer: &mut K,
 ) -> Result<(), EngineFault>
     requires { MayFail (output_state K.Sink writer.old buffer.old) }
-    ensures ok { OnOk result (AppendsOutputTo mode.entry (text_of text.entry)
+    ensures ok { OnOk result (AppendsOutputTo mode.entry text.text
         K.Sink writer.old buffer.old writer.new buffer.new) }
-    ensures err { IfErr result (StopsOutput mode.entry (text_of text.entry)) }
+    ensures err { IfErr result (StopsOutput mode.entry text.text) }
     ensures kept { OnErr result (writer.new ≡ writer.old) }
 {
+    let view = text.as_ascii_str();
     match mode {
-        Mode::Copy => buffer.put(writer, text.as_bytes()),
-        Mode::Lines => put_lines(text, buffer, writer),
-        Mode::Tac => put_tac(text, buffer, writer),
-        Mode::Caret => put_caret(text, buffer, writer),
-        Mode::Ends(script) => put_ends(text, script, buffer, writer),
-        Mode::EndsSpans(script) => put_ends_spans(text, script, buffer, writer),
-        Mode::Edit(cmds) => buffer.put(
-            writer,
-            edit_output(alloc, text, cmds)?.as_ascii_str().as_bytes(),
-        ),
-        Mode::Json => put_json(alloc, text, buffer, writer)?,
+        Mode::Copy => buffer.put(writer, view.as_bytes()),
+        Mode::Lines => put_lines(view, buffer, writer),
+        Mode::Tac => put_tac(view, buffer, writer),
+        Mode::Caret => put_caret(view, buffer, writer),
+        Mode::Ends(script) => put_ends(view, script, buffer, writer),
+        Mode::EndsSpans(script) => put_ends_spans(view, script, buffer, writer),
+        Mode::Edit(cmds) => put_edit(alloc, text, cmds, buffer, writer)?,
+        Mode::Json => put_json(alloc, view, buffer, writer)?,
     }
     Ok(())
 }

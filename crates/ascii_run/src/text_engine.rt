@@ -1,7 +1,6 @@
 //! The engine: the output of a mode for all bytes of an input.
 
 ghost use Rattle.std.specs.Prelude.{◌≡◌, ◌⊎◌, ◌<◌, IfErr, IfOk};
-ghost use Rattle.ascii.specs.View.{text_of};
 ghost use Rattle.ascii_run.specs.Engine.{EngineOutcome, ReadsAll, WritesOutput, read_failures};
 ghost use Rattle.ascii_run.specs.Engine.{write_failures};
 
@@ -9,7 +8,7 @@ use crate::devices::{Sink, Source};
 use crate::faults::EngineFault;
 use crate::modes::{Mode, put_output};
 use crate::output_buffer::OutputBuffer;
-use ascii::{AsciiStr, bytes};
+use ascii::{AsciiString, bytes};
 use std::alloc::Allocator;
 
 /// Reads the input to its end, and then writes the output of the mode and flushes it, or returns
@@ -34,8 +33,13 @@ pub fn engine<S: Source, K: Sink, A: Allocator + Copy>(
     ensures write { K.failures writer.new ≡ write_failures (K.failures writer.old) result }
 {
     let input = read_all(alloc, reader)?;
-    let text = bytes::as_ascii_str(&input)?;
-    write_output(alloc, mode, text, writer)
+    bytes::as_ascii_str(&input)?;
+    write_output(
+        alloc,
+        mode,
+        AsciiString::from_ascii_unchecked(input),
+        writer,
+    )
 }
 
 /// How many bytes one read asks for.
@@ -68,11 +72,11 @@ fn read_all<S: Source, A: Allocator>(alloc: A, reader: &mut S) -> Result<Vec<u8,
 fn write_output<K: Sink, A: Allocator + Copy>(
     alloc: A,
     mode: Mode<'_>,
-    text: AsciiStr<'_>,
+    text: AsciiString<A>,
     writer: &mut K,
 ) -> Result<(), EngineFault>
     requires { K.failures writer.old < u64.MAX }
-    ensures tells { WritesOutput mode.entry (text_of text.entry) result
+    ensures tells { WritesOutput mode.entry text.text result
         (K.taken writer.old) (K.taken writer.new) }
     ensures count { K.failures writer.new ≡ write_failures (K.failures writer.old) result }
 {

@@ -1,27 +1,34 @@
 //! The mode `Edit`.
 
-ghost use Rattle.std.specs.Prelude.{◌≡◌, IfErr, IfOk};
-ghost use Rattle.ascii.specs.View.{text_of};
+ghost use Rattle.std.specs.Prelude.{◌≡◌, IfErr, OnErr, OnOk};
 ghost use Rattle.ascii_run.specs.Engine.{StopsOutput};
-ghost use Rattle.ascii_run.specs.Run.{HasNoFault, plain_text};
+ghost use Rattle.ascii_run.specs.OutputState.{AppendsOutputTo, MayFail, output_state};
 
 use super::Mode;
 use crate::commands::{Cmd, edit};
+use crate::devices::Sink;
 use crate::faults::EngineFault;
-use ascii::{AsciiStr, AsciiString};
+use crate::output_buffer::OutputBuffer;
+use ascii::AsciiString;
 use std::alloc::Allocator;
 
-/// The text after the commands.
-pub(super) fn edit_output<A: Allocator + Copy>(
+/// Carries out the commands on the text, in the buffer that it has, and appends it. On error,
+/// nothing has been appended.
+pub(super) fn put_edit<K: Sink, A: Allocator + Copy>(
     alloc: A,
-    text: AsciiStr<'_>,
+    text: AsciiString<A>,
     cmds: &[Cmd<'_>],
-) -> Result<AsciiString<A>, EngineFault>
-    ensures ok { IfOk result (λ output. HasNoFault (text_of text.entry) cmds.now
-        × (output.text ≡ plain_text (text_of text.entry) cmds.now)) }
-    ensures err { IfErr result (StopsOutput (Mode.Edit cmds.entry) (text_of text.entry)) }
+    buffer: &mut OutputBuffer<A>,
+    writer: &mut K,
+) -> Result<(), EngineFault>
+    requires { MayFail (output_state K.Sink writer.old buffer.old) }
+    ensures ok { OnOk result (AppendsOutputTo (Mode.Edit cmds.entry) text.text
+        K.Sink writer.old buffer.old writer.new buffer.new) }
+    ensures err { IfErr result (StopsOutput (Mode.Edit cmds.entry) text.text) }
+    ensures kept { OnErr result (writer.new ≡ writer.old) }
 {
-    let mut output = text.to_ascii_string(alloc)?;
+    let mut output = text;
     edit(alloc, &mut output, cmds)?;
-    Ok(output)
+    buffer.put(writer, output.as_ascii_str().as_bytes());
+    Ok(())
 }

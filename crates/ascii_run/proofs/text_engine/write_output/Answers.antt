@@ -1,8 +1,7 @@
-use Rattle.ascii.specs.View.{text_of}
 use Rattle.ascii_run.proofs.OutputBufferLemmas.{writes_output}
 use Rattle.ascii_run.proofs.text_engine.write_output.Goals as goal
 
 pub returns-clause-tells : goal.returns-clause-tells
 returns-clause-tells g c =
-    writes_output c.args.mode (text_of c.args.text) _ _ _ _ c.in_ok-buffer.ensures.0 c.finish.result
+    writes_output c.args.mode c.args.text.text _ _ _ _ c.in_ok-buffer.ensures.0 c.finish.result
     c.in_ok-buffer.ensures.1 c.in_ok-put_output.ensures.ok c.finish.ensures
