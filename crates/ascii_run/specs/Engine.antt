@@ -1,5 +1,5 @@
 -- What `engine` ensures of the bytes that it read and of those that it wrote.
-use Rattle.std.specs.Prelude.{◌≡◌, ⊤, ℕ, ◌+◌, List, ◌++◌, length}
+use Rattle.std.specs.Prelude.{◌≡◌, ⊤, ℕ, ◌+◌, List, ◌++◌, MatchOption, length}
 use Rattle.std.specs.Str.{IsAscii}
 use Rattle.std.specs.Io.KnownBytes.{Appends, Consumes, IsAtEnd, Keeps}
 use Rattle.std.specs.declared.option.Option.{Option}
@@ -62,6 +62,10 @@ write_failures n (Err Write) = n + 1
 write_failures n other = n
 
 -- ---- cited by private functions only
+
+-- the position of the first byte that is not ASCII, if there is one
+abbrev pub HasFirstOther : List ℕ → Option ℕ → Type 0
+HasFirstOther bytes other = MatchOption other (IsAscii bytes) (FirstOther bytes 0 (length bytes))
 
 -- the writer took a prefix of the bytes
 abbrev pub AppendsFront : Option (List ℕ) → Option (List ℕ) → List ℕ → Type 0

@@ -1,14 +1,15 @@
 //! The engine: the output of a mode for all bytes of an input.
 
-ghost use Rattle.std.specs.Prelude.{◌≡◌, ◌⊎◌, ◌<◌, IfErr, IfOk};
-ghost use Rattle.ascii_run.specs.Engine.{EngineOutcome, ReadsAll, WritesOutput, read_failures};
-ghost use Rattle.ascii_run.specs.Engine.{write_failures};
+ghost use Rattle.std.specs.Prelude.{◌≡◌, ◌⊎◌, ℕ, ◌+◌, ◌<◌, ◌≤◌, List, ◌++◌, IfErr, IfOk, length};
+ghost use Rattle.std.specs.Option.{ForSome};
+ghost use Rattle.ascii_run.specs.Engine.{EngineOutcome, HasFirstOther, ReadsAll, WritesOutput};
+ghost use Rattle.ascii_run.specs.Engine.{read_failures, write_failures};
 
 use crate::devices::{Sink, Source};
 use crate::faults::EngineFault;
 use crate::modes::{Mode, put_output};
 use crate::output_buffer::OutputBuffer;
-use ascii::{AsciiString, bytes};
+use ascii::{AsciiString, kernels};
 use std::alloc::Allocator;
 
 /// Reads the input to its end, and then writes the output of the mode and flushes it, or returns
@@ -32,8 +33,10 @@ pub fn engine<S: Source, K: Sink, A: Allocator + Copy>(
     ensures read { S.failures reader.new ≡ read_failures (S.failures reader.old) result }
     ensures write { K.failures writer.new ≡ write_failures (K.failures writer.old) result }
 {
-    let input = read_all(alloc, reader)?;
-    bytes::as_ascii_str(&input)?;
+    let (input, other) = read_all(alloc, reader)?;
+    if let Some(position) = other {
+        return Err(EngineFault::NotAscii(position));
+    }
     write_output(
         alloc,
         mode,
@@ -45,25 +48,52 @@ pub fn engine<S: Source, K: Sink, A: Allocator + Copy>(
 /// How many bytes one read asks for.
 const CHUNK: usize = 32_768;
 
-/// All bytes that the reader has left.
-fn read_all<S: Source, A: Allocator>(alloc: A, reader: &mut S) -> Result<Vec<u8, A>, EngineFault>
+/// All bytes that the reader has yet to give, and the position of the first that is not ASCII. Each
+/// chunk is searched right after it is read.
+fn read_all<S: Source, A: Allocator>(
+    alloc: A,
+    reader: &mut S,
+) -> Result<(Vec<u8, A>, Option<usize>), EngineFault>
     requires { S.failures reader.old < u64.MAX }
     ensures ok { IfOk result (λ input.
-        ReadsAll (S.rest reader.old) (S.rest reader.new) input.items) }
+        ReadsAll (S.rest reader.old) (S.rest reader.new) input.0.items) }
+    ensures other { IfOk result (λ input. HasFirstOther input.0.items input.1) }
     ensures err { IfErr result (λ fault.
         (fault ≡ EngineFault.Memory) ⊎ (fault ≡ EngineFault.Read)) }
     ensures count { S.failures reader.new ≡ read_failures (S.failures reader.old) result }
 {
     let mut input = Vec::new(alloc);
+    let mut other = None;
     let mut chunk = [0; CHUNK];
     'reads: loop {
         let Ok(n) = reader.read(&mut chunk) else {
             return Err(EngineFault::Read);
         };
         if n == 0 {
-            return Ok(input);
+            return Ok((input, other));
         }
+        let chunk_other = kernels::first_other(&chunk[..n]);
+        let start = input.len();
         input.extend_from_slice(&chunk[..n])?;
+        other = first_of_both(start, other, chunk_other);
+    }
+}
+
+/// The position of the first byte that is not ASCII among `start` bytes and a chunk after them, by
+/// the position of the first such byte in each of the two.
+#[inline]
+fn first_of_both(start: usize, other: Option<usize>, chunk_other: Option<usize>) -> Option<usize>
+    requires { ForSome chunk_other (λ position. start + position ≤ usize.MAX) }
+    ensures { (bytes chunk : List ℕ) → length bytes ≡ start
+        → HasFirstOther bytes other → HasFirstOther chunk chunk_other
+        → HasFirstOther (bytes ++ chunk) result }
+{
+    if other.is_some() {
+        return other;
+    }
+    match chunk_other {
+        Some(position) => Some(start + position),
+        None => None,
     }
 }
 
