@@ -1,3 +1,4 @@
+pub mod BufferCopyLemmas
 pub mod EndsOutputLemmas
 pub mod InlineLemmas
 pub mod JsonTextLemmas

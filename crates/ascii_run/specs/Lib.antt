@@ -1,3 +1,4 @@
+pub mod BufferCopy
 pub mod Devices
 pub mod Edit
 pub mod Engine

@@ -13,9 +13,10 @@ use Rattle.ascii_run.specs.Modes.{IsOutput}
 
 -- ---- cited by private functions only
 
--- the bytes that an output buffer holds for the writer, and whether a write has failed
+-- the bytes that an output buffer holds for the writer, how many fit, and whether a write has failed
 pub record BufferState : Type 0 where
   pub bytes : List ℕ
+  pub size : ℕ
   pub is_broken : Bool
 
 -- the bytes that a writer has taken, how many of its calls have failed, and the buffer before it

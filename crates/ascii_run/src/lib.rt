@@ -5,6 +5,7 @@
 #![tactic(auto)]
 
 pub mod buf;
+mod buffer_copy;
 mod commands;
 mod devices;
 mod faults;

@@ -15,13 +15,13 @@ mod tac;
 use crate::commands::Cmd;
 use crate::devices::Sink;
 use crate::faults::EngineFault;
-use crate::output_buffer::OutputBuffer;
+use crate::output_buffer::{LARGEST, OutputBuffer};
 use ascii::AsciiString;
 use ascii::iter::End;
 use caret::put_caret;
 use edit::put_edit;
 use ends::{put_ends, put_ends_spans};
-use json_string::put_json;
+use json_string::{SHORT, put_json};
 use lines::put_lines;
 use std::alloc::Allocator;
 use tac::put_tac;
@@ -48,6 +48,21 @@ pub enum Mode<'a> {
     Edit(&'a [Cmd<'a>]),
     /// The text as a compact JSON string.
     Json,
+}
+
+/// The size in bytes of the output buffer for a mode and a text of this length: what the output has
+/// at most, up to `LARGEST`, or 0 if the output is appended in one piece.
+pub(crate) fn buffer_size(mode: Mode<'_>, length: usize) -> usize {
+    let most = match mode {
+        Mode::Copy | Mode::Edit(_) => 0,
+        Mode::Lines | Mode::Tac => length.saturating_add(1),
+        Mode::Caret => length.saturating_mul(2),
+        Mode::Ends(script) => length.saturating_add(script.len().saturating_mul(2)),
+        Mode::EndsSpans(script) => length.saturating_add(script.len().saturating_mul(28)),
+        Mode::Json if length <= SHORT => 0,
+        Mode::Json => length.saturating_mul(6).saturating_add(2),
+    };
+    most.min(LARGEST)
 }
 
 /// Appends the output of the mode for a text. On error, nothing has been appended.

@@ -1,45 +1,54 @@
-//! An output buffer of fixed size.
+//! An output buffer.
 
 ghost use Rattle.std.specs.Prelude.{◌≡◌, ◌+◌, ◌<◌, ◌≤◌, ◌++◌, IfErr, IfOk, OnOk, [], false, length};
+ghost use Rattle.std.specs.Prelude.{take, vec_len};
 ghost use Rattle.std.specs.Io.KnownBytes.{Appends};
 ghost use Rattle.ascii_run.specs.Engine.{AppendsFront, write_failures};
+ghost use Rattle.ascii_run.specs.Modes.Lines.{with_line_feed};
 ghost use Rattle.ascii_run.specs.OutputState.{AppendsTo, FinishOutcome, MayFail, output_state};
 
+use crate::buffer_copy::{FIXED, copy_at, copy_front};
 use crate::devices::Sink;
 use crate::faults::EngineFault;
 use std::alloc::{AllocError, Allocator};
 use std::marker::Model;
 
-/// The size of a buffer in bytes.
-pub(crate) const BUFFER_SIZE: usize = 65_536;
+/// The largest size of an output buffer in bytes.
+pub(crate) const LARGEST: usize = 65_536;
 
 /// An output buffer: bytes that were appended and that the writer has not taken yet. After a write
 /// has failed, nothing more is written.
 #[derive(Drop)]
 pub(crate) struct OutputBuffer<A: Allocator> {
-    bytes: Vec<u8, A>,
+    /// All bytes of the buffer, of which the first `used` were appended.
+    room: Vec<u8, A>,
+    used: usize,
     is_broken: bool,
 }
 
 impl<A: Allocator> Model for OutputBuffer<A> {
-    ghost use Rattle.std.specs.Prelude.{◌≤◌, length, vec_capacity};
+    ghost use Rattle.std.specs.Prelude.{◌≤◌, length, take};
     ghost use Rattle.ascii_run.specs.OutputState.{BufferState};
 
     ghost Value = { BufferState };
 
-    ghost view = { λ buffer. record { bytes = buffer.bytes.items; is_broken = buffer.is_broken } };
+    ghost view = { λ buffer. record {
+      bytes = take buffer.used buffer.room.items;
+      size = length buffer.room.items;
+      is_broken = buffer.is_broken;
+    } };
 
-    ghost invariant = { λ buffer.
-        (length buffer.bytes.items ≤ 65536) × (65536 ≤ vec_capacity buffer.bytes) };
+    ghost invariant = { λ buffer. buffer.used ≤ length buffer.room.items };
 }
 
 impl<A: Allocator> OutputBuffer<A> {
-    /// Creates an empty buffer, or returns an error if the allocation fails.
-    pub(crate) fn new(alloc: A) -> Result<OutputBuffer<A>, AllocError>
+    /// Creates an empty buffer with this size in bytes, or returns an error if the allocation fails.
+    pub(crate) fn new(alloc: A, size: usize) -> Result<OutputBuffer<A>, AllocError>
         ensures { IfOk result (λ buffer. (buffer.bytes ≡ []) × (buffer.is_broken ≡ false)) }
     {
         Ok(OutputBuffer {
-            bytes: Vec::with_capacity(alloc, BUFFER_SIZE)?,
+            room: zeros(alloc, size)?,
+            used: 0,
             is_broken: false,
         })
     }
@@ -50,7 +59,7 @@ impl<A: Allocator> OutputBuffer<A> {
         requires { MayFail (output_state K.Sink writer.old self.old) }
         ensures { AppendsTo K.Sink writer.old self.old writer.new self.new bytes.now }
     {
-        if bytes.len() <= BUFFER_SIZE - self.bytes.len() {
+        if bytes.len() <= self.room.len() - self.used {
             self.hold(bytes);
         } else {
             self.send(writer);
@@ -58,24 +67,76 @@ impl<A: Allocator> OutputBuffer<A> {
         }
     }
 
-    /// Appends bytes that there is room for.
+    /// Appends the first `n` bytes. A few of many are appended by one copy of a fixed size.
     #[inline]
-    fn hold(&mut self, bytes: &[u8])
-        requires { length self.old.bytes + length bytes.now ≤ BUFFER_SIZE }
-        ensures bytes { self.new.bytes ≡ self.old.bytes ++ bytes.now }
-        ensures broken { self.new.is_broken ≡ self.old.is_broken }
+    pub(crate) fn put_front<K: Sink>(&mut self, writer: &mut K, bytes: &[u8], n: usize)
+        requires fail { MayFail (output_state K.Sink writer.old self.old) }
+        requires within { n ≤ length bytes.now }
+        ensures { AppendsTo K.Sink writer.old self.old writer.new self.new (take n bytes.now) }
     {
-        // Cannot fail, because there is room for the bytes.
-        let _ = self.bytes.extend_from_slice(bytes);
+        if n <= FIXED && bytes.len() >= FIXED && self.room.len() - self.used >= FIXED {
+            self.hold_front(bytes, n);
+        } else {
+            self.put(writer, &bytes[..n]);
+        }
     }
 
-    /// Appends bytes to an empty buffer, or writes them at once if they are longer than a buffer.
+    /// Appends the body of a line and LF.
+    #[inline]
+    pub(crate) fn put_line<K: Sink>(&mut self, writer: &mut K, body: &[u8])
+        requires { MayFail (output_state K.Sink writer.old self.old) }
+        ensures { AppendsTo K.Sink writer.old self.old writer.new self.new
+            (with_line_feed body.now) }
+    {
+        if body.len() < self.room.len() - self.used {
+            self.hold_line(body);
+        } else {
+            self.put(writer, body);
+            self.put(writer, b"\n");
+        }
+    }
+
+    /// Appends bytes that there is room for.
+    #[inline(always)]
+    fn hold(&mut self, bytes: &[u8])
+        requires { length self.old.bytes + length bytes.now ≤ self.old.size }
+        ensures bytes { self.new.bytes ≡ self.old.bytes ++ bytes.now }
+        ensures size { self.new.size ≡ self.old.size }
+        ensures broken { self.new.is_broken ≡ self.old.is_broken }
+    {
+        self.used = copy_at(&mut self.room, self.used, bytes);
+    }
+
+    /// Appends the first `n` bytes to a buffer that has room for `FIXED`.
+    #[inline(always)]
+    fn hold_front(&mut self, bytes: &[u8], n: usize)
+        requires room { length self.old.bytes + FIXED ≤ self.old.size }
+        requires front { (n ≤ FIXED) × (FIXED ≤ length bytes.now) }
+        ensures bytes { self.new.bytes ≡ self.old.bytes ++ take n bytes.now }
+        ensures broken { self.new.is_broken ≡ self.old.is_broken }
+    {
+        self.used = copy_front(&mut self.room, self.used, bytes, n);
+    }
+
+    /// Appends the body of a line and LF, for both of which there is room.
+    #[inline(always)]
+    fn hold_line(&mut self, body: &[u8])
+        requires { length self.old.bytes + length body.now < self.old.size }
+        ensures bytes { self.new.bytes ≡ self.old.bytes ++ with_line_feed body.now }
+        ensures broken { self.new.is_broken ≡ self.old.is_broken }
+    {
+        self.hold(body);
+        self.hold(b"\n");
+    }
+
+    /// Appends bytes to an empty buffer, or writes them at once if they are longer than
+    /// the buffer.
     fn pass<K: Sink>(&mut self, writer: &mut K, bytes: &[u8])
         requires fail { MayFail (output_state K.Sink writer.old self.old) }
         requires empty { self.old.bytes ≡ [] }
         ensures { AppendsTo K.Sink writer.old self.old writer.new self.new bytes.now }
     {
-        if bytes.len() <= BUFFER_SIZE {
+        if bytes.len() <= self.room.len() {
             self.hold(bytes);
         } else if !self.is_broken {
             self.is_broken = write_each(writer, bytes).is_err();
@@ -90,9 +151,9 @@ impl<A: Allocator> OutputBuffer<A> {
         ensures empty { self.new.bytes ≡ [] }
     {
         if !self.is_broken {
-            self.is_broken = write_each(writer, &self.bytes).is_err();
+            self.is_broken = write_each(writer, &self.room[..self.used]).is_err();
         }
-        self.bytes.clear();
+        self.used = 0;
     }
 
     /// Writes the bytes of the buffer and flushes the writer. Returns `EngineFault::Write` if a write
@@ -109,6 +170,22 @@ impl<A: Allocator> OutputBuffer<A> {
         }
         writer.flush().map_err(|_| EngineFault::Write)
     }
+}
+
+/// What `zeros` copies.
+static ZEROS: [u8; 1_024] = [0; 1_024];
+
+/// Zeros of this number. They are copied 1,024 at a time, since a loop that appends a byte at a time
+/// takes longer than the output of a short text.
+fn zeros<A: Allocator>(alloc: A, count: usize) -> Result<Vec<u8, A>, AllocError>
+    ensures { IfOk result (λ zeros. vec_len zeros ≡ count) }
+{
+    let mut zeros = Vec::with_capacity(alloc, count)?;
+    'parts: while zeros.len() < count {
+        let part = ZEROS.len().min(count - zeros.len());
+        zeros.extend_from_slice(&ZEROS[..part])?;
+    }
+    Ok(zeros)
 }
 
 /// Writes all of the bytes, in as many writes as the writer needs.

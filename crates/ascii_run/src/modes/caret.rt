@@ -25,7 +25,7 @@ pub(super) fn put_caret<K: Sink, A: Allocator>(
 {
     let mut remaining = text.as_bytes();
     'segments: while let Some(place) = first_other::<Shown>(remaining) {
-        buffer.put(writer, &remaining[..place]);
+        buffer.put_front(writer, remaining, place);
         put_control(remaining[place], buffer, writer);
         remaining = &remaining[place + 1..];
     }

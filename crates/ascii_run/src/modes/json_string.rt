@@ -13,8 +13,8 @@ use ascii::{AsciiStr, AsciiString, bytes};
 use json::Writer;
 use std::alloc::{AllocError, Allocator};
 
-/// The length up to which a text is appended as one piece.
-const SHORT: usize = 4_096;
+/// The length up to which a text is appended in one piece.
+pub(super) const SHORT: usize = 4_096;
 
 /// Appends the text as a compact JSON string. If an allocation fails, nothing has been appended.
 pub(super) fn put_json<K: Sink, A: Allocator + Copy>(
@@ -75,7 +75,7 @@ fn put_by_forms<K: Sink, A: Allocator>(
 {
     let mut remaining = text.as_bytes();
     'segments: while let Some(place) = first_other::<Unescaped>(remaining) {
-        buffer.put(writer, &remaining[..place]);
+        buffer.put_front(writer, remaining, place);
         put_form(remaining[place], forms, buffer, writer);
         remaining = &remaining[place + 1..];
     }

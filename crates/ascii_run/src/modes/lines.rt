@@ -45,6 +45,5 @@ pub(super) fn put_line<K: Sink, A: Allocator>(
     ensures { AppendsTo K.Sink writer.old buffer.old writer.new buffer.new
         (with_line_feed (text_of body.entry)) }
 {
-    buffer.put(writer, body.as_bytes());
-    buffer.put(writer, b"\n");
+    buffer.put_line(writer, body.as_bytes());
 }

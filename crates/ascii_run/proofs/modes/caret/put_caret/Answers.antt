@@ -16,7 +16,7 @@ segments-preserved g c =
     let segment = take place remaining in
     let shown = caret_text (get_or remaining place 0) in
     let before = c.segments.invariant.2.2 in
-    let both = AppendsBytes-trans segment shown c.put.ensures c.put_control.ensures in (
+    let both = AppendsBytes-trans segment shown c.put_front.ensures c.put_control.ensures in (
       MayFail-still (segment ++ shown) c.segments.invariant.0 both,
       IsAscii-take _ _ (IsAscii-drop remaining (place + 1) c.segments.invariant.1),
       (
@@ -36,4 +36,4 @@ returns g c =
     let invariant = c.segments.invariant.2 in
     AppendsBytes-is
     (shown_all IsShown caret_text caret_plain done remaining text c.in_default.ensures invariant.1)
-    (AppendsBytes-trans (flat_map caret_text done) remaining invariant.2 c.put-2.ensures)
+    (AppendsBytes-trans (flat_map caret_text done) remaining invariant.2 c.put.ensures)

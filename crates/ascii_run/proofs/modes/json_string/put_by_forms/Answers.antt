@@ -22,7 +22,7 @@ segments-preserved g c =
     let segment = take place remaining in
     let shown = json_code (get_or remaining place 0) in
     let before = c.segments.invariant.2.2 in
-    let both = AppendsBytes-trans segment shown c.put.ensures c.put_form.ensures in (
+    let both = AppendsBytes-trans segment shown c.put_front.ensures c.put_form.ensures in (
       MayFail-still (segment ++ shown) c.segments.invariant.0 both,
       IsAscii-take _ _ (IsAscii-drop remaining (place + 1) c.segments.invariant.1),
       (
@@ -43,4 +43,4 @@ returns g c =
     AppendsBytes-is
     (shown_all IsUnescaped json_code json_plain done remaining text
     c.in_default.ensures invariant.1)
-    (AppendsBytes-trans (flat_map json_code done) remaining invariant.2 c.put-2.ensures)
+    (AppendsBytes-trans (flat_map json_code done) remaining invariant.2 c.put.ensures)
