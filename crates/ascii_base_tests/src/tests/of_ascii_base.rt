@@ -2,7 +2,7 @@
 
 use super::shows;
 use ascii_base::ascii_char::{AsciiChar, ToAsciiChar};
-use ascii_base::classes::{Ascii, ClassBy, Digit, Whitespace};
+use ascii_base::classes::{Ascii, Class, ClassBy, Digit, Whitespace};
 use ascii_base::free_functions::{caret_decode, caret_encode};
 use ascii_base::kernels::{
     eq_ignore_case, first_not, first_not_whitespace, first_other, last_not, last_not_whitespace,

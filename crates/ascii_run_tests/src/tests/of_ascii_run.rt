@@ -385,6 +385,20 @@ fn engine_fault_1(rt: HostRuntime) {
 }
 
 #[test]
+fn run_both_1(rt: HostRuntime) {
+    let alloc = rt.alloc();
+    // run_both
+    shows(
+        &rt,
+        alloc,
+        &run_both(alloc, view("foo"), &[Cmd::Upper, Cmd::Pop])
+            .expect(&rt, "refused")
+            .small,
+        "\"FO\"",
+    );
+}
+
+#[test]
 fn engine_1(rt: HostRuntime) {
     let alloc = rt.alloc();
     // engine
@@ -403,18 +417,4 @@ fn engine_1(rt: HostRuntime) {
         );
         shows(&rt, alloc, &output.into_inner(), "[121, 10, 120, 10]");
     }
-}
-
-#[test]
-fn run_both_1(rt: HostRuntime) {
-    let alloc = rt.alloc();
-    // run_both
-    shows(
-        &rt,
-        alloc,
-        &run_both(alloc, view("foo"), &[Cmd::Upper, Cmd::Pop])
-            .expect(&rt, "refused")
-            .small,
-        "\"FO\"",
-    );
 }
