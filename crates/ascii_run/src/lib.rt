@@ -12,7 +12,6 @@ mod faults;
 mod forms;
 mod modes;
 mod output_buffer;
-mod plain;
 mod text_engine;
 
 pub use buf::{AsciiBuf, SmallAsciiString};

@@ -1,16 +1,44 @@
 //! The mode `Caret`.
 
-ghost use Rattle.std.specs.Prelude.{◌<◌};
+ghost use Rattle.std.specs.Prelude.{◌<◌, ◌≤◌, ◌+◌, length};
 ghost use Rattle.std.specs.List.{flat_map};
+ghost use Rattle.ascii_base.specs.Lanes.{Marks};
 ghost use Rattle.ascii.specs.View.{text_of};
 ghost use Rattle.ascii_run.specs.OutputState.{AppendsTo, MayFail, output_state};
 ghost use Rattle.ascii_run.specs.Modes.Caret.{IsShown, caret_text};
 
 use crate::devices::Sink;
 use crate::output_buffer::OutputBuffer;
-use crate::plain::{Shown, first_other};
 use ascii::AsciiStr;
+use ascii::classes::{Class, ClassBy};
+use ascii::kernels::first_not;
 use std::alloc::Allocator;
+use std::simd::prelude::*;
+
+/// The characters that `caret` shows as themselves: LF, and all but control characters.
+struct Shown;
+
+impl Class for Shown {
+    ghost is = { IsShown };
+
+    #[inline(always)]
+    fn has(code: u8) -> bool {
+        code == b'\n' || code >= 32 && code != 127
+    }
+}
+
+impl<const N: usize> ClassBy<N> for Shown {
+    #[inline(always)]
+    fn marks(bytes: &[u8], at: usize) -> u64
+        requires lanes { N ≤ 64 }
+        requires room { at + N ≤ length bytes.now }
+        ensures { Marks IsShown bytes.now at N result }
+    {
+        let lanes = Simd::<u8, N>::from_slice(&bytes[at..]);
+        let is_low = lanes.simd_lt(Simd::splat(32)) & lanes.simd_ne(Simd::splat(b'\n'));
+        (is_low | lanes.simd_eq(Simd::splat(127))).to_bitmask()
+    }
+}
 
 /// Appends each character; a control character other than LF as `^` and its caret letter. The
 /// characters between two of these are appended in one call.
@@ -24,7 +52,7 @@ pub(super) fn put_caret<K: Sink, A: Allocator>(
         (flat_map caret_text (text_of text.entry)) }
 {
     let mut remaining = text.as_bytes();
-    'segments: while let Some(place) = first_other::<Shown>(remaining) {
+    'segments: while let Some(place) = first_not::<Shown>(remaining) {
         buffer.put_front(writer, remaining, place);
         put_control(remaining[place], buffer, writer);
         remaining = &remaining[place + 1..];

@@ -1,17 +1,45 @@
 //! The mode `Json`.
 
-ghost use Rattle.std.specs.Prelude.{◌≡◌, ◌<◌, [], ◌∷◌, IfOk, OnErr, OnOk, map};
+ghost use Rattle.std.specs.Prelude.{◌≡◌, ◌<◌, ◌≤◌, ◌+◌, [], ◌∷◌, IfOk, OnErr, OnOk, length, map};
 ghost use Rattle.std.specs.List.{flat_map};
+ghost use Rattle.ascii_base.specs.Lanes.{Marks};
 ghost use Rattle.ascii.specs.View.{text_of};
-ghost use Rattle.ascii_run.specs.Modes.Json.{AreForms, json_code, json_text};
+ghost use Rattle.ascii_run.specs.Modes.Json.{AreForms, IsUnescaped, json_code, json_text};
 ghost use Rattle.ascii_run.specs.OutputState.{MayFail, AppendsTo, output_state};
 
 use crate::devices::Sink;
 use crate::output_buffer::OutputBuffer;
-use crate::plain::{Unescaped, first_other};
+use ascii::classes::{Class, ClassBy};
+use ascii::kernels::first_not;
 use ascii::{AsciiStr, AsciiString, bytes};
 use json::Writer;
 use std::alloc::{AllocError, Allocator};
+use std::simd::prelude::*;
+
+/// The characters that appear as themselves in a JSON string.
+struct Unescaped;
+
+impl Class for Unescaped {
+    ghost is = { IsUnescaped };
+
+    #[inline(always)]
+    fn has(code: u8) -> bool {
+        code >= 32 && code != b'"' && code != b'\\'
+    }
+}
+
+impl<const N: usize> ClassBy<N> for Unescaped {
+    #[inline(always)]
+    fn marks(bytes: &[u8], at: usize) -> u64
+        requires lanes { N ≤ 64 }
+        requires room { at + N ≤ length bytes.now }
+        ensures { Marks IsUnescaped bytes.now at N result }
+    {
+        let lanes = Simd::<u8, N>::from_slice(&bytes[at..]);
+        let is_quote = lanes.simd_eq(Simd::splat(b'"')) | lanes.simd_eq(Simd::splat(b'\\'));
+        (lanes.simd_lt(Simd::splat(32)) | is_quote).to_bitmask()
+    }
+}
 
 /// The length up to which a text is appended in one piece.
 pub(super) const SHORT: usize = 4_096;
@@ -74,7 +102,7 @@ fn put_by_forms<K: Sink, A: Allocator>(
         (flat_map json_code (text_of text.entry)) }
 {
     let mut remaining = text.as_bytes();
-    'segments: while let Some(place) = first_other::<Unescaped>(remaining) {
+    'segments: while let Some(place) = first_not::<Unescaped>(remaining) {
         buffer.put_front(writer, remaining, place);
         put_form(remaining[place], forms, buffer, writer);
         remaining = &remaining[place + 1..];
