@@ -1,7 +1,6 @@
 //! What is measured, by the library of this repository, the Rust crate, std and the crate memchr. A function
-//! of one name does the same work and gives the same answer on each side. Each is called and not inlined, as
-//! those of our library are, and goes through all of its bytes in one call. A text is taken as checked on
-//! every side.
+//! of one name does the same work and gives the same answer on each side. Each is called as an export of a
+//! library for C is, and goes through all of its bytes in one call. A text is taken as checked on every side.
 
 /// A sum with one number more, in which the order counts.
 fn mixed(sum: usize, number: usize) -> usize {
@@ -13,6 +12,77 @@ fn mark(text: &[u8]) -> usize {
     text.len()
         .wrapping_mul(128)
         .wrapping_add(text.last().map_or(0, |byte| *byte as usize))
+}
+
+/// What C passes as a pointer and a length, tested for null as the exports of a Rattle library test it.
+///
+/// # Safety
+/// The bytes are there, and nobody writes them meanwhile.
+#[inline(always)]
+unsafe fn passed<'a>(pointer: *const u8, length: usize) -> &'a [u8] {
+    if pointer.is_null() {
+        return &[];
+    }
+    std::slice::from_raw_parts(pointer, length)
+}
+
+/// As `passed`, for bytes that are written.
+///
+/// # Safety
+/// The bytes are there, and nobody else reads or writes them meanwhile.
+#[inline(always)]
+unsafe fn passed_mut<'a>(pointer: *mut u8, length: usize) -> &'a mut [u8] {
+    if pointer.is_null() {
+        return &mut [];
+    }
+    std::slice::from_raw_parts_mut(pointer, length)
+}
+
+/// A function of a peer, called as an export of our library is: by the C calling convention, not inlined, with
+/// the same test of each pointer.
+macro_rules! called {
+    ($export:literal: fn $name:ident($source:ident: &[u8]) -> usize $body:block) => {
+        #[inline(always)]
+        pub fn $name(source: &[u8]) -> usize {
+            #[inline(never)]
+            #[export_name = $export]
+            unsafe extern "C" fn called(pointer: *const u8, length: usize) -> usize {
+                let $source = super::passed(pointer, length);
+                $body
+            }
+            unsafe { called(source.as_ptr(), source.len()) }
+        }
+    };
+    ($export:literal: fn $name:ident($source:ident: &mut [u8]) $body:block) => {
+        #[inline(always)]
+        pub fn $name(source: &mut [u8]) {
+            #[inline(never)]
+            #[export_name = $export]
+            unsafe extern "C" fn called(pointer: *mut u8, length: usize) {
+                let $source = super::passed_mut(pointer, length);
+                $body
+            }
+            unsafe { called(source.as_mut_ptr(), source.len()) }
+        }
+    };
+    ($export:literal: fn $name:ident($first:ident: &[u8], $second:ident: &[u8]) -> usize $body:block) => {
+        #[inline(always)]
+        pub fn $name(first: &[u8], second: &[u8]) -> usize {
+            #[inline(never)]
+            #[export_name = $export]
+            unsafe extern "C" fn called(
+                first: *const u8,
+                first_length: usize,
+                second: *const u8,
+                second_length: usize,
+            ) -> usize {
+                let $first = super::passed(first, first_length);
+                let $second = super::passed(second, second_length);
+                $body
+            }
+            unsafe { called(first.as_ptr(), first.len(), second.as_ptr(), second.len()) }
+        }
+    };
 }
 
 pub mod ours {
@@ -136,85 +206,73 @@ pub mod by_crate {
         unsafe { AsciiStr::from_ascii_unchecked(source) }
     }
 
-    #[inline(never)]
-    pub fn accept(source: &[u8]) -> usize {
+    called! { "by_crate_accept": fn accept(source: &[u8]) -> usize {
         source.as_ascii_str().is_ok() as usize
-    }
+    } }
 
-    #[inline(never)]
-    pub fn upper(source: &mut [u8]) {
+    called! { "by_crate_upper": fn upper(source: &mut [u8]) {
         unsafe { source.as_mut_ascii_str_unchecked() }.make_ascii_uppercase()
-    }
+    } }
 
-    #[inline(never)]
-    pub fn equal(first: &[u8], second: &[u8]) -> usize {
+    called! { "by_crate_equal": fn equal(first: &[u8], second: &[u8]) -> usize {
         text(first).eq_ignore_ascii_case(text(second)) as usize
-    }
+    } }
 
-    #[inline(never)]
-    pub fn trim(source: &[u8]) -> usize {
+    called! { "by_crate_trim": fn trim(source: &[u8]) -> usize {
         text(source).trim().len()
-    }
+    } }
 
-    #[inline(never)]
-    pub fn lines(source: &[u8]) -> usize {
+    called! { "by_crate_lines": fn lines(source: &[u8]) -> usize {
         text(source)
             .lines()
             .fold(0, |sum, line| mixed(sum, line.len()))
-    }
+    } }
 
-    #[inline(never)]
-    pub fn lines_back(source: &[u8]) -> usize {
+    called! { "by_crate_lines_back": fn lines_back(source: &[u8]) -> usize {
         text(source)
             .lines()
             .rev()
             .fold(0, |sum, line| mixed(sum, line.len()))
-    }
+    } }
 
-    #[inline(never)]
-    pub fn split(source: &[u8]) -> usize {
+    called! { "by_crate_split": fn split(source: &[u8]) -> usize {
         text(source)
             .split(AsciiChar::Comma)
             .fold(0, |sum, piece| mixed(sum, piece.len()))
-    }
+    } }
 
-    #[inline(never)]
-    pub fn chars(source: &[u8]) -> usize {
+    called! { "by_crate_chars": fn chars(source: &[u8]) -> usize {
         text(source)
             .chars()
             .fold(0, |sum, ch| sum.wrapping_add(ch.as_byte() as usize))
-    }
+    } }
 
-    #[inline(never)]
-    pub fn collect(source: &[u8]) -> usize {
+    called! { "by_crate_collect": fn collect(source: &[u8]) -> usize {
         let made: AsciiString = text(source)
             .chars()
             .map(|ch| ch.to_ascii_uppercase())
             .collect();
         mark(made.as_bytes())
-    }
+    } }
 
-    #[inline(never)]
-    pub fn push(source: &[u8]) -> usize {
+    called! { "by_crate_push": fn push(source: &[u8]) -> usize {
         let mut made = AsciiString::new();
         for ch in text(source).chars() {
             made.push(ch);
         }
         mark(made.as_bytes())
-    }
+    } }
 
-    #[inline(never)]
-    pub fn build(source: &[u8]) -> usize {
+    called! { "by_crate_build": fn build(source: &[u8]) -> usize {
         mark(black_box(text(source).to_ascii_string()).as_bytes())
-    }
+    } }
 
-    #[inline(never)]
-    pub fn names(source: &[u8]) -> usize {
+    called! { "by_crate_names": fn names(source: &[u8]) -> usize {
         let pieces = text(source).split(AsciiChar::Comma);
         pieces.fold(0, |sum, piece| {
             mixed(sum, mark(piece.to_ascii_lowercase().as_bytes()))
         })
-    }
+    } }
 }
 
 pub mod by_std {
@@ -228,34 +286,29 @@ pub mod by_std {
         unsafe { std::str::from_utf8_unchecked(source) }
     }
 
-    #[inline(never)]
-    pub fn accept(source: &[u8]) -> usize {
+    called! { "by_std_accept": fn accept(source: &[u8]) -> usize {
         source.is_ascii() as usize
-    }
+    } }
 
-    #[inline(never)]
-    pub fn upper(source: &mut [u8]) {
+    called! { "by_std_upper": fn upper(source: &mut [u8]) {
         source.make_ascii_uppercase()
-    }
+    } }
 
-    #[inline(never)]
-    pub fn equal(first: &[u8], second: &[u8]) -> usize {
+    called! { "by_std_equal": fn equal(first: &[u8], second: &[u8]) -> usize {
         first.eq_ignore_ascii_case(second) as usize
-    }
+    } }
 
-    #[inline(never)]
-    pub fn trim(source: &[u8]) -> usize {
+    called! { "by_std_trim": fn trim(source: &[u8]) -> usize {
         text(source)
             .trim_matches([' ', '\t', '\n', '\x0b', '\x0c', '\r'])
             .len()
-    }
+    } }
 
-    #[inline(never)]
-    pub fn lines(source: &[u8]) -> usize {
+    called! { "by_std_lines": fn lines(source: &[u8]) -> usize {
         text(source)
             .lines()
             .fold(0, |sum, line| mixed(sum, line.len()))
-    }
+    } }
 
     /// A line without its ending.
     fn body(line: &[u8]) -> &[u8] {
@@ -265,8 +318,7 @@ pub mod by_std {
         }
     }
 
-    #[inline(never)]
-    pub fn read_lines(source: &[u8]) -> usize {
+    called! { "by_std_read_lines": fn read_lines(source: &[u8]) -> usize {
         let mut reader = BufReader::with_capacity(65_536, source);
         let mut line = Vec::new();
         let mut sum = 0;
@@ -278,60 +330,53 @@ pub mod by_std {
                 _ => return 0,
             }
         }
-    }
+    } }
 
-    #[inline(never)]
-    pub fn lines_back(source: &[u8]) -> usize {
+    called! { "by_std_lines_back": fn lines_back(source: &[u8]) -> usize {
         text(source)
             .lines()
             .rev()
             .fold(0, |sum, line| mixed(sum, line.len()))
-    }
+    } }
 
-    #[inline(never)]
-    pub fn split(source: &[u8]) -> usize {
+    called! { "by_std_split": fn split(source: &[u8]) -> usize {
         text(source)
             .split(',')
             .fold(0, |sum, piece| mixed(sum, piece.len()))
-    }
+    } }
 
-    #[inline(never)]
-    pub fn chars(source: &[u8]) -> usize {
+    called! { "by_std_chars": fn chars(source: &[u8]) -> usize {
         text(source)
             .bytes()
             .fold(0, |sum, byte| sum.wrapping_add(byte as usize))
-    }
+    } }
 
-    #[inline(never)]
-    pub fn collect(source: &[u8]) -> usize {
+    called! { "by_std_collect": fn collect(source: &[u8]) -> usize {
         let made: String = text(source)
             .chars()
             .map(|ch| ch.to_ascii_uppercase())
             .collect();
         mark(made.as_bytes())
-    }
+    } }
 
-    #[inline(never)]
-    pub fn push(source: &[u8]) -> usize {
+    called! { "by_std_push": fn push(source: &[u8]) -> usize {
         let mut made = String::new();
         for ch in text(source).chars() {
             made.push(ch);
         }
         mark(made.as_bytes())
-    }
+    } }
 
-    #[inline(never)]
-    pub fn build(source: &[u8]) -> usize {
+    called! { "by_std_build": fn build(source: &[u8]) -> usize {
         mark(black_box(text(source).to_owned()).as_bytes())
-    }
+    } }
 
-    #[inline(never)]
-    pub fn names(source: &[u8]) -> usize {
+    called! { "by_std_names": fn names(source: &[u8]) -> usize {
         let pieces = text(source).split(',');
         pieces.fold(0, |sum, piece| {
             mixed(sum, mark(piece.to_ascii_lowercase().as_bytes()))
         })
-    }
+    } }
 }
 
 pub mod by_memchr {
@@ -340,8 +385,7 @@ pub mod by_memchr {
     use super::mixed;
     use memchr::{memchr, memrchr};
 
-    #[inline(never)]
-    pub fn lines(source: &[u8]) -> usize {
+    called! { "by_memchr_lines": fn lines(source: &[u8]) -> usize {
         let (mut sum, mut rest) = (0, source);
         while !rest.is_empty() {
             let (line, others) = match memchr(b'\n', rest) {
@@ -353,10 +397,9 @@ pub mod by_memchr {
             rest = others;
         }
         sum
-    }
+    } }
 
-    #[inline(never)]
-    pub fn lines_back(source: &[u8]) -> usize {
+    called! { "by_memchr_lines_back": fn lines_back(source: &[u8]) -> usize {
         let (mut sum, mut rest) = (0, source);
         while let Some((last, front)) = rest.split_last() {
             let is_ended = *last == b'\n';
@@ -367,17 +410,16 @@ pub mod by_memchr {
             rest = &rest[..start];
         }
         sum
-    }
+    } }
 
-    #[inline(never)]
-    pub fn split(source: &[u8]) -> usize {
+    called! { "by_memchr_split": fn split(source: &[u8]) -> usize {
         let (mut sum, mut rest) = (0, source);
         while let Some(place) = memchr(b',', rest) {
             sum = mixed(sum, place);
             rest = &rest[place + 1..];
         }
         mixed(sum, rest.len())
-    }
+    } }
 }
 
 pub mod memory {

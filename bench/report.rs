@@ -1,5 +1,7 @@
 //! Writes PERFORMANCE.md and performance.svg out of what was measured.
-//! usage: report FOLDER PAGES  (FOLDER has facts, calls.tsv and programs.tsv)
+//! usage: report FOLDER PAGES REASONS
+//!
+//! FOLDER has facts, calls.tsv and programs.tsv; REASONS is a file that says why rows are behind.
 
 use std::collections::HashMap;
 use std::fmt::Write;
@@ -63,6 +65,34 @@ impl Calls {
         Some(self.time(call, size, peer)? / self.time(call, size, "ours")?)
     }
 
+    /// How many times as fast as the fastest peer ours is.
+    fn best_ratio(&self, call: &str, size: usize) -> Option<f64> {
+        let ratios = PEERS.iter().filter_map(|peer| self.ratio(call, size, peer));
+        ratios.min_by(f64::total_cmp)
+    }
+
+    /// A table of the sizes at which each call is ahead of the fastest peer, level with it, or behind.
+    fn standings(&self) -> String {
+        let mut table = String::from("| Call | ahead | level | behind |\n|---|---|---|---|\n");
+        for call in &self.calls {
+            let mut cells = [const { Vec::new() }; 3];
+            for size in &self.sizes {
+                if let Some(ratio) = self.best_ratio(call, *size) {
+                    let cell = if ratio > 1.05 { 0 } else { 1 + (ratio < 0.95) as usize };
+                    let size = bytes(*size);
+                    cells[cell].push(match cell {
+                        2 => format!("{size} ({})", as_ratio(ratio)),
+                        _ => size,
+                    });
+                }
+            }
+            if cells.iter().any(|cell| !cell.is_empty()) {
+                writeln!(table, "| {call} | {} |", cells.map(|cell| cell.join(", ")).join(" | ")).unwrap();
+            }
+        }
+        table
+    }
+
     /// A table with a row for each call that has a cell at any size.
     fn table(&self, cell: impl Fn(&str, usize) -> Option<String>) -> String {
         let mut table = String::from("| Bytes |");
@@ -81,6 +111,9 @@ impl Calls {
         table
     }
 }
+
+/// What a call is compared with.
+const PEERS: [&str; 3] = ["crate", "std", "memchr"];
 
 fn bytes(size: usize) -> String {
     match size {
@@ -205,7 +238,7 @@ fn chart(calls: &Calls, ascii: &str) -> String {
     )
 }
 
-fn page(facts: &HashMap<String, String>, calls: &Calls, programs: &str) -> String {
+fn page(facts: &HashMap<String, String>, calls: &Calls, programs: &str, reasons: &str) -> String {
     let fact = |name: &str| facts.get(name).map_or("", String::as_str);
     let beside = |peer| calls.table(|call, size| calls.ratio(call, size, peer).map(as_ratio));
     let times = calls.table(|call, size| {
@@ -221,9 +254,8 @@ fn page(facts: &HashMap<String, String>, calls: &Calls, programs: &str) -> Strin
     format!(
         "# Performance
 
-`bench/run` measured this and wrote it; [bench/README.md](../bench/README.md) says how, and what each name
-means. Numbers beside a peer are how many times as fast ours is: the peer's time divided by ours. Over 1 ours
-is faster.
+Written by `bench/run`, from one run. [bench/README.md](../bench/README.md) says how the calls are measured and what each
+name means. A number in a comparison is the peer's time divided by ours: above 1, this library is faster.
 
 ![Times as fast as the Rust crate and as std](performance.svg)
 
@@ -236,13 +268,20 @@ is faster.
 | Peers | {rustc}, for x86-64; ascii {ascii}, memchr {memchr} |
 | Programs | {tools} |
 {missing}
-## Beside the Rust crate
+## Ahead, level, behind
+
+Each call against the fastest of its peers: the Rust crate, std, and a bare loop over the Rust crate
+`memchr`. *Level* is a ratio of 0.95 to 1.05; behind a peer, the ratio is given.
+
+{standings}
+{reasons}
+## Compared with the Rust crate
 
 {by_crate}
-## Beside std
+## Compared with std
 
 {by_std}
-## Beside a bare loop over the Rust crate `memchr`
+## Compared with a bare loop over the Rust crate `memchr`
 
 {by_memchr}
 ## Time of a call
@@ -266,6 +305,7 @@ Over {text} of text: processor time, user and system together, and memory at the
         ascii = fact("ascii"),
         memchr = fact("memchr"),
         tools = fact("programs").replace(';', "; "),
+        standings = calls.standings(),
         by_crate = beside("crate"),
         by_std = beside("std"),
         by_memchr = beside("memchr"),
@@ -275,8 +315,8 @@ Over {text} of text: processor time, user and system together, and memory at the
 
 fn main() {
     let words: Vec<String> = std::env::args().collect();
-    let [_, folder, pages] = &words[..] else {
-        eprintln!("usage: report FOLDER PAGES");
+    let [_, folder, pages, reasons] = &words[..] else {
+        eprintln!("usage: report FOLDER PAGES REASONS");
         std::process::exit(2);
     };
     let facts: HashMap<String, String> = rows(format!("{folder}/facts"))
@@ -289,6 +329,7 @@ fn main() {
         let path = format!("{pages}/{name}");
         std::fs::write(&path, text).unwrap_or_else(|error| panic!("{path}: {error}"));
     };
-    write("PERFORMANCE.md", page(&facts, &calls, &programs));
+    let reasons = std::fs::read_to_string(reasons).unwrap_or_else(|error| panic!("{reasons}: {error}"));
+    write("PERFORMANCE.md", page(&facts, &calls, &programs, &reasons));
     write("performance.svg", chart(&calls, &facts["ascii"]));
 }
