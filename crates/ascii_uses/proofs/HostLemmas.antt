@@ -9,7 +9,8 @@ use Rattle.ascii.proofs.SpansLemmas.{same_pieces}
 use Rattle.ascii_uses.specs.declared.hosts.HostFault.{HostFault}
 use Rattle.ascii_uses.specs.declared.hosts.HostFault.TheVariants.{Character, EmptyLabel, Hyphen}
 use Rattle.ascii_uses.specs.declared.hosts.HostFault.TheVariants.{LongLabel, Memory, TooLong}
-use Rattle.ascii_uses.specs.Hosts.{IsHost, IsHostFault, IsLabel, IsLabelCode, IsLabelFault}
+use Rattle.ascii_base.specs.Class.{IsLabelCode}
+use Rattle.ascii_uses.specs.Hosts.{IsHost, IsHostFault, IsLabel, IsLabelFault}
 use Rattle.ascii_uses.proofs.ListLemmas.{All-seam, IsFirstAt-not_all, IsFirstAt-seam}
 
 -- a name whose pieces are all labels is that of a host

@@ -2,11 +2,13 @@
 use Rattle.std.proofs.Common.{◌≡◌, ℕ, ◌<◌, List, [], ◌∷◌, ◌++◌, None, Option, Some, ap, arith, inl}
 use Rattle.std.proofs.Common.{inr, length, length-append, map, refl, subst, sym, ◌∙◌}
 use Rattle.std.proofs.Math.Seq.{get_or-append_seam}
-use Rattle.std.proofs.lemmas.List.{append_assoc, get_or-take, length-take, map_push, take_at}
+use Rattle.std.proofs.lemmas.List.{append_assoc, get_or-take, get_or_default, length-take}
+use Rattle.std.proofs.lemmas.List.{map_push, take_at}
 use Rattle.std.proofs.lemmas.List.Elements.{All-cons, All-from_all_within, All-nil, All-push}
 use Rattle.std.proofs.lemmas.Option.{slice_get_cases}
 use Rattle.std.specs.List.{All, AllWithin, AllZip, HoldsAt, slice_get}
 use Rattle.std.specs.Option.{IsSomeAnd, MatchOption}
+use Rattle.ascii_base.specs.Bytes.{IsFirstNot}
 use Rattle.ascii.specs.First.{IsFirstAt}
 
 -- ---- what holds of each item
@@ -79,6 +81,18 @@ pub IsFirstAt-position : {A : Type 0} (Is : A → Type 0) (items : List A) (foun
 IsFirstAt-position Is items None each = All-from_all_within Is items each
 IsFirstAt-position Is items (Some i) first =
     IsFirstAt-from_at Is (λ item. ¬ (Is item)) items i first.0 first.1 first.2
+
+-- the first code outside a class, as the searches by class find it
+pub first_not_is_first : (Is : ℕ → Type 0) (codes : List ℕ) (found : Option ℕ)
+    → MatchOption found (All Is codes) (IsFirstNot Is codes 0 (length codes))
+    → MatchOption found (All Is codes) (IsFirstAt Is (λ code. ¬ (Is code)) codes)
+first_not_is_first Is codes None all = all
+first_not_is_first Is codes (Some i) first =
+    IsFirstAt-from_at Is (λ code. ¬ (Is code)) codes i first.inside
+    (λ d here. first.other (subst Is (get_or_default codes i d 0 first.inside) here))
+    (λ k d low high.
+    let inside : k < length codes = omega (arith, high, first.inside) in
+    subst Is (sym (get_or_default codes k d 0 inside)) (first.least k (omega arith) high))
 
 -- the first item with a property, which `find` finds
 pub IsFirstAt-find : {A : Type 0} (Is : A → Type 0) (items : List A) (found : Option A)

@@ -26,8 +26,6 @@ abbrev pub SplitsOnceAtLast : ℕ → List ℕ → Option (AsciiStr × AsciiStr)
 SplitsOnceAtLast on text result = MatchOption result (¬ (Contains text on))
     (λ sides. IsCutAtLast on text (text_of sides.0) (text_of sides.1))
 
--- ---- cited by private functions only
-
 -- `None` if all codes of `text` are of the class `Is`; otherwise the index of the first that is not
 abbrev pub FindsOther : (ℕ → Type 0) → List ℕ → Option ℕ → Type 0
 FindsOther Is text found =

@@ -1,11 +1,11 @@
 -- The header lines of a message: a name, a colon and a value.
-use Rattle.std.specs.Prelude.{◌≡◌, ◌≢◌, ℕ, ◌⊎◌, List, [], ◌∷◌, ◌++◌, Option, MatchOption}
-use Rattle.std.specs.Prelude.{MatchResult, codes, ⊤}
+use Rattle.std.specs.Prelude.{◌≡◌, ◌≢◌, ℕ, List, [], ◌∷◌, ◌++◌, Option, MatchOption}
+use Rattle.std.specs.Prelude.{MatchResult, ⊤}
 use Rattle.std.specs.List.{All, AllZip, Contains}
 use Rattle.std.specs.declared.alloc.Global.{Global}
 use Rattle.std.specs.declared.result.Result.{Result}
 use Rattle.std.specs.declared.vec.Vec.{Vec}
-use Rattle.ascii_base.specs.Class.{IsAlphanumeric}
+use Rattle.ascii_base.specs.Class.{IsTokenCode}
 use Rattle.ascii.specs.First.{IsFirstAt}
 use Rattle.ascii.specs.Lines.{Line}
 use Rattle.ascii.specs.Spans.{LineSpansOf, WithStart}
@@ -18,10 +18,6 @@ use Rattle.ascii_uses.specs.declared.headers.BlockFault.TheVariants.{InLine, Mem
 use Rattle.ascii_uses.specs.declared.headers.Header.{Header}
 use Rattle.ascii_uses.specs.declared.headers.HeaderFault.{HeaderFault}
 use Rattle.ascii_uses.specs.declared.headers.HeaderFault.TheVariants.{NoColon, NoName, NotToken}
-
--- a code that a header name may contain: a letter, a digit or one of these marks
-unfoldable pub IsTokenCode : ℕ → Type 0
-IsTokenCode code = IsAlphanumeric code ⊎ Contains (codes "!#$%&'*+-.^_`|~") code
 
 -- `line` is `name`, a colon and a text that without leading and trailing whitespace is `value`;
 -- `name` is not empty, and its codes are those that a header name may contain

@@ -3,7 +3,7 @@ use Rattle.std.specs.Prelude.{◌≡◌, ◌≢◌, ℕ, ◌+◌, ◌-◌, ◌<�
 use Rattle.std.specs.Prelude.{slice_get}
 use Rattle.std.specs.List.{All}
 use Rattle.std.specs.declared.result.Result.{Result}
-use Rattle.ascii_base.specs.Class.{IsAlphanumeric}
+use Rattle.ascii_base.specs.Class.{IsLabelCode}
 use Rattle.ascii.specs.First.{IsFirstAt}
 use Rattle.ascii.specs.Pieces.{Pieces}
 use Rattle.ascii.specs.Spans.{PieceSpans, WithStart}
@@ -12,10 +12,6 @@ use Rattle.ascii_uses.specs.declared.hosts.Host.{Host}
 use Rattle.ascii_uses.specs.declared.hosts.HostFault.{HostFault}
 use Rattle.ascii_uses.specs.declared.hosts.HostFault.TheVariants.{Character, EmptyLabel, Hyphen}
 use Rattle.ascii_uses.specs.declared.hosts.HostFault.TheVariants.{LongLabel, Memory, TooLong}
-
--- a code that a label may contain: a letter, a digit or a hyphen
-abbrev pub IsLabelCode : ℕ → Type 0
-IsLabelCode code = IsAlphanumeric code ⊎ (code ≡ 45)
 
 -- `label` has 1 to 63 codes, all of them letters, digits and hyphens, and it does not start or end
 -- with a hyphen

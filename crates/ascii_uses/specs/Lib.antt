@@ -2,6 +2,7 @@ pub mod Cases
 pub mod Cuts
 pub mod Headers
 pub mod Hosts
+pub mod Identifiers
 pub mod KeptLines
 pub mod LastLines
 pub mod LineReader

@@ -2,9 +2,10 @@
 
 ghost use Rattle.ascii_base.specs.Code.{code_of};
 ghost use Rattle.ascii.specs.View.{text_of};
-ghost use Rattle.ascii_uses.specs.Cuts.{SplitsOnce, SplitsOnceAtLast};
+ghost use Rattle.ascii_uses.specs.Cuts.{FindsOther, SplitsOnce, SplitsOnceAtLast};
 
-use ascii::{AsciiChar, AsciiStr};
+use ascii::classes::Searched;
+use ascii::{AsciiChar, AsciiStr, kernels};
 
 /// What stands before and behind the first `on` of a view, or `None` where it has none: `a=b=c` at `=` gives
 /// `a` and `b=c`.
@@ -27,4 +28,12 @@ pub fn rsplit_once<'a>(view: AsciiStr<'a>, on: AsciiChar) -> Option<(AsciiStr<'a
     let after = pieces.next_back()?;
     let before = pieces.remainder()?;
     Some((before, after))
+}
+
+/// Returns the position of the first character that is not in the class, or `None` if all are.
+#[tactic(auto, using(crate::proofs::ListLemmas::first_not_is_first))]
+pub fn first_outside<C: Searched>(text: AsciiStr<'_>) -> Option<usize>
+    ensures { FindsOther C.is (text_of text.entry) result }
+{
+    kernels::first_not::<C>(text.as_bytes())
 }

@@ -3,14 +3,12 @@
 //! White space around a value is that of `trim`: beside space and tab also vertical tab, form feed and carriage
 //! return, which no value of a well-formed message has.
 
-ghost use Rattle.std.specs.Prelude.{◌≡◌, ◌↔◌, IsTrue, codes};
-ghost use Rattle.std.specs.List.{Contains};
-ghost use Rattle.ascii_base.specs.Code.{code_of};
+ghost use Rattle.std.specs.Prelude.{◌≡◌};
 ghost use Rattle.ascii.specs.View.{text_of};
-ghost use Rattle.ascii_uses.specs.Cuts.{FindsOther};
-ghost use Rattle.ascii_uses.specs.Headers.{FindsHeader, IsTokenCode, ReadsHeader, ReadsHeaders};
+ghost use Rattle.ascii_uses.specs.Headers.{FindsHeader, ReadsHeader, ReadsHeaders};
 
-use crate::cuts::split_once;
+use crate::cuts::{first_outside, split_once};
+use ascii::classes::Token;
 use ascii::{AsciiChar, AsciiStr};
 use std::alloc::{AllocFailed, Global};
 
@@ -90,7 +88,7 @@ pub fn read_header<'a>(line: AsciiStr<'a>) -> Result<Header<'a>, HeaderFault>
     if name.is_empty() {
         return Err(HeaderFault::NoName);
     }
-    if let Some(place) = first_other(name) {
+    if let Some(place) = first_outside::<Token>(name) {
         return Err(HeaderFault::NotToken(place));
     }
     let value = behind.trim();
@@ -105,26 +103,4 @@ pub fn find_header<'a>(headers: &[Header<'a>], name: AsciiStr<'_>) -> Option<Hea
         .iter()
         .find(|header| header.name.eq_ignore_ascii_case(name))
         .copied()
-}
-
-/// The place of the first character that no name has.
-fn first_other(text: AsciiStr<'_>) -> Option<usize>
-    ensures { FindsOther IsTokenCode (text_of text.entry) result }
-{
-    text.chars().position(|ch| !is_in_name(ch))
-}
-
-/// Whether a name may have the character.
-#[tactic(auto, unfolding(crate::specs::Headers::IsTokenCode))]
-fn is_in_name(ch: AsciiChar) -> bool
-    ensures { IsTrue result ↔ IsTokenCode (code_of ch) }
-{
-    ch.is_alphanumeric() || is_mark(ch)
-}
-
-/// Whether the character is one of the marks that a name may have.
-fn is_mark(ch: AsciiChar) -> bool
-    ensures { IsTrue result ↔ Contains (codes "!#$%&'*+-.^_`|~") (code_of ch) }
-{
-    b"!#$%&'*+-.^_`|~".contains(&ch.as_byte())
 }

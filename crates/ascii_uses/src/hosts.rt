@@ -2,14 +2,14 @@
 
 ghost use Rattle.std.specs.Prelude.{◌≡◌, ◌+◌, ◌≤◌, ◌↔◌, IfErr, IfOk, IsTrue, MatchResult, OnOk};
 ghost use Rattle.std.specs.Prelude.{length};
-ghost use Rattle.ascii_base.specs.Code.{code_of};
 ghost use Rattle.ascii.specs.Spans.{piece_in};
 ghost use Rattle.ascii.specs.View.{text_of};
 ghost use Rattle.ascii_uses.specs.Cases.{EqIgnoringCase, lower_text, order_ignoring_case};
-ghost use Rattle.ascii_uses.specs.Cuts.{FindsOther};
 ghost use Rattle.ascii_uses.specs.Hosts.{OnlyFailsOnAlloc, IsHost, IsHostFault, IsLabel};
-ghost use Rattle.ascii_uses.specs.Hosts.{IsLabelCode, IsLabelFault, host_text};
+ghost use Rattle.ascii_uses.specs.Hosts.{IsLabelFault, host_text};
 
+use crate::cuts::first_outside;
+use ascii::classes::Label;
 use ascii::iter::SplitSpan;
 use ascii::{AsciiChar, AsciiStr};
 use ascii_run::{AsciiBuf, SmallAsciiString};
@@ -111,7 +111,7 @@ fn check_label(label: SplitSpan<'_>) -> Result<(), HostFault>
     if text.len() > 63 {
         return Err(HostFault::LongLabel(start));
     }
-    if let Some(i) = first_other(text) {
+    if let Some(i) = first_outside::<Label>(text) {
         return Err(HostFault::Character(start + i));
     }
     if text.first() == Some(AsciiChar::Minus) {
@@ -121,18 +121,4 @@ fn check_label(label: SplitSpan<'_>) -> Result<(), HostFault>
         return Err(HostFault::Hyphen(start + text.len() - 1));
     }
     Ok(())
-}
-
-/// The place of the first character that no label has.
-fn first_other(text: AsciiStr<'_>) -> Option<usize>
-    ensures { FindsOther IsLabelCode (text_of text.entry) result }
-{
-    text.chars().position(|ch| !is_in_label(ch))
-}
-
-/// Whether a label may have the character.
-fn is_in_label(ch: AsciiChar) -> bool
-    ensures { IsTrue result ↔ IsLabelCode (code_of ch) }
-{
-    ch.is_alphanumeric() || ch == AsciiChar::Minus
 }

@@ -8,6 +8,7 @@ pub mod forms;
 pub mod fronts;
 pub mod headers;
 pub mod hosts;
+pub mod identifiers;
 pub mod iterators;
 pub mod last_lines;
 pub mod line_reader;

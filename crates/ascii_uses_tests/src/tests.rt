@@ -4,6 +4,7 @@
 mod forms;
 mod headers;
 mod hosts;
+mod identifiers;
 mod iterators;
 mod last_lines;
 mod line_reader;

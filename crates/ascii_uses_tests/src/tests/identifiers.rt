@@ -1,0 +1,20 @@
+use super::{ascii, same};
+use ascii::classes::Digit;
+use ascii_uses::cuts::first_outside;
+use ascii_uses::identifiers::identifier_end;
+
+#[test]
+fn ends_of_identifiers(rt: HostRuntime) {
+    same(&rt, identifier_end(ascii("a_max = 3")), Some(5));
+    same(&rt, identifier_end(ascii("_x9")), None);
+    same(&rt, identifier_end(ascii("-")), Some(0));
+    same(&rt, identifier_end(ascii("")), None);
+    let long = "a_name_of_more_than_sixty_four_characters_so_that_a_loop_is_taken_x9@";
+    same(&rt, identifier_end(ascii(long)), Some(68));
+}
+
+#[test]
+fn first_outside_of_a_class(rt: HostRuntime) {
+    same(&rt, first_outside::<Digit>(ascii("8080/x")), Some(4));
+    same(&rt, first_outside::<Digit>(ascii("8080")), None);
+}
