@@ -15,7 +15,11 @@ pub mod View
 pub mod Walks
 pub mod WritingView
 pub use Rattle.ascii_base.specs.Bytes
+pub use Rattle.ascii_base.specs.Caret
 pub use Rattle.ascii_base.specs.Case
 pub use Rattle.ascii_base.specs.Class
 pub use Rattle.ascii_base.specs.Code
+pub use Rattle.ascii_base.specs.Lanes
+pub use Rattle.ascii_base.specs.Printable
 pub use Rattle.ascii_base.specs.Range
+pub use Rattle.ascii_base.specs.ToAscii
