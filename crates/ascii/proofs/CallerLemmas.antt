@@ -22,7 +22,7 @@ use Rattle.ascii.specs.StringState.{StringState}
 use Rattle.ascii.specs.View.{text_of}
 use Rattle.ascii.proofs.ExtendLemmas.{all_from_extends, ok_from_extends, pieces_from_drains}
 use Rattle.ascii.proofs.ExtendLemmas.{singles}
-use Rattle.ascii.proofs.PiecesLemmas.{Free-from_absent, Pieces-only, pieces_of-free}
+use Rattle.ascii.proofs.PiecesLemmas.{HasNo-from_absent, Pieces-only, pieces_of-free}
 use Rattle.ascii.proofs.SpansLemmas.{room, room-lines, room-pieces, with_starts-last}
 use Rattle.ascii.proofs.StepsLemmas.{road_from_first_and}
 use Rattle.std.specs.Option.{IfSome}
@@ -52,7 +52,7 @@ last_of_pieces on text front last pieces whole left =
 pub one_piece : (on : ℕ) (text : List ℕ) (pieces : List (List ℕ))
     → Pieces text on pieces → ¬ (Contains text on) → pieces ≡ text ∷ []
 one_piece on text pieces whole absent =
-    Pieces-only text on pieces whole ∙ pieces_of-free on text (Free-from_absent on text absent)
+    Pieces-only text on pieces whole ∙ pieces_of-free on text (HasNo-from_absent on text absent)
 
 -- the text of the other lines and the last line, with its ending, are the text
 pub last_of_lines : (text front : List ℕ) (last : Line) (lines : List Line)

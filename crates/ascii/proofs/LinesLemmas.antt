@@ -8,16 +8,16 @@ use Rattle.std.proofs.lemmas.List.Elements.{All-cons, All-tail, All-nil, All-tak
 use Rattle.std.proofs.lemmas.Bool.{false≢true, cond_both, cond-false, eqb-false, ne_eqb}
 use Rattle.std.proofs.lemmas.List.{length_push, get_or_push, take_at, same_from_push}
 use Rattle.std.proofs.lemmas.List.Elements.{All-push}
-use Rattle.ascii.proofs.PiecesLemmas.{pieces_of-cut_first}
+use Rattle.ascii.proofs.PiecesLemmas.{pieces_of-split_at_first}
 use Rattle.std.proofs.lemmas.Option.{get_or_from_slice_get, slice_get-get_or}
 use Rattle.std.proofs.lemmas.Grind.{common_steps}
 use Rattle.ascii.specs.declared.iter.spans.Ending.{Ending}
 use Rattle.ascii.specs.declared.iter.spans.Ending.TheVariants.{Lf, CrLf, Absent}
-use Rattle.ascii.specs.Found.{Free, HasWholeLines, ended_line, ends_in_cr, lines_of}
+use Rattle.ascii.specs.Found.{HasNo, HasWholeLines, terminated_line, ends_in_cr, lines_of}
 use Rattle.ascii.specs.Found.{lines_of_pieces, pieces_of}
 use Rattle.ascii.specs.Lines.{EndsInCr, Line, LinesOf, MayFollow, ending_text, line_text}
 use Rattle.ascii.proofs.ListLemmas.{append-some, front_is}
-use Rattle.ascii.proofs.PiecesLemmas.{Free-from_absent, absent-from_Free, all_free}
+use Rattle.ascii.proofs.PiecesLemmas.{HasNo-from_absent, absent-from_Free, all_free}
 use Rattle.ascii.proofs.PiecesLemmas.{length-pieces_of, pieces_of-free, slice_split-joint}
 use Rattle.ascii.proofs.PiecesLemmas.{slice_split-some}
 
@@ -28,23 +28,24 @@ MayEnd line = MayFollow line.ending line.body
 -- ---- how the lines of pieces break
 
 lines_of_pieces-append : (ps qs : List (List ℕ)) → qs ≢ []
-    → lines_of_pieces (ps ++ qs) ≡ map ended_line ps ++ lines_of_pieces qs
+    → lines_of_pieces (ps ++ qs) ≡ map terminated_line ps ++ lines_of_pieces qs
 lines_of_pieces-append [] qs some = refl
 lines_of_pieces-append (p ∷ []) [] some = absurd (some refl)
 lines_of_pieces-append (p ∷ []) (q ∷ qs) some = refl
 lines_of_pieces-append (p ∷ next ∷ ps) qs some =
-    ap (λ ls. ended_line p ∷ ls) (lines_of_pieces-append (next ∷ ps) qs some)
+    ap (λ ls. terminated_line p ∷ ls) (lines_of_pieces-append (next ∷ ps) qs some)
 
 -- the lines round a LF are those up to it, and then those behind it
 lines_of-joint : (a b : List ℕ)
-    → lines_of (a ++ 10 ∷ b) ≡ map ended_line (pieces_of 10 a) ++ lines_of b
+    → lines_of (a ++ 10 ∷ b) ≡ map terminated_line (pieces_of 10 a) ++ lines_of b
 lines_of-joint a b = ap lines_of_pieces (slice_split-joint _ a 10 b refl)
     ∙ lines_of_pieces-append (pieces_of 10 a) (pieces_of 10 b) (slice_split-some _ b)
 
 -- the first line stands before the first LF
-pub lines_of-cut_first : (t a b : List ℕ) → t ≡ a ++ 10 ∷ b → Free 10 a
-    → lines_of t ≡ ended_line a ∷ lines_of b
-lines_of-cut_first t a b is free = ap lines_of_pieces (pieces_of-cut_first 10 t a b is free)
+pub lines_of-split_at_first : (t a b : List ℕ) → t ≡ a ++ 10 ∷ b → HasNo 10 a
+    → lines_of t ≡ terminated_line a ∷ lines_of b
+lines_of-split_at_first t a b is free =
+    ap lines_of_pieces (pieces_of-split_at_first 10 t a b is free)
     ∙ lines_of_pieces-append (a ∷ []) (pieces_of 10 b) (slice_split-some _ b)
 
 -- whole lines, and what stands behind them
@@ -58,7 +59,7 @@ lines_of-behind a b (inr some) =
 -- the line before a LF, by what it ends in
 ended_cases : (p : List ℕ) (P : Line → Type 0)
     → (ends_in_cr p ≡ true → P (record { body = take (length p - 1) p; ending = CrLf }))
-    → (ends_in_cr p ≡ false → P (record { body = p; ending = Lf })) → P (ended_line p)
+    → (ends_in_cr p ≡ false → P (record { body = p; ending = Lf })) → P (terminated_line p)
 ended_cases p P with_cr without_cr = cond_both (ends_in_cr p) _ _ P with_cr without_cr
 
 -- a text that ends in CR
@@ -69,28 +70,28 @@ cr_end (x ∷ xs) is =
     grind (arith, common_steps)
 
 -- the bytes of the line before a LF
-pub line_text-ended : (p : List ℕ) → line_text (ended_line p) ≡ p ++ 10 ∷ []
+pub line_text-ended : (p : List ℕ) → line_text (terminated_line p) ≡ p ++ 10 ∷ []
 line_text-ended p = ended_cases p (λ line. line_text line ≡ p ++ 10 ∷ [])
     (λ is. sym (ap (λ xs. xs ++ 10 ∷ []) (cr_end p is)
     ∙ append_assoc (take (length p - 1) p) (13 ∷ []) (10 ∷ [])))
     (λ is. refl)
 
-MayEnd-ended : (p : List ℕ) → MayEnd (ended_line p)
+MayEnd-ended : (p : List ℕ) → MayEnd (terminated_line p)
 MayEnd-ended p = ended_cases p MayEnd (λ is. tt)
     (λ is ends. eqb-false _ 13 is (get_or_from_slice_get p (length p - 1) 13 0 ends))
 
-ended_line-has : (p : List ℕ) → (ended_line p).ending ≢ Absent
-ended_line-has p = ended_cases p (λ line. line.ending ≢ Absent) (λ is none. cc) (λ is none. cc)
+terminated_line-has : (p : List ℕ) → (terminated_line p).ending ≢ Absent
+terminated_line-has p = ended_cases p (λ line. line.ending ≢ Absent) (λ is none. cc) (λ is none. cc)
 
 -- its body has no LF where the text has none
-body-free : (p : List ℕ) → Free 10 p → Free 10 ((ended_line p).body)
-body-free p free = ended_cases p (λ line. Free 10 line.body)
+body-free : (p : List ℕ) → HasNo 10 p → HasNo 10 ((terminated_line p).body)
+body-free p free = ended_cases p (λ line. HasNo 10 line.body)
     (λ is. All-take (λ code. eqb code 10 ≡ false) (length p - 1) p free) (λ is. free)
 
 -- ---- the one list
 
 -- a line before others, which has an ending unless there are none
-LinesOf-cons : (line : Line) (text : List ℕ) (lines : List Line) → Free 10 line.body → MayEnd line
+LinesOf-cons : (line : Line) (text : List ℕ) (lines : List Line) → HasNo 10 line.body → MayEnd line
     → (line.ending ≡ Absent → lines ≡ []) → LinesOf text lines
     → LinesOf (line_text line ++ text) (line ∷ lines)
 LinesOf-cons line text lines free may last others = record {
@@ -116,7 +117,7 @@ LinesOf-none : LinesOf [] []
 LinesOf-none =
     record { bodies = All-nil _; endings = All-nil _; ended = All-nil _; joined = refl }
 
-LinesOf-pieces : (ps : List (List ℕ)) → ps ≢ [] → All (Free 10) ps
+LinesOf-pieces : (ps : List (List ℕ)) → ps ≢ [] → All (HasNo 10) ps
     → LinesOf (join_with_byte 10 ps) (lines_of_pieces ps)
 LinesOf-pieces [] some free = absurd (some refl)
 LinesOf-pieces ([] ∷ []) some free = LinesOf-none
@@ -126,9 +127,9 @@ LinesOf-pieces ((x ∷ xs) ∷ []) some free =
     (λ none. cc) (λ is. refl) LinesOf-none)
 LinesOf-pieces (p ∷ q ∷ qs) some free =
     rw (line_text-ended p, append_assoc) at
-    (LinesOf-cons (ended_line p) _ _ (body-free p (free 0 [] (omega arith))) (MayEnd-ended p)
-    (λ is. absurd (ended_line-has p is))
-    (LinesOf-pieces (q ∷ qs) (λ none. cc) (All-tail (Free 10) p (q ∷ qs) free)))
+    (LinesOf-cons (terminated_line p) _ _ (body-free p (free 0 [] (omega arith))) (MayEnd-ended p)
+    (λ is. absurd (terminated_line-has p is))
+    (LinesOf-pieces (q ∷ qs) (λ none. cc) (All-tail (HasNo 10) p (q ∷ qs) free)))
 
 -- the lines found are in the relation
 pub LinesOf-lines_of : (t : List ℕ) → LinesOf t (lines_of t)
@@ -137,19 +138,20 @@ LinesOf-lines_of t = rw (join_with_byte-slice_split 10 t) at
 
 -- a body that does not end in CR, before LF
 same_lf : (body : List ℕ) → ¬ (EndsInCr body)
-    → ended_line body ≡ record { body = body; ending = Lf }
+    → terminated_line body ≡ record { body = body; ending = Lf }
 same_lf [] not_cr = refl
 same_lf (x ∷ xs) not_cr = cond-false _ _ _ (ne_eqb _ 13 (λ is. not_cr
     (slice_get-get_or (x ∷ xs) (length (x ∷ xs) - 1) 0 (omega arith) ∙ ap Some is)))
 
 -- a body before CR LF
-same_cr : (body : List ℕ) → ended_line (body ++ 13 ∷ []) ≡ record { body = body; ending = CrLf }
+same_cr : (body : List ℕ)
+    → terminated_line (body ++ 13 ∷ []) ≡ record { body = body; ending = CrLf }
 same_cr body =
     let n : length (body ++ 13 ∷ []) - 1 ≡ length body = omega (arith, length_push body 13) in
     rw (n, get_or_push body 13 0 (length body) refl, take_at body (13 ∷ []) (length body) refl)
 
 -- a text without LF that is not empty is one line
-pub lines_of-open : (t : List ℕ) → Free 10 t → t ≢ []
+pub lines_of-open : (t : List ℕ) → HasNo 10 t → t ≢ []
     → lines_of t ≡ record { body = t; ending = Absent } ∷ []
 lines_of-open [] free some = absurd (some refl)
 lines_of-open (x ∷ xs) free some = ap lines_of_pieces (pieces_of-free 10 (x ∷ xs) free)
@@ -159,16 +161,16 @@ found_line : (body : List ℕ) (ending : Ending) (others : List ℕ) → ¬ (Con
     → MayFollow ending body → (ending ≡ Absent → others ≡ [])
     → lines_of ((body ++ ending_text ending) ++ others)
     ≡ record { body = body; ending = ending } ∷ lines_of others
-found_line body Lf others absent may last = lines_of-cut_first _ body others
-    (append_assoc body (10 ∷ []) others) (Free-from_absent 10 body absent)
+found_line body Lf others absent may last = lines_of-split_at_first _ body others
+    (append_assoc body (10 ∷ []) others) (HasNo-from_absent 10 body absent)
     ∙ ap (λ one. one ∷ lines_of others) (same_lf body may)
-found_line body CrLf others absent may last = lines_of-cut_first _ (body ++ 13 ∷ []) others
+found_line body CrLf others absent may last = lines_of-split_at_first _ (body ++ 13 ∷ []) others
     (append_assoc body (13 ∷ 10 ∷ []) others ∙ sym (append_assoc body (13 ∷ []) (10 ∷ others)))
-    (All-push (λ code. eqb code 10 ≡ false) body 13 (Free-from_absent 10 body absent) refl)
+    (All-push (λ code. eqb code 10 ≡ false) body 13 (HasNo-from_absent 10 body absent) refl)
     ∙ ap (λ one. one ∷ lines_of others) (same_cr body)
 found_line body Absent others absent may last =
     rw (last refl, append-nil (body ++ []), append-nil body)
-    (lines_of-open body (Free-from_absent 10 body absent) may)
+    (lines_of-open body (HasNo-from_absent 10 body absent) may)
 
 -- lines with such endings are found again when they are joined
 lines_of-joined : (lines : List Line) → All (λ line. ¬ (Contains line.body 10)) lines
@@ -197,14 +199,14 @@ LinesOf-only t lines held = sym (lines_of-joined lines held.bodies held.endings 
 -- ---- the lines at either end
 
 -- the last line of a text that ends in LF stands behind the LF before
-pub lines_of-last_ended : (t a b : List ℕ) → t ≡ a ++ b → HasWholeLines a → Free 10 b
-    → lines_of (t ++ 10 ∷ []) ≡ lines_of a ++ ended_line b ∷ []
+pub lines_of-last_ended : (t a b : List ℕ) → t ≡ a ++ b → HasWholeLines a → HasNo 10 b
+    → lines_of (t ++ 10 ∷ []) ≡ lines_of a ++ terminated_line b ∷ []
 lines_of-last_ended t a b is whole free = rw (is, append_assoc) (
     lines_of-behind a (b ++ 10 ∷ []) whole
-    ∙ ap (λ ls. lines_of a ++ ls) (lines_of-cut_first _ b [] refl free))
+    ∙ ap (λ ls. lines_of a ++ ls) (lines_of-split_at_first _ b [] refl free))
 
 -- the last line of a text that does not
-pub lines_of-last_open : (t a b : List ℕ) → t ≡ a ++ b → HasWholeLines a → Free 10 b → b ≢ []
+pub lines_of-last_open : (t a b : List ℕ) → t ≡ a ++ b → HasWholeLines a → HasNo 10 b → b ≢ []
     → lines_of t ≡ lines_of a ++ record { body = b; ending = Absent } ∷ []
 lines_of-last_open t a b is whole free some =
     rw (is, lines_of-behind a b whole, lines_of-open b free some)

@@ -10,16 +10,16 @@ use Rattle.std.proofs.lemmas.List.Sums.{count_by-le-length}
 use Rattle.std.proofs.lemmas.List.Splits.{slice_split-cons_yes, slice_split-cons_no}
 use Rattle.std.proofs.lemmas.List.Splits.{slice_split_none, slice_split_at, length-slice_split}
 use Rattle.std.proofs.lemmas.List.Splits.{join_with_byte-slice_split}
-use Rattle.ascii.specs.Found.{Free, pieces_of}
+use Rattle.ascii.specs.Found.{HasNo, pieces_of}
 use Rattle.ascii.specs.Pieces.{Pieces}
 
 -- ---- what a test says of each code, and what the list holds
 
-pub Free-from_absent : (on : ℕ) (piece : List ℕ) → ¬ (Contains piece on) → Free on piece
-Free-from_absent on piece absent k d inside =
+pub HasNo-from_absent : (on : ℕ) (piece : List ℕ) → ¬ (Contains piece on) → HasNo on piece
+HasNo-from_absent on piece absent k d inside =
     ne_eqb _ on (λ is. absent (k, inside, get_or_default piece k on d inside ∙ is))
 
-pub absent-from_Free : (on : ℕ) (piece : List ℕ) → Free on piece → ¬ (Contains piece on)
+pub absent-from_Free : (on : ℕ) (piece : List ℕ) → HasNo on piece → ¬ (Contains piece on)
 absent-from_Free on piece free held =
     eqb-false on on (All-contains (λ code. eqb code on ≡ false) piece on free held) refl
 
@@ -48,34 +48,34 @@ pub is_on : (on : ℕ) → eqb on on ≡ true
 is_on on = grind (arith, nat_tests)
 
 -- the first piece stands before the first separator
-pub pieces_of-cut_first : (on : ℕ) (t a b : List ℕ) → t ≡ a ++ on ∷ b → Free on a
+pub pieces_of-split_at_first : (on : ℕ) (t a b : List ℕ) → t ≡ a ++ on ∷ b → HasNo on a
     → pieces_of on t ≡ a ∷ pieces_of on b
-pieces_of-cut_first on t a b is free =
+pieces_of-split_at_first on t a b is free =
     rw is (slice_split_at _ a on b free (is_on on))
 
 -- the last piece stands behind the last separator
-pub pieces_of-cut_last : (on : ℕ) (t a b : List ℕ) → t ≡ a ++ on ∷ b → Free on b
+pub pieces_of-split_at_last : (on : ℕ) (t a b : List ℕ) → t ≡ a ++ on ∷ b → HasNo on b
     → pieces_of on t ≡ pieces_of on a ++ b ∷ []
-pieces_of-cut_last on t a b is free =
+pieces_of-split_at_last on t a b is free =
     rw (is, slice_split-joint _ a on b (is_on on), slice_split_none _ b free)
 
 -- a text without the separator is its one piece
-pub pieces_of-free : (on : ℕ) (t : List ℕ) → Free on t → pieces_of on t ≡ t ∷ []
+pub pieces_of-free : (on : ℕ) (t : List ℕ) → HasNo on t → pieces_of on t ≡ t ∷ []
 pieces_of-free on t free = slice_split_none _ t free
 
 -- ---- the one list
 
-onto_first-free : (on x : ℕ) (parts : List (List ℕ)) → eqb x on ≡ false → All (Free on) parts
-    → All (Free on) (onto_first x parts)
+onto_first-free : (on x : ℕ) (parts : List (List ℕ)) → eqb x on ≡ false → All (HasNo on) parts
+    → All (HasNo on) (onto_first x parts)
 onto_first-free on x [] is free = search (rules, All-cons, All-nil)
-onto_first-free on x (part ∷ parts) is free = All-cons (Free on) (x ∷ part) parts
+onto_first-free on x (part ∷ parts) is free = All-cons (HasNo on) (x ∷ part) parts
     (All-cons (λ code. eqb code on ≡ false) x part is (free 0 [] (omega arith)))
-    (All-tail (Free on) part parts free)
+    (All-tail (HasNo on) part parts free)
 
-pub all_free : (on : ℕ) (t : List ℕ) → All (Free on) (pieces_of on t)
+pub all_free : (on : ℕ) (t : List ℕ) → All (HasNo on) (pieces_of on t)
 all_free on [] = search (rules, All-cons, All-nil)
-all_free on (x ∷ xs) = cond_both (eqb x on) _ _ (All (Free on))
-    (λ is. All-cons (Free on) [] (pieces_of on xs) (All-nil _) (all_free on xs))
+all_free on (x ∷ xs) = cond_both (eqb x on) _ _ (All (HasNo on))
+    (λ is. All-cons (HasNo on) [] (pieces_of on xs) (All-nil _) (all_free on xs))
     (λ is. onto_first-free on x (pieces_of on xs) is (all_free on xs))
 
 -- the pieces found are in the relation
@@ -87,20 +87,20 @@ Pieces-pieces_of t on = record {
 }
 
 -- pieces that hold no separator are found again when they are joined
-pieces_of-joined : (on : ℕ) (pieces : List (List ℕ)) → pieces ≢ [] → All (Free on) pieces
+pieces_of-joined : (on : ℕ) (pieces : List (List ℕ)) → pieces ≢ [] → All (HasNo on) pieces
     → pieces_of on (join_with_byte on pieces) ≡ pieces
 pieces_of-joined on [] some free = absurd (some refl)
 pieces_of-joined on (piece ∷ []) some free = slice_split_none _ piece (free 0 [] (omega arith))
 pieces_of-joined on (piece ∷ next ∷ others) some free =
     slice_split_at _ piece on _ (free 0 [] (omega arith)) (is_on on)
     ∙ ap (λ ps. piece ∷ ps) (pieces_of-joined on (next ∷ others) (λ none. cc)
-    (All-tail (Free on) piece (next ∷ others) free))
+    (All-tail (HasNo on) piece (next ∷ others) free))
 
 -- no other list is in the relation
 pub Pieces-only : (t : List ℕ) (on : ℕ) (pieces : List (List ℕ)) → Pieces t on pieces
     → pieces ≡ pieces_of on t
 Pieces-only t on pieces held = sym (pieces_of-joined on pieces held.some
-    (All-weaker _ _ (Free-from_absent on) pieces held.free)) ∙ ap (pieces_of on) held.joined
+    (All-weaker _ _ (HasNo-from_absent on) pieces held.free)) ∙ ap (pieces_of on) held.joined
 
 -- there is at most one more than the codes of the text
 pub length-pieces_of : (on : ℕ) (t : List ℕ) → length (pieces_of on t) ≤ length t + 1

@@ -30,8 +30,8 @@ use Rattle.std.specs.declared.result.Result.TheVariants.{Ok, Err}
 use Rattle.ascii.specs.declared.ascii_str_mut.AsciiStrMut.{AsciiStrMut}
 use Rattle.ascii.specs.contracts.ascii_str.AsAsciiStrError as E
 use Rattle.ascii.specs.contracts.ascii_str_mut.AsciiStrMut as V
-use Rattle.ascii.specs.declared.bytes_mut.Searched.{Searched}
-use Rattle.ascii.specs.contracts.bytes_mut.Searched as S
+use Rattle.ascii.specs.declared.bytes_mut.SearchOutcome.{SearchOutcome}
+use Rattle.ascii.specs.contracts.bytes_mut.SearchOutcome as S
 use Rattle.ascii.proofs.ascii_str_mut.AsciiStrMut.TheLaws as view_laws
 
 abbrev pub Bytes : RattleType
@@ -105,7 +105,7 @@ module _ {M : Type 1} {𝓤 : Ura M} (𝓛 : Logic 𝓤) where
       (heres_id u8 v.bytes.now) refl $ name_done ! tt $ now ! $ done !)
 
   -- what a search has is the view that it found, written as its fields say
-  pub found_view : (a : NamedLft) (r : Searched) (vs : List Val)
+  pub found_view : (a : NamedLft) (r : SearchOutcome) (vs : List Val)
       → ent 𝓤 (sem 𝓛 ((S.the_row a).own_val r vs))
       (sem 𝓛 ((V.the_row a).own_val r.view (view_laws.lowered r.view ∷ [])))
   found_view a r vs = qed 𝓛 (‵ ((S.the_row a).own_val r vs) ∷ []) ∵ fpick !

@@ -7,16 +7,17 @@ use Rattle.std.proofs.lemmas.List.{get_or-drop, get_or-take, length-take-le, tak
 use Rattle.std.proofs.lemmas.Grind.{common_steps}
 use Rattle.std.proofs.lemmas.List.Elements.{All-from_get_or}
 use Rattle.memchr.specs.Find.{IsFirstByte, IsLastByte, Nowhere, Passes, is_byte}
-use Rattle.ascii.specs.Found.{Free, HasWholeLines}
+use Rattle.ascii.specs.Found.{HasNo, HasWholeLines}
 
 module _ (on : ℕ) (codes : List ℕ) where
-  pub free_of_last : IsLastByte (is_byte on) codes None → Free on codes
+  pub free_of_last : IsLastByte (is_byte on) codes None → HasNo on codes
   free_of_last h = All-from_get_or (λ code. (code == on) ≡ false) codes 0
       (λ k inside. false_from_ne_true _ (h k (omega arith) inside))
 
   -- the text round the last one, which is not behind it
   pub cut_at_last : (place : ℕ) → IsLastByte (is_byte on) codes (Some place)
-      → (codes ≡ take place codes ++ on ∷ drop (place + 1) codes) × Free on (drop (place + 1) codes)
+      → (codes ≡ take place codes ++ on ∷ drop (place + 1) codes)
+      × HasNo on (drop (place + 1) codes)
   cut_at_last place h = (
     let inside = h.0.high in let here = eqb-true _ _ h.1 in
         grind (arith, common_steps, drop_more),

@@ -5,18 +5,21 @@ use Rattle.std.specs.List.{Contains, flat_map, join_with_byte}
 use Rattle.std.proofs.lemmas.List.Splits.{join_with_byte-slice_split}
 use Rattle.ascii.specs.declared.iter.cursor.Cursor.{Cursor}
 use Rattle.ascii.specs.declared.iter.spans.Ending.TheVariants.{Absent}
-use Rattle.ascii.specs.Found.{Free, HasWholeLines, IsCutBehindLastFeed, IsCutFirst, IsCutLast}
-use Rattle.ascii.specs.Found.{ended_line, line_spans, lines_of, part_in, piece_spans, pieces_of}
+use Rattle.ascii.specs.Found.{HasNo, HasWholeLines, IsSplitAfterLastLf, IsSplitAtFirst}
+use Rattle.ascii.specs.Found.{IsSplitAtLast}
+use Rattle.ascii.specs.Found.{line_spans, lines_of, part_in, piece_spans, pieces_of}
+use Rattle.ascii.specs.Found.{terminated_line}
 use Rattle.ascii.specs.Lines.{Line, LinesOf, line_text}
 use Rattle.ascii.specs.Pieces.{Pieces}
 use Rattle.ascii.specs.Spans.{LineSpansOf, PieceSpans, WithStart, items_of, line_size, piece_size}
 use Rattle.ascii.specs.Spans.{with_starts}
 use Rattle.ascii.specs.View.{text_of}
 use Rattle.ascii.proofs.LinesLemmas.{LinesOf-lines_of, LinesOf-only, length-lines_of}
-use Rattle.ascii.proofs.LinesLemmas.{line_text-ended, lines_of-cut_first, lines_of-last_ended}
+use Rattle.ascii.proofs.LinesLemmas.{line_text-ended, lines_of-split_at_first, lines_of-last_ended}
 use Rattle.ascii.proofs.LinesLemmas.{lines_of-last_open, lines_of-open, lines_of-some, not_whole}
 use Rattle.ascii.proofs.PiecesLemmas.{absent-from_Free, Pieces-only, Pieces-pieces_of}
-use Rattle.ascii.proofs.PiecesLemmas.{length-pieces_of, pieces_of-cut_first, pieces_of-cut_last}
+use Rattle.ascii.proofs.PiecesLemmas.{length-pieces_of, pieces_of-split_at_first}
+use Rattle.ascii.proofs.PiecesLemmas.{pieces_of-split_at_last}
 use Rattle.ascii.proofs.PiecesLemmas.{pieces_of-free, slice_split-some}
 
 -- ---- items one behind the other
@@ -69,7 +72,7 @@ room-pieces_of on t = room-pieces on (pieces_of on t) (slice_split-some _ t)
     ∙ ap (λ xs. length xs + 1) (join_with_byte-slice_split on t)
 
 -- a piece that the search found to be free of the separator does not contain it
-pub free_piece : (on byte : ℕ) (part piece : WithStart (List ℕ)) → byte ≡ on → Free byte part.item
+pub free_piece : (on byte : ℕ) (part piece : WithStart (List ℕ)) → byte ≡ on → HasNo byte part.item
     → piece ≡ part → ¬ (Contains piece.item on)
 free_piece on byte part piece byte_is free is =
     rw is (absent-from_Free on part.item (rw byte_is at free))
@@ -77,28 +80,29 @@ free_piece on byte part piece byte_is free is =
 module _ (on : ℕ) (part : WithStart (List ℕ)) where
   -- the first piece stands before the first separator
   pub piece_spans_first : (byte : ℕ) (cut : Cursor × Cursor) (first : WithStart (List ℕ))
-      → byte ≡ on → IsCutFirst byte part cut → first ≡ part_in cut.0
+      → byte ≡ on → IsSplitAtFirst byte part cut → first ≡ part_in cut.0
       → piece_spans on part ≡ first ∷ piece_spans on (part_in cut.1)
   piece_spans_first byte cut first byte_is found first_is =
-      let is = subst (λ b. IsCutFirst b part cut) byte_is found in
+      let is = subst (λ b. IsSplitAtFirst b part cut) byte_is found in
       rw (first_is, is.0.before, is.0.behind) (ap (with_starts piece_size part.start)
-      (pieces_of-cut_first on part.item (text_of cut.0.view) (text_of cut.1.view) is.0.text is.1))
+      (pieces_of-split_at_first on part.item (text_of cut.0.view) (text_of cut.1.view)
+      is.0.text is.1))
 
   -- the last piece stands behind the last separator
   pub piece_spans_last : (byte : ℕ) (cut : Cursor × Cursor) (last : WithStart (List ℕ))
-      → byte ≡ on → IsCutLast byte part cut → last ≡ part_in cut.1
+      → byte ≡ on → IsSplitAtLast byte part cut → last ≡ part_in cut.1
       → piece_spans on part ≡ piece_spans on (part_in cut.0) ++ last ∷ []
   piece_spans_last byte cut last byte_is found last_is =
-      let is = subst (λ b. IsCutLast b part cut) byte_is found in
+      let is = subst (λ b. IsSplitAtLast b part cut) byte_is found in
       let front = text_of cut.0.view in
       rw (last_is, is.0.before, is.0.behind, ← room-pieces_of on front)
       (ap (with_starts piece_size part.start)
-      (pieces_of-cut_last on part.item front (text_of cut.1.view) is.0.text is.1)
+      (pieces_of-split_at_last on part.item front (text_of cut.1.view) is.0.text is.1)
       ∙ with_starts-last piece_size part.start (pieces_of on front) (text_of cut.1.view))
 
   -- a text without the separator is its one piece
   pub piece_spans_free : (byte : ℕ) (whole : WithStart (List ℕ)) → byte ≡ on
-      → Free byte part.item → whole ≡ part → piece_spans on part ≡ whole ∷ []
+      → HasNo byte part.item → whole ≡ part → piece_spans on part ≡ whole ∷ []
   piece_spans_free byte whole byte_is free whole_is = rw whole_is
       (ap (with_starts piece_size part.start) (pieces_of-free on part.item (rw byte_is at free)))
 
@@ -139,8 +143,9 @@ room-lines_of t = room-lines (lines_of t) ∙ ap length ((LinesOf-lines_of t).jo
 
 module _ (part : WithStart (List ℕ)) where
   -- the first line stands before the first LF
-  pub line_spans_first : (cut : Cursor × Cursor) (first : WithStart Line) → IsCutFirst 10 part cut
-      → first ≡ record { start = cut.0.start; item = ended_line (text_of cut.0.view) }
+  pub line_spans_first : (cut : Cursor × Cursor) (first : WithStart Line)
+      → IsSplitAtFirst 10 part cut
+      → first ≡ record { start = cut.0.start; item = terminated_line (text_of cut.0.view) }
       → line_spans part ≡ first ∷ line_spans (part_in cut.1)
   line_spans_first cut first is first_is =
       let front = text_of cut.0.view in
@@ -151,10 +156,10 @@ module _ (part : WithStart (List ℕ)) where
         ← length-append front (10 ∷ []),
         ← line_text-ended front,
       ) (ap (with_starts line_size part.start)
-      (lines_of-cut_first part.item front (text_of cut.1.view) is.0.text is.1))
+      (lines_of-split_at_first part.item front (text_of cut.1.view) is.0.text is.1))
 
   -- a text without LF is one line, and none where it is empty
-  pub line_spans_open : (cursor : Cursor) (only : WithStart Line) → Free 10 part.item
+  pub line_spans_open : (cursor : Cursor) (only : WithStart Line) → HasNo 10 part.item
       → part.item ≢ [] → text_of cursor.view ≡ []
       → only ≡ record { start = part.start; item = record { body = part.item; ending = Absent } }
       → line_spans part ≡ only ∷ line_spans (part_in cursor)
@@ -183,18 +188,18 @@ module _ (part : WithStart (List ℕ)) where
   -- the last line of a text that ends in LF, which is cut in front of that
   pub line_spans_last_ended : (front : Cursor) (cut : Cursor × Cursor) (last : WithStart Line)
       → part.item ≡ text_of front.view ++ 10 ∷ [] → front.start ≡ part.start
-      → IsCutBehindLastFeed (part_in front) cut
-      → last ≡ record { start = cut.1.start; item = ended_line (text_of cut.1.view) }
+      → IsSplitAfterLastLf (part_in front) cut
+      → last ≡ record { start = cut.1.start; item = terminated_line (text_of cut.1.view) }
       → line_spans part ≡ line_spans (part_in cut.0) ++ last ∷ []
   line_spans_last_ended front cut last ends starts is last_is = rw last_is
-      (line_spans_behind cut (ended_line (text_of cut.1.view)) (is.before ∙ starts)
+      (line_spans_behind cut (terminated_line (text_of cut.1.view)) (is.before ∙ starts)
       (rw starts at is.behind) (ap lines_of ends ∙ lines_of-last_ended (text_of front.view)
       (text_of cut.0.view) (text_of cut.1.view) is.text is.whole is.free))
 
   -- the last line of a text that does not
   pub line_spans_last_open : (front : List ℕ) (code : ℕ) (cut : Cursor × Cursor)
       (last : WithStart Line) → part.item ≡ front ++ code ∷ [] → code ≢ 10
-      → IsCutBehindLastFeed part cut
+      → IsSplitAfterLastLf part cut
       → last ≡ record {
         start = cut.1.start;
         item =

@@ -12,8 +12,8 @@ use Rattle.ascii.specs.Spans.{WithStart, with_starts, piece_size, line_size}
 use Rattle.ascii.specs.View.{text_of}
 
 -- no code of `codes` is `on`
-abbrev pub Free : ℕ → List ℕ → Type 0
-Free on codes = All (λ code. (code == on) ≡ false) codes
+abbrev pub HasNo : ℕ → List ℕ → Type 0
+HasNo on codes = All (λ code. (code == on) ≡ false) codes
 
 -- ---- pieces
 
@@ -28,21 +28,21 @@ abbrev pub ends_in_cr : List ℕ → Bool
 ends_in_cr body = slice_index_or body (length body - 1) 0 == 13
 
 -- the line of what comes before an LF: a CR at its end belongs to the ending
-abbrev pub ended_line : List ℕ → Line
-ended_line piece = cond (ends_in_cr piece)
+abbrev pub terminated_line : List ℕ → Line
+terminated_line piece = cond (ends_in_cr piece)
     (record { body = take (length piece - 1) piece; ending = CrLf })
     (record { body = piece; ending = Lf })
 
 -- the line after the last LF, or no line if nothing comes after it
-abbrev pub open_line : List ℕ → List Line
-open_line [] = []
-open_line (x ∷ xs) = record { body = x ∷ xs; ending = Absent } ∷ []
+abbrev pub unterminated_line : List ℕ → List Line
+unterminated_line [] = []
+unterminated_line (x ∷ xs) = record { body = x ∷ xs; ending = Absent } ∷ []
 
 -- the lines of a text, from its pieces at LF
 abbrev pub lines_of_pieces : List (List ℕ) → List Line
 lines_of_pieces [] = []
-lines_of_pieces (piece ∷ []) = open_line piece
-lines_of_pieces (piece ∷ next ∷ others) = ended_line piece ∷ lines_of_pieces (next ∷ others)
+lines_of_pieces (piece ∷ []) = unterminated_line piece
+lines_of_pieces (piece ∷ next ∷ others) = terminated_line piece ∷ lines_of_pieces (next ∷ others)
 
 -- the lines of `text`
 abbrev pub lines_of : List ℕ → List Line
@@ -70,30 +70,30 @@ spans_left on (Some part) = piece_spans on part
 -- ---- where a part is cut
 
 -- the cut of a part at one code `on`: what comes before that code, and what comes after it
-pub record IsCut (on : ℕ) (part : WithStart (List ℕ)) (cut : Cursor × Cursor) : Type 0 where
+pub record IsSplitAt (on : ℕ) (part : WithStart (List ℕ)) (cut : Cursor × Cursor) : Type 0 where
   pub text : part.item ≡ text_of cut.0.view ++ on ∷ text_of cut.1.view
   pub before : cut.0.start ≡ part.start
   pub behind : cut.1.start ≡ part.start + (length (text_of cut.0.view) + 1)
 
 -- the cut of a part at its first `on`
-abbrev pub IsCutFirst : ℕ → WithStart (List ℕ) → Cursor × Cursor → Type 0
-IsCutFirst on part cut = IsCut on part cut × Free on (text_of cut.0.view)
+abbrev pub IsSplitAtFirst : ℕ → WithStart (List ℕ) → Cursor × Cursor → Type 0
+IsSplitAtFirst on part cut = IsSplitAt on part cut × HasNo on (text_of cut.0.view)
 
 -- the cut of a part at its last `on`
-abbrev pub IsCutLast : ℕ → WithStart (List ℕ) → Cursor × Cursor → Type 0
-IsCutLast on part cut = IsCut on part cut × Free on (text_of cut.1.view)
+abbrev pub IsSplitAtLast : ℕ → WithStart (List ℕ) → Cursor × Cursor → Type 0
+IsSplitAtLast on part cut = IsSplitAt on part cut × HasNo on (text_of cut.1.view)
 
 -- the text is empty or ends in LF
 abbrev pub HasWholeLines : List ℕ → Type 0
 HasWholeLines text = (text ≡ []) ⊎ ((line : List ℕ) × (text ≡ line ++ 10 ∷ []))
 
 -- the cut of a part after its last LF, or at its start if it has none
-pub record IsCutBehindLastFeed (part : WithStart (List ℕ)) (cut : Cursor × Cursor) : Type 0 where
+pub record IsSplitAfterLastLf (part : WithStart (List ℕ)) (cut : Cursor × Cursor) : Type 0 where
   pub text : part.item ≡ text_of cut.0.view ++ text_of cut.1.view
   pub before : cut.0.start ≡ part.start
   pub behind : cut.1.start ≡ part.start + length (text_of cut.0.view)
   pub whole : HasWholeLines (text_of cut.0.view)
-  pub free : Free 10 (text_of cut.1.view)
+  pub free : HasNo 10 (text_of cut.1.view)
 
 -- ---- walks
 

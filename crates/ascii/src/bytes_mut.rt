@@ -101,7 +101,7 @@ pub fn as_mut_ascii_str(source: &mut [u8]) -> Result<AsciiStrMut<'_>, AsAsciiStr
 
 /// What a search of a range of a source found.
 #[derive(Drop)]
-struct Searched<'a> {
+struct SearchOutcome<'a> {
     /// the part of the range; of a refused source, no part
     view: AsciiStrMut<'a>,
     is_refused: bool,
@@ -110,7 +110,7 @@ struct Searched<'a> {
 }
 
 /// Looks through the range of a source, and keeps hold of the source.
-fn search(source: &mut [u8], range: AsciiRange) -> Searched<'_>
+fn search(source: &mut [u8], range: AsciiRange) -> SearchOutcome<'_>
     ensures accepted { result.is_refused ≡ false → let n = length source.old in
         Fits range n × IsViewOf source.old (start_of range) (end_of range n) result.view }
     ensures refused { result.is_refused ≡ true
@@ -119,7 +119,7 @@ fn search(source: &mut [u8], range: AsciiRange) -> Searched<'_>
     ensures lender { borrow_of result.view ≡ source.entry.ghost_name }
 {
     match checked_bounds(source, range) {
-        Ok((start, end)) => Searched {
+        Ok((start, end)) => SearchOutcome {
             view: AsciiStrMut {
                 bytes: source,
                 start,
@@ -128,7 +128,7 @@ fn search(source: &mut [u8], range: AsciiRange) -> Searched<'_>
             is_refused: false,
             valid_up_to: end,
         },
-        Err(error) => Searched {
+        Err(error) => SearchOutcome {
             view: AsciiStrMut {
                 bytes: source,
                 start: 0,

@@ -12,7 +12,7 @@ mod bounds;
 mod boxed;
 pub mod bytes;
 mod bytes_mut;
-mod collects;
+mod collect;
 mod copies;
 mod from_ascii;
 pub mod iter;

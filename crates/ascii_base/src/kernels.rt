@@ -17,12 +17,12 @@ ghost use Rattle.ascii_base.specs.Lanes.{SameBefore};
 
 use crate::classes::{Ascii, Class, ClassBy, Searched, Whitespace};
 use crate::images::{Image, ImageBy, Lower, Upper};
-use crate::lanes::{LANES, QUIET, WIDE, highest, is_quiet, is_same};
+use crate::lanes::{ASCII_BLOCK, LANES, WIDE, eq_lanes, highest_set_bit, is_ascii_block};
 use std::simd::prelude::*;
 
 /// How many bytes at an end of a text are tested one by one first: few texts have more whitespace
 /// there.
-const NEAR: usize = 8;
+const SCALAR_PREFIX: usize = 8;
 
 /// Returns the position of the first byte that is not in the class, or `None` if all bytes are in it.
 ///
@@ -52,13 +52,13 @@ pub fn first_other(bytes: &[u8]) -> Option<usize>
     ensures { MatchOption result (IsAscii bytes.now) (FirstOther bytes.now 0 (length bytes.now)) }
 {
     if bytes.len() < LANES {
-        other_in_short(bytes)
+        first_non_ascii_short(bytes)
     } else if bytes.len() <= WIDE {
-        other_in_two::<LANES>(bytes)
-    } else if bytes.len() < QUIET {
+        first_non_ascii_overlapping::<LANES>(bytes)
+    } else if bytes.len() < ASCII_BLOCK {
         first_from::<Ascii>(bytes, 0)
     } else {
-        other_in_long(bytes)
+        first_non_ascii_long(bytes)
     }
 }
 
@@ -100,7 +100,7 @@ pub fn eq_ignore_case(first: &[u8], second: &[u8]) -> bool
         return false;
     }
     if first.len() > LANES {
-        is_same::<16>(first, second, 0) && same_from(first, second, 16)
+        eq_lanes::<16>(first, second, 0) && same_from(first, second, 16)
     } else if first.len() >= 16 {
         same_in_two::<16>(first, second)
     } else if first.len() >= 8 {
@@ -119,7 +119,7 @@ pub fn first_not_whitespace(bytes: &[u8]) -> Option<usize>
     ensures { MatchOption result (All IsWhitespace bytes.now)
         (IsFirstNot IsWhitespace bytes.now 0 (length bytes.now)) }
 {
-    let near = bytes.len().min(NEAR);
+    let near = bytes.len().min(SCALAR_PREFIX);
     match first_one_by_one::<Whitespace>(bytes, 0, near) {
         None => first_from::<Whitespace>(bytes, near),
         found => found,
@@ -133,7 +133,7 @@ pub fn first_not_whitespace(bytes: &[u8]) -> Option<usize>
 pub fn last_not_whitespace(bytes: &[u8]) -> Option<usize>
     ensures { MatchOption result (All IsWhitespace bytes.now) (IsLastNot IsWhitespace bytes.now) }
 {
-    let end = bytes.len().saturating_sub(NEAR);
+    let end = bytes.len().saturating_sub(SCALAR_PREFIX);
     match last_one_by_one::<Whitespace>(bytes, end, bytes.len()) {
         None => last_before::<Whitespace>(bytes, end),
         found => found,
@@ -233,16 +233,16 @@ fn first_one_by_one<C: Class>(bytes: &[u8], from: usize, to: usize) -> Option<us
 
 /// The first non-ASCII byte of fewer than 32.
 #[inline(always)]
-fn other_in_short(bytes: &[u8]) -> Option<usize>
+fn first_non_ascii_short(bytes: &[u8]) -> Option<usize>
     requires { length bytes.now < LANES }
     ensures { FindsFirstNot (λ byte. byte < 128) bytes.now (length bytes.now) result }
 {
     if bytes.len() >= 16 {
-        other_in_two::<16>(bytes)
+        first_non_ascii_overlapping::<16>(bytes)
     } else if bytes.len() >= 8 {
-        other_in_two::<8>(bytes)
+        first_non_ascii_overlapping::<8>(bytes)
     } else if bytes.len() >= 4 {
-        other_in_two::<4>(bytes)
+        first_non_ascii_overlapping::<4>(bytes)
     } else {
         first_one_by_one::<Ascii>(bytes, 0, bytes.len())
     }
@@ -251,7 +251,7 @@ fn other_in_short(bytes: &[u8]) -> Option<usize>
 /// The first non-ASCII byte of at least `N` and at most twice as many: the first `N` and the last
 /// `N` take one test if there is none.
 #[inline(always)]
-fn other_in_two<const N: usize>(bytes: &[u8]) -> Option<usize>
+fn first_non_ascii_overlapping<const N: usize>(bytes: &[u8]) -> Option<usize>
     requires lanes { N ≤ 64 }
     requires room { N ≤ length bytes.now }
     requires short { length bytes.now ≤ N + N }
@@ -266,16 +266,16 @@ fn other_in_two<const N: usize>(bytes: &[u8]) -> Option<usize>
 
 /// The first non-ASCII byte of at least 128: 128 at a time while they are ASCII, and the last 128.
 #[inline(always)]
-fn other_in_long(bytes: &[u8]) -> Option<usize>
-    requires { QUIET ≤ length bytes.now }
+fn first_non_ascii_long(bytes: &[u8]) -> Option<usize>
+    requires { ASCII_BLOCK ≤ length bytes.now }
     ensures { FindsFirstNot (λ byte. byte < 128) bytes.now (length bytes.now) result }
 {
-    let last = bytes.len() - QUIET;
+    let last = bytes.len() - ASCII_BLOCK;
     let mut at = 0;
-    while at < last && is_quiet(bytes, at) {
-        at += QUIET;
+    while at < last && is_ascii_block(bytes, at) {
+        at += ASCII_BLOCK;
     }
-    if at >= last && is_quiet(bytes, last) {
+    if at >= last && is_ascii_block(bytes, last) {
         return None;
     }
     first_from::<Ascii>(bytes, at)
@@ -352,7 +352,7 @@ fn last_in<C: ClassBy<N>, const N: usize>(bytes: &[u8], at: usize) -> Option<usi
     if marked == 0 {
         None
     } else {
-        Some(at + highest(marked))
+        Some(at + highest_set_bit(marked))
     }
 }
 
@@ -438,7 +438,7 @@ fn same_from(first: &[u8], second: &[u8], from: usize) -> bool
 {
     let mut at = from;
     while first.len() - at > WIDE {
-        if !is_same::<WIDE>(first, second, at) {
+        if !eq_lanes::<WIDE>(first, second, at) {
             return false;
         }
         at += WIDE;
@@ -457,9 +457,9 @@ fn same_in_end(first: &[u8], second: &[u8], at: usize) -> bool
 {
     let last = first.len() - LANES;
     if at < last {
-        is_same::<LANES>(first, second, at) && is_same::<LANES>(first, second, last)
+        eq_lanes::<LANES>(first, second, at) && eq_lanes::<LANES>(first, second, last)
     } else {
-        is_same::<LANES>(first, second, last)
+        eq_lanes::<LANES>(first, second, last)
     }
 }
 
@@ -473,7 +473,7 @@ fn same_in_two<const N: usize>(first: &[u8], second: &[u8]) -> bool
     ensures { IsTrue result ↔ (map lower_image first.now ≡ map lower_image second.now) }
 {
     let last = first.len() - N;
-    is_same::<N>(first, second, 0) && (last == 0 || is_same::<N>(first, second, last))
+    eq_lanes::<N>(first, second, 0) && (last == 0 || eq_lanes::<N>(first, second, last))
 }
 
 /// Whether the bytes from `from` on are the same in both when case is ignored, byte by byte.

@@ -13,14 +13,15 @@ pub(crate) const LANES: usize = 32;
 /// How many bytes a step of the comparison takes: two chunks under one test.
 pub(crate) const WIDE: usize = 2 * LANES;
 
-/// How many bytes one test of `is_quiet` takes.
-pub(crate) const QUIET: usize = 4 * LANES;
+/// How many bytes one test of `is_ascii_block` takes.
+pub(crate) const ASCII_BLOCK: usize = 4 * LANES;
 
 /// Whether the 128 bytes from `at` on are all under 128, by one test.
 #[inline(always)]
-pub(crate) fn is_quiet(bytes: &[u8], at: usize) -> bool
-    requires { at + QUIET ≤ length bytes.now }
-    ensures { IsTrue result → (k : ℕ) → at ≤ k → k < at + QUIET → slice_index bytes.now k < 128 }
+pub(crate) fn is_ascii_block(bytes: &[u8], at: usize) -> bool
+    requires { at + ASCII_BLOCK ≤ length bytes.now }
+    ensures { IsTrue result → (k : ℕ) → at ≤ k → k < at + ASCII_BLOCK
+        → slice_index bytes.now k < 128 }
 {
     let front = u8x32::from_slice(&bytes[at..]) | u8x32::from_slice(&bytes[at + LANES..]);
     let back = u8x32::from_slice(&bytes[at + 2 * LANES..])
@@ -31,7 +32,7 @@ pub(crate) fn is_quiet(bytes: &[u8], at: usize) -> bool
 /// Whether the `N` bytes from `at` on are the same in both when case doesn't count: no two bytes of a
 /// place differ in a bit, but for the bit of the case where the first is a letter.
 #[inline(always)]
-pub(crate) fn is_same<const N: usize>(first: &[u8], second: &[u8], at: usize) -> bool
+pub(crate) fn eq_lanes<const N: usize>(first: &[u8], second: &[u8], at: usize) -> bool
     requires lanes { N ≤ 64 }
     requires same_length { length first.now ≡ length second.now }
     requires room { at + N ≤ length first.now }
@@ -45,9 +46,9 @@ pub(crate) fn is_same<const N: usize>(first: &[u8], second: &[u8], at: usize) ->
     apart.simd_ne(Simd::splat(0)).to_bitmask() == 0
 }
 
-/// The place of the highest bit that is set.
+/// The position of the highest bit that is set.
 #[inline(always)]
-pub(crate) fn highest(mask: u64) -> usize
+pub(crate) fn highest_set_bit(mask: u64) -> usize
     requires { mask ≢ 0 }
     ensures set { bit_at mask result ≡ 1 }
     ensures above { (k : ℕ) → result < k → bit_at mask k ≡ 0 }

@@ -15,7 +15,7 @@ use Rattle.std.specs.List.{All, AllPass, flat_map, list_all}
 use Rattle.std.specs.Str.{IsAscii}
 use Rattle.json.specs.Print.{escape_byte, print, print_from}
 use Rattle.json.specs.Token.{Token, string}
-use Rattle.ascii_run.specs.Modes.Json.{AreForms, json_code, json_text}
+use Rattle.ascii_run.specs.Modes.Json.{AreEscapes, json_code, json_text}
 
 -- a code in a JSON string, as the writer has it
 json_code-is : (n : ℕ) → json_code n ≡ escape_byte n
@@ -70,48 +70,49 @@ printed items before tokens old t text is none held empty same =
     ∙ (ap print (held ∙ ap (λ o. o ++ string t ∷ []) empty)
     ∙ (print-string t ∙ ap json_text same)))
 
--- the form of a code, by its place
-pub form_at : {F : Type 0} (text : F → List ℕ) (forms : List F) (code : ℕ) (form : F)
-    → AreForms 128 (map text forms) → code < 128
-    → form ≡ get_or forms code form → text form ≡ json_text (code ∷ [])
-form_at text forms code form are low is =
+-- the escape of a code, by its place
+pub escape_at : {F : Type 0} (text : F → List ℕ) (escapes : List F) (code : ℕ) (escape : F)
+    → AreEscapes 128 (map text escapes) → code < 128
+    → escape ≡ get_or escapes code escape → text escape ≡ json_text (code ∷ [])
+escape_at text escapes code escape are low is =
     ap text is
-    ∙ (sym (get_or-map text forms code form [] (omega (arith, length-map forms text, are.0)))
+    ∙ (sym (get_or-map text escapes code escape [] (omega (arith, length-map escapes text, are.0)))
     ∙ are.1 code low)
 
--- one form more
-pub form_more : {F : Type 0} (text : F → List ℕ) (forms : List F) (form : F) (n : ℕ)
-    → AreForms n (map text forms) → text form ≡ json_text (n ∷ [])
-    → AreForms (n + 1) (map text (forms ++ form ∷ []))
-form_more text forms form n are is =
-    let texts = map text forms in
-    let more : map text (forms ++ form ∷ []) ≡ texts ++ text form ∷ [] =
-    map-append text forms (form ∷ []) in
-    let last : get_or (texts ++ text form ∷ []) n [] ≡ json_text (n ∷ []) =
-    subst (λ k. get_or (texts ++ text form ∷ []) k [] ≡ json_text (n ∷ [])) are.0
-    (get_or-append_seam texts (text form) [] [] ∙ is) in
-    subst (AreForms (n + 1)) (sym more) (
-      omega (arith, length-append texts (text form ∷ []), are.0),
+-- one escape more
+pub escape_more : {F : Type 0} (text : F → List ℕ) (escapes : List F) (escape : F) (n : ℕ)
+    → AreEscapes n (map text escapes) → text escape ≡ json_text (n ∷ [])
+    → AreEscapes (n + 1) (map text (escapes ++ escape ∷ []))
+escape_more text escapes escape n are is =
+    let texts = map text escapes in
+    let more : map text (escapes ++ escape ∷ []) ≡ texts ++ text escape ∷ [] =
+    map-append text escapes (escape ∷ []) in
+    let last : get_or (texts ++ text escape ∷ []) n [] ≡ json_text (n ∷ []) =
+    subst (λ k. get_or (texts ++ text escape ∷ []) k [] ≡ json_text (n ∷ [])) are.0
+    (get_or-append_seam texts (text escape) [] [] ∙ is) in
+    subst (AreEscapes (n + 1)) (sym more) (
+      omega (arith, length-append texts (text escape ∷ []), are.0),
       λ code low.
-          ⊎_elim (λ below. get_or_append_left texts (text form ∷ []) [] code
+          ⊎_elim (λ below. get_or_append_left texts (text escape ∷ []) [] code
           (omega (arith, are.0)) ∙ are.1 code below)
           (λ high. let e : code ≡ n = omega arith in
-          subst (λ k. get_or (texts ++ text form ∷ []) k [] ≡ json_text (k ∷ [])) (sym e)
+          subst (λ k. get_or (texts ++ text escape ∷ []) k [] ≡ json_text (k ∷ [])) (sym e)
           last) (cases_lt code n),
     )
 
 -- the JSON string of one character is a quote, its code in a JSON string, and a quote
-form_is : (form : List ℕ) (code : ℕ) → form ≡ json_text (code ∷ [])
-    → form ≡ 34 ∷ (json_code code ++ 34 ∷ [])
-form_is form code is = is ∙ ap (λ xs. 34 ∷ (xs ++ 34 ∷ [])) (append-nil (json_code code))
+escape_is : (escape : List ℕ) (code : ℕ) → escape ≡ json_text (code ∷ [])
+    → escape ≡ 34 ∷ (json_code code ++ 34 ∷ [])
+escape_is escape code is = is ∙ ap (λ xs. 34 ∷ (xs ++ 34 ∷ [])) (append-nil (json_code code))
 
-pub form_long : (form : List ℕ) (code : ℕ) → form ≡ json_text (code ∷ []) → 2 ≤ length form
-form_long form code is = subst (λ xs. 2 ≤ length xs) (sym (form_is form code is))
+pub escape_long : (escape : List ℕ) (code : ℕ) → escape ≡ json_text (code ∷ []) → 2 ≤ length escape
+escape_long escape code is = subst (λ xs. 2 ≤ length xs) (sym (escape_is escape code is))
     (omega (arith, length-append (json_code code) (34 ∷ [])))
 
 -- the JSON string of one character without its quotes
-pub form_inner : (form : List ℕ) (code : ℕ) → form ≡ json_text (code ∷ [])
-    → take (length form - 1 - 1) (drop 1 form) ≡ json_code code
-form_inner form code is =
-    subst (λ xs. take (length xs - 1 - 1) (drop 1 xs) ≡ json_code code) (sym (form_is form code is))
+pub escape_inner : (escape : List ℕ) (code : ℕ) → escape ≡ json_text (code ∷ [])
+    → take (length escape - 1 - 1) (drop 1 escape) ≡ json_code code
+escape_inner escape code is =
+    subst (λ xs. take (length xs - 1 - 1) (drop 1 xs) ≡ json_code code)
+    (sym (escape_is escape code is))
     (grind (arith, common_steps))

@@ -13,10 +13,10 @@ use Rattle.std.proofs.Math.Seq.{take-length}
 use Rattle.memchr.specs.Find.{NoneBefore, Nowhere, OccursAt}
 use Rattle.ascii.specs.declared.iter.spans.Ending.{Ending}
 use Rattle.ascii.specs.declared.iter.spans.Ending.TheVariants.{Lf, CrLf, Absent}
-use Rattle.ascii.specs.Found.{Free, lines_of}
+use Rattle.ascii.specs.Found.{HasNo, lines_of}
 use Rattle.ascii.specs.Lines.{EndsInCr, Line, MayFollow, bodies, ending_text, line_text}
 use Rattle.ascii.proofs.LinesLemmas.{LinesOf-lines_of}
-use Rattle.ascii.proofs.PiecesLemmas.{Free-from_absent}
+use Rattle.ascii.proofs.PiecesLemmas.{HasNo-from_absent}
 use Rattle.ascii_run.specs.declared.modes.Mode.TheVariants.{Lines}
 use Rattle.ascii_run.specs.Modes.Lines.{with_line_feed}
 use Rattle.ascii_run.specs.Modes.{IsOutput}
@@ -53,7 +53,7 @@ no_feed c other is = false≢true (sym other ∙ ap (λ x. eqb x 10) is)
 -- ---- the body of a line
 
 -- no CR at the end of a body before LF
-spliced : (body : List ℕ) (d : ℕ) (ds : List ℕ) → Free 10 body
+spliced : (body : List ℕ) (d : ℕ) (ds : List ℕ) → HasNo 10 body
     → (d ≡ 10 → get_or body (length body - 1) 0 ≡ 13 → ⊥)
     → with_line_feeds (body ++ d ∷ ds) ≡ body ++ with_line_feeds (d ∷ ds)
 spliced [] d ds free may = refl
@@ -65,7 +65,7 @@ spliced (c ∷ e ∷ es) d ds free may =
     ∙ ap (λ t. c ∷ t)
     (spliced (e ∷ es) d ds rest (λ at_lf at_cr. may at_lf (last_is c e es ∙ at_cr)))
 
-open_end : (body : List ℕ) → Free 10 body → body ≢ [] → with_line_feeds body ≡ body ++ 10 ∷ []
+open_end : (body : List ℕ) → HasNo 10 body → body ≢ [] → with_line_feeds body ≡ body ++ 10 ∷ []
 open_end [] free some = absurd (some refl)
 open_end (c ∷ []) free some = ap (λ b. cond b (c ∷ []) (c ∷ 10 ∷ []))
     (All-head (λ code. eqb code 10 ≡ false) c [] free)
@@ -83,7 +83,7 @@ ends_in_cr (c ∷ cs) is =
 
 -- ---- a line, and all
 
-ended : (body : List ℕ) (ending : Ending) (t : List ℕ) → Free 10 body → MayFollow ending body
+ended : (body : List ℕ) (ending : Ending) (t : List ℕ) → HasNo 10 body → MayFollow ending body
     → ending ≢ Absent
     → with_line_feeds ((body ++ ending_text ending) ++ t) ≡ with_line_feed body ++ with_line_feeds t
 ended body Lf t free may has =
@@ -96,7 +96,7 @@ ended body CrLf t free may has =
     ∙ (ap (λ xs. body ++ xs) (feed t) ∙ sym (append_assoc body (10 ∷ []) (with_line_feeds t))))
 ended body Absent t free may has = absurd (has refl)
 
-last_line : (body : List ℕ) (ending : Ending) → Free 10 body → MayFollow ending body
+last_line : (body : List ℕ) (ending : Ending) → HasNo 10 body → MayFollow ending body
     → with_line_feeds ((body ++ ending_text ending) ++ []) ≡ with_line_feed body ++ []
 last_line body Lf free may = ended body Lf [] free may (λ none. cc)
 last_line body CrLf free may = ended body CrLf [] free may (λ none. cc)
@@ -111,7 +111,7 @@ all_lines : (lines : List Line) → All (λ line. ¬ (Contains line.body 10)) li
 all_lines [] absent may has = refl
 all_lines (line ∷ []) absent may has =
     last_line line.body line.ending
-    (Free-from_absent 10 line.body
+    (HasNo-from_absent 10 line.body
     (All-head (λ one. ¬ (Contains one.body 10)) line [] absent))
     (All-head (λ one. MayFollow one.ending one.body) line [] may)
 all_lines (line ∷ next ∷ others) absent may has =
@@ -121,7 +121,7 @@ all_lines (line ∷ next ∷ others) absent may has =
     let n : length (line ∷ next ∷ others) - 1 ≡ suc (length (next ∷ others) - 1) = omega arith in
     let front = subst (λ m. All Ended (take m (line ∷ next ∷ others))) n has in
     ended line.body line.ending (flat_map line_text (next ∷ others))
-    (Free-from_absent 10 line.body (All-head NoFeed line (next ∷ others) absent))
+    (HasNo-from_absent 10 line.body (All-head NoFeed line (next ∷ others) absent))
     (All-head MayEnd line (next ∷ others) may)
     (All-head Ended line (take (length (next ∷ others) - 1) (next ∷ others)) front)
     ∙ ap (λ xs. with_line_feed line.body ++ xs)

@@ -1,5 +1,5 @@
-//! The modes of a run from bytes to bytes: a line for each in the table `put_output`, and a file for
-//! the output of each.
+//! The modes of a run from bytes to bytes: a line for each in the table `render_output`, and a file
+//! for the output of each.
 
 ghost use Rattle.std.specs.Prelude.{◌≡◌, IfErr, OnErr, OnOk};
 ghost use Rattle.ascii_run.specs.Engine.{StopsOutput};
@@ -66,7 +66,7 @@ pub(crate) fn buffer_size(mode: Mode<'_>, length: usize) -> usize {
 }
 
 /// Appends the output of the mode for a text. On error, nothing has been appended.
-pub(crate) fn put_output<K: Sink, A: Allocator + Copy>(
+pub(crate) fn render_output<K: Sink, A: Allocator + Copy>(
     alloc: A,
     mode: Mode<'_>,
     text: AsciiString<A>,

@@ -7,7 +7,7 @@ ghost use Rattle.ascii_run.specs.Engine.{read_failures, write_failures};
 
 use crate::devices::{Sink, Source};
 use crate::faults::EngineFault;
-use crate::modes::{Mode, buffer_size, put_output};
+use crate::modes::{Mode, buffer_size, render_output};
 use crate::output_buffer::OutputBuffer;
 use ascii::{AsciiString, kernels};
 use std::alloc::Allocator;
@@ -111,6 +111,6 @@ fn write_output<K: Sink, A: Allocator + Copy>(
     ensures count { K.failures writer.new ≡ write_failures (K.failures writer.old) result }
 {
     let mut buffer = OutputBuffer::new(alloc, buffer_size(mode, text.len()))?;
-    put_output(alloc, mode, text, &mut buffer, writer)?;
+    render_output(alloc, mode, text, &mut buffer, writer)?;
     buffer.finish(writer)
 }

@@ -6,11 +6,11 @@ use Rattle.std.proofs.lemmas.List.{append-nil, map-append}
 use Rattle.std.proofs.lemmas.List.Elements.{All-map}
 use Rattle.ascii.specs.Spans.{PieceSpans, WithStart, items_of}
 use Rattle.ascii.proofs.SpansLemmas.{same_pieces}
-use Rattle.ascii_uses.specs.declared.hosts.HostFault.{HostFault}
-use Rattle.ascii_uses.specs.declared.hosts.HostFault.TheVariants.{Character, EmptyLabel, Hyphen}
-use Rattle.ascii_uses.specs.declared.hosts.HostFault.TheVariants.{LongLabel, Memory, TooLong}
+use Rattle.ascii_uses.specs.declared.hosts.HostNameError.{HostNameError}
+use Rattle.ascii_uses.specs.declared.hosts.HostNameError.TheVariants.{Character, EmptyLabel, Hyphen}
+use Rattle.ascii_uses.specs.declared.hosts.HostNameError.TheVariants.{LongLabel, Memory, TooLong}
 use Rattle.ascii_base.specs.Class.{IsLabelCode}
-use Rattle.ascii_uses.specs.Hosts.{IsHost, IsHostFault, IsLabel, IsLabelFault}
+use Rattle.ascii_uses.specs.Hosts.{IsHost, IsHostError, IsLabel, IsLabelError}
 use Rattle.ascii_uses.proofs.ListLemmas.{All-seam, IsFirstAt-not_all, IsFirstAt-seam}
 
 -- a name whose pieces are all labels is that of a host
@@ -28,9 +28,9 @@ host_of_labels name spans rest short whole none each =
 
 -- the first piece of a name that is not a label says what is wrong with the name
 pub wrong_label : (name : List ℕ) (before after : List (WithStart (List ℕ)))
-    (here : WithStart (List ℕ)) (fault : HostFault) → length name ≤ 253
+    (here : WithStart (List ℕ)) (error : HostNameError) → length name ≤ 253
     → PieceSpans 0 name 46 (before ++ here ∷ after) → All (λ label. IsLabel label.item) before
-    → IsLabelFault here fault → IsHostFault name fault
+    → IsLabelError here error → IsHostError name error
 wrong_label name before after here TooLong short whole each wrong = absurd wrong
 wrong_label name before after here Memory short whole each wrong = absurd wrong
 wrong_label name before after here other short whole each wrong = (
@@ -40,7 +40,7 @@ wrong_label name before after here other short whole each wrong = (
     length before,
     whole,
     IsFirstAt-seam (λ label. IsLabel label.item)
-        (λ label. IsLabelFault label other) before after here each wrong (length before) refl,
+        (λ label. IsLabelError label other) before after here each wrong (length before) refl,
   ),
 )
 
@@ -55,8 +55,8 @@ label_of_host name before after here whole host =
     All-seam IsLabel (items_of before) (items_of after) here.item each
 
 -- what is wrong with a label is wrong
-pub no_label : (label : WithStart (List ℕ)) (fault : HostFault)
-    → IsLabelFault label fault → ¬ (IsLabel label.item)
+pub no_label : (label : WithStart (List ℕ)) (error : HostNameError)
+    → IsLabelError label error → ¬ (IsLabel label.item)
 no_label label (EmptyLabel place) wrong is = is.some wrong.1
 no_label label (LongLabel place) wrong is = let short = is.short in absurd (omega (arith, wrong.1))
 no_label label (Character place) wrong is =

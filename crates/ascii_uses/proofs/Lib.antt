@@ -6,4 +6,4 @@ pub mod Relent
 pub mod ScreenLemmas
 pub mod SettingLemmas
 pub mod TakenLemmas
-pub mod WindowLemmas
+pub mod LineBufferLemmas

@@ -16,14 +16,14 @@ use Rattle.ascii.specs.Found.{line_spans}
 use Rattle.ascii.specs.Lines.{Line, LinesOf, MayFollow, line_text}
 use Rattle.ascii.specs.Spans.{LineSpansOf, WithStart, items_of, line_size, with_starts}
 use Rattle.ascii.proofs.SpansLemmas.{line_spans_found}
-use Rattle.ascii_uses.specs.declared.line_reader.LineFault.{LineFault}
-use Rattle.ascii_uses.specs.declared.line_reader.LineFault.TheVariants.{TooLong, Read}
+use Rattle.ascii_uses.specs.declared.line_reader.LineError.{LineError}
+use Rattle.ascii_uses.specs.declared.line_reader.LineError.TheVariants.{TooLong, Read}
 use Rattle.ascii_uses.specs.declared.line_reader.LineReader.{LineReader}
 use Rattle.ascii_uses.specs.declared.line_reader.ReadLine.{ReadLine}
 use Rattle.ascii_uses.specs.declared.line_reader.Stage.TheVariants.{Open, Ended}
 use Rattle.ascii_uses.specs.LineReader.{YieldsLines, IsDone, IsHeldThenRead, Next, NextFrom}
-use Rattle.ascii_uses.specs.LineReader.{ReaderState, IsLineFault, read_line_in, state_of_reader}
-use Rattle.ascii_uses.specs.Window.{FreeUpTo}
+use Rattle.ascii_uses.specs.LineReader.{ReaderState, IsLineError, read_line_in, state_of_reader}
+use Rattle.ascii_uses.specs.LineBuffer.{FreeUpTo}
 
 -- a text is read in two parts
 pub IsHeldThenRead-more : (held : List ℕ) (rest mid left : Option (List ℕ)) (text more : List ℕ)
@@ -40,19 +40,19 @@ IsHeldThenRead-more held rest mid left text more first then = (
 
 -- what is value_of_reply where no LF and no byte over 127 is held and there is no room
 pub full : (start size : ℕ) (held text : List ℕ) (rest mid left : Option (List ℕ))
-    (result : Result (Option ℕ) LineFault)
+    (result : Result (Option ℕ) LineError)
     → IsHeldThenRead held rest mid text → length text ≡ size → IsAscii text → FreeUpTo text size
-    → IfErr result (λ fault. (fault ≡ Read)
-    ⊎ ((fault ≡ TooLong start) × ((byte : ℕ) × Consumes mid left (byte ∷ []))))
-    → IfErr result (IsLineFault start size held rest left)
+    → IfErr result (λ error. (error ≡ Read)
+    ⊎ ((error ≡ TooLong start) × ((byte : ℕ) × Consumes mid left (byte ∷ []))))
+    → IfErr result (IsLineError start size held rest left)
 full start size held text rest mid left (Ok found) is long ascii free told = tt
-full start size held text rest mid left (Err fault) is long ascii free told = elim told [
-  | inl failed ↦ subst (IsLineFault start size held rest left) (sym failed) tt
+full start size held text rest mid left (Err error) is long ascii free told = elim told [
+  | inl failed ↦ subst (IsLineError start size held rest left) (sym failed) tt
   | inr more ↦
       let byte = more.1.0 in
       let all = text ++ byte ∷ [] in
       let front : take size all ≡ text = take_at text (byte ∷ []) size long in
-      subst (IsLineFault start size held rest left) (sym more.0) (
+      subst (IsLineError start size held rest left) (sym more.0) (
         all,
         IsHeldThenRead-more held rest mid left text (byte ∷ []) is more.1.1,
         (
@@ -155,14 +155,14 @@ YieldsLines-push a b c lines line first ended then =
       size = then.size ∙ first.size;
     }
 
-none_is_some : (result : Result (Option ReadLine) LineFault) (line : ReadLine) → result ≡ Ok None
+none_is_some : (result : Result (Option ReadLine) LineError) (line : ReadLine) → result ≡ Ok None
     → result ≡ Ok (Some line) → ⊥
 none_is_some result line none some = cc
 
 -- the next line of a reader behind the lines before it
 module _ {S Z : Type 0} (rest : S → Option (List ℕ)) (failures : S → ℕ) where
   pub one_more : (a : ReaderState) (lines : List (WithStart Line)) (old new : LineReader S Z)
-      (result : Result (Option ReadLine) LineFault) (line : ReadLine) (last : WithStart Line)
+      (result : Result (Option ReadLine) LineError) (line : ReadLine) (last : WithStart Line)
       → YieldsLines a lines (state_of_reader rest failures old)
       → Next rest failures old result new → result ≡ Ok (Some line) → last ≡ read_line_in line
       → YieldsLines a (lines ++ last ∷ []) (state_of_reader rest failures new)

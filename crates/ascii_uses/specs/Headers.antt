@@ -13,11 +13,11 @@ use Rattle.ascii.specs.Trim.{Trims}
 use Rattle.ascii.specs.View.{text_of}
 use Rattle.ascii_uses.specs.Cases.{EqIgnoringCase}
 use Rattle.ascii_uses.specs.Cuts.{IsCutAt}
-use Rattle.ascii_uses.specs.declared.headers.BlockFault.{BlockFault}
-use Rattle.ascii_uses.specs.declared.headers.BlockFault.TheVariants.{InLine, Memory}
+use Rattle.ascii_uses.specs.declared.headers.HeaderBlockError.{HeaderBlockError}
+use Rattle.ascii_uses.specs.declared.headers.HeaderBlockError.TheVariants.{InLine, Memory}
 use Rattle.ascii_uses.specs.declared.headers.Header.{Header}
-use Rattle.ascii_uses.specs.declared.headers.HeaderFault.{HeaderFault}
-use Rattle.ascii_uses.specs.declared.headers.HeaderFault.TheVariants.{NoColon, NoName, NotToken}
+use Rattle.ascii_uses.specs.declared.headers.HeaderError.{HeaderError}
+use Rattle.ascii_uses.specs.declared.headers.HeaderError.TheVariants.{NoColon, NoName, NotToken}
 
 -- `line` is `name`, a colon and a text that without leading and trailing whitespace is `value`;
 -- `name` is not empty, and its codes are those that a header name may contain
@@ -29,20 +29,20 @@ pub record IsHeader (line name value : List ℕ) : Type 0 where
   pub trimmed : Trims after value
 
 -- why `line` is not a header. `NoColon`: it contains no colon. `NoName`: it starts with a colon.
--- `NotToken`: the code at the position that the fault holds is the first one that a header name
+-- `NotToken`: the code at the position that the error holds is the first one that a header name
 -- may not contain, of those before the first colon
-abbrev pub IsHeaderFault : List ℕ → HeaderFault → Type 0
-IsHeaderFault line NoColon = ¬ (Contains line 58)
-IsHeaderFault line NoName = (after : List ℕ) × (58 ∷ after ≡ line)
-IsHeaderFault line (NotToken place) = (name : List ℕ) × (after : List ℕ)
+abbrev pub IsHeaderError : List ℕ → HeaderError → Type 0
+IsHeaderError line NoColon = ¬ (Contains line 58)
+IsHeaderError line NoName = (after : List ℕ) × (58 ∷ after ≡ line)
+IsHeaderError line (NotToken place) = (name : List ℕ) × (after : List ℕ)
     × IsCutAt 58 line name after
     × IsFirstAt IsTokenCode (λ code. ¬ (IsTokenCode code)) name place
 
 -- `Ok`: the header of `line`. `Err`: why `line` is not a header
-abbrev pub ReadsHeader : List ℕ → Result Header HeaderFault → Type 0
+abbrev pub ReadsHeader : List ℕ → Result Header HeaderError → Type 0
 ReadsHeader line result =
     MatchResult result (λ header. IsHeader line (text_of header.name) (text_of header.value))
-    (IsHeaderFault line)
+    (IsHeaderError line)
 
 -- ---- a block of lines
 
@@ -55,18 +55,18 @@ abbrev pub HasHeader : WithStart Line → Type 0
 HasHeader line = (header : Header) × IsHeaderOf line header
 
 -- why `lines` are not all headers. `InLine`: the line at index `number` is the first that is not a
--- header; it begins at `start`, and `fault` says why it is none. `Memory` says nothing of `lines`
-abbrev pub IsBlockFault : List (WithStart Line) → BlockFault → Type 0
-IsBlockFault lines (InLine number start fault) =
-    IsFirstAt HasHeader (λ line. (line.start ≡ start) × IsHeaderFault line.item.body fault)
+-- header; it begins at `start`, and `error` says why it is none. `Memory` says nothing of `lines`
+abbrev pub IsBlockError : List (WithStart Line) → HeaderBlockError → Type 0
+IsBlockError lines (InLine number start error) =
+    IsFirstAt HasHeader (λ line. (line.start ≡ start) × IsHeaderError line.item.body error)
     lines number
-IsBlockFault lines Memory = ⊤
+IsBlockError lines Memory = ⊤
 
 -- `Ok`: the headers of the lines of `block`, in order. `Err`: why they are not all headers, or
 -- `Memory`
-abbrev pub ReadsHeaders : List ℕ → Result (Vec Header Global) BlockFault → Type 0
+abbrev pub ReadsHeaders : List ℕ → Result (Vec Header Global) HeaderBlockError → Type 0
 ReadsHeaders block result = (lines : List (WithStart Line)) × LineSpansOf 0 block lines
-    × MatchResult result (λ headers. AllZip IsHeaderOf lines headers.items) (IsBlockFault lines)
+    × MatchResult result (λ headers. AllZip IsHeaderOf lines headers.items) (IsBlockError lines)
 
 -- ---- headers by name
 

@@ -12,10 +12,10 @@ use Rattle.ascii.specs.Lines.{Line}
 use Rattle.ascii.specs.Spans.{LineSpansOf, WithStart, line_size}
 use Rattle.ascii.specs.View.{text_of}
 use Rattle.ascii_base.specs.Bytes.{FirstOther}
-use Rattle.ascii_uses.specs.Window.{WindowState, EndsLine, FreeUpTo}
-use Rattle.ascii_uses.specs.declared.line_reader.LineFault.{LineFault}
-use Rattle.ascii_uses.specs.declared.line_reader.LineFault.TheVariants.{NotAscii, TooLong, TooFar}
-use Rattle.ascii_uses.specs.declared.line_reader.LineFault.TheVariants.{Read}
+use Rattle.ascii_uses.specs.LineBuffer.{WindowState, EndsLine, FreeUpTo}
+use Rattle.ascii_uses.specs.declared.line_reader.LineError.{LineError}
+use Rattle.ascii_uses.specs.declared.line_reader.LineError.TheVariants.{NotAscii, TooLong, TooFar}
+use Rattle.ascii_uses.specs.declared.line_reader.LineError.TheVariants.{Read}
 use Rattle.ascii_uses.specs.declared.line_reader.LineReader.{LineReader}
 use Rattle.ascii_uses.specs.declared.line_reader.ReadLine.{ReadLine}
 use Rattle.ascii_uses.specs.declared.line_reader.Stage.{Stage}
@@ -37,9 +37,9 @@ pub record ReaderState : Type 0 where
 abbrev pub state_of_reader
     : {S Z : Type 0} → (S → Option (List ℕ)) → (S → ℕ) → LineReader S Z → ReaderState
 state_of_reader rest failures reader = record {
-  size = reader.window.size;
+  size = reader.buffer.size;
   start = reader.start;
-  held = reader.window.held;
+  held = reader.buffer.held;
   rest = rest reader.source;
   failures = failures reader.source;
   stage = reader.stage;
@@ -90,11 +90,11 @@ pub record YieldsLines (old : ReaderState) (lines : List (WithStart Line)) (new 
 
 -- why the first line of `text`, which is at the position `start` of the input, is not yielded
 -- through a buffer of `size` bytes. `NotAscii`: a byte of the line, among its first `size` bytes,
--- is the first of `text` that is not less than 128; the fault holds its position. `TooLong`: the
--- line has more bytes than the buffer, of which the first `size` are ASCII; the fault holds its
+-- is the first of `text` that is not less than 128; the error holds its position. `TooLong`: the
+-- line has more bytes than the buffer, of which the first `size` are ASCII; the error holds its
 -- position. `TooFar`: the line has a byte at the position 2 ^ 64 - 1 or after it. `Read` says
 -- nothing of `text`
-abbrev pub RejectsLine : ℕ → ℕ → List ℕ → LineFault → Type 0
+abbrev pub RejectsLine : ℕ → ℕ → List ℕ → LineError → Type 0
 RejectsLine start size text (NotAscii place) = (i : ℕ) × (place ≡ start + i) × (i < size)
     × FirstOther text 0 (length text) i × FreeUpTo text i
 RejectsLine start size text (TooLong place) =
@@ -104,44 +104,44 @@ RejectsLine start size text TooFar =
 RejectsLine start size text Read = ⊤
 
 -- why a reader stops that held the bytes `held`. `Read` says nothing of the bytes that the source
--- gave. For another fault, `RejectsLine` is true of these and of the bytes held
-abbrev pub IsLineFault
-    : ℕ → ℕ → List ℕ → Option (List ℕ) → Option (List ℕ) → LineFault → Type 0
-IsLineFault start size held rest left Read = ⊤
-IsLineFault start size held rest left fault =
-    (text : List ℕ) × IsHeldThenRead held rest left text × RejectsLine start size text fault
+-- gave. For another error, `RejectsLine` is true of these and of the bytes held
+abbrev pub IsLineError
+    : ℕ → ℕ → List ℕ → Option (List ℕ) → Option (List ℕ) → LineError → Type 0
+IsLineError start size held rest left Read = ⊤
+IsLineError start size held rest left error =
+    (text : List ℕ) × IsHeldThenRead held rest left text × RejectsLine start size text error
 
 -- the failures of the source after a call that returns this, of `n` before: one more if the call
 -- returns `Read`, unless `n` is 2 ^ 64 - 1
-abbrev pub failures_after : {T : Type 0} → ℕ → Result T LineFault → ℕ
+abbrev pub failures_after : {T : Type 0} → ℕ → Result T LineError → ℕ
 failures_after n (Err Read) = min (n + 1) (2 ^ 64 - 1)
 failures_after n other = n
 
 -- what an open reader returns. `Some`: the next line, which fits in the buffer. `None`: there are
 -- no more lines, and the reader has ended. `Err`: the reader has stopped, and why
 abbrev pub YieldsNext
-    : ReaderState → Result (Option ReadLine) LineFault → ReaderState → Type 0
+    : ReaderState → Result (Option ReadLine) LineError → ReaderState → Type 0
 YieldsNext old (Ok (Some line)) new =
     YieldsLines old (read_line_in line ∷ []) new × (line_size (read_line_in line).item ≤ old.size)
 YieldsNext old (Ok None) new = YieldsLines old [] new × IsDone new
-YieldsNext old (Err fault) new = (new.stage ≡ Refused fault)
-    × IsLineFault old.start old.size old.held old.rest new.rest fault
+YieldsNext old (Err error) new = (new.stage ≡ Refused error)
+    × IsLineError old.start old.size old.held old.rest new.rest error
 
 module _ {S Z : Type 0} (rest : S → Option (List ℕ)) (failures : S → ℕ) where
   -- what a reader at a stage returns. At `Open`, `YieldsNext` says what, and `failures_after` how
   -- many calls of its source have then failed. At `Ended` it returns `None`, at `Refused` the error
   -- that it returned before, and then reader and source are unchanged
   abbrev pub NextFrom
-      : Stage → LineReader S Z → Result (Option ReadLine) LineFault → LineReader S Z → Type 0
+      : Stage → LineReader S Z → Result (Option ReadLine) LineError → LineReader S Z → Type 0
   NextFrom Open old result new =
       YieldsNext (state_of_reader rest failures old) result (state_of_reader rest failures new)
       × (failures new.source ≡ failures_after (failures old.source) result)
   NextFrom Ended old result new = (result ≡ Ok None) × (new ≡ old)
-  NextFrom (Refused fault) old result new = (result ≡ Err fault) × (new ≡ old)
+  NextFrom (Refused error) old result new = (result ≡ Err error) × (new ≡ old)
 
   -- what a reader returns, by its stage
   abbrev pub Next
-      : LineReader S Z → Result (Option ReadLine) LineFault → LineReader S Z → Type 0
+      : LineReader S Z → Result (Option ReadLine) LineError → LineReader S Z → Type 0
   Next old result new = NextFrom old.stage old result new
 
 -- ---- cited by private functions only
@@ -152,22 +152,22 @@ IsOneLine bytes = (0 < length bytes) × FreeUpTo bytes (length bytes - 1)
 
 -- the error for a byte that is not less than 128, `i` bytes after the position `start`: its
 -- position, or `TooFar` if that does not fit a `u64`
-abbrev pub error_at : ℕ → ℕ → LineFault
+abbrev pub error_at : ℕ → ℕ → LineError
 error_at start i = if nat_lt (start + i) (2 ^ 64) then NotAscii (start + i) else TooFar
 
 -- what a search for the end of a line finds. `None`: the source is at its end, and the buffer holds
 -- no LF and only ASCII. `Some`: the number of bytes up to the first LF, which are all ASCII
 abbrev pub FindsLineEnd : WindowState → Option (List ℕ) → Option ℕ → Type 0
-FindsLineEnd window left None = IsAtEnd left × FreeUpTo window.held (length window.held)
-    × (window.checked ≡ length window.held)
-FindsLineEnd window left (Some n) = (n ≤ window.checked) × EndsLine window.held n
+FindsLineEnd buffer left None = IsAtEnd left × FreeUpTo buffer.held (length buffer.held)
+    × (buffer.checked ≡ length buffer.held)
+FindsLineEnd buffer left (Some n) = (n ≤ buffer.checked) × EndsLine buffer.held n
 
 -- the bytes taken last are all that was left, without LF, and the source is at its end (`true`); or
 -- they end in their only LF (`false`)
 abbrev pub IsLineTaken : Bool → WindowState → Option (List ℕ) → Type 0
-IsLineTaken true window left =
-    (window.held ≡ []) × IsAtEnd left × FreeUpTo window.given (length window.given)
-IsLineTaken false window left = EndsLine window.given (length window.given)
+IsLineTaken true buffer left =
+    (buffer.held ≡ []) × IsAtEnd left × FreeUpTo buffer.given (length buffer.given)
+IsLineTaken false buffer left = EndsLine buffer.given (length buffer.given)
 
 -- the bytes of the line at the position `start` were taken from the buffer. They end at the
 -- position `place`, and `is_last` tells whether the source is at its end
@@ -179,25 +179,25 @@ pub record TakesLine (start : ℕ) (old new : WindowState) (rest left : Option (
 
 -- the outcome of taking the bytes of the next line, which are `given`. `true`: they are one line,
 -- and fit in the buffer. `false`: there are no more lines. `Err`: the reader has stopped, and why
-abbrev pub Advances : ReaderState → Result Bool LineFault → ReaderState → List ℕ → Type 0
+abbrev pub Advances : ReaderState → Result Bool LineError → ReaderState → List ℕ → Type 0
 Advances old (Ok true) new given =
     IsHeldThenRead old.held old.rest new.rest (given ++ new.held)
     × (new.start ≡ old.start + length given) × (new.size ≡ old.size)
     × IsOneLine given × (length given ≤ old.size)
     × (((new.stage ≡ Open) × EndsLine given (length given)) ⊎ IsDone new)
 Advances old (Ok false) new given = YieldsLines old [] new × IsDone new
-Advances old (Err fault) new given = (new.stage ≡ Refused fault)
-    × IsLineFault old.start old.size old.held old.rest new.rest fault
+Advances old (Err error) new given = (new.stage ≡ Refused error)
+    × IsLineError old.start old.size old.held old.rest new.rest error
 
 module _ {S Z : Type 0} (rest : S → Option (List ℕ)) (failures : S → ℕ) where
   -- the outcome of taking the bytes of the next line, at a stage. At `Open`, `Advances` says which.
   -- At `Ended` there are no more lines, at `Refused` the error is the one before, and then reader
   -- and source are unchanged
   abbrev pub AdvancesFrom
-      : Stage → LineReader S Z → Result Bool LineFault → LineReader S Z → Type 0
+      : Stage → LineReader S Z → Result Bool LineError → LineReader S Z → Type 0
   AdvancesFrom Open old result new =
       Advances (state_of_reader rest failures old) result (state_of_reader rest failures new)
-      new.window.given
+      new.buffer.given
       × (failures new.source ≡ failures_after (failures old.source) result)
   AdvancesFrom Ended old result new = (result ≡ Ok false) × (new ≡ old)
-  AdvancesFrom (Refused fault) old result new = (result ≡ Err fault) × (new ≡ old)
+  AdvancesFrom (Refused error) old result new = (result ≡ Err error) × (new ≡ old)

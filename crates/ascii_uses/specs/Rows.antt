@@ -8,8 +8,8 @@ use Rattle.ascii.specs.declared.ascii_str.AsciiStr.{AsciiStr}
 use Rattle.ascii.specs.First.{IsFirstAt}
 use Rattle.ascii.specs.Spans.{PieceSpans, WithStart, items_of}
 use Rattle.ascii.specs.View.{text_of}
-use Rattle.ascii_uses.specs.declared.table.RowFault.{RowFault}
-use Rattle.ascii_uses.specs.declared.table.RowFault.TheVariants.{Empty, TooFew, TooMany, Memory}
+use Rattle.ascii_uses.specs.declared.table.RowError.{RowError}
+use Rattle.ascii_uses.specs.declared.table.RowError.TheVariants.{Empty, TooFew, TooMany, Memory}
 
 -- the field is not empty
 abbrev pub IsFilled : WithStart (List ℕ) → Type 0
@@ -23,19 +23,19 @@ AllFilled fields = All IsFilled fields
 -- than `n`, is the first empty one, and it begins at `start`. `TooFew`: there are `found` fields,
 -- fewer than `n`, and none is empty. `TooMany`: the first `n` fields are not empty, and one more
 -- begins at `start`. `Memory` says nothing of `fields`
-abbrev pub IsRowFault : ℕ → List (WithStart (List ℕ)) → RowFault → Type 0
-IsRowFault n fields (Empty field start) = (field < n)
+abbrev pub IsRowError : ℕ → List (WithStart (List ℕ)) → RowError → Type 0
+IsRowError n fields (Empty field start) = (field < n)
     × IsFirstAt IsFilled (λ span. (span.start ≡ start) × (span.item ≡ [])) fields field
-IsRowFault n fields (TooFew found) =
+IsRowError n fields (TooFew found) =
     (found < n) × (length fields ≡ found) × AllFilled fields
-IsRowFault n fields (TooMany start) = IsFirstAt IsFilled (λ span. span.start ≡ start) fields n
-IsRowFault n fields Memory = ⊤
+IsRowError n fields (TooMany start) = IsFirstAt IsFilled (λ span. span.start ≡ start) fields n
+IsRowError n fields Memory = ⊤
 
 -- `Ok`: the fields of `row` between tabs; there are `n`, and none is empty. `Err`: why they are not
 -- `n` such fields, or `Memory`
-abbrev pub ReadsRow : ℕ → List ℕ → Result (Vec AsciiStr Global) RowFault → Type 0
+abbrev pub ReadsRow : ℕ → List ℕ → Result (Vec AsciiStr Global) RowError → Type 0
 ReadsRow n row result = (fields : List (WithStart (List ℕ))) × PieceSpans 0 row 9 fields
     × MatchResult result
     (λ views. (map text_of views.items ≡ items_of fields) × (length fields ≡ n)
     × AllFilled fields)
-    (IsRowFault n fields)
+    (IsRowError n fields)

@@ -8,8 +8,8 @@ use Rattle.ascii.specs.Trim.{Trims, TrimsStart}
 use Rattle.ascii.specs.View.{text_of}
 use Rattle.ascii_uses.specs.Cuts.{IsCutAt}
 use Rattle.ascii_uses.specs.declared.settings.Setting.{Setting}
-use Rattle.ascii_uses.specs.declared.settings.SettingFault.{SettingFault}
-use Rattle.ascii_uses.specs.declared.settings.SettingFault.TheVariants.{NoEquals, NoKey}
+use Rattle.ascii_uses.specs.declared.settings.SettingError.{SettingError}
+use Rattle.ascii_uses.specs.declared.settings.SettingError.TheVariants.{NoEquals, NoKey}
 
 -- `body` is `line` without its comment, which starts at the first `#`
 abbrev pub IsWithoutComment : List ℕ → List ℕ → Type 0
@@ -26,15 +26,15 @@ IsSetting body setting = (before : List ℕ) × (after : List ℕ) × IsCutAt 61
 -- why `body` is not a setting. `NoEquals`: it contains no `=`, and its first code that is not
 -- whitespace is at the position `place`. `NoKey`: only whitespace is before its first `=`, which is
 -- at the position `place`
-abbrev pub IsSettingFault : List ℕ → SettingFault → Type 0
-IsSettingFault body (NoEquals place) =
+abbrev pub IsSettingError : List ℕ → SettingError → Type 0
+IsSettingError body (NoEquals place) =
     ¬ (Contains body 61) × (place < length body) × TrimsStart body (drop place body)
-IsSettingFault body (NoKey place) = (before : List ℕ) × (after : List ℕ)
+IsSettingError body (NoKey place) = (before : List ℕ) × (after : List ℕ)
     × IsCutAt 61 body before after × All IsWhitespace before × (place ≡ length before)
 
 -- what `line` says without its comment. `Ok`: `None` if only whitespace is left, otherwise its
 -- setting. `Err`: why it is not a setting
-abbrev pub ReadsSetting : List ℕ → Result (Option Setting) SettingFault → Type 0
+abbrev pub ReadsSetting : List ℕ → Result (Option Setting) SettingError → Type 0
 ReadsSetting line result = (body : List ℕ) × IsWithoutComment line body
     × MatchResult result (λ found. MatchOption found (All IsWhitespace body) (IsSetting body))
-    (IsSettingFault body)
+    (IsSettingError body)

@@ -23,7 +23,7 @@ pub struct Header<'a> {
 
 /// Why a line is no header.
 #[derive(Clone, Copy, PartialEq, Eq, Debug)]
-pub enum HeaderFault {
+pub enum HeaderError {
     /// The line has no colon.
     NoColon,
     /// Nothing stands before the colon.
@@ -34,43 +34,46 @@ pub enum HeaderFault {
 
 /// Why a block of lines was refused.
 #[derive(Clone, Copy, PartialEq, Eq, Debug)]
-pub enum BlockFault {
+pub enum HeaderBlockError {
     /// The line of this number, counted from 0, is the first that is no header; it starts at this place of the
     /// block.
     InLine {
         number: usize,
         start: usize,
-        fault: HeaderFault,
+        error: HeaderError,
     },
     /// A growth of the list of headers was refused.
     Memory,
 }
 
-impl<T: Drop> From<AllocFailed<T>> for BlockFault {
-    ghost use Rattle.ascii_uses.specs.declared.headers.BlockFault.TheVariants.{Memory};
+impl<T: Drop> From<AllocFailed<T>> for HeaderBlockError {
+    ghost use Rattle.ascii_uses.specs.declared.headers.HeaderBlockError.TheVariants.{Memory};
 
-    ghost from_gives = { λ _ fault. fault ≡ Memory };
+    ghost from_gives = { λ _ error. error ≡ Memory };
 
-    fn from(_: AllocFailed<T>) -> BlockFault {
-        BlockFault::Memory
+    fn from(_: AllocFailed<T>) -> HeaderBlockError {
+        HeaderBlockError::Memory
     }
 }
 
 /// The headers of a block of lines, in order. An empty line is no header, so the block has to end before it.
-pub fn read_headers<'a>(alloc: Global, block: AsciiStr<'a>) -> Result<Vec<Header<'a>>, BlockFault>
+pub fn read_headers<'a>(
+    alloc: Global,
+    block: AsciiStr<'a>,
+) -> Result<Vec<Header<'a>>, HeaderBlockError>
     ensures { ReadsHeaders (text_of block.entry) result }
 {
     let mut headers = Vec::new(alloc);
     for line in block.line_spans() {
         match read_header(line.text) {
             Ok(header) => headers.push(header)?,
-            Err(fault) => {
+            Err(error) => {
                 let number = headers.len();
                 let start = line.start;
-                return Err(BlockFault::InLine {
+                return Err(HeaderBlockError::InLine {
                     number,
                     start,
-                    fault,
+                    error,
                 });
             }
         }
@@ -79,17 +82,17 @@ pub fn read_headers<'a>(alloc: Global, block: AsciiStr<'a>) -> Result<Vec<Header
 }
 
 /// The header of one line without its ending: `Host: a.example` has the name `Host` and the value `a.example`.
-pub fn read_header<'a>(line: AsciiStr<'a>) -> Result<Header<'a>, HeaderFault>
+pub fn read_header<'a>(line: AsciiStr<'a>) -> Result<Header<'a>, HeaderError>
     ensures { ReadsHeader (text_of line.entry) result }
 {
     let Some((name, behind)) = split_once(line, AsciiChar::Colon) else {
-        return Err(HeaderFault::NoColon);
+        return Err(HeaderError::NoColon);
     };
     if name.is_empty() {
-        return Err(HeaderFault::NoName);
+        return Err(HeaderError::NoName);
     }
     if let Some(place) = first_outside::<Token>(name) {
-        return Err(HeaderFault::NotToken(place));
+        return Err(HeaderError::NotToken(place));
     }
     let value = behind.trim();
     Ok(Header { name, value })

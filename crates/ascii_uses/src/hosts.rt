@@ -5,8 +5,8 @@ ghost use Rattle.std.specs.Prelude.{length};
 ghost use Rattle.ascii.specs.Spans.{piece_in};
 ghost use Rattle.ascii.specs.View.{text_of};
 ghost use Rattle.ascii_uses.specs.Cases.{EqIgnoringCase, lower_text, order_ignoring_case};
-ghost use Rattle.ascii_uses.specs.Hosts.{OnlyFailsOnAlloc, IsHost, IsHostFault, IsLabel};
-ghost use Rattle.ascii_uses.specs.Hosts.{IsLabelFault, host_text};
+ghost use Rattle.ascii_uses.specs.Hosts.{OnlyFailsOnAlloc, IsHost, IsHostError, IsLabel};
+ghost use Rattle.ascii_uses.specs.Hosts.{IsLabelError, host_text};
 
 use crate::cuts::first_outside;
 use ascii::classes::Label;
@@ -19,13 +19,13 @@ use std::cmp::Ordering;
 /// The name of a host. It is kept in lower case, so that `==`, the order and the hash, which are those of what is
 /// kept, do not count case; names of at most 24 characters take no memory.
 #[derive(PartialEq, Eq, PartialOrd, Ord, Hash, Debug, Drop)]
-pub struct Host {
+pub struct HostName {
     name: SmallAsciiString,
 }
 
 /// Why a name was refused. A place is that of a byte from the start of the name.
 #[derive(Clone, Copy, PartialEq, Eq, Debug)]
-pub enum HostFault {
+pub enum HostNameError {
     /// The name has more than 253 characters.
     TooLong,
     /// The label that should start at this place is empty.
@@ -40,34 +40,34 @@ pub enum HostFault {
     Memory,
 }
 
-impl From<AllocError> for HostFault {
-    ghost use Rattle.ascii_uses.specs.declared.hosts.HostFault.TheVariants.{Memory};
+impl From<AllocError> for HostNameError {
+    ghost use Rattle.ascii_uses.specs.declared.hosts.HostNameError.TheVariants.{Memory};
 
-    ghost from_gives = { λ _ fault. fault ≡ Memory };
+    ghost from_gives = { λ _ error. error ≡ Memory };
 
-    fn from(_: AllocError) -> HostFault {
-        HostFault::Memory
+    fn from(_: AllocError) -> HostNameError {
+        HostNameError::Memory
     }
 }
 
-impl Host {
+impl HostName {
     /// The host of a name, or why the name is none: the first label that is wrong, and in it first its length.
     /// `Example.ORG` is kept as `example.org`; `a..b` is refused with `EmptyLabel(2)`.
-    pub fn parse(alloc: Global, name: AsciiStr<'_>) -> Result<Host, HostFault>
+    pub fn parse(alloc: Global, name: AsciiStr<'_>) -> Result<HostName, HostNameError>
         ensures host { OnOk result (IsHost (text_of name.entry)) }
         ensures text { IfOk result (λ host. host_text host ≡ lower_text (text_of name.entry)) }
-        ensures fault { IfErr result (IsHostFault (text_of name.entry)) }
+        ensures error { IfErr result (IsHostError (text_of name.entry)) }
         ensures exact { IsHost (text_of name.entry) → OnlyFailsOnAlloc result }
     {
         if name.len() > 253 {
-            return Err(HostFault::TooLong);
+            return Err(HostNameError::TooLong);
         }
         for label in name.split_spans(AsciiChar::Dot) {
             check_label(label)?;
         }
         let mut kept = SmallAsciiString::from_ascii_str(alloc, name)?;
         kept.make_ascii_lowercase();
-        Ok(Host { name: kept })
+        Ok(HostName { name: kept })
     }
 
     /// The name in lower case.
@@ -79,46 +79,50 @@ impl Host {
 }
 
 /// Whether two names are those of one host: `WWW.a.example` and `www.A.example` are.
-pub fn same_host(alloc: Global, a: AsciiStr<'_>, b: AsciiStr<'_>) -> Result<bool, HostFault>
+pub fn same_host(alloc: Global, a: AsciiStr<'_>, b: AsciiStr<'_>) -> Result<bool, HostNameError>
     ensures same { IfOk result (λ same.
         IsTrue same ↔ EqIgnoringCase (text_of a.entry) (text_of b.entry)) }
     ensures hosts { OnOk result (IsHost (text_of a.entry) × IsHost (text_of b.entry)) }
     ensures exact { IsHost (text_of a.entry) → IsHost (text_of b.entry) → OnlyFailsOnAlloc result }
 {
-    Ok(Host::parse(alloc, a)? == Host::parse(alloc, b)?)
+    Ok(HostName::parse(alloc, a)? == HostName::parse(alloc, b)?)
 }
 
 /// The order of the hosts of two names: that of the names in lower case.
-pub fn host_order(alloc: Global, a: AsciiStr<'_>, b: AsciiStr<'_>) -> Result<Ordering, HostFault>
+pub fn host_order(
+    alloc: Global,
+    a: AsciiStr<'_>,
+    b: AsciiStr<'_>,
+) -> Result<Ordering, HostNameError>
     ensures order { IfOk result (λ order.
         order ≡ order_ignoring_case (text_of a.entry) (text_of b.entry)) }
     ensures hosts { OnOk result (IsHost (text_of a.entry) × IsHost (text_of b.entry)) }
     ensures exact { IsHost (text_of a.entry) → IsHost (text_of b.entry) → OnlyFailsOnAlloc result }
 {
-    Ok(Host::parse(alloc, a)?.cmp(&Host::parse(alloc, b)?))
+    Ok(HostName::parse(alloc, a)?.cmp(&HostName::parse(alloc, b)?))
 }
 
 /// Rejects what is no label.
-fn check_label(label: SplitSpan<'_>) -> Result<(), HostFault>
+fn check_label(label: SplitSpan<'_>) -> Result<(), HostNameError>
     requires { label.start + length (text_of label.text) ≤ usize.MAX }
     ensures { MatchResult result (λ _. IsLabel (text_of label.entry.text))
-        (IsLabelFault (piece_in label.entry)) }
+        (IsLabelError (piece_in label.entry)) }
 {
     let SplitSpan { start, text } = label;
     if text.is_empty() {
-        return Err(HostFault::EmptyLabel(start));
+        return Err(HostNameError::EmptyLabel(start));
     }
     if text.len() > 63 {
-        return Err(HostFault::LongLabel(start));
+        return Err(HostNameError::LongLabel(start));
     }
     if let Some(i) = first_outside::<Label>(text) {
-        return Err(HostFault::Character(start + i));
+        return Err(HostNameError::Character(start + i));
     }
     if text.first() == Some(AsciiChar::Minus) {
-        return Err(HostFault::Hyphen(start));
+        return Err(HostNameError::Hyphen(start));
     }
     if text.last() == Some(AsciiChar::Minus) {
-        return Err(HostFault::Hyphen(start + text.len() - 1));
+        return Err(HostNameError::Hyphen(start + text.len() - 1));
     }
     Ok(())
 }

@@ -3,17 +3,17 @@
 //! characters, pieces and lines; edits of a part of a source, and texts as JSON values.
 #![tactic(auto)]
 
+pub mod both_types;
 pub mod cuts;
-pub mod forms;
-pub mod fronts;
 pub mod headers;
 pub mod hosts;
 pub mod identifiers;
+pub mod in_place;
 pub mod iterators;
 pub mod last_lines;
 pub mod line_reader;
-pub mod parts;
-pub mod resuming;
+pub mod prefixes;
+pub mod remainders;
 pub mod screen;
 pub mod settings;
 pub mod spans;

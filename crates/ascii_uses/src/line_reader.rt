@@ -5,22 +5,22 @@ ghost use Rattle.std.specs.Prelude.{length, ℕ};
 ghost use Rattle.std.specs.Io.KnownBytes.{Consumes, IsAtEnd};
 ghost use Rattle.std.specs.Str.{IsAscii};
 ghost use Rattle.ascii.specs.Spans.{LineSpansOf, line_size};
-ghost use Rattle.ascii_uses.specs.LineReader.{FindsLineEnd, IsOneLine, IsHeldThenRead, IsLineFault};
+ghost use Rattle.ascii_uses.specs.LineReader.{FindsLineEnd, IsOneLine, IsHeldThenRead, IsLineError};
 ghost use Rattle.ascii_uses.specs.LineReader.{TakesLine, failures_after, read_line_in, error_at};
-ghost use Rattle.ascii_uses.specs.Window.{EndsLine};
+ghost use Rattle.ascii_uses.specs.LineBuffer.{EndsLine};
 
-use crate::line_reader::window::Window;
+use crate::line_reader::line_buffer::LineBuffer;
 use ascii::iter::Ending;
 use ascii::{AsciiStr, bytes};
 use ascii_run::Source;
 use std::alloc::{AllocError, Allocator, Global};
 
-pub mod kept;
-mod window;
+mod line_buffer;
+pub mod owned_lines;
 
 /// Why a reader hands out no line. The lines before were handed out.
 #[derive(Clone, Copy, PartialEq, Eq, Debug)]
-pub enum LineFault {
+pub enum LineError {
     /// The byte at this place of the input, from 0, is the first over 127, and it stands among the bytes of
     /// its line that fit in the buffer.
     NotAscii(u64),
@@ -52,7 +52,7 @@ enum Stage {
     /// All was handed out.
     Ended,
     /// This was answered, and is from then on.
-    Refused(LineFault),
+    Refused(LineError),
 }
 
 /// A reader of lines. It reads its source into one buffer, and lends each line out of it. Each byte is
@@ -61,7 +61,7 @@ enum Stage {
 #[derive(Drop)]
 pub struct LineReader<S, A: Allocator = Global> {
     source: S,
-    window: Window<A>,
+    buffer: LineBuffer<A>,
     // Where the next line starts.
     start: u64,
     stage: Stage,
@@ -84,10 +84,10 @@ impl<S: Source, A: Allocator> LineReader<S, A> {
             IsFresh size (state_of_reader S.rest S.failures reader)) }
         ensures source { IfOk result (λ reader. source_of reader ≡ source) }
     {
-        let window = Window::new(alloc, size)?;
+        let buffer = LineBuffer::new(alloc, size)?;
         Ok(LineReader {
             source,
-            window,
+            buffer,
             start: 0,
             stage: Stage::Open,
         })
@@ -122,28 +122,28 @@ impl<S: Source, A: Allocator> LineReader<S, A> {
     /// reader and its source, it promises for when that borrow has ended.
     ///
     /// `"ab\r\n\nc"` has `ab` at 0 with CR LF, the empty body at 4 with LF, and `c` at 5 with no ending.
-    pub fn next_line(&mut self) -> Result<Option<ReadLine<'_>>, LineFault>
+    pub fn next_line(&mut self) -> Result<Option<ReadLine<'_>>, LineError>
         ensures* next { sem 𝓛 (Rests (the_row S.row A.row A.Allocator) self.entry
             (Next S.rest S.failures self.old result)) }
     {
         let start = self.start;
         if self.advance()? {
-            Ok(Some(line_at(start, self.window.line_bytes())))
+            Ok(Some(line_at(start, self.buffer.line_bytes())))
         } else {
             Ok(None)
         }
     }
 
     /// Takes the bytes of the next line, and answers whether there is one.
-    fn advance(&mut self) -> Result<bool, LineFault>
+    fn advance(&mut self) -> Result<bool, LineError>
         ensures { AdvancesFrom S.rest S.failures self.old.stage self.old result self.new }
     {
         match self.stage {
             Stage::Open => {}
             Stage::Ended => return Ok(false),
-            Stage::Refused(fault) => return Err(fault),
+            Stage::Refused(error) => return Err(error),
         }
-        match take_line(&mut self.window, &mut self.source, self.start) {
+        match take_line(&mut self.buffer, &mut self.source, self.start) {
             Ok((end, is_last)) => {
                 if is_last {
                     self.stage = Stage::Ended;
@@ -152,9 +152,9 @@ impl<S: Source, A: Allocator> LineReader<S, A> {
                 self.start = end;
                 Ok(is_line)
             }
-            Err(fault) => {
-                self.stage = Stage::Refused(fault);
-                Err(fault)
+            Err(error) => {
+                self.stage = Stage::Refused(error);
+                Err(error)
             }
         }
     }
@@ -163,56 +163,56 @@ impl<S: Source, A: Allocator> LineReader<S, A> {
 /// Takes the bytes of the next line, or all where no line is left. Gives the place behind them, and
 /// whether the source has ended.
 fn take_line<S: Source, A: Allocator>(
-    window: &mut Window<A>,
+    buffer: &mut LineBuffer<A>,
     source: &mut S,
     start: u64,
-) -> Result<(u64, bool), LineFault>
-    ensures ok { IfOk result (λ taken. TakesLine start window.old window.new
+) -> Result<(u64, bool), LineError>
+    ensures ok { IfOk result (λ taken. TakesLine start buffer.old buffer.new
         (S.rest source.old) (S.rest source.new) taken.0 taken.1) }
-    ensures err { IfErr result (IsLineFault start window.old.size window.old.held
+    ensures err { IfErr result (IsLineError start buffer.old.size buffer.old.held
         (S.rest source.old) (S.rest source.new)) }
     ensures count { S.failures source.new ≡ failures_after (S.failures source.old) result }
-    ensures size { window.new.size ≡ window.old.size }
-    ensures within { OnOk result (length window.new.given ≤ window.old.size) }
+    ensures size { buffer.new.size ≡ buffer.old.size }
+    ensures within { OnOk result (length buffer.new.given ≤ buffer.old.size) }
 {
-    let found = seek(window, source, start)?;
-    let n = found.unwrap_or(window.len());
+    let found = seek(buffer, source, start)?;
+    let n = found.unwrap_or(buffer.len());
     let Some(end) = start.checked_add(n as u64) else {
-        return Err(LineFault::TooFar);
+        return Err(LineError::TooFar);
     };
-    window.take(n);
+    buffer.take(n);
     Ok((end, found.is_none()))
 }
 
 /// Reads until a LF is held. Gives the number of bytes up to it, or `None` where the source has ended.
 fn seek<S: Source, A: Allocator>(
-    window: &mut Window<A>,
+    buffer: &mut LineBuffer<A>,
     source: &mut S,
     start: u64,
-) -> Result<Option<usize>, LineFault>
+) -> Result<Option<usize>, LineError>
     ensures text { OnOk result
-        (IsHeldThenRead window.old.held (S.rest source.old) (S.rest source.new) window.new.held) }
-    ensures found { IfOk result (FindsLineEnd window.new (S.rest source.new)) }
-    ensures err { IfErr result (IsLineFault start window.old.size window.old.held
+        (IsHeldThenRead buffer.old.held (S.rest source.old) (S.rest source.new) buffer.new.held) }
+    ensures found { IfOk result (FindsLineEnd buffer.new (S.rest source.new)) }
+    ensures err { IfErr result (IsLineError start buffer.old.size buffer.old.held
         (S.rest source.old) (S.rest source.new)) }
     ensures count { S.failures source.new ≡ failures_after (S.failures source.old) result }
-    ensures size { window.new.size ≡ window.old.size }
+    ensures size { buffer.new.size ≡ buffer.old.size }
 {
     'fills: loop {
-        if let Some(n) = window.find_line() {
+        if let Some(n) = buffer.find_line() {
             return Ok(Some(n));
         }
-        if let Some(place) = window.first_non_ascii() {
+        if let Some(place) = buffer.first_non_ascii() {
             return Err(other_at(start, place));
         }
         if source.failures() == u64::MAX {
-            return Err(LineFault::Read);
+            return Err(LineError::Read);
         }
-        if window.is_full() {
+        if buffer.is_full() {
             return past_full(source, start);
         }
-        let Ok(n) = window.refill(source) else {
-            return Err(LineFault::Read);
+        let Ok(n) = buffer.refill(source) else {
+            return Err(LineError::Read);
         };
         if n == 0 {
             return Ok(None);
@@ -221,30 +221,30 @@ fn seek<S: Source, A: Allocator>(
 }
 
 /// The refusal of a byte over 127 that stands this far behind the start of a line.
-fn other_at(start: u64, place: usize) -> LineFault
+fn other_at(start: u64, place: usize) -> LineError
     ensures { result ≡ error_at start place }
 {
     match start.checked_add(place as u64) {
-        Some(at) => LineFault::NotAscii(at),
-        None => LineFault::TooFar,
+        Some(at) => LineError::NotAscii(at),
+        None => LineError::TooFar,
     }
 }
 
 /// Whether the source has ended, where a line without LF fills the buffer.
-fn past_full<S: Source>(source: &mut S, start: u64) -> Result<Option<usize>, LineFault>
+fn past_full<S: Source>(source: &mut S, start: u64) -> Result<Option<usize>, LineError>
     requires { S.failures source.old < u64.MAX }
     ensures ok { IfOk result (λ found. (found ≡ None) × IsAtEnd (S.rest source.new)
         × Consumes (S.rest source.old) (S.rest source.new) []) }
-    ensures err { IfErr result (λ fault. (fault ≡ LineFault.Read)
-        ⊎ ((fault ≡ LineFault.TooLong start)
+    ensures err { IfErr result (λ error. (error ≡ LineError.Read)
+        ⊎ ((error ≡ LineError.TooLong start)
         × ((byte : ℕ) × Consumes (S.rest source.old) (S.rest source.new) (byte ∷ [])))) }
     ensures count { S.failures source.new ≡ failures_after (S.failures source.old) result }
 {
     let mut next = [0];
     match source.read(&mut next) {
         Ok(0) => Ok(None),
-        Ok(_) => Err(LineFault::TooLong(start)),
-        Err(_) => Err(LineFault::Read),
+        Ok(_) => Err(LineError::TooLong(start)),
+        Err(_) => Err(LineError::Read),
     }
 }
 

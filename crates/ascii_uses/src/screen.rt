@@ -22,7 +22,7 @@ pub struct ScreenText {
 /// A text for a screen of `width` columns, at least 2. A control other than tab and LF goes out as `^` and its
 /// letter, a tab as spaces up to the next column that 8 divides, or to the edge. What has no room on its line
 /// begins a new one. Of `a\tb\x01` on 10 columns `a       b`, and `^A` on a line of its own.
-pub fn show_on_screen(
+pub fn wrap_for_screen(
     alloc: Global,
     view: AsciiStr<'_>,
     width: usize,

@@ -17,7 +17,7 @@ pub struct Setting<'a> {
 
 /// Why a line was refused. A place is that of a byte from the start of the line.
 #[derive(Clone, Copy, PartialEq, Eq, Debug)]
-pub enum SettingFault {
+pub enum SettingError {
     /// There is no `=` before the comment, in the words that begin at this place.
     NoEquals(usize),
     /// No key stands before the `=` at this place.
@@ -26,7 +26,7 @@ pub enum SettingFault {
 
 /// What a line says: `None` where it has nothing but white space and a comment, else its setting. Of
 /// ` mode = fast # or slow` the key is `mode` and the value `fast`. White space is that of `trim`.
-pub fn read_setting<'a>(line: AsciiStr<'a>) -> Result<Option<Setting<'a>>, SettingFault>
+pub fn read_setting<'a>(line: AsciiStr<'a>) -> Result<Option<Setting<'a>>, SettingError>
     ensures { ReadsSetting (text_of line.entry) result }
 {
     let body = without_comment(line);
@@ -35,11 +35,11 @@ pub fn read_setting<'a>(line: AsciiStr<'a>) -> Result<Option<Setting<'a>>, Setti
         return Ok(None);
     }
     let Some((before, behind)) = split_once(body, AsciiChar::Equal) else {
-        return Err(SettingFault::NoEquals(body.len() - words.len()));
+        return Err(SettingError::NoEquals(body.len() - words.len()));
     };
     let key = before.trim();
     if key.is_empty() {
-        return Err(SettingFault::NoKey(before.len()));
+        return Err(SettingError::NoKey(before.len()));
     }
     let value = behind.trim();
     Ok(Some(Setting { key, value }))

@@ -9,7 +9,7 @@ use std::alloc::{AllocFailed, Global};
 
 /// Why a row was refused. A field is counted from 0, and a place is that of a byte from the start of the row.
 #[derive(Clone, Copy, PartialEq, Eq, Debug)]
-pub enum RowFault {
+pub enum RowError {
     /// This field is the first empty one; it stands at this place.
     Empty { field: usize, start: usize },
     /// The row has only this many fields.
@@ -20,13 +20,13 @@ pub enum RowFault {
     Memory,
 }
 
-impl<T: Drop> From<AllocFailed<T>> for RowFault {
-    ghost use Rattle.ascii_uses.specs.declared.table.RowFault.TheVariants.{Memory};
+impl<T: Drop> From<AllocFailed<T>> for RowError {
+    ghost use Rattle.ascii_uses.specs.declared.table.RowError.TheVariants.{Memory};
 
-    ghost from_gives = { λ _ fault. fault ≡ Memory };
+    ghost from_gives = { λ _ error. error ≡ Memory };
 
-    fn from(_: AllocFailed<T>) -> RowFault {
-        RowFault::Memory
+    fn from(_: AllocFailed<T>) -> RowError {
+        RowError::Memory
     }
 }
 
@@ -36,24 +36,24 @@ pub fn read_row<'a>(
     alloc: Global,
     row: AsciiStr<'a>,
     columns: usize,
-) -> Result<Vec<AsciiStr<'a>>, RowFault>
+) -> Result<Vec<AsciiStr<'a>>, RowError>
     ensures { ReadsRow columns (text_of row.entry) result }
 {
     let mut fields = Vec::new(alloc);
     for span in row.split_spans(AsciiChar::Tab) {
         if fields.len() == columns {
-            return Err(RowFault::TooMany { start: span.start });
+            return Err(RowError::TooMany { start: span.start });
         }
         if span.text.is_empty() {
             let field = fields.len();
             let start = span.start;
-            return Err(RowFault::Empty { field, start });
+            return Err(RowError::Empty { field, start });
         }
         fields.push(span.text)?;
     }
     if fields.len() < columns {
         let found = fields.len();
-        return Err(RowFault::TooFew { found });
+        return Err(RowError::TooFew { found });
     }
     Ok(fields)
 }

@@ -1,14 +1,14 @@
 //! Each public call of the cookbook once, on texts that are written out by hand, and over sources that give little
 //! at a call or fail.
 
-mod forms;
+mod both_types;
 mod headers;
 mod hosts;
 mod identifiers;
+mod in_place;
 mod iterators;
 mod last_lines;
 mod line_reader;
-mod parts;
 mod screen;
 mod settings;
 mod spans;

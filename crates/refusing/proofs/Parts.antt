@@ -1,4 +1,4 @@
--- A `&` to a `Refusing` is one to the allocator inside and one to its count. Assumes `Logic`.
+-- A `&` to a `FailNth` is one to the allocator inside and one to its count. Assumes `Logic`.
 use Rattle.std.proofs.Common.{ℕ, ◌+◌, [], ◌∷◌}
 use seplogic.Ra.Ura.{Ura}
 use base.Logic.{ent, sep, id⊢}
@@ -14,7 +14,7 @@ use denote.RattleType.{RattleType}
 use Rattle.std.proofs.alloc.Calls.{Al, α, seen}
 use Rattle.std.specs.contracts.cell.Cell as cell
 use Rattle.std.specs.contracts.option.Option as option
-use Rattle.refusing.specs.contracts.Refusing as refusing
+use Rattle.refusing.specs.contracts.FailNth as refusing
 
 abbrev pub Count : RattleType
 Count = cell.the_row (option.the_row u64)

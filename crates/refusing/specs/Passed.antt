@@ -1,6 +1,6 @@
--- The allocator that a `Refusing` passes its calls on to.
-use Rattle.refusing.specs.declared.Refusing.{Refusing}
+-- The allocator that a `FailNth` passes its calls on to.
+use Rattle.refusing.specs.declared.FailNth.{FailNth}
 
--- the allocator inside a `Refusing`
-abbrev pub inner_of : {B : Type 0} → Refusing B → B
+-- the allocator inside a `FailNth`
+abbrev pub inner_of : {B : Type 0} → FailNth B → B
 inner_of heap = heap.inner

@@ -12,24 +12,24 @@ use std::fmt;
 /// An allocator that passes each call on to another one, except that one allocation fails: the one
 /// after the given number of others. A block that replaces a smaller or larger one is an allocation
 /// too.
-pub struct Refusing<B: Allocator> {
+pub struct FailNth<B: Allocator> {
     inner: B,
     left: Cell<Option<u64>>,
 }
 
-impl<B: Allocator> Refusing<B> {
+impl<B: Allocator> FailNth<B> {
     /// Creates an allocator over `inner`, with `left` allocations before the one that fails.
-    pub fn new(inner: B, left: u64) -> Refusing<B>
+    pub fn new(inner: B, left: u64) -> FailNth<B>
         ensures { inner_of result ≡ inner }
     {
-        Refusing {
+        FailNth {
             inner,
             left: Cell::new(Some(left)),
         }
     }
 
     /// Returns `true` if an allocation has failed.
-    pub fn met(&self) -> bool {
+    pub fn has_failed(&self) -> bool {
         self.left.get().is_none()
     }
 }
@@ -45,7 +45,7 @@ fn count_down(left: Option<u64>) -> Option<u64>
 }
 
 /// Returns `true` if the next allocation is the one that fails.
-fn is_due(left: Option<u64>) -> bool
+fn is_next_to_fail(left: Option<u64>) -> bool
     ensures { IsTrue result ↔ (left ≡ Some 0) }
 {
     left == Some(0)
@@ -55,10 +55,10 @@ fn is_due(left: Option<u64>) -> bool
 fn refuses(left: &Cell<Option<u64>>) -> bool {
     let before = left.get();
     left.set(count_down(before));
-    is_due(before)
+    is_next_to_fail(before)
 }
 
-unsafe impl<B: Allocator> Allocator for Refusing<B> {
+unsafe impl<B: Allocator> Allocator for FailNth<B> {
     ghost use Rattle.refusing.specs.Passed.{inner_of};
 
     ghost dealloc_token = { λ heap. B.dealloc_token (inner_of heap) };
@@ -75,16 +75,16 @@ unsafe impl<B: Allocator> Allocator for Refusing<B> {
     }
 }
 
-impl<B: Allocator> Drop for Refusing<B> {
+impl<B: Allocator> Drop for FailNth<B> {
     fn drop(self) {
-        let Refusing { inner: _, left: _ } = self;
+        let FailNth { inner: _, left: _ } = self;
     }
 }
 
 /// Prints the number of allocations left before the one that fails.
-impl<B: Allocator> fmt::Debug for Refusing<B> {
+impl<B: Allocator> fmt::Debug for FailNth<B> {
     fn fmt<W: fmt::Write>(&self, f: &mut fmt::Formatter<W>) -> fmt::Result {
-        f.debug_struct("Refusing")
+        f.debug_struct("FailNth")
             .field("left", &self.left.get())
             .finish()
     }

@@ -1,29 +1,29 @@
 //! One growth is refused, and none before or behind it.
 
-use crate::Refusing;
+use crate::FailNth;
 use ascii_base::ascii_char::AsciiChar;
 
 #[test]
 fn refuses_one(rt: HostRuntime) {
     for left in 0..4u64 {
-        let heap = Refusing::new(rt.alloc(), left);
+        let heap = FailNth::new(rt.alloc(), left);
         for growth in 0..4u64 {
-            assert_eq!(rt; heap.met(), left < growth, "{heap:?}");
+            assert_eq!(rt; heap.has_failed(), left < growth, "{heap:?}");
             let block: Result<Vec<u8, _>, _> = Vec::with_capacity(&heap, 5);
             assert_eq!(rt; block.is_err(), growth == left, "{heap:?}");
         }
-        assert!(rt; heap.met());
+        assert!(rt; heap.has_failed());
     }
 }
 
 #[test]
 fn counts_blocks_that_grow(rt: HostRuntime) {
-    let heap = Refusing::new(rt.alloc(), 1);
+    let heap = FailNth::new(rt.alloc(), 1);
     let mut chars = Vec::with_capacity(&heap, 2).expect(&rt, "refused");
     chars.push(AsciiChar::a).expect(&rt, "refused");
     chars.push(AsciiChar::b).expect(&rt, "refused");
     assert!(rt; chars.push(AsciiChar::c).is_err());
-    assert!(rt; heap.met());
+    assert!(rt; heap.has_failed());
     assert!(rt; chars.as_slice() == [AsciiChar::a, AsciiChar::b].as_slice());
     chars.push(AsciiChar::c).expect(&rt, "refused");
     assert!(rt; chars.as_slice() == [AsciiChar::a, AsciiChar::b, AsciiChar::c].as_slice());
@@ -31,7 +31,7 @@ fn counts_blocks_that_grow(rt: HostRuntime) {
 
 #[test]
 fn a_string_keeps_its_text(rt: HostRuntime) {
-    let heap = Refusing::new(rt.alloc(), 1);
+    let heap = FailNth::new(rt.alloc(), 1);
     let mut string = String::from_str(&heap, "a").expect(&rt, "refused");
     string.shrink_to_fit();
     assert!(rt; string.push('b').is_err());

@@ -48,7 +48,8 @@ fn find_first(on: u8, bytes: &[u8]) -> Option<usize>
 }
 
 impl<'a> Cursor<'a> {
-    ghost use Rattle.ascii.specs.Found.{Free, IsCutBehindLastFeed, IsCutFirst, IsCutLast, part_in};
+    ghost use Rattle.ascii.specs.Found.{HasNo, IsSplitAfterLastLf, IsSplitAtFirst};
+    ghost use Rattle.ascii.specs.Found.{IsSplitAtLast, part_in};
     ghost use Rattle.ascii.specs.View.{text_of};
 
     /// What stands before a place.
@@ -83,9 +84,9 @@ impl<'a> Cursor<'a> {
 
     /// What stands before the first byte that is `on`, and what stands behind it.
     #[inline(always)]
-    pub(crate) fn cut_first(self, on: u8) -> Option<(Cursor<'a>, Cursor<'a>)>
-        ensures { MatchOption result (Free on (text_of self.entry.view))
-            (IsCutFirst on (part_in self.entry)) }
+    pub(crate) fn split_at_first(self, on: u8) -> Option<(Cursor<'a>, Cursor<'a>)>
+        ensures { MatchOption result (HasNo on (text_of self.entry.view))
+            (IsSplitAtFirst on (part_in self.entry)) }
     {
         let place = find_first(on, self.view.bytes)?;
         Some((self.to(place), self.from(place + 1)))
@@ -93,9 +94,9 @@ impl<'a> Cursor<'a> {
 
     /// What stands before the last byte that is `on`, and what stands behind it.
     #[inline(always)]
-    pub(crate) fn cut_last(self, on: u8) -> Option<(Cursor<'a>, Cursor<'a>)>
-        ensures { MatchOption result (Free on (text_of self.entry.view))
-            (IsCutLast on (part_in self.entry)) }
+    pub(crate) fn split_at_last(self, on: u8) -> Option<(Cursor<'a>, Cursor<'a>)>
+        ensures { MatchOption result (HasNo on (text_of self.entry.view))
+            (IsSplitAtLast on (part_in self.entry)) }
     {
         let place = memrchr(on, self.view.bytes)?;
         Some((self.to(place), self.from(place + 1)))
@@ -103,8 +104,8 @@ impl<'a> Cursor<'a> {
 
     /// What stands up to the last LF, and what stands behind it.
     #[inline(always)]
-    pub(crate) fn cut_behind_last_feed(self) -> (Cursor<'a>, Cursor<'a>)
-        ensures { IsCutBehindLastFeed (part_in self.entry) result }
+    pub(crate) fn split_after_last_lf(self) -> (Cursor<'a>, Cursor<'a>)
+        ensures { IsSplitAfterLastLf (part_in self.entry) result }
     {
         match memrchr(b'\n', self.view.bytes) {
             Some(place) => (self.to(place + 1), self.from(place + 1)),

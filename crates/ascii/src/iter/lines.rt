@@ -2,7 +2,7 @@
 
 ghost use Rattle.std.specs.Prelude.{⊤, ◌≡◌, ◌+◌, ◌≤◌, ◌∷◌, ◌++◌, [], IfSome, MatchOption, length};
 ghost use Rattle.std.specs.Iterator.{item_count};
-ghost use Rattle.ascii.specs.Found.{ended_line, line_spans, part_in};
+ghost use Rattle.ascii.specs.Found.{terminated_line, line_spans, part_in};
 ghost use Rattle.ascii.specs.Lines.{IsRemainderOfLines, IteratesLines, bodies};
 ghost use Rattle.ascii.specs.Spans.{EndFits, IsRemainderOfLineSpans, IteratesLineSpans, line_in};
 ghost use Rattle.ascii.specs.Steps.{DropsFirst, DropsFirstSpan, DropsLast, DropsLastSpan};
@@ -20,9 +20,12 @@ use std::marker::Model;
 impl<'a> Cursor<'a> {
     /// All of it as one line before a LF: one CR before the LF is of the ending.
     #[inline(always)]
-    fn ended_line(self) -> LineSpan<'a>
+    fn terminated_line(self) -> LineSpan<'a>
         ensures line { line_in result
-            ≡ record { start = self.entry.start; item = ended_line (text_of self.entry.view) } }
+            ≡ record {
+              start = self.entry.start;
+              item = terminated_line (text_of self.entry.view);
+            } }
         ensures fits { EndFits result.start result.text }
     {
         match self.view.bytes.split_last() {
@@ -41,7 +44,7 @@ impl<'a> Cursor<'a> {
 
     /// All of it as one line with no ending.
     #[inline(always)]
-    fn open_line(self) -> LineSpan<'a>
+    fn unterminated_line(self) -> LineSpan<'a>
         ensures line { line_in result ≡ record {
           start = self.entry.start;
           item = record { body = text_of self.entry.view; ending = Ending.Absent };
@@ -65,9 +68,9 @@ impl<'a> Cursor<'a> {
         if self.view.is_empty() {
             return None;
         }
-        match self.cut_first(b'\n') {
-            Some((line, others)) => Some((line.ended_line(), others)),
-            None => Some((self.open_line(), self.from(self.view.len()))),
+        match self.split_at_first(b'\n') {
+            Some((line, others)) => Some((line.terminated_line(), others)),
+            None => Some((self.unterminated_line(), self.from(self.view.len()))),
         }
     }
 
@@ -80,11 +83,11 @@ impl<'a> Cursor<'a> {
     {
         let (last, front) = self.view.bytes.split_last()?;
         if *last == b'\n' {
-            let (others, line) = self.to(front.len()).cut_behind_last_feed();
-            Some((line.ended_line(), others))
+            let (others, line) = self.to(front.len()).split_after_last_lf();
+            Some((line.terminated_line(), others))
         } else {
-            let (others, line) = self.cut_behind_last_feed();
-            Some((line.open_line(), others))
+            let (others, line) = self.split_after_last_lf();
+            Some((line.unterminated_line(), others))
         }
     }
 }

@@ -42,7 +42,7 @@ impl<'a> Cursor<'a> {
         ensures free { ¬ (Contains (text_of result.0.text) (code_of on)) }
         ensures fits { EndFits result.0.start result.0.text }
     {
-        match self.cut_first(on.as_byte()) {
+        match self.split_at_first(on.as_byte()) {
             Some((piece, others)) => (piece.piece(), Some(others)),
             None => (self.piece(), None),
         }
@@ -56,7 +56,7 @@ impl<'a> Cursor<'a> {
         ensures free { ¬ (Contains (text_of result.0.text) (code_of on)) }
         ensures fits { EndFits result.0.start result.0.text }
     {
-        match self.cut_last(on.as_byte()) {
+        match self.split_at_last(on.as_byte()) {
             Some((others, piece)) => (piece.piece(), Some(others)),
             None => (self.piece(), None),
         }

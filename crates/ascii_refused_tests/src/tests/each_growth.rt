@@ -1,13 +1,13 @@
 //! Runs of a call with its first growth refused, its second, and so on.
 
 use ascii::{AsciiChar, AsciiStr, AsciiString, text};
-use refusing::Refusing;
+use refusing::FailNth;
 use std::alloc::{AllocError, Allocator, Global};
 use std::fmt;
 use std::process::Abort;
 
 /// An allocator of which one allocation fails, or two in a row.
-pub type Heap = Refusing<Refusing<Global>>;
+pub type Heap = FailNth<FailNth<Global>>;
 
 /// More growths than any call of these tests makes.
 const MANY: u64 = 400;
@@ -47,7 +47,7 @@ where
     let mut answered = false;
     for left in 0..MANY {
         let next = if twice { left } else { u64::MAX };
-        let heap = Refusing::new(Refusing::new(rt.alloc(), next), left);
+        let heap = FailNth::new(FailNth::new(rt.alloc(), next), left);
         match run(&heap) {
             Ok(answer) => {
                 if answered {
@@ -57,9 +57,9 @@ where
                 let is_next = wanted.first() == Some(&answer.as_str());
                 right(rt, is_next, call, left, answer.as_str());
             }
-            Err(_) => right(rt, heap.met(), call, left, "refused"),
+            Err(_) => right(rt, heap.has_failed(), call, left, "refused"),
         }
-        if !heap.met() {
+        if !heap.has_failed() {
             right(
                 rt,
                 wanted.len() == 1,

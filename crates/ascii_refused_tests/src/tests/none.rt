@@ -5,7 +5,7 @@ use ascii::iter::{End, walk_line_spans, walk_lines, walk_split, walk_split_spans
 use ascii::json::string_from_json;
 use ascii::{AsciiChar, AsciiStr, AsciiString, bytes, text, vec};
 use ascii_run::run;
-use refusing::Refusing;
+use refusing::FailNth;
 use serde_json::Value;
 use std::alloc::{AllocError, Global};
 use std::fmt::Write;
@@ -49,10 +49,10 @@ static ADDED: [(&str, &str); 11] = [
 fn nothing_to_add(rt: HostRuntime) {
     let alloc = rt.alloc();
     for &(call, wanted) in &ADDED {
-        let heap = Refusing::new(Refusing::new(alloc, 0), 0);
+        let heap = FailNth::new(FailNth::new(alloc, 0), 0);
         let said = on_empty(alloc, &heap, call).expect(&rt, "refused");
         let answer = said.as_str();
-        right(&rt, answer == wanted && !heap.met(), call, 0, answer);
+        right(&rt, answer == wanted && !heap.has_failed(), call, 0, answer);
     }
 }
 
@@ -95,20 +95,20 @@ static MADE: [(&str, &str); 11] = [
 fn nothing_to_make(rt: HostRuntime) {
     let alloc = rt.alloc();
     for &(call, wanted) in &MADE {
-        let heap = Refusing::new(Refusing::new(alloc, 0), 0);
+        let heap = FailNth::new(FailNth::new(alloc, 0), 0);
         let said = made(alloc, &heap, call).expect(&rt, "refused");
         let answer = said.as_str();
-        right(&rt, answer == wanted && !heap.met(), call, 0, answer);
+        right(&rt, answer == wanted && !heap.has_failed(), call, 0, answer);
     }
 }
 
 #[test]
 fn buffers_are_kept(rt: HostRuntime) {
     let alloc = rt.alloc();
-    let heap = Refusing::new(alloc, 1);
+    let heap = FailNth::new(alloc, 1);
     let mut buffer = Vec::with_capacity(&heap, 3).expect(&rt, "refused");
     buffer.extend_from_slice(b"abc").expect(&rt, "refused");
     let said = shown(alloc, vec::into_ascii_string(buffer)).expect(&rt, "refused");
-    let is_kept = said.as_str() == "Ok(\"abc\")" && !heap.met();
+    let is_kept = said.as_str() == "Ok(\"abc\")" && !heap.has_failed();
     right(&rt, is_kept, "into_ascii_string", 0, said.as_str());
 }

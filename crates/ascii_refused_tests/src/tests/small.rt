@@ -5,7 +5,7 @@ use super::each_growth::view;
 use ascii::{AsciiChar, AsciiRange};
 use ascii_run::{AsciiBuf, BothRuns, Cmd, SmallAsciiString, run, run_both};
 use linked_list_allocator::LocalHeap;
-use refusing::Refusing;
+use refusing::FailNth;
 use std::alloc::{AllocError, Global};
 use std::fmt::Write;
 
@@ -144,7 +144,7 @@ fn no_memory_for_short_texts(rt: HostRuntime) {
 /// The replies of a run over a text that just fits inline, and the text at its end. The replies and copies have
 /// another heap, which refuses the growth behind `growths` others.
 fn ran(alloc: Global, cmds: &[Cmd<'_>], growths: u64, left: Left) -> Result<String, AllocError> {
-    let heap = Refusing::new(LocalHeap::new(alloc, 4096)?, growths);
+    let heap = FailNth::new(LocalHeap::new(alloc, 4096)?, growths);
     let mut string = SmallAsciiString::from_ascii_str(alloc, view("aaaaaaaaaaaaaaaaaaaaaaaa"))?;
     let scarce = Scarce::but(alloc, left)?;
     let answer = run(&heap, &mut string, cmds);

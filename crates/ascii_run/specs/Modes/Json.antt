@@ -29,7 +29,7 @@ abbrev pub IsUnescaped : ℕ → Type 0
 IsUnescaped n = (32 ≤ n) × (n ≢ 34) × (n ≢ 92)
 
 -- `texts` are the JSON strings of the first `n` characters, each character by itself
-abbrev pub AreForms : ℕ → List (List ℕ) → Type 0
-AreForms n texts =
+abbrev pub AreEscapes : ℕ → List (List ℕ) → Type 0
+AreEscapes n texts =
     (length texts ≡ n)
     × ((code : ℕ) → code < n → get_or texts code [] ≡ json_text (code ∷ []))

@@ -16,9 +16,9 @@ use std::alloc::Allocator;
 use std::simd::prelude::*;
 
 /// The characters that `caret` shows as themselves: LF, and all but control characters.
-struct Shown;
+struct CaretPassThrough;
 
-impl Class for Shown {
+impl Class for CaretPassThrough {
     ghost is = { IsShown };
 
     #[inline(always)]
@@ -27,7 +27,7 @@ impl Class for Shown {
     }
 }
 
-impl<const N: usize> ClassBy<N> for Shown {
+impl<const N: usize> ClassBy<N> for CaretPassThrough {
     #[inline(always)]
     fn marks(bytes: &[u8], at: usize) -> u64
         requires lanes { N ≤ 64 }
@@ -52,7 +52,7 @@ pub(super) fn put_caret<K: Sink, A: Allocator>(
         (flat_map caret_text (text_of text.entry)) }
 {
     let mut remaining = text.as_bytes();
-    'segments: while let Some(place) = first_not::<Shown>(remaining) {
+    'segments: while let Some(place) = first_not::<CaretPassThrough>(remaining) {
         buffer.put_front(writer, remaining, place);
         put_control(remaining[place], buffer, writer);
         remaining = &remaining[place + 1..];

@@ -4,7 +4,7 @@ ghost use Rattle.std.specs.Prelude.{◌≡◌, ◌<◌, ◌≤◌, ◌+◌, [], 
 ghost use Rattle.std.specs.List.{flat_map};
 ghost use Rattle.ascii_base.specs.Lanes.{Marks};
 ghost use Rattle.ascii.specs.View.{text_of};
-ghost use Rattle.ascii_run.specs.Modes.Json.{AreForms, IsUnescaped, json_code, json_text};
+ghost use Rattle.ascii_run.specs.Modes.Json.{AreEscapes, IsUnescaped, json_code, json_text};
 ghost use Rattle.ascii_run.specs.OutputState.{MayFail, AppendsTo, output_state};
 
 use crate::devices::Sink;
@@ -17,9 +17,9 @@ use std::alloc::{AllocError, Allocator};
 use std::simd::prelude::*;
 
 /// The characters that appear as themselves in a JSON string.
-struct Unescaped;
+struct JsonPassThrough;
 
-impl Class for Unescaped {
+impl Class for JsonPassThrough {
     ghost is = { IsUnescaped };
 
     #[inline(always)]
@@ -28,7 +28,7 @@ impl Class for Unescaped {
     }
 }
 
-impl<const N: usize> ClassBy<N> for Unescaped {
+impl<const N: usize> ClassBy<N> for JsonPassThrough {
     #[inline(always)]
     fn marks(bytes: &[u8], at: usize) -> u64
         requires lanes { N ≤ 64 }
@@ -60,9 +60,9 @@ pub(super) fn put_json<K: Sink, A: Allocator + Copy>(
         let output = json_string(alloc, text)?;
         buffer.put(writer, output.as_ascii_str().as_bytes());
     } else {
-        let forms = forms(alloc)?;
+        let escapes = escapes(alloc)?;
         buffer.put(writer, b"\"");
-        put_by_forms(text, &forms, buffer, writer);
+        write_escaped_runs(text, &escapes, buffer, writer);
         buffer.put(writer, b"\"");
     }
     Ok(())
@@ -78,59 +78,59 @@ fn json_string<A: Allocator>(alloc: A, text: AsciiStr<'_>) -> Result<AsciiString
 }
 
 /// The JSON string of each character by itself, indexed by its code.
-fn forms<A: Allocator + Copy>(alloc: A) -> Result<Vec<AsciiString<A>, A>, AllocError>
-    ensures { IfOk result (λ forms. AreForms 128 (map (λ form. form.text) forms.items)) }
+fn escapes<A: Allocator + Copy>(alloc: A) -> Result<Vec<AsciiString<A>, A>, AllocError>
+    ensures { IfOk result (λ escapes. AreEscapes 128 (map (λ escape. escape.text) escapes.items)) }
 {
-    let mut forms = Vec::with_capacity(alloc, 128)?;
+    let mut escapes = Vec::with_capacity(alloc, 128)?;
     for code in 0..128u8 {
-        forms.push(json_string(alloc, bytes::as_ascii_str_unchecked(&[code]))?)?;
+        escapes.push(json_string(alloc, bytes::as_ascii_str_unchecked(&[code]))?)?;
     }
-    Ok(forms)
+    Ok(escapes)
 }
 
-/// Appends each character by its form. The characters between two that are escaped are appended in
-/// one call.
-fn put_by_forms<K: Sink, A: Allocator>(
+/// Appends each character, escaped if need be. The characters between two escaped ones are appended
+/// in one call.
+fn write_escaped_runs<K: Sink, A: Allocator>(
     text: AsciiStr<'_>,
-    forms: &[AsciiString<A>],
+    escapes: &[AsciiString<A>],
     buffer: &mut OutputBuffer<A>,
     writer: &mut K,
 )
     requires fail { MayFail (output_state K.Sink writer.old buffer.old) }
-    requires forms { AreForms 128 (map (λ form. form.text) forms.now) }
+    requires escapes { AreEscapes 128 (map (λ escape. escape.text) escapes.now) }
     ensures { AppendsTo K.Sink writer.old buffer.old writer.new buffer.new
         (flat_map json_code (text_of text.entry)) }
 {
     let mut remaining = text.as_bytes();
-    'segments: while let Some(place) = first_not::<Unescaped>(remaining) {
+    'segments: while let Some(place) = first_not::<JsonPassThrough>(remaining) {
         buffer.put_front(writer, remaining, place);
-        put_form(remaining[place], forms, buffer, writer);
+        write_escape(remaining[place], escapes, buffer, writer);
         remaining = &remaining[place + 1..];
     }
     buffer.put(writer, remaining);
 }
 
 /// Appends a character as it appears in a JSON string.
-fn put_form<K: Sink, A: Allocator>(
+fn write_escape<K: Sink, A: Allocator>(
     code: u8,
-    forms: &[AsciiString<A>],
+    escapes: &[AsciiString<A>],
     buffer: &mut OutputBuffer<A>,
     writer: &mut K,
 )
     requires fail { MayFail (output_state K.Sink writer.old buffer.old) }
-    requires forms { AreForms 128 (map (λ form. form.text) forms.now) }
+    requires escapes { AreEscapes 128 (map (λ escape. escape.text) escapes.now) }
     requires ascii { code < 128 }
     ensures { AppendsTo K.Sink writer.old buffer.old writer.new buffer.new (json_code code) }
 {
-    let form = form_of(code, forms);
-    buffer.put(writer, &form[1..form.len() - 1]);
+    let escape = escape_of(code, escapes);
+    buffer.put(writer, &escape[1..escape.len() - 1]);
 }
 
 /// The JSON string of a character.
-fn form_of<A: Allocator>(code: u8, forms: &[AsciiString<A>]) -> &[u8]
-    requires forms { AreForms 128 (map (λ form. form.text) forms.now) }
+fn escape_of<A: Allocator>(code: u8, escapes: &[AsciiString<A>]) -> &[u8]
+    requires escapes { AreEscapes 128 (map (λ escape. escape.text) escapes.now) }
     requires ascii { code < 128 }
     ensures { result.now ≡ json_text (code ∷ []) }
 {
-    forms[code as usize].as_ascii_str().as_bytes()
+    escapes[code as usize].as_ascii_str().as_bytes()
 }

@@ -12,6 +12,20 @@ use std::collections::HashSet;
 use std::fmt::Write;
 
 #[test]
+fn run_both_1(rt: HostRuntime) {
+    let alloc = rt.alloc();
+    // run_both
+    shows(
+        &rt,
+        alloc,
+        &run_both(alloc, view("foo"), &[Cmd::Upper, Cmd::Pop])
+            .expect(&rt, "refused")
+            .small,
+        "\"FO\"",
+    );
+}
+
+#[test]
 fn ascii_buf_1(rt: HostRuntime) {
     let alloc = rt.alloc();
     // AsciiBuf::as_ascii_str
@@ -381,20 +395,6 @@ fn engine_fault_1(rt: HostRuntime) {
             bytes::as_ascii_str(b"ab\xc4").map_err(EngineFault::from),
         ),
         "(Memory, Err(NotAscii(2)))",
-    );
-}
-
-#[test]
-fn run_both_1(rt: HostRuntime) {
-    let alloc = rt.alloc();
-    // run_both
-    shows(
-        &rt,
-        alloc,
-        &run_both(alloc, view("foo"), &[Cmd::Upper, Cmd::Pop])
-            .expect(&rt, "refused")
-            .small,
-        "\"FO\"",
     );
 }
 

@@ -2,7 +2,7 @@
 
 use super::{ascii, same};
 use ascii_uses::headers::{
-    BlockFault, Header, HeaderFault, find_header, read_header, read_headers,
+    Header, HeaderBlockError, HeaderError, find_header, read_header, read_headers,
 };
 
 /// Lines with a name and a value.
@@ -16,16 +16,16 @@ static GOOD: [(&str, &str, &str); 6] = [
 ];
 
 /// Lines that are refused, and why.
-static BAD: [(&str, HeaderFault); 9] = [
-    ("", HeaderFault::NoColon),
-    ("Host", HeaderFault::NoColon),
-    (":", HeaderFault::NoName),
-    (": a", HeaderFault::NoName),
-    (" Host: a", HeaderFault::NotToken(0)),
-    ("Host : a", HeaderFault::NotToken(4)),
-    ("H(st: a", HeaderFault::NotToken(1)),
-    ("a/b@c: d", HeaderFault::NotToken(1)),
-    ("a\u{7f}: d", HeaderFault::NotToken(1)),
+static BAD: [(&str, HeaderError); 9] = [
+    ("", HeaderError::NoColon),
+    ("Host", HeaderError::NoColon),
+    (":", HeaderError::NoName),
+    (": a", HeaderError::NoName),
+    (" Host: a", HeaderError::NotToken(0)),
+    ("Host : a", HeaderError::NotToken(4)),
+    ("H(st: a", HeaderError::NotToken(1)),
+    ("a/b@c: d", HeaderError::NotToken(1)),
+    ("a\u{7f}: d", HeaderError::NotToken(1)),
 ];
 
 #[test]
@@ -41,8 +41,8 @@ fn lines(rt: HostRuntime) {
 
 #[test]
 fn refused_lines(rt: HostRuntime) {
-    for &(line, fault) in &BAD {
-        same(&rt, read_header(ascii(line)), Err(fault));
+    for &(line, error) in &BAD {
+        same(&rt, read_header(ascii(line)), Err(error));
     }
 }
 
@@ -66,19 +66,19 @@ fn blocks(rt: HostRuntime) {
 
 #[test]
 fn refused_blocks(rt: HostRuntime) {
-    let fault = HeaderFault::NotToken(1);
-    let third = BlockFault::InLine {
+    let error = HeaderError::NotToken(1);
+    let third = HeaderBlockError::InLine {
         number: 2,
         start: 16,
-        fault,
+        error,
     };
     let block = ascii("Host: a\r\nAcc: b\nH(st: c\nx");
     same(&rt, read_headers(rt.alloc(), block).err(), Some(third));
-    let fault = HeaderFault::NoColon;
-    let second = BlockFault::InLine {
+    let error = HeaderError::NoColon;
+    let second = HeaderBlockError::InLine {
         number: 1,
         start: 8,
-        fault,
+        error,
     };
     let block = ascii("Host: a\n\nbody");
     same(&rt, read_headers(rt.alloc(), block).err(), Some(second));

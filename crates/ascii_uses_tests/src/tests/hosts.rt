@@ -2,7 +2,7 @@
 
 use super::{ascii, same};
 use ascii::{AsciiChar, AsciiString};
-use ascii_uses::hosts::{Host, HostFault, host_order, same_host};
+use ascii_uses::hosts::{HostName, HostNameError, host_order, same_host};
 use std::cmp::Ordering;
 
 /// A label of 62 characters.
@@ -22,36 +22,40 @@ static GOOD: [(&str, &str); 6] = [
 ];
 
 /// Names that are refused, and why.
-static BAD: [(&str, HostFault); 15] = [
-    ("", HostFault::EmptyLabel(0)),
-    (".", HostFault::EmptyLabel(0)),
-    ("a.", HostFault::EmptyLabel(2)),
-    ("ab..c", HostFault::EmptyLabel(3)),
-    ("ab.c_d", HostFault::Character(4)),
-    ("ab.c d", HostFault::Character(4)),
-    ("@", HostFault::Character(0)),
-    ("a.b[", HostFault::Character(3)),
-    ("-a", HostFault::Hyphen(0)),
-    ("a-", HostFault::Hyphen(1)),
-    ("ab.-", HostFault::Hyphen(3)),
-    ("ab.cd-.e", HostFault::Hyphen(5)),
-    ("ab.-c-", HostFault::Hyphen(3)),
-    ("a_.b..c", HostFault::Character(1)),
-    ("-_-", HostFault::Character(1)),
+static BAD: [(&str, HostNameError); 15] = [
+    ("", HostNameError::EmptyLabel(0)),
+    (".", HostNameError::EmptyLabel(0)),
+    ("a.", HostNameError::EmptyLabel(2)),
+    ("ab..c", HostNameError::EmptyLabel(3)),
+    ("ab.c_d", HostNameError::Character(4)),
+    ("ab.c d", HostNameError::Character(4)),
+    ("@", HostNameError::Character(0)),
+    ("a.b[", HostNameError::Character(3)),
+    ("-a", HostNameError::Hyphen(0)),
+    ("a-", HostNameError::Hyphen(1)),
+    ("ab.-", HostNameError::Hyphen(3)),
+    ("ab.cd-.e", HostNameError::Hyphen(5)),
+    ("ab.-c-", HostNameError::Hyphen(3)),
+    ("a_.b..c", HostNameError::Character(1)),
+    ("-_-", HostNameError::Character(1)),
 ];
 
 #[test]
 fn names(rt: HostRuntime) {
     for &(name, wanted) in &GOOD {
-        let host = Host::parse(rt.alloc(), ascii(name)).expect(&rt, "refused");
+        let host = HostName::parse(rt.alloc(), ascii(name)).expect(&rt, "refused");
         same(&rt, host.as_ascii_str(), ascii(wanted));
     }
 }
 
 #[test]
 fn refusals(rt: HostRuntime) {
-    for &(name, fault) in &BAD {
-        same(&rt, Host::parse(rt.alloc(), ascii(name)).err(), Some(fault));
+    for &(name, error) in &BAD {
+        same(
+            &rt,
+            HostName::parse(rt.alloc(), ascii(name)).err(),
+            Some(error),
+        );
     }
 }
 
@@ -62,13 +66,13 @@ fn lengths(rt: HostRuntime) {
     name.push_str(ascii(LABEL)).expect(&rt, "refused");
     name.push(AsciiChar::Z).expect(&rt, "refused");
     // a label of 63 characters, and of 64
-    same(&rt, Host::parse(alloc, name.as_ascii_str()).err(), None);
+    same(&rt, HostName::parse(alloc, name.as_ascii_str()).err(), None);
     name.push(AsciiChar::Z).expect(&rt, "refused");
-    let long = Some(HostFault::LongLabel(0));
-    same(&rt, Host::parse(alloc, name.as_ascii_str()).err(), long);
+    let long = Some(HostNameError::LongLabel(0));
+    same(&rt, HostName::parse(alloc, name.as_ascii_str()).err(), long);
     name.push(AsciiChar::UnderScore).expect(&rt, "refused");
-    let long = Some(HostFault::LongLabel(0));
-    same(&rt, Host::parse(alloc, name.as_ascii_str()).err(), long);
+    let long = Some(HostNameError::LongLabel(0));
+    same(&rt, HostName::parse(alloc, name.as_ascii_str()).err(), long);
 }
 
 #[test]
@@ -81,10 +85,10 @@ fn long_names(rt: HostRuntime) {
     }
     // four labels of 62, each with its dot, and one of 1 are 253 characters
     name.push(AsciiChar::Z).expect(&rt, "refused");
-    same(&rt, Host::parse(alloc, name.as_ascii_str()).err(), None);
+    same(&rt, HostName::parse(alloc, name.as_ascii_str()).err(), None);
     name.push(AsciiChar::Minus).expect(&rt, "refused");
-    let long = Some(HostFault::TooLong);
-    same(&rt, Host::parse(alloc, name.as_ascii_str()).err(), long);
+    let long = Some(HostNameError::TooLong);
+    same(&rt, HostName::parse(alloc, name.as_ascii_str()).err(), long);
 }
 
 #[test]
@@ -102,11 +106,11 @@ fn case(rt: HostRuntime) {
     same(
         &rt,
         same_host(alloc, lower, bad),
-        Err(HostFault::EmptyLabel(2)),
+        Err(HostNameError::EmptyLabel(2)),
     );
     same(
         &rt,
         host_order(alloc, bad, lower),
-        Err(HostFault::EmptyLabel(2)),
+        Err(HostNameError::EmptyLabel(2)),
     );
 }

@@ -3,8 +3,8 @@
 use super::same;
 use ascii::iter::Ending;
 use ascii_run::Input;
-use ascii_uses::line_reader::kept::{KeptLine, KeptLines, keep_lines};
-use ascii_uses::line_reader::{LineFault, LineReader};
+use ascii_uses::line_reader::owned_lines::{CollectedLines, OwnedLine, collect_lines};
+use ascii_uses::line_reader::{LineError, LineReader};
 use std::alloc::{AllocError, Global};
 use std::io::{self, ErrorKind};
 use std::process::Abort;
@@ -49,13 +49,17 @@ impl io::Read for Counted<'_> {
 }
 
 /// What a reader with a buffer of this size keeps of a source.
-fn kept(alloc: Global, source: Input<Counted<'_>>, size: usize) -> Result<KeptLines, AllocError> {
+fn kept(
+    alloc: Global,
+    source: Input<Counted<'_>>,
+    size: usize,
+) -> Result<CollectedLines, AllocError> {
     let mut reader = LineReader::new(alloc, source, size)?;
-    keep_lines(alloc, &mut reader)
+    collect_lines(alloc, &mut reader)
 }
 
 /// Compares a line with its start, its body and its ending.
-fn compare<R: Abort>(rt: &R, line: Option<&KeptLine>, start: u64, body: &str, ending: Ending) {
+fn compare<R: Abort>(rt: &R, line: Option<&OwnedLine>, start: u64, body: &str, ending: Ending) {
     match line {
         Some(line) => {
             same(rt, line.start, start);
@@ -82,7 +86,7 @@ fn text_of(alloc: Global, number: u32, length: usize) -> Result<Vec<u8>, AllocEr
 }
 
 /// The bytes of lines that may stand in this order, each where it starts; `Absent` stands at the end alone.
-fn joined<R: Abort>(rt: &R, alloc: Global, lines: &[KeptLine]) -> Result<Vec<u8>, AllocError> {
+fn joined<R: Abort>(rt: &R, alloc: Global, lines: &[OwnedLine]) -> Result<Vec<u8>, AllocError> {
     let mut bytes = Vec::new(alloc);
     let mut has_ended = false;
     for line in lines {
@@ -113,10 +117,10 @@ fn related<R: Abort>(rt: &R, alloc: Global, text: &[u8], size: usize, most: usiz
     let front = joined(rt, alloc, &kept.lines).expect(rt, "refused");
     assert!(rt; text.starts_with(&front));
     let rest = &text[front.len()..];
-    match kept.fault {
+    match kept.error {
         None => same(rt, rest.len(), 0),
-        fault => {
-            same(rt, fault, Some(LineFault::TooLong(front.len() as u64)));
+        error => {
+            same(rt, error, Some(LineError::TooLong(front.len() as u64)));
             assert!(rt; rest.len() > size);
             same(rt, rest[..size].contains(&b'\n'), false);
         }
@@ -146,7 +150,7 @@ fn a_cr_in_the_last_place(rt: HostRuntime) {
     compare(&rt, lines.get(0), 0, "y", Ending::Lf);
     compare(&rt, lines.get(1), 2, "abc", Ending::CrLf);
     compare(&rt, lines.get(2), 7, "\rz\r", Ending::Absent);
-    same(&rt, kept.fault, None);
+    same(&rt, kept.error, None);
 }
 
 #[test]
@@ -155,19 +159,19 @@ fn lines_that_just_fit(rt: HostRuntime) {
         for most in [1, 5] {
             let fits = kept(rt.alloc(), giving(text, most), 5).expect(&rt, "refused");
             same(&rt, fits.lines.len(), 1);
-            same(&rt, fits.fault, None);
+            same(&rt, fits.error, None);
             let less = kept(rt.alloc(), giving(text, most), 4).expect(&rt, "refused");
             same(&rt, less.lines.len(), 0);
-            same(&rt, less.fault, Some(LineFault::TooLong(0)));
+            same(&rt, less.error, Some(LineError::TooLong(0)));
         }
     }
     let second = kept(rt.alloc(), giving(b"x\nabcdef", 100), 5).expect(&rt, "refused");
     same(&rt, second.lines.len(), 1);
-    same(&rt, second.fault, Some(LineFault::TooLong(2)));
+    same(&rt, second.error, Some(LineError::TooLong(2)));
     let none = kept(rt.alloc(), giving(b"", 100), 0).expect(&rt, "refused");
-    same(&rt, none.fault, None);
+    same(&rt, none.error, None);
     let empty = kept(rt.alloc(), giving(b"\n", 100), 0).expect(&rt, "refused");
-    same(&rt, empty.fault, Some(LineFault::TooLong(0)));
+    same(&rt, empty.error, Some(LineError::TooLong(0)));
 }
 
 static LINES: &[u8] = b"ab\r\ncd\n\nefg\nh";
@@ -186,7 +190,7 @@ fn a_byte_over_127_at_each_place(rt: HostRuntime) {
             for (size, most) in [(4, 1), (4, 100), (5, 2), (64, 100)] {
                 let kept = kept(rt.alloc(), giving(&text, most), size).expect(&rt, "refused");
                 same(&rt, kept.lines.len(), ended);
-                same(&rt, kept.fault, Some(LineFault::NotAscii(place as u64)));
+                same(&rt, kept.error, Some(LineError::NotAscii(place as u64)));
             }
         }
     }
@@ -197,11 +201,11 @@ fn a_failure_at_each_call(rt: HostRuntime) {
     for (call, &ended) in ENDED.iter().enumerate() {
         let kept = kept(rt.alloc(), failing(LINES, 1, call as u64), 4).expect(&rt, "refused");
         same(&rt, kept.lines.len(), ended);
-        same(&rt, kept.fault, Some(LineFault::Read));
+        same(&rt, kept.error, Some(LineError::Read));
     }
     let last = kept(rt.alloc(), failing(LINES, 1, 13), 4).expect(&rt, "refused");
     same(&rt, last.lines.len(), 4);
-    same(&rt, last.fault, Some(LineFault::Read));
+    same(&rt, last.error, Some(LineError::Read));
 }
 
 /// The source is called so often before the first answer that is no line, and not once behind it.
@@ -210,21 +214,23 @@ fn stays<R: Abort>(
     alloc: Global,
     source: Input<Counted<'_>>,
     calls: u64,
-    fault: Option<LineFault>,
+    error: Option<LineError>,
 ) {
     let mut reader = LineReader::new(alloc, source, 3).expect(rt, "refused");
     same(
         rt,
-        keep_lines(alloc, &mut reader).expect(rt, "refused").fault,
-        fault,
+        collect_lines(alloc, &mut reader)
+            .expect(rt, "refused")
+            .error,
+        error,
     );
     for _ in 0..3 {
         match reader.next_line() {
             Ok(line) => {
                 assert!(rt; line.is_none());
-                same(rt, fault, None);
+                same(rt, error, None);
             }
-            Err(again) => same(rt, Some(again), fault),
+            Err(again) => same(rt, Some(again), error),
         }
     }
     same(rt, reader.into_source().into_inner().calls, calls);
@@ -240,22 +246,22 @@ fn an_answer_for_good(rt: HostRuntime) {
         alloc,
         giving(b"a\nb\xffc", 1),
         4,
-        Some(LineFault::NotAscii(3)),
+        Some(LineError::NotAscii(3)),
     );
     stays(
         &rt,
         alloc,
         giving(b"a\nbcdef", 1),
         6,
-        Some(LineFault::TooLong(2)),
+        Some(LineError::TooLong(2)),
     );
-    stays(&rt, alloc, failing(b"a\nb", 1, 2), 3, Some(LineFault::Read));
+    stays(&rt, alloc, failing(b"a\nb", 1, 2), 3, Some(LineError::Read));
     stays(
         &rt,
         alloc,
         failing(b"abcdef", 1, 3),
         4,
-        Some(LineFault::Read),
+        Some(LineError::Read),
     );
 }
 

@@ -1,7 +1,7 @@
 //! What screens of some widths show of texts.
 
 use super::{ascii, same};
-use ascii_uses::screen::show_on_screen;
+use ascii_uses::screen::wrap_for_screen;
 
 /// A text, a width, what goes out, and the column behind it.
 static ROWS: [(&str, usize, &str, usize); 13] = [
@@ -24,7 +24,7 @@ static ROWS: [(&str, usize, &str, usize); 13] = [
 fn rows(rt: HostRuntime) {
     for &(source, width, text, column) in &ROWS {
         if width >= 2 {
-            let shown = show_on_screen(rt.alloc(), ascii(source), width).expect(&rt, "refused");
+            let shown = wrap_for_screen(rt.alloc(), ascii(source), width).expect(&rt, "refused");
             same(&rt, shown.text.as_ascii_str(), ascii(text));
             same(&rt, shown.column, column);
         }

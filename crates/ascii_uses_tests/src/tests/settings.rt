@@ -3,7 +3,7 @@
 use super::{ascii, same};
 use ascii::AsciiChar;
 use ascii_uses::cuts::{rsplit_once, split_once};
-use ascii_uses::settings::{Setting, SettingFault, read_setting};
+use ascii_uses::settings::{Setting, SettingError, read_setting};
 
 /// Lines with a setting, its key and its value.
 static GOOD: [(&str, &str, &str); 7] = [
@@ -20,13 +20,13 @@ static GOOD: [(&str, &str, &str); 7] = [
 static BLANK: [&str; 5] = ["", "  \t", "#", " # mode = fast", "\r"];
 
 /// Lines that are refused, and why.
-static BAD: [(&str, SettingFault); 6] = [
-    ("mode", SettingFault::NoEquals(0)),
-    ("  mode fast  # =", SettingFault::NoEquals(2)),
-    ("=", SettingFault::NoKey(0)),
-    ("  = fast", SettingFault::NoKey(2)),
-    ("==", SettingFault::NoKey(0)),
-    ("\t=# a=b", SettingFault::NoKey(1)),
+static BAD: [(&str, SettingError); 6] = [
+    ("mode", SettingError::NoEquals(0)),
+    ("  mode fast  # =", SettingError::NoEquals(2)),
+    ("=", SettingError::NoKey(0)),
+    ("  = fast", SettingError::NoKey(2)),
+    ("==", SettingError::NoKey(0)),
+    ("\t=# a=b", SettingError::NoKey(1)),
 ];
 
 #[test]
@@ -49,8 +49,8 @@ fn blanks(rt: HostRuntime) {
 
 #[test]
 fn refusals(rt: HostRuntime) {
-    for &(line, fault) in &BAD {
-        same(&rt, read_setting(ascii(line)), Err(fault));
+    for &(line, error) in &BAD {
+        same(&rt, read_setting(ascii(line)), Err(error));
     }
 }
 

@@ -3,11 +3,11 @@
 use super::{ascii, shows};
 use ascii::AsciiChar;
 use ascii::iter::End;
-use ascii_uses::fronts::{first_bodies, first_line_spans, first_piece_spans, first_pieces};
 use ascii_uses::iterators::{
     line_count, line_lengths_by_for, piece_lengths_by_map, pieces_reversed,
 };
-use ascii_uses::resuming::{
+use ascii_uses::prefixes::{first_bodies, first_line_spans, first_piece_spans, first_pieces};
+use ascii_uses::remainders::{
     after_two_separators, count_after_first, count_and_lines, count_before_last, lengths_left,
     resume_line_spans, resume_lines, resume_split, resume_split_spans, take_line_span,
 };

@@ -2,19 +2,19 @@
 
 use super::{ascii, same};
 use ascii::AsciiStr;
-use ascii_uses::table::{RowFault, read_row};
+use ascii_uses::table::{RowError, read_row};
 
 /// Rows that are refused, and why.
-static BAD: [(&str, RowFault); 9] = [
-    ("", RowFault::Empty { field: 0, start: 0 }),
-    ("\tb\tc", RowFault::Empty { field: 0, start: 0 }),
-    ("ab\t\tc", RowFault::Empty { field: 1, start: 3 }),
-    ("ab\tcd\t", RowFault::Empty { field: 2, start: 6 }),
-    ("\t\t\t\t", RowFault::Empty { field: 0, start: 0 }),
-    ("ab", RowFault::TooFew { found: 1 }),
-    ("ab\tcd", RowFault::TooFew { found: 2 }),
-    ("ab\tcd\te\tf", RowFault::TooMany { start: 8 }),
-    ("ab\tcd\te\t", RowFault::TooMany { start: 8 }),
+static BAD: [(&str, RowError); 9] = [
+    ("", RowError::Empty { field: 0, start: 0 }),
+    ("\tb\tc", RowError::Empty { field: 0, start: 0 }),
+    ("ab\t\tc", RowError::Empty { field: 1, start: 3 }),
+    ("ab\tcd\t", RowError::Empty { field: 2, start: 6 }),
+    ("\t\t\t\t", RowError::Empty { field: 0, start: 0 }),
+    ("ab", RowError::TooFew { found: 1 }),
+    ("ab\tcd", RowError::TooFew { found: 2 }),
+    ("ab\tcd\te\tf", RowError::TooMany { start: 8 }),
+    ("ab\tcd\te\t", RowError::TooMany { start: 8 }),
 ];
 
 #[test]
@@ -26,9 +26,9 @@ fn fields(rt: HostRuntime) {
 
 #[test]
 fn refusals(rt: HostRuntime) {
-    for &(row, fault) in &BAD {
-        same(&rt, read_row(rt.alloc(), ascii(row), 3).err(), Some(fault));
+    for &(row, error) in &BAD {
+        same(&rt, read_row(rt.alloc(), ascii(row), 3).err(), Some(error));
     }
     let none = read_row(rt.alloc(), ascii("ab"), 0).err();
-    same(&rt, none, Some(RowFault::TooMany { start: 0 }));
+    same(&rt, none, Some(RowError::TooMany { start: 0 }));
 }

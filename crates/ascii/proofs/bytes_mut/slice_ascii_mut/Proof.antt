@@ -39,9 +39,9 @@ use Rattle.ascii_base.specs.contracts.range.AsciiRange as range
 use Rattle.ascii_base.proofs.range.AsciiRange.TheLaws as range_laws
 use Rattle.ascii.specs.Slice.{IsRejected}
 use Rattle.ascii.specs.WritingView.{FinalSource, IsViewOf, whole_source_of, borrow_of}
-use Rattle.ascii.specs.declared.bytes_mut.Searched.{Searched}
-use Rattle.ascii.specs.contracts.bytes_mut.Searched as S
-use Rattle.ascii.proofs.bytes_mut.Searched.TheLaws as found_laws
+use Rattle.ascii.specs.declared.bytes_mut.SearchOutcome.{SearchOutcome}
+use Rattle.ascii.specs.contracts.bytes_mut.SearchOutcome as S
+use Rattle.ascii.proofs.bytes_mut.SearchOutcome.TheLaws as found_laws
 use Rattle.ascii.proofs.RestsLemmas.{Bytes, error_made, given_up, found_view, rests_ok, rests_err}
 use Rattle.ascii.specs.declared.ascii_str.AsAsciiStrError.{AsAsciiStrError}
 use Rattle.ascii.specs.contracts.ascii_str_mut.AsciiStrMut as V
@@ -99,7 +99,7 @@ slice_ascii_mut_spec 𝓤 𝓛 𝓜 𝓡 wired =
     let lft = named_lft 1 0 tt κs in
     let Row = S.the_row lft in
     use1 𝓛 (later
-    (some (λ (d : Searched). (raw (alive 𝓛 g.signature κs qs) ⊛ ‵ (Row.own_val d (v ∷ []))) ⊛
+    (some (λ (d : SearchOutcome). (raw (alive 𝓛 g.signature κs qs) ⊛ ‵ (Row.own_val d (v ∷ []))) ⊛
     some (λ (ws : _). ‵ (lasts g.ended κs a ws) ⊛
     raw (fact 𝓤 (d.is_refused ≡ false
     → Fits r n × IsViewOf s.now (start_of r) (end_of r n) d.view)) ⊛

@@ -8,4 +8,4 @@ returns-then-marked-eq0 g c = λ k from to. from_more _ _ _ _ _ c.marks-marked.e
 
 pub returns-else-marked-eq0 : goal.returns-else-marked-eq0
 returns-else-marked-eq0 g c = last_mark _ _ _ _ _ c.marks-marked.ensures c.requires.room
-    _ c.highest.ensures.set c.highest.ensures.above c.requires.after
+    _ c.highest_set_bit.ensures.set c.highest_set_bit.ensures.above c.requires.after

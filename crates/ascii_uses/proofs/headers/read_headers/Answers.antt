@@ -3,7 +3,7 @@ use Rattle.std.proofs.lemmas.List.{map_push}
 use Rattle.std.proofs.lemmas.Slice.Zip.{AllZip-long}
 use Rattle.ascii.specs.Spans.{LineSpansOf, line_in}
 use Rattle.ascii.specs.View.{text_of}
-use Rattle.ascii_uses.specs.Headers.{HasHeader, IsHeaderFault, IsHeaderOf}
+use Rattle.ascii_uses.specs.Headers.{HasHeader, IsHeaderError, IsHeaderOf}
 use Rattle.ascii.proofs.ListLemmas.{AllZip-push}
 use Rattle.ascii_uses.proofs.ListLemmas.{All-from_zip, IsFirstAt-seam, map-push_front}
 use Rattle.ascii_uses.proofs.headers.read_headers.Goals as goal
@@ -35,7 +35,7 @@ returns-in-Err c =
       whole,
       IsFirstAt-seam HasHeader
           (λ line. (line.start ≡ c.in-Some.line.start)
-          × IsHeaderFault line.item.body c.in-Err.fault)
+          × IsHeaderError line.item.body c.in-Err.error)
           front _ (line_in c.in-Some.line) (All-from_zip IsHeaderOf front _ inv.each)
           (refl, c.in-Err.ensures) _ many,
     )

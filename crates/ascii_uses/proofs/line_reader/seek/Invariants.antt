@@ -6,11 +6,11 @@ use Rattle.ascii_uses.proofs.line_reader.seek.Given as goal
 -- failed
 abbrev pub invariant-fills : goal.invariant-fills
 invariant-fills g l =
-    IsHeldThenRead l.fn.window.held (g.S.Source.rest l.fn.source)
-    (g.S.Source.rest l.source) l.window.held
+    IsHeldThenRead l.fn.buffer.held (g.S.Source.rest l.fn.source)
+    (g.S.Source.rest l.source) l.buffer.held
     × (g.S.Source.failures l.source ≡ g.S.Source.failures l.fn.source)
-    × (l.window.size ≡ l.fn.window.size)
+    × (l.buffer.size ≡ l.fn.buffer.size)
 
 -- the room that is left
 abbrev pub decreases-fills : goal.decreases-fills
-decreases-fills g l = l.window.size - length l.window.held
+decreases-fills g l = l.buffer.size - length l.buffer.held

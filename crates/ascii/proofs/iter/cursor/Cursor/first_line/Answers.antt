@@ -8,11 +8,11 @@ use Rattle.ascii.proofs.iter.cursor.Cursor.first_line.Goals as goal
 pub returns-in-Some-clause-lines : goal.returns-in-Some-clause-lines
 returns-in-Some-clause-lines c =
     line_spans_first _ _ _ c.in-Some.ensures
-    c.ended_line.ensures.line
+    c.terminated_line.ensures.line
 
 pub returns-in-None-clause-lines : goal.returns-in-None-clause-lines
 returns-in-None-clause-lines c =
     let none : text_of c.from.result.view ≡ [] =
     rw (c.from.ensures.text, c.len.ensures, drop-length) in
     line_spans_open (part_in c.args.self) c.from.result _ c.in-None.ensures (search rules) none
-    c.open_line.ensures.line
+    c.unterminated_line.ensures.line

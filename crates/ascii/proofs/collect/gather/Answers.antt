@@ -1,0 +1,25 @@
+use Rattle.std.proofs.Common.{◌<◌, ◌++◌, ◌∷◌, [], length, arith, refl, zero, suc}
+use Rattle.std.proofs.lemmas.List.{take_more_set}
+use Rattle.std.proofs.lemmas.Grind.{common_steps}
+use Rattle.std.proofs.lemmas.Str.{IsAscii-append}
+use Rattle.ascii.proofs.ExtendLemmas.{yields_both}
+use Rattle.ascii.proofs.collect.gather.Goals as goal
+
+pub loop-at-preserved : goal.loop-at-preserved
+loop-at-preserved g c =
+    let l = c.loop-at in
+    let ch = c.in-Some.ch in
+    let steps = c.in-Some.ensures.steps in
+    let nearer = c.in-Some.ensures.goes.on l.invariant.ends in
+    let inside : l.at < length l.codes = omega arith in
+    record {
+      items = l.invariant.items ++ ch ∷ [];
+      gave = yields_both g.I.Iterator.next_gives l.invariant.items (ch ∷ []) _ l.iter _
+          l.invariant.gave (c.next.new.self, steps, refl);
+      start = rw (take_more_set l.codes l.at c.as_byte.result inside) (grind (arith, common_steps));
+      ascii = rw (take_more_set l.codes l.at c.as_byte.result inside) (IsAscii-append _ _
+          l.invariant.ascii (elim [ zero ↦ c.as_byte.ensures.small | suc i ↦ omega arith ]));
+      can = nearer.0;
+      ends = nearer.1;
+      fewer = omega (arith, nearer.2);
+    }

@@ -1,0 +1,32 @@
+use Rattle.std.proofs.Common.{◌+◌, inl, length, arith, ap}
+use Rattle.std.proofs.lemmas.List.{take-append-drop, length-take}
+use Rattle.ascii.specs.View.{text_of}
+use Rattle.ascii.proofs.SearchLemmas.{cut_at_last, free_of_last, whole_at}
+use Rattle.ascii.proofs.iter.cursor.Cursor.split_after_last_lf.Goals as goal
+
+pub returns-in-Some : goal.returns-in-Some
+returns-in-Some c =
+    let text = text_of c.args.self.view in
+    let place = c.in-Some.place in
+    let found = c.in-Some.ensures in
+    record {
+      text = rw (c.to.ensures.text, c.from.ensures.text, take-append-drop);
+      before = c.to.ensures.start;
+      behind = omega (
+        arith,
+        found.0.high,
+        ap length c.to.ensures.text,
+        length-take (place + 1) text,
+      );
+      whole = rw c.to.ensures.text (whole_at text place found.0.high found.1);
+      free = rw c.from.ensures.text (cut_at_last 10 text place found).1;
+    }
+
+pub returns-in-None : goal.returns-in-None
+returns-in-None c = record {
+  text = rw c.to-in-None.ensures.text;
+  before = c.to-in-None.ensures.start;
+  behind = omega (arith, ap length c.to-in-None.ensures.text);
+  whole = inl c.to-in-None.ensures.text;
+  free = free_of_last 10 (text_of c.args.self.view) c.in-None.ensures;
+}

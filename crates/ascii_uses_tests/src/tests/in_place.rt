@@ -1,0 +1,33 @@
+//! The callers that edit a part of a source, each once.
+
+use super::same;
+use ascii::AsciiRange;
+use ascii_uses::in_place::{upper_in, upper_in_one_call};
+
+const SOURCE: [u8; 5] = [0x61, 0xc4, 0x8d, 0x42, 0x62];
+
+#[test]
+fn a_part_is_raised(rt: HostRuntime) {
+    for (range, edited) in [
+        (AsciiRange::From(3), Some([0x61, 0xc4, 0x8d, 0x42, 0x42])),
+        (
+            AsciiRange::ToInclusive(0),
+            Some([0x41, 0xc4, 0x8d, 0x42, 0x62]),
+        ),
+        (AsciiRange::Range(1, 1), Some(SOURCE)),
+        (AsciiRange::Range(0, 2), None),
+        (AsciiRange::Range(2, 1), None),
+    ] {
+        let mut first = SOURCE;
+        let mut second = SOURCE;
+        let is_done = upper_in(&mut first[..], range).is_ok();
+        same(
+            &rt,
+            upper_in_one_call(&mut second[..], range).is_ok(),
+            is_done,
+        );
+        same(&rt, is_done, edited.is_some());
+        same(&rt, first, edited.unwrap_or(SOURCE));
+        same(&rt, second, first);
+    }
+}
