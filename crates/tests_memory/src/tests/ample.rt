@@ -1,5 +1,5 @@
 //! With nothing refused, no call gives up past a length. The calls that are not here stand in the tests of lengths of
-//! `ascii_tests` and `ascii_run_tests`.
+//! `tests_ascii` and `tests_run`.
 
 use super::same;
 use ascii::iter::{End, walk_line_spans, walk_split_spans};
