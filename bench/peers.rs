@@ -86,27 +86,27 @@ macro_rules! called {
 }
 
 pub mod ours {
-    //! The exports of crates/ascii_bench.
+    //! The exports of crates/bench_calls.
 
     mod exports {
         extern "C" {
-            pub fn ascii_bench_accept(source: *const u8, length: usize) -> bool;
-            pub fn ascii_bench_upper(source: *mut u8, length: usize);
-            pub fn ascii_bench_equal(
+            pub fn bench_accept(source: *const u8, length: usize) -> bool;
+            pub fn bench_upper(source: *mut u8, length: usize);
+            pub fn bench_equal(
                 first: *const u8,
                 length: usize,
                 second: *const u8,
                 length: usize,
             ) -> bool;
-            pub fn ascii_bench_trim(source: *const u8, length: usize) -> usize;
-            pub fn ascii_bench_lines(source: *const u8, length: usize, from_back: bool) -> usize;
-            pub fn ascii_bench_read_lines(source: *const u8, length: usize) -> usize;
-            pub fn ascii_bench_split(source: *const u8, length: usize) -> usize;
-            pub fn ascii_bench_chars(source: *const u8, length: usize) -> usize;
-            pub fn ascii_bench_collect(source: *const u8, length: usize) -> usize;
-            pub fn ascii_bench_push(source: *const u8, length: usize, inline: bool) -> usize;
-            pub fn ascii_bench_build(source: *const u8, length: usize, inline: bool) -> usize;
-            pub fn ascii_bench_names(source: *const u8, length: usize, inline: bool) -> usize;
+            pub fn bench_trim(source: *const u8, length: usize) -> usize;
+            pub fn bench_lines(source: *const u8, length: usize, from_back: bool) -> usize;
+            pub fn bench_read_lines(source: *const u8, length: usize) -> usize;
+            pub fn bench_split(source: *const u8, length: usize) -> usize;
+            pub fn bench_chars(source: *const u8, length: usize) -> usize;
+            pub fn bench_collect(source: *const u8, length: usize) -> usize;
+            pub fn bench_push(source: *const u8, length: usize, inline: bool) -> usize;
+            pub fn bench_build(source: *const u8, length: usize, inline: bool) -> usize;
+            pub fn bench_names(source: *const u8, length: usize, inline: bool) -> usize;
         }
     }
 
@@ -114,84 +114,84 @@ pub mod ours {
 
     #[inline(always)]
     pub fn accept(source: &[u8]) -> usize {
-        unsafe { ascii_bench_accept(source.as_ptr(), source.len()) as usize }
+        unsafe { bench_accept(source.as_ptr(), source.len()) as usize }
     }
 
     #[inline(always)]
     pub fn upper(source: &mut [u8]) {
-        unsafe { ascii_bench_upper(source.as_mut_ptr(), source.len()) }
+        unsafe { bench_upper(source.as_mut_ptr(), source.len()) }
     }
 
     #[inline(always)]
     pub fn equal(first: &[u8], second: &[u8]) -> usize {
         unsafe {
-            ascii_bench_equal(first.as_ptr(), first.len(), second.as_ptr(), second.len()) as usize
+            bench_equal(first.as_ptr(), first.len(), second.as_ptr(), second.len()) as usize
         }
     }
 
     #[inline(always)]
     pub fn trim(source: &[u8]) -> usize {
-        unsafe { ascii_bench_trim(source.as_ptr(), source.len()) }
+        unsafe { bench_trim(source.as_ptr(), source.len()) }
     }
 
     #[inline(always)]
     pub fn lines(source: &[u8]) -> usize {
-        unsafe { ascii_bench_lines(source.as_ptr(), source.len(), false) }
+        unsafe { bench_lines(source.as_ptr(), source.len(), false) }
     }
 
     #[inline(always)]
     pub fn lines_back(source: &[u8]) -> usize {
-        unsafe { ascii_bench_lines(source.as_ptr(), source.len(), true) }
+        unsafe { bench_lines(source.as_ptr(), source.len(), true) }
     }
 
     #[inline(always)]
     pub fn read_lines(source: &[u8]) -> usize {
-        unsafe { ascii_bench_read_lines(source.as_ptr(), source.len()) }
+        unsafe { bench_read_lines(source.as_ptr(), source.len()) }
     }
 
     #[inline(always)]
     pub fn split(source: &[u8]) -> usize {
-        unsafe { ascii_bench_split(source.as_ptr(), source.len()) }
+        unsafe { bench_split(source.as_ptr(), source.len()) }
     }
 
     #[inline(always)]
     pub fn chars(source: &[u8]) -> usize {
-        unsafe { ascii_bench_chars(source.as_ptr(), source.len()) }
+        unsafe { bench_chars(source.as_ptr(), source.len()) }
     }
 
     #[inline(always)]
     pub fn collect(source: &[u8]) -> usize {
-        unsafe { ascii_bench_collect(source.as_ptr(), source.len()) }
+        unsafe { bench_collect(source.as_ptr(), source.len()) }
     }
 
     #[inline(always)]
     pub fn push(source: &[u8]) -> usize {
-        unsafe { ascii_bench_push(source.as_ptr(), source.len(), false) }
+        unsafe { bench_push(source.as_ptr(), source.len(), false) }
     }
 
     #[inline(always)]
     pub fn push_inline(source: &[u8]) -> usize {
-        unsafe { ascii_bench_push(source.as_ptr(), source.len(), true) }
+        unsafe { bench_push(source.as_ptr(), source.len(), true) }
     }
 
     #[inline(always)]
     pub fn build(source: &[u8]) -> usize {
-        unsafe { ascii_bench_build(source.as_ptr(), source.len(), false) }
+        unsafe { bench_build(source.as_ptr(), source.len(), false) }
     }
 
     #[inline(always)]
     pub fn build_inline(source: &[u8]) -> usize {
-        unsafe { ascii_bench_build(source.as_ptr(), source.len(), true) }
+        unsafe { bench_build(source.as_ptr(), source.len(), true) }
     }
 
     #[inline(always)]
     pub fn names(source: &[u8]) -> usize {
-        unsafe { ascii_bench_names(source.as_ptr(), source.len(), false) }
+        unsafe { bench_names(source.as_ptr(), source.len(), false) }
     }
 
     #[inline(always)]
     pub fn names_inline(source: &[u8]) -> usize {
-        unsafe { ascii_bench_names(source.as_ptr(), source.len(), true) }
+        unsafe { bench_names(source.as_ptr(), source.len(), true) }
     }
 }
 

@@ -14,7 +14,7 @@ use std::alloc::{AllocError, Global};
 
 /// Whether all bytes are ASCII.
 #[unsafe(no_mangle)]
-pub extern "C" fn ascii_bench_accept(source: &[u8]) -> bool
+pub extern "C" fn bench_accept(source: &[u8]) -> bool
     ensures { IsTrue result ↔ IsAscii source.now }
 {
     bytes::as_ascii_str(source).is_ok()
@@ -22,7 +22,7 @@ pub extern "C" fn ascii_bench_accept(source: &[u8]) -> bool
 
 /// Changes the letters of a text to upper case.
 #[unsafe(no_mangle)]
-pub extern "C" fn ascii_bench_upper(source: &mut [u8])
+pub extern "C" fn bench_upper(source: &mut [u8])
     requires { IsAscii source.old }
     ensures { source.new ≡ map upper_image source.old }
 {
@@ -31,7 +31,7 @@ pub extern "C" fn ascii_bench_upper(source: &mut [u8])
 
 /// Whether two texts are equal when the case of letters does not count.
 #[unsafe(no_mangle)]
-pub extern "C" fn ascii_bench_equal(first: &[u8], second: &[u8]) -> bool
+pub extern "C" fn bench_equal(first: &[u8], second: &[u8]) -> bool
     requires first { IsAscii first.now }
     requires second { IsAscii second.now }
     ensures { IsTrue result ↔ (map lower_image first.now ≡ map lower_image second.now) }
@@ -41,7 +41,7 @@ pub extern "C" fn ascii_bench_equal(first: &[u8], second: &[u8]) -> bool
 
 /// The length of a text without the white space at its ends.
 #[unsafe(no_mangle)]
-pub extern "C" fn ascii_bench_trim(source: &[u8]) -> usize
+pub extern "C" fn bench_trim(source: &[u8]) -> usize
     requires { IsAscii source.now }
     ensures { (trimmed : List ℕ) × Trims source.now trimmed × (result ≡ length trimmed) }
 {
@@ -50,7 +50,7 @@ pub extern "C" fn ascii_bench_trim(source: &[u8]) -> usize
 
 /// The lengths of the lines of a text, mixed in the order in which they are met.
 #[unsafe(no_mangle)]
-pub extern "C" fn ascii_bench_lines(source: &[u8], from_back: bool) -> usize
+pub extern "C" fn bench_lines(source: &[u8], from_back: bool) -> usize
     requires { IsAscii source.now }
 {
     let view = bytes::as_ascii_str_unchecked(source);
@@ -70,7 +70,7 @@ pub extern "C" fn ascii_bench_lines(source: &[u8], from_back: bool) -> usize
 /// The lengths of the lines of an input, mixed in their order, which is read through a buffer of 64 KiB; 0
 /// where a line is refused, or memory.
 #[unsafe(no_mangle)]
-pub extern "C" fn ascii_bench_read_lines(alloc: Global, source: &[u8]) -> usize {
+pub extern "C" fn bench_read_lines(alloc: Global, source: &[u8]) -> usize {
     let Ok(reader) = LineReader::new(alloc, Input::new(source), 65_536) else {
         return 0;
     };
@@ -88,7 +88,7 @@ pub extern "C" fn ascii_bench_read_lines(alloc: Global, source: &[u8]) -> usize 
 
 /// The lengths of the pieces of a text between commas, mixed in their order.
 #[unsafe(no_mangle)]
-pub extern "C" fn ascii_bench_split(source: &[u8]) -> usize
+pub extern "C" fn bench_split(source: &[u8]) -> usize
     requires { IsAscii source.now }
 {
     let mut sum: usize = 0;
@@ -100,7 +100,7 @@ pub extern "C" fn ascii_bench_split(source: &[u8]) -> usize
 
 /// The sum of the codes of a text.
 #[unsafe(no_mangle)]
-pub extern "C" fn ascii_bench_chars(source: &[u8]) -> usize
+pub extern "C" fn bench_chars(source: &[u8]) -> usize
     requires { IsAscii source.now }
 {
     let mut sum: usize = 0;
@@ -112,7 +112,7 @@ pub extern "C" fn ascii_bench_chars(source: &[u8]) -> usize
 
 /// A text out of the characters of another, in upper case: its mark, or 0 where memory is refused.
 #[unsafe(no_mangle)]
-pub extern "C" fn ascii_bench_collect(alloc: Global, source: &[u8]) -> usize
+pub extern "C" fn bench_collect(alloc: Global, source: &[u8]) -> usize
     requires { IsAscii source.now }
 {
     let chars = bytes::as_ascii_str_unchecked(source).chars();
@@ -125,7 +125,7 @@ pub extern "C" fn ascii_bench_collect(alloc: Global, source: &[u8]) -> usize
 /// A text to which the characters of another are pushed one by one, on the heap or inline while it is
 /// short: its mark, or 0 where memory is refused.
 #[unsafe(no_mangle)]
-pub extern "C" fn ascii_bench_push(alloc: Global, source: &[u8], inline: bool) -> usize
+pub extern "C" fn bench_push(alloc: Global, source: &[u8], inline: bool) -> usize
     requires { IsAscii source.now }
 {
     let view = bytes::as_ascii_str_unchecked(source);
@@ -139,7 +139,7 @@ pub extern "C" fn ascii_bench_push(alloc: Global, source: &[u8], inline: bool) -
 /// A copy of a text, made and let go, on the heap or inline while it is short: its mark, or 0 where memory
 /// is refused.
 #[unsafe(no_mangle)]
-pub extern "C" fn ascii_bench_build(alloc: Global, source: &[u8], inline: bool) -> usize
+pub extern "C" fn bench_build(alloc: Global, source: &[u8], inline: bool) -> usize
     requires { IsAscii source.now }
 {
     let view = bytes::as_ascii_str_unchecked(source);
@@ -154,7 +154,7 @@ pub extern "C" fn ascii_bench_build(alloc: Global, source: &[u8], inline: bool) 
 /// Copies in lower case of the pieces of a text between commas, each made and let go in turn, on the
 /// heap or inline while it is short: their marks, mixed, with 0 where memory is refused.
 #[unsafe(no_mangle)]
-pub extern "C" fn ascii_bench_names(alloc: Global, source: &[u8], inline: bool) -> usize
+pub extern "C" fn bench_names(alloc: Global, source: &[u8], inline: bool) -> usize
     requires { IsAscii source.now }
 {
     let pieces = bytes::as_ascii_str_unchecked(source).split(AsciiChar::Comma);

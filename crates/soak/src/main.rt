@@ -1,4 +1,4 @@
-//! `ascii_ask`: answers questions about texts, one line of standard input a question, one line of standard output
+//! `soak`: answers questions about texts, one line of standard input a question, one line of standard output
 //! an answer. A line that is no question is answered with `bad`.
 //!
 //! The words of a question stand apart by one space. The first names the call, and the others are what it takes:

@@ -1,4 +1,4 @@
-//! Asks `ascii_ask` questions at random and compares each answer with the Rust crate `ascii` 1.1.0; where that crate
+//! Asks `soak` questions at random and compares each answer with the Rust crate `ascii` 1.1.0; where that crate
 //! has no such call (starts and rests), with plain loops over the pieces and lines.
 //!
 //!     soak ASK SECONDS SEED
