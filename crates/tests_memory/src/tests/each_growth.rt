@@ -1,10 +1,10 @@
 //! Runs of a call with its first growth refused, its second, and so on.
 
 use ascii::{AsciiChar, AsciiStr, AsciiString, text};
-use refusing::FailNth;
 use std::alloc::{AllocError, Allocator, Global};
 use std::fmt;
 use std::process::Abort;
+use testing::FailNth;
 
 /// An allocator of which one allocation fails, or two in a row.
 pub type Heap = FailNth<FailNth<Global>>;

@@ -5,10 +5,10 @@ use ascii::iter::{End, walk_line_spans, walk_lines, walk_split, walk_split_spans
 use ascii::json::string_from_json;
 use ascii::{AsciiChar, AsciiStr, AsciiString, bytes, text, vec};
 use ascii_run::run;
-use refusing::FailNth;
 use serde_json::Value;
 use std::alloc::{AllocError, Global};
 use std::fmt::Write;
+use testing::FailNth;
 
 /// A call on the empty string.
 fn on_empty(alloc: Global, heap: &Heap, call: &str) -> Result<String, AllocError> {

@@ -5,9 +5,9 @@ use super::each_growth::view;
 use ascii::{AsciiChar, AsciiRange};
 use ascii_run::{AsciiBuf, BothRuns, Cmd, SmallAsciiString, run, run_both};
 use linked_list_allocator::LocalHeap;
-use refusing::FailNth;
 use std::alloc::{AllocError, Global};
 use std::fmt::Write;
+use testing::FailNth;
 
 /// A text that just fits inline.
 const FULL: &str = "abcdefghijklmnopqrstuvwx";

@@ -14,8 +14,8 @@ use denote.Memory.{hidden_shr}
 use denote.Steps.{nothing, only}
 use denote.Triple.Statement.{Contract}
 use denote.Triple.Spec.{triple_of}
-use Rattle.refusing.proofs.Parts.{Count}
-use Rattle.refusing.specs.contracts.refuses as refuses
+use Rattle.testing.proofs.Parts.{Count}
+use Rattle.testing.specs.contracts.refuses as refuses
 
 module _ {M : Type 1} {𝓤 : Ura M} (𝓛 : Logic 𝓤) (mem : Memory → SProp 𝓤) (run : Routine → Fun 𝓤) where
   open 𝓛 use {H, A}

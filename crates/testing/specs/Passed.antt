@@ -1,5 +1,5 @@
 -- The allocator that a `FailNth` passes its calls on to.
-use Rattle.refusing.specs.declared.FailNth.{FailNth}
+use Rattle.testing.specs.declared.FailNth.{FailNth}
 
 -- the allocator inside a `FailNth`
 abbrev pub inner_of : {B : Type 0} → FailNth B → B

@@ -34,11 +34,11 @@ use denote.Triple.Statement.{Triple}
 use denote.Triple.Table.{entered}
 use denote.Triple.Walked.{Stays, stay_dropped, walk_of, ends_at, walked, Goes-dropped, walk_Meets}
 use Rattle.std.proofs.alloc.Calls.{Al, seen, token, gives_key, Gives, at_gives, Gives-goes, Gives-Gives}
-use Rattle.refusing.proofs.Parts.{Count, Whole, inner_at, count_at, parts}
-use Rattle.refusing.specs.contracts.FailNthAllocator.deallocate as f
-use Rattle.refusing.specs.contracts.FailNthAllocator.deallocate.Key as key
-use Rattle.refusing.proofs.FailNthAllocator.deallocate.Statement.{statement}
-use Rattle.refusing.proofs.FailNthAllocator.deallocate.Code as code
+use Rattle.testing.proofs.Parts.{Count, Whole, inner_at, count_at, parts}
+use Rattle.testing.specs.contracts.FailNthAllocator.deallocate as f
+use Rattle.testing.specs.contracts.FailNthAllocator.deallocate.Key as key
+use Rattle.testing.proofs.FailNthAllocator.deallocate.Statement.{statement}
+use Rattle.testing.proofs.FailNthAllocator.deallocate.Code as code
 
 module _ (Z : Al) where
   abbrev args : Args

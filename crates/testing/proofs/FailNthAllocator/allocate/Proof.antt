@@ -37,14 +37,14 @@ use denote.Triple.Walked.{Stays, stay_dropped, walk_of, ends_at, walked, Goes-dr
 use Rattle.std.proofs.alloc.Calls.{Al, seen, token, Answer, answer_val, Answer-typed, Answer-Ok, Answer-err, takes_key, Takes, at_takes, Answered, Takes-goes, Takes-gives, answers}
 use Rattle.std.proofs.VecSteps.Shapes.{after}
 use Rattle.std.specs.Allocator.{block_if_ok}
-use Rattle.refusing.proofs.Parts.{Count, Whole, inner_at, count_at, parts}
-use Rattle.refusing.proofs.Counts.{Counts, at_count, counts, counted}
-use Rattle.refusing.proofs.refuses.Symbol as refuses
-use Rattle.refusing.proofs.refuses.Met as refuses_met
-use Rattle.refusing.specs.contracts.FailNthAllocator.allocate as f
-use Rattle.refusing.specs.contracts.FailNthAllocator.allocate.Key as key
-use Rattle.refusing.proofs.FailNthAllocator.allocate.Statement.{statement}
-use Rattle.refusing.proofs.FailNthAllocator.allocate.Code as code
+use Rattle.testing.proofs.Parts.{Count, Whole, inner_at, count_at, parts}
+use Rattle.testing.proofs.Counts.{Counts, at_count, counts, counted}
+use Rattle.testing.proofs.refuses.Symbol as refuses
+use Rattle.testing.proofs.refuses.Met as refuses_met
+use Rattle.testing.specs.contracts.FailNthAllocator.allocate as f
+use Rattle.testing.specs.contracts.FailNthAllocator.allocate.Key as key
+use Rattle.testing.proofs.FailNthAllocator.allocate.Statement.{statement}
+use Rattle.testing.proofs.FailNthAllocator.allocate.Code as code
 
 module _ (Z : Al) where
   abbrev args : Args
@@ -137,7 +137,7 @@ allocate_spec 𝓤 𝓛 𝓜 𝓡 wired Y L g d d' met _ =
     let c = f.clauses Y g d d' 𝓛 𝓜.mem 𝓡.returns in
     let number = Goes-dropped 𝓛 2 (plain (λ _. usize)) yes (λ κs x w. refl) in
     let asks = met.allocate d' in
-    let tells = cited 𝓤 𝓛.H _ 𝓜 𝓡 𝓡.env refuses.name (𝓡.env refuses.name) refl (refuses_met.met 𝓤 𝓛 𝓜 𝓡 (code.calls-refusing::refuses 𝓡.env wired)) in
+    let tells = cited 𝓤 𝓛.H _ 𝓜 𝓡 𝓡.env refuses.name (𝓡.env refuses.name) refl (refuses_met.met 𝓤 𝓛 𝓜 𝓡 (code.calls-testing::refuses 𝓡.env wired)) in
     entered 𝓤 𝓛.H (triple_of 𝓛 (f.signature Y) (f.spec Y g d d' 𝓛 𝓜.mem 𝓡.returns)) 𝓣.C 𝓣.Λ (key.name (args Z)) (here Z) (code.unfolded 𝓤 𝓛.H 𝓜 𝓡 wired (Y, tt) d d')
     (walk_Meets 𝓛 (ended Z) (stayed Z) (Goes-dropped 𝓛 2 (self Z) yes (λ κs x w. refl), (number, (number, tt))) c run (WpFn-mono 𝓤 𝓛.H 𝓛.laws 𝓣 (here Z))
     (walked 𝓛 (ended Z) (stayed Z) c run (λ κs. (shr_vals, (uint_vals w64, (uint_vals w64, tt)))) (λ κs. ((λ r vs s. s.0), (uint_Tells w64, (uint_Tells w64, tt))))

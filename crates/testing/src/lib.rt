@@ -3,7 +3,7 @@
 
 ghost use Rattle.std.specs.Prelude.{◌≡◌, ◌+◌, ◌↔◌, ◌⊎◌, IsTrue, MatchOption};
 ghost use Rattle.std.specs.declared.option.Option.TheVariants.{None, Some};
-ghost use Rattle.refusing.specs.Passed.{inner_of};
+ghost use Rattle.testing.specs.Passed.{inner_of};
 
 use std::alloc::{AllocError, Allocator};
 use std::cell::Cell;
@@ -59,7 +59,7 @@ fn refuses(left: &Cell<Option<u64>>) -> bool {
 }
 
 unsafe impl<B: Allocator> Allocator for FailNth<B> {
-    ghost use Rattle.refusing.specs.Passed.{inner_of};
+    ghost use Rattle.testing.specs.Passed.{inner_of};
 
     ghost dealloc_token = { λ heap. B.dealloc_token (inner_of heap) };
 

@@ -14,14 +14,14 @@ use denote.RattleType.{RattleType}
 use Rattle.std.proofs.alloc.Calls.{Al, α, seen}
 use Rattle.std.specs.contracts.cell.Cell as cell
 use Rattle.std.specs.contracts.option.Option as option
-use Rattle.refusing.specs.contracts.FailNth as refusing
+use Rattle.testing.specs.contracts.FailNth as testing
 
 abbrev pub Count : RattleType
 Count = cell.the_row (option.the_row u64)
 
 module _ (Z : Al) where
   abbrev pub Whole : RattleType
-  Whole = refusing.the_row (param 0 Z.row)
+  Whole = testing.the_row (param 0 Z.row)
 
   abbrev pub inner_at : ℕ × ℕ → ℕ × ℕ
   inner_at p = (p.0, p.1 + up (align (α Z)) 0)
