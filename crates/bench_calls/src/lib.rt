@@ -9,7 +9,7 @@ ghost use Rattle.ascii.specs.Trim.{Trims};
 
 use ascii::{AsciiChar, AsciiStr, AsciiString, bytes};
 use ascii_run::{AsciiBuf, Input, SmallAsciiString};
-use ascii_uses::line_reader::LineReader;
+use cookbook::line_reader::LineReader;
 use std::alloc::{AllocError, Global};
 
 /// Whether all bytes are ASCII.

@@ -1,7 +1,7 @@
 //! Header lines of messages.
 
 use super::{ascii, same};
-use ascii_uses::headers::{
+use cookbook::headers::{
     Header, HeaderBlockError, HeaderError, find_header, read_header, read_headers,
 };
 

@@ -2,7 +2,7 @@
 
 use super::{ascii, same};
 use ascii::{AsciiChar, AsciiString};
-use ascii_uses::hosts::{HostName, HostNameError, host_order, same_host};
+use cookbook::hosts::{HostName, HostNameError, host_order, same_host};
 use std::cmp::Ordering;
 
 /// A label of 62 characters.

@@ -1,7 +1,7 @@
 use super::{ascii, same};
 use ascii::classes::Digit;
-use ascii_uses::cuts::first_outside;
-use ascii_uses::identifiers::identifier_end;
+use cookbook::cuts::first_outside;
+use cookbook::identifiers::identifier_end;
 
 #[test]
 fn ends_of_identifiers(rt: HostRuntime) {

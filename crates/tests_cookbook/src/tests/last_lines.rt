@@ -1,7 +1,7 @@
 //! The last lines of texts with each ending.
 
 use super::{ascii, same};
-use ascii_uses::last_lines::{is_open, last_body_end, last_lines, without_last_lines};
+use cookbook::last_lines::{is_open, last_body_end, last_lines, without_last_lines};
 
 /// A text, a number of lines, its last lines, and what stands before them.
 static ROWS: [(&str, usize, &str, &str); 12] = [

@@ -1,7 +1,7 @@
 //! What screens of some widths show of texts.
 
 use super::{ascii, same};
-use ascii_uses::screen::wrap_for_screen;
+use cookbook::screen::wrap_for_screen;
 
 /// A text, a width, what goes out, and the column behind it.
 static ROWS: [(&str, usize, &str, usize); 13] = [

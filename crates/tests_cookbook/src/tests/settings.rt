@@ -2,8 +2,8 @@
 
 use super::{ascii, same};
 use ascii::AsciiChar;
-use ascii_uses::cuts::{rsplit_once, split_once};
-use ascii_uses::settings::{Setting, SettingError, read_setting};
+use cookbook::cuts::{rsplit_once, split_once};
+use cookbook::settings::{Setting, SettingError, read_setting};
 
 /// Lines with a setting, its key and its value.
 static GOOD: [(&str, &str, &str); 7] = [

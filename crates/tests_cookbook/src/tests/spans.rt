@@ -3,15 +3,13 @@
 use super::{ascii, shows};
 use ascii::AsciiChar;
 use ascii::iter::End;
-use ascii_uses::iterators::{
-    line_count, line_lengths_by_for, piece_lengths_by_map, pieces_reversed,
-};
-use ascii_uses::prefixes::{first_bodies, first_line_spans, first_piece_spans, first_pieces};
-use ascii_uses::remainders::{
+use cookbook::iterators::{line_count, line_lengths_by_for, piece_lengths_by_map, pieces_reversed};
+use cookbook::prefixes::{first_bodies, first_line_spans, first_piece_spans, first_pieces};
+use cookbook::remainders::{
     after_two_separators, count_after_first, count_and_lines, count_before_last, lengths_left,
     resume_line_spans, resume_lines, resume_split, resume_split_spans, take_line_span,
 };
-use ascii_uses::spans::{
+use cookbook::spans::{
     line_span_count, line_spans_reversed, line_starts, line_starts_by_for, piece_span_count,
     piece_spans_reversed, piece_starts, piece_starts_by_for,
 };

@@ -2,7 +2,7 @@
 
 use super::{ascii, same};
 use ascii::AsciiStr;
-use ascii_uses::table::{RowError, read_row};
+use cookbook::table::{RowError, read_row};
 
 /// Rows that are refused, and why.
 static BAD: [(&str, RowError); 9] = [

@@ -1,7 +1,7 @@
 //! The caller that turns a string into a JSON value and back.
 
 use super::{ascii, shows};
-use ascii_uses::values::through_json;
+use cookbook::values::through_json;
 
 #[test]
 fn a_string_comes_back(rt: HostRuntime) {

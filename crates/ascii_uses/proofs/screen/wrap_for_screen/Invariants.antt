@@ -1,7 +1,0 @@
-use Rattle.ascii.specs.View.{text_of}
-use Rattle.ascii_uses.proofs.ScreenLemmas.{IsOnTheWay}
-use Rattle.ascii_uses.proofs.screen.wrap_for_screen.Given as goal
-
--- what went out and what is to come
-abbrev pub invariant-loop-ch : goal.invariant-loop-ch
-invariant-loop-ch l = IsOnTheWay l.fn.width (text_of l.fn.view) l.text.text l.column l.ch-iterator

@@ -1,0 +1,35 @@
+-- What a run of a line reader yields.
+use Rattle.std.specs.Prelude.{◌≡◌, ℕ, List, [], ◌++◌, map, None, Some}
+use Rattle.std.specs.declared.option.Option.{Option}
+use Rattle.ascii.specs.Lines.{Line}
+use Rattle.ascii.specs.Spans.{LineSpansOf, WithStart}
+use Rattle.cookbook.specs.declared.line_reader.LineError.{LineError}
+use Rattle.cookbook.specs.declared.line_reader.owned_lines.OwnedLine.{OwnedLine}
+use Rattle.cookbook.specs.declared.line_reader.owned_lines.CollectedLines.{CollectedLines}
+use Rattle.cookbook.specs.declared.line_reader.Stage.TheVariants.{Refused}
+use Rattle.cookbook.specs.LineReader.{YieldsLines, IsDone, ReaderState, IsLineError}
+
+-- a `OwnedLine` as a line with its start
+abbrev pub owned_line_in : OwnedLine → WithStart Line
+owned_line_in line =
+    record { start = line.start; item = record { body = line.text.text; ending = line.ending } }
+
+-- the lines of a `CollectedLines`, with their starts
+abbrev pub collected_lines_in : CollectedLines → List (WithStart Line)
+collected_lines_in kept = map owned_line_in kept.lines.items
+
+-- from the state `old` to the state `new` the reader yielded `lines`. With no error, that was all.
+-- With a error, it then stopped at that error
+abbrev pub YieldsUntil
+    : ReaderState → List (WithStart Line) → Option LineError → ReaderState → Type 0
+YieldsUntil old lines None new = YieldsLines old lines new × IsDone new
+YieldsUntil old lines (Some error) new = (new.stage ≡ Refused error)
+    × ((before : ReaderState) × YieldsLines old lines before
+    × IsLineError before.start before.size before.held before.rest new.rest error)
+
+-- if it is known which bytes the source of a reader in the state `old` has yet to give, `lines` are
+-- the first lines of these and of the bytes held, and with no error they are all of their lines
+abbrev pub AreFirstLines : ReaderState → List (WithStart Line) → Option LineError → Type 0
+AreFirstLines old lines error = (told : List ℕ) → old.rest ≡ Some told
+    → (others : List (WithStart Line)) × LineSpansOf old.start (old.held ++ told) (lines ++ others)
+    × (error ≡ None → others ≡ [])

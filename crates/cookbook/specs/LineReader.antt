@@ -1,0 +1,203 @@
+-- What a line reader reads and yields, and the errors it returns.
+use Rattle.std.specs.Prelude.{◌≡◌, ◌≢◌, ◌⊎◌, ℕ, ◌+◌, ◌-◌, ◌^◌, ◌<◌, ◌≤◌, Bool, true, false, List}
+use Rattle.std.specs.Prelude.{[], ◌∷◌, ◌++◌, ⊤, if◌then◌else◌, nat_lt, length, min, take, Ok, Err}
+use Rattle.std.specs.Prelude.{None, Some}
+use Rattle.std.specs.Io.KnownBytes.{Consumes, IsAtEnd}
+use Rattle.std.specs.List.{All}
+use Rattle.std.specs.Str.{IsAscii}
+use Rattle.std.specs.declared.option.Option.{Option}
+use Rattle.std.specs.declared.result.Result.{Result}
+use Rattle.ascii.specs.declared.iter.spans.Ending.TheVariants.{Absent}
+use Rattle.ascii.specs.Lines.{Line}
+use Rattle.ascii.specs.Spans.{LineSpansOf, WithStart, line_size}
+use Rattle.ascii.specs.View.{text_of}
+use Rattle.ascii_base.specs.Bytes.{FirstOther}
+use Rattle.cookbook.specs.LineBuffer.{WindowState, EndsLine, FreeUpTo}
+use Rattle.cookbook.specs.declared.line_reader.LineError.{LineError}
+use Rattle.cookbook.specs.declared.line_reader.LineError.TheVariants.{NotAscii, TooLong, TooFar}
+use Rattle.cookbook.specs.declared.line_reader.LineError.TheVariants.{Read}
+use Rattle.cookbook.specs.declared.line_reader.LineReader.{LineReader}
+use Rattle.cookbook.specs.declared.line_reader.ReadLine.{ReadLine}
+use Rattle.cookbook.specs.declared.line_reader.Stage.{Stage}
+use Rattle.cookbook.specs.declared.line_reader.Stage.TheVariants.{Open, Ended, Refused}
+
+-- the state of a reader: the size of its buffer; the position in the input at which the next line
+-- starts; the bytes that it has read and not yet yielded; the bytes that its source has yet to
+-- give, if it is known which; how many calls of the source have failed; whether the reader goes on
+pub record ReaderState : Type 0 where
+  pub size : ℕ
+  pub start : ℕ
+  pub held : List ℕ
+  pub rest : Option (List ℕ)
+  pub failures : ℕ
+  pub stage : Stage
+
+-- the state of a reader whose source has yet to give the bytes `rest source`, and has failed
+-- `failures source` times
+abbrev pub state_of_reader
+    : {S Z : Type 0} → (S → Option (List ℕ)) → (S → ℕ) → LineReader S Z → ReaderState
+state_of_reader rest failures reader = record {
+  size = reader.buffer.size;
+  start = reader.start;
+  held = reader.buffer.held;
+  rest = rest reader.source;
+  failures = failures reader.source;
+  stage = reader.stage;
+}
+
+-- the source of a reader
+abbrev pub source_of : {S Z : Type 0} → LineReader S Z → S
+source_of reader = reader.source
+
+-- the reader has returned neither `None` nor an error
+abbrev pub IsOpen : {S Z : Type 0} → LineReader S Z → Type 0
+IsOpen reader = reader.stage ≡ Open
+
+-- the state of a new reader with a buffer of `size` bytes: it has read nothing
+abbrev pub IsFresh : ℕ → ReaderState → Type 0
+IsFresh size reading =
+    (reading.size ≡ size) × (reading.start ≡ 0) × (reading.held ≡ []) × (reading.stage ≡ Open)
+
+-- a `ReadLine` as a line with its start
+abbrev pub read_line_in : ReadLine → WithStart Line
+read_line_in line =
+    record { start = line.start; item = record { body = text_of line.text; ending = line.ending } }
+
+-- `text` is the bytes `held`, and after them those that the source gave, which had yet to give
+-- `rest` before and `left` after
+abbrev pub IsHeldThenRead : List ℕ → Option (List ℕ) → Option (List ℕ) → List ℕ → Type 0
+IsHeldThenRead held rest left text =
+    (read : List ℕ) × Consumes rest left read × (text ≡ held ++ read)
+
+-- the reader has ended: it holds no bytes, and its source is at its end
+pub record IsDone (reading : ReaderState) : Type 0 where
+  pub ended : reading.stage ≡ Ended
+  pub none : reading.held ≡ []
+  pub left : IsAtEnd reading.rest
+
+-- from the state `old` to the state `new` the reader yielded `lines`: they are the lines of the
+-- bytes before those that it now holds. Either it is open and every line has an ending, or it has
+-- ended
+pub record YieldsLines (old : ReaderState) (lines : List (WithStart Line)) (new : ReaderState)
+    : Type 0 where
+  pub handed : List ℕ
+  pub text : IsHeldThenRead old.held old.rest new.rest (handed ++ new.held)
+  pub exact : LineSpansOf old.start handed lines
+  pub start : new.start ≡ old.start + length handed
+  pub whole :
+      ((new.stage ≡ Open) × All (λ span. span.item.ending ≢ Absent) lines) ⊎ IsDone new
+  pub size : new.size ≡ old.size
+
+-- why the first line of `text`, which is at the position `start` of the input, is not yielded
+-- through a buffer of `size` bytes. `NotAscii`: a byte of the line, among its first `size` bytes,
+-- is the first of `text` that is not less than 128; the error holds its position. `TooLong`: the
+-- line has more bytes than the buffer, of which the first `size` are ASCII; the error holds its
+-- position. `TooFar`: the line has a byte at the position 2 ^ 64 - 1 or after it. `Read` says
+-- nothing of `text`
+abbrev pub RejectsLine : ℕ → ℕ → List ℕ → LineError → Type 0
+RejectsLine start size text (NotAscii place) = (i : ℕ) × (place ≡ start + i) × (i < size)
+    × FirstOther text 0 (length text) i × FreeUpTo text i
+RejectsLine start size text (TooLong place) =
+    (place ≡ start) × (size < length text) × IsAscii (take size text) × FreeUpTo text size
+RejectsLine start size text TooFar =
+    (n : ℕ) × (n ≤ length text) × FreeUpTo text (n - 1) × (2 ^ 64 - 1 < start + n)
+RejectsLine start size text Read = ⊤
+
+-- why a reader stops that held the bytes `held`. `Read` says nothing of the bytes that the source
+-- gave. For another error, `RejectsLine` is true of these and of the bytes held
+abbrev pub IsLineError
+    : ℕ → ℕ → List ℕ → Option (List ℕ) → Option (List ℕ) → LineError → Type 0
+IsLineError start size held rest left Read = ⊤
+IsLineError start size held rest left error =
+    (text : List ℕ) × IsHeldThenRead held rest left text × RejectsLine start size text error
+
+-- the failures of the source after a call that returns this, of `n` before: one more if the call
+-- returns `Read`, unless `n` is 2 ^ 64 - 1
+abbrev pub failures_after : {T : Type 0} → ℕ → Result T LineError → ℕ
+failures_after n (Err Read) = min (n + 1) (2 ^ 64 - 1)
+failures_after n other = n
+
+-- what an open reader returns. `Some`: the next line, which fits in the buffer. `None`: there are
+-- no more lines, and the reader has ended. `Err`: the reader has stopped, and why
+abbrev pub YieldsNext
+    : ReaderState → Result (Option ReadLine) LineError → ReaderState → Type 0
+YieldsNext old (Ok (Some line)) new =
+    YieldsLines old (read_line_in line ∷ []) new × (line_size (read_line_in line).item ≤ old.size)
+YieldsNext old (Ok None) new = YieldsLines old [] new × IsDone new
+YieldsNext old (Err error) new = (new.stage ≡ Refused error)
+    × IsLineError old.start old.size old.held old.rest new.rest error
+
+module _ {S Z : Type 0} (rest : S → Option (List ℕ)) (failures : S → ℕ) where
+  -- what a reader at a stage returns. At `Open`, `YieldsNext` says what, and `failures_after` how
+  -- many calls of its source have then failed. At `Ended` it returns `None`, at `Refused` the error
+  -- that it returned before, and then reader and source are unchanged
+  abbrev pub NextFrom
+      : Stage → LineReader S Z → Result (Option ReadLine) LineError → LineReader S Z → Type 0
+  NextFrom Open old result new =
+      YieldsNext (state_of_reader rest failures old) result (state_of_reader rest failures new)
+      × (failures new.source ≡ failures_after (failures old.source) result)
+  NextFrom Ended old result new = (result ≡ Ok None) × (new ≡ old)
+  NextFrom (Refused error) old result new = (result ≡ Err error) × (new ≡ old)
+
+  -- what a reader returns, by its stage
+  abbrev pub Next
+      : LineReader S Z → Result (Option ReadLine) LineError → LineReader S Z → Type 0
+  Next old result new = NextFrom old.stage old result new
+
+-- ---- cited by private functions only
+
+-- `bytes` is not empty, and only its last byte may be LF
+abbrev pub IsOneLine : List ℕ → Type 0
+IsOneLine bytes = (0 < length bytes) × FreeUpTo bytes (length bytes - 1)
+
+-- the error for a byte that is not less than 128, `i` bytes after the position `start`: its
+-- position, or `TooFar` if that does not fit a `u64`
+abbrev pub error_at : ℕ → ℕ → LineError
+error_at start i = if nat_lt (start + i) (2 ^ 64) then NotAscii (start + i) else TooFar
+
+-- what a search for the end of a line finds. `None`: the source is at its end, and the buffer holds
+-- no LF and only ASCII. `Some`: the number of bytes up to the first LF, which are all ASCII
+abbrev pub FindsLineEnd : WindowState → Option (List ℕ) → Option ℕ → Type 0
+FindsLineEnd buffer left None = IsAtEnd left × FreeUpTo buffer.held (length buffer.held)
+    × (buffer.checked ≡ length buffer.held)
+FindsLineEnd buffer left (Some n) = (n ≤ buffer.checked) × EndsLine buffer.held n
+
+-- the bytes taken last are all that was left, without LF, and the source is at its end (`true`); or
+-- they end in their only LF (`false`)
+abbrev pub IsLineTaken : Bool → WindowState → Option (List ℕ) → Type 0
+IsLineTaken true buffer left =
+    (buffer.held ≡ []) × IsAtEnd left × FreeUpTo buffer.given (length buffer.given)
+IsLineTaken false buffer left = EndsLine buffer.given (length buffer.given)
+
+-- the bytes of the line at the position `start` were taken from the buffer. They end at the
+-- position `place`, and `is_last` tells whether the source is at its end
+pub record TakesLine (start : ℕ) (old new : WindowState) (rest left : Option (List ℕ)) (place : ℕ)
+    (is_last : Bool) : Type 0 where
+  pub text : IsHeldThenRead old.held rest left (new.given ++ new.held)
+  pub place_is : place ≡ start + length new.given
+  pub taken : IsLineTaken is_last new left
+
+-- the outcome of taking the bytes of the next line, which are `given`. `true`: they are one line,
+-- and fit in the buffer. `false`: there are no more lines. `Err`: the reader has stopped, and why
+abbrev pub Advances : ReaderState → Result Bool LineError → ReaderState → List ℕ → Type 0
+Advances old (Ok true) new given =
+    IsHeldThenRead old.held old.rest new.rest (given ++ new.held)
+    × (new.start ≡ old.start + length given) × (new.size ≡ old.size)
+    × IsOneLine given × (length given ≤ old.size)
+    × (((new.stage ≡ Open) × EndsLine given (length given)) ⊎ IsDone new)
+Advances old (Ok false) new given = YieldsLines old [] new × IsDone new
+Advances old (Err error) new given = (new.stage ≡ Refused error)
+    × IsLineError old.start old.size old.held old.rest new.rest error
+
+module _ {S Z : Type 0} (rest : S → Option (List ℕ)) (failures : S → ℕ) where
+  -- the outcome of taking the bytes of the next line, at a stage. At `Open`, `Advances` says which.
+  -- At `Ended` there are no more lines, at `Refused` the error is the one before, and then reader
+  -- and source are unchanged
+  abbrev pub AdvancesFrom
+      : Stage → LineReader S Z → Result Bool LineError → LineReader S Z → Type 0
+  AdvancesFrom Open old result new =
+      Advances (state_of_reader rest failures old) result (state_of_reader rest failures new)
+      new.buffer.given
+      × (failures new.source ≡ failures_after (failures old.source) result)
+  AdvancesFrom Ended old result new = (result ≡ Ok false) × (new ≡ old)
+  AdvancesFrom (Refused error) old result new = (result ≡ Err error) × (new ≡ old)

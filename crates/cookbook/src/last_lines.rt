@@ -1,0 +1,64 @@
+//! Giving the last lines of a text, as `tail -n` does, without a walk over those before them.
+
+ghost use Rattle.std.specs.Prelude.{◌≡◌, ◌+◌, ◌++◌, ◌↔◌, IsTrue, List, MatchOption, [], length, ℕ};
+ghost use Rattle.ascii.specs.Lines.{Line, LinesOf};
+ghost use Rattle.ascii.specs.Spans.{WithStart};
+ghost use Rattle.ascii.specs.View.{text_of};
+ghost use Rattle.cookbook.specs.LastLines.{HasLastLine, HasLastLines, HasLinesBefore};
+
+use ascii::AsciiStr;
+use ascii::iter::{Ending, Lines};
+use ascii_base::range::AsciiRange;
+
+/// The end of a view that has its last `n` lines, with their endings: the whole view where it has fewer, and
+/// nothing where `n` is 0. Of `a\nb\r\nc` the last 2 lines are `b\r\nc`.
+pub fn last_lines<'a>(view: AsciiStr<'a>, n: usize) -> AsciiStr<'a>
+    ensures lines { HasLastLines n (text_of view.entry) (text_of result) }
+    ensures suffix { (front : List ℕ) × (front ++ text_of result ≡ text_of view.entry) }
+{
+    let front = without_last_lines(view, n);
+    view.slice(AsciiRange::From(front.len()))
+}
+
+/// The front of a view up to its last `n` lines, as `head -n -N` gives it: nothing where it has no more lines
+/// than that. Of `a\nb\r\nc` without the last 2 lines `a\n` is left.
+pub fn without_last_lines<'a>(view: AsciiStr<'a>, n: usize) -> AsciiStr<'a>
+    ensures lines { HasLinesBefore n (text_of view.entry) (text_of result) }
+    ensures prefix { (others : List ℕ) × (text_of result ++ others ≡ text_of view.entry) }
+{
+    let mut lines = view.lines();
+    for _ in 0..n {
+        if lines.next_back().is_none() {
+            break;
+        }
+    }
+    remaining_text(&lines)
+}
+
+/// Returns the position after the body of the last line, or `None` if the view is empty: 4 for `a\nbc\n`.
+pub fn last_body_end(view: AsciiStr<'_>) -> Option<usize>
+    ensures { MatchOption result (text_of view.entry ≡ []) (λ end. (last : WithStart Line)
+        × HasLastLine (text_of view.entry) last × (end ≡ last.start + length last.item.body)) }
+{
+    let last = view.line_spans().next_back()?;
+    Some(last.start + last.text.len())
+}
+
+/// Returns `true` if the view has a last line without an ending: for `a\nb`, but not for `a\n` or an
+/// empty view.
+pub fn is_open(view: AsciiStr<'_>) -> bool
+    ensures { IsTrue result ↔ ((last : WithStart Line)
+        × HasLastLine (text_of view.entry) last × (last.item.ending ≡ Ending.Absent)) }
+{
+    match view.line_spans().next_back() {
+        Some(last) => last.ending == Ending::Absent,
+        None => false,
+    }
+}
+
+/// The lines that an iterator still owes, as a view: an empty one where it owes none.
+fn remaining_text<'a>(lines: &Lines<'a>) -> AsciiStr<'a>
+    ensures { LinesOf (text_of result) lines.now }
+{
+    lines.remainder().unwrap_or_default()
+}

@@ -1,0 +1,277 @@
+//! A reader of lines over any source, through one buffer of fixed size.
+
+ghost use Rattle.std.specs.Prelude.{◌≡◌, ◌≢◌, ◌⊎◌, ◌<◌, ◌≤◌, ◌∷◌, [], IfErr, IfOk, None, OnOk};
+ghost use Rattle.std.specs.Prelude.{length, ℕ};
+ghost use Rattle.std.specs.Io.KnownBytes.{Consumes, IsAtEnd};
+ghost use Rattle.std.specs.Str.{IsAscii};
+ghost use Rattle.ascii.specs.Spans.{LineSpansOf, line_size};
+ghost use Rattle.cookbook.specs.LineReader.{FindsLineEnd, IsOneLine, IsHeldThenRead, IsLineError};
+ghost use Rattle.cookbook.specs.LineReader.{TakesLine, failures_after, read_line_in, error_at};
+ghost use Rattle.cookbook.specs.LineBuffer.{EndsLine};
+
+use crate::line_reader::line_buffer::LineBuffer;
+use ascii::iter::Ending;
+use ascii::{AsciiStr, bytes};
+use ascii_run::Source;
+use std::alloc::{AllocError, Allocator, Global};
+
+mod line_buffer;
+pub mod owned_lines;
+
+/// Why a reader hands out no line. The lines before were handed out.
+#[derive(Clone, Copy, PartialEq, Eq, Debug)]
+pub enum LineError {
+    /// The byte at this place of the input, from 0, is the first over 127, and it stands among the bytes of
+    /// its line that fit in the buffer.
+    NotAscii(u64),
+    /// The line that starts at this place of the input, from 0, has more bytes, with its ending, than the
+    /// buffer.
+    TooLong(u64),
+    /// The next line ends past the place `u64::MAX`, or its first byte over 127 stands there.
+    TooFar,
+    /// The source failed, or has failed `u64::MAX` times before.
+    Read,
+}
+
+/// A line of an input.
+#[derive(Clone, Copy, PartialEq, Eq, Debug)]
+pub struct ReadLine<'a> {
+    /// The place of its first byte in the input, from 0.
+    pub start: u64,
+    /// The body.
+    pub text: AsciiStr<'a>,
+    /// The ending.
+    pub ending: Ending,
+}
+
+/// Whether a reader goes on.
+#[derive(Clone, Copy)]
+enum Stage {
+    /// It does.
+    Open,
+    /// All was handed out.
+    Ended,
+    /// This was answered, and is from then on.
+    Refused(LineError),
+}
+
+/// A reader of lines. It reads its source into one buffer, and lends each line out of it. Each byte is
+/// checked once and searched once for LF; where the buffer is filled again, the beginning of a line that has
+/// not ended moves to its front, and nothing else is copied.
+#[derive(Drop)]
+pub struct LineReader<S, A: Allocator = Global> {
+    source: S,
+    buffer: LineBuffer<A>,
+    // Where the next line starts.
+    start: u64,
+    stage: Stage,
+}
+
+impl<S: Source, A: Allocator> LineReader<S, A> {
+    ghost use Rattle.std.specs.Borrow.{sem};
+    ghost use Rattle.std.specs.Io.BufRead.{Rests};
+    ghost use Rattle.cookbook.specs.LineReader.{AdvancesFrom, IsFresh, Next, state_of_reader};
+    ghost use Rattle.cookbook.specs.LineReader.{source_of};
+    ghost use Rattle.cookbook.specs.contracts.line_reader.LineReader.{the_row};
+
+    /// A reader over a source, with a buffer of this many bytes; no more memory is taken later. A line is
+    /// refused that is longer, with its ending, so with 0 bytes each line is. Where memory is refused the
+    /// source is let go.
+    pub fn new(alloc: A, source: S, size: usize) -> Result<LineReader<S, A>, AllocError>
+    where
+        S: Drop,
+        ensures fresh { IfOk result (λ reader.
+            IsFresh size (state_of_reader S.rest S.failures reader)) }
+        ensures source { IfOk result (λ reader. source_of reader ≡ source) }
+    {
+        let buffer = LineBuffer::new(alloc, size)?;
+        Ok(LineReader {
+            source,
+            buffer,
+            start: 0,
+            stage: Stage::Open,
+        })
+    }
+
+    /// The source, without the bytes that were read of it.
+    pub fn into_source(self) -> S
+        ensures { result ≡ source_of self }
+    {
+        self.source
+    }
+
+    /// Returns the next line with its start and its ending, or `None` if there are no more lines, or
+    /// an error. A line ends in LF or in CR LF; only the last one of the input may have no ending.
+    /// With its ending it is no longer than the buffer.
+    ///
+    /// `None` is returned when every byte of the input was in a line that was returned, and the source
+    /// is at its end. An error is returned instead of the next line:
+    ///
+    /// - `NotAscii` if that line has a non-ASCII byte among those of its bytes that fit in the buffer.
+    ///   The error has the position of the first one.
+    /// - `TooLong` if that line is longer than the buffer, and those of its bytes that fit are ASCII.
+    ///   The error has the start of the line.
+    /// - `TooFar` if that line has a byte at the position `u64::MAX` or after it.
+    /// - `Read` if a call of the source failed, or `u64::MAX` calls have failed before.
+    ///
+    /// Once a call has returned `None` or an error, every later call returns the same, and leaves the
+    /// reader and its source unchanged. The source's count of failures rises by one when `Read` is
+    /// first returned, unless it is `u64::MAX`; otherwise no call changes it.
+    ///
+    /// The result borrows the reader, also if it is `None` or an error. What the call promises of the
+    /// reader and its source, it promises for when that borrow has ended.
+    ///
+    /// `"ab\r\n\nc"` has `ab` at 0 with CR LF, the empty body at 4 with LF, and `c` at 5 with no ending.
+    pub fn next_line(&mut self) -> Result<Option<ReadLine<'_>>, LineError>
+        ensures* next { sem 𝓛 (Rests (the_row S.row A.row A.Allocator) self.entry
+            (Next S.rest S.failures self.old result)) }
+    {
+        let start = self.start;
+        if self.advance()? {
+            Ok(Some(line_at(start, self.buffer.line_bytes())))
+        } else {
+            Ok(None)
+        }
+    }
+
+    /// Takes the bytes of the next line, and answers whether there is one.
+    fn advance(&mut self) -> Result<bool, LineError>
+        ensures { AdvancesFrom S.rest S.failures self.old.stage self.old result self.new }
+    {
+        match self.stage {
+            Stage::Open => {}
+            Stage::Ended => return Ok(false),
+            Stage::Refused(error) => return Err(error),
+        }
+        match take_line(&mut self.buffer, &mut self.source, self.start) {
+            Ok((end, is_last)) => {
+                if is_last {
+                    self.stage = Stage::Ended;
+                }
+                let is_line = self.start < end;
+                self.start = end;
+                Ok(is_line)
+            }
+            Err(error) => {
+                self.stage = Stage::Refused(error);
+                Err(error)
+            }
+        }
+    }
+}
+
+/// Takes the bytes of the next line, or all where no line is left. Gives the place behind them, and
+/// whether the source has ended.
+fn take_line<S: Source, A: Allocator>(
+    buffer: &mut LineBuffer<A>,
+    source: &mut S,
+    start: u64,
+) -> Result<(u64, bool), LineError>
+    ensures ok { IfOk result (λ taken. TakesLine start buffer.old buffer.new
+        (S.rest source.old) (S.rest source.new) taken.0 taken.1) }
+    ensures err { IfErr result (IsLineError start buffer.old.size buffer.old.held
+        (S.rest source.old) (S.rest source.new)) }
+    ensures count { S.failures source.new ≡ failures_after (S.failures source.old) result }
+    ensures size { buffer.new.size ≡ buffer.old.size }
+    ensures within { OnOk result (length buffer.new.given ≤ buffer.old.size) }
+{
+    let found = seek(buffer, source, start)?;
+    let n = found.unwrap_or(buffer.len());
+    let Some(end) = start.checked_add(n as u64) else {
+        return Err(LineError::TooFar);
+    };
+    buffer.take(n);
+    Ok((end, found.is_none()))
+}
+
+/// Reads until a LF is held. Gives the number of bytes up to it, or `None` where the source has ended.
+fn seek<S: Source, A: Allocator>(
+    buffer: &mut LineBuffer<A>,
+    source: &mut S,
+    start: u64,
+) -> Result<Option<usize>, LineError>
+    ensures text { OnOk result
+        (IsHeldThenRead buffer.old.held (S.rest source.old) (S.rest source.new) buffer.new.held) }
+    ensures found { IfOk result (FindsLineEnd buffer.new (S.rest source.new)) }
+    ensures err { IfErr result (IsLineError start buffer.old.size buffer.old.held
+        (S.rest source.old) (S.rest source.new)) }
+    ensures count { S.failures source.new ≡ failures_after (S.failures source.old) result }
+    ensures size { buffer.new.size ≡ buffer.old.size }
+{
+    'fills: loop {
+        if let Some(n) = buffer.find_line() {
+            return Ok(Some(n));
+        }
+        if let Some(place) = buffer.first_non_ascii() {
+            return Err(other_at(start, place));
+        }
+        if source.failures() == u64::MAX {
+            return Err(LineError::Read);
+        }
+        if buffer.is_full() {
+            return past_full(source, start);
+        }
+        let Ok(n) = buffer.refill(source) else {
+            return Err(LineError::Read);
+        };
+        if n == 0 {
+            return Ok(None);
+        }
+    }
+}
+
+/// The refusal of a byte over 127 that stands this far behind the start of a line.
+fn other_at(start: u64, place: usize) -> LineError
+    ensures { result ≡ error_at start place }
+{
+    match start.checked_add(place as u64) {
+        Some(at) => LineError::NotAscii(at),
+        None => LineError::TooFar,
+    }
+}
+
+/// Whether the source has ended, where a line without LF fills the buffer.
+fn past_full<S: Source>(source: &mut S, start: u64) -> Result<Option<usize>, LineError>
+    requires { S.failures source.old < u64.MAX }
+    ensures ok { IfOk result (λ found. (found ≡ None) × IsAtEnd (S.rest source.new)
+        × Consumes (S.rest source.old) (S.rest source.new) []) }
+    ensures err { IfErr result (λ error. (error ≡ LineError.Read)
+        ⊎ ((error ≡ LineError.TooLong start)
+        × ((byte : ℕ) × Consumes (S.rest source.old) (S.rest source.new) (byte ∷ [])))) }
+    ensures count { S.failures source.new ≡ failures_after (S.failures source.old) result }
+{
+    let mut next = [0];
+    match source.read(&mut next) {
+        Ok(0) => Ok(None),
+        Ok(_) => Err(LineError::TooLong(start)),
+        Err(_) => Err(LineError::Read),
+    }
+}
+
+/// The line of bytes of which the last alone may be LF.
+#[inline]
+fn line_at(start: u64, line: &[u8]) -> ReadLine<'_>
+    requires ascii { IsAscii line.now }
+    requires one { IsOneLine line.now }
+    ensures line { LineSpansOf start line.now (read_line_in result ∷ []) }
+    ensures size { line_size (read_line_in result).item ≡ length line.now }
+    ensures ended { EndsLine line.now (length line.now) → result.ending ≢ Ending.Absent }
+{
+    match line {
+        [body @ .., b'\r', b'\n'] => ReadLine {
+            start,
+            text: bytes::as_ascii_str_unchecked(body),
+            ending: Ending::CrLf,
+        },
+        [body @ .., b'\n'] => ReadLine {
+            start,
+            text: bytes::as_ascii_str_unchecked(body),
+            ending: Ending::Lf,
+        },
+        _ => ReadLine {
+            start,
+            text: bytes::as_ascii_str_unchecked(line),
+            ending: Ending::Absent,
+        },
+    }
+}

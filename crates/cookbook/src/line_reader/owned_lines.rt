@@ -1,0 +1,73 @@
+//! The lines of a source as texts of their own.
+
+ghost use Rattle.std.specs.Prelude.{◌≡◌, IfOk};
+ghost use Rattle.cookbook.specs.CollectedLines.{AreFirstLines, YieldsUntil, owned_line_in};
+ghost use Rattle.cookbook.specs.CollectedLines.{collected_lines_in};
+ghost use Rattle.cookbook.specs.LineReader.{IsOpen, read_line_in, state_of_reader};
+
+use crate::line_reader::{LineError, LineReader, ReadLine};
+use ascii::AsciiString;
+use ascii::iter::Ending;
+use ascii_run::Source;
+use std::alloc::{AllocError, Allocator, Global};
+
+/// A line as a text of its own.
+#[derive(Drop)]
+pub struct OwnedLine {
+    /// The place of its first byte in the input, from 0.
+    pub start: u64,
+    /// The body.
+    pub text: AsciiString,
+    /// The ending.
+    pub ending: Ending,
+}
+
+/// The lines that a reader handed out, in order, and why it stopped before the end of the input, if it
+/// did.
+#[derive(Drop)]
+pub struct CollectedLines {
+    /// The lines.
+    pub lines: Vec<OwnedLine>,
+    /// The refusal behind them.
+    pub error: Option<LineError>,
+}
+
+/// All lines that an open reader has left, up to the end of the input or to a refusal. Of all bytes that
+/// its source tells they are the first lines, and where there is no refusal they are all of them.
+///
+/// Of `"ab\n\xff"` these are `ab` at 0 with LF, and then `NotAscii(3)`.
+pub fn collect_lines<S: Source, A: Allocator>(
+    alloc: Global,
+    reader: &mut LineReader<S, A>,
+) -> Result<CollectedLines, AllocError>
+    requires { IsOpen reader.old }
+    ensures runs { IfOk result (λ kept. YieldsUntil (state_of_reader S.rest S.failures reader.old)
+        (collected_lines_in kept) kept.error (state_of_reader S.rest S.failures reader.new)) }
+    ensures first { IfOk result (λ kept. AreFirstLines
+        (state_of_reader S.rest S.failures reader.old) (collected_lines_in kept) kept.error) }
+{
+    let mut lines = Vec::new(alloc);
+    'lines: loop {
+        match reader.next_line() {
+            Ok(Some(line)) => lines.push(owned_line(alloc, line)?)?,
+            Ok(None) => return Ok(CollectedLines { lines, error: None }),
+            Err(error) => {
+                return Ok(CollectedLines {
+                    lines,
+                    error: Some(error),
+                });
+            }
+        }
+    }
+}
+
+/// A copy of a line.
+fn owned_line(alloc: Global, line: ReadLine<'_>) -> Result<OwnedLine, AllocError>
+    ensures { IfOk result (λ kept. owned_line_in kept ≡ read_line_in line.entry) }
+{
+    Ok(OwnedLine {
+        start: line.start,
+        text: line.text.to_ascii_string(alloc)?,
+        ending: line.ending,
+    })
+}
