@@ -8,8 +8,8 @@ ghost use Rattle.ascii_base.specs.Case.{lower_image, upper_image};
 ghost use Rattle.ascii.specs.Trim.{Trims};
 
 use ascii::{AsciiChar, AsciiStr, AsciiString, bytes};
+use ascii_lines::LineReader;
 use ascii_run::{AsciiBuf, Input, SmallAsciiString};
-use cookbook::line_reader::LineReader;
 use std::alloc::{AllocError, Global};
 
 /// Whether all bytes are ASCII.

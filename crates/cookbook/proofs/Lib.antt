@@ -1,9 +1,7 @@
 pub mod HostLemmas
 pub mod LastLinesLemmas
-pub mod LineReaderLemmas
 pub mod ListLemmas
 pub mod Relent
 pub mod ScreenLemmas
 pub mod SettingLemmas
 pub mod TakenLemmas
-pub mod LineBufferLemmas

@@ -3,10 +3,7 @@ pub mod Cuts
 pub mod Headers
 pub mod Hosts
 pub mod Identifiers
-pub mod CollectedLines
 pub mod LastLines
-pub mod LineReader
 pub mod Rows
 pub mod Screen
 pub mod Settings
-pub mod LineBuffer

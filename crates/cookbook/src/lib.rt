@@ -1,4 +1,4 @@
-//! What users write over the library, proved from its public contracts: readers of a protocol by lines, of headers,
+//! What users write over the library, proved from its public contracts: readers of headers,
 //! hosts, settings and tables; the last lines of a text, and what a screen shows of it; loops and adapters over
 //! characters, pieces and lines; edits of a part of a source, and texts as JSON values.
 #![tactic(auto)]
@@ -11,7 +11,6 @@ pub mod identifiers;
 pub mod in_place;
 pub mod iterators;
 pub mod last_lines;
-pub mod line_reader;
 pub mod prefixes;
 pub mod remainders;
 pub mod screen;

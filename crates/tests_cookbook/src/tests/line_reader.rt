@@ -2,9 +2,8 @@
 
 use super::same;
 use ascii::iter::Ending;
+use ascii_lines::{CollectedLines, LineError, LineReader, OwnedLine, collect_lines};
 use ascii_run::Input;
-use cookbook::line_reader::owned_lines::{CollectedLines, OwnedLine, collect_lines};
-use cookbook::line_reader::{LineError, LineReader};
 use std::alloc::{AllocError, Global};
 use std::io::{self, ErrorKind};
 use std::process::Abort;

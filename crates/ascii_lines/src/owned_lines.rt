@@ -1,9 +1,9 @@
 //! The lines of a source as texts of their own.
 
 ghost use Rattle.std.specs.Prelude.{◌≡◌, IfOk};
-ghost use Rattle.cookbook.specs.CollectedLines.{AreFirstLines, YieldsUntil, owned_line_in};
-ghost use Rattle.cookbook.specs.CollectedLines.{collected_lines_in};
-ghost use Rattle.cookbook.specs.LineReader.{IsOpen, read_line_in, state_of_reader};
+ghost use Rattle.ascii_lines.specs.CollectedLines.{AreFirstLines, YieldsUntil, owned_line_in};
+ghost use Rattle.ascii_lines.specs.CollectedLines.{collected_lines_in};
+ghost use Rattle.ascii_lines.specs.LineReader.{IsOpen, read_line_in, state_of_reader};
 
 use crate::line_reader::{LineError, LineReader, ReadLine};
 use ascii::AsciiString;

@@ -1,6 +1,6 @@
 use Rattle.std.proofs.Common.{◌≡◌, ◌-◌, length}
-use Rattle.cookbook.specs.LineReader.{IsHeldThenRead}
-use Rattle.cookbook.proofs.line_reader.seek.Given as goal
+use Rattle.ascii_lines.specs.LineReader.{IsHeldThenRead}
+use Rattle.ascii_lines.proofs.line_reader.seek.Given as goal
 
 -- the bytes that are held are those that were, and behind them what the source gave; no read has
 -- failed

@@ -3,11 +3,11 @@ use Rattle.std.specs.Prelude.{◌≡◌, ℕ, List, [], ◌++◌, map, None, Som
 use Rattle.std.specs.declared.option.Option.{Option}
 use Rattle.ascii.specs.Lines.{Line}
 use Rattle.ascii.specs.Spans.{LineSpansOf, WithStart}
-use Rattle.cookbook.specs.declared.line_reader.LineError.{LineError}
-use Rattle.cookbook.specs.declared.line_reader.owned_lines.OwnedLine.{OwnedLine}
-use Rattle.cookbook.specs.declared.line_reader.owned_lines.CollectedLines.{CollectedLines}
-use Rattle.cookbook.specs.declared.line_reader.Stage.TheVariants.{Refused}
-use Rattle.cookbook.specs.LineReader.{YieldsLines, IsDone, ReaderState, IsLineError}
+use Rattle.ascii_lines.specs.declared.line_reader.LineError.{LineError}
+use Rattle.ascii_lines.specs.declared.owned_lines.OwnedLine.{OwnedLine}
+use Rattle.ascii_lines.specs.declared.owned_lines.CollectedLines.{CollectedLines}
+use Rattle.ascii_lines.specs.declared.line_reader.Stage.TheVariants.{Refused}
+use Rattle.ascii_lines.specs.LineReader.{YieldsLines, IsDone, ReaderState, IsLineError}
 
 -- a `OwnedLine` as a line with its start
 abbrev pub owned_line_in : OwnedLine → WithStart Line

@@ -11,7 +11,7 @@ use Rattle.std.proofs.lemmas.Slice.{between_is}
 use Rattle.ascii_base.specs.Bytes.{FirstOther}
 use Rattle.ascii.proofs.ListLemmas.{length-slice_range, slice_range-at}
 use Rattle.memchr.specs.Find.{IsFirstByte, is_byte}
-use Rattle.cookbook.specs.LineBuffer.{EndsLine, FreeUpTo, IsLaidOut}
+use Rattle.ascii_lines.specs.LineBuffer.{EndsLine, FreeUpTo, IsLaidOut}
 
 -- a byte of a part, by its place in the whole
 at_place : (bytes : List ℕ) (s e k : ℕ) → s ≤ k → k < e

@@ -1,7 +1,7 @@
 use Rattle.std.proofs.Common.{◌≡◌, ◌-◌, ◌^◌, map, vec_len}
-use Rattle.cookbook.specs.CollectedLines.{owned_line_in}
-use Rattle.cookbook.specs.LineReader.{YieldsLines, state_of_reader}
-use Rattle.cookbook.proofs.line_reader.owned_lines.collect_lines.Given as goal
+use Rattle.ascii_lines.specs.CollectedLines.{owned_line_in}
+use Rattle.ascii_lines.specs.LineReader.{YieldsLines, state_of_reader}
+use Rattle.ascii_lines.proofs.owned_lines.collect_lines.Given as goal
 
 -- the lines so far were handed out, the reader goes on where it was, and no read has failed
 abbrev pub invariant-lines : goal.invariant-lines

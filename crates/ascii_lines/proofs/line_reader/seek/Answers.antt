@@ -1,7 +1,7 @@
 use Rattle.std.proofs.Common.{◌≡◌, length, ap, sym, subst, ◌∙◌}
-use Rattle.cookbook.specs.LineBuffer.{WindowState, FreeUpTo}
-use Rattle.cookbook.proofs.LineReaderLemmas.{full}
-use Rattle.cookbook.proofs.line_reader.seek.Goals as goal
+use Rattle.ascii_lines.specs.LineBuffer.{WindowState, FreeUpTo}
+use Rattle.ascii_lines.proofs.LineReaderLemmas.{full}
+use Rattle.ascii_lines.proofs.line_reader.seek.Goals as goal
 
 pub returns-then-is_full-clause-err : goal.returns-then-is_full-clause-err
 returns-then-is_full-clause-err g c =

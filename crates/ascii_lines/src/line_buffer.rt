@@ -6,7 +6,7 @@ ghost use Rattle.std.specs.Io.KnownBytes.{Consumes, IsAtEnd};
 ghost use Rattle.std.specs.Str.{IsAscii};
 ghost use Rattle.ascii_base.specs.Bytes.{FirstOther};
 ghost use Rattle.ascii_run.specs.Devices.{CountsFault};
-ghost use Rattle.cookbook.specs.LineBuffer.{EndsLine, FreeUpTo};
+ghost use Rattle.ascii_lines.specs.LineBuffer.{EndsLine, FreeUpTo};
 
 use ascii_base::kernels::first_other;
 use ascii_run::{DeviceFault, Source};
@@ -32,7 +32,7 @@ pub(crate) struct LineBuffer<A: Allocator> {
 
 impl<A: Allocator> Model for LineBuffer<A> {
     ghost use Rattle.std.specs.Prelude.{◌-◌, slice_range, vec_len};
-    ghost use Rattle.cookbook.specs.LineBuffer.{WindowState, IsLaidOut};
+    ghost use Rattle.ascii_lines.specs.LineBuffer.{WindowState, IsLaidOut};
 
     ghost Value = { WindowState };
 

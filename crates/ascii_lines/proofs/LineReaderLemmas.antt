@@ -16,14 +16,14 @@ use Rattle.ascii.specs.Found.{line_spans}
 use Rattle.ascii.specs.Lines.{Line, LinesOf, MayFollow, line_text}
 use Rattle.ascii.specs.Spans.{LineSpansOf, WithStart, items_of, line_size, with_starts}
 use Rattle.ascii.proofs.SpansLemmas.{line_spans_found}
-use Rattle.cookbook.specs.declared.line_reader.LineError.{LineError}
-use Rattle.cookbook.specs.declared.line_reader.LineError.TheVariants.{TooLong, Read}
-use Rattle.cookbook.specs.declared.line_reader.LineReader.{LineReader}
-use Rattle.cookbook.specs.declared.line_reader.ReadLine.{ReadLine}
-use Rattle.cookbook.specs.declared.line_reader.Stage.TheVariants.{Open, Ended}
-use Rattle.cookbook.specs.LineReader.{YieldsLines, IsDone, IsHeldThenRead, Next, NextFrom}
-use Rattle.cookbook.specs.LineReader.{ReaderState, IsLineError, read_line_in, state_of_reader}
-use Rattle.cookbook.specs.LineBuffer.{FreeUpTo}
+use Rattle.ascii_lines.specs.declared.line_reader.LineError.{LineError}
+use Rattle.ascii_lines.specs.declared.line_reader.LineError.TheVariants.{TooLong, Read}
+use Rattle.ascii_lines.specs.declared.line_reader.LineReader.{LineReader}
+use Rattle.ascii_lines.specs.declared.line_reader.ReadLine.{ReadLine}
+use Rattle.ascii_lines.specs.declared.line_reader.Stage.TheVariants.{Open, Ended}
+use Rattle.ascii_lines.specs.LineReader.{YieldsLines, IsDone, IsHeldThenRead, Next, NextFrom}
+use Rattle.ascii_lines.specs.LineReader.{ReaderState, IsLineError, read_line_in, state_of_reader}
+use Rattle.ascii_lines.specs.LineBuffer.{FreeUpTo}
 
 -- a text is read in two parts
 pub IsHeldThenRead-more : (held : List ℕ) (rest mid left : Option (List ℕ)) (text more : List ℕ)

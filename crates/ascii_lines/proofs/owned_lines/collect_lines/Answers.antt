@@ -1,10 +1,10 @@
 use Rattle.std.proofs.Common.{Ok, ◌≡◌, ◌++◌, ◌∷◌, [], map, ap, sym, subst, ◌∙◌}
 use Rattle.std.proofs.lemmas.List.{map-append}
 use Rattle.std.proofs.lemmas.Option.{none-some}
-use Rattle.cookbook.specs.CollectedLines.{owned_line_in}
-use Rattle.cookbook.specs.LineReader.{YieldsLines, state_of_reader}
-use Rattle.cookbook.proofs.LineReaderLemmas.{first_lines, one_more}
-use Rattle.cookbook.proofs.line_reader.owned_lines.collect_lines.Goals as goal
+use Rattle.ascii_lines.specs.CollectedLines.{owned_line_in}
+use Rattle.ascii_lines.specs.LineReader.{YieldsLines, state_of_reader}
+use Rattle.ascii_lines.proofs.LineReaderLemmas.{first_lines, one_more}
+use Rattle.ascii_lines.proofs.owned_lines.collect_lines.Goals as goal
 
 pub lines-preserved : goal.lines-preserved
 lines-preserved g c =

@@ -12,14 +12,14 @@ use Rattle.ascii.specs.Lines.{Line}
 use Rattle.ascii.specs.Spans.{LineSpansOf, WithStart, line_size}
 use Rattle.ascii.specs.View.{text_of}
 use Rattle.ascii_base.specs.Bytes.{FirstOther}
-use Rattle.cookbook.specs.LineBuffer.{WindowState, EndsLine, FreeUpTo}
-use Rattle.cookbook.specs.declared.line_reader.LineError.{LineError}
-use Rattle.cookbook.specs.declared.line_reader.LineError.TheVariants.{NotAscii, TooLong, TooFar}
-use Rattle.cookbook.specs.declared.line_reader.LineError.TheVariants.{Read}
-use Rattle.cookbook.specs.declared.line_reader.LineReader.{LineReader}
-use Rattle.cookbook.specs.declared.line_reader.ReadLine.{ReadLine}
-use Rattle.cookbook.specs.declared.line_reader.Stage.{Stage}
-use Rattle.cookbook.specs.declared.line_reader.Stage.TheVariants.{Open, Ended, Refused}
+use Rattle.ascii_lines.specs.LineBuffer.{WindowState, EndsLine, FreeUpTo}
+use Rattle.ascii_lines.specs.declared.line_reader.LineError.{LineError}
+use Rattle.ascii_lines.specs.declared.line_reader.LineError.TheVariants.{NotAscii, TooLong, TooFar}
+use Rattle.ascii_lines.specs.declared.line_reader.LineError.TheVariants.{Read}
+use Rattle.ascii_lines.specs.declared.line_reader.LineReader.{LineReader}
+use Rattle.ascii_lines.specs.declared.line_reader.ReadLine.{ReadLine}
+use Rattle.ascii_lines.specs.declared.line_reader.Stage.{Stage}
+use Rattle.ascii_lines.specs.declared.line_reader.Stage.TheVariants.{Open, Ended, Refused}
 
 -- the state of a reader: the size of its buffer; the position in the input at which the next line
 -- starts; the bytes that it has read and not yet yielded; the bytes that its source has yet to

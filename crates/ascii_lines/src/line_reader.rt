@@ -5,18 +5,15 @@ ghost use Rattle.std.specs.Prelude.{length, ℕ};
 ghost use Rattle.std.specs.Io.KnownBytes.{Consumes, IsAtEnd};
 ghost use Rattle.std.specs.Str.{IsAscii};
 ghost use Rattle.ascii.specs.Spans.{LineSpansOf, line_size};
-ghost use Rattle.cookbook.specs.LineReader.{FindsLineEnd, IsOneLine, IsHeldThenRead, IsLineError};
-ghost use Rattle.cookbook.specs.LineReader.{TakesLine, failures_after, read_line_in, error_at};
-ghost use Rattle.cookbook.specs.LineBuffer.{EndsLine};
+ghost use Rattle.ascii_lines.specs.LineReader.{FindsLineEnd, IsOneLine, IsHeldThenRead, IsLineError};
+ghost use Rattle.ascii_lines.specs.LineReader.{TakesLine, failures_after, read_line_in, error_at};
+ghost use Rattle.ascii_lines.specs.LineBuffer.{EndsLine};
 
-use crate::line_reader::line_buffer::LineBuffer;
+use crate::line_buffer::LineBuffer;
 use ascii::iter::Ending;
 use ascii::{AsciiStr, bytes};
 use ascii_run::Source;
 use std::alloc::{AllocError, Allocator, Global};
-
-mod line_buffer;
-pub mod owned_lines;
 
 /// Why a reader hands out no line. The lines before were handed out.
 #[derive(Clone, Copy, PartialEq, Eq, Debug)]
@@ -70,9 +67,9 @@ pub struct LineReader<S, A: Allocator = Global> {
 impl<S: Source, A: Allocator> LineReader<S, A> {
     ghost use Rattle.std.specs.Borrow.{sem};
     ghost use Rattle.std.specs.Io.BufRead.{Rests};
-    ghost use Rattle.cookbook.specs.LineReader.{AdvancesFrom, IsFresh, Next, state_of_reader};
-    ghost use Rattle.cookbook.specs.LineReader.{source_of};
-    ghost use Rattle.cookbook.specs.contracts.line_reader.LineReader.{the_row};
+    ghost use Rattle.ascii_lines.specs.LineReader.{AdvancesFrom, IsFresh, Next, state_of_reader};
+    ghost use Rattle.ascii_lines.specs.LineReader.{source_of};
+    ghost use Rattle.ascii_lines.specs.contracts.line_reader.LineReader.{the_row};
 
     /// A reader over a source, with a buffer of this many bytes; no more memory is taken later. A line is
     /// refused that is longer, with its ending, so with 0 bytes each line is. Where memory is refused the

@@ -2,10 +2,10 @@ use Rattle.std.proofs.Common.{◌≡◌, ◌≤◌, ◌+◌, ◌-◌, ◌++◌, 
 use Rattle.std.proofs.Common.{length}
 use Rattle.std.specs.List.{slice_range}
 use Rattle.std.proofs.lemmas.List.{take_at}
-use Rattle.cookbook.specs.LineBuffer.{WindowState, IsLaidOut}
+use Rattle.ascii_lines.specs.LineBuffer.{WindowState, IsLaidOut}
 use Rattle.ascii.proofs.ListLemmas.{length-slice_range}
-use Rattle.cookbook.proofs.LineBufferLemmas.{held_more, refilled}
-use Rattle.cookbook.proofs.line_reader.line_buffer.LineBuffer.refill.Goals as goal
+use Rattle.ascii_lines.proofs.LineBufferLemmas.{held_more, refilled}
+use Rattle.ascii_lines.proofs.line_buffer.LineBuffer.refill.Goals as goal
 
 -- the bytes of the vector after the read
 put_back : (g : _) (c : goal.After-self-3-1 g)

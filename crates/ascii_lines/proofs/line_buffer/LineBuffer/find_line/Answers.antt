@@ -1,6 +1,6 @@
 use Rattle.std.proofs.Common.{arith}
-use Rattle.cookbook.proofs.LineBufferLemmas.{ends_line, free_all, free_behind}
-use Rattle.cookbook.proofs.line_reader.line_buffer.LineBuffer.find_line.Goals as goal
+use Rattle.ascii_lines.proofs.LineBufferLemmas.{ends_line, free_all, free_behind}
+use Rattle.ascii_lines.proofs.line_buffer.LineBuffer.find_line.Goals as goal
 
 pub invariant_of-self : goal.invariant_of-self
 invariant_of-self g c =

@@ -1,0 +1,2 @@
+pub mod LineBufferLemmas
+pub mod LineReaderLemmas

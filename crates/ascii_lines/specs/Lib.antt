@@ -1,0 +1,3 @@
+pub mod CollectedLines
+pub mod LineBuffer
+pub mod LineReader
