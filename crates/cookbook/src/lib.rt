@@ -3,19 +3,12 @@
 //! characters, pieces and lines; edits of a part of a source, and texts as JSON values.
 #![tactic(auto)]
 
-pub mod both_types;
 pub mod cuts;
 pub mod headers;
 pub mod hosts;
 pub mod identifiers;
-pub mod in_place;
-pub mod iterators;
 pub mod last_lines;
-pub mod prefixes;
-pub mod remainders;
 pub mod screen;
 pub mod settings;
-pub mod spans;
-pub mod strings;
 pub mod table;
 pub mod values;

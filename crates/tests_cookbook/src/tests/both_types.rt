@@ -3,7 +3,7 @@
 use super::{ascii, same};
 use ascii::{AsciiChar, AsciiString};
 use ascii_run::{Cmd, Reply, SmallAsciiString};
-use cookbook::both_types::{append, count_replies, header_name, letter, run_over_a_string};
+use tests_callers::both_types::{append, count_replies, header_name, letter, run_over_a_string};
 
 #[test]
 fn names_and_letters(rt: HostRuntime) {

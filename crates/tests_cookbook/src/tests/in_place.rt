@@ -2,7 +2,7 @@
 
 use super::same;
 use ascii::AsciiRange;
-use cookbook::in_place::{upper_in, upper_in_one_call};
+use tests_callers::in_place::{upper_in, upper_in_one_call};
 
 const SOURCE: [u8; 5] = [0x61, 0xc4, 0x8d, 0x42, 0x62];
 

@@ -2,11 +2,11 @@
 
 use super::{ascii, shows};
 use ascii::{AsciiChar, AsciiString};
-use cookbook::iterators::{
+use tests_callers::iterators::{
     append_chars, bodies_reversed, copy_chars, in_brackets, in_quotes, line_lengths, piece_count,
     piece_lengths, push_upper, without_line_endings, without_separators,
 };
-use cookbook::strings::{
+use tests_callers::strings::{
     blank, into_bytes_with_end, into_string_with_end, move_to_end, replace_last, replace_with_char,
     spare_room, truncate_with_mark, write_nothing,
 };

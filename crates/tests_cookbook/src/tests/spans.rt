@@ -3,13 +3,15 @@
 use super::{ascii, shows};
 use ascii::AsciiChar;
 use ascii::iter::End;
-use cookbook::iterators::{line_count, line_lengths_by_for, piece_lengths_by_map, pieces_reversed};
-use cookbook::prefixes::{first_bodies, first_line_spans, first_piece_spans, first_pieces};
-use cookbook::remainders::{
+use tests_callers::iterators::{
+    line_count, line_lengths_by_for, piece_lengths_by_map, pieces_reversed,
+};
+use tests_callers::prefixes::{first_bodies, first_line_spans, first_piece_spans, first_pieces};
+use tests_callers::remainders::{
     after_two_separators, count_after_first, count_and_lines, count_before_last, lengths_left,
     resume_line_spans, resume_lines, resume_split, resume_split_spans, take_line_span,
 };
-use cookbook::spans::{
+use tests_callers::spans::{
     line_span_count, line_spans_reversed, line_starts, line_starts_by_for, piece_span_count,
     piece_spans_reversed, piece_starts, piece_starts_by_for,
 };

@@ -1,0 +1,2 @@
+pub mod Relent
+pub mod TakenLemmas

@@ -1,0 +1,11 @@
+//! Callers of the libraries whose only purpose is to pin contracts: each proves what a user would,
+//! from the public clauses alone.
+#![tactic(auto)]
+
+pub mod both_types;
+pub mod in_place;
+pub mod iterators;
+pub mod prefixes;
+pub mod remainders;
+pub mod spans;
+pub mod strings;
