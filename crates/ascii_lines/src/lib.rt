@@ -10,5 +10,8 @@ mod line_buffer;
 mod line_reader;
 mod owned_lines;
 
+pub use ascii::iter::Ending;
+pub use ascii::{AsciiChar, AsciiStr, AsciiString};
+pub use ascii_devices::{DeviceFault, Input, Output, Sink, Source};
 pub use line_reader::{LineError, LineReader, ReadLine};
 pub use owned_lines::{CollectedLines, OwnedLine, collect_lines};

@@ -5,11 +5,11 @@ ghost use Rattle.std.specs.Prelude.{MatchOption, OnErr, drop, length, slice_rang
 ghost use Rattle.std.specs.Io.KnownBytes.{Consumes, IsAtEnd};
 ghost use Rattle.std.specs.Str.{IsAscii};
 ghost use Rattle.ascii_base.specs.Bytes.{FirstOther};
-ghost use Rattle.ascii_run.specs.Devices.{CountsFault};
+ghost use Rattle.ascii_devices.specs.Devices.{CountsFault};
 ghost use Rattle.ascii_lines.specs.LineBuffer.{EndsLine, FreeUpTo};
 
 use ascii_base::kernels::first_other;
-use ascii_run::{DeviceFault, Source};
+use ascii_devices::{DeviceFault, Source};
 use memchr::memchr;
 use std::alloc::{AllocError, Allocator};
 use std::marker::Model;

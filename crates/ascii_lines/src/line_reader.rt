@@ -12,19 +12,19 @@ ghost use Rattle.ascii_lines.specs.LineBuffer.{EndsLine};
 use crate::line_buffer::LineBuffer;
 use ascii::iter::Ending;
 use ascii::{AsciiStr, bytes};
-use ascii_run::Source;
+use ascii_devices::Source;
 use std::alloc::{AllocError, Allocator, Global};
 
-/// Why a reader hands out no line. The lines before were handed out.
+/// Why a reader returns no further line. The lines before were returned.
 #[derive(Clone, Copy, PartialEq, Eq, Debug)]
 pub enum LineError {
-    /// The byte at this place of the input, from 0, is the first over 127, and it stands among the bytes of
-    /// its line that fit in the buffer.
+    /// The byte at this position of the input, counted from 0, is the first that is not ASCII. It is among
+    /// the bytes of its line that fit in the buffer.
     NotAscii(u64),
-    /// The line that starts at this place of the input, from 0, has more bytes, with its ending, than the
-    /// buffer.
+    /// The line that starts at this position of the input, counted from 0, is longer than the buffer, with
+    /// its ending.
     TooLong(u64),
-    /// The next line ends past the place `u64::MAX`, or its first byte over 127 stands there.
+    /// The next line ends after the position `u64::MAX`, or its first non-ASCII byte is there.
     TooFar,
     /// The source failed, or has failed `u64::MAX` times before.
     Read,
@@ -33,7 +33,7 @@ pub enum LineError {
 /// A line of an input.
 #[derive(Clone, Copy, PartialEq, Eq, Debug)]
 pub struct ReadLine<'a> {
-    /// The place of its first byte in the input, from 0.
+    /// The position of its first byte in the input, counted from 0.
     pub start: u64,
     /// The body.
     pub text: AsciiStr<'a>,
@@ -41,20 +41,20 @@ pub struct ReadLine<'a> {
     pub ending: Ending,
 }
 
-/// Whether a reader goes on.
+/// Whether a reader has further lines.
 #[derive(Clone, Copy)]
 enum Stage {
-    /// It does.
+    /// It may have.
     Open,
-    /// All was handed out.
+    /// Every line was returned.
     Ended,
-    /// This was answered, and is from then on.
+    /// This error was returned, and is returned from then on.
     Refused(LineError),
 }
 
-/// A reader of lines. It reads its source into one buffer, and lends each line out of it. Each byte is
-/// checked once and searched once for LF; where the buffer is filled again, the beginning of a line that has
-/// not ended moves to its front, and nothing else is copied.
+/// A reader of lines. It reads its source into one buffer and lends each line out of it. Each byte is
+/// checked once and searched once for LF. When the buffer is filled again, the part of an unfinished line
+/// moves to its start, and nothing else is copied.
 #[derive(Drop)]
 pub struct LineReader<S, A: Allocator = Global> {
     source: S,
@@ -71,9 +71,14 @@ impl<S: Source, A: Allocator> LineReader<S, A> {
     ghost use Rattle.ascii_lines.specs.LineReader.{source_of};
     ghost use Rattle.ascii_lines.specs.contracts.line_reader.LineReader.{the_row};
 
-    /// A reader over a source, with a buffer of this many bytes; no more memory is taken later. A line is
-    /// refused that is longer, with its ending, so with 0 bytes each line is. Where memory is refused the
-    /// source is let go.
+    /// Creates a reader over `source` with a buffer of `size` bytes, or returns an error if the allocation
+    /// fails; the source is then dropped. No later call allocates.
+    ///
+    /// A line that is longer than the buffer, with its ending, is rejected by `next_line`; with a `size` of
+    /// 0, so is every line.
+    ///
+    ///     let mut reader = LineReader::new(alloc, Input::new(b"ab\r\ncd".as_slice()), 64)?;
+    ///     reader.next_line() // Ok(Some(ReadLine { start: 0, text: "ab", ending: CrLf }))
     pub fn new(alloc: A, source: S, size: usize) -> Result<LineReader<S, A>, AllocError>
     where
         S: Drop,
@@ -90,7 +95,10 @@ impl<S: Source, A: Allocator> LineReader<S, A> {
         })
     }
 
-    /// The source, without the bytes that were read of it.
+    /// Returns the source. Bytes that the reader has read of it are lost.
+    ///
+    ///     let reader = LineReader::new(alloc, Input::new(b"ab\n".as_slice()), 64)?;
+    ///     reader.into_source().into_inner() // [97, 98, 10]
     pub fn into_source(self) -> S
         ensures { result ≡ source_of self }
     {
@@ -118,7 +126,16 @@ impl<S: Source, A: Allocator> LineReader<S, A> {
     /// The result borrows the reader, also if it is `None` or an error. What the call promises of the
     /// reader and its source, it promises for when that borrow has ended.
     ///
-    /// `"ab\r\n\nc"` has `ab` at 0 with CR LF, the empty body at 4 with LF, and `c` at 5 with no ending.
+    ///     let mut reader = LineReader::new(alloc, Input::new(b"\nc".as_slice()), 64)?;
+    ///     reader.next_line() // Ok(Some(ReadLine { start: 0, text: "", ending: Lf }))
+    ///     reader.next_line() // Ok(Some(ReadLine { start: 1, text: "c", ending: Absent }))
+    ///     reader.next_line() // Ok(None)
+    ///
+    /// A line that is too long is an error with the position of its start:
+    ///
+    ///     let mut reader = LineReader::new(alloc, Input::new(b"a\nbcd\n".as_slice()), 3)?;
+    ///     reader.next_line() // Ok(Some(ReadLine { start: 0, text: "a", ending: Lf }))
+    ///     reader.next_line() // Err(TooLong(2))
     pub fn next_line(&mut self) -> Result<Option<ReadLine<'_>>, LineError>
         ensures* next { sem 𝓛 (Rests (the_row S.row A.row A.Allocator) self.entry
             (Next S.rest S.failures self.old result)) }

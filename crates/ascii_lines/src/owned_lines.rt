@@ -1,4 +1,4 @@
-//! The lines of a source as texts of their own.
+//! The lines of a source as owned text.
 
 ghost use Rattle.std.specs.Prelude.{◌≡◌, IfOk};
 ghost use Rattle.ascii_lines.specs.CollectedLines.{AreFirstLines, YieldsUntil, owned_line_in};
@@ -8,13 +8,13 @@ ghost use Rattle.ascii_lines.specs.LineReader.{IsOpen, read_line_in, state_of_re
 use crate::line_reader::{LineError, LineReader, ReadLine};
 use ascii::AsciiString;
 use ascii::iter::Ending;
-use ascii_run::Source;
+use ascii_devices::Source;
 use std::alloc::{AllocError, Allocator, Global};
 
-/// A line as a text of its own.
+/// A line as owned text.
 #[derive(Drop)]
 pub struct OwnedLine {
-    /// The place of its first byte in the input, from 0.
+    /// The position of its first byte in the input, counted from 0.
     pub start: u64,
     /// The body.
     pub text: AsciiString,
@@ -22,20 +22,26 @@ pub struct OwnedLine {
     pub ending: Ending,
 }
 
-/// The lines that a reader handed out, in order, and why it stopped before the end of the input, if it
+/// The lines that a reader returned, in order, and why it stopped before the end of the input, if it
 /// did.
 #[derive(Drop)]
 pub struct CollectedLines {
     /// The lines.
     pub lines: Vec<OwnedLine>,
-    /// The refusal behind them.
+    /// The error after them, or `None` if the reader reached the end of the input.
     pub error: Option<LineError>,
 }
 
-/// All lines that an open reader has left, up to the end of the input or to a refusal. Of all bytes that
-/// its source tells they are the first lines, and where there is no refusal they are all of them.
+/// Returns the lines that a reader has yet to return, up to the end of the input or an error, or
+/// `AllocError` if an allocation for them fails.
 ///
-/// Of `"ab\n\xff"` these are `ab` at 0 with LF, and then `NotAscii(3)`.
+/// They are the first lines of the bytes that the source gives, and all of them if there is no error.
+/// Condition: the reader has returned neither `None` nor an error.
+///
+///     let mut reader = LineReader::new(alloc, Input::new(b"ab\n\xff".as_slice()), 64)?;
+///     let kept = collect_lines(alloc, &mut reader)?;
+///     kept.lines.len() // 1
+///     kept.error // Some(NotAscii(3))
 pub fn collect_lines<S: Source, A: Allocator>(
     alloc: Global,
     reader: &mut LineReader<S, A>,

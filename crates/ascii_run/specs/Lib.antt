@@ -1,5 +1,4 @@
 pub mod BufferCopy
-pub mod Devices
 pub mod Edit
 pub mod Engine
 pub mod Inline
@@ -7,7 +6,8 @@ pub mod Modes
 pub mod OutputState
 pub mod Run
 pub mod Step
-pub mod Wrapped
 pub use Rattle.ascii_base.specs.Bytes
 pub use Rattle.ascii.specs.Walks
 pub use Rattle.ascii.specs.Lines
+pub use Rattle.ascii_devices.specs.Devices
+pub use Rattle.ascii_devices.specs.Wrapped

@@ -4,7 +4,7 @@ use Rattle.std.specs.Io.KnownBytes.{Appends, Keeps}
 use Rattle.std.specs.declared.option.Option.{Option}
 use Rattle.std.specs.declared.result.Result.{Result}
 use Rattle.std.specs.declared.result.Result.TheVariants.{Ok, Err}
-use Rattle.ascii_run.specs.declared.devices.Sink.{Ghosts}
+use Rattle.ascii_devices.specs.declared.Sink.{Ghosts}
 use Rattle.ascii_run.specs.declared.faults.EngineFault.{EngineFault}
 use Rattle.ascii_run.specs.declared.faults.EngineFault.TheVariants.{Write}
 use Rattle.ascii_run.specs.declared.modes.Mode.{Mode}

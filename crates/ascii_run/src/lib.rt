@@ -8,16 +8,15 @@ mod both_types;
 pub mod buf;
 mod buffer_copy;
 mod commands;
-mod devices;
 mod faults;
 mod modes;
 mod output_buffer;
 mod text_engine;
 
+pub use ascii_devices::{DeviceFault, Input, Output, Sink, Source};
 pub use both_types::{BothRuns, run_both};
 pub use buf::{AsciiBuf, SmallAsciiString};
 pub use commands::{Cmd, Reply, plain_run, run, runs_agree};
-pub use devices::{DeviceFault, Input, Output, Sink, Source};
 pub use faults::EngineFault;
 pub use modes::Mode;
 pub use text_engine::engine;

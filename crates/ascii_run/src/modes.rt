@@ -13,11 +13,11 @@ mod lines;
 mod tac;
 
 use crate::commands::Cmd;
-use crate::devices::Sink;
 use crate::faults::EngineFault;
 use crate::output_buffer::{LARGEST, OutputBuffer};
 use ascii::AsciiString;
 use ascii::iter::End;
+use ascii_devices::Sink;
 use caret::put_caret;
 use edit::put_edit;
 use ends::{put_ends, put_ends_spans};

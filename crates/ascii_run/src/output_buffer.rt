@@ -8,8 +8,8 @@ ghost use Rattle.ascii_run.specs.Modes.Lines.{with_line_feed};
 ghost use Rattle.ascii_run.specs.OutputState.{AppendsTo, FinishOutcome, MayFail, output_state};
 
 use crate::buffer_copy::{FIXED, copy_at, copy_front};
-use crate::devices::Sink;
 use crate::faults::EngineFault;
+use ascii_devices::Sink;
 use std::alloc::{AllocError, Allocator};
 use std::marker::Model;
 

@@ -5,11 +5,11 @@ ghost use Rattle.std.specs.Option.{ForSome};
 ghost use Rattle.ascii_run.specs.Engine.{EngineOutcome, HasFirstOther, ReadsAll, WritesOutput};
 ghost use Rattle.ascii_run.specs.Engine.{read_failures, write_failures};
 
-use crate::devices::{Sink, Source};
 use crate::faults::EngineFault;
 use crate::modes::{Mode, buffer_size, render_output};
 use crate::output_buffer::OutputBuffer;
 use ascii::{AsciiString, kernels};
+use ascii_devices::{Sink, Source};
 use std::alloc::Allocator;
 
 /// Reads the input to its end, and then writes the output of the mode and flushes it, or returns

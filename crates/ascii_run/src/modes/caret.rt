@@ -7,11 +7,11 @@ ghost use Rattle.ascii.specs.View.{text_of};
 ghost use Rattle.ascii_run.specs.OutputState.{AppendsTo, MayFail, output_state};
 ghost use Rattle.ascii_run.specs.Modes.Caret.{IsShown, caret_text};
 
-use crate::devices::Sink;
 use crate::output_buffer::OutputBuffer;
 use ascii::AsciiStr;
 use ascii::classes::{Class, ClassBy};
 use ascii::kernels::first_not;
+use ascii_devices::Sink;
 use std::alloc::Allocator;
 use std::simd::prelude::*;
 

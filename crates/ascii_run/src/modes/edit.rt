@@ -6,10 +6,10 @@ ghost use Rattle.ascii_run.specs.OutputState.{AppendsOutputTo, MayFail, output_s
 
 use super::Mode;
 use crate::commands::{Cmd, edit};
-use crate::devices::Sink;
 use crate::faults::EngineFault;
 use crate::output_buffer::OutputBuffer;
 use ascii::AsciiString;
+use ascii_devices::Sink;
 use std::alloc::Allocator;
 
 /// Carries out the commands on the text, in the buffer that it has, and appends it. On error,

@@ -9,10 +9,10 @@ ghost use Rattle.ascii_run.specs.Modes.Ends.{answer_text, ending_word, span_text
 
 use super::Mode;
 use super::lines::put_line;
-use crate::devices::Sink;
 use crate::output_buffer::OutputBuffer;
 use ascii::AsciiStr;
 use ascii::iter::{End, Ending, LineSpan, take_end};
+use ascii_devices::Sink;
 use itoa::Buffer;
 use std::alloc::Allocator;
 

@@ -7,11 +7,11 @@ ghost use Rattle.ascii.specs.View.{text_of};
 ghost use Rattle.ascii_run.specs.Modes.Json.{AreEscapes, IsUnescaped, json_code, json_text};
 ghost use Rattle.ascii_run.specs.OutputState.{MayFail, AppendsTo, output_state};
 
-use crate::devices::Sink;
 use crate::output_buffer::OutputBuffer;
 use ascii::classes::{Class, ClassBy};
 use ascii::kernels::first_not;
 use ascii::{AsciiStr, AsciiString, bytes};
+use ascii_devices::Sink;
 use json::Writer;
 use std::alloc::{AllocError, Allocator};
 use std::simd::prelude::*;

@@ -5,9 +5,9 @@ ghost use Rattle.ascii_run.specs.OutputState.{AppendsOutputTo, AppendsTo, MayFai
 ghost use Rattle.ascii_run.specs.Modes.Lines.{with_line_feed};
 
 use super::Mode;
-use crate::devices::Sink;
 use crate::output_buffer::OutputBuffer;
 use ascii::AsciiStr;
+use ascii_devices::Sink;
 use memchr::memmem::Finder;
 use std::alloc::Allocator;
 

@@ -5,9 +5,9 @@ ghost use Rattle.ascii_run.specs.OutputState.{AppendsOutputTo, MayFail, output_s
 
 use super::Mode;
 use super::lines::put_line;
-use crate::devices::Sink;
 use crate::output_buffer::OutputBuffer;
 use ascii::AsciiStr;
+use ascii_devices::Sink;
 use std::alloc::Allocator;
 
 /// Appends the body of each line and LF, the last line first.

@@ -1,9 +1,17 @@
-//! The devices that a run reads from and writes to.
+//! Devices that give bytes and that take them.
+//!
+//! `Source` gives bytes and `Sink` takes them; both count their failures, and an error is no more than
+//! `DeviceFault`. `Input` is a source over any reader of std, `Output` a sink over any writer. A contract
+//! sees of a source the bytes that it has yet to give, and of a sink those that it has taken, if they
+//! are known at all.
+//!
+//! In an example `alloc` is an allocator, and the comment after `//` is the `{:?}` output of the value.
+#![tactic(auto)]
 
 ghost use Rattle.std.specs.Prelude.{◌≡◌, ℕ, ◌<◌, ◌≤◌, List, length, take, IfOk, MatchResult};
 ghost use Rattle.std.specs.Io.KnownBytes.{Appends, Consumes, IsAtEnd, Keeps};
 ghost use Rattle.std.specs.declared.option.Option.{Option};
-ghost use Rattle.ascii_run.specs.Devices.{CountsFault};
+ghost use Rattle.ascii_devices.specs.Devices.{CountsFault};
 
 use std::io;
 
@@ -86,7 +94,7 @@ pub struct Input<R> {
 }
 
 impl<R: io::Read> Input<R> {
-    ghost use Rattle.ascii_run.specs.Wrapped.{reader_of, input_failures};
+    ghost use Rattle.ascii_devices.specs.Wrapped.{reader_of, input_failures};
 
     /// A source over the reader, with no failure so far.
     ///
@@ -117,7 +125,7 @@ impl<R: io::Read> Input<R> {
 
 impl<R: io::Read> Source for Input<R> {
     ghost use Rattle.std.specs.Prelude.{List, ℕ};
-    ghost use Rattle.ascii_run.specs.Wrapped.{reader_of, input_failures};
+    ghost use Rattle.ascii_devices.specs.Wrapped.{reader_of, input_failures};
 
     ghost rest = { λ input. R.remaining (reader_of input) };
 
@@ -147,7 +155,7 @@ pub struct Output<W> {
 }
 
 impl<W: io::Write> Output<W> {
-    ghost use Rattle.ascii_run.specs.Wrapped.{writer_of, output_failures};
+    ghost use Rattle.ascii_devices.specs.Wrapped.{writer_of, output_failures};
 
     /// A sink over the writer, with no failure so far.
     ///
@@ -180,7 +188,7 @@ impl<W: io::Write> Output<W> {
 
 impl<W: io::Write> Sink for Output<W> {
     ghost use Rattle.std.specs.Prelude.{List, ℕ};
-    ghost use Rattle.ascii_run.specs.Wrapped.{writer_of, output_failures};
+    ghost use Rattle.ascii_devices.specs.Wrapped.{writer_of, output_failures};
 
     ghost taken = { λ output. W.contents (writer_of output) };
 

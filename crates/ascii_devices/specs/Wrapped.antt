@@ -1,7 +1,7 @@
 -- A reader and a writer as devices: what is inside, and how many calls have failed.
 use Rattle.std.specs.Prelude.{ℕ}
-use Rattle.ascii_run.specs.declared.devices.Input.{Input}
-use Rattle.ascii_run.specs.declared.devices.Output.{Output}
+use Rattle.ascii_devices.specs.declared.Input.{Input}
+use Rattle.ascii_devices.specs.declared.Output.{Output}
 
 -- the reader inside an `Input`
 abbrev pub reader_of : {R : Type 0} → Input R → R
