@@ -8,8 +8,8 @@ use std::process::Abort;
 
 const USAGE: &str = "usage: ascii_show copy|lines|tac|caret|ends [-s] SCRIPT|edit WORD..|json\n";
 
-/// Fails the test where what was got is not what is wanted, and shows both.
-fn same<T: PartialEq + Debug + Drop>(rt: &impl Abort, got: T, want: T) {
+/// Fails the test if `got` differs from `want`, and prints both.
+fn assert_same<T: PartialEq + Debug + Drop>(rt: &impl Abort, got: T, want: T) {
     assert_eq!(rt; got, want);
 }
 
@@ -85,9 +85,9 @@ fn compare<R: Abort + AllocGlobal>(rt: &R, rows: &[Row]) {
         let mut output = Vec::new(rt.alloc());
         let mut errors = Vec::new(rt.alloc());
         let status = show(rt.alloc(), row.words, row.input, &mut output, &mut errors);
-        same(rt, output.as_slice(), row.output);
-        same(rt, errors.as_slice(), row.line.as_bytes());
-        same(rt, status, row.status);
+        assert_same(rt, output.as_slice(), row.output);
+        assert_same(rt, errors.as_slice(), row.line.as_bytes());
+        assert_same(rt, status, row.status);
     }
 }
 

@@ -1,13 +1,16 @@
-//! An allocator for tests, of which one allocation fails.
+//! What tests share: an allocator of which one allocation fails, and views of literals.
 #![tactic(auto)]
 
 ghost use Rattle.std.specs.Prelude.{◌≡◌, ◌+◌, ◌↔◌, ◌⊎◌, IsTrue, MatchOption};
 ghost use Rattle.std.specs.declared.option.Option.TheVariants.{None, Some};
 ghost use Rattle.testing.specs.Passed.{inner_of};
 
+mod texts;
+
 use std::alloc::{AllocError, Allocator};
 use std::cell::Cell;
 use std::fmt;
+pub use texts::{ascii, view};
 
 /// An allocator that passes each call on to another one, except that one allocation fails: the one
 /// after the given number of others. A block that replaces a smaller or larger one is an allocation

@@ -1,5 +1,6 @@
-//! Each public call of the cookbook once, on texts that are written out by hand, and over sources that give little
-//! at a call or fail.
+//! Each public call of the cookbook and of the line reader once, on texts that are written out by hand, and over
+//! sources that give little at a call or fail. `bin/examples` writes `of_ascii_lines.rt`, the examples in the
+//! documentation of the calls.
 
 mod both_types;
 mod headers;
@@ -9,28 +10,26 @@ mod in_place;
 mod iterators;
 mod last_lines;
 mod line_reader;
+mod of_ascii_lines;
 mod screen;
 mod settings;
 mod spans;
 mod table;
 mod values;
 
-use ascii::{AsciiStr, text};
+use std::alloc::Global;
 use std::fmt::Debug;
 use std::process::Abort;
 
-/// The view of a text that is ASCII.
-fn ascii(source: &str) -> AsciiStr<'_> {
-    text::as_ascii_str(source).unwrap_or_default()
-}
-
-/// Fails the test where what was got is not what is wanted, and shows both.
-fn same<T: PartialEq + Debug + Drop>(rt: &impl Abort, got: T, want: T) {
+/// Fails the test if `got` differs from `want`, and prints both.
+fn assert_same<T: PartialEq + Debug + Drop>(rt: &impl Abort, got: T, want: T) {
     assert_eq!(rt; got, want);
 }
 
-/// Fails the test where `{:?}` prints another text of the value.
-fn shows<R: Abort + AllocGlobal>(rt: &R, value: &impl Debug, want: &str) {
-    let text = format!(in rt.alloc(); "{value:?}").expect(rt, "refused");
-    same(rt, text.as_str(), want);
+/// Fails the test if `{:?}` of the value is not `want`.
+fn assert_debug(rt: &impl Abort, alloc: Global, value: &impl Debug, want: &str) {
+    match format!(in alloc; "{:?}", value) {
+        Ok(text) => assert_eq!(rt; text.as_str(), want),
+        Err(_) => panic!(rt; "no memory"),
+    }
 }

@@ -15,7 +15,7 @@ mod values;
 use std::fmt::Debug;
 use std::process::Abort;
 
-/// Fails the test where what was got is not what is wanted, and shows both.
-fn same<T: PartialEq + Debug + Drop>(rt: &impl Abort, got: T, want: T) {
+/// Fails the test if `got` differs from `want`, and prints both.
+fn assert_same<T: PartialEq + Debug + Drop>(rt: &impl Abort, got: T, want: T) {
     assert_eq!(rt; got, want);
 }

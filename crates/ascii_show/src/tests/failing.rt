@@ -1,6 +1,6 @@
 //! Devices that fail, and no memory.
 
-use super::same;
+use super::assert_same;
 use crate::show;
 use linked_list_allocator::LocalHeap;
 use std::alloc::{AllocError, Global};
@@ -51,15 +51,15 @@ fn failing_devices(rt: HostRuntime) {
     let mut output = Vec::new(alloc);
     let mut errors = Vec::new(alloc);
     let reader = Breaking { given: false };
-    same(&rt, show(alloc, &args, reader, &mut output, &mut errors), 3);
-    same(&rt, output.len(), 0);
-    same(&rt, errors.as_slice(), b"read failed\n");
+    assert_same(&rt, show(alloc, &args, reader, &mut output, &mut errors), 3);
+    assert_same(&rt, output.len(), 0);
+    assert_same(&rt, errors.as_slice(), b"read failed\n");
 
     let mut errors = Vec::new(alloc);
     let writer = Full { taken: false };
     let input: &[u8] = b"abcdef";
-    same(&rt, show(alloc, &args, input, writer, &mut errors), 3);
-    same(&rt, errors.as_slice(), b"write failed\n");
+    assert_same(&rt, show(alloc, &args, input, writer, &mut errors), 3);
+    assert_same(&rt, errors.as_slice(), b"write failed\n");
 }
 
 /// Errors that can't be written change no status.
@@ -67,8 +67,8 @@ fn unheard<R: Abort + AllocGlobal>(rt: &R, call: &[&str], input: &[u8], status: 
     let alloc = rt.alloc();
     let mut output = Vec::new(alloc);
     let errors = Full { taken: true };
-    same(rt, show(alloc, call, input, &mut output, errors), status);
-    same(rt, output.len(), 0);
+    assert_same(rt, show(alloc, call, input, &mut output, errors), status);
+    assert_same(rt, output.len(), 0);
 }
 
 #[test]
@@ -105,9 +105,9 @@ fn told<R: Abort + AllocGlobal>(rt: &R, call: &[&str], status: u8, line: &'stati
     let mut input: &[u8] = b"abc";
     let mut errors = OneLine { wanted: line };
     let got = show(alloc, call, &mut input, Vec::new(alloc), &mut errors);
-    same(rt, got, status);
-    same(rt, errors.wanted.len(), 0);
-    same(rt, input, b"abc".as_slice());
+    assert_same(rt, got, status);
+    assert_same(rt, errors.wanted.len(), 0);
+    assert_same(rt, input, b"abc".as_slice());
 }
 
 #[test]
@@ -129,23 +129,23 @@ fn numbers_of_two_digits(rt: HostRuntime) {
         wanted: b"bad position in word 11\n",
     };
     let input: &[u8] = b"abc";
-    same(
+    assert_same(
         &rt,
         show(alloc, &args, input, Vec::new(alloc), &mut errors),
         2,
     );
-    same(&rt, errors.wanted.len(), 0);
+    assert_same(&rt, errors.wanted.len(), 0);
     let args = ["tac"];
     let mut errors = OneLine {
         wanted: b"the byte at index 12 is not ASCII\n",
     };
     let input: &[u8] = b"abcdefghijkl\x80";
-    same(
+    assert_same(
         &rt,
         show(alloc, &args, input, Vec::new(alloc), &mut errors),
         1,
     );
-    same(&rt, errors.wanted.len(), 0);
+    assert_same(&rt, errors.wanted.len(), 0);
 }
 
 #[test]
@@ -161,8 +161,8 @@ fn no_memory(rt: HostRuntime) {
         let input = vec![in alloc; b'a'; 1_000].expect(&rt, "refused");
         let mut output = Vec::new(alloc);
         let status = show(&heap, args, input.as_slice(), &mut output, &mut errors);
-        same(&rt, status, 3);
-        same(&rt, output.len(), 0);
-        same(&rt, errors.wanted.len(), 0);
+        assert_same(&rt, status, 3);
+        assert_same(&rt, output.len(), 0);
+        assert_same(&rt, errors.wanted.len(), 0);
     }
 }

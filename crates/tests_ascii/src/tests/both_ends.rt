@@ -1,10 +1,11 @@
 //! Characters, pieces and lines from both ends.
 
-use super::{ascii, same};
+use super::assert_same;
 use ascii::iter::{End, take_end, walk_lines, walk_split};
 use ascii::{AsciiChar, AsciiStr, AsciiString};
 use std::alloc::{AllocError, Global};
 use std::process::Abort;
+use testing::ascii;
 
 /// The ends that the letters `F` and `B` name.
 pub fn ends(alloc: Global, letters: &str) -> Result<Vec<End>, AllocError> {
@@ -99,7 +100,7 @@ static PIECES: [(&str, AsciiChar, &str, &str); 13] = [
 fn walked_pieces(rt: HostRuntime) {
     for &(source, on, script, want) in &PIECES {
         let answers = pieces_walked(rt.alloc(), source, on, script).expect(&rt, "refused");
-        same(&rt, answers.as_ascii_str().as_str(), want);
+        assert_same(&rt, answers.as_ascii_str().as_str(), want);
     }
 }
 
@@ -125,57 +126,57 @@ static LINES: [(&str, &str, &str); 14] = [
 fn walked_lines(rt: HostRuntime) {
     for &(source, script, want) in &LINES {
         let answers = lines_walked(rt.alloc(), source, script).expect(&rt, "refused");
-        same(&rt, answers.as_ascii_str().as_str(), want);
+        assert_same(&rt, answers.as_ascii_str().as_str(), want);
     }
 }
 
 #[test]
 fn characters_of_views(rt: HostRuntime) {
     let mut chars = ascii("abc").chars();
-    same(&rt, chars.size_hint(), (3, Some(3)));
-    same(&rt, chars.next(), Some(AsciiChar::a));
-    same(&rt, chars.next_back(), Some(AsciiChar::c));
-    same(&rt, chars.as_str().as_str(), "b");
-    same(&rt, chars.len(), 1);
+    assert_same(&rt, chars.size_hint(), (3, Some(3)));
+    assert_same(&rt, chars.next(), Some(AsciiChar::a));
+    assert_same(&rt, chars.next_back(), Some(AsciiChar::c));
+    assert_same(&rt, chars.as_str().as_str(), "b");
+    assert_same(&rt, chars.len(), 1);
     let mut again = chars.clone().expect(&rt, "refused");
-    same(&rt, chars.next_back(), Some(AsciiChar::b));
-    same(&rt, chars.next(), None);
-    same(&rt, chars.next_back(), None);
-    same(&rt, again.next(), Some(AsciiChar::b));
+    assert_same(&rt, chars.next_back(), Some(AsciiChar::b));
+    assert_same(&rt, chars.next(), None);
+    assert_same(&rt, chars.next_back(), None);
+    assert_same(&rt, again.next(), Some(AsciiChar::b));
     let last = ascii("hello world\0").chars().rev().last();
-    same(&rt, last, Some(AsciiChar::h));
+    assert_same(&rt, last, Some(AsciiChar::h));
 }
 
 #[test]
 fn characters_by_for(rt: HostRuntime) {
     let mut chars = ascii("xyz").into_iter();
-    same(&rt, chars.size_hint(), (3, Some(3)));
-    same(&rt, chars.next_back(), Some(AsciiChar::z));
-    same(&rt, chars.next(), Some(AsciiChar::x));
-    same(&rt, chars.as_str().as_str(), "y");
+    assert_same(&rt, chars.size_hint(), (3, Some(3)));
+    assert_same(&rt, chars.next_back(), Some(AsciiChar::z));
+    assert_same(&rt, chars.next(), Some(AsciiChar::x));
+    assert_same(&rt, chars.as_str().as_str(), "y");
     let mut again = chars.clone().expect(&rt, "refused");
-    same(&rt, again.next(), Some(AsciiChar::y));
-    same(&rt, again.next(), None);
-    same(&rt, chars.size_hint(), (1, Some(1)));
+    assert_same(&rt, again.next(), Some(AsciiChar::y));
+    assert_same(&rt, again.next(), None);
+    assert_same(&rt, chars.size_hint(), (1, Some(1)));
     let mut codes = b"hello world\0".iter();
     for ch in ascii("hello world\0") {
-        same(&rt, Some(&ch.as_byte()), codes.next());
+        assert_same(&rt, Some(&ch.as_byte()), codes.next());
     }
-    same(&rt, codes.next(), None);
+    assert_same(&rt, codes.next(), None);
 }
 
 #[test]
 fn pieces_and_lines_left(rt: HostRuntime) {
     let mut pieces = ascii("a-b-c").split(AsciiChar::Minus);
-    same(&rt, pieces.next(), Some(ascii("a")));
+    assert_same(&rt, pieces.next(), Some(ascii("a")));
     let rest = pieces.clone().expect(&rt, "refused");
-    same(&rt, pieces.count(), 2);
-    same(&rt, rest.last(), Some(ascii("c")));
+    assert_same(&rt, pieces.count(), 2);
+    assert_same(&rt, rest.last(), Some(ascii("c")));
     let mut lines = ascii("a\nb\r\nc").lines();
-    same(&rt, lines.next_back(), Some(ascii("c")));
+    assert_same(&rt, lines.next_back(), Some(ascii("c")));
     let rest = lines.clone().expect(&rt, "refused");
-    same(&rt, lines.count(), 2);
-    same(&rt, rest.last(), Some(ascii("b")));
+    assert_same(&rt, lines.count(), 2);
+    assert_same(&rt, rest.last(), Some(ascii("b")));
 }
 
 /// Every script of eight ends.

@@ -1,12 +1,12 @@
 //! Iterators that are cloned at each step: the clone and the iterator both go on as the unbroken walk does.
 
-use super::ascii;
 use super::both_ends::{scripts, walk_on};
 use super::resuming::cut_at;
 use ascii::AsciiChar;
 use ascii::iter::End;
 use std::fmt::Debug;
 use std::process::Abort;
+use testing::ascii;
 
 /// The answers of an iterator to a script of ends.
 fn walked<R: Abort + AllocGlobal, I: DoubleEndedIterator + Drop>(

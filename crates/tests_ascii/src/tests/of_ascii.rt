@@ -1,6 +1,6 @@
 //! The examples in the documentation of `ascii`, made by `bin/examples`.
 
-use super::{shows, view};
+use super::assert_debug;
 use ascii::iter::{End, take_end, walk_line_spans, walk_lines, walk_split, walk_split_spans};
 use ascii::json::{char_from_json, char_to_json, str_from_json, string_from_json};
 use ascii::{
@@ -12,11 +12,12 @@ use ascii_base::range::AsciiRange;
 use serde_json::Value;
 use std::collections::HashSet;
 use std::fmt::Write;
+use testing::view;
 
 #[test]
 fn ascii_str_1(rt: HostRuntime) {
     let alloc = rt.alloc();
-    shows(
+    assert_debug(
         &rt,
         alloc,
         &(
@@ -47,7 +48,7 @@ fn ascii_str_1(rt: HostRuntime) {
 #[test]
 fn ascii_str_2(rt: HostRuntime) {
     let alloc = rt.alloc();
-    shows(
+    assert_debug(
         &rt,
         alloc,
         &(
@@ -78,7 +79,7 @@ fn ascii_str_2(rt: HostRuntime) {
 #[test]
 fn ascii_str_3(rt: HostRuntime) {
     let alloc = rt.alloc();
-    shows(
+    assert_debug(
         &rt,
         alloc,
         &(
@@ -98,7 +99,7 @@ fn ascii_str_3(rt: HostRuntime) {
 #[test]
 fn ascii_str_4(rt: HostRuntime) {
     let alloc = rt.alloc();
-    shows(
+    assert_debug(
         &rt,
         alloc,
         &(
@@ -115,7 +116,7 @@ fn ascii_str_4(rt: HostRuntime) {
         for ch in view("f7") {
             digit = digit || ch.is_ascii_digit();
         }
-        shows(&rt, alloc, &digit, "true");
+        assert_debug(&rt, alloc, &digit, "true");
     }
 }
 
@@ -125,16 +126,16 @@ fn ascii_str_5(rt: HostRuntime) {
     // AsciiStr::chars
     {
         let mut chars = view("foo").chars();
-        shows(&rt, alloc, &chars.next(), "Some('f')");
-        shows(&rt, alloc, &chars.next_back(), "Some('o')");
+        assert_debug(&rt, alloc, &chars.next(), "Some('f')");
+        assert_debug(&rt, alloc, &chars.next_back(), "Some('o')");
     }
     // AsciiStr::lines
     {
         let mut lines = view("x\r\ny\nz").lines();
-        shows(&rt, alloc, &lines.next(), "Some(\"x\")");
-        shows(&rt, alloc, &lines.next_back(), "Some(\"z\")");
-        shows(&rt, alloc, &lines.next_back(), "Some(\"y\")");
-        shows(&rt, alloc, &lines.next(), "None");
+        assert_debug(&rt, alloc, &lines.next(), "Some(\"x\")");
+        assert_debug(&rt, alloc, &lines.next_back(), "Some(\"z\")");
+        assert_debug(&rt, alloc, &lines.next_back(), "Some(\"y\")");
+        assert_debug(&rt, alloc, &lines.next(), "None");
     }
 }
 
@@ -144,13 +145,13 @@ fn ascii_str_6(rt: HostRuntime) {
     // AsciiStr::line_spans
     {
         let mut spans = view("x\r\ny").line_spans();
-        shows(
+        assert_debug(
             &rt,
             alloc,
             &spans.next(),
             "Some(LineSpan { start: 0, text: \"x\", ending: CrLf })",
         );
-        shows(
+        assert_debug(
             &rt,
             alloc,
             &spans.next(),
@@ -158,7 +159,7 @@ fn ascii_str_6(rt: HostRuntime) {
         );
     }
     // AsciiStr::line_spans_from
-    shows(
+    assert_debug(
         &rt,
         alloc,
         &view("x\r\ny").line_spans_from(10).next_back(),
@@ -167,10 +168,10 @@ fn ascii_str_6(rt: HostRuntime) {
     // AsciiStr::split
     {
         let mut pieces = view("foo;bar;baz").split(AsciiChar::Semicolon);
-        shows(&rt, alloc, &pieces.next(), "Some(\"foo\")");
-        shows(&rt, alloc, &pieces.next_back(), "Some(\"baz\")");
-        shows(&rt, alloc, &pieces.next(), "Some(\"bar\")");
-        shows(&rt, alloc, &pieces.next(), "None");
+        assert_debug(&rt, alloc, &pieces.next(), "Some(\"foo\")");
+        assert_debug(&rt, alloc, &pieces.next_back(), "Some(\"baz\")");
+        assert_debug(&rt, alloc, &pieces.next(), "Some(\"bar\")");
+        assert_debug(&rt, alloc, &pieces.next(), "None");
     }
 }
 
@@ -180,7 +181,7 @@ fn ascii_str_7(rt: HostRuntime) {
     // AsciiStr::split_spans
     {
         let mut spans = view("foo;bar").split_spans(AsciiChar::Semicolon);
-        shows(
+        assert_debug(
             &rt,
             alloc,
             &spans.next_back(),
@@ -190,7 +191,7 @@ fn ascii_str_7(rt: HostRuntime) {
     // AsciiStr::split_spans_from
     {
         let mut spans = view("foo;bar").split_spans_from(AsciiChar::Semicolon, 10);
-        shows(
+        assert_debug(
             &rt,
             alloc,
             &spans.next_back(),
@@ -198,7 +199,7 @@ fn ascii_str_7(rt: HostRuntime) {
         );
     }
     // AsciiStr::to_json
-    shows(
+    assert_debug(
         &rt,
         alloc,
         &view("a\"b")
@@ -214,20 +215,20 @@ fn ascii_str_7(rt: HostRuntime) {
 fn str_1(rt: HostRuntime) {
     let alloc = rt.alloc();
     // From<AsciiStr> for &str::from
-    shows(&rt, alloc, &<&str>::from(view("foo")), "\"foo\"");
+    assert_debug(&rt, alloc, &<&str>::from(view("foo")), "\"foo\"");
 }
 
 #[test]
 fn u8_1(rt: HostRuntime) {
     let alloc = rt.alloc();
     // From<AsciiStr> for &[u8]::from
-    shows(&rt, alloc, &<&[u8]>::from(view("foo")), "[102, 111, 111]");
+    assert_debug(&rt, alloc, &<&[u8]>::from(view("foo")), "[102, 111, 111]");
 }
 
 #[test]
 fn as_ascii_str_error_1(rt: HostRuntime) {
     let alloc = rt.alloc();
-    shows(
+    assert_debug(
         &rt,
         alloc,
         &(
@@ -251,19 +252,19 @@ fn ascii_str_mut_1(rt: HostRuntime) {
     {
         let mut source = *b"foo";
         bytes::as_mut_ascii_str_unchecked(&mut source).set(0, AsciiChar::z);
-        shows(&rt, alloc, &(source == *b"zoo"), "true");
+        assert_debug(&rt, alloc, &(source == *b"zoo"), "true");
     }
     // AsciiStrMut::make_ascii_uppercase
     {
         let mut source = *b"foo";
         bytes::as_mut_ascii_str_unchecked(&mut source).make_ascii_uppercase();
-        shows(&rt, alloc, &(source == *b"FOO"), "true");
+        assert_debug(&rt, alloc, &(source == *b"FOO"), "true");
     }
     // AsciiStrMut::make_ascii_lowercase
     {
         let mut source = *b"FOO";
         bytes::as_mut_ascii_str_unchecked(&mut source).make_ascii_lowercase();
-        shows(&rt, alloc, &(source == *b"foo"), "true");
+        assert_debug(&rt, alloc, &(source == *b"foo"), "true");
     }
 }
 
@@ -273,7 +274,7 @@ fn ascii_str_mut_2(rt: HostRuntime) {
     // AsciiStrMut::as_ascii_str
     {
         let mut source = *b"foo";
-        shows(
+        assert_debug(
             &rt,
             alloc,
             &bytes::as_mut_ascii_str_unchecked(&mut source)
@@ -287,7 +288,7 @@ fn ascii_str_mut_2(rt: HostRuntime) {
 #[test]
 fn ascii_string_1(rt: HostRuntime) {
     let alloc = rt.alloc();
-    shows(
+    assert_debug(
         &rt,
         alloc,
         &(
@@ -320,14 +321,14 @@ fn ascii_string_2(rt: HostRuntime) {
     // AsciiString::reserve
     {
         let mut text = view("foo").to_ascii_string(alloc).expect(&rt, "refused");
-        shows(&rt, alloc, &text.reserve(10), "Ok(())");
-        shows(&rt, alloc, &(text.capacity() >= 13), "true");
+        assert_debug(&rt, alloc, &text.reserve(10), "Ok(())");
+        assert_debug(&rt, alloc, &(text.capacity() >= 13), "true");
     }
     // AsciiString::reserve_exact
     {
         let mut text = view("foo").to_ascii_string(alloc).expect(&rt, "refused");
-        shows(&rt, alloc, &text.reserve_exact(10), "Ok(())");
-        shows(&rt, alloc, &(text.capacity() >= 13), "true");
+        assert_debug(&rt, alloc, &text.reserve_exact(10), "Ok(())");
+        assert_debug(&rt, alloc, &(text.capacity() >= 13), "true");
     }
 }
 
@@ -337,14 +338,14 @@ fn ascii_string_3(rt: HostRuntime) {
     // AsciiString::shrink_to_fit
     {
         let mut text = AsciiString::with_capacity(alloc, 10).expect(&rt, "refused");
-        shows(&rt, alloc, &text.shrink_to_fit(), "Ok(())");
-        shows(&rt, alloc, &text.capacity(), "0");
+        assert_debug(&rt, alloc, &text.shrink_to_fit(), "Ok(())");
+        assert_debug(&rt, alloc, &text.capacity(), "0");
     }
     // AsciiString::push
     {
         let mut text = view("fo").to_ascii_string(alloc).expect(&rt, "refused");
-        shows(&rt, alloc, &text.push(AsciiChar::o), "Ok(())");
-        shows(&rt, alloc, &text, "\"foo\"");
+        assert_debug(&rt, alloc, &text.push(AsciiChar::o), "Ok(())");
+        assert_debug(&rt, alloc, &text, "\"foo\"");
     }
 }
 
@@ -354,14 +355,14 @@ fn ascii_string_4(rt: HostRuntime) {
     // AsciiString::push_str
     {
         let mut text = view("foo").to_ascii_string(alloc).expect(&rt, "refused");
-        shows(&rt, alloc, &text.push_str(view("bar")), "Ok(())");
-        shows(&rt, alloc, &text, "\"foobar\"");
+        assert_debug(&rt, alloc, &text.push_str(view("bar")), "Ok(())");
+        assert_debug(&rt, alloc, &text, "\"foobar\"");
     }
     // AsciiString::insert
     {
         let mut text = view("fo").to_ascii_string(alloc).expect(&rt, "refused");
-        shows(&rt, alloc, &text.insert(0, AsciiChar::z), "Ok(())");
-        shows(&rt, alloc, &text, "\"zfo\"");
+        assert_debug(&rt, alloc, &text.insert(0, AsciiChar::z), "Ok(())");
+        assert_debug(&rt, alloc, &text, "\"zfo\"");
     }
 }
 
@@ -371,14 +372,14 @@ fn ascii_string_5(rt: HostRuntime) {
     // AsciiString::insert_str
     {
         let mut text = view("fo").to_ascii_string(alloc).expect(&rt, "refused");
-        shows(&rt, alloc, &text.insert_str(1, view("lo")), "Ok(())");
-        shows(&rt, alloc, &text, "\"floo\"");
+        assert_debug(&rt, alloc, &text.insert_str(1, view("lo")), "Ok(())");
+        assert_debug(&rt, alloc, &text, "\"floo\"");
     }
     // AsciiString::remove
     {
         let mut text = view("foo").to_ascii_string(alloc).expect(&rt, "refused");
-        shows(&rt, alloc, &text.remove(0), "'f'");
-        shows(&rt, alloc, &text, "\"oo\"");
+        assert_debug(&rt, alloc, &text.remove(0), "'f'");
+        assert_debug(&rt, alloc, &text, "\"oo\"");
     }
 }
 
@@ -388,14 +389,14 @@ fn ascii_string_6(rt: HostRuntime) {
     // AsciiString::pop
     {
         let mut text = view("fo").to_ascii_string(alloc).expect(&rt, "refused");
-        shows(&rt, alloc, &text.pop(), "Some('o')");
-        shows(&rt, alloc, &text, "\"f\"");
+        assert_debug(&rt, alloc, &text.pop(), "Some('o')");
+        assert_debug(&rt, alloc, &text, "\"f\"");
     }
     // AsciiString::truncate
     {
         let mut text = view("foo").to_ascii_string(alloc).expect(&rt, "refused");
         text.truncate(2);
-        shows(&rt, alloc, &text, "\"fo\"");
+        assert_debug(&rt, alloc, &text, "\"fo\"");
     }
 }
 
@@ -406,13 +407,13 @@ fn ascii_string_7(rt: HostRuntime) {
     {
         let mut text = view("foo").to_ascii_string(alloc).expect(&rt, "refused");
         text.clear();
-        shows(&rt, alloc, &text, "\"\"");
+        assert_debug(&rt, alloc, &text, "\"\"");
     }
     // AsciiString::set
     {
         let mut text = view("foo").to_ascii_string(alloc).expect(&rt, "refused");
         text.set(0, AsciiChar::z);
-        shows(&rt, alloc, &text, "\"zoo\"");
+        assert_debug(&rt, alloc, &text, "\"zoo\"");
     }
 }
 
@@ -423,16 +424,16 @@ fn ascii_string_8(rt: HostRuntime) {
     {
         let mut text = view("foo").to_ascii_string(alloc).expect(&rt, "refused");
         text.make_ascii_uppercase();
-        shows(&rt, alloc, &text, "\"FOO\"");
+        assert_debug(&rt, alloc, &text, "\"FOO\"");
     }
     // AsciiString::make_ascii_lowercase
     {
         let mut text = view("FOO").to_ascii_string(alloc).expect(&rt, "refused");
         text.make_ascii_lowercase();
-        shows(&rt, alloc, &text, "\"foo\"");
+        assert_debug(&rt, alloc, &text, "\"foo\"");
     }
     // AsciiString::len
-    shows(
+    assert_debug(
         &rt,
         alloc,
         &view("foo")
@@ -446,7 +447,7 @@ fn ascii_string_8(rt: HostRuntime) {
 #[test]
 fn ascii_string_9(rt: HostRuntime) {
     let alloc = rt.alloc();
-    shows(
+    assert_debug(
         &rt,
         alloc,
         &(
@@ -472,7 +473,7 @@ fn ascii_string_9(rt: HostRuntime) {
 #[test]
 fn ascii_string_10(rt: HostRuntime) {
     let alloc = rt.alloc();
-    shows(
+    assert_debug(
         &rt,
         alloc,
         &(
@@ -497,7 +498,7 @@ fn ascii_string_11(rt: HostRuntime) {
         let mut seen = HashSet::new(alloc);
         seen.insert(view("foo").to_ascii_string(alloc).expect(&rt, "refused"))
             .expect(&rt, "refused");
-        shows(
+        assert_debug(
             &rt,
             alloc,
             &seen.contains(&view("foo").to_ascii_string(alloc).expect(&rt, "refused")),
@@ -505,7 +506,7 @@ fn ascii_string_11(rt: HostRuntime) {
         );
     }
     // Display for AsciiString::fmt
-    shows(
+    assert_debug(
         &rt,
         alloc,
         &format!(in alloc;
@@ -521,7 +522,7 @@ fn ascii_string_11(rt: HostRuntime) {
 fn ascii_string_12(rt: HostRuntime) {
     let alloc = rt.alloc();
     // Debug for AsciiString::fmt
-    shows(
+    assert_debug(
         &rt,
         alloc,
         &format!(in alloc;
@@ -534,9 +535,9 @@ fn ascii_string_12(rt: HostRuntime) {
     // AsciiString::write_char
     {
         let mut text = view("foo").to_ascii_string(alloc).expect(&rt, "refused");
-        shows(&rt, alloc, &text.write_char('d'), "Ok(())");
-        shows(&rt, alloc, &text.write_char('č'), "Err(Error)");
-        shows(&rt, alloc, &text, "\"food\"");
+        assert_debug(&rt, alloc, &text.write_char('d'), "Ok(())");
+        assert_debug(&rt, alloc, &text.write_char('č'), "Err(Error)");
+        assert_debug(&rt, alloc, &text, "\"food\"");
     }
 }
 
@@ -546,10 +547,10 @@ fn ascii_string_13(rt: HostRuntime) {
     // Write for AsciiString::write_str
     {
         let mut text = view("foo").to_ascii_string(alloc).expect(&rt, "refused");
-        shows(&rt, alloc, &write!(text, "{}", 7), "Ok(())");
-        shows(&rt, alloc, &text, "\"foo7\"");
+        assert_debug(&rt, alloc, &write!(text, "{}", 7), "Ok(())");
+        assert_debug(&rt, alloc, &text, "\"foo7\"");
     }
-    shows(
+    assert_debug(
         &rt,
         alloc,
         &(
@@ -576,27 +577,27 @@ fn ascii_string_14(rt: HostRuntime) {
     // AsciiString::extend_chars
     {
         let mut text = view("foo").to_ascii_string(alloc).expect(&rt, "refused");
-        shows(
+        assert_debug(
             &rt,
             alloc,
             &text.extend_chars(view("bar").chars()),
             "Ok(())",
         );
-        shows(&rt, alloc, &text, "\"foobar\"");
+        assert_debug(&rt, alloc, &text, "\"foobar\"");
     }
     // AsciiString::extend_strs
     {
         let mut text = view("a").to_ascii_string(alloc).expect(&rt, "refused");
-        shows(
+        assert_debug(
             &rt,
             alloc,
             &text.extend_strs(view("b,c").split(AsciiChar::Comma)),
             "Ok(())",
         );
-        shows(&rt, alloc, &text, "\"abc\"");
+        assert_debug(&rt, alloc, &text, "\"abc\"");
     }
     // AsciiString::collect_chars
-    shows(
+    assert_debug(
         &rt,
         alloc,
         &AsciiString::collect_chars(alloc, view("foo").chars().rev()).expect(&rt, "refused"),
@@ -607,7 +608,7 @@ fn ascii_string_14(rt: HostRuntime) {
 #[test]
 fn ascii_string_15(rt: HostRuntime) {
     let alloc = rt.alloc();
-    shows(
+    assert_debug(
         &rt,
         alloc,
         &(
@@ -633,7 +634,7 @@ fn ascii_string_15(rt: HostRuntime) {
 fn ascii_string_16(rt: HostRuntime) {
     let alloc = rt.alloc();
     // AsciiString::to_json
-    shows(
+    assert_debug(
         &rt,
         alloc,
         &view("foo")
@@ -650,7 +651,7 @@ fn ascii_string_16(rt: HostRuntime) {
 #[test]
 fn vec_1(rt: HostRuntime) {
     let alloc = rt.alloc();
-    shows(
+    assert_debug(
         &rt,
         alloc,
         &(
@@ -668,7 +669,7 @@ fn vec_1(rt: HostRuntime) {
 #[test]
 fn string_1(rt: HostRuntime) {
     let alloc = rt.alloc();
-    shows(
+    assert_debug(
         &rt,
         alloc,
         &(
@@ -686,7 +687,7 @@ fn string_1(rt: HostRuntime) {
 #[test]
 fn boxed_ascii_str_1(rt: HostRuntime) {
     let alloc = rt.alloc();
-    shows(
+    assert_debug(
         &rt,
         alloc,
         &(
@@ -716,7 +717,7 @@ fn boxed_ascii_str_1(rt: HostRuntime) {
 #[test]
 fn rc_ascii_str_1(rt: HostRuntime) {
     let alloc = rt.alloc();
-    shows(
+    assert_debug(
         &rt,
         alloc,
         &(
@@ -746,17 +747,17 @@ fn cow_ascii_str_1(rt: HostRuntime) {
     // CowAsciiStr::as_ascii_str
     {
         let cow: CowAsciiStr = view("foo").into();
-        shows(&rt, alloc, &cow.as_ascii_str(), "\"foo\"");
+        assert_debug(&rt, alloc, &cow.as_ascii_str(), "\"foo\"");
     }
     // CowAsciiStr::into_owned
     {
         let cow: CowAsciiStr = view("foo").into();
-        shows(&rt, alloc, &cow.into_owned(alloc).ok(), "Some(\"foo\")");
+        assert_debug(&rt, alloc, &cow.into_owned(alloc).ok(), "Some(\"foo\")");
     }
     // From<AsciiStr> for CowAsciiStr::from
     {
         let cow: CowAsciiStr = view("foo").into();
-        shows(&rt, alloc, &cow.as_ascii_str(), "\"foo\"");
+        assert_debug(&rt, alloc, &cow.as_ascii_str(), "\"foo\"");
     }
     // From<AsciiString> for CowAsciiStr::from
     {
@@ -764,14 +765,14 @@ fn cow_ascii_str_1(rt: HostRuntime) {
             .to_ascii_string(alloc)
             .expect(&rt, "refused")
             .into();
-        shows(&rt, alloc, &cow.as_ascii_str(), "\"foo\"");
+        assert_debug(&rt, alloc, &cow.as_ascii_str(), "\"foo\"");
     }
 }
 
 #[test]
 fn bytes_1(rt: HostRuntime) {
     let alloc = rt.alloc();
-    shows(
+    assert_debug(
         &rt,
         alloc,
         &(
@@ -800,7 +801,7 @@ fn bytes_1(rt: HostRuntime) {
 fn bytes_2(rt: HostRuntime) {
     let alloc = rt.alloc();
     // bytes::to_ascii_string
-    shows(
+    assert_debug(
         &rt,
         alloc,
         &bytes::to_ascii_string(alloc, b"foo"),
@@ -810,13 +811,13 @@ fn bytes_2(rt: HostRuntime) {
     {
         let mut source = *b"foo";
         bytes::slice_ascii_mut_unchecked(&mut source, AsciiRange::From(1)).make_ascii_uppercase();
-        shows(&rt, alloc, &(source == *b"fOO"), "true");
+        assert_debug(&rt, alloc, &(source == *b"fOO"), "true");
     }
     // bytes::as_mut_ascii_str_unchecked
     {
         let mut source = *b"foo";
         bytes::as_mut_ascii_str_unchecked(&mut source).make_ascii_uppercase();
-        shows(&rt, alloc, &(source == *b"FOO"), "true");
+        assert_debug(&rt, alloc, &(source == *b"FOO"), "true");
     }
 }
 
@@ -829,7 +830,7 @@ fn bytes_3(rt: HostRuntime) {
         if let Ok(mut view) = bytes::slice_ascii_mut(&mut source, AsciiRange::To(2)) {
             view.make_ascii_uppercase();
         }
-        shows(&rt, alloc, &(source == *b"FOo\xc4"), "true");
+        assert_debug(&rt, alloc, &(source == *b"FOo\xc4"), "true");
     }
     // bytes::as_mut_ascii_str
     {
@@ -837,14 +838,14 @@ fn bytes_3(rt: HostRuntime) {
         if let Ok(mut view) = bytes::as_mut_ascii_str(&mut source) {
             view.make_ascii_uppercase();
         }
-        shows(&rt, alloc, &(source == *b"FOO"), "true");
+        assert_debug(&rt, alloc, &(source == *b"FOO"), "true");
     }
 }
 
 #[test]
 fn from_ascii_error_1(rt: HostRuntime) {
     let alloc = rt.alloc();
-    shows(
+    assert_debug(
         &rt,
         alloc,
         &(
@@ -873,17 +874,17 @@ fn chars_1(rt: HostRuntime) {
     // Chars::as_str
     {
         let mut chars = view("foo").chars();
-        shows(&rt, alloc, &chars.next(), "Some('f')");
-        shows(&rt, alloc, &chars.as_str(), "\"oo\"");
+        assert_debug(&rt, alloc, &chars.next(), "Some('f')");
+        assert_debug(&rt, alloc, &chars.as_str(), "\"oo\"");
     }
     // Clone for Chars::clone
     {
         let mut chars = view("foo").chars();
         let copy = chars.clone().expect(&rt, "refused");
-        shows(&rt, alloc, &chars.next(), "Some('f')");
-        shows(&rt, alloc, &copy.as_str(), "\"foo\"");
+        assert_debug(&rt, alloc, &chars.next(), "Some('f')");
+        assert_debug(&rt, alloc, &copy.as_str(), "\"foo\"");
     }
-    shows(
+    assert_debug(
         &rt,
         alloc,
         &(
@@ -899,7 +900,7 @@ fn chars_1(rt: HostRuntime) {
 #[test]
 fn chars_2(rt: HostRuntime) {
     let alloc = rt.alloc();
-    shows(
+    assert_debug(
         &rt,
         alloc,
         &(
@@ -915,7 +916,7 @@ fn chars_2(rt: HostRuntime) {
 #[test]
 fn chars_ref_1(rt: HostRuntime) {
     let alloc = rt.alloc();
-    shows(
+    assert_debug(
         &rt,
         alloc,
         &(
@@ -941,7 +942,7 @@ fn chars_ref_1(rt: HostRuntime) {
 #[test]
 fn line_spans_1(rt: HostRuntime) {
     let alloc = rt.alloc();
-    shows(
+    assert_debug(
         &rt,
         alloc,
         &(
@@ -961,20 +962,20 @@ fn line_spans_1(rt: HostRuntime) {
     // LineSpans::remainder
     {
         let mut spans = view("x\r\ny").line_spans();
-        shows(
+        assert_debug(
             &rt,
             alloc,
             &spans.next(),
             "Some(LineSpan { start: 0, text: \"x\", ending: CrLf })",
         );
-        shows(&rt, alloc, &spans.remainder(), "Some((3, \"y\"))");
+        assert_debug(&rt, alloc, &spans.remainder(), "Some((3, \"y\"))");
     }
 }
 
 #[test]
 fn lines_1(rt: HostRuntime) {
     let alloc = rt.alloc();
-    shows(
+    assert_debug(
         &rt,
         alloc,
         &(
@@ -994,15 +995,15 @@ fn lines_1(rt: HostRuntime) {
     // Lines::remainder
     {
         let mut lines = view("x\r\ny").lines();
-        shows(&rt, alloc, &lines.next(), "Some(\"x\")");
-        shows(&rt, alloc, &lines.remainder(), "Some(\"y\")");
+        assert_debug(&rt, alloc, &lines.next(), "Some(\"x\")");
+        assert_debug(&rt, alloc, &lines.remainder(), "Some(\"y\")");
     }
 }
 
 #[test]
 fn split_spans_1(rt: HostRuntime) {
     let alloc = rt.alloc();
-    shows(
+    assert_debug(
         &rt,
         alloc,
         &(
@@ -1022,13 +1023,13 @@ fn split_spans_1(rt: HostRuntime) {
     // SplitSpans::remainder
     {
         let mut spans = view("foo;bar").split_spans(AsciiChar::Semicolon);
-        shows(
+        assert_debug(
             &rt,
             alloc,
             &spans.next(),
             "Some(SplitSpan { start: 0, text: \"foo\" })",
         );
-        shows(&rt, alloc, &spans.remainder(), "Some((4, \"bar\"))");
+        assert_debug(&rt, alloc, &spans.remainder(), "Some((4, \"bar\"))");
     }
 }
 
@@ -1039,10 +1040,10 @@ fn split_1(rt: HostRuntime) {
     {
         let mut pieces = view("foo;bar").split(AsciiChar::Semicolon);
         let copy = pieces.clone().expect(&rt, "refused");
-        shows(&rt, alloc, &pieces.next(), "Some(\"foo\")");
-        shows(&rt, alloc, &copy.remainder(), "Some(\"foo;bar\")");
+        assert_debug(&rt, alloc, &pieces.next(), "Some(\"foo\")");
+        assert_debug(&rt, alloc, &copy.remainder(), "Some(\"foo;bar\")");
     }
-    shows(
+    assert_debug(
         &rt,
         alloc,
         &(
@@ -1056,15 +1057,15 @@ fn split_1(rt: HostRuntime) {
     // Split::remainder
     {
         let mut pieces = view("foo;bar;baz").split(AsciiChar::Semicolon);
-        shows(&rt, alloc, &pieces.next(), "Some(\"foo\")");
-        shows(&rt, alloc, &pieces.remainder(), "Some(\"bar;baz\")");
+        assert_debug(&rt, alloc, &pieces.next(), "Some(\"foo\")");
+        assert_debug(&rt, alloc, &pieces.remainder(), "Some(\"bar;baz\")");
     }
 }
 
 #[test]
 fn iter_1(rt: HostRuntime) {
     let alloc = rt.alloc();
-    shows(
+    assert_debug(
         &rt,
         alloc,
         &(
@@ -1094,7 +1095,7 @@ fn iter_1(rt: HostRuntime) {
 #[test]
 fn json_1(rt: HostRuntime) {
     let alloc = rt.alloc();
-    shows(
+    assert_debug(
         &rt,
         alloc,
         &(
@@ -1114,7 +1115,7 @@ fn json_1(rt: HostRuntime) {
 #[test]
 fn json_2(rt: HostRuntime) {
     let alloc = rt.alloc();
-    shows(
+    assert_debug(
         &rt,
         alloc,
         &(
@@ -1134,7 +1135,7 @@ fn json_2(rt: HostRuntime) {
 #[test]
 fn text_1(rt: HostRuntime) {
     let alloc = rt.alloc();
-    shows(
+    assert_debug(
         &rt,
         alloc,
         &(

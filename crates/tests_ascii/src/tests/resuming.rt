@@ -1,12 +1,12 @@
 //! Walks that stop at each place and go on over what is left give what an unbroken walk gives.
 
-use super::ascii;
 use super::both_ends::{scripts, walk_on};
 use ascii::iter::{
     End, LineSpan, SplitSpan, walk_line_spans, walk_lines, walk_split, walk_split_spans,
 };
 use ascii::{AsciiChar, AsciiStr};
 use std::process::Abort;
+use testing::ascii;
 
 /// A script that stops at a place: the ends up to it, and those behind it.
 #[derive(Clone, Copy)]

@@ -1,10 +1,11 @@
 //! Pieces and lines with their starts, and what is left of them.
 
+use super::assert_same;
 use super::both_ends::ends;
-use super::{ascii, same};
 use ascii::iter::{End, Ending, LineSpan, SplitSpan, take_end, walk_line_spans, walk_split_spans};
 use ascii::{AsciiChar, AsciiStr};
 use std::alloc::{AllocError, Global};
+use testing::ascii;
 
 /// The answers of a walk over pieces, each as its start, a space, its text and a bar, or `~|`.
 fn shown_pieces(alloc: Global, answers: &[Option<SplitSpan<'_>>]) -> Result<String, AllocError> {
@@ -60,7 +61,7 @@ fn walked_line_spans(rt: HostRuntime) {
     for &(source, script, want) in &LINES {
         let script = ends(rt.alloc(), script).expect(&rt, "refused");
         let answers = walk_line_spans(rt.alloc(), ascii(source), &script).expect(&rt, "refused");
-        same(
+        assert_same(
             &rt,
             shown_lines(rt.alloc(), &answers)
                 .expect(&rt, "refused")
@@ -90,7 +91,7 @@ fn walked_piece_spans(rt: HostRuntime) {
         let answers = walk_split_spans(rt.alloc(), ascii(source), on, &script).expect(
             &rt, "refused",
         );
-        same(
+        assert_same(
             &rt,
             shown_pieces(rt.alloc(), &answers)
                 .expect(&rt, "refused")
@@ -123,12 +124,12 @@ fn rests_of_pieces(rt: HostRuntime) {
             take_end(&mut spans, *end);
             take_end(&mut split, *end);
         }
-        same(
+        assert_same(
             &rt,
             spans.remainder(),
             want.map(|(start, text)| (start, ascii(text))),
         );
-        same(&rt, split.remainder(), want.map(|(_, text)| ascii(text)));
+        assert_same(&rt, split.remainder(), want.map(|(_, text)| ascii(text)));
     }
 }
 
@@ -150,12 +151,12 @@ fn rests_of_lines(rt: HostRuntime) {
             take_end(&mut spans, *end);
             take_end(&mut lines, *end);
         }
-        same(
+        assert_same(
             &rt,
             spans.remainder(),
             want.map(|(start, text)| (start, ascii(text))),
         );
-        same(&rt, lines.remainder(), want.map(|(_, text)| ascii(text)));
+        assert_same(&rt, lines.remainder(), want.map(|(_, text)| ascii(text)));
     }
 }
 
@@ -166,7 +167,7 @@ fn offsets(rt: HostRuntime) {
         .map(Some)
         .collect(rt.alloc())
         .expect(&rt, "refused");
-    same(
+    assert_same(
         &rt,
         shown_lines(rt.alloc(), &lines)
             .expect(&rt, "refused")
@@ -184,16 +185,16 @@ fn pieces_at_the_largest_place(rt: HostRuntime) {
         text: AsciiStr::default(),
     };
     let mut split = view.split_spans_from(AsciiChar::Comma, usize::MAX - 2);
-    same(&rt, split.next_back(), Some(last));
-    same(&rt, split.remainder(), Some((usize::MAX - 2, ascii("a"))));
+    assert_same(&rt, split.next_back(), Some(last));
+    assert_same(&rt, split.remainder(), Some((usize::MAX - 2, ascii("a"))));
     let mut split = view.split_spans_from(AsciiChar::Comma, usize::MAX - 2);
     split.next();
-    same(
+    assert_same(
         &rt,
         split.remainder(),
         Some((usize::MAX, AsciiStr::default())),
     );
-    same(&rt, split.next(), Some(last));
+    assert_same(&rt, split.next(), Some(last));
 }
 
 #[test]
@@ -202,11 +203,11 @@ fn lines_at_the_largest_place(rt: HostRuntime) {
     assert!(rt; view.len() <= 3);
     let mut lines = view.line_spans_from(usize::MAX - 3);
     lines.next();
-    same(&rt, lines.remainder(), Some((usize::MAX - 1, ascii("b"))));
+    assert_same(&rt, lines.remainder(), Some((usize::MAX - 1, ascii("b"))));
     lines.next();
-    same(&rt, lines.remainder(), None);
-    same(&rt, lines.next_back(), None);
+    assert_same(&rt, lines.remainder(), None);
+    assert_same(&rt, lines.next_back(), None);
     let none = AsciiStr::default();
     assert!(rt; none.is_empty());
-    same(&rt, none.line_spans_from(usize::MAX).remainder(), None);
+    assert_same(&rt, none.line_spans_from(usize::MAX).remainder(), None);
 }

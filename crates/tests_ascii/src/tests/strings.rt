@@ -1,6 +1,6 @@
 //! Owned text: edits, conversions, collecting and printing.
 
-use super::{ascii, same};
+use super::assert_same;
 use ascii::{
     AsciiChar, AsciiStr, AsciiString, BoxedAsciiStr, CopyError, CowAsciiStr, RcAsciiStr, bytes,
     string, text, vec,
@@ -9,6 +9,7 @@ use std::cmp::Ordering;
 use std::collections::HashSet;
 use std::fmt::Write;
 use std::process::Abort;
+use testing::ascii;
 
 /// The string of a text that is ASCII.
 fn owned<R: Abort + AllocGlobal>(rt: &R, source: &str) -> AsciiString {
@@ -27,43 +28,43 @@ fn edits(rt: HostRuntime) {
     let mut string = owned(&rt, "abc");
     assert!(rt; 1 <= string.len());
     string.insert_str(1, ascii("def")).expect(&rt, "refused");
-    same(&rt, shown(&string), "adefbc");
+    assert_same(&rt, shown(&string), "adefbc");
     assert!(rt; 6 <= string.len());
     string.insert(6, AsciiChar::x).expect(&rt, "refused");
-    same(&rt, shown(&string), "adefbcx");
+    assert_same(&rt, shown(&string), "adefbcx");
     string.truncate(9);
     string.push_str(ascii("")).expect(&rt, "refused");
-    same(&rt, shown(&string), "adefbcx");
+    assert_same(&rt, shown(&string), "adefbcx");
     string.make_ascii_uppercase();
-    same(&rt, shown(&string), "ADEFBCX");
+    assert_same(&rt, shown(&string), "ADEFBCX");
     string.make_ascii_lowercase();
-    same(&rt, shown(&string), "adefbcx");
+    assert_same(&rt, shown(&string), "adefbcx");
 }
 
 #[test]
 fn single_edits(rt: HostRuntime) {
     let mut string = AsciiString::new(rt.alloc());
     assert!(rt; string.is_empty());
-    same(&rt, string.pop(), None);
+    assert_same(&rt, string.pop(), None);
     string.push(AsciiChar::x).expect(&rt, "refused");
-    same(&rt, shown(&string), "x");
-    same(&rt, string.pop(), Some(AsciiChar::x));
+    assert_same(&rt, shown(&string), "x");
+    assert_same(&rt, string.pop(), Some(AsciiChar::x));
     let mut string = owned(&rt, "foo");
     for (place, want) in [(0, AsciiChar::f), (1, AsciiChar::o), (0, AsciiChar::o)] {
         assert!(rt; place < string.len());
-        same(&rt, string.remove(place), want);
+        assert_same(&rt, string.remove(place), want);
     }
     let mut string = owned(&rt, "foo");
     assert!(rt; 2 <= string.len());
     string.insert(2, AsciiChar::b).expect(&rt, "refused");
-    same(&rt, shown(&string), "fobo");
+    assert_same(&rt, shown(&string), "fobo");
     let mut string = owned(&rt, "hello");
     string.truncate(2);
-    same(&rt, shown(&string), "he");
+    assert_same(&rt, shown(&string), "he");
     let mut string = owned(&rt, "hello world\0");
     assert!(rt; 0 < string.len());
     string.set(0, AsciiChar::H);
-    same(&rt, shown(&string), "Hello world\0");
+    assert_same(&rt, shown(&string), "Hello world\0");
 }
 
 #[test]
@@ -73,21 +74,21 @@ fn capacities(rt: HostRuntime) {
     for _ in 0..10 {
         string.push(AsciiChar::a).expect(&rt, "refused");
     }
-    same(&rt, shown(&string), "aaaaaaaaaa");
+    assert_same(&rt, shown(&string), "aaaaaaaaaa");
     let capacity = string.capacity();
     string.clear();
-    same(&rt, string.capacity(), capacity);
+    assert_same(&rt, string.capacity(), capacity);
     assert!(rt; string.is_empty());
     string.push_str(ascii("ab")).expect(&rt, "refused");
     assert!(rt; string.len() <= 2);
     string.reserve(100).expect(&rt, "refused");
     assert!(rt; 102 <= string.capacity());
     string.shrink_to_fit().expect(&rt, "refused");
-    same(&rt, string.capacity(), 2);
+    assert_same(&rt, string.capacity(), 2);
     assert!(rt; string.len() <= 2);
     string.reserve_exact(3).expect(&rt, "refused");
     assert!(rt; 5 <= string.capacity());
-    same(&rt, shown(&string), "ab");
+    assert_same(&rt, shown(&string), "ab");
 }
 
 #[test]
@@ -98,23 +99,23 @@ fn taken_over(rt: HostRuntime) {
         let Err(refusal) = string::into_ascii_string(given) else {
             panic!(rt; "accepted");
         };
-        same(&rt, refusal.ascii_error().valid_up_to(), position);
+        assert_same(&rt, refusal.ascii_error().valid_up_to(), position);
         let Err(again) = string::from_ascii(refusal.into_source()) else {
             panic!(rt; "accepted");
         };
-        same(&rt, again.into_source().as_str(), source);
+        assert_same(&rt, again.into_source().as_str(), source);
         let Err(CopyError::NotAscii(refusal)) = text::to_ascii_string(rt.alloc(), source) else {
             panic!(rt; "accepted");
         };
-        same(&rt, refusal.ascii_error().valid_up_to(), position);
-        same(&rt, refusal.into_source(), source);
+        assert_same(&rt, refusal.ascii_error().valid_up_to(), position);
+        assert_same(&rt, refusal.into_source(), source);
         let Err(CopyError::NotAscii(refusal)) = bytes::to_ascii_string(
             rt.alloc(),
             source.as_bytes(),
         ) else {
             panic!(rt; "accepted");
         };
-        same(&rt, refusal.into_source(), source.as_bytes());
+        assert_same(&rt, refusal.into_source(), source.as_bytes());
     }
 }
 
@@ -125,14 +126,14 @@ fn refused_bytes(rt: HostRuntime) {
     )) else {
         panic!(rt; "accepted");
     };
-    same(
+    assert_same(
         &rt,
         format!(in rt.alloc(); "{refusal}")
             .expect(&rt, "refused")
             .as_str(),
         "the byte at index 1 is not ASCII",
     );
-    same(
+    assert_same(
         &rt,
         format!(in rt.alloc(); "{refusal:?}")
             .expect(&rt, "refused")
@@ -142,7 +143,7 @@ fn refused_bytes(rt: HostRuntime) {
     let Err(again) = vec::from_ascii(refusal.into_source()) else {
         panic!(rt; "accepted");
     };
-    same(
+    assert_same(
         &rt,
         again.into_source().as_slice(),
         [127, 128, 255].as_slice(),
@@ -154,31 +155,31 @@ fn kept_buffers(rt: HostRuntime) {
     let kept = vec::into_ascii_string(vec![in rt.alloc(); 40, 32, 59].expect(
         &rt, "refused",
     )).expect(&rt, "refused");
-    same(&rt, shown(&kept), "( ;");
+    assert_same(&rt, shown(&kept), "( ;");
     let codes: Vec<u8> = kept.into();
-    same(&rt, codes.as_slice(), [40, 32, 59].as_slice());
+    assert_same(&rt, codes.as_slice(), [40, 32, 59].as_slice());
     let kept = vec::from_ascii(codes).expect(&rt, "refused");
     let given: String = kept.into();
-    same(&rt, given.as_str(), "( ;");
+    assert_same(&rt, given.as_str(), "( ;");
     let kept = string::into_ascii_string(given).expect(&rt, "refused");
     let kept = string::from_ascii(kept.into()).expect(&rt, "refused");
-    same(&rt, shown(&kept), "( ;");
+    assert_same(&rt, shown(&kept), "( ;");
     let unchecked = AsciiString::from_ascii_unchecked(vec![in rt.alloc(); 65, 66].expect(
         &rt, "refused",
     ));
-    same(&rt, shown(&unchecked), "AB");
+    assert_same(&rt, shown(&unchecked), "AB");
 }
 
 #[test]
 fn conversions(rt: HostRuntime) {
     let copy = text::to_ascii_string(rt.alloc(), "abc").expect(&rt, "refused");
-    same(&rt, shown(&copy), "abc");
+    assert_same(&rt, shown(&copy), "abc");
     let copy = bytes::to_ascii_string(rt.alloc(), b"abc").expect(&rt, "refused");
     let boxed = copy.into_boxed_ascii_str().expect(&rt, "refused");
-    same(&rt, boxed.as_ascii_str().as_str(), "abc");
+    assert_same(&rt, boxed.as_ascii_str().as_str(), "abc");
     let copy = boxed.into_ascii_string().ok().expect(&rt, "refused");
     let shared = copy.into_rc_ascii_str(rt.alloc()).expect(&rt, "refused");
-    same(
+    assert_same(
         &rt,
         shared
             .clone()
@@ -187,9 +188,9 @@ fn conversions(rt: HostRuntime) {
             .as_str(),
         "abc",
     );
-    same(&rt, shared.as_ascii_str().as_str(), "abc");
+    assert_same(&rt, shared.as_ascii_str().as_str(), "abc");
     let view = ascii("abc");
-    same(
+    assert_same(
         &rt,
         RcAsciiStr::from_ascii_str(rt.alloc(), view)
             .expect(&rt, "refused")
@@ -197,18 +198,18 @@ fn conversions(rt: HostRuntime) {
         view,
     );
     let boxed = BoxedAsciiStr::from_ascii_str(rt.alloc(), view).expect(&rt, "refused");
-    same(&rt, boxed.into_boxed_str().as_str(), "abc");
+    assert_same(&rt, boxed.into_boxed_str().as_str(), "abc");
     let chars = view.to_chars(rt.alloc()).expect(&rt, "refused");
-    same(
+    assert_same(
         &rt,
         chars.as_slice(),
         [AsciiChar::a, AsciiChar::b, AsciiChar::c].as_slice(),
     );
     let copy = AsciiString::from_chars(rt.alloc(), &chars).expect(&rt, "refused");
-    same(&rt, shown(&copy), "abc");
+    assert_same(&rt, shown(&copy), "abc");
     let chars = copy.into_chars(rt.alloc()).expect(&rt, "refused");
-    same(&rt, chars.len(), 3);
-    same(
+    assert_same(&rt, chars.len(), 3);
+    assert_same(
         &rt,
         shown(&AsciiString::from_char(rt.alloc(), AsciiChar::A).expect(&rt, "refused")),
         "A",
@@ -219,12 +220,12 @@ fn conversions(rt: HostRuntime) {
 fn borrowed_or_owned(rt: HostRuntime) {
     let view = ascii("abc");
     let borrowed: CowAsciiStr = view.into();
-    same(&rt, borrowed.as_ascii_str().as_str(), "abc");
+    assert_same(&rt, borrowed.as_ascii_str().as_str(), "abc");
     let copy = borrowed.into_owned(rt.alloc()).ok().expect(&rt, "refused");
     let held: CowAsciiStr = copy.into();
-    same(&rt, held.as_ascii_str().as_str(), "abc");
+    assert_same(&rt, held.as_ascii_str().as_str(), "abc");
     let copy = held.into_owned(rt.alloc()).ok().expect(&rt, "refused");
-    same(&rt, shown(&copy), "abc");
+    assert_same(&rt, shown(&copy), "abc");
 }
 
 #[test]
@@ -234,13 +235,13 @@ fn compared(rt: HostRuntime) {
         for (j, other) in rising.iter().enumerate() {
             let one = owned(&rt, *one);
             let other = owned(&rt, *other);
-            same(&rt, one == other, i == j);
-            same(&rt, one.cmp(&other), i.cmp(&j));
-            same(&rt, one.partial_cmp(&other), Some(i.cmp(&j)));
+            assert_same(&rt, one == other, i == j);
+            assert_same(&rt, one.cmp(&other), i.cmp(&j));
+            assert_same(&rt, one.partial_cmp(&other), Some(i.cmp(&j)));
         }
     }
     let string = owned(&rt, "abc");
-    same(
+    assert_same(
         &rt,
         string.clone().expect(&rt, "refused").cmp(&string),
         Ordering::Equal,
@@ -262,11 +263,11 @@ fn collected(rt: HostRuntime) {
     let view = ascii("abc");
     let mut string = AsciiString::collect_chars(rt.alloc(), view.chars()).expect(&rt, "refused");
     string.extend_chars(view.into_iter()).expect(&rt, "refused");
-    same(&rt, shown(&string), "abcabc");
+    assert_same(&rt, shown(&string), "abcabc");
     string
         .extend_strs(ascii("one\ntwo\nthree").lines())
         .expect(&rt, "refused");
-    same(&rt, shown(&string), "abcabconetwothree");
+    assert_same(&rt, shown(&string), "abcabconetwothree");
     let pieces: Vec<AsciiStr<'_>> = ascii("ASCII Ascii ascii")
         .split(AsciiChar::Space)
         .collect(rt.alloc())
@@ -282,12 +283,12 @@ fn collected(rt: HostRuntime) {
             .expect(&rt, "refused");
     }
     string.push(AsciiChar::LineFeed).expect(&rt, "refused");
-    same(&rt, shown(&string), "abcabconetwothreeASCIIASCIIASCII\n");
+    assert_same(&rt, shown(&string), "abcabconetwothreeASCIIASCIIASCII\n");
     let joined = AsciiString::collect_strs(
         rt.alloc(),
         ascii("a,b,,c").split(AsciiChar::Comma),
     ).expect(&rt, "refused");
-    same(&rt, shown(&joined), "abc");
+    assert_same(&rt, shown(&joined), "abc");
 }
 
 #[test]
@@ -296,28 +297,28 @@ fn printed(rt: HostRuntime) {
     string.write_str("ab").expect(&rt, "refused");
     assert!(rt; string.write_str("cé").is_err());
     assert!(rt; string.write_char('é').is_err());
-    same(&rt, shown(&string), "ab");
+    assert_same(&rt, shown(&string), "ab");
     string.write_char('c').expect(&rt, "refused");
-    same(&rt, shown(&string), "abc");
+    assert_same(&rt, shown(&string), "abc");
     let mut counted = AsciiString::new(rt.alloc());
     write!(counted, "Hello {} {}", "World", 9).expect(&rt, "refused");
-    same(&rt, shown(&counted), "Hello World 9");
+    assert_same(&rt, shown(&counted), "Hello World 9");
     let view = string.as_ascii_str();
-    same(
+    assert_same(
         &rt,
         format!(in rt.alloc(); "{view}{string}")
             .expect(&rt, "refused")
             .as_str(),
         "abcabc",
     );
-    same(
+    assert_same(
         &rt,
         format!(in rt.alloc(); "{view:>5}{string:>5}")
             .expect(&rt, "refused")
             .as_str(),
         "  abc  abc",
     );
-    same(
+    assert_same(
         &rt,
         format!(in rt.alloc(); "{view:?}{string:?}")
             .expect(&rt, "refused")
@@ -329,7 +330,7 @@ fn printed(rt: HostRuntime) {
         ("a\"b", "\"a\\\"b\""),
     ] {
         let view = ascii(source);
-        same(
+        assert_same(
             &rt,
             format!(in rt.alloc(); "{view:?}")
                 .expect(&rt, "refused")

@@ -1,11 +1,12 @@
 //! Vectors that were made with the Rust crate.
 
+use super::assert_same;
 use super::views::outcome;
-use super::{ascii, same};
 use ascii::{AsciiChar, AsciiRange, bytes, text};
 use std::alloc::{AllocError, Global};
 use std::cmp::Ordering;
 use std::process::Abort;
+use testing::ascii;
 
 // For sources of length 0, 1 and 33 the outcomes of the ranges in the order of `ranges`: `w` for the
 // whole source, `e` for no byte, `f` for the first byte, `r` for a refusal, which names the length.
@@ -54,14 +55,14 @@ fn length_of(slice: Result<&str, usize>) -> Result<usize, usize> {
 #[test]
 fn every_form_at_its_edges(rt: HostRuntime) {
     let whole = ascii("@ABCDEFGHIJKLMNOPQRSTUVWXYZ[\\]^_`");
-    same(&rt, whole.len(), 33);
+    assert_same(&rt, whole.len(), 33);
     for &(length, letters) in &OUTCOMES {
         let Ok(view) = whole.slice_ascii(AsciiRange::To(length)) else {
             panic!(rt; "too long");
         };
         let source = view.as_str();
         let all = ranges(rt.alloc(), length).expect(&rt, "refused");
-        same(&rt, all.len(), letters.len());
+        assert_same(&rt, all.len(), letters.len());
         for (range, letter) in all.iter().zip(letters.bytes()) {
             let want = match letter {
                 b'w' => Ok(source),
@@ -69,19 +70,19 @@ fn every_form_at_its_edges(rt: HostRuntime) {
                 b'f' => Ok("@"),
                 _ => Err(length),
             };
-            same(&rt, outcome(view.slice_ascii(*range)), want);
-            same(&rt, outcome(text::slice_ascii(source, *range)), want);
-            same(
+            assert_same(&rt, outcome(view.slice_ascii(*range)), want);
+            assert_same(&rt, outcome(text::slice_ascii(source, *range)), want);
+            assert_same(
                 &rt,
                 outcome(bytes::slice_ascii(source.as_bytes(), *range)),
                 want,
             );
-            same(&rt, range.fits(length), want.is_ok());
+            assert_same(&rt, range.fits(length), want.is_ok());
             let mut copy = [0; 33];
             let Some(part) = copy.get_mut(..length) else {
                 panic!(rt; "too long");
             };
-            same(&rt, length_for_writing(part, *range), length_of(want));
+            assert_same(&rt, length_for_writing(part, *range), length_of(want));
         }
     }
 }
@@ -200,9 +201,9 @@ static TRIMS: [(&str, &str, &str, &str, &str, &str); 20] = [
 fn trims(rt: HostRuntime) {
     for &(source, start, end, both, _, _) in &TRIMS {
         let view = ascii(source);
-        same(&rt, view.trim_start().as_str(), start);
-        same(&rt, view.trim_end().as_str(), end);
-        same(&rt, view.trim().as_str(), both);
+        assert_same(&rt, view.trim_start().as_str(), start);
+        assert_same(&rt, view.trim_end().as_str(), end);
+        assert_same(&rt, view.trim().as_str(), both);
     }
 }
 
@@ -210,7 +211,7 @@ fn trims(rt: HostRuntime) {
 fn cases(rt: HostRuntime) {
     for &(source, _, _, _, upper, lower) in &TRIMS {
         let view = ascii(source);
-        same(
+        assert_same(
             &rt,
             view.to_ascii_uppercase(rt.alloc())
                 .expect(&rt, "refused")
@@ -218,7 +219,7 @@ fn cases(rt: HostRuntime) {
                 .as_str(),
             upper,
         );
-        same(
+        assert_same(
             &rt,
             view.to_ascii_lowercase(rt.alloc())
                 .expect(&rt, "refused")
@@ -260,8 +261,8 @@ static COMPARISONS: [(&str, &str, Ordering, bool); 24] = [
 #[test]
 fn comparisons(rt: HostRuntime) {
     for &(one, other, order, is_equal) in &COMPARISONS {
-        same(&rt, ascii(one).cmp(&ascii(other)), order);
-        same(&rt, ascii(one).eq_ignore_ascii_case(ascii(other)), is_equal);
+        assert_same(&rt, ascii(one).cmp(&ascii(other)), order);
+        assert_same(&rt, ascii(one).eq_ignore_ascii_case(ascii(other)), is_equal);
     }
 }
 
@@ -413,7 +414,7 @@ fn debug_of<R: Abort + AllocGlobal>(rt: &R, code: u8) -> (String, String) {
 fn debug_of_each_code(rt: HostRuntime) {
     for (code, want) in (0..128).zip(&DEBUGS) {
         let (view, string) = debug_of(&rt, code);
-        same(&rt, view.as_str(), *want);
-        same(&rt, string.as_str(), *want);
+        assert_same(&rt, view.as_str(), *want);
+        assert_same(&rt, string.as_str(), *want);
     }
 }

@@ -1,8 +1,9 @@
 //! Views: slices, reads, trims and comparisons.
 
-use super::{ascii, same};
+use super::assert_same;
 use ascii::{AsAsciiStrError, AsciiChar, AsciiRange, AsciiStr, bytes, text};
 use std::cmp::Ordering;
+use testing::ascii;
 
 /// What a slice gave: its text, or the position of the refusal.
 pub fn outcome(slice: Result<AsciiStr<'_>, AsAsciiStrError>) -> Result<&str, usize> {
@@ -36,8 +37,8 @@ static SLICES: [(&str, AsciiRange, Result<&str, usize>); 17] = [
 #[test]
 fn slices_of_text(rt: HostRuntime) {
     for &(source, range, want) in &SLICES {
-        same(&rt, outcome(text::slice_ascii(source, range)), want);
-        same(
+        assert_same(&rt, outcome(text::slice_ascii(source, range)), want);
+        assert_same(
             &rt,
             outcome(bytes::slice_ascii(source.as_bytes(), range)),
             want,
@@ -49,17 +50,17 @@ fn slices_of_text(rt: HostRuntime) {
         ("( ;", Ok("( ;")),
         ("", Ok("")),
     ] {
-        same(&rt, outcome(text::as_ascii_str(source)), want);
-        same(&rt, outcome(text::from_ascii(source)), want);
-        same(&rt, outcome(bytes::as_ascii_str(source.as_bytes())), want);
-        same(&rt, outcome(bytes::from_ascii(source.as_bytes())), want);
+        assert_same(&rt, outcome(text::as_ascii_str(source)), want);
+        assert_same(&rt, outcome(text::from_ascii(source)), want);
+        assert_same(&rt, outcome(bytes::as_ascii_str(source.as_bytes())), want);
+        assert_same(&rt, outcome(bytes::from_ascii(source.as_bytes())), want);
     }
-    same(
+    assert_same(
         &rt,
         outcome(bytes::as_ascii_str([127, 128, 255].as_slice())),
         Err(1),
     );
-    same(
+    assert_same(
         &rt,
         outcome(bytes::slice_ascii([0xc4, 0x8d].as_slice(), AsciiRange::Range(1, 1))),
         Ok(""),
@@ -70,17 +71,17 @@ fn slices_of_text(rt: HostRuntime) {
 fn a_byte_past_127_behind_32(rt: HostRuntime) {
     let mut source = [b'a'; 33];
     source[32] = 128;
-    same(
+    assert_same(
         &rt,
         outcome(bytes::as_ascii_str(source.as_slice())),
         Err(32),
     );
-    same(
+    assert_same(
         &rt,
         outcome(bytes::slice_ascii(source.as_slice(), AsciiRange::From(1))),
         Err(32),
     );
-    same(
+    assert_same(
         &rt,
         outcome(bytes::slice_ascii(source.as_slice(), AsciiRange::To(32))),
         Ok("aaaaaaaaaaaaaaaaaaaaaaaaaaaaaaaa"),
@@ -97,20 +98,20 @@ fn characters_of_sources(rt: HostRuntime) {
         ("", 0, None),
         ("ab", usize::MAX, None),
     ] {
-        same(&rt, text::get_ascii(source, i), want);
-        same(&rt, bytes::get_ascii(source.as_bytes(), i), want);
+        assert_same(&rt, text::get_ascii(source, i), want);
+        assert_same(&rt, bytes::get_ascii(source.as_bytes(), i), want);
     }
     let view = ascii("abc");
-    same(&rt, view.first(), Some(AsciiChar::a));
-    same(&rt, view.last(), Some(AsciiChar::c));
-    same(&rt, view.get_ascii(1), Some(AsciiChar::b));
-    same(&rt, view.get_ascii(3), None);
-    same(&rt, view.len(), 3);
+    assert_same(&rt, view.first(), Some(AsciiChar::a));
+    assert_same(&rt, view.last(), Some(AsciiChar::c));
+    assert_same(&rt, view.get_ascii(1), Some(AsciiChar::b));
+    assert_same(&rt, view.get_ascii(3), None);
+    assert_same(&rt, view.len(), 3);
     assert!(rt; !view.is_empty());
     let empty = AsciiStr::default();
     assert!(rt; empty.is_empty());
-    same(&rt, empty.first(), None);
-    same(&rt, empty.last(), None);
+    assert_same(&rt, empty.first(), None);
+    assert_same(&rt, empty.last(), None);
 }
 
 /// A range, and that part of `ABCD`.
@@ -131,23 +132,23 @@ static PARTS: [(AsciiRange, &str); 11] = [
 #[test]
 fn parts_of_views(rt: HostRuntime) {
     let view = bytes::as_ascii_str_unchecked(b"ABCD");
-    same(&rt, view, text::as_ascii_str_unchecked("ABCD"));
-    same(&rt, view, bytes::from_ascii_unchecked(b"ABCD"));
-    same(&rt, view, text::from_ascii_unchecked("ABCD"));
-    same(&rt, outcome(view.as_ascii_str()), Ok("ABCD"));
+    assert_same(&rt, view, text::as_ascii_str_unchecked("ABCD"));
+    assert_same(&rt, view, bytes::from_ascii_unchecked(b"ABCD"));
+    assert_same(&rt, view, text::from_ascii_unchecked("ABCD"));
+    assert_same(&rt, outcome(view.as_ascii_str()), Ok("ABCD"));
     for &(range, want) in &PARTS {
         assert!(rt; range.fits(view.len()));
-        same(&rt, view.slice(range).as_str(), want);
-        same(&rt, outcome(view.slice_ascii(range)), Ok(want));
+        assert_same(&rt, view.slice(range).as_str(), want);
+        assert_same(&rt, outcome(view.slice_ascii(range)), Ok(want));
     }
-    same(&rt, outcome(view.slice_ascii(AsciiRange::To(5))), Err(4));
+    assert_same(&rt, outcome(view.slice_ascii(AsciiRange::To(5))), Err(4));
     assert!(rt; 1 < view.len());
-    same(&rt, view.char_at(1).as_char(), 'B');
+    assert_same(&rt, view.char_at(1).as_char(), 'B');
     let lent: &str = view.into();
-    same(&rt, lent, "ABCD");
+    assert_same(&rt, lent, "ABCD");
     let codes: &[u8] = view.into();
-    same(&rt, codes, b"ABCD".as_slice());
-    same(&rt, view.as_bytes(), b"ABCD".as_slice());
+    assert_same(&rt, codes, b"ABCD".as_slice());
+    assert_same(&rt, view.as_bytes(), b"ABCD".as_slice());
 }
 
 /// A text, and it without the white space at its start, at its end, and at both.
@@ -169,9 +170,9 @@ static TRIMS: [(&str, &str, &str, &str); 6] = [
 fn trims(rt: HostRuntime) {
     for &(source, start, end, both) in &TRIMS {
         let view = ascii(source);
-        same(&rt, view.trim_start().as_str(), start);
-        same(&rt, view.trim_end().as_str(), end);
-        same(&rt, view.trim().as_str(), both);
+        assert_same(&rt, view.trim_start().as_str(), start);
+        assert_same(&rt, view.trim_end().as_str(), end);
+        assert_same(&rt, view.trim().as_str(), both);
     }
 }
 
@@ -189,24 +190,24 @@ static PAIRS: [(&str, &str, bool); 7] = [
 #[test]
 fn comparisons(rt: HostRuntime) {
     for &(one, other, want) in &PAIRS {
-        same(&rt, ascii(one).eq_ignore_ascii_case(ascii(other)), want);
-        same(&rt, ascii(other).eq_ignore_ascii_case(ascii(one)), want);
+        assert_same(&rt, ascii(one).eq_ignore_ascii_case(ascii(other)), want);
+        assert_same(&rt, ascii(other).eq_ignore_ascii_case(ascii(one)), want);
     }
     let rising = ["", "Z", "a", "ab", "abc", "b"];
     for (i, one) in rising.iter().enumerate() {
         for (j, other) in rising.iter().enumerate() {
-            same(&rt, ascii(*one).cmp(&ascii(*other)), i.cmp(&j));
-            same(&rt, ascii(*one) == ascii(*other), i == j);
-            same(
+            assert_same(&rt, ascii(*one).cmp(&ascii(*other)), i.cmp(&j));
+            assert_same(&rt, ascii(*one) == ascii(*other), i == j);
+            assert_same(
                 &rt,
                 ascii(*one).partial_cmp(&ascii(*other)),
                 Some(i.cmp(&j)),
             );
-            same(&rt, ascii(*one).eq_str(*other), i == j);
-            same(&rt, ascii(*one).eq_bytes(other.as_bytes()), i == j);
+            assert_same(&rt, ascii(*one).eq_str(*other), i == j);
+            assert_same(&rt, ascii(*one).eq_bytes(other.as_bytes()), i == j);
         }
     }
-    same(&rt, ascii("abc").cmp(&ascii("abd")), Ordering::Less);
+    assert_same(&rt, ascii("abc").cmp(&ascii("abd")), Ordering::Less);
     assert!(rt; !ascii("abc").eq_str("abč"));
 }
 
@@ -215,15 +216,15 @@ fn printed_refusals(rt: HostRuntime) {
     let Err(error) = text::as_ascii_str("zoä华") else {
         panic!(rt; "accepted");
     };
-    same(&rt, error.description(), "one or more bytes are not ASCII");
-    same(
+    assert_same(&rt, error.description(), "one or more bytes are not ASCII");
+    assert_same(
         &rt,
         format!(in rt.alloc(); "{error}")
             .expect(&rt, "refused")
             .as_str(),
         "the byte at index 2 is not ASCII",
     );
-    same(
+    assert_same(
         &rt,
         format!(in rt.alloc(); "{error:?}")
             .expect(&rt, "refused")

@@ -1,4 +1,4 @@
-use super::same;
+use super::assert_same;
 use ascii_base::ascii_char::{AsciiChar, ToAsciiChar, ToAsciiCharError};
 use ascii_base::free_functions::{caret_decode, caret_encode};
 use std::cmp::Ordering;
@@ -171,37 +171,37 @@ fn every_code(rt: HostRuntime) {
     for code in 0..128u8 {
         let (bits, radix, upper, lower, shown, written, read, debug) = ROWS[code as usize];
         let ch = AsciiChar::new(code as char);
-        same(&rt, ch.as_byte(), code);
-        same(&rt, ch.as_char(), code as char);
-        same(&rt, u8::from(ch), code);
-        same(&rt, char::from(ch), code as char);
-        same(&rt, AsciiChar::from_ascii_unchecked(code), ch);
-        same(&rt, code.to_ascii_char(), Ok(ch));
-        same(&rt, classes(ch), bits);
+        assert_same(&rt, ch.as_byte(), code);
+        assert_same(&rt, ch.as_char(), code as char);
+        assert_same(&rt, u8::from(ch), code);
+        assert_same(&rt, char::from(ch), code as char);
+        assert_same(&rt, AsciiChar::from_ascii_unchecked(code), ch);
+        assert_same(&rt, code.to_ascii_char(), Ok(ch));
+        assert_same(&rt, classes(ch), bits);
         for tried in 2..37u32 {
-            same(&rt, ch.is_digit(tried), tried >= radix);
+            assert_same(&rt, ch.is_digit(tried), tried >= radix);
         }
-        same(&rt, ch.to_ascii_uppercase().as_byte(), upper);
-        same(&rt, ch.to_ascii_lowercase().as_byte(), lower);
-        same(&rt, ch.as_printable_char() as u32, shown);
-        same(
+        assert_same(&rt, ch.to_ascii_uppercase().as_byte(), upper);
+        assert_same(&rt, ch.to_ascii_lowercase().as_byte(), lower);
+        assert_same(&rt, ch.as_printable_char() as u32, shown);
+        assert_same(
             &rt,
             caret_encode(code).map(|partner| partner.as_byte()),
             written,
         );
-        same(
+        assert_same(
             &rt,
             caret_decode(code).map(|control| control.as_byte()),
             read,
         );
-        same(
+        assert_same(
             &rt,
             format!(in rt.alloc(); "{ch:?}")
                 .expect(&rt, "refused")
                 .as_str(),
             debug,
         );
-        same(
+        assert_same(
             &rt,
             format!(in rt.alloc(); "{ch}")
                 .expect(&rt, "refused")
@@ -233,7 +233,7 @@ fn counts(rt: HostRuntime) {
             Ok(ch) => classes(ch) & bits == bits,
             Err(_) => false,
         });
-        same(&rt, held.count(), count);
+        assert_same(&rt, held.count(), count);
     }
 }
 
@@ -256,10 +256,10 @@ fn acceptance(rt: HostRuntime) {
         accepted('λ'),
         accepted('\u{80}'),
     ] {
-        same(&rt, refused, None);
+        assert_same(&rt, refused, None);
     }
-    same(&rt, 127_i8.to_ascii_char(), Ok(AsciiChar::DEL));
-    same(&rt, 0_i8.to_ascii_char_unchecked(), AsciiChar::Null);
+    assert_same(&rt, 127_i8.to_ascii_char(), Ok(AsciiChar::DEL));
+    assert_same(&rt, 0_i8.to_ascii_char_unchecked(), AsciiChar::Null);
     for letter in [
         accepted(AsciiChar::A),
         accepted(65_i8),
@@ -274,7 +274,7 @@ fn acceptance(rt: HostRuntime) {
         Some(65_u32.to_ascii_char_unchecked()),
         Some('A'.to_ascii_char_unchecked()),
     ] {
-        same(&rt, letter, Some(AsciiChar::A));
+        assert_same(&rt, letter, Some(AsciiChar::A));
     }
 }
 
@@ -285,15 +285,15 @@ fn refusal_texts(rt: HostRuntime) {
     };
     let again: ToAsciiCharError = refusal;
     assert!(rt; refusal == again);
-    same(&rt, refusal.description(), "not an ASCII character");
-    same(
+    assert_same(&rt, refusal.description(), "not an ASCII character");
+    assert_same(
         &rt,
         format!(in rt.alloc(); "{refusal}")
             .expect(&rt, "refused")
             .as_str(),
         "not an ASCII character",
     );
-    same(
+    assert_same(
         &rt,
         format!(in rt.alloc(); "{refusal:?}")
             .expect(&rt, "refused")
@@ -311,7 +311,7 @@ fn digits_in_strange_radixes(rt: HostRuntime) {
         (AsciiChar::z, 35, false),
         (AsciiChar::z, 36, true),
     ] {
-        same(&rt, is_digit(ch, radix), want);
+        assert_same(&rt, is_digit(ch, radix), want);
     }
 }
 
@@ -348,15 +348,15 @@ fn cases(rt: HostRuntime) {
         let mut changed = (ch, ch);
         changed.0.make_ascii_uppercase();
         changed.1.make_ascii_lowercase();
-        same(&rt, changed, (upper, lower));
-        same(
+        assert_same(&rt, changed, (upper, lower));
+        assert_same(
             &rt,
             (ch.to_ascii_uppercase(), ch.to_ascii_lowercase()),
             (upper, lower),
         );
     }
     for &(one, other, want) in &PAIRS {
-        same(&rt, one.eq_ignore_ascii_case(&other), want);
+        assert_same(&rt, one.eq_ignore_ascii_case(&other), want);
     }
 }
 
@@ -368,44 +368,44 @@ fn printed(rt: HostRuntime) {
         (AsciiChar::DEL, 0x2421),
         (AsciiChar::Space, 0x20),
     ] {
-        same(&rt, ch.as_printable_char() as u32, shown);
+        assert_same(&rt, ch.as_printable_char() as u32, shown);
     }
-    same(
+    assert_same(
         &rt,
         format!(in rt.alloc(); "{}", AsciiChar::t)
             .expect(&rt, "refused")
             .as_str(),
         "t",
     );
-    same(
+    assert_same(
         &rt,
         format!(in rt.alloc(); "{:?}", AsciiChar::t)
             .expect(&rt, "refused")
             .as_str(),
         "'t'",
     );
-    same(
+    assert_same(
         &rt,
         format!(in rt.alloc(); "{}", AsciiChar::LineFeed)
             .expect(&rt, "refused")
             .as_str(),
         "\n",
     );
-    same(
+    assert_same(
         &rt,
         format!(in rt.alloc(); "{:?}", AsciiChar::LineFeed)
             .expect(&rt, "refused")
             .as_str(),
         "'\\n'",
     );
-    same(
+    assert_same(
         &rt,
         format!(in rt.alloc(); "[{:>3}]", AsciiChar::t)
             .expect(&rt, "refused")
             .as_str(),
         "[  t]",
     );
-    same(
+    assert_same(
         &rt,
         format!(in rt.alloc(); "[{:*^4}]", AsciiChar::t)
             .expect(&rt, "refused")
@@ -416,9 +416,9 @@ fn printed(rt: HostRuntime) {
 
 #[test]
 fn order_and_hash(rt: HostRuntime) {
-    same(&rt, AsciiChar::default(), AsciiChar::Null);
-    same(&rt, AsciiChar::A.cmp(&AsciiChar::a), Ordering::Less);
-    same(
+    assert_same(&rt, AsciiChar::default(), AsciiChar::Null);
+    assert_same(&rt, AsciiChar::A.cmp(&AsciiChar::a), Ordering::Less);
+    assert_same(
         &rt,
         AsciiChar::a.partial_cmp(&AsciiChar::A),
         Some(Ordering::Greater),

@@ -1,4 +1,4 @@
-use super::same;
+use super::assert_same;
 use ascii_base::classes::{
     Alphabetic, Alphanumeric, Ascii, AsciiWhitespace, Blank, Class, ClassBy, Control, Digit,
     Graphic, Hexdigit, Label, Lowercase, Printable, Punctuation, Token, Uppercase, Whitespace,
@@ -63,14 +63,14 @@ fn each_byte_by_list(rt: HostRuntime) {
 
 #[test]
 fn marks_of_several_bytes(rt: HostRuntime) {
-    same(&rt, <Digit as ClassBy<4>>::marks(b"42px", 0), 0b1100);
-    same(
+    assert_same(&rt, <Digit as ClassBy<4>>::marks(b"42px", 0), 0b1100);
+    assert_same(
         &rt,
         <Token as ClassBy<8>>::marks(b"Host: a.example", 2),
         0b0000_1100,
     );
-    same(&rt, <Ascii as ClassBy<4>>::marks(b"a\xc4b\xff", 0), 0b1010);
-    same(
+    assert_same(&rt, <Ascii as ClassBy<4>>::marks(b"a\xc4b\xff", 0), 0b1010);
+    assert_same(
         &rt,
         <Whitespace as ClassBy<4>>::marks(b"a \t\x85", 0),
         0b1001,

@@ -1,6 +1,6 @@
 //! The examples in the documentation of `ascii_base`, made by `bin/examples`.
 
-use super::shows;
+use super::assert_debug;
 use ascii_base::ascii_char::{AsciiChar, ToAsciiChar};
 use ascii_base::classes::{Ascii, Class, ClassBy, Digit, Whitespace};
 use ascii_base::free_functions::{caret_decode, caret_encode};
@@ -14,7 +14,7 @@ use std::collections::HashSet;
 #[test]
 fn ascii_char_1(rt: HostRuntime) {
     let alloc = rt.alloc();
-    shows(
+    assert_debug(
         &rt,
         alloc,
         &(
@@ -43,7 +43,7 @@ fn ascii_char_1(rt: HostRuntime) {
 #[test]
 fn ascii_char_2(rt: HostRuntime) {
     let alloc = rt.alloc();
-    shows(
+    assert_debug(
         &rt,
         alloc,
         &(
@@ -73,7 +73,7 @@ fn ascii_char_2(rt: HostRuntime) {
 #[test]
 fn ascii_char_3(rt: HostRuntime) {
     let alloc = rt.alloc();
-    shows(
+    assert_debug(
         &rt,
         alloc,
         &(
@@ -108,15 +108,15 @@ fn ascii_char_4(rt: HostRuntime) {
     {
         let mut ch = AsciiChar::a;
         ch.make_ascii_uppercase();
-        shows(&rt, alloc, &ch, "'A'");
+        assert_debug(&rt, alloc, &ch, "'A'");
     }
     // AsciiChar::make_ascii_lowercase
     {
         let mut ch = AsciiChar::A;
         ch.make_ascii_lowercase();
-        shows(&rt, alloc, &ch, "'a'");
+        assert_debug(&rt, alloc, &ch, "'a'");
     }
-    shows(
+    assert_debug(
         &rt,
         alloc,
         &(
@@ -136,7 +136,7 @@ fn ascii_char_4(rt: HostRuntime) {
 #[test]
 fn ascii_char_5(rt: HostRuntime) {
     let alloc = rt.alloc();
-    shows(
+    assert_debug(
         &rt,
         alloc,
         &(
@@ -153,10 +153,10 @@ fn ascii_char_5(rt: HostRuntime) {
     {
         let mut seen = HashSet::new(alloc);
         seen.insert(AsciiChar::a).expect(&rt, "refused");
-        shows(&rt, alloc, &seen.contains(&AsciiChar::a), "true");
+        assert_debug(&rt, alloc, &seen.contains(&AsciiChar::a), "true");
     }
     // Display for AsciiChar::fmt
-    shows(
+    assert_debug(
         &rt,
         alloc,
         &format!(in alloc; "{}", AsciiChar::a).expect(&rt, "refused"),
@@ -167,7 +167,7 @@ fn ascii_char_5(rt: HostRuntime) {
 #[test]
 fn ascii_char_6(rt: HostRuntime) {
     let alloc = rt.alloc();
-    shows(
+    assert_debug(
         &rt,
         alloc,
         &(
@@ -186,20 +186,20 @@ fn ascii_char_6(rt: HostRuntime) {
 fn u8_1(rt: HostRuntime) {
     let alloc = rt.alloc();
     // From<AsciiChar> for u8::from
-    shows(&rt, alloc, &u8::from(AsciiChar::a), "97");
+    assert_debug(&rt, alloc, &u8::from(AsciiChar::a), "97");
 }
 
 #[test]
 fn char_1(rt: HostRuntime) {
     let alloc = rt.alloc();
     // From<AsciiChar> for char::from
-    shows(&rt, alloc, &char::from(AsciiChar::a), "'a'");
+    assert_debug(&rt, alloc, &char::from(AsciiChar::a), "'a'");
 }
 
 #[test]
 fn to_ascii_char_error_1(rt: HostRuntime) {
     let alloc = rt.alloc();
-    shows(
+    assert_debug(
         &rt,
         alloc,
         &(
@@ -217,7 +217,7 @@ fn to_ascii_char_error_1(rt: HostRuntime) {
 #[test]
 fn classes_1(rt: HostRuntime) {
     let alloc = rt.alloc();
-    shows(
+    assert_debug(
         &rt,
         alloc,
         &(
@@ -234,7 +234,7 @@ fn classes_1(rt: HostRuntime) {
 fn ascii_1(rt: HostRuntime) {
     let alloc = rt.alloc();
     // ClassBy<N> for Ascii::marks
-    shows(
+    assert_debug(
         &rt,
         alloc,
         &<Ascii as ClassBy<4>>::marks(b"a\xc4b\xff", 0),
@@ -246,7 +246,7 @@ fn ascii_1(rt: HostRuntime) {
 fn whitespace_1(rt: HostRuntime) {
     let alloc = rt.alloc();
     // ClassBy<N> for Whitespace::marks
-    shows(
+    assert_debug(
         &rt,
         alloc,
         &<Whitespace as ClassBy<4>>::marks(b"a \tb", 0),
@@ -257,7 +257,7 @@ fn whitespace_1(rt: HostRuntime) {
 #[test]
 fn free_functions_1(rt: HostRuntime) {
     let alloc = rt.alloc();
-    shows(
+    assert_debug(
         &rt,
         alloc,
         &(
@@ -274,7 +274,7 @@ fn free_functions_1(rt: HostRuntime) {
 #[test]
 fn kernels_1(rt: HostRuntime) {
     let alloc = rt.alloc();
-    shows(
+    assert_debug(
         &rt,
         alloc,
         &(
@@ -293,7 +293,7 @@ fn kernels_1(rt: HostRuntime) {
     {
         let mut bytes = *b"ab-7";
         upper_in_place(&mut bytes);
-        shows(&rt, alloc, &(bytes == *b"AB-7"), "true");
+        assert_debug(&rt, alloc, &(bytes == *b"AB-7"), "true");
     }
 }
 
@@ -304,9 +304,9 @@ fn kernels_2(rt: HostRuntime) {
     {
         let mut bytes = *b"AB-7";
         lower_in_place(&mut bytes);
-        shows(&rt, alloc, &(bytes == *b"ab-7"), "true");
+        assert_debug(&rt, alloc, &(bytes == *b"ab-7"), "true");
     }
-    shows(
+    assert_debug(
         &rt,
         alloc,
         &(
@@ -325,7 +325,7 @@ fn kernels_2(rt: HostRuntime) {
 #[test]
 fn ascii_range_1(rt: HostRuntime) {
     let alloc = rt.alloc();
-    shows(
+    assert_debug(
         &rt,
         alloc,
         &(

@@ -1,4 +1,4 @@
-use super::same;
+use super::assert_same;
 use ascii_base::range::AsciiRange;
 
 #[test]
@@ -19,9 +19,9 @@ fn ranges(rt: HostRuntime) {
         (AsciiRange::ToInclusive(3), 3, false),
         (AsciiRange::ToInclusive(usize::MAX), usize::MAX, false),
     ] {
-        same(&rt, range.fits(len), fits);
+        assert_same(&rt, range.fits(len), fits);
     }
-    same(&rt, AsciiRange::Inclusive(1, 2).start(), 1);
-    same(&rt, AsciiRange::Inclusive(1, 2).end(3), 3);
-    same(&rt, AsciiRange::Full.end(3), 3);
+    assert_same(&rt, AsciiRange::Inclusive(1, 2).start(), 1);
+    assert_same(&rt, AsciiRange::Inclusive(1, 2).end(3), 3);
+    assert_same(&rt, AsciiRange::Full.end(3), 3);
 }

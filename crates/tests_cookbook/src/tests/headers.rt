@@ -1,9 +1,10 @@
 //! Header lines of messages.
 
-use super::{ascii, same};
+use super::assert_same;
 use cookbook::headers::{
     Header, HeaderBlockError, HeaderError, find_header, read_header, read_headers,
 };
+use testing::ascii;
 
 /// Lines with a name and a value.
 static GOOD: [(&str, &str, &str); 6] = [
@@ -35,14 +36,14 @@ fn lines(rt: HostRuntime) {
             name: ascii(name),
             value: ascii(value),
         };
-        same(&rt, read_header(ascii(line)), Ok(wanted));
+        assert_same(&rt, read_header(ascii(line)), Ok(wanted));
     }
 }
 
 #[test]
 fn refused_lines(rt: HostRuntime) {
     for &(line, error) in &BAD {
-        same(&rt, read_header(ascii(line)), Err(error));
+        assert_same(&rt, read_header(ascii(line)), Err(error));
     }
 }
 
@@ -50,7 +51,7 @@ fn refused_lines(rt: HostRuntime) {
 fn blocks(rt: HostRuntime) {
     let block = ascii("Host: a\r\nAccept: b\nHOST: c");
     let headers = read_headers(rt.alloc(), block).expect(&rt, "refused");
-    same(&rt, headers.len(), 3);
+    assert_same(&rt, headers.len(), 3);
     let first = Header {
         name: ascii("Host"),
         value: ascii("a"),
@@ -59,9 +60,9 @@ fn blocks(rt: HostRuntime) {
         name: ascii("Accept"),
         value: ascii("b"),
     };
-    same(&rt, find_header(&headers, ascii("hosT")), Some(first));
-    same(&rt, find_header(&headers, ascii("ACCEPT")), Some(second));
-    same(&rt, find_header(&headers, ascii("Hos")), None);
+    assert_same(&rt, find_header(&headers, ascii("hosT")), Some(first));
+    assert_same(&rt, find_header(&headers, ascii("ACCEPT")), Some(second));
+    assert_same(&rt, find_header(&headers, ascii("Hos")), None);
 }
 
 #[test]
@@ -73,7 +74,7 @@ fn refused_blocks(rt: HostRuntime) {
         error,
     };
     let block = ascii("Host: a\r\nAcc: b\nH(st: c\nx");
-    same(&rt, read_headers(rt.alloc(), block).err(), Some(third));
+    assert_same(&rt, read_headers(rt.alloc(), block).err(), Some(third));
     let error = HeaderError::NoColon;
     let second = HeaderBlockError::InLine {
         number: 1,
@@ -81,8 +82,8 @@ fn refused_blocks(rt: HostRuntime) {
         error,
     };
     let block = ascii("Host: a\n\nbody");
-    same(&rt, read_headers(rt.alloc(), block).err(), Some(second));
-    same(
+    assert_same(&rt, read_headers(rt.alloc(), block).err(), Some(second));
+    assert_same(
         &rt,
         read_headers(rt.alloc(), ascii("")).map(|headers| headers.len()),
         Ok(0),

@@ -1,6 +1,6 @@
 //! The callers that edit a part of a source, each once.
 
-use super::same;
+use super::assert_same;
 use ascii::AsciiRange;
 use tests_callers::in_place::{upper_in, upper_in_one_call};
 
@@ -21,13 +21,13 @@ fn a_part_is_raised(rt: HostRuntime) {
         let mut first = SOURCE;
         let mut second = SOURCE;
         let is_done = upper_in(&mut first[..], range).is_ok();
-        same(
+        assert_same(
             &rt,
             upper_in_one_call(&mut second[..], range).is_ok(),
             is_done,
         );
-        same(&rt, is_done, edited.is_some());
-        same(&rt, first, edited.unwrap_or(SOURCE));
-        same(&rt, second, first);
+        assert_same(&rt, is_done, edited.is_some());
+        assert_same(&rt, first, edited.unwrap_or(SOURCE));
+        assert_same(&rt, second, first);
     }
 }

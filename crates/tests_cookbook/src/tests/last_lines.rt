@@ -1,7 +1,8 @@
 //! The last lines of texts with each ending.
 
-use super::{ascii, same};
+use super::assert_same;
 use cookbook::last_lines::{is_open, last_body_end, last_lines, without_last_lines};
+use testing::ascii;
 
 /// A text, a number of lines, its last lines, and what stands before them.
 static ROWS: [(&str, usize, &str, &str); 12] = [
@@ -22,8 +23,8 @@ static ROWS: [(&str, usize, &str, &str); 12] = [
 #[test]
 fn rows(rt: HostRuntime) {
     for &(source, n, last, before) in &ROWS {
-        same(&rt, last_lines(ascii(source), n), ascii(last));
-        same(&rt, without_last_lines(ascii(source), n), ascii(before));
+        assert_same(&rt, last_lines(ascii(source), n), ascii(last));
+        assert_same(&rt, without_last_lines(ascii(source), n), ascii(before));
     }
 }
 
@@ -40,7 +41,7 @@ static ENDS: [(&str, Option<usize>, bool); 6] = [
 #[test]
 fn last_body_ends_before_its_ending(rt: HostRuntime) {
     for &(source, end, open) in &ENDS {
-        same(&rt, last_body_end(ascii(source)), end);
-        same(&rt, is_open(ascii(source)), open);
+        assert_same(&rt, last_body_end(ascii(source)), end);
+        assert_same(&rt, is_open(ascii(source)), open);
     }
 }

@@ -1,7 +1,8 @@
 //! What screens of some widths show of texts.
 
-use super::{ascii, same};
+use super::assert_same;
 use cookbook::screen::wrap_for_screen;
+use testing::ascii;
 
 /// A text, a width, what goes out, and the column behind it.
 static ROWS: [(&str, usize, &str, usize); 13] = [
@@ -25,8 +26,8 @@ fn rows(rt: HostRuntime) {
     for &(source, width, text, column) in &ROWS {
         if width >= 2 {
             let shown = wrap_for_screen(rt.alloc(), ascii(source), width).expect(&rt, "refused");
-            same(&rt, shown.text.as_ascii_str(), ascii(text));
-            same(&rt, shown.column, column);
+            assert_same(&rt, shown.text.as_ascii_str(), ascii(text));
+            assert_same(&rt, shown.column, column);
         }
     }
 }

@@ -1,9 +1,10 @@
 //! Lines of a file of settings.
 
-use super::{ascii, same};
+use super::assert_same;
 use ascii::AsciiChar;
 use cookbook::cuts::{rsplit_once, split_once};
 use cookbook::settings::{Setting, SettingError, read_setting};
+use testing::ascii;
 
 /// Lines with a setting, its key and its value.
 static GOOD: [(&str, &str, &str); 7] = [
@@ -36,34 +37,34 @@ fn settings(rt: HostRuntime) {
             key: ascii(key),
             value: ascii(value),
         };
-        same(&rt, read_setting(ascii(line)), Ok(Some(wanted)));
+        assert_same(&rt, read_setting(ascii(line)), Ok(Some(wanted)));
     }
 }
 
 #[test]
 fn blanks(rt: HostRuntime) {
     for &line in &BLANK {
-        same(&rt, read_setting(ascii(line)), Ok(None));
+        assert_same(&rt, read_setting(ascii(line)), Ok(None));
     }
 }
 
 #[test]
 fn refusals(rt: HostRuntime) {
     for &(line, error) in &BAD {
-        same(&rt, read_setting(ascii(line)), Err(error));
+        assert_same(&rt, read_setting(ascii(line)), Err(error));
     }
 }
 
 #[test]
 fn cuts(rt: HostRuntime) {
     let sides = split_once(ascii("a=b=c"), AsciiChar::Equal);
-    same(&rt, sides, Some((ascii("a"), ascii("b=c"))));
-    same(&rt, split_once(ascii("abc"), AsciiChar::Equal), None);
+    assert_same(&rt, sides, Some((ascii("a"), ascii("b=c"))));
+    assert_same(&rt, split_once(ascii("abc"), AsciiChar::Equal), None);
     let sides = split_once(ascii("="), AsciiChar::Equal);
-    same(&rt, sides, Some((ascii(""), ascii(""))));
+    assert_same(&rt, sides, Some((ascii(""), ascii(""))));
     let sides = rsplit_once(ascii("a=b=c"), AsciiChar::Equal);
-    same(&rt, sides, Some((ascii("a=b"), ascii("c"))));
-    same(&rt, rsplit_once(ascii("abc"), AsciiChar::Equal), None);
+    assert_same(&rt, sides, Some((ascii("a=b"), ascii("c"))));
+    assert_same(&rt, rsplit_once(ascii("abc"), AsciiChar::Equal), None);
     let sides = rsplit_once(ascii("="), AsciiChar::Equal);
-    same(&rt, sides, Some((ascii(""), ascii(""))));
+    assert_same(&rt, sides, Some((ascii(""), ascii(""))));
 }

@@ -1,8 +1,9 @@
 //! The callers of the iterators with starts, fronts and remainders, each once.
 
-use super::{ascii, shows};
+use super::assert_debug;
 use ascii::AsciiChar;
 use ascii::iter::End;
+use testing::ascii;
 use tests_callers::iterators::{
     line_count, line_lengths_by_for, piece_lengths_by_map, pieces_reversed,
 };
@@ -20,81 +21,143 @@ use tests_callers::spans::{
 fn loops_over_pieces(rt: HostRuntime) {
     let (alloc, on) = (rt.alloc(), AsciiChar::Comma);
     let view = ascii("ab,,c");
-    shows(&rt, &piece_span_count(view, on), "3");
-    shows(&rt, &piece_starts(alloc, view, on), "Ok([0, 3, 4])");
-    shows(&rt, &piece_starts_by_for(alloc, view, on), "Ok([0, 3, 4])");
-    shows(&rt, &piece_lengths_by_map(alloc, view, on), "Ok([2, 0, 1])");
-    shows(
+    assert_debug(&rt, rt.alloc(), &piece_span_count(view, on), "3");
+    assert_debug(
         &rt,
+        rt.alloc(),
+        &piece_starts(alloc, view, on),
+        "Ok([0, 3, 4])",
+    );
+    assert_debug(
+        &rt,
+        rt.alloc(),
+        &piece_starts_by_for(alloc, view, on),
+        "Ok([0, 3, 4])",
+    );
+    assert_debug(
+        &rt,
+        rt.alloc(),
+        &piece_lengths_by_map(alloc, view, on),
+        "Ok([2, 0, 1])",
+    );
+    assert_debug(
+        &rt,
+        rt.alloc(),
         &pieces_reversed(alloc, view, on),
         "Ok([\"c\", \"\", \"ab\"])",
     );
     let want = "Ok([SplitSpan { start: 4, text: \"c\" }, SplitSpan { start: 3, text: \"\" }, \
         SplitSpan { start: 0, text: \"ab\" }])";
-    shows(&rt, &piece_spans_reversed(alloc, view, on), want);
+    assert_debug(
+        &rt,
+        rt.alloc(),
+        &piece_spans_reversed(alloc, view, on),
+        want,
+    );
 }
 
 #[test]
 fn loops_over_lines(rt: HostRuntime) {
     let alloc = rt.alloc();
     let view = ascii("ab\r\n\nc");
-    shows(&rt, &line_count(view), "3");
-    shows(&rt, &line_span_count(view), "3");
-    shows(&rt, &line_starts(alloc, view), "Ok([0, 4, 5])");
-    shows(&rt, &line_starts_by_for(alloc, view), "Ok([0, 4, 5])");
-    shows(&rt, &line_lengths_by_for(alloc, view), "Ok([2, 0, 1])");
+    assert_debug(&rt, rt.alloc(), &line_count(view), "3");
+    assert_debug(&rt, rt.alloc(), &line_span_count(view), "3");
+    assert_debug(&rt, rt.alloc(), &line_starts(alloc, view), "Ok([0, 4, 5])");
+    assert_debug(
+        &rt,
+        rt.alloc(),
+        &line_starts_by_for(alloc, view),
+        "Ok([0, 4, 5])",
+    );
+    assert_debug(
+        &rt,
+        rt.alloc(),
+        &line_lengths_by_for(alloc, view),
+        "Ok([2, 0, 1])",
+    );
     let want = "Ok([LineSpan { start: 5, text: \"c\", ending: Absent }, \
         LineSpan { start: 4, text: \"\", ending: Lf }, LineSpan { start: 0, text: \"ab\", ending: CrLf }])";
-    shows(&rt, &line_spans_reversed(alloc, view), want);
+    assert_debug(&rt, rt.alloc(), &line_spans_reversed(alloc, view), want);
 }
 
 #[test]
 fn fronts(rt: HostRuntime) {
     let (alloc, on) = (rt.alloc(), AsciiChar::Comma);
     let view = ascii("ab,,c");
-    shows(&rt, &first_pieces(alloc, view, on, 2), "Ok([\"ab\", \"\"])");
-    let want = "Ok([SplitSpan { start: 0, text: \"ab\" }, SplitSpan { start: 3, text: \"\" }])";
-    shows(&rt, &first_piece_spans(alloc, view, on, 2), want);
-    let view = ascii("ab\r\n\nc");
-    shows(
+    assert_debug(
         &rt,
+        rt.alloc(),
+        &first_pieces(alloc, view, on, 2),
+        "Ok([\"ab\", \"\"])",
+    );
+    let want = "Ok([SplitSpan { start: 0, text: \"ab\" }, SplitSpan { start: 3, text: \"\" }])";
+    assert_debug(
+        &rt,
+        rt.alloc(),
+        &first_piece_spans(alloc, view, on, 2),
+        want,
+    );
+    let view = ascii("ab\r\n\nc");
+    assert_debug(
+        &rt,
+        rt.alloc(),
         &first_bodies(alloc, view, 9),
         "Ok([\"ab\", \"\", \"c\"])",
     );
     let want = "Ok([LineSpan { start: 0, text: \"ab\", ending: CrLf }])";
-    shows(&rt, &first_line_spans(alloc, view, 1), want);
+    assert_debug(&rt, rt.alloc(), &first_line_spans(alloc, view, 1), want);
 }
 
 #[test]
 fn stopped_over_pieces(rt: HostRuntime) {
     let on = AsciiChar::Comma;
     let view = ascii("ab,,c");
-    shows(&rt, &count_after_first(view, on), "2");
-    shows(&rt, &after_two_separators(view, on), "Some(\"c\")");
+    assert_debug(&rt, rt.alloc(), &count_after_first(view, on), "2");
+    assert_debug(
+        &rt,
+        rt.alloc(),
+        &after_two_separators(view, on),
+        "Some(\"c\")",
+    );
     let mut split = view.split(on);
     split.next();
     let again = resume_split(&split, on).and_then(|mut again| again.next_back());
-    shows(&rt, &again, "Some(\"c\")");
-    shows(&rt, &lengths_left(rt.alloc(), split), "Ok([0, 1])");
+    assert_debug(&rt, rt.alloc(), &again, "Some(\"c\")");
+    assert_debug(
+        &rt,
+        rt.alloc(),
+        &lengths_left(rt.alloc(), split),
+        "Ok([0, 1])",
+    );
     let mut split = view.split_spans(on);
     split.next();
     let again = resume_split_spans(&split, on).and_then(|mut again| again.next());
-    shows(&rt, &again, "Some(SplitSpan { start: 3, text: \"\" })");
+    assert_debug(
+        &rt,
+        rt.alloc(),
+        &again,
+        "Some(SplitSpan { start: 3, text: \"\" })",
+    );
 }
 
 #[test]
 fn stopped_over_lines(rt: HostRuntime) {
     let view = ascii("ab\r\n\nc");
-    shows(&rt, &count_before_last(view), "2");
+    assert_debug(&rt, rt.alloc(), &count_before_last(view), "2");
     let (count, mut lines) = count_and_lines(view).expect(&rt, "refused");
-    shows(&rt, &count, "3");
+    assert_debug(&rt, rt.alloc(), &count, "3");
     lines.next();
     let again = resume_lines(&lines).and_then(|mut again| again.next());
-    shows(&rt, &again, "Some(\"\")");
+    assert_debug(&rt, rt.alloc(), &again, "Some(\"\")");
     let mut lines = view.line_spans();
     lines.next();
     let again = resume_line_spans(&lines).and_then(|mut again| again.next_back());
     let want = "Some(LineSpan { start: 5, text: \"c\", ending: Absent })";
-    shows(&rt, &again, want);
-    shows(&rt, &take_line_span(&mut lines, End::Back), want);
+    assert_debug(&rt, rt.alloc(), &again, want);
+    assert_debug(
+        &rt,
+        rt.alloc(),
+        &take_line_span(&mut lines, End::Back),
+        want,
+    );
 }

@@ -1,8 +1,9 @@
 //! Rows of three columns.
 
-use super::{ascii, same};
+use super::assert_same;
 use ascii::AsciiStr;
 use cookbook::table::{RowError, read_row};
+use testing::ascii;
 
 /// Rows that are refused, and why.
 static BAD: [(&str, RowError); 9] = [
@@ -21,14 +22,14 @@ static BAD: [(&str, RowError); 9] = [
 fn fields(rt: HostRuntime) {
     let fields = read_row(rt.alloc(), ascii("ab\tc d\te"), 3).expect(&rt, "refused");
     let wanted: [AsciiStr<'_>; 3] = [ascii("ab"), ascii("c d"), ascii("e")];
-    same(&rt, fields.as_slice(), &wanted[..]);
+    assert_same(&rt, fields.as_slice(), &wanted[..]);
 }
 
 #[test]
 fn refusals(rt: HostRuntime) {
     for &(row, error) in &BAD {
-        same(&rt, read_row(rt.alloc(), ascii(row), 3).err(), Some(error));
+        assert_same(&rt, read_row(rt.alloc(), ascii(row), 3).err(), Some(error));
     }
     let none = read_row(rt.alloc(), ascii("ab"), 0).err();
-    same(&rt, none, Some(RowError::TooMany { start: 0 }));
+    assert_same(&rt, none, Some(RowError::TooMany { start: 0 }));
 }

@@ -1,7 +1,8 @@
 //! The caller that turns a string into a JSON value and back.
 
-use super::{ascii, shows};
+use super::assert_debug;
 use cookbook::values::through_json;
+use testing::ascii;
 
 #[test]
 fn a_string_comes_back(rt: HostRuntime) {
@@ -12,6 +13,6 @@ fn a_string_comes_back(rt: HostRuntime) {
         ("a\"b\n", "Ok(\"a\\\"b\\n\")"),
     ] {
         let string = ascii(source).to_ascii_string(alloc).expect(&rt, "refused");
-        shows(&rt, &through_json(alloc, &string), want);
+        assert_debug(&rt, rt.alloc(), &through_json(alloc, &string), want);
     }
 }

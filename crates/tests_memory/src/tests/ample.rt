@@ -1,7 +1,7 @@
 //! With nothing refused, no call gives up past a length. The calls that are not here stand in the tests of lengths of
 //! `tests_ascii` and `tests_run`.
 
-use super::same;
+use super::assert_same;
 use ascii::iter::{End, walk_line_spans, walk_split_spans};
 use ascii::{AsciiChar, AsciiRange, AsciiStr, AsciiString, CowAsciiStr, bytes};
 use ascii_run::{AsciiBuf, Cmd, Input, Mode, Output, Reply, SmallAsciiString, engine, run_both};
@@ -22,7 +22,7 @@ fn room<R: Abort + AllocGlobal>(rt: &R, source: AsciiStr<'_>) {
     string.shrink_to_fit().expect(rt, "refused");
     string.reserve_exact(length).expect(rt, "refused");
     assert!(rt; 2 * length <= string.capacity());
-    same(rt, string.as_ascii_str(), source);
+    assert_same(rt, string.as_ascii_str(), source);
 }
 
 /// Lets a string of the view grow by each of the edits.
@@ -41,7 +41,7 @@ fn grown<R: Abort + AllocGlobal>(rt: &R, source: AsciiStr<'_>) {
         .extend_strs(source.split(AsciiChar::Comma))
         .expect(rt, "refused");
     assert!(rt; length <= 5_000);
-    same(rt, string.len(), 5 * length + 3);
+    assert_same(rt, string.len(), 5 * length + 3);
 }
 
 /// Turns a string of the view into each of the boxes and back.
@@ -54,7 +54,7 @@ fn turned<R: Abort + AllocGlobal>(rt: &R, source: AsciiStr<'_>) {
         .expect(rt, "refused");
     let string = boxed.into_ascii_string().ok().expect(rt, "refused");
     let shared = string.into_rc_ascii_str(alloc).expect(rt, "refused");
-    same(
+    assert_same(
         rt,
         shared.clone().expect(rt, "refused").as_ascii_str(),
         source,
@@ -63,7 +63,7 @@ fn turned<R: Abort + AllocGlobal>(rt: &R, source: AsciiStr<'_>) {
         .into_owned(alloc)
         .ok()
         .expect(rt, "refused");
-    same(rt, owned.as_ascii_str(), source);
+    assert_same(rt, owned.as_ascii_str(), source);
 }
 
 /// Walks over the lines and pieces of the view with their places, and the mode that prints them.
@@ -72,18 +72,18 @@ fn spans<R: Abort + AllocGlobal>(rt: &R, source: AsciiStr<'_>) {
     let script = [End::Front; 100];
     let empty = source.is_empty();
     let lines = walk_line_spans(alloc, source, &script).expect(rt, "refused");
-    same(rt, lines.first().map(|line| line.is_none()), Some(empty));
+    assert_same(rt, lines.first().map(|line| line.is_none()), Some(empty));
     let pieces = walk_split_spans(alloc, source, AsciiChar::a, &script).expect(rt, "refused");
-    same(rt, pieces.len(), 100);
+    assert_same(rt, pieces.len(), 100);
     let mut reader = Input::new(source.as_bytes());
     let mut writer = Output::new(Vec::new(alloc));
-    same(
+    assert_same(
         rt,
         engine(alloc, Mode::EndsSpans(&script), &mut reader, &mut writer),
         Ok(()),
     );
     let written = writer.into_inner();
-    same(rt, written.starts_with(b"+0 none a"), !empty);
+    assert_same(rt, written.starts_with(b"+0 none a"), !empty);
 }
 
 /// Lets the inline form of the view grow by each of the edits, and turns it into a string.
@@ -98,12 +98,12 @@ fn small<R: Abort + AllocGlobal>(rt: &R, source: AsciiStr<'_>) {
     string.write_str(source.as_str()).expect(rt, "refused");
     string.write_char('b').expect(rt, "refused");
     let grown = string.len();
-    same(rt, grown, 4 * length + 3);
+    assert_same(rt, grown, 4 * length + 3);
     string.reserve(length).expect(rt, "refused");
     assert!(rt; grown + length <= string.capacity());
     let copy: SmallAsciiString = string.clone().expect(rt, "refused");
     let owned = copy.into_ascii_string().expect(rt, "refused");
-    same(rt, owned.as_ascii_str(), string.as_ascii_str());
+    assert_same(rt, owned.as_ascii_str(), string.as_ascii_str());
 }
 
 /// Runs commands over both forms of the view, few with long texts and as many as the view is long.
@@ -119,7 +119,7 @@ fn both<R: Abort + AllocGlobal>(rt: &R, source: AsciiStr<'_>) {
         Cmd::Copy(AsciiRange::Full),
     ];
     let both = run_both(alloc, source, &few).expect(rt, "refused");
-    same(
+    assert_same(
         rt,
         (both.string.len(), both.small.len()),
         (2 * length + 1, 2 * length + 1),
@@ -129,7 +129,7 @@ fn both<R: Abort + AllocGlobal>(rt: &R, source: AsciiStr<'_>) {
     }
     let many = vec![in alloc; Cmd::Push(AsciiChar::b); length].expect(rt, "refused");
     let both = run_both(alloc, source, &many).expect(rt, "refused");
-    same(
+    assert_same(
         rt,
         (both.string.len(), both.small.len()),
         (2 * length, 2 * length),
@@ -141,7 +141,7 @@ fn nothing_is_refused(rt: HostRuntime) {
     for length in LENGTHS {
         let source = vec![in rt.alloc(); b'a'; length].expect(&rt, "refused");
         let view = bytes::as_ascii_str(&source).unwrap_or_default();
-        same(&rt, view.len(), length);
+        assert_same(&rt, view.len(), length);
         room(&rt, view);
         grown(&rt, view);
         turned(&rt, view);

@@ -1,7 +1,7 @@
 //! One byte a call, with each call refused in turn.
 
+use super::assert_same;
 use super::devices::{Giving, KINDS, Step, Taking};
-use super::same;
 use ascii::iter::End;
 use ascii::{AsciiStr, text};
 use ascii_run::{Cmd, EngineFault, Input, Mode, Output, Sink, Source, engine};
@@ -56,17 +56,17 @@ fn compare<R: Abort + AllocGlobal>(
         steps: steps.1,
         bytes: Vec::new(alloc),
     });
-    same(&rt, engine(alloc, mode, &mut reader, &mut writer), answer);
+    assert_same(&rt, engine(alloc, mode, &mut reader, &mut writer), answer);
     let faults = (reader.failures(), writer.failures());
     let is = |fault: EngineFault| u64::from(answer == Err(fault));
-    same(&rt, faults, (is(EngineFault::Read), is(EngineFault::Write)));
+    assert_same(&rt, faults, (is(EngineFault::Read), is(EngineFault::Write)));
     assert!(rt; faults.0 < 2 && faults.1 < 2);
-    same(&rt, engine(alloc, mode, &mut reader, &mut writer), Ok(()));
-    same(&rt, (reader.failures(), writer.failures()), faults);
+    assert_same(&rt, engine(alloc, mode, &mut reader, &mut writer), Ok(()));
+    assert_same(&rt, (reader.failures(), writer.failures()), faults);
     let mut all = Vec::from_slice(alloc, output).expect(rt, "refused");
     let rest = written(rt, mode, rest);
     all.extend_from_slice(&rest).expect(rt, "refused");
-    same(&rt, writer.into_inner().bytes, all);
+    assert_same(&rt, writer.into_inner().bytes, all);
 }
 
 /// The modes, and what each writes for the input.

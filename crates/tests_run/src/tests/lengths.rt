@@ -1,7 +1,7 @@
 //! Runs and modes on long inputs: nothing gives up past a length.
 
+use super::assert_same;
 use super::engine::ran;
-use super::same;
 use ascii::iter::End;
 use ascii::{AsciiChar, AsciiRange, AsciiString};
 use ascii_run::{Cmd, EngineFault, Input, Mode, Output, Reply, engine, run};
@@ -46,7 +46,7 @@ fn each_mode(rt: HostRuntime) {
         ];
         for (mode, front, back) in rows {
             let (outcome, written) = ran(alloc, mode, &input);
-            same(&rt, outcome, Ok(()));
+            assert_same(&rt, outcome, Ok(()));
             assert!(rt; written == bytes_of(&rt, front, length, back), "{length}");
         }
     }
@@ -100,7 +100,7 @@ fn each_flush(rt: HostRuntime) {
         let mut reader = Input::new(input.as_slice());
         let mut writer = Output::new(Unflushed);
         let answer = engine(rt.alloc(), Mode::Copy, &mut reader, &mut writer);
-        same(&rt, answer, Err(EngineFault::Write));
+        assert_same(&rt, answer, Err(EngineFault::Write));
     }
 }
 
@@ -114,7 +114,7 @@ fn many_commands(rt: HostRuntime) {
     }
     let replies = run(alloc, &mut buf, &cmds).expect(&rt, "refused");
     assert!(rt; replies.iter().all(|reply| matches!(reply, Reply::Done)));
-    same(&rt, replies.len(), 5_000);
+    assert_same(&rt, replies.len(), 5_000);
     let long = buf.clone().expect(&rt, "refused");
     let insert = [
         Cmd::InsertStr(1, long.as_ascii_str()),
@@ -125,7 +125,7 @@ fn many_commands(rt: HostRuntime) {
         [Reply::Done, Reply::Text(copy)] => assert!(rt; *copy == buf),
         _ => assert!(rt; false),
     }
-    same(
+    assert_same(
         &rt,
         buf.as_ascii_str().as_bytes(),
         bytes_of(&rt, "", 10_000, "").as_slice(),
@@ -140,8 +140,8 @@ fn room_is_made_and_given_back(rt: HostRuntime) {
     assert!(rt; 10_001 <= buf.capacity());
     let replies = run(rt.alloc(), &mut buf, &[Cmd::Shrink]).expect(&rt, "refused");
     assert!(rt; matches!(replies.as_slice(), [Reply::Done]));
-    same(&rt, buf.capacity(), 1);
-    same(&rt, buf.as_ascii_str().as_str(), "x");
+    assert_same(&rt, buf.capacity(), 1);
+    assert_same(&rt, buf.as_ascii_str().as_str(), "x");
 }
 
 /// `json` of a long text of `a` with a character at a place, and how it stands there.

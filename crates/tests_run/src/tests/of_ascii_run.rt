@@ -1,21 +1,22 @@
 //! The examples in the documentation of `ascii_run`, made by `bin/examples`.
 
-use super::{shows, view};
-use ascii::bytes;
-use ascii_base::ascii_char::AsciiChar;
+use super::assert_debug;
+use ascii::{AsciiChar, bytes};
+use ascii_devices::{Input, Output};
 use ascii_run::{
-    AsciiBuf, Cmd, EngineFault, Input, Mode, Output, Sink, SmallAsciiString, Source, engine,
-    plain_run, run, run_both, runs_agree,
+    AsciiBuf, Cmd, EngineFault, Mode, SmallAsciiString, engine, plain_run, run, run_both,
+    runs_agree,
 };
 use std::alloc::AllocError;
 use std::collections::HashSet;
 use std::fmt::Write;
+use testing::view;
 
 #[test]
 fn run_both_1(rt: HostRuntime) {
     let alloc = rt.alloc();
     // run_both
-    shows(
+    assert_debug(
         &rt,
         alloc,
         &run_both(alloc, view("foo"), &[Cmd::Upper, Cmd::Pop])
@@ -29,7 +30,7 @@ fn run_both_1(rt: HostRuntime) {
 fn ascii_buf_1(rt: HostRuntime) {
     let alloc = rt.alloc();
     // AsciiBuf::as_ascii_str
-    shows(
+    assert_debug(
         &rt,
         alloc,
         &AsciiBuf::as_ascii_str(&SmallAsciiString::new(alloc)),
@@ -38,19 +39,19 @@ fn ascii_buf_1(rt: HostRuntime) {
     // AsciiBuf::reserve
     {
         let mut text = SmallAsciiString::new(alloc);
-        shows(&rt, alloc, &text.reserve(24), "Ok(())");
+        assert_debug(&rt, alloc, &text.reserve(24), "Ok(())");
     }
     // AsciiBuf::shrink_to_fit
     {
         let mut text = view("foo").to_ascii_string(alloc).expect(&rt, "refused");
-        shows(&rt, alloc, &AsciiBuf::shrink_to_fit(&mut text), "Ok(())");
-        shows(&rt, alloc, &text, "\"foo\"");
+        assert_debug(&rt, alloc, &AsciiBuf::shrink_to_fit(&mut text), "Ok(())");
+        assert_debug(&rt, alloc, &text, "\"foo\"");
     }
     // AsciiBuf::push
     {
         let mut text = SmallAsciiString::new(alloc);
-        shows(&rt, alloc, &text.push(AsciiChar::a), "Ok(())");
-        shows(&rt, alloc, &text, "\"a\"");
+        assert_debug(&rt, alloc, &text.push(AsciiChar::a), "Ok(())");
+        assert_debug(&rt, alloc, &text, "\"a\"");
     }
 }
 
@@ -60,14 +61,14 @@ fn ascii_buf_2(rt: HostRuntime) {
     // AsciiBuf::push_str
     {
         let mut text = SmallAsciiString::new(alloc);
-        shows(&rt, alloc, &text.push_str(view("foo")), "Ok(())");
-        shows(&rt, alloc, &text, "\"foo\"");
+        assert_debug(&rt, alloc, &text.push_str(view("foo")), "Ok(())");
+        assert_debug(&rt, alloc, &text, "\"foo\"");
     }
     // AsciiBuf::insert
     {
         let mut text = SmallAsciiString::from_ascii_str(alloc, view("fo")).expect(&rt, "refused");
-        shows(&rt, alloc, &text.insert(0, AsciiChar::z), "Ok(())");
-        shows(&rt, alloc, &text, "\"zfo\"");
+        assert_debug(&rt, alloc, &text.insert(0, AsciiChar::z), "Ok(())");
+        assert_debug(&rt, alloc, &text, "\"zfo\"");
     }
 }
 
@@ -77,14 +78,14 @@ fn ascii_buf_3(rt: HostRuntime) {
     // AsciiBuf::insert_str
     {
         let mut text = SmallAsciiString::from_ascii_str(alloc, view("fo")).expect(&rt, "refused");
-        shows(&rt, alloc, &text.insert_str(1, view("lo")), "Ok(())");
-        shows(&rt, alloc, &text, "\"floo\"");
+        assert_debug(&rt, alloc, &text.insert_str(1, view("lo")), "Ok(())");
+        assert_debug(&rt, alloc, &text, "\"floo\"");
     }
     // AsciiBuf::remove
     {
         let mut text = SmallAsciiString::from_ascii_str(alloc, view("foo")).expect(&rt, "refused");
-        shows(&rt, alloc, &text.remove(0), "'f'");
-        shows(&rt, alloc, &text, "\"oo\"");
+        assert_debug(&rt, alloc, &text.remove(0), "'f'");
+        assert_debug(&rt, alloc, &text, "\"oo\"");
     }
 }
 
@@ -94,14 +95,14 @@ fn ascii_buf_4(rt: HostRuntime) {
     // AsciiBuf::pop
     {
         let mut text = SmallAsciiString::from_ascii_str(alloc, view("fo")).expect(&rt, "refused");
-        shows(&rt, alloc, &text.pop(), "Some('o')");
-        shows(&rt, alloc, &text, "\"f\"");
+        assert_debug(&rt, alloc, &text.pop(), "Some('o')");
+        assert_debug(&rt, alloc, &text, "\"f\"");
     }
     // AsciiBuf::truncate
     {
         let mut text = SmallAsciiString::from_ascii_str(alloc, view("foo")).expect(&rt, "refused");
         text.truncate(2);
-        shows(&rt, alloc, &text, "\"fo\"");
+        assert_debug(&rt, alloc, &text, "\"fo\"");
     }
 }
 
@@ -112,13 +113,13 @@ fn ascii_buf_5(rt: HostRuntime) {
     {
         let mut text = SmallAsciiString::from_ascii_str(alloc, view("foo")).expect(&rt, "refused");
         text.clear();
-        shows(&rt, alloc, &text, "\"\"");
+        assert_debug(&rt, alloc, &text, "\"\"");
     }
     // AsciiBuf::set
     {
         let mut text = SmallAsciiString::from_ascii_str(alloc, view("foo")).expect(&rt, "refused");
         text.set(0, AsciiChar::z);
-        shows(&rt, alloc, &text, "\"zoo\"");
+        assert_debug(&rt, alloc, &text, "\"zoo\"");
     }
 }
 
@@ -129,20 +130,20 @@ fn ascii_buf_6(rt: HostRuntime) {
     {
         let mut text = SmallAsciiString::from_ascii_str(alloc, view("foo")).expect(&rt, "refused");
         text.make_ascii_uppercase();
-        shows(&rt, alloc, &text, "\"FOO\"");
+        assert_debug(&rt, alloc, &text, "\"FOO\"");
     }
     // AsciiBuf::make_ascii_lowercase
     {
         let mut text = SmallAsciiString::from_ascii_str(alloc, view("FOO")).expect(&rt, "refused");
         text.make_ascii_lowercase();
-        shows(&rt, alloc, &text, "\"foo\"");
+        assert_debug(&rt, alloc, &text, "\"foo\"");
     }
 }
 
 #[test]
 fn small_ascii_string_1(rt: HostRuntime) {
     let alloc = rt.alloc();
-    shows(
+    assert_debug(
         &rt,
         alloc,
         &(
@@ -172,7 +173,7 @@ fn small_ascii_string_1(rt: HostRuntime) {
 #[test]
 fn small_ascii_string_2(rt: HostRuntime) {
     let alloc = rt.alloc();
-    shows(
+    assert_debug(
         &rt,
         alloc,
         &(
@@ -189,11 +190,11 @@ fn small_ascii_string_2(rt: HostRuntime) {
     // AsciiBuf for SmallAsciiString::shrink_to_fit
     {
         let mut text = SmallAsciiString::from_ascii_str(alloc, view("foo")).expect(&rt, "refused");
-        shows(&rt, alloc, &text.shrink_to_fit(), "Ok(())");
-        shows(&rt, alloc, &text.capacity(), "24");
+        assert_debug(&rt, alloc, &text.shrink_to_fit(), "Ok(())");
+        assert_debug(&rt, alloc, &text.capacity(), "24");
     }
     // Clone for SmallAsciiString::clone
-    shows(
+    assert_debug(
         &rt,
         alloc,
         &SmallAsciiString::from_ascii_str(alloc, view("foo"))
@@ -207,7 +208,7 @@ fn small_ascii_string_2(rt: HostRuntime) {
 #[test]
 fn small_ascii_string_3(rt: HostRuntime) {
     let alloc = rt.alloc();
-    shows(
+    assert_debug(
         &rt,
         alloc,
         &(
@@ -230,7 +231,7 @@ fn small_ascii_string_3(rt: HostRuntime) {
         let mut seen = HashSet::new(alloc);
         seen.insert(SmallAsciiString::new(alloc))
             .expect(&rt, "refused");
-        shows(
+        assert_debug(
             &rt,
             alloc,
             &seen.contains(&SmallAsciiString::new(alloc)),
@@ -242,7 +243,7 @@ fn small_ascii_string_3(rt: HostRuntime) {
 #[test]
 fn small_ascii_string_4(rt: HostRuntime) {
     let alloc = rt.alloc();
-    shows(
+    assert_debug(
         &rt,
         alloc,
         &(
@@ -269,15 +270,15 @@ fn small_ascii_string_5(rt: HostRuntime) {
     // SmallAsciiString::write_char
     {
         let mut text = SmallAsciiString::new(alloc);
-        shows(&rt, alloc, &text.write_char('a'), "Ok(())");
-        shows(&rt, alloc, &text.write_char('č'), "Err(Error)");
-        shows(&rt, alloc, &text, "\"a\"");
+        assert_debug(&rt, alloc, &text.write_char('a'), "Ok(())");
+        assert_debug(&rt, alloc, &text.write_char('č'), "Err(Error)");
+        assert_debug(&rt, alloc, &text, "\"a\"");
     }
     // Write for SmallAsciiString::write_str
     {
         let mut text = SmallAsciiString::new(alloc);
-        shows(&rt, alloc, &write!(text, "foo{}", 7), "Ok(())");
-        shows(&rt, alloc, &text, "\"foo7\"");
+        assert_debug(&rt, alloc, &write!(text, "foo{}", 7), "Ok(())");
+        assert_debug(&rt, alloc, &text, "\"foo7\"");
     }
 }
 
@@ -287,13 +288,13 @@ fn run_1(rt: HostRuntime) {
     // run
     {
         let mut text = view("foo").to_ascii_string(alloc).expect(&rt, "refused");
-        shows(
+        assert_debug(
             &rt,
             alloc,
             &run(alloc, &mut text, &[Cmd::Pop, Cmd::Len]).expect(&rt, "refused"),
             "[Char(Some('o')), Number(2)]",
         );
-        shows(&rt, alloc, &text, "\"fo\"");
+        assert_debug(&rt, alloc, &text, "\"fo\"");
     }
 }
 
@@ -304,7 +305,7 @@ fn plain_run_1(rt: HostRuntime) {
     {
         let mut text = view("foo").to_ascii_string(alloc).expect(&rt, "refused");
         let replies = run(alloc, &mut text, &[Cmd::Len]).expect(&rt, "refused");
-        shows(&rt, alloc, &plain_run(&[Cmd::Len], &replies), "()");
+        assert_debug(&rt, alloc, &plain_run(&[Cmd::Len], &replies), "()");
     }
 }
 
@@ -315,7 +316,7 @@ fn runs_agree_1(rt: HostRuntime) {
     {
         let mut text = view("foo").to_ascii_string(alloc).expect(&rt, "refused");
         let replies = run(alloc, &mut text, &[Cmd::Len]).expect(&rt, "refused");
-        shows(
+        assert_debug(
             &rt,
             alloc,
             &runs_agree(&[Cmd::Len], &replies, &replies),
@@ -325,67 +326,9 @@ fn runs_agree_1(rt: HostRuntime) {
 }
 
 #[test]
-fn source_1(rt: HostRuntime) {
-    let alloc = rt.alloc();
-    // Source::failures
-    shows(&rt, alloc, &Input::new(b"ab".as_slice()).failures(), "0");
-    // Source::read
-    {
-        let mut input = Input::new(b"ab".as_slice());
-        let mut buffer = [0; 3];
-        shows(&rt, alloc, &input.read(&mut buffer), "Ok(2)");
-        shows(&rt, alloc, &input.read(&mut buffer), "Ok(0)");
-    }
-}
-
-#[test]
-fn sink_1(rt: HostRuntime) {
-    let alloc = rt.alloc();
-    // Sink::failures
-    shows(&rt, alloc, &Output::new(Vec::new(alloc)).failures(), "0");
-    // Sink::write
-    {
-        let mut output = Output::new(Vec::new(alloc));
-        shows(&rt, alloc, &output.write(b"ab"), "Ok(2)");
-        shows(&rt, alloc, &output.into_inner(), "[97, 98]");
-    }
-    // Sink::flush
-    shows(&rt, alloc, &Output::new(Vec::new(alloc)).flush(), "Ok(())");
-}
-
-#[test]
-fn input_1(rt: HostRuntime) {
-    let alloc = rt.alloc();
-    shows(
-        &rt,
-        alloc,
-        &(
-            // Input::new
-            Input::new(b"ab".as_slice()).failures(),
-            // Input::into_inner
-            Input::new(b"ab".as_slice()).into_inner(),
-        ),
-        "(0, [97, 98])",
-    );
-}
-
-#[test]
-fn output_1(rt: HostRuntime) {
-    let alloc = rt.alloc();
-    // Output::new
-    shows(&rt, alloc, &Output::new(Vec::new(alloc)).failures(), "0");
-    // Output::into_inner
-    {
-        let mut output = Output::new(Vec::new(alloc));
-        shows(&rt, alloc, &output.write(b"ab"), "Ok(2)");
-        shows(&rt, alloc, &output.into_inner(), "[97, 98]");
-    }
-}
-
-#[test]
 fn engine_fault_1(rt: HostRuntime) {
     let alloc = rt.alloc();
-    shows(
+    assert_debug(
         &rt,
         alloc,
         &(
@@ -404,7 +347,7 @@ fn engine_1(rt: HostRuntime) {
     // engine
     {
         let mut output = Output::new(Vec::new(alloc));
-        shows(
+        assert_debug(
             &rt,
             alloc,
             &engine(
@@ -415,6 +358,6 @@ fn engine_1(rt: HostRuntime) {
             ),
             "Ok(())",
         );
-        shows(&rt, alloc, &output.into_inner(), "[121, 10, 120, 10]");
+        assert_debug(&rt, alloc, &output.into_inner(), "[121, 10, 120, 10]");
     }
 }

@@ -1,6 +1,6 @@
 //! Outputs of about the size of the output buffer, and writers that fail between two of its writes.
 
-use super::same;
+use super::assert_same;
 use ascii_run::{EngineFault, Input, Mode, Output, engine};
 use std::alloc::Global;
 use std::io;
@@ -62,8 +62,8 @@ fn outputs_about_the_size_of_the_buffer(rt: HostRuntime) {
             let mut writer = Output::new(Counting::new(rt.alloc(), usize::MAX));
             let answer = engine(rt.alloc(), mode, &mut reader, &mut writer);
             let counting = writer.into_inner();
-            same(&rt, answer, Ok(()));
-            same(&rt, counting.calls, calls);
+            assert_same(&rt, answer, Ok(()));
+            assert_same(&rt, counting.calls, calls);
             assert!(rt; counting.taken == output, "{count}");
         }
     }
@@ -78,8 +78,8 @@ fn writers_that_fail_after_a_full_buffer(rt: HostRuntime) {
         let mut writer = Output::new(Counting::new(rt.alloc(), fails_at));
         let answer = engine(rt.alloc(), Mode::Tac, &mut reader, &mut writer);
         let counting = writer.into_inner();
-        same(&rt, answer, Err(EngineFault::Write));
-        same(&rt, counting.calls, fails_at);
-        same(&rt, counting.taken.len(), taken);
+        assert_same(&rt, answer, Err(EngineFault::Write));
+        assert_same(&rt, counting.calls, fails_at);
+        assert_same(&rt, counting.taken.len(), taken);
     }
 }

@@ -1,7 +1,7 @@
 //! Choices that look random.
 
-use super::ascii;
 use ascii::{AsciiRange, AsciiStr};
+use testing::ascii;
 
 /// Numbers that look random, the same at each run.
 #[derive(Drop)]

@@ -1,10 +1,11 @@
 //! Runs of all kinds of commands over both forms, against each other.
 
+use super::assert_same;
 use super::picks::Picks;
-use super::{ascii, same};
 use ascii::{AsciiChar, AsciiRange};
 use ascii_run::{Cmd, Reply, run_both};
 use std::alloc::{AllocError, Global};
+use testing::ascii;
 
 /// A command of the kind of this number. Positions may be past the text.
 fn command(kind: usize, picks: &mut Picks) -> Cmd<'static> {
@@ -67,14 +68,14 @@ fn of_all_kinds(rt: HostRuntime) {
             cmds.push(any_command(&mut picks)).expect(&rt, "refused");
         }
         let both = run_both(alloc, ascii("Some"), &cmds).expect(&rt, "refused");
-        same(
+        assert_same(
             &rt,
             shown(alloc, &both.small_replies)
                 .expect(&rt, "refused")
                 .as_str(),
             shown(alloc, &both.replies).expect(&rt, "refused").as_str(),
         );
-        same(
+        assert_same(
             &rt,
             both.small.as_ascii_str().as_str(),
             both.string.as_ascii_str().as_str(),

@@ -1,9 +1,10 @@
 //! Runs over both forms whose replies and texts are known from outside.
 
-use super::{ascii, same};
+use super::assert_same;
 use ascii::{AsciiChar, AsciiRange, AsciiString};
 use ascii_run::{AsciiBuf, Cmd, SmallAsciiString, run};
 use std::alloc::{AllocError, Global};
+use testing::ascii;
 
 /// The replies to the commands, each with `; ` behind it, and then the text at the end.
 fn ran<B: AsciiBuf>(alloc: Global, buf: &mut B, cmds: &[Cmd<'_>]) -> Result<String, AllocError> {
@@ -138,7 +139,7 @@ fn edited<B: AsciiBuf>(alloc: Global, buf: &mut B) -> Result<String, AllocError>
 fn each_edit_by_the_trait(rt: HostRuntime) {
     let want = "ADEFBCXdaZfbcxy.";
     let mut string = AsciiString::new(rt.alloc());
-    same(
+    assert_same(
         &rt,
         edited(rt.alloc(), &mut string)
             .expect(&rt, "refused")
@@ -146,7 +147,7 @@ fn each_edit_by_the_trait(rt: HostRuntime) {
         want,
     );
     let mut small = SmallAsciiString::new(rt.alloc());
-    same(
+    assert_same(
         &rt,
         edited(rt.alloc(), &mut small)
             .expect(&rt, "refused")

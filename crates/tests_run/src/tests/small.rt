@@ -1,11 +1,12 @@
 //! Each call of the form that keeps short texts inline.
 
-use super::{ascii, same};
+use super::assert_same;
 use ascii_run::{AsciiBuf, SmallAsciiString};
 use std::cmp::Ordering;
 use std::collections::HashSet;
 use std::fmt::Write;
 use std::process::Abort;
+use testing::ascii;
 
 /// The inline form of a text.
 fn small<R: Abort + AllocGlobal>(rt: &R, source: &str) -> SmallAsciiString {
@@ -24,13 +25,13 @@ fn place_of(string: &SmallAsciiString) -> (bool, usize, usize) {
 
 #[test]
 fn where_it_stands(rt: HostRuntime) {
-    same(
+    assert_same(
         &rt,
         place_of(&SmallAsciiString::new(rt.alloc())),
         (true, 0, 24),
     );
     let label = small(&rt, "content-security-policy-");
-    same(&rt, place_of(&label), (true, 24, 24));
+    assert_same(&rt, place_of(&label), (true, 24, 24));
     assert!(rt; !label.is_empty());
 }
 
@@ -42,7 +43,7 @@ fn in_an_allocation(rt: HostRuntime) {
     long.truncate(7);
     long.shrink_to_fit().expect(&rt, "refused");
     assert!(rt; !long.is_inline());
-    same(&rt, shown(&long), "content");
+    assert_same(&rt, shown(&long), "content");
 }
 
 #[test]
@@ -50,9 +51,9 @@ fn conversions(rt: HostRuntime) {
     for source in ["", "abc", "abcdefghijklmnopqrstuvwxyz"] {
         let string = small(&rt, source);
         let copy = string.clone().expect(&rt, "refused");
-        same(&rt, shown(&copy), source);
+        assert_same(&rt, shown(&copy), source);
         let owned = string.into_ascii_string().expect(&rt, "refused");
-        same(&rt, owned.as_ascii_str().as_str(), source);
+        assert_same(&rt, owned.as_ascii_str().as_str(), source);
     }
 }
 
@@ -71,7 +72,7 @@ fn compared<R: Abort + AllocGlobal>(rt: &R, first: &str, second: &str) -> (Order
 fn comparisons(rt: HostRuntime) {
     for (i, first) in RISING.iter().enumerate() {
         for (j, second) in RISING.iter().enumerate() {
-            same(&rt, compared(&rt, *first, *second), (i.cmp(&j), i == j));
+            assert_same(&rt, compared(&rt, *first, *second), (i.cmp(&j), i == j));
         }
     }
 }
@@ -82,7 +83,7 @@ fn hashed(rt: HostRuntime) {
     for text in &RISING {
         strings.insert(small(&rt, *text)).expect(&rt, "refused");
     }
-    same(&rt, strings.len(), 7);
+    assert_same(&rt, strings.len(), 7);
     let mut spilled = small(&rt, RISING[5]);
     spilled.truncate(2);
     assert!(rt; strings.contains(&spilled));
@@ -92,7 +93,7 @@ fn hashed(rt: HostRuntime) {
 #[test]
 fn printed(rt: HostRuntime) {
     let string = small(&rt, "abc");
-    same(
+    assert_same(
         &rt,
         format!(in rt.alloc(); "{string:>5}")
             .expect(&rt, "refused")
@@ -100,7 +101,7 @@ fn printed(rt: HostRuntime) {
         "  abc",
     );
     let string = small(&rt, "\0\t'\\\x7f");
-    same(
+    assert_same(
         &rt,
         format!(in rt.alloc(); "{string:?}")
             .expect(&rt, "refused")
@@ -115,8 +116,8 @@ fn written(rt: HostRuntime) {
     assert!(rt; string.write_str("ab").is_ok());
     assert!(rt; string.write_str("cé").is_err());
     assert!(rt; string.write_char('λ').is_err());
-    same(&rt, shown(&string), "ab");
+    assert_same(&rt, shown(&string), "ab");
     assert!(rt; string.write_char('-').is_ok());
     write!(string, "{} of {:>3}", 1, 20).expect(&rt, "refused");
-    same(&rt, shown(&string), "ab-1 of  20");
+    assert_same(&rt, shown(&string), "ab-1 of  20");
 }
