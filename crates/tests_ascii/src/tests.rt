@@ -4,19 +4,19 @@
 //! the documentation of the calls.
 
 mod both_ends;
-mod copies;
-mod hints;
+mod clones;
 mod json;
-mod lengths;
+mod long_texts;
+mod mutable_views;
 mod of_ascii;
-mod resuming;
+mod remainders;
+mod size_hints;
 mod small_texts;
 mod spans;
 mod strings;
-mod vectors;
+mod upstream_vectors;
+mod upstream_walks;
 mod views;
-mod walks;
-mod writing_views;
 
 use std::alloc::Global;
 use std::fmt::Debug;

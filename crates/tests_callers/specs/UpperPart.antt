@@ -1,8 +1,8 @@
 -- A source with a part of it in upper case.
 use Rattle.std.specs.Prelude.{ℕ, List, ◌++◌, drop, length, map, slice_range, take}
-use Rattle.ascii_base.specs.declared.range.AsciiRange.{AsciiRange}
-use Rattle.ascii_base.specs.Case.{upper_image}
-use Rattle.ascii_base.specs.Range.{end_of, start_of}
+use Rattle.ascii.specs.AsciiRange.{AsciiRange}
+use Rattle.ascii.specs.Case.{upper_image}
+use Rattle.ascii.specs.Range.{end_of, start_of}
 
 -- the source with the part in the range in upper case
 abbrev pub upper_part : List ℕ → AsciiRange → List ℕ

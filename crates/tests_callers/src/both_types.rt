@@ -2,8 +2,8 @@
 
 ghost use Rattle.std.specs.Prelude.{◌≡◌, ◌+◌, ◌≤◌, ◌++◌, ◌∷◌, [], IfOk, IsOk, OnErr, OnOk, length};
 ghost use Rattle.std.specs.Prelude.{map};
-ghost use Rattle.ascii_base.specs.Case.{lower_image};
-ghost use Rattle.ascii_base.specs.Code.{code_of};
+ghost use Rattle.ascii.specs.Case.{lower_image};
+ghost use Rattle.ascii.specs.Code.{code_of};
 ghost use Rattle.ascii.specs.View.{text_of};
 ghost use Rattle.ascii_run.specs.Inline.{inline_size};
 ghost use Rattle.ascii_run.specs.Run.{NeverShrinks, RunOf};

@@ -1,14 +1,14 @@
 //! Edits of a part of a source.
 
 ghost use Rattle.std.specs.Prelude.{◌≡◌, ◌++◌, OnOk, OnErr, IfErr, map};
-ghost use Rattle.ascii_base.specs.Case.{upper_image};
+ghost use Rattle.ascii.specs.Case.{upper_image};
 ghost use Rattle.ascii.specs.Slice.{IsRejected};
 ghost use Rattle.tests_callers.specs.UpperPart.{upper_part};
 ghost use Rattle.ascii.specs.WritingView.{before_of, mut_text_of, after_of, whole_source_of};
 ghost use Rattle.ascii.specs.WritingView.{borrow_of};
 
 use ascii::{AsAsciiStrError, AsciiStrMut, bytes};
-use ascii_base::range::AsciiRange;
+use ascii::AsciiRange;
 
 /// Changes the letters of a part of a source to upper case, where the part is ASCII text. A refused
 /// source is unchanged.

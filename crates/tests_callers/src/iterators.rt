@@ -3,7 +3,7 @@
 ghost use Rattle.std.specs.Prelude.{◌≡◌, ◌+◌, ◌≤◌, ◌++◌, ◌∷◌, IfOk, IsOk, OnOk, ℕ, length, map};
 ghost use Rattle.std.specs.Prelude.{reverse, string_bytes, codes, take};
 ghost use Rattle.std.specs.List.{flat_map};
-ghost use Rattle.ascii_base.specs.Case.{upper_image};
+ghost use Rattle.ascii.specs.Case.{upper_image};
 ghost use Rattle.ascii.specs.View.{debug_text};
 ghost use Rattle.ascii.specs.Lines.{OfLines, bodies};
 ghost use Rattle.ascii.specs.Pieces.{OfPieces};

@@ -3,7 +3,7 @@
 
 ghost use Rattle.std.specs.Prelude.{◌≡◌, ◌-◌, IfOk, MatchOption, [], drop, length, map};
 ghost use Rattle.std.specs.Option.{option_map};
-ghost use Rattle.ascii_base.specs.Code.{code_of};
+ghost use Rattle.ascii.specs.Code.{code_of};
 ghost use Rattle.ascii.specs.Walks.{TakesEnd};
 ghost use Rattle.ascii.specs.Lines.{LinesOf, OfLines};
 ghost use Rattle.ascii.specs.Pieces.{Pieces, OfPieces};

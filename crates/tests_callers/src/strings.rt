@@ -2,7 +2,7 @@
 
 ghost use Rattle.std.specs.Prelude.{◌≡◌, ◌+◌, ◌-◌, ◌<◌, ◌++◌, ◌∷◌, [], IsOk, IsOkAnd, codes};
 ghost use Rattle.std.specs.Prelude.{length, remove, slice_index, string_bytes, take};
-ghost use Rattle.ascii_base.specs.Code.{code_of};
+ghost use Rattle.ascii.specs.Code.{code_of};
 
 use ascii::{AsciiChar, AsciiString};
 use std::alloc::AllocError;

@@ -2,20 +2,20 @@
 //! sources that give little at a call or fail. `bin/examples` writes `of_ascii_lines.rt`, the examples in the
 //! documentation of the calls.
 
-mod both_types;
+mod callers_in_place;
+mod callers_of_both_types;
+mod callers_of_iterators;
+mod callers_of_spans;
 mod headers;
 mod hosts;
 mod identifiers;
-mod in_place;
-mod iterators;
+mod json_round_trip;
 mod last_lines;
 mod line_reader;
 mod of_ascii_lines;
 mod screen;
 mod settings;
-mod spans;
 mod table;
-mod values;
 
 use std::alloc::Global;
 use std::fmt::Debug;

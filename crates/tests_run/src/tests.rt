@@ -3,22 +3,22 @@
 //! gives up past a length. `bin/examples` writes `of_ascii_run.rt` and
 //! `of_ascii_devices.rt`, the examples in the documentation of the calls.
 
-mod commands;
-mod devices;
-mod each_call;
+mod both_types_agree;
+mod byte_past_127_everywhere;
+mod command_replies;
+mod device_steps;
+mod each_call_fails;
 mod edit_lists;
 mod edit_table;
 mod engine;
-mod lengths;
+mod known_runs;
+mod long_inputs;
 mod of_ascii_devices;
 mod of_ascii_run;
 mod output_buffer;
-mod picks;
-mod places;
-mod random_runs;
-mod rows;
-mod scripted;
-mod small;
+mod pseudo_random;
+mod scripted_devices;
+mod small_string;
 
 use std::alloc::Global;
 use std::fmt::Debug;

@@ -4,11 +4,9 @@ use super::assert_debug;
 use ascii::iter::{End, take_end, walk_line_spans, walk_lines, walk_split, walk_split_spans};
 use ascii::json::{char_from_json, char_to_json, str_from_json, string_from_json};
 use ascii::{
-    AsAsciiStrError, AsciiStr, AsciiString, BoxedAsciiStr, CowAsciiStr, RcAsciiStr, bytes, string,
-    text, vec,
+    AsAsciiStrError, AsciiChar, AsciiRange, AsciiStr, AsciiString, BoxedAsciiStr, CowAsciiStr,
+    RcAsciiStr, bytes, string, text, vec,
 };
-use ascii_base::ascii_char::AsciiChar;
-use ascii_base::range::AsciiRange;
 use serde_json::Value;
 use std::collections::HashSet;
 use std::fmt::Write;

@@ -1,8 +1,7 @@
 //! The examples in the documentation of `ascii_lines`, made by `bin/examples`.
 
 use super::assert_debug;
-use ascii_devices::Input;
-use ascii_lines::{LineReader, collect_lines};
+use ascii_lines::{Input, LineReader, collect_lines};
 
 #[test]
 fn line_reader_1(rt: HostRuntime) {

@@ -2,7 +2,7 @@
 
 use super::assert_same;
 use super::edit_table::RAN;
-use super::picks::Picks;
+use super::pseudo_random::Picks;
 use ascii_run::{Cmd, Reply, run_both};
 use std::alloc::{AllocError, Global};
 use testing::ascii;

@@ -2,10 +2,9 @@
 
 use super::assert_debug;
 use ascii::{AsciiChar, bytes};
-use ascii_devices::{Input, Output};
 use ascii_run::{
-    AsciiBuf, Cmd, EngineFault, Mode, SmallAsciiString, engine, plain_run, run, run_both,
-    runs_agree,
+    AsciiBuf, Cmd, EngineFault, Input, Mode, Output, SmallAsciiString, engine, plain_run, run,
+    run_both, runs_agree,
 };
 use std::alloc::AllocError;
 use std::collections::HashSet;

@@ -48,10 +48,10 @@ use Rattle.std.specs.Borrow.{RestsIfErr}
 use Rattle.std.specs.declared.result.Result.{Result}
 use Rattle.std.specs.declared.result.Result.TheVariants.{Ok, Err}
 use Rattle.std.specs.contracts.result.Result as RS
-use Rattle.ascii_base.specs.Case.{upper_image}
-use Rattle.ascii_base.specs.Range.{start_of, end_of}
-use Rattle.ascii_base.specs.contracts.range.AsciiRange as range
-use Rattle.ascii_base.proofs.range.AsciiRange.TheLaws as range_laws
+use Rattle.ascii.specs.Case.{upper_image}
+use Rattle.ascii.specs.Range.{start_of, end_of}
+use Rattle.ascii.specs.range.AsciiRange as range
+use Rattle.ascii.proofs.range.AsciiRange.TheLaws as range_laws
 use Rattle.ascii.specs.Slice.{IsRejected}
 use Rattle.ascii.specs.WritingView.{IsViewOf, MutSliceOutcome, before_of, mut_text_of, after_of}
 use Rattle.ascii.specs.WritingView.{whole_source_of, borrow_of}

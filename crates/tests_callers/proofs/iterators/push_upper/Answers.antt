@@ -3,8 +3,8 @@ use Rattle.std.specs.List.{flat_map}
 use Rattle.std.proofs.lemmas.Iterator.{YieldsList-from_map_by}
 use Rattle.std.proofs.lemmas.Iterator.Consumers.{YieldsList-from_first, YieldsList-at}
 use Rattle.std.proofs.lemmas.List.{length-map, take-map}
-use Rattle.ascii_base.specs.Case.{upper_image}
-use Rattle.ascii_base.specs.Code.{code_of}
+use Rattle.ascii.specs.Case.{upper_image}
+use Rattle.ascii.specs.Code.{code_of}
 use Rattle.ascii.specs.View.{text_of}
 use Rattle.ascii.proofs.ExtendLemmas.{all_from_extends, front_from_extends, ok_from_extends}
 use Rattle.ascii.proofs.ExtendLemmas.{singles}

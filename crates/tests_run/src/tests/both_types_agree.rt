@@ -1,7 +1,7 @@
 //! Runs of all kinds of commands over both forms, against each other.
 
 use super::assert_same;
-use super::picks::Picks;
+use super::pseudo_random::Picks;
 use ascii::{AsciiChar, AsciiRange};
 use ascii_run::{Cmd, Reply, run_both};
 use std::alloc::{AllocError, Global};

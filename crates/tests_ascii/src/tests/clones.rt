@@ -1,7 +1,7 @@
 //! Iterators that are cloned at each step: the clone and the iterator both go on as the unbroken walk does.
 
 use super::both_ends::{scripts, walk_on};
-use super::resuming::cut_at;
+use super::remainders::cut_at;
 use ascii::AsciiChar;
 use ascii::iter::End;
 use std::fmt::Debug;

@@ -1,6 +1,6 @@
 //! Runs of commands, and the modes from bytes to bytes.
 
-use super::each_growth::{Heap, each_growth, shown, view};
+use super::each_allocation::{Heap, shown, view, with_each_allocation_failing};
 use ascii::iter::End;
 use ascii::{AsciiChar, AsciiRange, AsciiString};
 use ascii_run::{Cmd, Input, Mode, Output, engine, run};
@@ -35,7 +35,7 @@ fn later_commands_go_on(rt: HostRuntime) {
         "[Done, Number(8), Text(\"x\"), Done, NoMemory, Number(8)] xbcdefgh",
         "[Done, Number(8), Text(\"x\"), Done, Done, Number(8)] xbcdefgh",
     ];
-    each_growth(&rt, "run", &wanted, |heap| ran(alloc, heap, &cmds));
+    with_each_allocation_failing(&rt, "run", &wanted, |heap| ran(alloc, heap, &cmds));
     let cmds = [
         Cmd::Insert(1, AsciiChar::a),
         Cmd::Shrink,
@@ -53,7 +53,7 @@ fn later_commands_go_on(rt: HostRuntime) {
         "[Done, Done, Done, Done, NoMemory, Char(Some('b'))] xa",
         "[Done, Done, Done, Done, Done, Char(Some('b'))] ccxa",
     ];
-    each_growth(&rt, "run", &wanted, |heap| ran(alloc, heap, &cmds))
+    with_each_allocation_failing(&rt, "run", &wanted, |heap| ran(alloc, heap, &cmds))
 }
 
 /// What a mode answers for an input, and what went out.
@@ -90,7 +90,7 @@ fn goes_out<R: Abort + AllocGlobal>(rt: &R, mode: Mode<'_>, name: &str, ample: &
     let alloc = rt.alloc();
     let other: &[u8] = &[97, 98, 200, 201];
     for (input, ample) in [(INPUT, ample), (other, "Err(NotAscii(2)) ")] {
-        each_growth(rt, name, &["Err(Memory) ", ample], |heap| {
+        with_each_allocation_failing(rt, name, &["Err(Memory) ", ample], |heap| {
             wrote(alloc, heap, mode, input)
         });
     }
@@ -156,12 +156,12 @@ fn nothing_of_much_goes_out(rt: HostRuntime) {
     }
     for &(name, ample) in &MUCH {
         let wanted = ["Err(Memory) 0", ample];
-        each_growth(&rt, name, &wanted, |heap| {
+        with_each_allocation_failing(&rt, name, &wanted, |heap| {
             wrote_much(alloc, heap, mode_of(name), &input)
         });
     }
     let wanted = ["Err(Memory) 0", "Ok(()) 20000"];
-    each_growth(&rt, "edit", &wanted, |heap| {
+    with_each_allocation_failing(&rt, "edit", &wanted, |heap| {
         wrote_much(alloc, heap, Mode::Edit(&[Cmd::Upper]), &input)
     })
 }

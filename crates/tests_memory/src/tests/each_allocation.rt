@@ -20,7 +20,12 @@ pub fn right<R: Abort>(rt: &R, is_right: bool, call: &str, run: u64, answer: &st
 /// Runs a call with its first growth refused, then with its second, until a run meets no refusal. What the
 /// runs answer is `wanted`, in this order and each as often as it comes; the last is the answer with ample
 /// memory. A run with an error was refused before its call began, and is passed over.
-pub fn each_growth<R: Abort + AllocGlobal, F>(rt: &R, call: &str, wanted: &[&str], run: F)
+pub fn with_each_allocation_failing<R: Abort + AllocGlobal, F>(
+    rt: &R,
+    call: &str,
+    wanted: &[&str],
+    run: F,
+)
 where
     F: Fn(&Heap) -> Result<String, AllocError>,
     requires { F.IsAlwaysCallable run }
@@ -28,8 +33,13 @@ where
     each_failure(rt, call, wanted, false, run)
 }
 
-/// Like `each_growth`, but the next growth after the refused one is refused too.
-pub fn each_two_growths<R: Abort + AllocGlobal, F>(rt: &R, call: &str, wanted: &[&str], run: F)
+/// Like `with_each_allocation_failing`, but the next growth after the refused one is refused too.
+pub fn with_each_two_allocations_failing<R: Abort + AllocGlobal, F>(
+    rt: &R,
+    call: &str,
+    wanted: &[&str],
+    run: F,
+)
 where
     F: Fn(&Heap) -> Result<String, AllocError>,
     requires { F.IsAlwaysCallable run }
@@ -37,7 +47,7 @@ where
     each_failure(rt, call, wanted, true, run)
 }
 
-/// Like `each_two_growths` if `twice`, and like `each_growth` otherwise.
+/// Like `with_each_two_allocations_failing` if `twice`, and like `with_each_allocation_failing` otherwise.
 fn each_failure<R: Abort + AllocGlobal, F>(rt: &R, call: &str, wanted: &[&str], twice: bool, run: F)
 where
     F: Fn(&Heap) -> Result<String, AllocError>,

@@ -1,7 +1,7 @@
 //! The form that keeps short texts inline, whose memory is the program's, and runs over both forms.
 
-use super::each_block::{Left, Scarce, each_block};
-use super::each_growth::view;
+use super::each_allocation::view;
+use super::each_free_block::{Left, Scarce, with_each_free_block};
 use ascii::{AsciiChar, AsciiRange};
 use ascii_run::{AsciiBuf, BothRuns, Cmd, SmallAsciiString, run, run_both};
 use linked_list_allocator::LocalHeap;
@@ -54,7 +54,7 @@ fn text_stays(rt: HostRuntime) {
                 "Ok(()) {before}{start}{behind} {before}{start}{behind}z"
             ).expect(&rt, "refused");
             let wanted = [refused.as_str(), ample.as_str()];
-            each_block(&rt, call, &wanted, |left| grown(alloc, start, call, left));
+            with_each_free_block(&rt, call, &wanted, |left| grown(alloc, start, call, left));
         }
     }
 }
@@ -121,7 +121,7 @@ static MADE: [(&str, &str, &[&str]); 6] = [
 fn sources_stay(rt: HostRuntime) {
     let alloc = rt.alloc();
     for &(call, start, wanted) in &MADE {
-        each_block(&rt, call, wanted, |left| made(alloc, start, call, left));
+        with_each_free_block(&rt, call, wanted, |left| made(alloc, start, call, left));
     }
 }
 
@@ -137,7 +137,7 @@ fn no_memory_for_short_texts(rt: HostRuntime) {
             "Ok(()) {before}{SHORT}{behind} {before}{SHORT}{behind}z"
         ).expect(&rt, "refused");
         let wanted = [ample.as_str()];
-        each_block(&rt, call, &wanted, |left| grown(alloc, SHORT, call, left));
+        with_each_free_block(&rt, call, &wanted, |left| grown(alloc, SHORT, call, left));
     }
 }
 
@@ -165,9 +165,9 @@ fn runs_go_on(rt: HostRuntime) {
         "Ok([NoMemory, Number(24), Char(Some('a')), Done, Number(24)]) aaaaaaaaaaaaaaaaaaaaaaac aaaaaaaaaaaaaaaaaaaaaaacz",
         "Ok([Done, Number(25), Char(Some('b')), Done, Number(25)]) aaaaaaaaaaaaaaaaaaaaaaaac aaaaaaaaaaaaaaaaaaaaaaaacz",
     ];
-    each_block(&rt, "run", &wanted, |left| ran(alloc, &cmds, 9, left));
+    with_each_free_block(&rt, "run", &wanted, |left| ran(alloc, &cmds, 9, left));
     let wanted = ["Err(AllocError) aaaaaaaaaaaaaaaaaaaaaaaa aaaaaaaaaaaaaaaaaaaaaaaaz"];
-    each_block(&rt, "run", &wanted, |left| ran(alloc, &cmds, 0, left))
+    with_each_free_block(&rt, "run", &wanted, |left| ran(alloc, &cmds, 0, left))
 }
 
 #[test]
@@ -187,14 +187,14 @@ fn runs_go_on_behind_each_growth(rt: HostRuntime) {
         "Ok([Done, Text(\"b\"), NoMemory, Done, Done, Done]) bac bacz",
         "Ok([Done, Text(\"b\"), Done, Done, Done, Done]) bac bacz",
     ];
-    each_block(&rt, "run", &wanted, |left| ran(alloc, &cmds, 9, left));
+    with_each_free_block(&rt, "run", &wanted, |left| ran(alloc, &cmds, 9, left));
     let wanted = [
         "Ok([NoMemory, NoMemory, NoMemory, Done, Done, Done]) aac aacz",
         "Ok([NoMemory, NoMemory, Done, Done, Done, Done]) aac aacz",
         "Ok([Done, NoMemory, NoMemory, Done, Done, Done]) bac bacz",
         "Ok([Done, NoMemory, Done, Done, Done, Done]) bac bacz",
     ];
-    each_block(&rt, "run", &wanted, |left| ran(alloc, &cmds, 1, left))
+    with_each_free_block(&rt, "run", &wanted, |left| ran(alloc, &cmds, 1, left))
 }
 
 /// The replies and texts of a run over both forms.
@@ -236,7 +236,7 @@ fn both_forms_go_on(rt: HostRuntime) {
         heap_refused.as_str(),
         ample.as_str(),
     ];
-    each_block(
+    with_each_free_block(
         &rt,
         "run_both",
         &wanted,

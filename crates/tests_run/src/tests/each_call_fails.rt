@@ -1,7 +1,7 @@
 //! One byte a call, with each call refused in turn.
 
 use super::assert_same;
-use super::devices::{Giving, KINDS, Step, Taking};
+use super::device_steps::{Giving, KINDS, Step, Taking};
 use ascii::iter::End;
 use ascii::{AsciiStr, text};
 use ascii_run::{Cmd, EngineFault, Input, Mode, Output, Sink, Source, engine};

@@ -1,7 +1,7 @@
 //! JSON values, whose memory is the program's. The call is refused, and then gives the value.
 
-use super::each_block::{Scarce, each_block};
-use super::each_growth::{right, view};
+use super::each_allocation::{right, view};
+use super::each_free_block::{Scarce, with_each_free_block};
 use ascii::AsciiChar;
 use ascii::json::char_to_json;
 use serde_json::Value;
@@ -18,7 +18,7 @@ fn texted(scarce: Scarce, answer: Result<Value, AllocError>) -> Result<String, A
 #[test]
 fn of_a_view(rt: HostRuntime) {
     let alloc = rt.alloc();
-    each_block(&rt, "to_json", &["AllocError", "Some(\"abc\")"], |left| {
+    with_each_free_block(&rt, "to_json", &["AllocError", "Some(\"abc\")"], |left| {
         let scarce = Scarce::but(alloc, left).expect(&rt, "refused");
         texted(scarce, view("abc").to_json(alloc))
     })
@@ -28,7 +28,7 @@ fn of_a_view(rt: HostRuntime) {
 fn of_a_string(rt: HostRuntime) {
     let alloc = rt.alloc();
     let string = view("abc").to_ascii_string(alloc).expect(&rt, "refused");
-    each_block(&rt, "to_json", &["AllocError", "Some(\"abc\")"], |left| {
+    with_each_free_block(&rt, "to_json", &["AllocError", "Some(\"abc\")"], |left| {
         let scarce = Scarce::but(alloc, left).expect(&rt, "refused");
         texted(scarce, string.to_json(alloc))
     });
@@ -39,7 +39,7 @@ fn of_a_string(rt: HostRuntime) {
 #[test]
 fn of_a_character(rt: HostRuntime) {
     let alloc = rt.alloc();
-    each_block(
+    with_each_free_block(
         &rt,
         "char_to_json",
         &["AllocError", "Some(\"a\")"],

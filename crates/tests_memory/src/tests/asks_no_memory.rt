@@ -1,6 +1,6 @@
 //! Calls that ask for no memory, with none to be had.
 
-use super::each_growth::{Heap, right, shown, view};
+use super::each_allocation::{Heap, right, shown, view};
 use ascii::iter::{End, walk_line_spans, walk_lines, walk_split, walk_split_spans};
 use ascii::json::string_from_json;
 use ascii::{AsciiChar, AsciiStr, AsciiString, bytes, text, vec};

@@ -1,7 +1,7 @@
 //! Runs of a call whose memory is the program's own: all that there is is taken first, and then none, one, two and
 //! more blocks are let go.
 
-use super::each_growth::right;
+use super::each_allocation::right;
 use ascii::AsciiChar;
 use ascii_run::{AsciiBuf, SmallAsciiString};
 use std::alloc::{AllocError, Global};
@@ -95,7 +95,7 @@ impl Scarce {
 /// Runs a call with no memory left, with one block, with two, and so on, until it answers as with ample memory. Each
 /// run answers one of `wanted`: the first of them with no memory left, and the last with ample memory. Where not all
 /// memory can be taken, there is one run, with ample memory.
-pub fn each_block<R: Abort + AllocGlobal, F>(rt: &R, call: &str, wanted: &[&str], run: F)
+pub fn with_each_free_block<R: Abort + AllocGlobal, F>(rt: &R, call: &str, wanted: &[&str], run: F)
 where
     F: Fn(Left) -> Result<String, AllocError>,
     requires { F.IsAlwaysCallable run }

@@ -1,6 +1,8 @@
 //! Growths of a string.
 
-use super::each_growth::{Heap, each_growth, each_two_growths, told, view};
+use super::each_allocation::{
+    Heap, told, view, with_each_allocation_failing, with_each_two_allocations_failing,
+};
 use ascii::{AsciiChar, AsciiString};
 use std::alloc::{AllocError, Global};
 use std::fmt::Write;
@@ -51,7 +53,7 @@ static EDITS: [(&str, &[&str]); 9] = [
 fn text_stays(rt: HostRuntime) {
     let alloc = rt.alloc();
     for &(call, wanted) in &EDITS {
-        each_growth(&rt, call, wanted, |heap| edited(alloc, heap, call));
+        with_each_allocation_failing(&rt, call, wanted, |heap| edited(alloc, heap, call));
     }
 }
 
@@ -80,7 +82,7 @@ static GROWTHS: [(&str, &[&str]); 2] = [
 fn what_came_before_stays(rt: HostRuntime) {
     let alloc = rt.alloc();
     for &(call, wanted) in &GROWTHS {
-        each_growth(&rt, call, wanted, |heap| edited(alloc, heap, call));
+        with_each_allocation_failing(&rt, call, wanted, |heap| edited(alloc, heap, call));
     }
 }
 
@@ -100,13 +102,13 @@ fn extended(alloc: Global, heap: &Heap) -> Result<String, AllocError> {
 fn characters_before_stay(rt: HostRuntime) {
     let alloc = rt.alloc();
     let wanted = ["Err(AllocError) true false", "Ok(()) false true"];
-    each_two_growths(&rt, "extend_chars", &wanted, |heap| extended(alloc, heap))
+    with_each_two_allocations_failing(&rt, "extend_chars", &wanted, |heap| extended(alloc, heap))
 }
 
 #[test]
 fn characters_are_appended_one_by_one_after_a_failure(rt: HostRuntime) {
     let alloc = rt.alloc();
-    each_growth(&rt, "extend_chars", &["Ok(()) false true"], |heap| {
+    with_each_allocation_failing(&rt, "extend_chars", &["Ok(()) false true"], |heap| {
         extended(alloc, heap)
     })
 }

@@ -1,6 +1,6 @@
 //! Calls that turn a value into another one: where memory is refused, the value comes back or stays.
 
-use super::each_growth::{Heap, each_growth, right, shown, view};
+use super::each_allocation::{Heap, right, shown, view, with_each_allocation_failing};
 use ascii::json::{JsonError, string_from_json};
 use ascii::{AsciiStr, CowAsciiStr, RcAsciiStr, bytes, text};
 use serde_json::Value;
@@ -62,7 +62,7 @@ static TURNED: [(&str, &[&str]); 6] = [
 fn values_come_back(rt: HostRuntime) {
     let alloc = rt.alloc();
     for &(call, wanted) in &TURNED {
-        each_growth(&rt, call, wanted, |heap| turned(alloc, heap, call));
+        with_each_allocation_failing(&rt, call, wanted, |heap| turned(alloc, heap, call));
     }
 }
 
@@ -80,11 +80,11 @@ fn sources_stay(rt: HostRuntime) {
     let alloc = rt.alloc();
     for call in ["bytes", "text"] {
         let wanted = ["Err(Memory(AllocError))", "Ok(\"abc\")"];
-        each_growth(&rt, call, &wanted, |heap| copied(alloc, heap, call));
+        with_each_allocation_failing(&rt, call, &wanted, |heap| copied(alloc, heap, call));
     }
     let value = Value::String(String::from_str(alloc, "abc").expect(&rt, "refused"));
     let wanted = ["Err(Memory)", "Ok(\"abc\")"];
-    each_growth(&rt, "string_from_json", &wanted, |heap| {
+    with_each_allocation_failing(&rt, "string_from_json", &wanted, |heap| {
         shown(alloc, string_from_json(heap, &value))
     });
     let text = value.as_str().unwrap_or_default();

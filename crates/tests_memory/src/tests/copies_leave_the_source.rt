@@ -1,6 +1,8 @@
 //! Calls that make a text, a list of characters or a list of answers: the source stays.
 
-use super::each_growth::{Heap, each_growth, each_two_growths, shown, view};
+use super::each_allocation::{
+    Heap, shown, view, with_each_allocation_failing, with_each_two_allocations_failing,
+};
 use ascii::iter::{End, walk_line_spans, walk_lines, walk_split, walk_split_spans};
 use ascii::{AsciiChar, AsciiString, BoxedAsciiStr, RcAsciiStr};
 use std::alloc::{AllocError, Global};
@@ -54,7 +56,7 @@ static TEXTS: [(&str, &[&str]); 10] = [
 fn texts(rt: HostRuntime) {
     let alloc = rt.alloc();
     for &(call, wanted) in &TEXTS {
-        each_growth(&rt, call, wanted, |heap| made(alloc, heap, call));
+        with_each_allocation_failing(&rt, call, wanted, |heap| made(alloc, heap, call));
     }
 }
 
@@ -62,7 +64,7 @@ fn texts(rt: HostRuntime) {
 fn collected_characters(rt: HostRuntime) {
     let alloc = rt.alloc();
     let wanted = ["Err(AllocError)", "Ok(\"aB,c\")"];
-    each_two_growths(&rt, "collect_chars", &wanted, |heap| {
+    with_each_two_allocations_failing(&rt, "collect_chars", &wanted, |heap| {
         made(alloc, heap, "collect_chars")
     })
 }
@@ -99,7 +101,7 @@ fn walks(rt: HostRuntime) {
     let alloc = rt.alloc();
     for &(call, ample) in &WALKS {
         let wanted = ["Err(AllocError)", ample];
-        each_growth(&rt, call, &wanted, |heap| walked(alloc, heap, call));
+        with_each_allocation_failing(&rt, call, &wanted, |heap| walked(alloc, heap, call));
     }
 }
 
@@ -123,6 +125,6 @@ fn boxes(rt: HostRuntime) {
     let alloc = rt.alloc();
     for call in ["BoxedAsciiStr", "RcAsciiStr"] {
         let wanted = ["AllocError", "\"abc\""];
-        each_growth(&rt, call, &wanted, |heap| boxed(alloc, heap, call));
+        with_each_allocation_failing(&rt, call, &wanted, |heap| boxed(alloc, heap, call));
     }
 }
