@@ -14,3 +14,5 @@ pub mod StepsLemmas
 pub mod TextLemmas
 pub mod TrimLemmas
 pub mod WritingViewLemmas
+pub use Rattle.ascii_base.proofs.LanesLemmas
+pub use Rattle.ascii_base.proofs.range

@@ -23,3 +23,6 @@ pub use Rattle.ascii_base.specs.Lanes
 pub use Rattle.ascii_base.specs.Printable
 pub use Rattle.ascii_base.specs.Range
 pub use Rattle.ascii_base.specs.ToAscii
+pub use Rattle.ascii_base.specs.declared.ascii_char.AsciiChar
+pub use Rattle.ascii_base.specs.declared.range.AsciiRange
+pub use Rattle.ascii_base.specs.contracts.range

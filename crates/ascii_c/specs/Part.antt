@@ -1,6 +1,6 @@
 -- A part of a source, given by its start and its end.
 use Rattle.std.specs.Prelude.{ℕ, List, ◌≡◌, ◌≤◌, ◌⊎◌, length}
-use Rattle.ascii_base.specs.Bytes.{FirstOther}
+use Rattle.ascii.specs.Bytes.{FirstOther}
 
 -- the part from `start` up to, but not including, `end` is within the source
 abbrev pub IsWithin : List ℕ → ℕ → ℕ → Type 0

@@ -1,7 +1,7 @@
 -- Positions in bytes, as C gets them: the length means that there is none.
 use Rattle.std.specs.Prelude.{ℕ, List, ◌≡◌, ◌⊎◌, length}
 use Rattle.std.specs.List.{All}
-use Rattle.ascii_base.specs.Bytes.{IsFirstNot, IsLastNot}
+use Rattle.ascii.specs.Bytes.{IsFirstNot, IsLastNot}
 
 -- `i` is the position of the first byte that is not in the class, or the length if all are in it
 abbrev pub IsFirstNotOrEnd : (ℕ → Type 0) → List ℕ → ℕ → Type 0

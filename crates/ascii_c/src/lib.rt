@@ -6,15 +6,15 @@
 ghost use Rattle.std.specs.Prelude.{◌≡◌, ◌<◌, ◌≤◌, ◌⊎◌, ◌↔◌, IsFalse, IsTrue, length, map};
 ghost use Rattle.std.specs.Prelude.{slice_range, take};
 ghost use Rattle.std.specs.Str.{IsAscii};
-ghost use Rattle.ascii_base.specs.Bytes.{FirstOther};
-ghost use Rattle.ascii_base.specs.Case.{lower_image, upper_image};
-ghost use Rattle.ascii_base.specs.Class.{IsWhitespace};
+ghost use Rattle.ascii.specs.Bytes.{FirstOther};
+ghost use Rattle.ascii.specs.Case.{lower_image, upper_image};
+ghost use Rattle.ascii.specs.Class.{IsWhitespace};
 ghost use Rattle.ascii.specs.Trim.{TrimsEnd, TrimsStart};
 ghost use Rattle.ascii_c.specs.Part.{IsWithin, IsRejectedAt};
 ghost use Rattle.ascii_c.specs.Places.{IsFirstNotOrEnd, IsLastNotOrEnd};
 
 use ascii::{AsciiRange, bytes};
-use ascii_base::kernels;
+use ascii::kernels;
 
 /// Returns the position of the first byte over 127, or `length` if every byte is less than 128. For
 /// `ab\xc4` it is 2.

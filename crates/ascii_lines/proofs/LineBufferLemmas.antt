@@ -8,7 +8,7 @@ use Rattle.std.proofs.Math.Seq.{take-add}
 use Rattle.std.proofs.lemmas.Bool.{cases_lt}
 use Rattle.std.proofs.lemmas.List.{drop-drop, get_or-take}
 use Rattle.std.proofs.lemmas.Slice.{between_is}
-use Rattle.ascii_base.specs.Bytes.{FirstOther}
+use Rattle.ascii.specs.Bytes.{FirstOther}
 use Rattle.ascii.proofs.ListLemmas.{length-slice_range, slice_range-at}
 use Rattle.memchr.specs.Find.{IsFirstByte, is_byte}
 use Rattle.ascii_lines.specs.LineBuffer.{EndsLine, FreeUpTo, IsLaidOut}

@@ -11,7 +11,7 @@ use Rattle.ascii.specs.declared.iter.spans.Ending.TheVariants.{Absent}
 use Rattle.ascii.specs.Lines.{Line}
 use Rattle.ascii.specs.Spans.{LineSpansOf, WithStart, line_size}
 use Rattle.ascii.specs.View.{text_of}
-use Rattle.ascii_base.specs.Bytes.{FirstOther}
+use Rattle.ascii.specs.Bytes.{FirstOther}
 use Rattle.ascii_lines.specs.LineBuffer.{WindowState, EndsLine, FreeUpTo}
 use Rattle.ascii_lines.specs.declared.line_reader.LineError.{LineError}
 use Rattle.ascii_lines.specs.declared.line_reader.LineError.TheVariants.{NotAscii, TooLong, TooFar}

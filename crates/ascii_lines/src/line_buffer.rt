@@ -4,11 +4,11 @@ ghost use Rattle.std.specs.Prelude.{◌≡◌, ℕ, ◌+◌, ◌-◌, ◌<◌, �
 ghost use Rattle.std.specs.Prelude.{MatchOption, OnErr, drop, length, slice_range, take};
 ghost use Rattle.std.specs.Io.KnownBytes.{Consumes, IsAtEnd};
 ghost use Rattle.std.specs.Str.{IsAscii};
-ghost use Rattle.ascii_base.specs.Bytes.{FirstOther};
+ghost use Rattle.ascii.specs.Bytes.{FirstOther};
 ghost use Rattle.ascii_devices.specs.Devices.{CountsFault};
 ghost use Rattle.ascii_lines.specs.LineBuffer.{EndsLine, FreeUpTo};
 
-use ascii_base::kernels::first_other;
+use ascii::kernels::first_other;
 use ascii_devices::{DeviceFault, Source};
 use memchr::memchr;
 use std::alloc::{AllocError, Allocator};

@@ -8,7 +8,7 @@ use Rattle.std.proofs.lemmas.Grind.{flat_map-append}
 use Rattle.std.proofs.lemmas.List.{get_or-take, take_more}
 use Rattle.std.proofs.lemmas.List.Elements.{All-from_get_or, All-head, All-tail}
 use Rattle.std.specs.List.{All, flat_map}
-use Rattle.ascii_base.specs.Bytes.{IsFirstNot}
+use Rattle.ascii.specs.Bytes.{IsFirstNot}
 use Rattle.ascii_run.specs.Modes.Json.{IsUnescaped, json_code}
 use Rattle.ascii_run.specs.Modes.Caret.{IsShown, caret_text}
 

@@ -1,8 +1,8 @@
 -- Runs whose replies and text are known from outside, computed by the definitions.
 use Rattle.std.proofs.Common.{◌≡◌, ℕ, ◌-◌, ◌^◌, true, List, [], ◌∷◌, Some, None, refl}
 use Rattle.std.proofs.lemmas.List.Elements.{All-cons, All-nil}
-use Rattle.ascii_base.specs.declared.ascii_char.AsciiChar.TheVariants as ch
-use Rattle.ascii_base.specs.declared.range.AsciiRange.TheVariants as range
+use Rattle.ascii.specs.AsciiChar.TheVariants as ch
+use Rattle.ascii.specs.AsciiRange.TheVariants as range
 use Rattle.ascii.specs.declared.ascii_str.AsciiStr.{AsciiStr}
 use Rattle.ascii.specs.View.{text_of}
 use Rattle.ascii_run.specs.declared.commands.Cmd.{Cmd}

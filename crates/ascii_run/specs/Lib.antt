@@ -6,7 +6,7 @@ pub mod Modes
 pub mod OutputState
 pub mod Run
 pub mod Step
-pub use Rattle.ascii_base.specs.Bytes
+pub use Rattle.ascii.specs.Bytes
 pub use Rattle.ascii.specs.Walks
 pub use Rattle.ascii.specs.Lines
 pub use Rattle.ascii_devices.specs.Devices

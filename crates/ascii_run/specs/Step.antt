@@ -6,10 +6,10 @@ use Rattle.std.specs.Prelude.{slice_set, take}
 use Rattle.std.specs.declared.result.Result.{Result}
 use Rattle.std.specs.declared.result.Result.TheVariants.{Ok, Err}
 use Rattle.std.specs.declared.alloc.AllocError.{AllocError}
-use Rattle.ascii_base.specs.Case.{lower_image, upper_image}
-use Rattle.ascii_base.specs.Code.{code_of}
-use Rattle.ascii_base.specs.Range.{Fits, end_of, start_of}
-use Rattle.ascii_base.specs.declared.range.AsciiRange.{AsciiRange}
+use Rattle.ascii.specs.Case.{lower_image, upper_image}
+use Rattle.ascii.specs.Code.{code_of}
+use Rattle.ascii.specs.Range.{Fits, end_of, start_of}
+use Rattle.ascii.specs.AsciiRange.{AsciiRange}
 use Rattle.ascii.specs.StringState.{StringState, insert_text}
 use Rattle.ascii.specs.View.{position_of, text_of}
 use Rattle.ascii_run.specs.declared.commands.Cmd.{Cmd}

@@ -4,7 +4,7 @@ use Rattle.std.specs.Str.{IsAscii}
 use Rattle.std.specs.declared.option.Option.{Option}
 use Rattle.std.specs.declared.result.Result.{Result}
 use Rattle.std.specs.declared.result.Result.TheVariants.{Ok, Err}
-use Rattle.ascii_base.specs.Bytes.{FirstOther}
+use Rattle.ascii.specs.Bytes.{FirstOther}
 use Rattle.ascii_run.specs.Modes.{IsFaultOf, IsOutput}
 use Rattle.ascii_run.specs.declared.faults.EngineFault.TheVariants.{NotAscii, Position, Memory}
 use Rattle.ascii_run.specs.declared.faults.EngineFault.TheVariants.{Read, Write}

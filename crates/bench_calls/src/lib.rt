@@ -4,7 +4,7 @@
 
 ghost use Rattle.std.specs.Prelude.{◌≡◌, ◌↔◌, ℕ, IsTrue, List, length, map};
 ghost use Rattle.std.specs.Str.{IsAscii};
-ghost use Rattle.ascii_base.specs.Case.{lower_image, upper_image};
+ghost use Rattle.ascii.specs.Case.{lower_image, upper_image};
 ghost use Rattle.ascii.specs.Trim.{Trims};
 
 use ascii::{AsciiChar, AsciiStr, AsciiString, bytes};

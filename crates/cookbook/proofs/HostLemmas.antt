@@ -9,7 +9,7 @@ use Rattle.ascii.proofs.SpansLemmas.{same_pieces}
 use Rattle.cookbook.specs.declared.hosts.HostNameError.{HostNameError}
 use Rattle.cookbook.specs.declared.hosts.HostNameError.TheVariants.{Character, EmptyLabel, Hyphen}
 use Rattle.cookbook.specs.declared.hosts.HostNameError.TheVariants.{LongLabel, Memory, TooLong}
-use Rattle.ascii_base.specs.Class.{IsLabelCode}
+use Rattle.ascii.specs.Class.{IsLabelCode}
 use Rattle.cookbook.specs.Hosts.{IsHost, IsHostError, IsLabel, IsLabelError}
 use Rattle.cookbook.proofs.ListLemmas.{All-seam, IsFirstAt-not_all, IsFirstAt-seam}
 

@@ -8,7 +8,7 @@ use Rattle.std.proofs.lemmas.List.Elements.{All-cons, All-from_all_within, All-n
 use Rattle.std.proofs.lemmas.Option.{slice_get_cases}
 use Rattle.std.specs.List.{All, AllWithin, AllZip, HoldsAt, slice_get}
 use Rattle.std.specs.Option.{IsSomeAnd, MatchOption}
-use Rattle.ascii_base.specs.Bytes.{IsFirstNot}
+use Rattle.ascii.specs.Bytes.{IsFirstNot}
 use Rattle.ascii.specs.First.{IsFirstAt}
 
 -- ---- what holds of each item

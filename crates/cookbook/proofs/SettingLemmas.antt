@@ -2,7 +2,7 @@
 use Rattle.std.proofs.Common.{◌≡◌, ℕ, List, [], ◌++◌, sym, ap, subst, ◌∙◌}
 use Rattle.std.specs.List.{All}
 use Rattle.std.proofs.lemmas.List.Elements.{All-append}
-use Rattle.ascii_base.specs.Class.{IsWhitespace}
+use Rattle.ascii.specs.Class.{IsWhitespace}
 use Rattle.ascii.specs.Trim.{Trims}
 
 -- it is white space

@@ -3,7 +3,7 @@ use Rattle.std.specs.Prelude.{◌≡◌, ℕ, List, map}
 use Rattle.std.specs.Cmp.Lexicographic.{slice_cmp}
 use Rattle.std.specs.Ordering.{nat_cmp}
 use Rattle.std.specs.declared.cmp.Ordering.{Ordering}
-use Rattle.ascii_base.specs.Case.{lower_image}
+use Rattle.ascii.specs.Case.{lower_image}
 
 -- a text in lower case
 abbrev pub lower_text : List ℕ → List ℕ

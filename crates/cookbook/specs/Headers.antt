@@ -5,7 +5,7 @@ use Rattle.std.specs.List.{All, AllZip, Contains}
 use Rattle.std.specs.declared.alloc.Global.{Global}
 use Rattle.std.specs.declared.result.Result.{Result}
 use Rattle.std.specs.declared.vec.Vec.{Vec}
-use Rattle.ascii_base.specs.Class.{IsTokenCode}
+use Rattle.ascii.specs.Class.{IsTokenCode}
 use Rattle.ascii.specs.First.{IsFirstAt}
 use Rattle.ascii.specs.Lines.{Line}
 use Rattle.ascii.specs.Spans.{LineSpansOf, WithStart}

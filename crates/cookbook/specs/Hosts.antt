@@ -3,7 +3,7 @@ use Rattle.std.specs.Prelude.{◌≡◌, ◌≢◌, ℕ, ◌+◌, ◌-◌, ◌<�
 use Rattle.std.specs.Prelude.{slice_get}
 use Rattle.std.specs.List.{All}
 use Rattle.std.specs.declared.result.Result.{Result}
-use Rattle.ascii_base.specs.Class.{IsLabelCode}
+use Rattle.ascii.specs.Class.{IsLabelCode}
 use Rattle.ascii.specs.First.{IsFirstAt}
 use Rattle.ascii.specs.Pieces.{Pieces}
 use Rattle.ascii.specs.Spans.{PieceSpans, WithStart}

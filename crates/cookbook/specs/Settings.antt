@@ -3,7 +3,7 @@ use Rattle.std.specs.Prelude.{◌≡◌, ◌≢◌, ℕ, ◌<◌, ◌⊎◌, Lis
 use Rattle.std.specs.Prelude.{MatchResult, Option}
 use Rattle.std.specs.List.{All, Contains}
 use Rattle.std.specs.declared.result.Result.{Result}
-use Rattle.ascii_base.specs.Class.{IsWhitespace}
+use Rattle.ascii.specs.Class.{IsWhitespace}
 use Rattle.ascii.specs.Trim.{Trims, TrimsStart}
 use Rattle.ascii.specs.View.{text_of}
 use Rattle.cookbook.specs.Cuts.{IsCutAt}

@@ -1,6 +1,6 @@
 //! Cutting a text in two at the first or the last of a character, without a copy.
 
-ghost use Rattle.ascii_base.specs.Code.{code_of};
+ghost use Rattle.ascii.specs.Code.{code_of};
 ghost use Rattle.ascii.specs.View.{text_of};
 ghost use Rattle.cookbook.specs.Cuts.{FindsOther, SplitsOnce, SplitsOnceAtLast};
 

@@ -8,7 +8,7 @@ ghost use Rattle.cookbook.specs.LastLines.{HasLastLine, HasLastLines, HasLinesBe
 
 use ascii::AsciiStr;
 use ascii::iter::{Ending, Lines};
-use ascii_base::range::AsciiRange;
+use ascii::AsciiRange;
 
 /// The end of a view that has its last `n` lines, with their endings: the whole view where it has fewer, and
 /// nothing where `n` is 0. Of `a\nb\r\nc` the last 2 lines are `b\r\nc`.

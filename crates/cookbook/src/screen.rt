@@ -1,13 +1,13 @@
 //! Showing a text on a screen of a number of columns: controls in caret form, tabs as spaces, long lines wrapped.
 
 ghost use Rattle.std.specs.Prelude.{◌≡◌, ◌≢◌, ◌+◌, ◌-◌, ◌%◌, ◌≤◌, ◌++◌, IfOk, length, min};
-ghost use Rattle.ascii_base.specs.Code.{code_of};
+ghost use Rattle.ascii.specs.Code.{code_of};
 ghost use Rattle.ascii.specs.View.{text_of};
 ghost use Rattle.cookbook.specs.Screen.{IsPlain, cell_text, column_after, char_on_screen};
 ghost use Rattle.cookbook.specs.Screen.{screen_text};
 
 use ascii::{AsciiChar, AsciiStr, AsciiString, caret_encode, text};
-use ascii_base::range::AsciiRange;
+use ascii::AsciiRange;
 use std::alloc::{AllocError, Global};
 
 /// A text as a screen shows it.

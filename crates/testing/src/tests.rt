@@ -1,7 +1,7 @@
 //! One growth is refused, and none before or behind it.
 
 use crate::FailNth;
-use ascii_base::ascii_char::AsciiChar;
+use ascii::AsciiChar;
 
 #[test]
 fn refuses_one(rt: HostRuntime) {

@@ -3,8 +3,8 @@
 ghost use Rattle.std.specs.Prelude.{◌≡◌, ℕ, ◌+◌, ◌-◌, ◌<◌, ◌≤◌, [], ◌∷◌, ◌++◌, OnErr, insert};
 ghost use Rattle.std.specs.Prelude.{length, map, remove, slice_get, slice_index, slice_set, take};
 ghost use Rattle.std.specs.Option.{option_map};
-ghost use Rattle.ascii_base.specs.Case.{lower_image, upper_image};
-ghost use Rattle.ascii_base.specs.Code.{code_of};
+ghost use Rattle.ascii.specs.Case.{lower_image, upper_image};
+ghost use Rattle.ascii.specs.Code.{code_of};
 ghost use Rattle.ascii.specs.StringState.{EditsInPlace, GrowsTo, StringState, Reserves};
 ghost use Rattle.ascii.specs.StringState.{insert_text};
 ghost use Rattle.ascii.specs.View.{text_of};

@@ -2,7 +2,7 @@
 
 ghost use Rattle.std.specs.Prelude.{◌<◌, ◌≤◌, ◌+◌, length};
 ghost use Rattle.std.specs.List.{flat_map};
-ghost use Rattle.ascii_base.specs.Lanes.{Marks};
+ghost use Rattle.ascii.specs.Lanes.{Marks};
 ghost use Rattle.ascii.specs.View.{text_of};
 ghost use Rattle.ascii_run.specs.OutputState.{AppendsTo, MayFail, output_state};
 ghost use Rattle.ascii_run.specs.Modes.Caret.{IsShown, caret_text};

@@ -2,7 +2,7 @@
 
 ghost use Rattle.std.specs.Prelude.{◌≡◌, ◌<◌, ◌≤◌, ◌+◌, [], ◌∷◌, IfOk, OnErr, OnOk, length, map};
 ghost use Rattle.std.specs.List.{flat_map};
-ghost use Rattle.ascii_base.specs.Lanes.{Marks};
+ghost use Rattle.ascii.specs.Lanes.{Marks};
 ghost use Rattle.ascii.specs.View.{text_of};
 ghost use Rattle.ascii_run.specs.Modes.Json.{AreEscapes, IsUnescaped, json_code, json_text};
 ghost use Rattle.ascii_run.specs.OutputState.{MayFail, AppendsTo, output_state};

@@ -1,7 +1,7 @@
 use Rattle.std.proofs.Common.{rules, ◌≡◌, ◌≢◌, ◌<◌, ◌≤◌, ◌+◌, arith, length, sym, subst}
 use Rattle.std.specs.Prelude.{IfOk}
 use Rattle.std.proofs.lemmas.Grind.{common_steps}
-use Rattle.ascii_base.specs.Code.{code_of}
+use Rattle.ascii.specs.Code.{code_of}
 use Rattle.cookbook.proofs.ScreenLemmas.{column_here, column_line, column_next}
 use Rattle.cookbook.specs.Screen.{cell_text}
 use Rattle.cookbook.proofs.screen.put.Goals as goal

@@ -1,5 +1,5 @@
 use Rattle.std.proofs.Common.{rules, ◌≡◌, ℕ, List, [], sym, subst, ◌∙◌}
-use Rattle.ascii_base.specs.Code.{code_of}
+use Rattle.ascii.specs.Code.{code_of}
 use Rattle.ascii.specs.View.{text_of}
 use Rattle.cookbook.specs.Screen.{IsPlain}
 use Rattle.cookbook.proofs.ScreenLemmas.{IsOnTheWay, arrives, begins, goes_on, plain_shown}

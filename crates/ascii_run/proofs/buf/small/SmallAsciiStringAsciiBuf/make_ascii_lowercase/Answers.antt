@@ -1,4 +1,4 @@
-use Rattle.ascii_base.specs.Case.{lower_image}
+use Rattle.ascii.specs.Case.{lower_image}
 use Rattle.ascii.proofs.TextLemmas.{lower_image-below}
 use Rattle.ascii_run.proofs.InlineLemmas.{IsSmallText-mapped}
 use Rattle.ascii_run.proofs.buf.small.SmallAsciiStringAsciiBuf.make_ascii_lowercase.Goals as goal

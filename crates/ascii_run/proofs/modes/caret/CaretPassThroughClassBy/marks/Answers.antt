@@ -3,7 +3,7 @@ use Rattle.std.proofs.Common.{refl, rules}
 use Rattle.std.proofs.lemmas.Simd.{zip2_of_maps, zip2_splat, length-chunk}
 use lib.Lanes.{chunk}
 use Rattle.ascii_run.specs.Modes.Caret.{IsShown}
-use Rattle.ascii_base.proofs.LanesLemmas.{marks_of}
+use Rattle.ascii.proofs.LanesLemmas.{marks_of}
 use Rattle.ascii_run.proofs.modes.caret.CaretPassThroughClassBy.marks.Goals as goal
 
 outside : (x : ℕ) → (ltb x 32 && not (eqb x 10)) || eqb x 127 ≡ true → ¬ (IsShown x)

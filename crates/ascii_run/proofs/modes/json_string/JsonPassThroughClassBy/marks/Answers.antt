@@ -2,7 +2,7 @@ use Rattle.std.proofs.Common.{ℕ, ◌≡◌, ltb, eqb, ◌||◌, true, false, c
 use Rattle.std.proofs.lemmas.Simd.{zip2_of_maps, zip2_splat, length-chunk}
 use lib.Lanes.{chunk}
 use Rattle.ascii_run.specs.Modes.Json.{IsUnescaped}
-use Rattle.ascii_base.proofs.LanesLemmas.{marks_of}
+use Rattle.ascii.proofs.LanesLemmas.{marks_of}
 use Rattle.ascii_run.proofs.modes.json_string.JsonPassThroughClassBy.marks.Goals as goal
 
 outside : (x : ℕ) → ltb x 32 || (eqb x 34 || eqb x 92) ≡ true → ¬ (IsUnescaped x)
