@@ -267,7 +267,7 @@ fn copy<A: Allocator>(alloc: A, view: AsciiStr<'_>, range: AsciiRange) -> Reply<
         Step 0 text (Cmd.Copy range) (value_of_reply result) text }
 {
     match view.slice_ascii(range) {
-        Err(refusal) => Reply::Refused(refusal),
+        Err(error) => Reply::Refused(error),
         Ok(part) => match part.to_ascii_string(alloc) {
             Ok(string) => Reply::Text(string),
             Err(_) => Reply::NoMemory,

@@ -1,4 +1,4 @@
-//! What the words after the program's name ask for.
+//! What the arguments after the program's name ask for.
 
 ghost use Rattle.std.specs.Prelude.{◌≡◌, ◌==◌, [], ◌∷◌, MatchOption, MatchResult, ℕ, codes};
 ghost use Rattle.std.specs.Prelude.{position};
@@ -16,10 +16,10 @@ use ascii::{AsciiRange, AsciiStr, text};
 use ascii_run::{Cmd, Mode};
 use std::alloc::Allocator;
 
-/// What a call asks for, with what its words name.
+/// What a call asks for, with the ends or the commands that its arguments name.
 #[derive(Drop)]
 pub enum Request<'a, A: Allocator> {
-    /// A mode that takes no further word.
+    /// A mode that takes no further argument.
     Plain(Mode<'static>),
     Ends(Vec<End, A>),
     EndsSpans(Vec<End, A>),
@@ -40,9 +40,9 @@ impl<'a, A: Allocator> Request<'a, A> {
     }
 }
 
-/// What the words ask for, or why they ask for nothing. The number of words is checked before any
-/// word after the mode.
-pub fn request_of<'a, A: Allocator>(alloc: A, args: &[&'a str]) -> Result<Request<'a, A>, Failure>
+/// Returns what the arguments ask for, or why they are rejected. The number of arguments is checked
+/// before any argument after the mode.
+pub fn parse_args<'a, A: Allocator>(alloc: A, args: &[&'a str]) -> Result<Request<'a, A>, Failure>
     ensures { MatchResult result
         (λ request. Requests (words_of args.now) (requested_by request))
         (IsWordsFault (words_of args.now)) }
@@ -51,9 +51,9 @@ pub fn request_of<'a, A: Allocator>(alloc: A, args: &[&'a str]) -> Result<Reques
         return Err(Failure::Usage);
     };
     match *mode {
-        "ends" => ends_request(alloc, others),
+        "ends" => parse_ends(alloc, others),
         "edit" => {
-            let cmds = commands_of(alloc, others)?;
+            let cmds = parse_commands(alloc, others)?;
             Ok(Request::Edit(cmds))
         }
         name if others.is_empty() => match plain_mode(name) {
@@ -64,7 +64,7 @@ pub fn request_of<'a, A: Allocator>(alloc: A, args: &[&'a str]) -> Result<Reques
     }
 }
 
-/// The mode of a name that takes no further word.
+/// The mode with a name, if it takes no further argument.
 fn plain_mode(name: &str) -> Option<Mode<'static>>
     ensures { MatchOption result (¬ (TakesNoArgument name.now))
         (λ mode. Requests (name.now ∷ []) (requested_mode mode)) }
@@ -79,8 +79,8 @@ fn plain_mode(name: &str) -> Option<Mode<'static>>
     }
 }
 
-/// What the words after `ends` ask for: a script only, or `-s` and a script.
-fn ends_request<'a, A: Allocator>(alloc: A, others: &[&'a str]) -> Result<Request<'a, A>, Failure>
+/// Parses the arguments after `ends`: a script only, or `-s` and a script.
+fn parse_ends<'a, A: Allocator>(alloc: A, others: &[&'a str]) -> Result<Request<'a, A>, Failure>
     ensures { MatchResult result
         (λ request. Requests (codes "ends" ∷ words_of others.now) (requested_by request))
         (IsWordsFault (codes "ends" ∷ words_of others.now)) }
@@ -90,26 +90,30 @@ fn ends_request<'a, A: Allocator>(alloc: A, others: &[&'a str]) -> Result<Reques
             if *script == "-s" {
                 return Err(Failure::Usage);
             }
-            let ends = script_of(alloc, script.as_bytes(), 1)?;
+            let ends = parse_script(alloc, script.as_bytes(), 1)?;
             Ok(Request::Ends(ends))
         }
         ["-s", script] => {
-            let ends = script_of(alloc, script.as_bytes(), 2)?;
+            let ends = parse_script(alloc, script.as_bytes(), 2)?;
             Ok(Request::EndsSpans(ends))
         }
         _ => Err(Failure::Usage),
     }
 }
 
-/// The ends that a script names, `F` for the front and `B` for the back. `number` is that of the
-/// script among the words.
-fn script_of<A: Allocator>(alloc: A, script: &[u8], number: usize) -> Result<Vec<End, A>, Failure>
+/// Parses a script, `F` for the front and `B` for the back. `number` is that of the script among
+/// the arguments after the mode.
+fn parse_script<A: Allocator>(
+    alloc: A,
+    script: &[u8],
+    number: usize,
+) -> Result<Vec<End, A>, Failure>
     ensures { MatchResult result (λ ends. AreEndsOf script.now ends.items)
         (IsScriptFault script.now number) }
 {
     let mut ends = Vec::with_capacity(alloc, script.len())?;
     for letter in script {
-        let Some(end) = end_of(*letter) else {
+        let Some(end) = parse_end(*letter) else {
             return Err(Failure::BadWord(number));
         };
         ends.push(end)?;
@@ -117,8 +121,8 @@ fn script_of<A: Allocator>(alloc: A, script: &[u8], number: usize) -> Result<Vec
     Ok(ends)
 }
 
-/// The end that a letter names.
-fn end_of(letter: u8) -> Option<End>
+/// The end with a letter.
+fn parse_end(letter: u8) -> Option<End>
     ensures { MatchOption result (IsNotEndLetter letter) (λ end. letter_of end ≡ letter) }
 {
     match letter {
@@ -128,14 +132,14 @@ fn end_of(letter: u8) -> Option<End>
     }
 }
 
-/// The commands that the words of an edit name.
-fn commands_of<'a, A: Allocator>(alloc: A, words: &[&'a str]) -> Result<Vec<Cmd<'a>, A>, Failure>
-    ensures { MatchResult result (λ cmds. AllZip IsWordOf (words_of words.now) cmds.items)
-        (IsEditsFault (words_of words.now)) }
+/// Parses the commands of an edit, one for each argument.
+fn parse_commands<'a, A: Allocator>(alloc: A, args: &[&'a str]) -> Result<Vec<Cmd<'a>, A>, Failure>
+    ensures { MatchResult result (λ cmds. AllZip IsWordOf (words_of args.now) cmds.items)
+        (IsEditsFault (words_of args.now)) }
 {
-    let mut cmds = Vec::with_capacity(alloc, words.len())?;
-    for (i, word) in words.iter().enumerate() {
-        let Some(cmd) = command_of(*word) else {
+    let mut cmds = Vec::with_capacity(alloc, args.len())?;
+    for (i, arg) in args.iter().enumerate() {
+        let Some(cmd) = parse_command(*arg) else {
             return Err(Failure::BadWord(i + 1));
         };
         cmds.push(cmd)?;
@@ -143,18 +147,18 @@ fn commands_of<'a, A: Allocator>(alloc: A, words: &[&'a str]) -> Result<Vec<Cmd<
     Ok(cmds)
 }
 
-/// The command that a word of an edit names.
-fn command_of(word: &str) -> Option<Cmd<'_>>
-    ensures { MatchOption result (¬ IsWord word.now) (IsWordOf word.now) }
+/// Parses one command of an edit.
+fn parse_command(arg: &str) -> Option<Cmd<'_>>
+    ensures { MatchOption result (¬ IsWord arg.now) (IsWordOf arg.now) }
 {
-    let word = text::as_ascii_str(word).ok()?;
-    let letter = *word.as_bytes().first()?;
-    let rest = word.slice(AsciiRange::From(1));
+    let arg = text::as_ascii_str(arg).ok()?;
+    let letter = *arg.as_bytes().first()?;
+    let rest = arg.slice(AsciiRange::From(1));
     match letter {
         b'p' => Some(Cmd::PushStr(rest)),
-        b'i' => insertion_of(rest),
-        b'r' => Some(Cmd::Remove(number_of(rest)?)),
-        b't' => Some(Cmd::Truncate(number_of(rest)?)),
+        b'i' => parse_insertion(rest),
+        b'r' => Some(Cmd::Remove(parse_number(rest)?)),
+        b't' => Some(Cmd::Truncate(parse_number(rest)?)),
         b'o' => rest.is_empty().then_some(Cmd::Pop),
         b'u' => rest.is_empty().then_some(Cmd::Upper),
         b'l' => rest.is_empty().then_some(Cmd::Lower),
@@ -163,26 +167,26 @@ fn command_of(word: &str) -> Option<Cmd<'_>>
 }
 
 /// The position of the first colon.
-fn colon_of(bytes: &[u8]) -> Option<usize>
+fn find_colon(bytes: &[u8]) -> Option<usize>
     ensures { result ≡ position (λ byte. byte == 58) bytes.now }
 {
     bytes.iter().position(|byte| *byte == b':')
 }
 
-/// The insertion of a number, a colon and a text: the first colon ends the number.
-fn insertion_of(word: AsciiStr<'_>) -> Option<Cmd<'_>>
+/// Parses the number, the colon and the text of an insertion: the first colon ends the number.
+fn parse_insertion(arg: AsciiStr<'_>) -> Option<Cmd<'_>>
     ensures { MatchOption result
-        (¬ ((n : ℕ) × (view : AsciiStr) × IsInsertion (text_of word.entry) n view))
+        (¬ ((n : ℕ) × (view : AsciiStr) × IsInsertion (text_of arg.entry) n view))
         (λ cmd. (n : ℕ) × (view : AsciiStr) × (cmd ≡ Cmd.InsertStr n view)
-        × IsInsertion (text_of word.entry) n view) }
+        × IsInsertion (text_of arg.entry) n view) }
 {
-    let colon = colon_of(word.as_bytes())?;
-    let idx = number_of(word.slice(AsciiRange::To(colon)))?;
-    Some(Cmd::InsertStr(idx, word.slice(AsciiRange::From(colon + 1))))
+    let colon = find_colon(arg.as_bytes())?;
+    let idx = parse_number(arg.slice(AsciiRange::To(colon)))?;
+    Some(Cmd::InsertStr(idx, arg.slice(AsciiRange::From(colon + 1))))
 }
 
-/// The number that one or more digits name, if it fits a `usize`.
-fn number_of(digits: AsciiStr<'_>) -> Option<usize>
+/// Parses one or more decimal digits, if their number fits a `usize`.
+fn parse_number(digits: AsciiStr<'_>) -> Option<usize>
     ensures { MatchOption result (¬ ((n : ℕ) × AreDigitsOf (text_of digits.entry) n))
         (AreDigitsOf (text_of digits.entry)) }
 {

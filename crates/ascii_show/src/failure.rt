@@ -10,9 +10,9 @@ use std::fmt;
 /// A failure of the program.
 #[derive(Clone, Copy, Debug)]
 pub enum Failure {
-    /// The words are no call.
+    /// The arguments are not a call.
     Usage,
-    /// The word with this number, counted from 1 behind the mode, is none that the mode knows.
+    /// The mode does not accept the argument with this number, counted from 1 after the mode.
     BadWord(usize),
     /// The run stopped.
     Engine(EngineFault),

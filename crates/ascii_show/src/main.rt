@@ -8,22 +8,22 @@ ghost use Rattle.ascii_show.specs.Status.{status_of};
 
 mod arguments;
 mod failure;
-mod words;
+mod os_args;
 
-use arguments::request_of;
+use arguments::parse_args;
 use arrayvec::ArrayString;
 use ascii_run::{EngineFault, Input, Output, engine};
 use failure::Failure;
+use os_args::OsArgs;
 use std::alloc::{AllocError, Allocator};
 use std::fmt::Write as _;
 use std::io;
 use std::process::ExitCode;
-use words::Words;
 
-/// Runs the words after the program's name: reads `input`, writes `output`, and if that fails
+/// Runs the arguments after the program's name: reads `input`, writes `output`, and if that fails
 /// writes one line to `errors`. Returns the status: 0 for success, 1 for input that is not ASCII, 2
-/// for a fault in the words, 3 for a failed allocation or device. A failure of `errors` does not
-/// change it.
+/// for a fault in the arguments, 3 for a failed allocation or device. A failure of `errors` does
+/// not change the status.
 pub fn show<A: Allocator + Copy, I: io::Read + Drop, O: io::Write + Drop, E: io::Write + Drop>(
     alloc: A,
     args: &[&str],
@@ -35,16 +35,16 @@ pub fn show<A: Allocator + Copy, I: io::Read + Drop, O: io::Write + Drop, E: io:
         × MayReturn (words_of args.now) (I.remaining input) answer
         × (result ≡ status_of_result answer) }
 {
-    match run_words(alloc, args, input, output) {
+    match run_args(alloc, args, input, output) {
         Ok(()) => 0,
         Err(failure) => report(failure, errors),
     }
 }
 
-/// More bytes than the line of a failure has.
+/// More bytes than the message of a failure has.
 const LINE: usize = 128;
 
-/// Writes the line of a failure in one write, and returns its status. Does not allocate.
+/// Writes the message of a failure in one write, and returns its status. Does not allocate.
 fn report<E: io::Write + Drop>(failure: Failure, mut errors: E) -> u8
     ensures { result ≡ status_of failure }
 {
@@ -55,8 +55,8 @@ fn report<E: io::Write + Drop>(failure: Failure, mut errors: E) -> u8
     failure.status()
 }
 
-/// The words are read before any input is.
-fn run_words<A: Allocator + Copy, I: io::Read + Drop, O: io::Write + Drop>(
+/// Parses the arguments before any input is read.
+fn run_args<A: Allocator + Copy, I: io::Read + Drop, O: io::Write + Drop>(
     alloc: A,
     args: &[&str],
     input: I,
@@ -64,7 +64,7 @@ fn run_words<A: Allocator + Copy, I: io::Read + Drop, O: io::Write + Drop>(
 ) -> Result<(), Failure>
     ensures { MayReturn (words_of args.now) (I.remaining input) result }
 {
-    let request = request_of(alloc, args)?;
+    let request = parse_args(alloc, args)?;
     engine(
         alloc,
         request.mode(),
@@ -74,15 +74,15 @@ fn run_words<A: Allocator + Copy, I: io::Read + Drop, O: io::Write + Drop>(
     Ok(())
 }
 
-/// Runs the words after the program's name over the standard streams.
-fn show_words(rt: &HostRuntime) -> Result<u8, AllocError> {
-    let words = Words::read(rt)?;
-    let args = words.views(rt.alloc())?;
+/// Runs the arguments after the program's name over the standard streams.
+fn show_args(rt: &HostRuntime) -> Result<u8, AllocError> {
+    let os_args = OsArgs::read(rt)?;
+    let args = os_args.views(rt.alloc())?;
     Ok(show(rt.alloc(), &args, rt.reader(), io::writer(rt), rt.stderr()))
 }
 
 fn main(rt: HostRuntime) -> ExitCode {
-    let status = match show_words(&rt) {
+    let status = match show_args(&rt) {
         Ok(status) => status,
         Err(_) => report(Failure::Engine(EngineFault::Memory), rt.stderr()),
     };

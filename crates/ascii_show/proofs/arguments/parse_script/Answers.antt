@@ -1,6 +1,6 @@
 use Rattle.std.proofs.Common.{refl, arith}
 use Rattle.ascii_show.proofs.ScriptLemmas.{no_script}
-use Rattle.ascii_show.proofs.arguments.script_of.Goals as goal
+use Rattle.ascii_show.proofs.arguments.parse_script.Goals as goal
 
 pub returns-in_default : goal.returns-in_default
 returns-in_default g c = (

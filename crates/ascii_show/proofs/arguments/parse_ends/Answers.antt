@@ -3,7 +3,7 @@ use Rattle.std.specs.Borrow.{Bor}
 use Rattle.std.specs.Prelude.{codes}
 use Rattle.ascii_show.specs.Call.{words_of}
 use Rattle.ascii_show.proofs.ScriptLemmas.{one_word, option_alone, script_fault, two_words}
-use Rattle.ascii_show.proofs.arguments.ends_request.Goals as goal
+use Rattle.ascii_show.proofs.arguments.parse_ends.Goals as goal
 
 -- what stands where there is no word
 abbrev none : Bor (List ℕ)

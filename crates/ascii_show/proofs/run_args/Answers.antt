@@ -3,7 +3,7 @@ use Rattle.ascii_show.specs.Answer.{MayReturn}
 use Rattle.ascii_show.specs.Call.{Requests, words_of}
 use Rattle.ascii_show.specs.declared.failure.Failure.TheVariants.{Engine}
 use Rattle.ascii_show.proofs.AnswerLemmas.{done, failed, handed_on}
-use Rattle.ascii_show.proofs.run_words.Goals as goal
+use Rattle.ascii_show.proofs.run_args.Goals as goal
 
 pub returns-in_err-engine : goal.returns-in_err-engine
 returns-in_err-engine g c =

@@ -1,49 +1,50 @@
-//! The words after the program's name, as the system hands them over.
+//! The arguments after the program's name, as the system gives them.
 
 use std::alloc::{AllocError, Global};
 use std::env::{Env, FillError};
 
-/// The words, one behind the other.
+/// The arguments, one after another.
 #[derive(Drop)]
-pub(crate) struct Words {
-    /// each word and a NUL, which no word has in it
+pub(crate) struct OsArgs {
+    /// each argument and a NUL, which no argument contains
     text: String,
-    /// how many words there are
+    /// how many arguments there are
     count: usize,
 }
 
-impl Words {
-    /// Reads the words. Words that are no text are taken as none.
-    pub(crate) fn read(rt: &HostRuntime) -> Result<Words, AllocError> {
+impl OsArgs {
+    /// Reads the arguments. If they are not valid UTF-8, there are none.
+    pub(crate) fn read(rt: &HostRuntime) -> Result<OsArgs, AllocError> {
         let mut bytes = Vec::new(rt.alloc());
         let mut count = 0;
         for before in 0..usize::MAX {
-            if !append_word(rt, before + 1, &mut bytes)? {
+            if !append_arg(rt, before + 1, &mut bytes)? {
                 break;
             }
             count = before + 1;
         }
         match String::from_utf8(bytes) {
-            Ok(text) => Ok(Words { text, count }),
-            Err(_) => Ok(Words {
+            Ok(text) => Ok(OsArgs { text, count }),
+            Err(_) => Ok(OsArgs {
                 text: String::new(rt.alloc()),
                 count: 0,
             }),
         }
     }
 
-    /// The words in their order.
+    /// The arguments in order.
     pub(crate) fn views(&self, alloc: Global) -> Result<Vec<&str>, AllocError> {
         let mut views = Vec::with_capacity(alloc, self.count)?;
-        for word in self.text.split('\0').take(self.count) {
-            views.push(word)?;
+        for arg in self.text.split('\0').take(self.count) {
+            views.push(arg)?;
         }
         Ok(views)
     }
 }
 
-/// Appends the word of a number from 1 and a NUL, and says whether there is such a word.
-fn append_word(rt: &HostRuntime, number: usize, bytes: &mut Vec<u8>) -> Result<bool, AllocError> {
+/// Appends the argument with a number, counted from 1, and a NUL. Returns `false` if there is no
+/// such argument.
+fn append_arg(rt: &HostRuntime, number: usize, bytes: &mut Vec<u8>) -> Result<bool, AllocError> {
     let start = bytes.len();
     let mut room = 256usize;
     for _ in 0..usize::BITS {
