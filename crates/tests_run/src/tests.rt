@@ -13,6 +13,7 @@ mod edit_table;
 mod engine;
 mod known_runs;
 mod long_inputs;
+mod many_lines;
 mod of_ascii_devices;
 mod of_ascii_run;
 mod output_buffer;

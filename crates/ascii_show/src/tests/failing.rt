@@ -62,6 +62,32 @@ fn failing_devices(rt: HostRuntime) {
     assert_same(&rt, errors.as_slice(), b"write failed\n");
 }
 
+/// A writer that takes all bytes and fails to flush.
+#[derive(Drop)]
+struct Unflushed;
+
+impl io::Write for Unflushed {
+    fn write(&mut self, buf: &[u8]) -> io::Result<usize> {
+        Ok(buf.len())
+    }
+
+    fn flush(&mut self) -> io::Result<()> {
+        Err(io::Error::from(ErrorKind::Other))
+    }
+}
+
+#[test]
+fn failing_flush(rt: HostRuntime) {
+    let alloc = rt.alloc();
+    let calls: [&[&str]; 2] = [&["copy"], &["lines"]];
+    for args in calls {
+        let mut errors = Vec::new(alloc);
+        let input: &[u8] = b"abc";
+        assert_same(&rt, show(alloc, args, input, Unflushed, &mut errors), 3);
+        assert_same(&rt, errors.as_slice(), b"write failed\n");
+    }
+}
+
 /// Errors that can't be written change no status.
 fn unheard<R: Abort + AllocGlobal>(rt: &R, call: &[&str], input: &[u8], status: u8) {
     let alloc = rt.alloc();

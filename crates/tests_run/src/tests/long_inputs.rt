@@ -8,7 +8,7 @@ use ascii_run::{Cmd, EngineFault, Input, Mode, Output, Reply, engine, run};
 use std::io;
 use std::process::Abort;
 
-const LENGTHS: [usize; 8] = [0, 1, 33, 5_000, 65_535, 65_536, 65_537, 200_000];
+const LENGTHS: [usize; 8] = [0, 1, 33, 5_000, 65_535, 65_536, 65_537, 300_000];
 
 /// As many bytes `a`, between a front and a back.
 fn bytes_of<R: Abort + AllocGlobal>(rt: &R, front: &str, length: usize, back: &str) -> Vec<u8> {
@@ -35,12 +35,14 @@ fn each_mode(rt: HostRuntime) {
         let input = bytes_of(&rt, "", length, "");
         let line = if length == 0 { "" } else { "\n" };
         let sign = if length == 0 { "-" } else { "+" };
-        let rows: [(Mode<'_>, &str, &str); 7] = [
+        let span = if length == 0 { "-" } else { "+0 none " };
+        let rows: [(Mode<'_>, &str, &str); 8] = [
             (Mode::Copy, "", ""),
             (Mode::Lines, "", line),
             (Mode::Tac, "", line),
             (Mode::Caret, "", ""),
             (Mode::Ends(&script), sign, "\n"),
+            (Mode::EndsSpans(&script), span, "\n"),
             (Mode::Edit(&cmds), "", ""),
             (Mode::Json, "\"", "\""),
         ];
