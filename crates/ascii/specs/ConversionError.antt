@@ -1,12 +1,12 @@
 -- What a failed conversion returns.
-use Rattle.std.specs.Prelude.{◌≡◌, ℕ, ◌<◌, List, length}
+use Rattle.std.specs.Prelude.{◌≡◌, ℕ, ◌<◌, List, codes, length}
 use Rattle.std.specs.Str.{IsAscii}
 use Rattle.ascii_base.specs.Bytes.{FirstOther}
 use Rattle.ascii.specs.declared.ascii_str.AsAsciiStrError.{AsAsciiStrError}
 use Rattle.ascii.specs.declared.from_ascii.FromAsciiError.{FromAsciiError}
 use Rattle.ascii.specs.declared.from_ascii.CopyError.{CopyError}
 use Rattle.ascii.specs.declared.from_ascii.CopyError.TheVariants.{NotAscii, Memory}
-use Rattle.ascii.specs.View.{position_of}
+use Rattle.ascii.specs.View.{error_text, position_of}
 
 -- the reason for the error
 abbrev pub ascii_error_of : {O : Type 0} → FromAsciiError O → AsAsciiStrError
@@ -20,6 +20,11 @@ source_of e = e.source
 abbrev pub ReturnsSource : {O : Type 0} → O → List ℕ → FromAsciiError O → Type 0
 ReturnsSource source bytes e = (source_of e ≡ source)
     × FirstOther bytes 0 (length bytes) (position_of (ascii_error_of e))
+
+-- the output of the error of a failed copy
+abbrev pub copy_error_text : {O : Type 0} → CopyError O → List ℕ
+copy_error_text (NotAscii e) = error_text (position_of (ascii_error_of e))
+copy_error_text (Memory e) = codes "no memory"
 
 -- `NotAscii`: as `ReturnsSource`. `Memory`: there is at least one byte, and all are ASCII
 abbrev pub RejectsCopy : {O : Type 0} → O → List ℕ → CopyError O → Type 0

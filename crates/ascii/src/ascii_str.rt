@@ -284,7 +284,7 @@ impl fmt::Debug for AsciiStr<'_> {
 }
 
 /// A source was refused as ASCII text: its range does not fit, or a byte in its range is over 127.
-#[derive(Clone, Copy, PartialEq, Eq)]
+#[derive(Clone, Copy, PartialEq, Eq, Hash, PartialOrd, Ord)]
 pub struct AsAsciiStrError {
     pub(crate) valid_up_to: usize,
 }

@@ -12,6 +12,7 @@ use crate::classes::{
     Lowercase, Printable, Punctuation, Uppercase, Whitespace,
 };
 use std::cmp::Ordering;
+use std::error::Error;
 use std::fmt;
 use std::hash::{Hash, Hasher};
 
@@ -659,6 +660,8 @@ impl fmt::Display for ToAsciiCharError {
         f.write_str(self.description())
     }
 }
+
+impl Error for ToAsciiCharError {}
 
 /// Values that may be characters, each seen as a whole number, `code`.
 ///

@@ -11,3 +11,4 @@ mod images;
 pub mod kernels;
 mod lanes;
 pub mod range;
+mod serde_impls;

@@ -9,6 +9,7 @@ use ascii_base::kernels::{
     lower_in_place, upper_in_place,
 };
 use ascii_base::range::AsciiRange;
+use serde_json::Value;
 use std::collections::HashSet;
 
 #[test]
@@ -177,8 +178,35 @@ fn ascii_char_6(rt: HostRuntime) {
             200u8.to_ascii_char(),
             'a'.to_ascii_char(),
             97u32.to_ascii_char_unchecked(),
+            // Serialize for AsciiChar::serialize
+            serde_json::to_string(alloc, &AsciiChar::a).expect(&rt, "refused"),
         ),
-        "(\"'a'\", Err(not an ASCII character), Ok('a'), 'a')",
+        "(\"'a'\", Err(not an ASCII character), Ok('a'), 'a', \"\\\"a\\\"\")",
+    );
+}
+
+#[test]
+fn ascii_char_7(rt: HostRuntime) {
+    let alloc = rt.alloc();
+    // DeserializeOwned for AsciiChar::deserialize_owned
+    {
+        let value = Value::from_str(alloc, "\"a\"").expect(&rt, "refused");
+        shows(
+            &rt,
+            alloc,
+            &serde_json::from_value::<AsciiChar>(alloc, value).ok(),
+            "Some('a')",
+        );
+    }
+    shows(
+        &rt,
+        alloc,
+        &(
+            // Deserialize for AsciiChar::deserialize
+            serde_json::from_str::<AsciiChar>(alloc, "\"a\"").ok(),
+            serde_json::from_str::<AsciiChar>(alloc, "\"č\"").is_err(),
+        ),
+        "(Some('a'), true)",
     );
 }
 

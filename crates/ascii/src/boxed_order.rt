@@ -1,0 +1,180 @@
+//! Equality, order and hash of boxed, shared, and borrowed or owned text: those of the view.
+
+ghost use Rattle.std.specs.Prelude.{◌==◌};
+ghost use Rattle.std.specs.Cmp.{partial_order_from_own_ties};
+ghost use Rattle.std.specs.Cmp.Lexicographic.{pointwise, slice_cmp};
+ghost use Rattle.std.specs.Cmp.Rules.{comparing, hashing};
+ghost use Rattle.std.specs.Hash as fed;
+ghost use Rattle.std.specs.Ordering.{as_partial_cmp, nat_cmp, on};
+ghost use Rattle.std.proofs.Common.{rules};
+ghost use Rattle.ascii.specs.Cow.{cow_text};
+
+use crate::boxed::{BoxedAsciiStr, CowAsciiStr, RcAsciiStr};
+use std::alloc::Allocator;
+use std::cmp::Ordering;
+use std::hash::{Hash, Hasher};
+
+impl<A: Allocator> PartialEq for BoxedAsciiStr<A> {
+    ghost eq = { pointwise ◌==◌ };
+
+    ghost laws = { Prim.search (comparing, rules) };
+
+    ///     BoxedAsciiStr::from_ascii_str(alloc, view("foo"))? == BoxedAsciiStr::from_ascii_str(alloc, view("foo"))? // true
+    fn eq(&self, other: &BoxedAsciiStr<A>) -> bool {
+        self.as_ascii_str() == other.as_ascii_str()
+    }
+}
+
+impl<A: Allocator> Eq for BoxedAsciiStr<A> {
+    ghost laws = { Prim.search (comparing, rules) };
+}
+
+impl<A: Allocator> PartialOrd for BoxedAsciiStr<A> {
+    ghost partial_cmp = { as_partial_cmp (slice_cmp nat_cmp) };
+
+    ghost laws = { partial_order_from_own_ties
+        (Prim.search (comparing, rules)) (Prim.search (comparing, rules)) };
+
+    ///     BoxedAsciiStr::from_ascii_str(alloc, view("foo"))? < BoxedAsciiStr::from_ascii_str(alloc, view("fop"))? // true
+    fn partial_cmp(&self, other: &BoxedAsciiStr<A>) -> Option<Ordering> {
+        Some(self.cmp(other))
+    }
+}
+
+impl<A: Allocator> Ord for BoxedAsciiStr<A> {
+    ghost cmp = { slice_cmp nat_cmp };
+
+    ghost total = { Prim.search (comparing, rules) };
+
+    ghost matches_partial_cmp = { Prim.search (comparing, rules) };
+
+    ghost matches_eq = { Prim.search (comparing, rules) };
+
+    ///     BoxedAsciiStr::from_ascii_str(alloc, view("foo"))?.cmp(&BoxedAsciiStr::from_ascii_str(alloc, view("fo"))?) // Greater
+    fn cmp(&self, other: &BoxedAsciiStr<A>) -> Ordering {
+        self.as_ascii_str().cmp(&other.as_ascii_str())
+    }
+}
+
+impl<A: Allocator> Hash for BoxedAsciiStr<A> {
+    ghost hash_input = { λ boxed. fed.str boxed };
+
+    ghost respects_eq = { Prim.search (hashing, rules) };
+
+    ///     let mut seen = HashSet::new(alloc);
+    ///     seen.insert(BoxedAsciiStr::from_ascii_str(alloc, view("foo"))?)?;
+    ///     seen.contains(&BoxedAsciiStr::from_ascii_str(alloc, view("foo"))?) // true
+    fn hash<H: Hasher>(&self, state: &mut H) {
+        self.as_ascii_str().as_str().hash(state);
+    }
+}
+
+impl<A: Allocator> PartialEq for RcAsciiStr<A> {
+    ghost eq = { pointwise ◌==◌ };
+
+    ghost laws = { Prim.search (comparing, rules) };
+
+    ///     RcAsciiStr::from_ascii_str(alloc, view("foo"))? == RcAsciiStr::from_ascii_str(alloc, view("foo"))? // true
+    fn eq(&self, other: &RcAsciiStr<A>) -> bool {
+        self.as_ascii_str() == other.as_ascii_str()
+    }
+}
+
+impl<A: Allocator> Eq for RcAsciiStr<A> {
+    ghost laws = { Prim.search (comparing, rules) };
+}
+
+impl<A: Allocator> PartialOrd for RcAsciiStr<A> {
+    ghost partial_cmp = { as_partial_cmp (slice_cmp nat_cmp) };
+
+    ghost laws = { partial_order_from_own_ties
+        (Prim.search (comparing, rules)) (Prim.search (comparing, rules)) };
+
+    ///     RcAsciiStr::from_ascii_str(alloc, view("foo"))? < RcAsciiStr::from_ascii_str(alloc, view("fop"))? // true
+    fn partial_cmp(&self, other: &RcAsciiStr<A>) -> Option<Ordering> {
+        Some(self.cmp(other))
+    }
+}
+
+impl<A: Allocator> Ord for RcAsciiStr<A> {
+    ghost cmp = { slice_cmp nat_cmp };
+
+    ghost total = { Prim.search (comparing, rules) };
+
+    ghost matches_partial_cmp = { Prim.search (comparing, rules) };
+
+    ghost matches_eq = { Prim.search (comparing, rules) };
+
+    ///     RcAsciiStr::from_ascii_str(alloc, view("foo"))?.cmp(&RcAsciiStr::from_ascii_str(alloc, view("fo"))?) // Greater
+    fn cmp(&self, other: &RcAsciiStr<A>) -> Ordering {
+        self.as_ascii_str().cmp(&other.as_ascii_str())
+    }
+}
+
+impl<A: Allocator> Hash for RcAsciiStr<A> {
+    ghost hash_input = { λ shared. fed.str shared };
+
+    ghost respects_eq = { Prim.search (hashing, rules) };
+
+    ///     let mut seen = HashSet::new(alloc);
+    ///     seen.insert(RcAsciiStr::from_ascii_str(alloc, view("foo"))?)?;
+    ///     seen.contains(&RcAsciiStr::from_ascii_str(alloc, view("foo"))?) // true
+    fn hash<H: Hasher>(&self, state: &mut H) {
+        self.as_ascii_str().as_str().hash(state);
+    }
+}
+
+impl<A: Allocator> PartialEq for CowAsciiStr<'_, A> {
+    ghost eq = { on cow_text (pointwise ◌==◌) };
+
+    ghost laws = { Prim.search (comparing, rules) };
+
+    ///     CowAsciiStr::<Global>::from(view("foo")) == CowAsciiStr::<Global>::from(view("foo")) // true
+    fn eq(&self, other: &CowAsciiStr<'_, A>) -> bool {
+        self.as_ascii_str() == other.as_ascii_str()
+    }
+}
+
+impl<A: Allocator> Eq for CowAsciiStr<'_, A> {
+    ghost laws = { Prim.search (comparing, rules) };
+}
+
+impl<A: Allocator> PartialOrd for CowAsciiStr<'_, A> {
+    ghost partial_cmp = { as_partial_cmp (on cow_text (slice_cmp nat_cmp)) };
+
+    ghost laws = { partial_order_from_own_ties
+        (Prim.search (comparing, rules)) (Prim.search (comparing, rules)) };
+
+    ///     CowAsciiStr::<Global>::from(view("foo")) < CowAsciiStr::<Global>::from(view("fop")) // true
+    fn partial_cmp(&self, other: &CowAsciiStr<'_, A>) -> Option<Ordering> {
+        Some(self.cmp(other))
+    }
+}
+
+impl<A: Allocator> Ord for CowAsciiStr<'_, A> {
+    ghost cmp = { on cow_text (slice_cmp nat_cmp) };
+
+    ghost total = { Prim.search (comparing, rules) };
+
+    ghost matches_partial_cmp = { Prim.search (comparing, rules) };
+
+    ghost matches_eq = { Prim.search (comparing, rules) };
+
+    ///     CowAsciiStr::<Global>::from(view("foo")).cmp(&CowAsciiStr::<Global>::from(view("fo"))) // Greater
+    fn cmp(&self, other: &CowAsciiStr<'_, A>) -> Ordering {
+        self.as_ascii_str().cmp(&other.as_ascii_str())
+    }
+}
+
+impl<A: Allocator> Hash for CowAsciiStr<'_, A> {
+    ghost hash_input = { λ cow. fed.str (cow_text cow) };
+
+    ghost respects_eq = { Prim.search (hashing, rules) };
+
+    ///     let mut seen = HashSet::new(alloc);
+    ///     seen.insert(CowAsciiStr::<Global>::from(view("foo")))?;
+    ///     seen.contains(&CowAsciiStr::<Global>::from(view("foo"))) // true
+    fn hash<H: Hasher>(&self, state: &mut H) {
+        self.as_ascii_str().as_str().hash(state);
+    }
+}

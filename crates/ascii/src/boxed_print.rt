@@ -1,0 +1,70 @@
+//! Printing of boxed, shared, and borrowed or owned text, which is that of the view.
+
+ghost use Rattle.std.specs.Prelude.{Some};
+ghost use Rattle.std.specs.Fmt.{styled_text};
+ghost use Rattle.ascii.specs.Cow.{cow_text};
+ghost use Rattle.ascii.specs.View.{debug_text};
+
+use crate::boxed::{BoxedAsciiStr, CowAsciiStr, RcAsciiStr};
+use std::alloc::Allocator;
+use std::fmt;
+
+impl<A: Allocator> fmt::Display for BoxedAsciiStr<A> {
+    ghost output = { λ boxed. Some boxed };
+
+    ghost styled_output = { λ boxed spec. Some (styled_text spec boxed) };
+
+    ///     format!(in alloc; "{}", BoxedAsciiStr::from_ascii_str(alloc, view("a\"b"))?)? // "a\"b"
+    fn fmt<W: fmt::Write>(&self, f: &mut fmt::Formatter<W>) -> fmt::Result {
+        fmt::Display::fmt(&self.as_ascii_str(), f)
+    }
+}
+
+impl<A: Allocator> fmt::Debug for BoxedAsciiStr<A> {
+    ghost debug_output = { λ boxed. Some (debug_text boxed) };
+
+    ///     format!(in alloc; "{:?}", BoxedAsciiStr::from_ascii_str(alloc, view("foo"))?)? // "\"foo\""
+    fn fmt<W: fmt::Write>(&self, f: &mut fmt::Formatter<W>) -> fmt::Result {
+        fmt::Debug::fmt(&self.as_ascii_str(), f)
+    }
+}
+
+impl<A: Allocator> fmt::Display for RcAsciiStr<A> {
+    ghost output = { λ shared. Some shared };
+
+    ghost styled_output = { λ shared spec. Some (styled_text spec shared) };
+
+    ///     format!(in alloc; "{}", RcAsciiStr::from_ascii_str(alloc, view("a\"b"))?)? // "a\"b"
+    fn fmt<W: fmt::Write>(&self, f: &mut fmt::Formatter<W>) -> fmt::Result {
+        fmt::Display::fmt(&self.as_ascii_str(), f)
+    }
+}
+
+impl<A: Allocator> fmt::Debug for RcAsciiStr<A> {
+    ghost debug_output = { λ shared. Some (debug_text shared) };
+
+    ///     format!(in alloc; "{:?}", RcAsciiStr::from_ascii_str(alloc, view("foo"))?)? // "\"foo\""
+    fn fmt<W: fmt::Write>(&self, f: &mut fmt::Formatter<W>) -> fmt::Result {
+        fmt::Debug::fmt(&self.as_ascii_str(), f)
+    }
+}
+
+impl<A: Allocator> fmt::Display for CowAsciiStr<'_, A> {
+    ghost output = { λ cow. Some (cow_text cow) };
+
+    ghost styled_output = { λ cow spec. Some (styled_text spec (cow_text cow)) };
+
+    ///     format!(in alloc; "{}", CowAsciiStr::<Global>::from(view("a\"b")))? // "a\"b"
+    fn fmt<W: fmt::Write>(&self, f: &mut fmt::Formatter<W>) -> fmt::Result {
+        fmt::Display::fmt(&self.as_ascii_str(), f)
+    }
+}
+
+impl<A: Allocator> fmt::Debug for CowAsciiStr<'_, A> {
+    ghost debug_output = { λ cow. Some (debug_text (cow_text cow)) };
+
+    ///     format!(in alloc; "{:?}", CowAsciiStr::<Global>::from(view("foo")))? // "\"foo\""
+    fn fmt<W: fmt::Write>(&self, f: &mut fmt::Formatter<W>) -> fmt::Result {
+        fmt::Debug::fmt(&self.as_ascii_str(), f)
+    }
+}

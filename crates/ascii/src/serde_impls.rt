@@ -1,0 +1,105 @@
+//! The traits of the crate `serde` for views and strings, in any format. A view borrows its text from
+//! the input, so its text may hold no escape there.
+
+ghost use Rattle.std.specs.Prelude.{IfOk};
+ghost use Rattle.ascii.specs.View.{text_of};
+ghost use Rattle.serde.specs.Event.{Logs, text};
+ghost use Rattle.serde.specs.Steps.{Gives};
+
+use crate::ascii_str::{AsAsciiStrError, AsciiStr};
+use crate::ascii_string::AsciiString;
+use crate::{string, text};
+use serde::{
+    Described, Deserialize, DeserializeOwned, Deserializer, Format, Serialize, Serializer,
+};
+use std::alloc::{Allocator, Global};
+
+impl Described for AsciiStr<'_> {
+    ghost writes = { λ view old new. Logs old new (text (text_of view)) };
+}
+
+impl Serialize for AsciiStr<'_> {
+    /// Writes the text as a string.
+    ///
+    ///     serde_json::to_string(alloc, &view("a\"b"))? // "\"a\\\"b\""
+    fn serialize<S: Serializer>(&self, out: &mut S) -> Result<(), S::Error> {
+        out.str(AsciiStr::as_str(*self))
+    }
+}
+
+impl<A: Allocator> Described for AsciiString<A> {
+    ghost writes = { λ string old new. Logs old new (text string.text) };
+}
+
+impl<A: Allocator> Serialize for AsciiString<A> {
+    /// Writes the text as a string.
+    ///
+    ///     serde_json::to_string(alloc, &view("foo").to_ascii_string(alloc)?)? // "\"foo\""
+    fn serialize<S: Serializer>(&self, out: &mut S) -> Result<(), S::Error> {
+        out.str(self.as_ascii_str().as_str())
+    }
+}
+
+/// Returns the format's error with the line of a conversion error, or its error of a failed
+/// allocation.
+fn reported<F: Format>(
+    alloc: Global,
+    from: &Deserializer<'_, '_, F>,
+    error: AsAsciiStrError,
+) -> F::Error {
+    match format!(in alloc; "{error}") {
+        Ok(line) => from.custom(line.as_str()),
+        Err(_) => from.no_memory(),
+    }
+}
+
+impl<'de> Deserialize<'de> for AsciiStr<'de> {
+    /// Reads a string that is borrowed from the input, or returns an error if a byte of it is not
+    /// ASCII.
+    ///
+    ///     serde_json::from_str::<AsciiStr<'_>>(alloc, "\"foo\"").ok() // Some("foo")
+    fn deserialize<F: Format>(
+        alloc: Global,
+        from: &mut Deserializer<'de, '_, F>,
+    ) -> Result<AsciiStr<'de>, F::Error>
+        ensures { IfOk result (λ view. Gives F.gives from.old (text (text_of view)) from.new) }
+    {
+        let source = from.borrowed_str()?;
+        match text::as_ascii_str(source) {
+            Ok(view) => Ok(view),
+            Err(error) => Err(reported(alloc, from, error)),
+        }
+    }
+}
+
+impl DeserializeOwned for AsciiString {
+    /// Reads a string, or returns an error if a byte of it is not ASCII.
+    ///
+    ///     let value = Value::from_str(alloc, "\"foo\"")?;
+    ///     serde_json::from_value::<AsciiString>(alloc, value).ok() // Some("foo")
+    fn deserialize_owned<F: Format>(
+        alloc: Global,
+        from: &mut Deserializer<'_, '_, F>,
+    ) -> Result<AsciiString, F::Error>
+        ensures { IfOk result (λ string. Gives F.gives from.old (text string.text) from.new) }
+    {
+        match string::into_ascii_string(from.string(alloc)?) {
+            Ok(string) => Ok(string),
+            Err(error) => Err(reported(alloc, from, error.ascii_error())),
+        }
+    }
+}
+
+impl<'de> Deserialize<'de> for AsciiString {
+    /// Reads a string, or returns an error if a byte of it is not ASCII.
+    ///
+    ///     serde_json::from_str::<AsciiString>(alloc, "\"foo\"").ok() // Some("foo")
+    fn deserialize<F: Format>(
+        alloc: Global,
+        from: &mut Deserializer<'de, '_, F>,
+    ) -> Result<AsciiString, F::Error>
+        ensures { IfOk result (λ string. Gives F.gives from.old (text string.text) from.new) }
+    {
+        DeserializeOwned::deserialize_owned(alloc, from)
+    }
+}
