@@ -13,11 +13,25 @@ ghost use Rattle.std.specs.Io.KnownBytes.{Appends, Consumes, IsAtEnd, Keeps};
 ghost use Rattle.std.specs.declared.option.Option.{Option};
 ghost use Rattle.ascii_devices.specs.Devices.{CountsFault};
 
-use std::io;
+use std::error::Error;
+use std::{fmt, io};
 
 /// A device failed. Its count of failures has risen by one.
 #[derive(Clone, Copy, PartialEq, Eq, Debug)]
 pub struct DeviceFault;
+
+impl fmt::Display for DeviceFault {
+    ghost use Rattle.std.specs.Prelude.{Some, codes};
+
+    ghost output = { λ _. Some (codes "a device failed") };
+
+    ///     DeviceFault.to_string(alloc)? // "a device failed"
+    fn fmt<W: fmt::Write>(&self, f: &mut fmt::Formatter<W>) -> fmt::Result {
+        f.write_str("a device failed")
+    }
+}
+
+impl Error for DeviceFault {}
 
 /// A device that gives bytes.
 pub trait Source {

@@ -1,6 +1,7 @@
 pub mod BufferCopy
 pub mod Edit
 pub mod Engine
+pub mod Faults
 pub mod Inline
 pub mod Modes
 pub mod OutputState

@@ -1,9 +1,11 @@
 //! Why a run from bytes to bytes stopped.
 
-ghost use Rattle.std.specs.Prelude.{◌≡◌};
+ghost use Rattle.std.specs.Prelude.{◌≡◌, Some};
 
 use ascii::AsAsciiStrError;
 use std::alloc::AllocError;
+use std::error::Error;
+use std::fmt;
 
 /// Why a run stopped.
 #[derive(Clone, Copy, PartialEq, Eq, Debug)]
@@ -20,6 +22,29 @@ pub enum EngineFault {
     /// The writer failed, or took no byte.
     Write,
 }
+
+impl fmt::Display for EngineFault {
+    ghost use Rattle.ascii_run.specs.Faults.{fault_text};
+
+    ghost output = { λ fault. Some (fault_text fault) };
+
+    ///     EngineFault::NotAscii(2).to_string(alloc)? // "the byte at index 2 is not ASCII"
+    ///     EngineFault::Position(0).to_string(alloc)? // "bad position in command 0"
+    ///     EngineFault::Memory.to_string(alloc)? // "no memory"
+    fn fmt<W: fmt::Write>(&self, f: &mut fmt::Formatter<W>) -> fmt::Result {
+        match *self {
+            EngineFault::NotAscii(position) => {
+                write!(f, "the byte at index {position} is not ASCII")
+            }
+            EngineFault::Position(index) => write!(f, "bad position in command {index}"),
+            EngineFault::Memory => f.write_str("no memory"),
+            EngineFault::Read => f.write_str("read failed"),
+            EngineFault::Write => f.write_str("write failed"),
+        }
+    }
+}
+
+impl Error for EngineFault {}
 
 impl From<AllocError> for EngineFault {
     ghost use Rattle.ascii_run.specs.declared.faults.EngineFault.TheVariants.{Memory};
