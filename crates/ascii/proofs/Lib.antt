@@ -1,4 +1,5 @@
 pub mod CallerLemmas
+pub mod CutLemmas
 pub mod DebugLemmas
 pub mod EndsLemmas
 pub mod ExtendLemmas

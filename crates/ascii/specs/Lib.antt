@@ -6,6 +6,7 @@ pub mod Found
 pub mod Json
 pub mod Lines
 pub mod Pieces
+pub mod Search
 pub mod Slice
 pub mod Spans
 pub mod Steps

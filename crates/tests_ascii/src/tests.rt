@@ -10,6 +10,7 @@ mod long_texts;
 mod mutable_views;
 mod of_ascii;
 mod remainders;
+mod searches;
 mod size_hints;
 mod small_texts;
 mod spans;

@@ -1,0 +1,53 @@
+-- Texts that begin or end with another.
+use Rattle.std.proofs.Common.{◌≡◌, ℕ, ◌+◌, ◌-◌, List, ◌++◌, length, take, drop, sym, ap, subst}
+use Rattle.std.proofs.Common.{◌∙◌, ◌≤◌, Option, None, Some, arith, is_some, length-append, refl, true}
+use Rattle.std.proofs.lemmas.Bool.{false≢true}
+use native.Mathlib.Numerals.{unary_clauses}
+use Rattle.std.specs.List.{slice_range}
+use Rattle.std.proofs.lemmas.List.{take-append-drop, take_rest}
+use Rattle.std.proofs.Math.Seq.{drop-append_seam, take-append_seam}
+use Rattle.memchr.specs.Find.{FindsNeedle}
+use Rattle.ascii.specs.Search.{ContainsText, EndsWith, StartsWith}
+
+-- the start of a text that begins with `prefix`
+pub prefix_reads : (prefix text : List ℕ) → StartsWith prefix text
+    → slice_range text 0 (length prefix) ≡ prefix
+prefix_reads prefix text starts =
+    simp unary_clauses (subst (λ t. take (length prefix) t ≡ prefix) starts.1
+    (take-append_seam prefix starts.0))
+
+-- a text is its start and what follows
+pub joined_at : (n : ℕ) (text : List ℕ)
+    → slice_range text 0 n ++ slice_range text n (length text) ≡ text
+joined_at n text =
+    simp unary_clauses (ap (λ t. take n text ++ t) (take_rest text n) ∙ take-append-drop n text)
+
+-- the end of a text that ends with `suffix`
+pub suffix_reads : (suffix text : List ℕ) → EndsWith suffix text
+    → slice_range text (length text - length suffix) (length text) ≡ suffix
+suffix_reads suffix text ends =
+    let whole : length text ≡ length ends.0 + length suffix =
+    ap length (sym ends.1) ∙ length-append ends.0 suffix in
+    let start : length text - length suffix ≡ length ends.0 = omega (arith, whole) in
+    ap (λ n. slice_range text n (length text)) start
+    ∙ (take_rest text (length ends.0)
+    ∙ subst (λ t. drop (length ends.0) t ≡ suffix) ends.1 (drop-append_seam ends.0 suffix))
+
+-- a text is at least as long as its end
+pub suffix_fits : (suffix text : List ℕ) → EndsWith suffix text → length suffix ≤ length text
+suffix_fits suffix text ends =
+    let whole : length text ≡ length ends.0 + length suffix =
+    ap length (sym ends.1) ∙ length-append ends.0 suffix in
+    omega (arith, whole)
+
+-- a search from the start finds a needle exactly if the text contains it
+pub found_if_contained : (text needle : List ℕ) (found : Option ℕ)
+    → FindsNeedle text needle 0 found
+    → (is_some found ≡ true → ContainsText needle text)
+    × (ContainsText needle text → is_some found ≡ true)
+found_if_contained text needle None finds = (
+  λ no. absurd (false≢true no),
+  λ occurs. absurd (finds occurs.0 (omega arith)
+      (let fits = occurs.1.fits in omega (arith, fits)) occurs.1),
+)
+found_if_contained text needle (Some k) finds = (λ _. (k, finds.1), λ _. refl)

@@ -1,0 +1,39 @@
+//! Cutting a view in two at a character. No call of this module allocates.
+
+ghost use Rattle.ascii_base.specs.Code.{code_of};
+ghost use Rattle.ascii.specs.Search.{SplitsOnce, SplitsOnceAtLast};
+ghost use Rattle.ascii.specs.View.{text_of};
+
+use crate::ascii_str::AsciiStr;
+use ascii_base::ascii_char::AsciiChar;
+
+impl<'a> AsciiStr<'a> {
+    /// Returns the parts of the view before and after its first `on`, or `None` if the view does not
+    /// contain `on`. Does not allocate.
+    ///
+    ///     view("a=b=c").split_once(AsciiChar::Equal) // Some(("a", "b=c"))
+    ///     view("abc").split_once(AsciiChar::Equal) // None
+    pub fn split_once(self, on: AsciiChar) -> Option<(AsciiStr<'a>, AsciiStr<'a>)>
+        ensures { SplitsOnce (code_of on) (text_of self.entry) result }
+    {
+        let mut pieces = self.split(on);
+        let before = pieces.next()?;
+        let after = pieces.remainder()?;
+        Some((before, after))
+    }
+
+    /// Returns the parts of the view before and after its last `on`, or `None` if the view does not
+    /// contain `on`. Does not allocate.
+    ///
+    ///     view("a=b=c").rsplit_once(AsciiChar::Equal) // Some(("a=b", "c"))
+    ///     view("abc").rsplit_once(AsciiChar::Equal) // None
+    #[tactic(auto, using(crate::proofs::CallerLemmas::join_with_last))]
+    pub fn rsplit_once(self, on: AsciiChar) -> Option<(AsciiStr<'a>, AsciiStr<'a>)>
+        ensures { SplitsOnceAtLast (code_of on) (text_of self.entry) result }
+    {
+        let mut pieces = self.split(on);
+        let after = pieces.next_back()?;
+        let before = pieces.remainder()?;
+        Some((before, after))
+    }
+}

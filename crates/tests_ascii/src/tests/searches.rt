@@ -1,0 +1,90 @@
+//! Searches and cuts of views, compared with those of std's `str` over the same text.
+
+use super::assert_same;
+use ascii::{AsciiChar, AsciiStr};
+use testing::ascii;
+
+/// A text, and a needle.
+static PAIRS: [(&str, &str); 10] = [
+    ("", ""),
+    ("", "a"),
+    ("abcabc", ""),
+    ("abcabc", "abc"),
+    ("abcabc", "bca"),
+    ("abcabc", "cab"),
+    ("abcabc", "abcabc"),
+    ("abcabc", "abcabca"),
+    ("aaa", "aa"),
+    ("abcabd", "bd"),
+];
+
+fn text_in<'a>(part: Option<AsciiStr<'a>>) -> Option<&'a str> {
+    Some(part?.as_str())
+}
+
+fn texts_in<'a>(parts: Option<(AsciiStr<'a>, AsciiStr<'a>)>) -> Option<(&'a str, &'a str)> {
+    let (before, after) = parts?;
+    Some((before.as_str(), after.as_str()))
+}
+
+#[test]
+fn a_text_is_found_as_in_str(rt: HostRuntime) {
+    for &(source, needle) in &PAIRS {
+        let (view, text) = (ascii(source), ascii(needle));
+        assert_same(&rt, view.find(text), source.find(needle));
+        assert_same(&rt, view.rfind(text), source.rfind(needle));
+        assert_same(&rt, view.contains(text), source.contains(needle));
+        assert_same(&rt, view.eq_text(text), source == needle);
+    }
+}
+
+#[test]
+fn prefixes_and_suffixes_are_those_of_str(rt: HostRuntime) {
+    for &(source, needle) in &PAIRS {
+        let (view, text) = (ascii(source), ascii(needle));
+        assert_same(&rt, view.starts_with(text), source.starts_with(needle));
+        assert_same(&rt, view.ends_with(text), source.ends_with(needle));
+        assert_same(
+            &rt,
+            text_in(view.strip_prefix(text)),
+            source.strip_prefix(needle),
+        );
+        assert_same(
+            &rt,
+            text_in(view.strip_suffix(text)),
+            source.strip_suffix(needle),
+        );
+    }
+}
+
+/// A text, and what `str` gives for `=` in it: its first and last position, and the two cuts.
+static CUTS: [(
+    &str,
+    Option<usize>,
+    Option<usize>,
+    Option<(&str, &str)>,
+    Option<(&str, &str)>,
+); 5] = [
+    ("", None, None, None, None),
+    ("ab", None, None, None, None),
+    ("=", Some(0), Some(0), Some(("", "")), Some(("", ""))),
+    (
+        "a=b=c",
+        Some(1),
+        Some(3),
+        Some(("a", "b=c")),
+        Some(("a=b", "c")),
+    ),
+    ("==", Some(0), Some(1), Some(("", "=")), Some(("=", ""))),
+];
+
+#[test]
+fn a_character_is_found_and_cut_at(rt: HostRuntime) {
+    for &(source, first, last, once, at_last) in &CUTS {
+        let view = ascii(source);
+        assert_same(&rt, view.position(AsciiChar::Equal), first);
+        assert_same(&rt, view.rposition(AsciiChar::Equal), last);
+        assert_same(&rt, texts_in(view.split_once(AsciiChar::Equal)), once);
+        assert_same(&rt, texts_in(view.rsplit_once(AsciiChar::Equal)), at_last);
+    }
+}
