@@ -2,14 +2,18 @@
 
 use super::assert_debug;
 use ascii::iter::{End, take_end, walk_line_spans, walk_lines, walk_split, walk_split_spans};
-use ascii::json::{char_from_json, char_to_json, str_from_json, string_from_json};
+use ascii::json::{JsonError, char_from_json, char_to_json, str_from_json, string_from_json};
 use ascii::{
     AsAsciiStrError, AsciiChar, AsciiRange, AsciiStr, AsciiString, BoxedAsciiStr, CowAsciiStr,
     RcAsciiStr, bytes, string, text, vec,
 };
 use serde_json::Value;
+use std::alloc::Global;
 use std::collections::HashSet;
+use std::convert::{AsSlice, AsStr};
 use std::fmt::Write;
+use std::io::AsBytes;
+use std::path::AsPath;
 use testing::view;
 
 #[test]
@@ -85,12 +89,16 @@ fn ascii_str_3(rt: HostRuntime) {
             format!(in alloc; "{}", view("a\"b")).expect(&rt, "refused"),
             // Debug for AsciiStr::fmt
             format!(in alloc; "{:?}", view("a\"b")).expect(&rt, "refused"),
-            // AsciiStr::to_ascii_string
-            view("foo").to_ascii_string(alloc).expect(&rt, "refused"),
-            // AsciiStr::to_ascii_uppercase
-            view("foo").to_ascii_uppercase(alloc).expect(&rt, "refused"),
+            // AsStr for AsciiStr::as_str
+            AsStr::as_str(&view("foo")),
+            // AsSlice<u8> for AsciiStr::as_slice
+            view("foo").as_slice(),
+            // AsBytes for AsciiStr::as_byte_slice
+            view("foo").as_byte_slice(),
+            // AsPath for AsciiStr::path_text
+            view("a/b").path_text(),
         ),
-        "(\"a\\\"b\", \"\\\"a\\\\\\\"b\\\"\", \"foo\", \"FOO\")",
+        "(\"a\\\"b\", \"\\\"a\\\\\\\"b\\\"\", \"foo\", [102, 111, 111], [102, 111, 111], \"a/b\")",
     );
 }
 
@@ -101,12 +109,32 @@ fn ascii_str_4(rt: HostRuntime) {
         &rt,
         alloc,
         &(
+            // TryFrom<&[u8]> for AsciiStr::try_from
+            AsciiStr::try_from(b"foo".as_slice()),
+            AsciiStr::try_from(b"ab\xc4".as_slice()),
+            // TryFrom<&str> for AsciiStr::try_from
+            AsciiStr::try_from("foo"),
+            AsciiStr::try_from("abč"),
+            // AsciiStr::to_ascii_string
+            view("foo").to_ascii_string(alloc).expect(&rt, "refused"),
+            // AsciiStr::to_ascii_uppercase
+            view("foo").to_ascii_uppercase(alloc).expect(&rt, "refused"),
             // AsciiStr::to_ascii_lowercase
             view("FOO").to_ascii_lowercase(alloc).expect(&rt, "refused"),
-            // AsciiStr::to_chars
-            view("ab").to_chars(alloc).expect(&rt, "refused"),
         ),
-        "(\"foo\", ['a', 'b'])",
+        "(Ok(\"foo\"), Err(AsAsciiStrError(2)), Ok(\"foo\"), Err(AsAsciiStrError(2)), \"foo\", \"FOO\", \"foo\")",
+    );
+}
+
+#[test]
+fn ascii_str_5(rt: HostRuntime) {
+    let alloc = rt.alloc();
+    // AsciiStr::to_chars
+    assert_debug(
+        &rt,
+        alloc,
+        &view("ab").to_chars(alloc).expect(&rt, "refused"),
+        "['a', 'b']",
     );
     // IntoIterator for AsciiStr::into_iter
     {
@@ -116,17 +144,17 @@ fn ascii_str_4(rt: HostRuntime) {
         }
         assert_debug(&rt, alloc, &digit, "true");
     }
-}
-
-#[test]
-fn ascii_str_5(rt: HostRuntime) {
-    let alloc = rt.alloc();
     // AsciiStr::chars
     {
         let mut chars = view("foo").chars();
         assert_debug(&rt, alloc, &chars.next(), "Some('f')");
         assert_debug(&rt, alloc, &chars.next_back(), "Some('o')");
     }
+}
+
+#[test]
+fn ascii_str_6(rt: HostRuntime) {
+    let alloc = rt.alloc();
     // AsciiStr::lines
     {
         let mut lines = view("x\r\ny\nz").lines();
@@ -135,11 +163,6 @@ fn ascii_str_5(rt: HostRuntime) {
         assert_debug(&rt, alloc, &lines.next_back(), "Some(\"y\")");
         assert_debug(&rt, alloc, &lines.next(), "None");
     }
-}
-
-#[test]
-fn ascii_str_6(rt: HostRuntime) {
-    let alloc = rt.alloc();
     // AsciiStr::line_spans
     {
         let mut spans = view("x\r\ny").line_spans();
@@ -163,6 +186,11 @@ fn ascii_str_6(rt: HostRuntime) {
         &view("x\r\ny").line_spans_from(10).next_back(),
         "Some(LineSpan { start: 13, text: \"y\", ending: Absent })",
     );
+}
+
+#[test]
+fn ascii_str_7(rt: HostRuntime) {
+    let alloc = rt.alloc();
     // AsciiStr::split
     {
         let mut pieces = view("foo;bar;baz").split(AsciiChar::Semicolon);
@@ -171,11 +199,6 @@ fn ascii_str_6(rt: HostRuntime) {
         assert_debug(&rt, alloc, &pieces.next(), "Some(\"bar\")");
         assert_debug(&rt, alloc, &pieces.next(), "None");
     }
-}
-
-#[test]
-fn ascii_str_7(rt: HostRuntime) {
-    let alloc = rt.alloc();
     // AsciiStr::split_spans
     {
         let mut spans = view("foo;bar").split_spans(AsciiChar::Semicolon);
@@ -196,16 +219,99 @@ fn ascii_str_7(rt: HostRuntime) {
             "Some(SplitSpan { start: 14, text: \"bar\" })",
         );
     }
-    // AsciiStr::to_json
+}
+
+#[test]
+fn ascii_str_8(rt: HostRuntime) {
+    let alloc = rt.alloc();
     assert_debug(
         &rt,
         alloc,
-        &view("a\"b")
-            .to_json(alloc)
-            .expect(&rt, "refused")
-            .to_string(alloc)
-            .expect(&rt, "refused"),
-        "\"\\\"a\\\\\\\"b\\\"\"",
+        &(
+            // AsciiStr::to_json
+            view("a\"b")
+                .to_json(alloc)
+                .expect(&rt, "refused")
+                .to_string(alloc)
+                .expect(&rt, "refused"),
+            // AsciiStr::find
+            view("abcabc").find(view("bc")),
+            view("abcabc").find(view("d")),
+            // AsciiStr::rfind
+            view("abcabc").rfind(view("bc")),
+            view("abcabc").rfind(view("d")),
+            // AsciiStr::contains
+            view("abcabc").contains(view("ca")),
+            view("abcabc").contains(view("ac")),
+        ),
+        "(\"\\\"a\\\\\\\"b\\\"\", Some(1), None, Some(4), None, true, false)",
+    );
+}
+
+#[test]
+fn ascii_str_9(rt: HostRuntime) {
+    let alloc = rt.alloc();
+    assert_debug(
+        &rt,
+        alloc,
+        &(
+            // AsciiStr::position
+            view("abcabc").position(AsciiChar::b),
+            view("abcabc").position(AsciiChar::d),
+            // AsciiStr::rposition
+            view("abcabc").rposition(AsciiChar::b),
+            view("abcabc").rposition(AsciiChar::d),
+            // AsciiStr::eq_text
+            view("foo").eq_text(view("foo")),
+            view("foo").eq_text(view("Foo")),
+            // AsciiStr::starts_with
+            view("foobar").starts_with(view("foo")),
+            view("foobar").starts_with(view("bar")),
+            // AsciiStr::ends_with
+            view("foobar").ends_with(view("bar")),
+            view("foobar").ends_with(view("foo")),
+        ),
+        "(Some(1), None, Some(4), None, true, false, true, false, true, false)",
+    );
+}
+
+#[test]
+fn ascii_str_10(rt: HostRuntime) {
+    let alloc = rt.alloc();
+    assert_debug(
+        &rt,
+        alloc,
+        &(
+            // AsciiStr::strip_prefix
+            view("foobar").strip_prefix(view("foo")),
+            view("foobar").strip_prefix(view("bar")),
+            // AsciiStr::strip_suffix
+            view("foobar").strip_suffix(view("bar")),
+            view("foobar").strip_suffix(view("foo")),
+            // Serialize for AsciiStr::serialize
+            serde_json::to_string(alloc, &view("a\"b")).expect(&rt, "refused"),
+            // Deserialize for AsciiStr::deserialize
+            serde_json::from_str::<AsciiStr<'_>>(alloc, "\"foo\"").ok(),
+            // AsciiStr::split_once
+            view("a=b=c").split_once(AsciiChar::Equal),
+            view("abc").split_once(AsciiChar::Equal),
+        ),
+        "(Some(\"bar\"), None, Some(\"foo\"), None, \"\\\"a\\\\\\\"b\\\"\", Some(\"foo\"), Some((\"a\", \"b=c\")), None)",
+    );
+}
+
+#[test]
+fn ascii_str_11(rt: HostRuntime) {
+    let alloc = rt.alloc();
+    assert_debug(
+        &rt,
+        alloc,
+        &(
+            // AsciiStr::rsplit_once
+            view("a=b=c").rsplit_once(AsciiChar::Equal),
+            view("abc").rsplit_once(AsciiChar::Equal),
+        ),
+        "(Some((\"a=b\", \"c\")), None)",
     );
 }
 
@@ -614,6 +720,34 @@ fn ascii_string_15(rt: HostRuntime) {
             AsciiString::collect_strs(alloc, view("b,c").split(AsciiChar::Comma)).expect(
                 &rt, "refused",
             ),
+            // AsStr for AsciiString::as_str
+            AsStr::as_str(&view("foo").to_ascii_string(alloc).expect(&rt, "refused")),
+            // AsSlice<u8> for AsciiString::as_slice
+            view("foo")
+                .to_ascii_string(alloc)
+                .expect(&rt, "refused")
+                .as_slice(),
+            // AsBytes for AsciiString::as_byte_slice
+            view("foo")
+                .to_ascii_string(alloc)
+                .expect(&rt, "refused")
+                .as_byte_slice(),
+            // TryFrom<Vec> for AsciiString::try_from
+            AsciiString::try_from(Vec::from_slice(alloc, b"foo").expect(&rt, "refused")),
+        ),
+        "(\"bc\", \"foo\", [102, 111, 111], [102, 111, 111], Ok(\"foo\"))",
+    );
+}
+
+#[test]
+fn ascii_string_16(rt: HostRuntime) {
+    let alloc = rt.alloc();
+    assert_debug(
+        &rt,
+        alloc,
+        &(
+            // TryFrom<String> for AsciiString::try_from
+            AsciiString::try_from(String::from_str(alloc, "foo").expect(&rt, "refused")),
             // AsciiString::from_char
             AsciiString::from_char(alloc, AsciiChar::a).expect(&rt, "refused"),
             // AsciiString::from_chars
@@ -624,25 +758,55 @@ fn ascii_string_15(rt: HostRuntime) {
                 .expect(&rt, "refused")
                 .into_chars(alloc),
         ),
-        "(\"bc\", \"a\", \"ab\", Ok(['a', 'b']))",
+        "(Ok(\"foo\"), \"a\", \"ab\", Ok(['a', 'b']))",
     );
 }
 
 #[test]
-fn ascii_string_16(rt: HostRuntime) {
+fn ascii_string_17(rt: HostRuntime) {
     let alloc = rt.alloc();
-    // AsciiString::to_json
     assert_debug(
         &rt,
         alloc,
-        &view("foo")
-            .to_ascii_string(alloc)
-            .expect(&rt, "refused")
-            .to_json(alloc)
-            .expect(&rt, "refused")
-            .to_string(alloc)
+        &(
+            // AsciiString::to_json
+            view("foo")
+                .to_ascii_string(alloc)
+                .expect(&rt, "refused")
+                .to_json(alloc)
+                .expect(&rt, "refused")
+                .to_string(alloc)
+                .expect(&rt, "refused"),
+            // Serialize for AsciiString::serialize
+            serde_json::to_string(
+                alloc,
+                &view("foo").to_ascii_string(alloc).expect(&rt, "refused"),
+            )
             .expect(&rt, "refused"),
-        "\"\\\"foo\\\"\"",
+        ),
+        "(\"\\\"foo\\\"\", \"\\\"foo\\\"\")",
+    );
+    // DeserializeOwned for AsciiString::deserialize_owned
+    {
+        let value = Value::from_str(alloc, "\"foo\"").expect(&rt, "refused");
+        assert_debug(
+            &rt,
+            alloc,
+            &serde_json::from_value::<AsciiString>(alloc, value).ok(),
+            "Some(\"foo\")",
+        );
+    }
+}
+
+#[test]
+fn ascii_string_18(rt: HostRuntime) {
+    let alloc = rt.alloc();
+    // Deserialize for AsciiString::deserialize
+    assert_debug(
+        &rt,
+        alloc,
+        &serde_json::from_str::<AsciiString>(alloc, "\"foo\"").ok(),
+        "Some(\"foo\")",
     );
 }
 
@@ -713,6 +877,74 @@ fn boxed_ascii_str_1(rt: HostRuntime) {
 }
 
 #[test]
+fn boxed_ascii_str_2(rt: HostRuntime) {
+    let alloc = rt.alloc();
+    assert_debug(
+        &rt,
+        alloc,
+        &(
+            // PartialEq for BoxedAsciiStr::eq
+            BoxedAsciiStr::from_ascii_str(alloc, view("foo")).expect(&rt, "refused")
+                == BoxedAsciiStr::from_ascii_str(alloc, view("foo")).expect(&rt, "refused"),
+            // PartialOrd for BoxedAsciiStr::partial_cmp
+            BoxedAsciiStr::from_ascii_str(alloc, view("foo")).expect(&rt, "refused")
+                < BoxedAsciiStr::from_ascii_str(alloc, view("fop")).expect(&rt, "refused"),
+            // Ord for BoxedAsciiStr::cmp
+            BoxedAsciiStr::from_ascii_str(alloc, view("foo"))
+                .expect(&rt, "refused")
+                .cmp(&BoxedAsciiStr::from_ascii_str(alloc, view("fo")).expect(&rt, "refused")),
+        ),
+        "(true, true, Greater)",
+    );
+}
+
+#[test]
+fn boxed_ascii_str_3(rt: HostRuntime) {
+    let alloc = rt.alloc();
+    // Hash for BoxedAsciiStr::hash
+    {
+        let mut seen = HashSet::new(alloc);
+        seen.insert(BoxedAsciiStr::from_ascii_str(alloc, view("foo")).expect(&rt, "refused"))
+            .expect(&rt, "refused");
+        assert_debug(
+            &rt,
+            alloc,
+            &seen.contains(&BoxedAsciiStr::from_ascii_str(alloc, view("foo")).expect(
+                &rt, "refused",
+            )),
+            "true",
+        );
+    }
+    // Display for BoxedAsciiStr::fmt
+    assert_debug(
+        &rt,
+        alloc,
+        &format!(in alloc;
+            "{}",
+            BoxedAsciiStr::from_ascii_str(alloc, view("a\"b")).expect(&rt, "refused")
+        )
+        .expect(&rt, "refused"),
+        "\"a\\\"b\"",
+    );
+}
+
+#[test]
+fn boxed_ascii_str_4(rt: HostRuntime) {
+    let alloc = rt.alloc();
+    // Debug for BoxedAsciiStr::fmt
+    assert_debug(
+        &rt,
+        alloc,
+        &format!(in alloc;
+            "{:?}",
+            BoxedAsciiStr::from_ascii_str(alloc, view("foo")).expect(&rt, "refused")
+        )
+        .expect(&rt, "refused"),
+        "\"\\\"foo\\\"\"",
+    );
+}
+
+#[test]
 fn rc_ascii_str_1(rt: HostRuntime) {
     let alloc = rt.alloc();
     assert_debug(
@@ -734,8 +966,74 @@ fn rc_ascii_str_1(rt: HostRuntime) {
                 .clone()
                 .expect(&rt, "refused")
                 .as_ascii_str(),
+            // PartialEq for RcAsciiStr::eq
+            RcAsciiStr::from_ascii_str(alloc, view("foo")).expect(&rt, "refused")
+                == RcAsciiStr::from_ascii_str(alloc, view("foo")).expect(&rt, "refused"),
         ),
-        "(\"foo\", 3, \"foo\")",
+        "(\"foo\", 3, \"foo\", true)",
+    );
+}
+
+#[test]
+fn rc_ascii_str_2(rt: HostRuntime) {
+    let alloc = rt.alloc();
+    assert_debug(
+        &rt,
+        alloc,
+        &(
+            // PartialOrd for RcAsciiStr::partial_cmp
+            RcAsciiStr::from_ascii_str(alloc, view("foo")).expect(&rt, "refused")
+                < RcAsciiStr::from_ascii_str(alloc, view("fop")).expect(&rt, "refused"),
+            // Ord for RcAsciiStr::cmp
+            RcAsciiStr::from_ascii_str(alloc, view("foo"))
+                .expect(&rt, "refused")
+                .cmp(&RcAsciiStr::from_ascii_str(alloc, view("fo")).expect(&rt, "refused")),
+        ),
+        "(true, Greater)",
+    );
+}
+
+#[test]
+fn rc_ascii_str_3(rt: HostRuntime) {
+    let alloc = rt.alloc();
+    // Hash for RcAsciiStr::hash
+    {
+        let mut seen = HashSet::new(alloc);
+        seen.insert(RcAsciiStr::from_ascii_str(alloc, view("foo")).expect(&rt, "refused"))
+            .expect(&rt, "refused");
+        assert_debug(
+            &rt,
+            alloc,
+            &seen.contains(&RcAsciiStr::from_ascii_str(alloc, view("foo")).expect(&rt, "refused")),
+            "true",
+        );
+    }
+    // Display for RcAsciiStr::fmt
+    assert_debug(
+        &rt,
+        alloc,
+        &format!(in alloc;
+            "{}",
+            RcAsciiStr::from_ascii_str(alloc, view("a\"b")).expect(&rt, "refused")
+        )
+        .expect(&rt, "refused"),
+        "\"a\\\"b\"",
+    );
+}
+
+#[test]
+fn rc_ascii_str_4(rt: HostRuntime) {
+    let alloc = rt.alloc();
+    // Debug for RcAsciiStr::fmt
+    assert_debug(
+        &rt,
+        alloc,
+        &format!(in alloc;
+            "{:?}",
+            RcAsciiStr::from_ascii_str(alloc, view("foo")).expect(&rt, "refused")
+        )
+        .expect(&rt, "refused"),
+        "\"\\\"foo\\\"\"",
     );
 }
 
@@ -765,6 +1063,60 @@ fn cow_ascii_str_1(rt: HostRuntime) {
             .into();
         assert_debug(&rt, alloc, &cow.as_ascii_str(), "\"foo\"");
     }
+    // PartialEq for CowAsciiStr::eq
+    assert_debug(
+        &rt,
+        alloc,
+        &(CowAsciiStr::<Global>::from(view("foo")) == CowAsciiStr::<Global>::from(view("foo"))),
+        "true",
+    );
+}
+
+#[test]
+fn cow_ascii_str_2(rt: HostRuntime) {
+    let alloc = rt.alloc();
+    assert_debug(
+        &rt,
+        alloc,
+        &(
+            // PartialOrd for CowAsciiStr::partial_cmp
+            CowAsciiStr::<Global>::from(view("foo")) < CowAsciiStr::<Global>::from(view("fop")),
+            // Ord for CowAsciiStr::cmp
+            CowAsciiStr::<Global>::from(view("foo")).cmp(&CowAsciiStr::<Global>::from(view("fo"))),
+        ),
+        "(true, Greater)",
+    );
+    // Hash for CowAsciiStr::hash
+    {
+        let mut seen = HashSet::new(alloc);
+        seen.insert(CowAsciiStr::<Global>::from(view("foo")))
+            .expect(&rt, "refused");
+        assert_debug(
+            &rt,
+            alloc,
+            &seen.contains(&CowAsciiStr::<Global>::from(view("foo"))),
+            "true",
+        );
+    }
+    // Display for CowAsciiStr::fmt
+    assert_debug(
+        &rt,
+        alloc,
+        &format!(in alloc; "{}", CowAsciiStr::<Global>::from(view("a\"b"))).expect(&rt, "refused"),
+        "\"a\\\"b\"",
+    );
+}
+
+#[test]
+fn cow_ascii_str_3(rt: HostRuntime) {
+    let alloc = rt.alloc();
+    // Debug for CowAsciiStr::fmt
+    assert_debug(
+        &rt,
+        alloc,
+        &format!(in alloc; "{:?}", CowAsciiStr::<Global>::from(view("foo"))).expect(&rt, "refused"),
+        "\"\\\"foo\\\"\"",
+    );
 }
 
 #[test]
@@ -838,6 +1190,35 @@ fn bytes_3(rt: HostRuntime) {
         }
         assert_debug(&rt, alloc, &(source == *b"FOO"), "true");
     }
+}
+
+#[test]
+fn copy_error_1(rt: HostRuntime) {
+    let alloc = rt.alloc();
+    // Display for CopyError::fmt
+    assert_debug(
+        &rt,
+        alloc,
+        &text::to_ascii_string(alloc, "abč").map_err(|e| e.to_string(alloc)),
+        "Err(Ok(\"the byte at index 2 is not ASCII\"))",
+    );
+}
+
+#[test]
+fn json_error_1(rt: HostRuntime) {
+    let alloc = rt.alloc();
+    assert_debug(
+        &rt,
+        alloc,
+        &(
+            // Display for JsonError::fmt
+            JsonError::NotText.to_string(alloc).expect(&rt, "refused"),
+            JsonError::NotOneByte
+                .to_string(alloc)
+                .expect(&rt, "refused"),
+        ),
+        "(\"not a JSON string\", \"not a string of one character\")",
+    );
 }
 
 #[test]

@@ -191,14 +191,14 @@ fn ascii_char_7(rt: HostRuntime) {
     // DeserializeOwned for AsciiChar::deserialize_owned
     {
         let value = Value::from_str(alloc, "\"a\"").expect(&rt, "refused");
-        shows(
+        assert_debug(
             &rt,
             alloc,
             &serde_json::from_value::<AsciiChar>(alloc, value).ok(),
             "Some('a')",
         );
     }
-    shows(
+    assert_debug(
         &rt,
         alloc,
         &(

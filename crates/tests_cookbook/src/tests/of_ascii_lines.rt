@@ -2,6 +2,7 @@
 
 use super::assert_debug;
 use ascii_lines::{Input, LineReader, collect_lines};
+use std::convert::AsSlice;
 
 #[test]
 fn line_reader_1(rt: HostRuntime) {

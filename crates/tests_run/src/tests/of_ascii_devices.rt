@@ -1,7 +1,20 @@
 //! The examples in the documentation of `ascii_devices`, made by `bin/examples`.
 
 use super::assert_debug;
-use ascii_devices::{Input, Output, Sink, Source};
+use ascii_devices::{DeviceFault, Input, Output, Sink, Source};
+use std::convert::AsSlice;
+
+#[test]
+fn device_fault_1(rt: HostRuntime) {
+    let alloc = rt.alloc();
+    // Display for DeviceFault::fmt
+    assert_debug(
+        &rt,
+        alloc,
+        &DeviceFault.to_string(alloc).expect(&rt, "refused"),
+        "\"a device failed\"",
+    );
+}
 
 #[test]
 fn source_1(rt: HostRuntime) {

@@ -8,6 +8,7 @@ use ascii_run::{
 };
 use std::alloc::AllocError;
 use std::collections::HashSet;
+use std::convert::AsSlice;
 use std::fmt::Write;
 use testing::view;
 
@@ -331,12 +332,20 @@ fn engine_fault_1(rt: HostRuntime) {
         &rt,
         alloc,
         &(
+            // Display for EngineFault::fmt
+            EngineFault::NotAscii(2)
+                .to_string(alloc)
+                .expect(&rt, "refused"),
+            EngineFault::Position(0)
+                .to_string(alloc)
+                .expect(&rt, "refused"),
+            EngineFault::Memory.to_string(alloc).expect(&rt, "refused"),
             // From<AllocError> for EngineFault::from
             EngineFault::from(AllocError),
             // From<AsAsciiStrError> for EngineFault::from
             bytes::as_ascii_str(b"ab\xc4").map_err(EngineFault::from),
         ),
-        "(Memory, Err(NotAscii(2)))",
+        "(\"the byte at index 2 is not ASCII\", \"bad position in command 0\", \"no memory\", Memory, Err(NotAscii(2)))",
     );
 }
 
