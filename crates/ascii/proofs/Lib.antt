@@ -3,6 +3,7 @@ pub mod CutLemmas
 pub mod DebugLemmas
 pub mod EndsLemmas
 pub mod ExtendLemmas
+pub mod FoldLemmas
 pub mod JsonLemmas
 pub mod LinesLemmas
 pub mod ListLemmas

@@ -1,6 +1,7 @@
 -- A text that begins with, ends with or contains another, and what is left of it.
-use Rattle.std.specs.Prelude.{◌≡◌, ℕ, List, ◌∷◌, ◌++◌, MatchOption, Option}
+use Rattle.std.specs.Prelude.{◌≡◌, ℕ, List, ◌∷◌, ◌++◌, MatchOption, Option, map}
 use Rattle.std.specs.List.{Contains}
+use Rattle.ascii_base.specs.Case.{lower_image}
 use Rattle.memchr.specs.Find.{OccursAt}
 use Rattle.ascii.specs.declared.ascii_str.AsciiStr.{AsciiStr}
 use Rattle.ascii.specs.View.{text_of}
@@ -34,6 +35,22 @@ StripsPrefix prefix text result = MatchOption result (¬ (StartsWith prefix text
 abbrev pub StripsSuffix : List ℕ → List ℕ → Option AsciiStr → Type 0
 StripsSuffix suffix text result = MatchOption result (¬ (EndsWith suffix text))
     (λ rest. IsSuffix suffix text (text_of rest))
+
+-- `text` begins with `prefix` when the case of letters is ignored
+abbrev pub StartsFolded : List ℕ → List ℕ → Type 0
+StartsFolded prefix text = StartsWith (map lower_image prefix) (map lower_image text)
+
+-- `text` is `start` followed by `rest`, and `start` is `prefix` when the case of letters is ignored
+pub record IsFoldedPrefix (prefix text rest : List ℕ) : Type 0 where
+  pub start : List ℕ
+  pub joined : start ++ rest ≡ text
+  pub folded : map lower_image start ≡ map lower_image prefix
+
+-- `None` if `text` does not begin with `prefix` when the case of letters is ignored; otherwise a
+-- view of what follows it
+abbrev pub StripsFolded : List ℕ → List ℕ → Option AsciiStr → Type 0
+StripsFolded prefix text result = MatchOption result (¬ (StartsFolded prefix text))
+    (λ rest. IsFoldedPrefix prefix text (text_of rest))
 
 -- `text` is `before`, the code `on` and `after`, and `before` does not contain `on`
 pub record IsCutAt (on : ℕ) (text before after : List ℕ) : Type 0 where

@@ -18,6 +18,7 @@ mod collect;
 mod conversions;
 mod copies;
 mod errors;
+mod folded_search;
 mod from_ascii;
 pub mod iter;
 pub mod json;

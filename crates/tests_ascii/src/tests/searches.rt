@@ -88,3 +88,30 @@ fn a_character_is_found_and_cut_at(rt: HostRuntime) {
         assert_same(&rt, texts_in(view.rsplit_once(AsciiChar::Equal)), at_last);
     }
 }
+
+/// A text, a prefix, and what follows the prefix if the case of letters is ignored.
+static FOLDED: [(&str, &str, Option<&str>); 6] = [
+    ("Host: a", "hOST:", Some(" a")),
+    ("Host: a", "", Some("Host: a")),
+    ("Host", "hosts", None),
+    ("", "h", None),
+    ("[a", "{", None),
+    ("@a", "`", None),
+];
+
+#[test]
+fn prefixes_ignore_the_case_of_letters_alone(rt: HostRuntime) {
+    for &(source, prefix, want) in &FOLDED {
+        let (view, text) = (ascii(source), ascii(prefix));
+        same(
+            &rt,
+            text_in(view.strip_prefix_ignore_ascii_case(text)),
+            want,
+        );
+        same(
+            &rt,
+            view.starts_with_ignore_ascii_case(text),
+            want.is_some(),
+        );
+    }
+}

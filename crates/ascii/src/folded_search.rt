@@ -1,0 +1,39 @@
+//! Prefixes of views when the case of letters is ignored. No call of this module allocates.
+
+ghost use Rattle.std.specs.Prelude.{◌↔◌, IsTrue};
+ghost use Rattle.ascii.specs.Search.{StartsFolded, StripsFolded};
+ghost use Rattle.ascii.specs.View.{text_of};
+
+use crate::ascii_str::AsciiStr;
+use ascii_base::range::AsciiRange;
+
+impl<'a> AsciiStr<'a> {
+    /// Returns `true` if the view starts with `prefix` when the case of letters is ignored. Does not
+    /// allocate.
+    ///
+    ///     view("Host: a").starts_with_ignore_ascii_case(view("hOST")) // true
+    ///     view("Host: a").starts_with_ignore_ascii_case(view("a")) // false
+    #[tactic(auto, using(crate::proofs::FoldLemmas::folded_starts))]
+    pub fn starts_with_ignore_ascii_case(self, prefix: AsciiStr<'_>) -> bool
+        ensures { IsTrue result ↔ StartsFolded (text_of prefix.entry) (text_of self.entry) }
+    {
+        self.strip_prefix_ignore_ascii_case(prefix).is_some()
+    }
+
+    /// Returns the view without `prefix`, or `None` if the view does not start with it when the case
+    /// of letters is ignored. Does not allocate.
+    ///
+    ///     view("Host: a").strip_prefix_ignore_ascii_case(view("hOST:")) // Some(" a")
+    ///     view("Host: a").strip_prefix_ignore_ascii_case(view("a")) // None
+    #[tactic(auto, using(crate::proofs::FoldLemmas::folded_reads, crate::proofs::FoldLemmas::folded_fits, crate::proofs::FoldLemmas::folded_rest))]
+    pub fn strip_prefix_ignore_ascii_case(self, prefix: AsciiStr<'_>) -> Option<AsciiStr<'a>>
+        ensures { StripsFolded (text_of prefix.entry) (text_of self.entry) result }
+    {
+        let n = prefix.len();
+        if n <= self.len() && self.slice(AsciiRange::To(n)).eq_ignore_ascii_case(prefix) {
+            Some(self.slice(AsciiRange::From(n)))
+        } else {
+            None
+        }
+    }
+}
