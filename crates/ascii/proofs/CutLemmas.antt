@@ -1,6 +1,7 @@
 -- Texts that begin or end with another.
 use Rattle.std.proofs.Common.{◌≡◌, ℕ, ◌+◌, ◌-◌, List, ◌++◌, length, take, drop, sym, ap, subst}
-use Rattle.std.proofs.Common.{◌∙◌, ◌≤◌, Option, None, Some, arith, is_some, length-append, refl, true}
+use Rattle.std.proofs.Common.{◌∙◌, ◌≤◌, Option, None, Some, arith, is_some, length-append, refl}
+use Rattle.std.proofs.Common.{true}
 use Rattle.std.proofs.lemmas.Bool.{false≢true}
 use native.Mathlib.Numerals.{unary_clauses}
 use Rattle.std.specs.List.{slice_range}
