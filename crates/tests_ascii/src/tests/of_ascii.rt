@@ -129,13 +129,26 @@ fn ascii_str_4(rt: HostRuntime) {
 #[test]
 fn ascii_str_5(rt: HostRuntime) {
     let alloc = rt.alloc();
-    // AsciiStr::to_chars
     assert_debug(
         &rt,
         alloc,
-        &view("ab").to_chars(alloc).expect(&rt, "refused"),
-        "['a', 'b']",
+        &(
+            // AsciiStr::to_chars
+            view("ab").to_chars(alloc).expect(&rt, "refused"),
+            // AsciiStr::starts_with_ignore_ascii_case
+            view("Host: a").starts_with_ignore_ascii_case(view("hOST")),
+            view("Host: a").starts_with_ignore_ascii_case(view("a")),
+            // AsciiStr::strip_prefix_ignore_ascii_case
+            view("Host: a").strip_prefix_ignore_ascii_case(view("hOST:")),
+            view("Host: a").strip_prefix_ignore_ascii_case(view("a")),
+        ),
+        "(['a', 'b'], true, false, Some(\" a\"), None)",
     );
+}
+
+#[test]
+fn ascii_str_6(rt: HostRuntime) {
+    let alloc = rt.alloc();
     // IntoIterator for AsciiStr::into_iter
     {
         let mut digit = false;
@@ -153,7 +166,7 @@ fn ascii_str_5(rt: HostRuntime) {
 }
 
 #[test]
-fn ascii_str_6(rt: HostRuntime) {
+fn ascii_str_7(rt: HostRuntime) {
     let alloc = rt.alloc();
     // AsciiStr::lines
     {
@@ -189,7 +202,7 @@ fn ascii_str_6(rt: HostRuntime) {
 }
 
 #[test]
-fn ascii_str_7(rt: HostRuntime) {
+fn ascii_str_8(rt: HostRuntime) {
     let alloc = rt.alloc();
     // AsciiStr::split
     {
@@ -222,7 +235,7 @@ fn ascii_str_7(rt: HostRuntime) {
 }
 
 #[test]
-fn ascii_str_8(rt: HostRuntime) {
+fn ascii_str_9(rt: HostRuntime) {
     let alloc = rt.alloc();
     assert_debug(
         &rt,
@@ -249,7 +262,7 @@ fn ascii_str_8(rt: HostRuntime) {
 }
 
 #[test]
-fn ascii_str_9(rt: HostRuntime) {
+fn ascii_str_10(rt: HostRuntime) {
     let alloc = rt.alloc();
     assert_debug(
         &rt,
@@ -276,7 +289,7 @@ fn ascii_str_9(rt: HostRuntime) {
 }
 
 #[test]
-fn ascii_str_10(rt: HostRuntime) {
+fn ascii_str_11(rt: HostRuntime) {
     let alloc = rt.alloc();
     assert_debug(
         &rt,
@@ -301,7 +314,7 @@ fn ascii_str_10(rt: HostRuntime) {
 }
 
 #[test]
-fn ascii_str_11(rt: HostRuntime) {
+fn ascii_str_12(rt: HostRuntime) {
     let alloc = rt.alloc();
     assert_debug(
         &rt,

@@ -103,12 +103,12 @@ static FOLDED: [(&str, &str, Option<&str>); 6] = [
 fn prefixes_ignore_the_case_of_letters_alone(rt: HostRuntime) {
     for &(source, prefix, want) in &FOLDED {
         let (view, text) = (ascii(source), ascii(prefix));
-        same(
+        assert_same(
             &rt,
             text_in(view.strip_prefix_ignore_ascii_case(text)),
             want,
         );
-        same(
+        assert_same(
             &rt,
             view.starts_with_ignore_ascii_case(text),
             want.is_some(),
