@@ -1,10 +1,11 @@
-//! Asks `soak` questions at random and compares each answer with the Rust crate `ascii` 1.1.0; where that crate
-//! has no such call (starts and rests), with plain loops over the pieces and lines.
+//! Asks the program of crates/soak questions at random and compares each answer with the upstream crate `ascii` 1.1.0,
+//! or, for calls that it does not have (starts, remainders), with plain loops over the pieces and lines.
 //!
-//!     soak ASK SECONDS SEED
+//!     soak PROGRAM SECONDS SEED
 //!
-//! ASK is the program that answers. The seed decides the questions. The last lines say how many questions of each
-//! kind were asked and how many answers differed; the status is 1 where some did, and 2 for words that are no call.
+//! The seed decides the questions. The last lines are the number of questions of each kind and the number of answers
+//! that differ. The status is 1 if an answer differs or is missing, if the program hangs, writes too much or ends with a
+//! failure, or if the driver panics; it is 2 for bad arguments.
 
 mod expected;
 mod random;
@@ -13,11 +14,14 @@ use expected::{Asked, KINDS};
 use random::Random;
 use std::io::{BufRead, BufReader, BufWriter, Write};
 use std::process::{Command, ExitCode, Stdio};
-use std::sync::mpsc::{channel, Receiver, Sender};
+use std::sync::mpsc::{channel, Receiver, RecvTimeoutError, Sender};
 use std::time::{Duration, Instant};
 
 /// Questions that go out together.
 const BATCH: usize = 1_000;
+
+/// How long an answer may take.
+const LIMIT: Duration = Duration::from_secs(20);
 
 /// Differences that are printed whole.
 const SHOWN: u64 = 20;
@@ -52,36 +56,67 @@ fn ask(
     questions.flush()
 }
 
-/// Reads an answer for each question.
-fn compare(told: Receiver<Vec<Asked>>, answers: impl BufRead) -> Counts {
+/// Compares an answer for each question. Stops if one takes longer than `LIMIT`.
+fn compare(told: Receiver<Vec<Asked>>, answers: &Receiver<String>) -> Counts {
     let mut counts = Counts { asked: [0; KINDS.len()], differ: 0 };
-    let mut answers = answers.lines();
     for asked in told.into_iter().flatten() {
-        let answer = answers.next().and_then(Result::ok).unwrap_or("(no answer)".into());
+        let (answer, hangs) = match answers.recv_timeout(LIMIT) {
+            Ok(answer) => (answer, false),
+            Err(RecvTimeoutError::Disconnected) => ("(no answer)".into(), false),
+            Err(RecvTimeoutError::Timeout) => ("(no answer in time)".into(), true),
+        };
         counts.asked[asked.kind] += 1;
         if answer != asked.wanted {
             counts.differ += 1;
             if counts.differ <= SHOWN {
                 let question = String::from_utf8_lossy(&asked.question);
-                println!("{question}\n  answer: {answer}\n  wanted: {}", asked.wanted);
+                println!("{question}\n  answer: {answer}\n  expected: {}", asked.wanted);
             }
         }
+        if hangs {
+            return counts;
+        }
+    }
+    if let Ok(line) = answers.recv_timeout(LIMIT) {
+        counts.fail(&format!("the program wrote more than its answers: {line}"));
     }
     counts
+}
+
+impl Counts {
+    /// Counts a failure that is not of one question.
+    fn fail(&mut self, line: &str) {
+        println!("{line}");
+        self.differ += 1;
+    }
 }
 
 fn soak(program: &str, seconds: u64, seed: u64) -> std::io::Result<Counts> {
     let mut child = Command::new(program).stdin(Stdio::piped()).stdout(Stdio::piped()).spawn()?;
     let questions = BufWriter::new(child.stdin.take().unwrap());
-    let answers = BufReader::new(child.stdout.take().unwrap());
+    let lines = BufReader::new(child.stdout.take().unwrap()).lines();
     let (tell, told) = channel();
+    let (give, answers) = channel();
     let time = Duration::from_secs(seconds);
     let asking = std::thread::spawn(move || ask(seed, time, tell, questions));
-    let counts = compare(told, answers);
-    asking.join().unwrap()?;
+    std::thread::spawn(move || lines.map_while(Result::ok).try_for_each(|line| give.send(line)));
+    let mut counts = compare(told, &answers);
+    // A program that hangs would not read the remaining questions.
+    if counts.differ > 0 {
+        let _ = child.kill();
+    }
+    match asking.join() {
+        Ok(Ok(())) => {}
+        Ok(Err(error)) => counts.fail(&format!("the questions could not be written: {error}")),
+        Err(panic) => {
+            let text = panic.downcast_ref::<String>().map(String::as_str);
+            let text = text.or_else(|| panic.downcast_ref::<&str>().copied()).unwrap_or("");
+            counts.fail(&format!("the driver panicked: {text}"));
+        }
+    }
     let status = child.wait()?;
-    if !status.success() {
-        println!("{program} ended with {status}");
+    if !status.success() && counts.differ == 0 {
+        counts.fail(&format!("{program} ended with {status}"));
     }
     Ok(counts)
 }
