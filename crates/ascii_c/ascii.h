@@ -4,7 +4,7 @@
  * Conditions: a pointer is not null, even if the length is 0; that many bytes can be read at it, and nothing
  * changes them during the call; what a call writes to overlaps nothing else that it is given. Positions are
  * counted from 0. Whitespace is space, tab, line feed, vertical tab, form feed and carriage return. Link
- * libascii_c.a and the kit's liblibc_c.a.
+ * libascii_c.a; nothing else is needed.
  */
 #ifndef ASCII_H
 #define ASCII_H

@@ -1,4 +1,10 @@
-//! Views over bytes that are all under 128.
+//! Views of text that is known to be ASCII: reading, slicing, trimming and comparing them.
+//!
+//! The other methods of `AsciiStr` are in the modules of their subject: `chars` in `iter::chars`,
+//! `split` and `split_spans` in `iter::split`, `lines` and `line_spans` in `iter::lines`, the walks in
+//! `iter::walks`; `find`, `position` and `strip_prefix` in `search`, prefixes without case in
+//! `folded_search`, `split_once` in `splits`; copies in `copies`; JSON values in `json`. A view is made
+//! by `bytes` and `text`.
 
 ghost use Rattle.std.specs.Prelude.{◌≡◌, ◌-◌, ◌<◌, ◌↔◌, [], IsOkAnd, IsTrue, OnErr, Some, codes};
 ghost use Rattle.std.specs.Prelude.{length, map, slice_get, slice_index};

@@ -1,4 +1,9 @@
-//! Owned ASCII text.
+//! Owned text that can hold nothing but ASCII: making a string, reading it, and its edits.
+//!
+//! The other methods of `AsciiString` are in the modules of their subject: `extend_chars`,
+//! `collect_chars` and `collect_strs` in `collect`, `from_char`, `from_chars` and other copies in
+//! `copies`, conversions to boxed and shared text in `boxed`, JSON values in `json`. A string is made
+//! of a `Vec<u8>` or a `String` by `vec` and `string`.
 
 ghost use Rattle.std.specs.Prelude.{◌≡◌, ◌+◌, ◌-◌, ◌<◌, ◌≤◌, ◌↔◌, ◌++◌, ◌∷◌, [], IfOk, IsOk};
 ghost use Rattle.std.specs.Prelude.{IsTrue, OnErr, OnOk, insert, length, map, remove, slice_get};

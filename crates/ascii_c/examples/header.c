@@ -1,5 +1,5 @@
 /* Prints the name of a header trimmed and in lower case, and where a part of a text is refused.
- * cc -Wall -I .. header.c ../out/libascii_c.a KIT/c/liblibc_c.a */
+ * cc -Wall -I .. header.c ../out/libascii_c.a */
 #include <stdio.h>
 #include "ascii.h"
 
