@@ -1,3 +1,9 @@
 pub mod CollectedLines
 pub mod LineBuffer
 pub mod LineReader
+pub use Rattle.ascii.specs.Lines
+pub use Rattle.ascii.specs.Spans
+pub use Rattle.ascii.specs.StringState
+pub use Rattle.ascii.specs.View
+pub use Rattle.ascii_devices.specs.Devices
+pub use Rattle.ascii_devices.specs.Wrapped

@@ -12,3 +12,8 @@ pub use Rattle.ascii.specs.Walks
 pub use Rattle.ascii.specs.Lines
 pub use Rattle.ascii_devices.specs.Devices
 pub use Rattle.ascii_devices.specs.Wrapped
+pub use Rattle.ascii.specs.Case
+pub use Rattle.ascii.specs.Code
+pub use Rattle.ascii.specs.Range
+pub use Rattle.ascii.specs.StringState
+pub use Rattle.ascii.specs.View

@@ -13,6 +13,8 @@ mod modes;
 mod output_buffer;
 mod text_engine;
 
+pub use ascii::iter::End;
+pub use ascii::{AsAsciiStrError, AsciiChar, AsciiRange, AsciiStr, AsciiString};
 pub use ascii_devices::{DeviceFault, Input, Output, Sink, Source};
 pub use both_types::{BothRuns, run_both};
 pub use buf::{AsciiBuf, SmallAsciiString};

@@ -1,10 +1,10 @@
 //! The examples in the documentation of `ascii_run`, made by `bin/examples`.
 
 use super::assert_debug;
-use ascii::{AsciiChar, bytes};
+use ascii::bytes;
 use ascii_run::{
-    AsciiBuf, Cmd, EngineFault, Input, Mode, Output, SmallAsciiString, engine, plain_run, run,
-    run_both, runs_agree,
+    AsciiBuf, AsciiChar, Cmd, EngineFault, Input, Mode, Output, SmallAsciiString, engine,
+    plain_run, run, run_both, runs_agree,
 };
 use std::alloc::AllocError;
 use std::collections::HashSet;
