@@ -12,7 +12,7 @@ use Rattle.ascii.specs.Spans.{LineSpansOf, WithStart}
 use Rattle.ascii.specs.Trim.{Trims}
 use Rattle.ascii.specs.View.{text_of}
 use Rattle.cookbook.specs.Cases.{EqIgnoringCase}
-use Rattle.cookbook.specs.Cuts.{IsCutAt}
+use Rattle.ascii.specs.Search.{IsCutAt}
 use Rattle.cookbook.specs.declared.headers.HeaderBlockError.{HeaderBlockError}
 use Rattle.cookbook.specs.declared.headers.HeaderBlockError.TheVariants.{InLine, Memory}
 use Rattle.cookbook.specs.declared.headers.Header.{Header}

@@ -1,5 +1,5 @@
 pub mod Cases
-pub mod Cuts
+pub mod ClassSearch
 pub mod Headers
 pub mod Hosts
 pub mod Identifiers

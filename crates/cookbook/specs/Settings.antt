@@ -6,7 +6,7 @@ use Rattle.std.specs.declared.result.Result.{Result}
 use Rattle.ascii.specs.Class.{IsWhitespace}
 use Rattle.ascii.specs.Trim.{Trims, TrimsStart}
 use Rattle.ascii.specs.View.{text_of}
-use Rattle.cookbook.specs.Cuts.{IsCutAt}
+use Rattle.ascii.specs.Search.{IsCutAt}
 use Rattle.cookbook.specs.declared.settings.Setting.{Setting}
 use Rattle.cookbook.specs.declared.settings.SettingError.{SettingError}
 use Rattle.cookbook.specs.declared.settings.SettingError.TheVariants.{NoEquals, NoKey}

@@ -7,7 +7,7 @@ ghost use Rattle.std.specs.Prelude.{◌≡◌};
 ghost use Rattle.ascii.specs.View.{text_of};
 ghost use Rattle.cookbook.specs.Headers.{FindsHeader, ReadsHeader, ReadsHeaders};
 
-use crate::cuts::{first_outside, split_once};
+use crate::class_search::first_outside;
 use ascii::classes::Token;
 use ascii::{AsciiChar, AsciiStr};
 use std::alloc::{AllocFailed, Global};
@@ -85,7 +85,7 @@ pub fn read_headers<'a>(
 pub fn read_header<'a>(line: AsciiStr<'a>) -> Result<Header<'a>, HeaderError>
     ensures { ReadsHeader (text_of line.entry) result }
 {
-    let Some((name, behind)) = split_once(line, AsciiChar::Colon) else {
+    let Some((name, behind)) = line.split_once(AsciiChar::Colon) else {
         return Err(HeaderError::NoColon);
     };
     if name.is_empty() {

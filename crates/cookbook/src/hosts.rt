@@ -8,7 +8,7 @@ ghost use Rattle.cookbook.specs.Cases.{EqIgnoringCase, lower_text, order_ignorin
 ghost use Rattle.cookbook.specs.Hosts.{OnlyFailsOnAlloc, IsHost, IsHostError, IsLabel};
 ghost use Rattle.cookbook.specs.Hosts.{IsLabelError, host_text};
 
-use crate::cuts::first_outside;
+use crate::class_search::first_outside;
 use ascii::classes::Label;
 use ascii::iter::SplitSpan;
 use ascii::{AsciiChar, AsciiStr};

@@ -2,10 +2,10 @@
 
 ghost use Rattle.std.specs.Prelude.{◌≡◌};
 ghost use Rattle.ascii.specs.View.{text_of};
-ghost use Rattle.cookbook.specs.Cuts.{FindsOther};
+ghost use Rattle.cookbook.specs.ClassSearch.{FindsOther};
 ghost use Rattle.cookbook.specs.Identifiers.{IsIdentifierCode};
 
-use crate::cuts::first_outside;
+use crate::class_search::first_outside;
 use ascii::AsciiStr;
 use ascii::classes::{Alphanumeric, Class, ClassBy};
 

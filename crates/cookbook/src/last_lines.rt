@@ -6,9 +6,8 @@ ghost use Rattle.ascii.specs.Spans.{WithStart};
 ghost use Rattle.ascii.specs.View.{text_of};
 ghost use Rattle.cookbook.specs.LastLines.{HasLastLine, HasLastLines, HasLinesBefore};
 
-use ascii::AsciiStr;
 use ascii::iter::{Ending, Lines};
-use ascii::AsciiRange;
+use ascii::{AsciiRange, AsciiStr};
 
 /// The end of a view that has its last `n` lines, with their endings: the whole view where it has fewer, and
 /// nothing where `n` is 0. Of `a\nb\r\nc` the last 2 lines are `b\r\nc`.

@@ -3,7 +3,7 @@
 //! characters, pieces and lines; edits of a part of a source, and texts as JSON values.
 #![tactic(auto)]
 
-pub mod cuts;
+pub mod class_search;
 pub mod headers;
 pub mod hosts;
 pub mod identifiers;

@@ -6,8 +6,7 @@ ghost use Rattle.ascii.specs.View.{text_of};
 ghost use Rattle.cookbook.specs.Screen.{IsPlain, cell_text, column_after, char_on_screen};
 ghost use Rattle.cookbook.specs.Screen.{screen_text};
 
-use ascii::{AsciiChar, AsciiStr, AsciiString, caret_encode, text};
-use ascii::AsciiRange;
+use ascii::{AsciiChar, AsciiRange, AsciiStr, AsciiString, caret_encode, text};
 use std::alloc::{AllocError, Global};
 
 /// A text as a screen shows it.

@@ -3,7 +3,6 @@
 ghost use Rattle.ascii.specs.View.{text_of};
 ghost use Rattle.cookbook.specs.Settings.{IsWithoutComment, ReadsSetting};
 
-use crate::cuts::split_once;
 use ascii::{AsciiChar, AsciiStr};
 
 /// A setting. White space around its key and its value is cut.
@@ -34,7 +33,7 @@ pub fn read_setting<'a>(line: AsciiStr<'a>) -> Result<Option<Setting<'a>>, Setti
     if words.is_empty() {
         return Ok(None);
     }
-    let Some((before, behind)) = split_once(body, AsciiChar::Equal) else {
+    let Some((before, behind)) = body.split_once(AsciiChar::Equal) else {
         return Err(SettingError::NoEquals(body.len() - words.len()));
     };
     let key = before.trim();
@@ -49,7 +48,7 @@ pub fn read_setting<'a>(line: AsciiStr<'a>) -> Result<Option<Setting<'a>>, Setti
 fn without_comment<'a>(line: AsciiStr<'a>) -> AsciiStr<'a>
     ensures { IsWithoutComment (text_of line.entry) (text_of result) }
 {
-    match split_once(line, AsciiChar::Hash) {
+    match line.split_once(AsciiChar::Hash) {
         Some((body, _comment)) => body,
         None => line,
     }

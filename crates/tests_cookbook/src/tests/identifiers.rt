@@ -1,6 +1,6 @@
 use super::assert_same;
 use ascii::classes::Digit;
-use cookbook::cuts::first_outside;
+use cookbook::class_search::first_outside;
 use cookbook::identifiers::identifier_end;
 use testing::ascii;
 

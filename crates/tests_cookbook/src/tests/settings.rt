@@ -1,8 +1,6 @@
 //! Lines of a file of settings.
 
 use super::assert_same;
-use ascii::AsciiChar;
-use cookbook::cuts::{rsplit_once, split_once};
 use cookbook::settings::{Setting, SettingError, read_setting};
 use testing::ascii;
 
@@ -53,18 +51,4 @@ fn refusals(rt: HostRuntime) {
     for &(line, error) in &BAD {
         assert_same(&rt, read_setting(ascii(line)), Err(error));
     }
-}
-
-#[test]
-fn cuts(rt: HostRuntime) {
-    let sides = split_once(ascii("a=b=c"), AsciiChar::Equal);
-    assert_same(&rt, sides, Some((ascii("a"), ascii("b=c"))));
-    assert_same(&rt, split_once(ascii("abc"), AsciiChar::Equal), None);
-    let sides = split_once(ascii("="), AsciiChar::Equal);
-    assert_same(&rt, sides, Some((ascii(""), ascii(""))));
-    let sides = rsplit_once(ascii("a=b=c"), AsciiChar::Equal);
-    assert_same(&rt, sides, Some((ascii("a=b"), ascii("c"))));
-    assert_same(&rt, rsplit_once(ascii("abc"), AsciiChar::Equal), None);
-    let sides = rsplit_once(ascii("="), AsciiChar::Equal);
-    assert_same(&rt, sides, Some((ascii(""), ascii(""))));
 }
