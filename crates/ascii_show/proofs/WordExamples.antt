@@ -12,9 +12,15 @@ use Rattle.ascii_run.specs.declared.commands.Cmd.{Cmd}
 use Rattle.ascii_run.specs.declared.commands.Cmd.TheVariants.{PushStr, InsertStr, Remove, Truncate}
 use Rattle.ascii_run.specs.declared.commands.Cmd.TheVariants.{Pop, Upper, Lower}
 use Rattle.ascii_show.specs.Call.{HasScript, IsCall}
+use Rattle.ascii_show.specs.Modes.{usage_line}
 use Rattle.ascii_show.specs.Words.{AreDigitsOf, AreEndsOf, IsFirstBadWord, IsNotScript, IsWord}
 use Rattle.ascii_show.specs.Words.{IsWordOf, letter_of}
 use Rattle.ascii_show.proofs.ScriptLemmas.{no_script}
+
+-- the usage line
+usage : usage_line
+    ≡ codes "usage: ascii_show copy|lines|tac|caret|ends [-s] SCRIPT|edit WORD..|json"
+usage = refl
 
 -- calls
 copy_call : IsCall (codes "copy" ∷ [])

@@ -5,6 +5,11 @@ use Rattle.std.specs.List.{AllZip}
 use Rattle.ascii_run.specs.declared.faults.EngineFault.TheVariants.{Memory}
 use Rattle.ascii_show.specs.Requested.{Requested, copy, lines, tac, caret, ends, ends_spans, edit}
 use Rattle.ascii_show.specs.Requested.{json}
+use Rattle.ascii_show.specs.Modes.{copy_name, lines_name, tac_name, caret_name, ends_name}
+use Rattle.ascii_show.specs.Modes.{edit_name, json_name}
+use Rattle.ascii_show.specs.Requested.{requested_mode}
+use Rattle.ascii_show.specs.declared.modes.Takes.{Takes}
+use Rattle.ascii_show.specs.declared.modes.Takes.TheVariants.{Nothing, Script, Commands}
 use Rattle.ascii_show.specs.declared.failure.Failure.{Failure}
 use Rattle.ascii_show.specs.declared.failure.Failure.TheVariants.{Usage, BadWord, Engine}
 use Rattle.ascii_show.specs.Words.{AreEndsOf, IsFirstBadWord, IsNotScript, IsWordOf}
@@ -20,8 +25,8 @@ words_of args = map bytes_of args
 -- the word is the name of a mode that takes no further word
 abbrev pub TakesNoArgument : List ℕ → Type 0
 TakesNoArgument mode =
-    (mode ≡ codes "copy") ⊎ ((mode ≡ codes "lines") ⊎ ((mode ≡ codes "tac")
-    ⊎ ((mode ≡ codes "caret") ⊎ (mode ≡ codes "json"))))
+    (mode ≡ copy_name) ⊎ ((mode ≡ lines_name) ⊎ ((mode ≡ tac_name)
+    ⊎ ((mode ≡ caret_name) ⊎ (mode ≡ json_name))))
 
 -- the words `others` after `ends` have the script `script` as the word with the number `n`: as the
 -- only word, which is not `-s`, or as the second word, after `-s`
@@ -36,37 +41,37 @@ abbrev pub IsCall : List (List ℕ) → Type 0
 IsCall [] = ⊥
 IsCall (mode ∷ others) =
     (TakesNoArgument mode × (others ≡ []))
-    ⊎ (((mode ≡ codes "ends") × ((script : List ℕ) × (n : ℕ) × HasScript others script n))
-    ⊎ (mode ≡ codes "edit"))
+    ⊎ (((mode ≡ ends_name) × ((script : List ℕ) × (n : ℕ) × HasScript others script n))
+    ⊎ (mode ≡ edit_name))
 
 -- `n`, counted from 1 after the mode, is the number of the first word that the mode does not
 -- accept: the script of `ends`, or the first word of `edit` that is not a command
 abbrev pub HasBadWord : List (List ℕ) → ℕ → Type 0
 HasBadWord words n =
-    ((others : List (List ℕ)) × (script : List ℕ) × (words ≡ codes "ends" ∷ others)
+    ((others : List (List ℕ)) × (script : List ℕ) × (words ≡ ends_name ∷ others)
     × HasScript others script n × IsNotScript script)
-    ⊎ ((edits : List (List ℕ)) × (words ≡ codes "edit" ∷ edits) × IsFirstBadWord edits n)
+    ⊎ ((edits : List (List ℕ)) × (words ≡ edit_name ∷ edits) × IsFirstBadWord edits n)
 
 -- the name of the mode that is asked for
 abbrev pub name_of : Requested → List ℕ
-name_of copy = codes "copy"
-name_of lines = codes "lines"
-name_of tac = codes "tac"
-name_of caret = codes "caret"
-name_of (ends script) = codes "ends"
-name_of (ends_spans script) = codes "ends"
-name_of (edit cmds) = codes "edit"
-name_of json = codes "json"
+name_of copy = copy_name
+name_of lines = lines_name
+name_of tac = tac_name
+name_of caret = caret_name
+name_of (ends script) = ends_name
+name_of (ends_spans script) = ends_name
+name_of (edit cmds) = edit_name
+name_of json = json_name
 
 -- the words ask for the mode, with the ends or the commands that it takes
 abbrev pub Requests : List (List ℕ) → Requested → Type 0
 Requests words (ends script) =
-    (letters : List ℕ) × (words ≡ codes "ends" ∷ (letters ∷ [])) × AreEndsOf letters script
+    (letters : List ℕ) × (words ≡ ends_name ∷ (letters ∷ [])) × AreEndsOf letters script
 Requests words (ends_spans script) =
-    (letters : List ℕ) × (words ≡ codes "ends" ∷ (codes "-s" ∷ (letters ∷ [])))
+    (letters : List ℕ) × (words ≡ ends_name ∷ (codes "-s" ∷ (letters ∷ [])))
     × AreEndsOf letters script
 Requests words (edit cmds) =
-    (edits : List (List ℕ)) × (words ≡ codes "edit" ∷ edits) × AllZip IsWordOf edits cmds
+    (edits : List (List ℕ)) × (words ≡ edit_name ∷ edits) × AllZip IsWordOf edits cmds
 Requests words asked = words ≡ name_of asked ∷ []
 
 -- why the words give no request. `Usage`: they are not a call. `BadWord`: it holds the number of
@@ -93,3 +98,14 @@ abbrev pub IsEditsFault : List (List ℕ) → Failure → Type 0
 IsEditsFault edits (BadWord n) = IsFirstBadWord edits n
 IsEditsFault edits (Engine Memory) = ⊤
 IsEditsFault edits other = ⊥
+
+-- the word is the name of a mode
+abbrev pub IsModeName : List ℕ → Type 0
+IsModeName name = TakesNoArgument name ⊎ ((name ≡ ends_name) ⊎ (name ≡ edit_name))
+
+-- `name` is the name of a mode that takes these arguments
+abbrev pub NamesMode : List ℕ → Takes → Type 0
+NamesMode name (Nothing mode) =
+    TakesNoArgument name × Requests (name ∷ []) (requested_mode mode)
+NamesMode name Script = name ≡ ends_name
+NamesMode name Commands = name ≡ edit_name

@@ -1,5 +1,6 @@
 pub mod Answer
 pub mod Call
+pub mod Modes
 pub mod Requested
 pub mod Status
 pub mod Words

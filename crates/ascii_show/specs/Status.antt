@@ -2,6 +2,7 @@
 use Rattle.std.specs.Prelude.{ℕ, List, ◌+◌, ◌++◌, codes, decimal, min, ◌^◌, ◌-◌}
 use Rattle.ascii_run.specs.declared.faults.EngineFault.TheVariants.{NotAscii, Position, Memory}
 use Rattle.ascii_run.specs.declared.faults.EngineFault.TheVariants.{Read, Write}
+use Rattle.ascii_show.specs.Modes.{usage_line}
 use Rattle.ascii_show.specs.declared.failure.Failure.{Failure}
 use Rattle.ascii_show.specs.declared.failure.Failure.TheVariants.{Usage, BadWord, Engine}
 
@@ -18,7 +19,7 @@ status_of (Engine Write) = 3
 
 -- the line that says why the program failed; words are counted from 1, and bytes from 0
 abbrev pub line_of : Failure → List ℕ
-line_of Usage = codes "usage: ascii_show copy|lines|tac|caret|ends [-s] SCRIPT|edit WORD..|json"
+line_of Usage = usage_line
 line_of (BadWord n) = codes "bad word " ++ decimal n
 line_of (Engine (Position k)) = codes "bad position in word " ++ decimal (min (k + 1) (2 ^ 64 - 1))
 line_of (Engine (NotAscii n)) = codes "the byte at index " ++ (decimal n ++ codes " is not ASCII")

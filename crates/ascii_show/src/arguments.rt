@@ -6,11 +6,13 @@ ghost use Rattle.std.specs.List.{AllZip};
 ghost use Rattle.ascii.specs.View.{text_of};
 ghost use Rattle.ascii_show.specs.Requested.{requested_by, requested_mode};
 ghost use Rattle.ascii_show.specs.Call.{Requests, IsEditsFault, IsScriptFault, IsWordsFault};
-ghost use Rattle.ascii_show.specs.Call.{TakesNoArgument, words_of};
+ghost use Rattle.ascii_show.specs.Call.{words_of};
+ghost use Rattle.ascii_show.specs.Modes.{ends_name};
 ghost use Rattle.ascii_show.specs.Words.{AreDigitsOf, AreEndsOf, IsInsertion, IsNotEndLetter};
 ghost use Rattle.ascii_show.specs.Words.{IsWord, IsWordOf, letter_of};
 
 use crate::failure::Failure;
+use crate::modes::{Takes, find_mode};
 use ascii::iter::End;
 use ascii::{AsciiRange, AsciiStr, text};
 use ascii_run::{Cmd, Mode};
@@ -50,40 +52,22 @@ pub fn parse_args<'a, A: Allocator>(alloc: A, args: &[&'a str]) -> Result<Reques
     let Some((mode, others)) = args.split_first() else {
         return Err(Failure::Usage);
     };
-    match *mode {
-        "ends" => parse_ends(alloc, others),
-        "edit" => {
+    match find_mode(*mode) {
+        Some(Takes::Nothing(mode)) if others.is_empty() => Ok(Request::Plain(mode)),
+        Some(Takes::Script) => parse_ends(alloc, others),
+        Some(Takes::Commands) => {
             let cmds = parse_commands(alloc, others)?;
             Ok(Request::Edit(cmds))
         }
-        name if others.is_empty() => match plain_mode(name) {
-            Some(mode) => Ok(Request::Plain(mode)),
-            None => Err(Failure::Usage),
-        },
         _ => Err(Failure::Usage),
-    }
-}
-
-/// The mode with a name, if it takes no further argument.
-fn plain_mode(name: &str) -> Option<Mode<'static>>
-    ensures { MatchOption result (¬ (TakesNoArgument name.now))
-        (λ mode. Requests (name.now ∷ []) (requested_mode mode)) }
-{
-    match name {
-        "copy" => Some(Mode::Copy),
-        "lines" => Some(Mode::Lines),
-        "tac" => Some(Mode::Tac),
-        "caret" => Some(Mode::Caret),
-        "json" => Some(Mode::Json),
-        _ => None,
     }
 }
 
 /// Parses the arguments after `ends`: a script only, or `-s` and a script.
 fn parse_ends<'a, A: Allocator>(alloc: A, others: &[&'a str]) -> Result<Request<'a, A>, Failure>
     ensures { MatchResult result
-        (λ request. Requests (codes "ends" ∷ words_of others.now) (requested_by request))
-        (IsWordsFault (codes "ends" ∷ words_of others.now)) }
+        (λ request. Requests (ends_name ∷ words_of others.now) (requested_by request))
+        (IsWordsFault (ends_name ∷ words_of others.now)) }
 {
     match others {
         [script] => {

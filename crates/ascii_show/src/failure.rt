@@ -3,6 +3,7 @@
 ghost use Rattle.std.specs.Prelude.{◌≡◌, Some};
 ghost use Rattle.ascii_show.specs.Status.{status_of};
 
+use crate::modes::usage;
 use ascii_run::EngineFault;
 use std::alloc::{AllocError, AllocFailed};
 use std::fmt;
@@ -38,9 +39,7 @@ impl fmt::Display for Failure {
 
     fn fmt<W: fmt::Write>(&self, f: &mut fmt::Formatter<W>) -> fmt::Result {
         match *self {
-            Failure::Usage => f.write_str(
-                "usage: ascii_show copy|lines|tac|caret|ends [-s] SCRIPT|edit WORD..|json",
-            ),
+            Failure::Usage => f.write_str(usage()),
             Failure::BadWord(number) => write!(f, "bad word {number}"),
             Failure::Engine(EngineFault::Position(place)) => {
                 let number = place.saturating_add(1);

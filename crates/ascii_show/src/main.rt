@@ -8,6 +8,7 @@ ghost use Rattle.ascii_show.specs.Status.{status_of};
 
 mod arguments;
 mod failure;
+mod modes;
 mod os_args;
 
 use arguments::parse_args;
