@@ -13,8 +13,7 @@ ghost use Rattle.ascii.specs.Trim.{TrimsEnd, TrimsStart};
 ghost use Rattle.ascii_c.specs.Part.{IsWithin, IsRejectedAt};
 ghost use Rattle.ascii_c.specs.Places.{IsFirstNotOrEnd, IsLastNotOrEnd};
 
-use ascii::{AsciiRange, bytes};
-use ascii::kernels;
+use ascii::{AsciiRange, bytes, kernels};
 
 /// Returns the position of the first byte over 127, or `length` if every byte is less than 128. For
 /// `ab\xc4` it is 2.

@@ -7,8 +7,7 @@ ghost use Rattle.tests_callers.specs.UpperPart.{upper_part};
 ghost use Rattle.ascii.specs.WritingView.{before_of, mut_text_of, after_of, whole_source_of};
 ghost use Rattle.ascii.specs.WritingView.{borrow_of};
 
-use ascii::{AsAsciiStrError, AsciiStrMut, bytes};
-use ascii::AsciiRange;
+use ascii::{AsAsciiStrError, AsciiRange, AsciiStrMut, bytes};
 
 /// Changes the letters of a part of a source to upper case, where the part is ASCII text. A refused
 /// source is unchanged.
