@@ -29,8 +29,8 @@ Collects {A = A} steps piece iter text =
 
 -- ---- cited by private functions only
 
--- `codes` begins with the codes of `count` items that the iterator yielded, from its state `old` on.
--- If `codes` has room for more, the iterator has no further item.
+-- `codes` begins with the codes of `count` items that the iterator yielded, from its state `old`
+-- on. If `codes` has room for more, the iterator has no further item.
 pub record Fills {S A : Type 0} (steps : S → Option A → S → Type 0) (code : A → ℕ)
     (old new : S) (codes : List ℕ) (count : ℕ) : Type 0 where
   pub items : List A

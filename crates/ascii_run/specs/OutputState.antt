@@ -13,7 +13,7 @@ use Rattle.ascii_run.specs.Modes.{IsOutput}
 
 -- ---- cited by private functions only
 
--- the bytes that an output buffer holds for the writer, how many fit, and whether a write has failed
+-- the bytes that an output buffer holds for the writer, how many fit, and whether a write failed
 pub record BufferState : Type 0 where
   pub bytes : List ℕ
   pub size : ℕ
