@@ -28,7 +28,7 @@ same_on_bytes f g all (x ∷ xs) fits =
     (eqb-true _ _ (agree_below_at (λ y. eqb (f y) (g y)) (λ _. true) 256 x all fits.0.fits))
     (same_on_bytes f g all xs fits.1)
 
--- a map of the chunk at i, behind bytes that are mapped
+-- a map of the chunk at i, after bytes that are mapped
 pub map_chunk_more : (f : ℕ → ℕ) (xs ys : List ℕ) (i n : ℕ) → i + n ≤ length xs
     → ys ≡ map f (take i xs) ++ drop i xs
     → put_chunk i ys (map f (chunk i n ys)) ≡ map f (take (i + n) xs) ++ drop (i + n) xs
@@ -88,7 +88,7 @@ mapped_whole f xs ys last n at ends past inside e =
     (ap₂ (λ a b. a ++ b) (ap (map f) all) none ∙ append-nil (map f (drop last xs)))
     ∙ sym (map-append f (take last xs) (drop last xs)) ∙ ap (map f) (take-append-drop last xs)
 
--- the bits that count of a byte in which another differs from it: all, but for the bit of the case
+-- the bits that count of a byte in which another differs from it: all except the bit of the case
 -- of a letter
 abbrev pub counted : ℕ → ℕ
 counted a = cond (top 7 (cond (ltb ((bit_or a 32 + (256 - 97)) % 256) 26) 255 0)) 223 255

@@ -23,7 +23,7 @@ read_pair n = search rules
 no_read : (n : ℕ) → ¬ (IsCaretPair n 96)
 no_read n = search rules
 
--- -1 and 128 are no codes, 127 is one
+-- -1 and 128 are not codes, 127 is one
 below : IsNotAscii (negsuc 0)
 below = search rules
 

@@ -105,7 +105,7 @@ module _ (Is : ℕ → Type 0) (bytes : List ℕ) (at n mask : ℕ) (marks : Mar
             (marks.clear (k - at) (clear (k - at) (omega arith)) (omega arith))
       ]
 
-  -- the same from the back, over the lanes behind the last mark
+  -- the last byte with a mark, over the lanes after the last mark
   pub from_more : (m : ℕ) → ((k : ℕ) → m ≤ k → bit_at mask k ≡ 0) → AllFrom Is bytes (at + n)
       → AllFrom Is bytes (at + m)
   from_more m clear after k from to =

@@ -1,8 +1,25 @@
-//! The characters of US-ASCII.
+//! ASCII characters: the type `AsciiChar`, its class tests, cases and printed forms, and the trait
+//! `ToAsciiChar`.
+//!
+//! Bytes, numbers and `char`s become a character in two ways:
+//!
+//! | | may not be ASCII | known to be ASCII |
+//! |---|---|---|
+//! | any of them | `to_ascii_char`, `AsciiChar::from_ascii` | `to_ascii_char_unchecked` |
+//! | a `char` | | `AsciiChar::new` |
+//! | a byte | | `AsciiChar::from_ascii_unchecked` |
+//!
+//! A call in the last column checks nothing. It has a condition, which its caller has to prove.
+//!
+//! Some class tests come in pairs, as `is_alphabetic` and `is_ascii_alphabetic`: upstream has both names. The
+//! names without `ascii` are std's for `char`; `is_whitespace` includes vertical tab, as that of `char` does,
+//! and `is_ascii_whitespace` does not, as that of `u8`.
+//!
+//! A contract sees a character as its code, `code_of ch`.
 
-ghost use Rattle.std.specs.Prelude.{◌≡◌, ◌<◌, ◌≤◌, ◌↔◌, IsTrue, ℤ, pos, MatchResult};
+ghost use Rattle.std.specs.Prelude.{◌≡◌, ◌<◌, ◌≤◌, ◌↔◌, IsTrue, ℤ, pos, MatchResult, IsSome, IfSome, Some};
 ghost use Rattle.ascii_base.specs.Code.{code_of, code_text};
-ghost use Rattle.ascii_base.specs.Class.{IsAlphabetic, IsDigitIn, IsDigit, IsAlphanumeric, IsBlank, IsWhitespace, IsAsciiWhitespace, IsControl, IsGraphic, IsPrintable, IsLowercase, IsUppercase, IsPunctuation, IsHexdigit};
+ghost use Rattle.ascii_base.specs.Class.{IsAlphabetic, digit_value, IsDigitIn, IsDigit, IsAlphanumeric, IsBlank, IsWhitespace, IsAsciiWhitespace, IsControl, IsGraphic, IsPrintable, IsLowercase, IsUppercase, IsPunctuation, IsHexdigit};
 ghost use Rattle.ascii_base.specs.Case.{upper_image, lower_image};
 ghost use Rattle.ascii_base.specs.Printable.{printable_of};
 ghost use Rattle.ascii_base.specs.ToAscii.{HasCode, IsCode, IsNotAscii, not_ascii_text};
@@ -16,11 +33,11 @@ use std::error::Error;
 use std::fmt;
 use std::hash::{Hash, Hasher};
 
-/// A character of US-ASCII, one byte wide. The number of a variant is its code.
+/// An ASCII character, one byte wide. The number of a variant is its code.
 ///
-/// Letters and digits have their own names, all others a word or, among the controls, their
-/// abbreviation. Three abbreviations differ from those of US-ASCII: 2 is `SOX` (there STX), 14 is `SI`
-/// (there SO) and 15 is `SO` (there SI).
+/// Letters and digits have their own names. The other variants are words or, for the control
+/// characters, their abbreviations, as upstream names them. Three of these abbreviations differ
+/// from those of US-ASCII: 2 is `SOX` (there STX), 14 is `SI` (there SO) and 15 is `SO` (there SI).
 ///
 ///     AsciiChar::A.as_byte() // 65
 #[derive(Clone, Copy)]
@@ -156,7 +173,7 @@ pub enum AsciiChar {
 }
 
 impl AsciiChar {
-    /// The character of a value, or the refusal of one that is no code: `ch.to_ascii_char()`.
+    /// Returns the character whose code is `ch`, or an error if `ch` is not from 0 to 127.
     ///
     ///     AsciiChar::from_ascii(b'a') // Ok('a')
     ///     AsciiChar::from_ascii('č') // Err(not an ASCII character)
@@ -167,7 +184,9 @@ impl AsciiChar {
         ch.to_ascii_char()
     }
 
-    /// The character of a `char` that is known to be under 128.
+    /// Returns the character of a `char`. Nothing is checked.
+    ///
+    /// Condition: `ch` is ASCII, from 0 to 127.
     ///
     ///     AsciiChar::new('!') // '!'
     #[inline]
@@ -178,7 +197,9 @@ impl AsciiChar {
         of_low_bits(ch as u8)
     }
 
-    /// The character of a byte that is known to be under 128.
+    /// Returns the character of a byte. Nothing is checked.
+    ///
+    /// Condition: `ch` is ASCII, from 0 to 127.
     ///
     ///     AsciiChar::from_ascii_unchecked(0x61) // 'a'
     #[inline]
@@ -189,7 +210,8 @@ impl AsciiChar {
         of_low_bits(ch)
     }
 
-    /// The code of the character, 0 to 127.
+    /// Returns the code of the character, from 0 to 127. It costs nothing: the character is that
+    /// byte.
     ///
     ///     AsciiChar::LineFeed.as_byte() // 10
     #[inline]
@@ -200,7 +222,7 @@ impl AsciiChar {
         self as u8
     }
 
-    /// The character as a `char`, under 128.
+    /// Returns the character as a `char`.
     ///
     ///     AsciiChar::Slash.as_char() // '/'
     #[inline]
@@ -211,7 +233,7 @@ impl AsciiChar {
         self.as_byte() as char
     }
 
-    /// Whether the character is a letter, `A` to `Z` or `a` to `z`.
+    /// Returns `true` if the character is a letter, `A` to `Z` or `a` to `z`.
     ///
     ///     AsciiChar::a.is_alphabetic() // true
     #[inline]
@@ -221,7 +243,7 @@ impl AsciiChar {
         Alphabetic::has(self.as_byte())
     }
 
-    /// Whether the character is a letter, `A` to `Z` or `a` to `z`.
+    /// Returns `true` if the character is a letter, `A` to `Z` or `a` to `z`.
     ///
     ///     AsciiChar::_7.is_ascii_alphabetic() // false
     #[inline]
@@ -231,8 +253,10 @@ impl AsciiChar {
         self.is_alphabetic()
     }
 
-    /// Whether the character is a digit in a radix of at most 36: `0` to `9` count for 0 to 9, the
-    /// letters of either case for 10 to 35. In radix 0 there is no digit, in radix 1 only `0`.
+    /// Returns `true` if the character is a digit in `radix`: `0` to `9` count for 0 to 9, and the
+    /// letters of either case for 10 to 35.
+    ///
+    /// Condition: `radix` is at most 36. In radix 0 there is no digit, in radix 1 only `0`.
     ///
     ///     AsciiChar::f.is_digit(16) // true
     ///     AsciiChar::f.is_digit(10) // false
@@ -241,15 +265,32 @@ impl AsciiChar {
         requires { radix ≤ 36 }
         ensures { IsTrue result ↔ IsDigitIn radix (code_of self) }
     {
-        match self.as_byte() {
-            digit @ b'0'..=b'9' => u32::from(digit - b'0') < radix,
-            letter @ b'a'..=b'z' => u32::from(letter - b'a') + 10 < radix,
-            letter @ b'A'..=b'Z' => u32::from(letter - b'A') + 10 < radix,
-            _ => false,
-        }
+        self.to_digit(radix).is_some()
     }
 
-    /// Whether the character is a decimal digit, `0` to `9`.
+    /// Returns the value of the character as a digit in `radix`, or `None` if it is not a digit
+    /// there: `0` to `9` count for 0 to 9, and the letters of either case for 10 to 35.
+    ///
+    /// Condition: `radix` is at most 36. In radix 0 there is no digit, in radix 1 only `0`.
+    ///
+    ///     AsciiChar::F.to_digit(16) // Some(15)
+    ///     AsciiChar::F.to_digit(15) // None
+    #[inline]
+    pub fn to_digit(self, radix: u32) -> Option<u32>
+        requires { radix ≤ 36 }
+        ensures digit { IsSome result ↔ IsDigitIn radix (code_of self) }
+        ensures value { IfSome result (λ d. digit_value (code_of self) ≡ Some d) }
+    {
+        let value = match self.as_byte() {
+            digit @ b'0'..=b'9' => u32::from(digit - b'0'),
+            letter @ b'a'..=b'z' => u32::from(letter - b'a') + 10,
+            letter @ b'A'..=b'Z' => u32::from(letter - b'A') + 10,
+            _ => return None,
+        };
+        (value < radix).then_some(value)
+    }
+
+    /// Returns `true` if the character is a decimal digit, `0` to `9`.
     ///
     ///     AsciiChar::_7.is_ascii_digit() // true
     #[inline]
@@ -259,7 +300,7 @@ impl AsciiChar {
         Digit::has(self.as_byte())
     }
 
-    /// Whether the character is a letter or a decimal digit.
+    /// Returns `true` if the character is a letter or a decimal digit.
     ///
     ///     AsciiChar::UnderScore.is_alphanumeric() // false
     #[inline]
@@ -269,7 +310,7 @@ impl AsciiChar {
         Alphanumeric::has(self.as_byte())
     }
 
-    /// Whether the character is a letter or a decimal digit.
+    /// Returns `true` if the character is a letter or a decimal digit.
     ///
     ///     AsciiChar::_7.is_ascii_alphanumeric() // true
     #[inline]
@@ -279,7 +320,7 @@ impl AsciiChar {
         self.is_alphanumeric()
     }
 
-    /// Whether the character is space or tab.
+    /// Returns `true` if the character is space or tab.
     ///
     ///     AsciiChar::Tab.is_ascii_blank() // true
     ///     AsciiChar::LineFeed.is_ascii_blank() // false
@@ -290,7 +331,8 @@ impl AsciiChar {
         Blank::has(self.as_byte())
     }
 
-    /// Whether the character is space, tab, line feed, vertical tab, form feed or carriage return.
+    /// Returns `true` if the character is space, tab, line feed, vertical tab, form feed or
+    /// carriage return.
     ///
     ///     AsciiChar::VT.is_whitespace() // true
     #[inline]
@@ -300,8 +342,8 @@ impl AsciiChar {
         Whitespace::has(self.as_byte())
     }
 
-    /// Whether the character is space, tab, line feed, form feed or carriage return: vertical tab is
-    /// not among them.
+    /// Returns `true` if the character is space, tab, line feed, form feed or carriage return, but
+    /// not vertical tab.
     ///
     ///     AsciiChar::VT.is_ascii_whitespace() // false
     #[inline]
@@ -311,7 +353,7 @@ impl AsciiChar {
         AsciiWhitespace::has(self.as_byte())
     }
 
-    /// Whether the character is a control character, 0 to 31 or 127.
+    /// Returns `true` if the character is a control character, 0 to 31 or 127.
     ///
     ///     AsciiChar::DEL.is_ascii_control() // true
     #[inline]
@@ -321,7 +363,7 @@ impl AsciiChar {
         Control::has(self.as_byte())
     }
 
-    /// Whether the character leaves ink: neither a control character nor space.
+    /// Returns `true` if the character is visible (graphic): neither a control character nor space.
     ///
     ///     AsciiChar::Space.is_ascii_graphic() // false
     #[inline]
@@ -331,7 +373,7 @@ impl AsciiChar {
         Graphic::has(self.as_byte())
     }
 
-    /// Whether the character leaves ink or is space: it is no control character.
+    /// Returns `true` if the character is visible (graphic) or space: not a control character.
     ///
     ///     AsciiChar::Space.is_ascii_printable() // true
     #[inline]
@@ -341,7 +383,7 @@ impl AsciiChar {
         Printable::has(self.as_byte())
     }
 
-    /// Whether the character is a lower case letter, `a` to `z`.
+    /// Returns `true` if the character is a lowercase letter, `a` to `z`.
     ///
     ///     AsciiChar::a.is_lowercase() // true
     #[inline]
@@ -351,7 +393,7 @@ impl AsciiChar {
         Lowercase::has(self.as_byte())
     }
 
-    /// Whether the character is a lower case letter, `a` to `z`.
+    /// Returns `true` if the character is a lowercase letter, `a` to `z`.
     ///
     ///     AsciiChar::A.is_ascii_lowercase() // false
     #[inline]
@@ -361,7 +403,7 @@ impl AsciiChar {
         self.is_lowercase()
     }
 
-    /// Whether the character is an upper case letter, `A` to `Z`.
+    /// Returns `true` if the character is an uppercase letter, `A` to `Z`.
     ///
     ///     AsciiChar::A.is_uppercase() // true
     #[inline]
@@ -371,7 +413,7 @@ impl AsciiChar {
         Uppercase::has(self.as_byte())
     }
 
-    /// Whether the character is an upper case letter, `A` to `Z`.
+    /// Returns `true` if the character is an uppercase letter, `A` to `Z`.
     ///
     ///     AsciiChar::_7.is_ascii_uppercase() // false
     #[inline]
@@ -381,7 +423,7 @@ impl AsciiChar {
         self.is_uppercase()
     }
 
-    /// Whether the character leaves ink and is neither a letter nor a digit.
+    /// Returns `true` if the character is visible (graphic) and neither a letter nor a digit.
     ///
     ///     AsciiChar::Dollar.is_ascii_punctuation() // true
     #[inline]
@@ -391,7 +433,7 @@ impl AsciiChar {
         Punctuation::has(self.as_byte())
     }
 
-    /// Whether the character is a hexadecimal digit, in either case.
+    /// Returns `true` if the character is a hexadecimal digit, in either case.
     ///
     ///     AsciiChar::F.is_ascii_hexdigit() // true
     #[inline]
@@ -401,8 +443,8 @@ impl AsciiChar {
         Hexdigit::has(self.as_byte())
     }
 
-    /// A `char` that shows the character: the pictures from U+2400 on for the codes 0 to 31, U+2421
-    /// for delete, and the character itself for all others.
+    /// Returns a `char` that shows the character: the pictures from U+2400 on for the codes 0 to
+    /// 31, U+2421 for delete, and the character itself for all others.
     ///
     ///     AsciiChar::LineFeed.as_printable_char() // '␊'
     ///     AsciiChar::a.as_printable_char() // 'a'
@@ -417,7 +459,7 @@ impl AsciiChar {
         }
     }
 
-    /// Changes `a` to `z` to `A` to `Z`, and leaves every other character.
+    /// Changes a letter `a` to `z` to `A` to `Z`. Every other character is unchanged.
     ///
     ///     let mut ch = AsciiChar::a;
     ///     ch.make_ascii_uppercase();
@@ -429,7 +471,7 @@ impl AsciiChar {
         *self = self.to_ascii_uppercase();
     }
 
-    /// Changes `A` to `Z` to `a` to `z`, and leaves every other character.
+    /// Changes a letter `A` to `Z` to `a` to `z`. Every other character is unchanged.
     ///
     ///     let mut ch = AsciiChar::A;
     ///     ch.make_ascii_lowercase();
@@ -441,7 +483,7 @@ impl AsciiChar {
         *self = self.to_ascii_lowercase();
     }
 
-    /// The upper case letter of `a` to `z`, and every other character itself.
+    /// Returns the uppercase letter for `a` to `z`, and the character itself for every other one.
     ///
     ///     AsciiChar::a.to_ascii_uppercase() // 'A'
     #[inline]
@@ -455,7 +497,7 @@ impl AsciiChar {
         }
     }
 
-    /// The lower case letter of `A` to `Z`, and every other character itself.
+    /// Returns the lowercase letter for `A` to `Z`, and the character itself for every other one.
     ///
     ///     AsciiChar::A.to_ascii_lowercase() // 'a'
     #[inline]
@@ -469,7 +511,7 @@ impl AsciiChar {
         }
     }
 
-    /// Whether two characters are equal when the case of letters doesn't count.
+    /// Returns `true` if the two characters are equal when the case of letters is ignored.
     ///
     ///     AsciiChar::a.eq_ignore_ascii_case(&AsciiChar::A) // true
     #[inline]
@@ -485,6 +527,8 @@ impl AsciiChar {
 impl Default for AsciiChar {
     ghost is_default = { λ ch. code_of ch ≡ 0 };
 
+    /// Returns the character with code 0.
+    ///
     ///     AsciiChar::default() // '\0'
     #[inline]
     fn default() -> AsciiChar {
@@ -501,6 +545,8 @@ impl PartialEq for AsciiChar {
 
     ghost laws = { partial_equiv_from_equiv (on_equiv code_of nat_eq_equiv) };
 
+    /// Returns `true` if the codes are equal.
+    ///
     ///     AsciiChar::a == AsciiChar::A // false
     #[inline]
     fn eq(&self, other: &AsciiChar) -> bool {
@@ -522,6 +568,8 @@ impl PartialOrd for AsciiChar {
 
     ghost laws = { on_po code_of unsigned_po };
 
+    /// Returns the order of the codes.
+    ///
     ///     AsciiChar::A < AsciiChar::a // true
     #[inline]
     fn partial_cmp(&self, other: &AsciiChar) -> Option<Ordering> {
@@ -542,6 +590,8 @@ impl Ord for AsciiChar {
 
     ghost matches_eq = { λ x y. unsigned_ties (code_of x) (code_of y) };
 
+    /// Returns the order of the codes.
+    ///
     ///     AsciiChar::a.cmp(&AsciiChar::A) // Greater
     #[inline]
     fn cmp(&self, other: &AsciiChar) -> Ordering {
@@ -558,6 +608,8 @@ impl Hash for AsciiChar {
 
     ghost respects_eq = { Prim.search (hashing, rules) };
 
+    /// Hashes the code.
+    ///
     ///     let mut seen = HashSet::new(alloc);
     ///     seen.insert(AsciiChar::a)?;
     ///     seen.contains(&AsciiChar::a) // true
@@ -575,6 +627,8 @@ impl fmt::Display for AsciiChar {
 
     ghost styled_output = { λ ch spec. Some (styled_text spec (code_text ch)) };
 
+    /// Writes the character, with the width and the alignment of the format, as for `char`.
+    ///
     ///     format!(in alloc; "{}", AsciiChar::a)? // "a"
     #[inline]
     fn fmt<W: fmt::Write>(&self, f: &mut fmt::Formatter<W>) -> fmt::Result {
@@ -589,6 +643,8 @@ impl fmt::Debug for AsciiChar {
     // the escaped character between single quotes
     ghost debug_output = { λ ch. Some (39 ∷ (debug_escape 39 (code_of ch) ++ 39 ∷ [])) };
 
+    /// Writes the character in single quotes, escaped as std escapes a `char`.
+    ///
     ///     format!(in alloc; "{:?}", AsciiChar::a)? // "'a'"
     #[inline]
     fn fmt<W: fmt::Write>(&self, f: &mut fmt::Formatter<W>) -> fmt::Result {
@@ -599,6 +655,8 @@ impl fmt::Debug for AsciiChar {
 impl From<AsciiChar> for u8 {
     ghost from_gives = { λ ch byte. byte ≡ code_of ch };
 
+    /// Returns the code of the character.
+    ///
     ///     u8::from(AsciiChar::a) // 97
     #[inline]
     fn from(ch: AsciiChar) -> u8 {
@@ -609,6 +667,8 @@ impl From<AsciiChar> for u8 {
 impl From<AsciiChar> for char {
     ghost from_gives = { λ ch point. point ≡ code_of ch };
 
+    /// Returns the character as a `char`.
+    ///
     ///     char::from(AsciiChar::a) // 'a'
     #[inline]
     fn from(ch: AsciiChar) -> char {
@@ -616,14 +676,14 @@ impl From<AsciiChar> for char {
     }
 }
 
-/// The refusal of a value that is no code.
+/// The error of a value that is not the code of an ASCII character.
 #[derive(Clone, Copy, PartialEq, Eq)]
 pub struct ToAsciiCharError(());
 
 const MESSAGE: &str = "not an ASCII character";
 
 impl ToAsciiCharError {
-    /// What the refusal says: `not an ASCII character`.
+    /// Returns the line of the error: `not an ASCII character`.
     ///
     ///     200u8.to_ascii_char().map_err(|e| e.description()) // Err("not an ASCII character")
     #[inline]
@@ -639,6 +699,8 @@ impl fmt::Debug for ToAsciiCharError {
 
     ghost debug_output = { λ _. Some not_ascii_text };
 
+    /// Writes the line of the error, as Display does.
+    ///
     ///     200u8.to_ascii_char() // Err(not an ASCII character)
     #[inline]
     fn fmt<W: fmt::Write>(&self, f: &mut fmt::Formatter<W>) -> fmt::Result {
@@ -654,6 +716,8 @@ impl fmt::Display for ToAsciiCharError {
     // no option of a hole changes the text
     ghost styled_output = { λ _ _. Some not_ascii_text };
 
+    /// Writes the line of the error: `not an ASCII character`.
+    ///
     ///     200u8.to_ascii_char().map_err(|e| e.to_string(alloc)) // Err(Ok("not an ASCII character"))
     #[inline]
     fn fmt<W: fmt::Write>(&self, f: &mut fmt::Formatter<W>) -> fmt::Result {
@@ -663,7 +727,7 @@ impl fmt::Display for ToAsciiCharError {
 
 impl Error for ToAsciiCharError {}
 
-/// Values that may be characters, each seen as a whole number, `code`.
+/// Values that may be ASCII characters. A contract sees each as a whole number, `code`.
 ///
 ///     200u8.to_ascii_char() // Err(not an ASCII character)
 ///     'a'.to_ascii_char() // Ok('a')
@@ -671,11 +735,14 @@ impl Error for ToAsciiCharError {}
 pub trait ToAsciiChar: Sized {
     ghost code: { Self → ℤ };
 
-    /// The character whose code is the value, or the refusal of a value outside 0 to 127.
+    /// Returns the character whose code is the value, or an error if the value is not from 0 to
+    /// 127.
     fn to_ascii_char(self) -> Result<AsciiChar, ToAsciiCharError>
         ensures { MatchResult result (HasCode (code self)) (λ _. IsNotAscii (code self)) };
 
-    /// The character of a value that is known to be 0 to 127.
+    /// Returns the character whose code is the value. Nothing is checked.
+    ///
+    /// Condition: the value is from 0 to 127.
     fn to_ascii_char_unchecked(self) -> AsciiChar
         requires { IsCode (code self) }
         ensures { HasCode (code self) result };
@@ -765,7 +832,7 @@ impl ToAsciiChar for char {
     }
 }
 
-/// The character whose code is the number, or the refusal of a number over 127.
+/// Returns the character whose code is the number, or an error if the number is above 127.
 #[inline]
 fn of_number(number: u32) -> Result<AsciiChar, ToAsciiCharError>
     ensures { MatchResult result (λ ch. code_of ch ≡ number) (λ _. 127 < number) }
@@ -777,7 +844,7 @@ fn of_number(number: u32) -> Result<AsciiChar, ToAsciiCharError>
     }
 }
 
-/// The character of the low seven bits of a byte.
+/// Returns the character of the low seven bits of a byte.
 #[inline]
 fn of_low_bits(byte: u8) -> AsciiChar
     requires { byte < 128 }

@@ -7,8 +7,8 @@ ghost use Rattle.ascii_base.specs.Code.{code_of};
 
 use crate::ascii_char::AsciiChar;
 
-/// The partner that stands behind the caret for a control character: of the bytes 0 to 31 the
-/// character 64 higher, of 127 the question mark. Every other byte has none.
+/// Returns the character that follows the caret for a control character, or `None` for any other
+/// byte: 64 more for the bytes 0 to 31, and the question mark for 127.
 ///
 ///     caret_encode(b'\n') // Some('J')
 ///     caret_encode(b'a') // None
@@ -24,8 +24,8 @@ pub fn caret_encode(c: u8) -> Option<AsciiChar>
     }
 }
 
-/// The control character that a partner stands for: of the bytes 64 to 95 the character 64 lower, of
-/// the question mark 127. Every other byte stands for none.
+/// Returns the control character that a character after a caret stands for, or `None` if it stands
+/// for none: 64 less for the bytes 64 to 95, and 127 for the question mark.
 ///
 ///     caret_decode(b'J') // Some('\n')
 #[inline]

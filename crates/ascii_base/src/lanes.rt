@@ -16,7 +16,7 @@ pub(crate) const WIDE: usize = 2 * LANES;
 /// How many bytes one test of `is_ascii_block` takes.
 pub(crate) const ASCII_BLOCK: usize = 4 * LANES;
 
-/// Whether the 128 bytes from `at` on are all under 128, by one test.
+/// Whether the 128 bytes from `at` on are all ASCII, with one test.
 #[inline(always)]
 pub(crate) fn is_ascii_block(bytes: &[u8], at: usize) -> bool
     requires { at + ASCII_BLOCK ≤ length bytes.now }
@@ -29,8 +29,8 @@ pub(crate) fn is_ascii_block(bytes: &[u8], at: usize) -> bool
     (front | back).simd_ge(u8x32::splat(128)).to_bitmask() == 0
 }
 
-/// Whether the `N` bytes from `at` on are the same in both when case doesn't count: no two bytes of a
-/// place differ in a bit, but for the bit of the case where the first is a letter.
+/// Whether the `N` bytes from `at` on are equal in both when the case of letters is ignored: two
+/// bytes at one position differ in no bit, except the bit of the case if the first is a letter.
 #[inline(always)]
 pub(crate) fn eq_lanes<const N: usize>(first: &[u8], second: &[u8], at: usize) -> bool
     requires lanes { N ≤ 64 }

@@ -1,29 +1,34 @@
-//! The six forms of a range of positions, and where one fits a source.
+//! Ranges of positions: `AsciiRange` with its six forms, which stand for `..`, `a..`, `..b`, `a..b`, `a..=b` and
+//! `..=b`.
+//!
+//! A call that takes a range says what it does if the range does not fit. `fits` tests it:
+//!
+//!     AsciiRange::Range(1, 3).fits(3)
 
 ghost use Rattle.std.specs.Prelude.{◌≡◌, IsTrue, ◌↔◌};
 ghost use Rattle.ascii_base.specs.Range.{start_of, end_of, Fits};
 
-/// A range of positions in a source of bytes, counted from 0. Over `n` bytes a form stands for a
-/// start and an end, the position past its last byte.
+/// A range of positions in a source of bytes, counted from 0. Over `n` bytes, each form has a start
+/// and an end, which is the position after its last byte.
 #[derive(Clone, Copy)]
 pub enum AsciiRange {
     /// `..`: the whole source.
     Full,
     /// `a..`: from `a` to the end of the source.
     From(usize),
-    /// `..b`: up to `b`, without it.
+    /// `..b`: up to `b`, which is not part of it.
     To(usize),
-    /// `a..b`: from `a` up to `b`, without it.
+    /// `a..b`: from `a` up to `b`, which is not part of it.
     Range(usize, usize),
-    /// `a..=b`: from `a` to `b`, with it.
+    /// `a..=b`: from `a` to `b`, which is part of it.
     Inclusive(usize, usize),
-    /// `..=b`: up to `b`, with it.
+    /// `..=b`: up to `b`, which is part of it.
     ToInclusive(usize),
 }
 
 impl AsciiRange {
-    /// Whether the range lies within `n` bytes: its start is not past its end, nor its end past `n`.
-    /// An inclusive form that ends at the largest number never fits.
+    /// Returns `true` if the range lies within `n` bytes: its start is not after its end, and its
+    /// end is not after `n`. An inclusive form that ends at `usize::MAX` never fits.
     ///
     ///     AsciiRange::Range(1, 3).fits(3) // true
     ///     AsciiRange::Range(4, 2).fits(5) // false
@@ -41,7 +46,7 @@ impl AsciiRange {
         }
     }
 
-    /// The position of the first byte of the range.
+    /// Returns the position of the first byte of the range.
     ///
     ///     AsciiRange::From(4).start() // 4
     #[inline]
@@ -56,7 +61,9 @@ impl AsciiRange {
         }
     }
 
-    /// The position past the last byte of a range that fits `n` bytes.
+    /// Returns the position after the last byte of the range, over `n` bytes.
+    ///
+    /// Condition: the range fits `n` bytes.
     ///
     ///     AsciiRange::From(4).end(7) // 7
     #[inline]
