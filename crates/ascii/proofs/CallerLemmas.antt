@@ -22,15 +22,19 @@ use Rattle.ascii.specs.StringState.{StringState}
 use Rattle.ascii.specs.View.{text_of}
 use Rattle.ascii.proofs.ExtendLemmas.{all_from_extends, ok_from_extends, pieces_from_drains}
 use Rattle.ascii.proofs.ExtendLemmas.{singles}
-use Rattle.ascii.proofs.PiecesLemmas.{HasNo-from_absent, Pieces-only, pieces_of-free}
+use Rattle.ascii.proofs.PiecesLemmas.{HasNo-from_absent, Pieces-only, Pieces-pieces_of}
+use Rattle.ascii.proofs.PiecesLemmas.{pieces_of-free, pieces_of-split_at_last}
 use Rattle.ascii.proofs.SpansLemmas.{room, room-lines, room-pieces, with_starts-last}
 use Rattle.ascii.proofs.StepsLemmas.{road_from_first_and}
-use Rattle.std.specs.Option.{IfSome}
+use Rattle.std.specs.Option.{IfSome, IsSomeAnd}
+use Rattle.std.proofs.Math.Seq.{get_or-append_seam, take-append_seam}
 use Rattle.std.proofs.lemmas.Bool.Decides.{nat_tests}
 use Rattle.std.proofs.lemmas.Option.{slice_get-get_or}
 use Rattle.ascii_base.specs.Case.{lower_image, upper_image}
-use Rattle.ascii_base.specs.Class.{IsWhitespace}
-use Rattle.ascii.specs.Trim.{Trims, TrimsEnd}
+use Rattle.ascii.specs.First.{IsFirstAt}
+use Rattle.ascii.specs.Found.{pieces_of}
+use Rattle.ascii.specs.Search.{IsCutAtLast}
+use Rattle.ascii.specs.Trim.{IsSpan, Trims, TrimsEnd}
 
 -- ---- one item more at the back
 
@@ -53,6 +57,15 @@ pub one_piece : (on : ℕ) (text : List ℕ) (pieces : List (List ℕ))
     → Pieces text on pieces → ¬ (Contains text on) → pieces ≡ text ∷ []
 one_piece on text pieces whole absent =
     Pieces-only text on pieces whole ∙ pieces_of-free on text (HasNo-from_absent on text absent)
+
+-- the text after the last separator is the last piece
+pub pieces_from_last_cut : (on : ℕ) (text before last : List ℕ) → IsCutAtLast on text before last
+    → (pieces : List (List ℕ)) × Pieces text on (pieces ++ last ∷ [])
+pieces_from_last_cut on text before last cut = (
+  pieces_of on before,
+  subst (Pieces text on) (pieces_of-split_at_last on text before last (sym cut.joined)
+      (HasNo-from_absent on last cut.last)) (Pieces-pieces_of text on),
+)
 
 -- the text of the other lines and the last line, with its ending, are the text
 pub last_of_lines : (text front : List ℕ) (last : Line) (lines : List Line)
@@ -197,6 +210,29 @@ collects_lines lines text collects =
     collects.2 ∙ pieces_from_drains (λ body. body) collects.0 collects.1
     (road_from_first_and _ _ DropsFirst (bodies lines) refl)
 
+-- ---- a text and its start in a class
+
+-- a text of which nothing follows its start in the class is all in the class
+pub span_all : (Is : ℕ → Type 0) (text front rest : List ℕ) → IsSpan Is text front rest
+    → rest ≡ [] → All Is text
+span_all Is text front rest span none = subst (All Is)
+    (sym (append-nil front) ∙ (ap (λ r. front ++ r) (sym none) ∙ span.joined)) span.within
+
+-- what follows the start in the class begins with the first code outside it
+pub span_first : (Is : ℕ → Type 0) (text front rest : List ℕ) → IsSpan Is text front rest
+    → rest ≢ [] → IsFirstAt Is (λ code. ¬ (Is code)) text (length front)
+span_first Is text front [] span some = absurd (some refl)
+span_first Is text front (c ∷ rest) span some =
+    let Other : ℕ → Type 0 = λ code. ¬ (Is code) in
+    let inside : length front < length (front ++ c ∷ rest) =
+    omega (arith, length-append front (c ∷ rest)) in
+    let at = slice_get-get_or (front ++ c ∷ rest) (length front) c inside
+    ∙ ap Some (get_or-append_seam front c rest c) in
+    subst (λ t. IsFirstAt Is Other t (length front)) span.joined (record {
+      here = subst (λ o. IsSomeAnd o Other) (sym at) span.bounded;
+      before = subst (All Is) (sym (take-append_seam front (c ∷ rest))) span.within;
+    })
+
 -- ---- what is done twice
 
 -- the upper case of a text in upper case is that text
@@ -213,40 +249,41 @@ lower_twice (n ∷ t) =
     let here : lower_image (lower_image n) ≡ lower_image n = grind (arith, nat_tests) in
     cc (here, lower_twice t)
 
--- the code at a position of a text is not whitespace, if there is one
-abbrev IsBounded : List ℕ → ℕ → Type 0
-IsBounded t i = IfSome (slice_get t i) (λ code. ¬ (IsWhitespace code))
+module _ (Is : ℕ → Type 0) where
+  -- the code at a position of a text is not in the class, if there is one
+  abbrev IsBounded : List ℕ → ℕ → Type 0
+  IsBounded t i = IfSome (slice_get t i) (λ code. ¬ (Is code))
 
--- a text that begins with another code has no leading whitespace to cut
-no_start : (t m cut : List ℕ) → cut ++ m ≡ t → All IsWhitespace cut → IsBounded t 0 → m ≡ t
-no_start t m [] parts white bounded = parts
-no_start t m (c ∷ cut) parts white bounded =
-    absurd (subst (λ xs. IsBounded xs 0) (sym parts) bounded (All-head IsWhitespace c cut white))
+  -- a text that begins with another code has no leading codes of the class to cut
+  no_start : (t m cut : List ℕ) → IsSpan Is t cut m → IsBounded t 0 → m ≡ t
+  no_start t m [] span bounded = span.joined
+  no_start t m (c ∷ cut) span bounded = absurd (subst (λ xs. IsBounded xs 0) (sym span.joined)
+      bounded (All-head Is c cut span.within))
 
--- a text that ends with another code has no trailing whitespace to cut
-no_end : (t m cut : List ℕ) → m ++ cut ≡ t → All IsWhitespace cut → IsBounded t (length t - 1)
-    → m ≡ t
-no_end t m [] parts white bounded = sym (append-nil m) ∙ parts
-no_end t m (c ∷ cut) parts white bounded =
-    let xs = m ++ c ∷ cut in
-    let last = length (c ∷ cut) - 1 in
-    let inside : length xs - 1 < length xs = omega (arith, length-append m (c ∷ cut)) in
-    let at : get_or xs (length xs - 1) 0 ≡ get_or (c ∷ cut) last 0 = grind (arith, common_steps) in
-    let is = slice_get-get_or xs (length xs - 1) 0 inside ∙ ap Some at in
-    let P : Option ℕ → Type 0 = λ o. IfSome o (λ code. ¬ (IsWhitespace code)) in
-    absurd (subst P is (subst (λ ys. IsBounded ys (length ys - 1)) (sym parts) bounded)
-    (All-get_or IsWhitespace (c ∷ cut) last 0 (omega arith) white))
+  -- a text that ends with another code has no trailing codes of the class to cut
+  no_end : (t m cut : List ℕ) → m ++ cut ≡ t → All Is cut → IsBounded t (length t - 1) → m ≡ t
+  no_end t m [] joined within bounded = sym (append-nil m) ∙ joined
+  no_end t m (c ∷ cut) joined within bounded =
+      let xs = m ++ c ∷ cut in
+      let last = length (c ∷ cut) - 1 in
+      let inside : length xs - 1 < length xs = omega (arith, length-append m (c ∷ cut)) in
+      let at : get_or xs (length xs - 1) 0 ≡ get_or (c ∷ cut) last 0 =
+      grind (arith, common_steps) in
+      let is = slice_get-get_or xs (length xs - 1) 0 inside ∙ ap Some at in
+      let P : Option ℕ → Type 0 = λ o. IfSome o (λ code. ¬ (Is code)) in
+      absurd (subst P is (subst (λ ys. IsBounded ys (length ys - 1)) (sym joined) bounded)
+      (All-get_or Is (c ∷ cut) last 0 (omega arith) within))
 
--- a text without leading whitespace has none after its trailing whitespace is cut
-still_bounded : (t m cut : List ℕ) → m ++ cut ≡ t → IsBounded t 0 → IsBounded m 0
-still_bounded t [] cut parts bounded = tt
-still_bounded t (c ∷ m) cut parts bounded =
-    subst (λ xs. IsBounded xs 0) (sym parts) bounded
+  -- a text without leading codes of the class has none after its trailing ones are cut
+  still_bounded : (t m cut : List ℕ) → m ++ cut ≡ t → IsBounded t 0 → IsBounded m 0
+  still_bounded t [] cut joined bounded = tt
+  still_bounded t (c ∷ m) cut joined bounded =
+      subst (λ xs. IsBounded xs 0) (sym joined) bounded
 
--- trimming a trimmed text leaves it as it is
-pub trims_twice : (t m again : List ℕ) → Trims t m → Trims m again → again ≡ m
-trims_twice t m again once twice =
-    let start = still_bounded once.0 m once.2.cut once.2.parts once.1.bounded in
-    let mid : twice.0 ≡ m = no_start m twice.0 twice.1.cut twice.1.parts twice.1.white start in
-    let end = subst (λ xs. TrimsEnd xs again) mid twice.2 in
-    no_end m again end.cut end.parts end.white once.2.bounded
+  -- trimming a trimmed text leaves it as it is
+  pub trims_twice : (t m again : List ℕ) → Trims Is t m → Trims Is m again → again ≡ m
+  trims_twice t m again once twice =
+      let start = still_bounded once.0 m once.2.cut once.2.joined once.1.span.bounded in
+      let mid : twice.0 ≡ m = no_start m twice.0 twice.1.cut twice.1.span start in
+      let end = subst (λ xs. TrimsEnd Is xs again) mid twice.2 in
+      no_end m again end.cut end.joined end.within once.2.bounded

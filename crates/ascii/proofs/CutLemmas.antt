@@ -1,14 +1,15 @@
--- Texts that begin or end with another.
+-- Texts that begin with, end with or contain another.
 use Rattle.std.proofs.Common.{◌≡◌, ℕ, ◌+◌, ◌-◌, List, ◌++◌, length, take, drop, sym, ap, subst}
 use Rattle.std.proofs.Common.{◌∙◌, ◌≤◌, Option, None, Some, arith, is_some, length-append, refl}
 use Rattle.std.proofs.Common.{true}
 use Rattle.std.proofs.lemmas.Bool.{false≢true}
 use native.Mathlib.Numerals.{unary_clauses}
 use Rattle.std.specs.List.{slice_range}
-use Rattle.std.proofs.lemmas.List.{take-append-drop, take_rest}
+use Rattle.std.proofs.lemmas.List.{length-take-le, take-append-drop, take_rest}
 use Rattle.std.proofs.Math.Seq.{drop-append_seam, take-append_seam}
-use Rattle.memchr.specs.Find.{FindsNeedle}
-use Rattle.ascii.specs.Search.{ContainsText, EndsWith, StartsWith}
+use Rattle.memchr.specs.Find.{FindsLastNeedle, FindsNeedle, OccursAt}
+use Rattle.memchr.proofs.lemmas.MatchLemmas.{OccursAt-split}
+use Rattle.ascii.specs.Search.{ContainsText, EndsWith, IsCutAtLastText, IsCutAtText, StartsWith}
 
 -- the start of a text that begins with `prefix`
 pub prefix_reads : (prefix text : List ℕ) → StartsWith prefix text
@@ -52,3 +53,45 @@ found_if_contained text needle None finds = (
       (let fits = occurs.1.fits in omega (arith, fits)) occurs.1),
 )
 found_if_contained text needle (Some k) finds = (λ _. (k, finds.1), λ _. refl)
+
+-- a text is what comes before an occurrence of `needle`, the needle, and what comes after it
+around : (text needle : List ℕ) (k : ℕ) → OccursAt text needle k
+    → slice_range text 0 k ++ (needle ++ slice_range text (k + length needle) (length text)) ≡ text
+around text needle k occurs = simp unary_clauses
+    (ap (λ rest. take k text ++ (needle ++ rest)) (take_rest text (k + length needle))
+    ∙ (ap (λ rest. take k text ++ rest) (sym (OccursAt-split text needle k occurs))
+    ∙ take-append-drop k text))
+
+-- the text before a position is as long as the position says
+long_to : (text : List ℕ) (k : ℕ) → k ≤ length text → length (slice_range text 0 k) ≡ k
+long_to text k inside = simp unary_clauses (length-take-le k text inside)
+
+-- a text in which a search finds no needle does not contain it
+pub not_found : (text needle : List ℕ) → FindsNeedle text needle 0 None
+    → ¬ (ContainsText needle text)
+not_found text needle finds occurs =
+    false≢true ((found_if_contained text needle None finds).1 occurs)
+
+-- the cut at the needle that a search finds first
+pub cut_at_first_text : (text needle : List ℕ) (k : ℕ) → FindsNeedle text needle 0 (Some k)
+    → IsCutAtText needle text (slice_range text 0 k)
+    (slice_range text (k + length needle) (length text))
+cut_at_first_text text needle k finds = record {
+  joined = around text needle k finds.1;
+  first = rw (long_to text k (let fits = finds.1.fits in omega (arith, fits))) finds.0.before;
+}
+
+-- a text in which a search from the end finds no needle does not contain it
+pub not_found_last : (text needle : List ℕ) → FindsLastNeedle text needle None
+    → ¬ (ContainsText needle text)
+not_found_last text needle finds occurs = finds occurs.0 (omega arith)
+    (let fits = occurs.1.fits in omega (arith, fits)) occurs.1
+
+-- the cut at the needle that a search finds last
+pub cut_at_last_text : (text needle : List ℕ) (k : ℕ) → FindsLastNeedle text needle (Some k)
+    → IsCutAtLastText needle text (slice_range text 0 k)
+    (slice_range text (k + length needle) (length text))
+cut_at_last_text text needle k finds = record {
+  joined = around text needle k finds.1;
+  last = rw (long_to text k (let fits = finds.1.fits in omega (arith, fits))) finds.0.after;
+}

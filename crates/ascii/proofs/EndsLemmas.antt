@@ -71,7 +71,7 @@ ListAnswersTo-answers takes read owed each s (end ∷ script) (answer ∷ answer
 )
 ListAnswersTo-answers takes read owed each s script answers t is = absurd is
 
--- what a walk of an iterator answered, as ends of the list that it owed
+-- what a walk of an iterator yielded, as ends of the list that it had yet to yield
 pub ListAnswers-walked : {S A B V E X : Type 0} (front back : S → Option A → S → Type 0)
     (read : A → B) (owed : S → List B)
     → ((s : S) (r : Option A) (t : S) → front s r t → YieldsFirstBy read owed s r t)

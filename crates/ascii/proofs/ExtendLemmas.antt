@@ -187,7 +187,7 @@ module _ {S A B : Type 0} {steps : S → Option A → S → Type 0} {v : A → B
         ∙ ap (flat_map h) (YieldsList-so_far road e.items e.left e.gave)),
   )
 
-  -- a list that fits the capacity is never refused
+  -- for a list that fits the capacity no allocation is needed
   pub ok_from_extends : (result : Result (Unit {0}) AllocError)
       → Extends steps (λ x. h (v x)) iter old new result → YieldsList steps v iter all
       → length old.text + length (flat_map h all) ≤ old.capacity → IsOk result

@@ -2,12 +2,16 @@ pub mod CallerLemmas
 pub mod CutLemmas
 pub mod DebugLemmas
 pub mod EndsLemmas
+mod Examples
 pub mod ExtendLemmas
 pub mod FoldLemmas
 pub mod JsonLemmas
 pub mod LinesLemmas
 pub mod ListLemmas
+pub mod NumbersLemmas
+pub mod OrderLemmas
 pub mod PiecesLemmas
+pub mod ReplaceLemmas
 pub mod RestsLemmas
 pub mod SearchLemmas
 pub mod SliceLemmas
@@ -15,6 +19,9 @@ pub mod SpansLemmas
 pub mod StepsLemmas
 pub mod TextLemmas
 pub mod TrimLemmas
+pub mod UpToLemmas
+pub mod WordLemmas
+pub mod WordSpanLemmas
 pub mod WritingViewLemmas
 pub use Rattle.ascii_base.proofs.LanesLemmas
 pub use Rattle.ascii_base.proofs.range

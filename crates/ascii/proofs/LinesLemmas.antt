@@ -21,7 +21,7 @@ use Rattle.ascii.proofs.PiecesLemmas.{HasNo-from_absent, absent-from_Free, all_f
 use Rattle.ascii.proofs.PiecesLemmas.{length-pieces_of, pieces_of-free, slice_split-joint}
 use Rattle.ascii.proofs.PiecesLemmas.{slice_split-some}
 
--- the ending of a line may stand behind its body
+-- the ending of a line may follow its body
 abbrev MayEnd : Line → Type 0
 MayEnd line = MayFollow line.ending line.body
 
@@ -35,7 +35,7 @@ lines_of_pieces-append (p ∷ []) (q ∷ qs) some = refl
 lines_of_pieces-append (p ∷ next ∷ ps) qs some =
     ap (λ ls. terminated_line p ∷ ls) (lines_of_pieces-append (next ∷ ps) qs some)
 
--- the lines round a LF are those up to it, and then those behind it
+-- the lines around an LF are those up to it, and then those after it
 lines_of-joint : (a b : List ℕ)
     → lines_of (a ++ 10 ∷ b) ≡ map terminated_line (pieces_of 10 a) ++ lines_of b
 lines_of-joint a b = ap lines_of_pieces (slice_split-joint _ a 10 b refl)
@@ -48,7 +48,7 @@ lines_of-split_at_first t a b is free =
     ap lines_of_pieces (pieces_of-split_at_first 10 t a b is free)
     ∙ lines_of_pieces-append (a ∷ []) (pieces_of 10 b) (slice_split-some _ b)
 
--- whole lines, and what stands behind them
+-- whole lines, and what comes after them
 lines_of-behind : (a b : List ℕ) → HasWholeLines a → lines_of (a ++ b) ≡ lines_of a ++ lines_of b
 lines_of-behind a b (inl none) = rw none
 lines_of-behind a b (inr some) =
@@ -198,7 +198,7 @@ LinesOf-only t lines held = sym (lines_of-joined lines held.bodies held.endings 
 
 -- ---- the lines at either end
 
--- the last line of a text that ends in LF stands behind the LF before
+-- the last line of a text that ends in LF comes after the LF before it
 pub lines_of-last_ended : (t a b : List ℕ) → t ≡ a ++ b → HasWholeLines a → HasNo 10 b
     → lines_of (t ++ 10 ∷ []) ≡ lines_of a ++ terminated_line b ∷ []
 lines_of-last_ended t a b is whole free = rw (is, append_assoc) (

@@ -34,7 +34,7 @@ onto_first-append : {X : Type 0} (x : X) (ps qs : List (List X)) → ps ≢ []
 onto_first-append x [] qs some = absurd (some refl)
 onto_first-append x (p ∷ ps) qs some = refl
 
--- the pieces round a separator are those before it, and then those behind it
+-- the pieces around a separator are those before it, and then those after it
 pub slice_split-joint : {X : Type 0} (p : X → Bool) (a : List X) (c : X) (b : List X) → p c ≡ true
     → slice_split p (a ++ c ∷ b) ≡ slice_split p a ++ slice_split p b
 slice_split-joint p [] c b cuts = slice_split-cons_yes p c b cuts
@@ -53,7 +53,7 @@ pub pieces_of-split_at_first : (on : ℕ) (t a b : List ℕ) → t ≡ a ++ on �
 pieces_of-split_at_first on t a b is free =
     rw is (slice_split_at _ a on b free (is_on on))
 
--- the last piece stands behind the last separator
+-- the last piece comes after the last separator
 pub pieces_of-split_at_last : (on : ℕ) (t a b : List ℕ) → t ≡ a ++ on ∷ b → HasNo on b
     → pieces_of on t ≡ pieces_of on a ++ b ∷ []
 pieces_of-split_at_last on t a b is free =

@@ -94,7 +94,7 @@ module _ {M : Type 1} {𝓤 : Ura M} (𝓛 : Logic 𝓤) where
       fpick ! (λ r. rewrite ! 0 (λ (xs : List ℕ). ‵ (fres s.ghost_name (code xs))) r.2 refl $
       done !)
 
-  -- a view that is let go leaves its source at the value that it has then
+  -- a view that is dropped leaves its source at the value that it has then
   pub given_up : (a : NamedLft) (v : AsciiStrMut) (vs : List Val)
       → ent 𝓤 (sem 𝓛 ((V.the_row a).own_val v vs))
       (H.⇛ (A.res v.bytes.ghost_name (Bytes.coded.code v.bytes.now)))

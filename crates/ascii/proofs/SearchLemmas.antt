@@ -14,7 +14,7 @@ module _ (on : ℕ) (codes : List ℕ) where
   free_of_last h = All-from_get_or (λ code. (code == on) ≡ false) codes 0
       (λ k inside. false_from_ne_true _ (h k (omega arith) inside))
 
-  -- the text round the last one, which is not behind it
+  -- the text around the last one, which does not occur after it
   pub cut_at_last : (place : ℕ) → IsLastByte (is_byte on) codes (Some place)
       → (codes ≡ take place codes ++ on ∷ drop (place + 1) codes)
       × HasNo on (drop (place + 1) codes)

@@ -22,7 +22,7 @@ use Rattle.ascii.proofs.PiecesLemmas.{length-pieces_of, pieces_of-split_at_first
 use Rattle.ascii.proofs.PiecesLemmas.{pieces_of-split_at_last}
 use Rattle.ascii.proofs.PiecesLemmas.{pieces_of-free, slice_split-some}
 
--- ---- items one behind the other
+-- ---- items one after the other
 
 -- how much room items take
 abbrev pub room : {A : Type 0} → (A → ℕ) → List A → ℕ
@@ -88,7 +88,7 @@ module _ (on : ℕ) (part : WithStart (List ℕ)) where
       (pieces_of-split_at_first on part.item (text_of cut.0.view) (text_of cut.1.view)
       is.0.text is.1))
 
-  -- the last piece stands behind the last separator
+  -- the last piece comes after the last separator
   pub piece_spans_last : (byte : ℕ) (cut : Cursor × Cursor) (last : WithStart (List ℕ))
       → byte ≡ on → IsSplitAtLast byte part cut → last ≡ part_in cut.1
       → piece_spans on part ≡ piece_spans on (part_in cut.0) ++ last ∷ []
@@ -174,7 +174,7 @@ module _ (part : WithStart (List ℕ)) where
   line_spans_some some none = lines_of-some part.item some
       (sym (items-with_starts line_size part.start (lines_of part.item)) ∙ ap items_of none)
 
-  -- the last line stands behind whole lines
+  -- the last line comes after whole lines
   line_spans_behind : (cut : Cursor × Cursor) (line : Line) → cut.0.start ≡ part.start
       → cut.1.start ≡ part.start + length (text_of cut.0.view)
       → lines_of part.item ≡ lines_of (text_of cut.0.view) ++ line ∷ []

@@ -31,11 +31,11 @@ pub IsAscii-mapped : (f : ℕ → ℕ) → ((b : ℕ) → b < 128 → f b < 128)
 IsAscii-mapped f small n new shown old mapped is ascii =
     rw (mapped, is) (search (IsAscii-append, IsAscii-map, IsAscii-take, IsAscii-drop))
 
--- a byte past 127 is no text, and no empty one
+-- bytes with one above 127 are not a text, and are not empty
 pub no_text : (bytes : List ℕ) (i : ℕ) → FirstOther bytes 0 (length bytes) i → ¬ (IsAscii bytes)
 no_text bytes i other ascii = omega (arith, other.other, ascii i)
 
--- what is no text is refused by writing, and the string stays
+-- writing rejects what is not a text, and the string is unchanged
 pub Writes-refused : (piece : List ℕ) (held : StringState) (e : Error)
     → length held.text ≤ held.capacity → ¬ (IsAscii piece) → Writes piece held held (Err e)
 Writes-refused piece held e room none = record {

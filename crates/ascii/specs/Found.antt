@@ -2,7 +2,8 @@
 -- that make the iterators ensure that it finds the pieces or lines, and that nothing else is them.
 use Rattle.std.specs.Prelude.{◌≡◌, ℕ, ◌+◌, ◌-◌, List, [], ◌∷◌, ◌++◌, ◌⊎◌, length, take}
 use Rattle.std.specs.Prelude.{slice_index_or, cond, Bool, ◌==◌, false, Option, Some, None}
-use Rattle.std.specs.List.{All, slice_split}
+use Rattle.std.specs.Prelude.{zero, suc}
+use Rattle.std.specs.List.{All, join_with_byte, slice_split}
 use Rattle.ascii.specs.declared.iter.cursor.Cursor.{Cursor}
 use Rattle.ascii.specs.declared.iter.spans.Ending.TheVariants.{Lf, CrLf, Absent}
 use Rattle.ascii.specs.declared.iter.walks.End.{End}
@@ -20,6 +21,13 @@ HasNo on codes = All (λ code. (code == on) ≡ false) codes
 -- the pieces of `text` at `on`
 abbrev pub pieces_of : ℕ → List ℕ → List (List ℕ)
 pieces_of on text = slice_split (λ code. code == on) text
+
+-- at most `n` of `pieces`, of which the n-th is the rest of them joined by `on`
+abbrev pub pieces_up_to : ℕ → ℕ → List (List ℕ) → List (List ℕ)
+pieces_up_to on n [] = []
+pieces_up_to on zero (piece ∷ pieces) = []
+pieces_up_to on (suc zero) (piece ∷ pieces) = join_with_byte on (piece ∷ pieces) ∷ []
+pieces_up_to on (suc (suc n)) (piece ∷ pieces) = piece ∷ pieces_up_to on (suc n) pieces
 
 -- ---- lines
 

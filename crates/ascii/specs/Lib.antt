@@ -2,10 +2,14 @@ pub mod ConversionError
 pub mod Cow
 pub mod Extend
 pub mod First
+pub mod Folded
 pub mod Found
 pub mod Json
 pub mod Lines
+pub mod Numbers
 pub mod Pieces
+pub mod Runs
+pub mod Replace
 pub mod Search
 pub mod Slice
 pub mod Spans
@@ -14,6 +18,8 @@ pub mod StringState
 pub mod Trim
 pub mod View
 pub mod Walks
+pub mod WordSpans
+pub mod Words
 pub mod WritingView
 pub use Rattle.ascii_base.specs.Bytes
 pub use Rattle.ascii_base.specs.Caret

@@ -3,8 +3,8 @@
 //! The other methods of `AsciiStr` are in the modules of their subject: `chars` in `iter::chars`,
 //! `split` and `split_spans` in `iter::split`, `lines` and `line_spans` in `iter::lines`, the walks in
 //! `iter::walks`; `find`, `position` and `strip_prefix` in `search`, prefixes without case in
-//! `folded_search`, `split_once` in `splits`; copies in `copies`; JSON values in `json`. A view is made
-//! by `bytes` and `text`.
+//! `folded_search`, `split_once` in `splits`, `span` and `trim_matches` in `trims`; copies in `copies`;
+//! JSON values in `json`. A view is made by `bytes` and `text`.
 
 ghost use Rattle.std.specs.Prelude.{◌≡◌, ◌-◌, ◌<◌, ◌↔◌, [], IsOkAnd, IsTrue, OnErr, Some, codes};
 ghost use Rattle.std.specs.Prelude.{length, map, slice_get, slice_index};
@@ -12,6 +12,7 @@ ghost use Rattle.std.specs.Str.{IsAscii};
 ghost use Rattle.std.specs.Option.{option_map};
 ghost use Rattle.std.proofs.Props.{props};
 ghost use Rattle.ascii_base.specs.Case.{lower_image};
+ghost use Rattle.ascii_base.specs.Class.{IsWhitespace};
 ghost use Rattle.ascii_base.specs.Code.{code_of};
 ghost use Rattle.ascii_base.specs.Range.{Fits, part_of};
 ghost use Rattle.ascii.specs.Trim.{Trims, TrimsEnd, TrimsStart};
@@ -21,7 +22,10 @@ use ascii_base::kernels;
 use ascii_base::range::AsciiRange;
 use std::fmt;
 
-/// A text of ASCII characters that borrows its bytes: checked once, read without a copy.
+/// A borrowed text whose bytes are all ASCII: a `&str` that can hold nothing else.
+///
+/// The bytes are checked once, when the view is made, and read without a copy. `==`, the order and
+/// the hash are those of the bytes, so the order is lexicographic.
 #[derive(Clone, Copy, PartialEq, Eq, PartialOrd, Ord, Hash)]
 pub struct AsciiStr<'a> {
     pub(crate) bytes: &'a [u8],
@@ -32,7 +36,7 @@ impl<'a> AsciiStr<'a> {
     ghost use Rattle.ascii.specs.Slice.{SliceOutcome};
     ghost use Rattle.ascii.specs.View.{text_of};
 
-    /// The characters of the view as text. Nothing is checked or copied.
+    /// Returns the view as a `&str`. Nothing is checked or copied.
     ///
     ///     view("foo").as_str() // "foo"
     #[inline]
@@ -42,7 +46,7 @@ impl<'a> AsciiStr<'a> {
         unsafe { str::from_utf8_unchecked(self.bytes) }
     }
 
-    /// The codes of the view, a byte each.
+    /// Returns the bytes of the view, one for each character.
     ///
     ///     view("foo").as_bytes() // [102, 111, 111]
     #[inline]
@@ -53,7 +57,7 @@ impl<'a> AsciiStr<'a> {
         self.bytes
     }
 
-    /// The number of characters, which is the number of bytes.
+    /// Returns the number of characters, which is also the number of bytes.
     ///
     ///     view("foo").len() // 3
     #[inline]
@@ -63,7 +67,7 @@ impl<'a> AsciiStr<'a> {
         self.bytes.len()
     }
 
-    /// Whether the view has no character.
+    /// Returns `true` if the view has no characters.
     ///
     ///     view("").is_empty() // true
     #[inline]
@@ -73,7 +77,7 @@ impl<'a> AsciiStr<'a> {
         self.bytes.is_empty()
     }
 
-    /// The first character, or `None` of the empty view.
+    /// Returns the first character, or `None` if the view is empty.
     ///
     ///     view("foo").first() // Some('f')
     #[inline]
@@ -83,7 +87,7 @@ impl<'a> AsciiStr<'a> {
         self.get_ascii(0)
     }
 
-    /// The last character, or `None` of the empty view.
+    /// Returns the last character, or `None` if the view is empty.
     ///
     ///     view("foo").last() // Some('o')
     #[inline]
@@ -94,7 +98,8 @@ impl<'a> AsciiStr<'a> {
         self.get_ascii(self.bytes.len().saturating_sub(1))
     }
 
-    /// The character at a position from 0, or `None` past the end.
+    /// Returns the character at position `i`, counted from 0, or `None` if `i` is not less than the
+    /// length.
     ///
     ///     view("foo").get_ascii(0) // Some('f')
     ///     view("foo").get_ascii(3) // None
@@ -109,7 +114,9 @@ impl<'a> AsciiStr<'a> {
         }
     }
 
-    /// The character at a position from 0 that is under the length.
+    /// Returns the character at position `i`, counted from 0.
+    ///
+    /// Condition: `i` is less than the length. If that is not known, use `get_ascii`.
     ///
     ///     view("foo").char_at(0) // 'f'
     #[inline]
@@ -120,7 +127,7 @@ impl<'a> AsciiStr<'a> {
         AsciiChar::from_ascii_unchecked(self.bytes[i])
     }
 
-    /// The view itself: a view never has to be checked again.
+    /// Returns the view itself as `Ok`: a view never has to be checked again.
     ///
     ///     view("foo").as_ascii_str() // Ok("foo")
     #[inline]
@@ -130,7 +137,7 @@ impl<'a> AsciiStr<'a> {
         Ok(self)
     }
 
-    /// The part of the view that the range names, or the length of the view where the range does
+    /// Returns the part of the view in `range`, or an error with the view's length if `range` does
     /// not fit.
     ///
     ///     view("foo").slice_ascii(AsciiRange::To(2)) // Ok("fo")
@@ -148,7 +155,9 @@ impl<'a> AsciiStr<'a> {
         }
     }
 
-    /// The part of the view that a range names which fits it.
+    /// Returns the part of the view in `range`. Constant time.
+    ///
+    /// Condition: `range` fits the view. If that is not known, use `slice_ascii`.
     ///
     ///     view("foo").slice(AsciiRange::From(1)) // "oo"
     #[inline]
@@ -163,21 +172,23 @@ impl<'a> AsciiStr<'a> {
         }
     }
 
-    /// The view without the white space at both of its ends: space, tab, line feed, vertical tab,
-    /// form feed and carriage return.
+    /// Returns the view without the whitespace at both of its ends: space, tab, line feed, vertical
+    /// tab, form feed and carriage return.
+    ///
+    /// Reads only the whitespace that it removes, and up to one step of 32 bytes more at each end.
     ///
     ///     view(" a b\r\n").trim() // "a b"
     pub fn trim(self) -> AsciiStr<'a>
-        ensures { Trims (text_of self.entry) (text_of result) }
+        ensures { Trims IsWhitespace (text_of self.entry) (text_of result) }
     {
         self.trim_start().trim_end()
     }
 
-    /// The view without the white space at its front.
+    /// Returns the view without the whitespace at its start. Whitespace is that of `trim`.
     ///
     ///     view(" a b ").trim_start() // "a b "
     pub fn trim_start(self) -> AsciiStr<'a>
-        ensures { TrimsStart (text_of self.entry) (text_of result) }
+        ensures { TrimsStart IsWhitespace (text_of self.entry) (text_of result) }
     {
         let start = kernels::first_not_whitespace(self.bytes).unwrap_or(self.bytes.len());
         AsciiStr {
@@ -185,11 +196,11 @@ impl<'a> AsciiStr<'a> {
         }
     }
 
-    /// The view without the white space at its back.
+    /// Returns the view without the whitespace at its end. Whitespace is that of `trim`.
     ///
     ///     view(" a b ").trim_end() // " a b"
     pub fn trim_end(self) -> AsciiStr<'a>
-        ensures { TrimsEnd (text_of self.entry) (text_of result) }
+        ensures { TrimsEnd IsWhitespace (text_of self.entry) (text_of result) }
     {
         let end = kernels::last_not_whitespace(self.bytes).map_or(0, |last| last + 1);
         AsciiStr {
@@ -197,7 +208,10 @@ impl<'a> AsciiStr<'a> {
         }
     }
 
-    /// Whether two views are equal when the case of letters does not count.
+    /// Returns `true` if the two views are equal when the case of letters is ignored.
+    ///
+    /// Compares the lengths and the first character first, and stops at the first step of bytes
+    /// that differ.
     ///
     ///     view("Host").eq_ignore_ascii_case(view("HOST")) // true
     #[inline]
@@ -208,7 +222,7 @@ impl<'a> AsciiStr<'a> {
         kernels::eq_ignore_case(self.bytes, other.bytes)
     }
 
-    /// Whether the view has the bytes of a text.
+    /// Returns `true` if the view has the same bytes as a text.
     ///
     ///     view("foo").eq_str("foo") // true
     #[inline]
@@ -218,7 +232,7 @@ impl<'a> AsciiStr<'a> {
         self.eq_bytes(other.as_bytes())
     }
 
-    /// Whether the view has these bytes.
+    /// Returns `true` if the view has these bytes.
     ///
     ///     view("foo").eq_bytes(b"foo") // true
     #[inline]
@@ -234,7 +248,7 @@ impl Default for AsciiStr<'_> {
 
     ghost is_default = { λ view. text_of view ≡ [] };
 
-    /// The empty view.
+    /// Returns the empty view.
     ///
     ///     AsciiStr::default() // ""
     fn default() -> Self {
@@ -247,6 +261,8 @@ impl<'a> From<AsciiStr<'a>> for &'a str {
 
     ghost from_gives = { λ view text. text.now ≡ text_of view };
 
+    /// Returns the view as a `&str`. Nothing is checked or copied.
+    ///
     ///     <&str>::from(view("foo")) // "foo"
     fn from(view: AsciiStr<'a>) -> &'a str {
         view.as_str()
@@ -258,6 +274,8 @@ impl<'a> From<AsciiStr<'a>> for &'a [u8] {
 
     ghost from_gives = { λ view bytes. bytes.now ≡ text_of view };
 
+    /// Returns the bytes of the view, one for each character.
+    ///
     ///     <&[u8]>::from(view("foo")) // [102, 111, 111]
     fn from(view: AsciiStr<'a>) -> &'a [u8] {
         view.as_bytes()
@@ -272,6 +290,9 @@ impl fmt::Display for AsciiStr<'_> {
 
     ghost styled_output = { λ view spec. Some (styled_text spec (text_of view)) };
 
+    /// Writes the text, with the width, the alignment and the precision of the format, as for
+    /// `str`.
+    ///
     ///     format!(in alloc; "{}", view("a\"b"))? // "a\"b"
     fn fmt<W: fmt::Write>(&self, f: &mut fmt::Formatter<W>) -> fmt::Result {
         fmt::Display::fmt(&self.as_str(), f)
@@ -283,13 +304,16 @@ impl fmt::Debug for AsciiStr<'_> {
 
     ghost debug_output = { λ view. Some (debug_text (text_of view)) };
 
+    /// Writes the text in double quotes, escaped as std escapes it.
+    ///
     ///     format!(in alloc; "{:?}", view("a\"b"))? // "\"a\\\"b\""
     fn fmt<W: fmt::Write>(&self, f: &mut fmt::Formatter<W>) -> fmt::Result {
         fmt::Debug::fmt(&self.as_str(), f)
     }
 }
 
-/// A source was refused as ASCII text: its range does not fit, or a byte in its range is over 127.
+/// The error of a source that is not ASCII text: its range does not fit, or a byte in its range is
+/// not ASCII.
 #[derive(Clone, Copy, PartialEq, Eq, Hash, PartialOrd, Ord)]
 pub struct AsAsciiStrError {
     pub(crate) valid_up_to: usize,
@@ -298,8 +322,8 @@ pub struct AsAsciiStrError {
 impl AsAsciiStrError {
     ghost use Rattle.ascii.specs.View.{position_of};
 
-    /// The position in the source of the first byte of the range that is over 127, counted from 0;
-    /// the length of the source where the range does not fit.
+    /// Returns the position in the source of the first non-ASCII byte of the range, counted from 0,
+    /// or the length of the source if the range does not fit.
     ///
     ///     bytes::as_ascii_str(b"ab\xc4").map_err(AsAsciiStrError::valid_up_to) // Err(2)
     #[inline]
@@ -309,7 +333,7 @@ impl AsAsciiStrError {
         self.valid_up_to
     }
 
-    /// What went wrong, without the position.
+    /// Returns the line of the error without the position.
     ///
     ///     bytes::as_ascii_str(b"ab\xc4").map_err(|e| e.description()) // Err("one or more bytes are not ASCII")
     pub fn description(&self) -> &'static str
@@ -324,6 +348,9 @@ impl fmt::Display for AsAsciiStrError {
 
     ghost output = { λ e. Some (error_text (position_of e)) };
 
+    /// Writes the line of the error, as `the byte at index 2 is not ASCII`. It says so also if the
+    /// range did not fit: the index is then the length of the source.
+    ///
     ///     bytes::as_ascii_str(b"ab\xc4").map_err(|e| e.to_string(alloc)) // Err(Ok("the byte at index 2 is not ASCII"))
     fn fmt<W: fmt::Write>(&self, f: &mut fmt::Formatter<W>) -> fmt::Result {
         let position = self.valid_up_to;
@@ -332,6 +359,8 @@ impl fmt::Display for AsAsciiStrError {
 }
 
 impl fmt::Debug for AsAsciiStrError {
+    /// Writes the position, as `AsAsciiStrError(2)`.
+    ///
     ///     bytes::as_ascii_str(b"ab\xc4") // Err(AsAsciiStrError(2))
     fn fmt<W: fmt::Write>(&self, f: &mut fmt::Formatter<W>) -> fmt::Result {
         f.debug_tuple("AsAsciiStrError")

@@ -12,8 +12,10 @@ use crate::ascii_str::AsciiStr;
 use ascii_base::ascii_char::AsciiChar;
 use ascii_base::kernels;
 
-/// A text of ASCII characters in a source that was lent for writing. The text can be changed, and
-/// the bytes of the source before and after it stay. It keeps its length.
+/// A mutable view: ASCII text in a source that is mutably borrowed.
+///
+/// The text can be changed and stays ASCII. It keeps its length, and the bytes of the source before
+/// and after it are unchanged.
 #[derive(Drop)]
 pub struct AsciiStrMut<'a> {
     pub(crate) bytes: &'a mut [u8],
@@ -27,7 +29,10 @@ pub struct AsciiStrMut<'a> {
 impl AsciiStrMut<'_> {
     ghost use Rattle.ascii.specs.WritingView.{EditsTo, mut_text_of};
 
-    /// Puts `ch` at position `i` of the text, counted from 0. The rest of the text stays.
+    /// Sets the character at position `i`, counted from 0, to `ch`. The other characters are
+    /// unchanged.
+    ///
+    /// Condition: `i` is less than the length.
     ///
     ///     let mut source = *b"foo";
     ///     bytes::as_mut_ascii_str_unchecked(&mut source).set(0, AsciiChar::z);
@@ -40,8 +45,8 @@ impl AsciiStrMut<'_> {
         self.bytes[self.start + i] = ch.as_byte();
     }
 
-    /// Changes each character `a` to `z` of the text to that of `A` to `Z`. The rest of the text
-    /// stays.
+    /// Changes each letter `a` to `z` of the text to `A` to `Z`. The other characters are
+    /// unchanged.
     ///
     ///     let mut source = *b"foo";
     ///     bytes::as_mut_ascii_str_unchecked(&mut source).make_ascii_uppercase();
@@ -53,8 +58,8 @@ impl AsciiStrMut<'_> {
         kernels::upper_in_place(&mut self.bytes[self.start..self.end]);
     }
 
-    /// Changes each character `A` to `Z` of the text to that of `a` to `z`. The rest of the text
-    /// stays.
+    /// Changes each letter `A` to `Z` of the text to `a` to `z`. The other characters are
+    /// unchanged.
     ///
     ///     let mut source = *b"FOO";
     ///     bytes::as_mut_ascii_str_unchecked(&mut source).make_ascii_lowercase();
@@ -66,7 +71,7 @@ impl AsciiStrMut<'_> {
         kernels::lower_in_place(&mut self.bytes[self.start..self.end]);
     }
 
-    /// A view of the text, to read it.
+    /// Returns a view of the text, to read it. Does not allocate.
     ///
     ///     let mut source = *b"foo";
     ///     bytes::as_mut_ascii_str_unchecked(&mut source).as_ascii_str().len() // 3

@@ -1,12 +1,20 @@
-//! Owned text that can hold nothing but ASCII: making a string, reading it, and its edits.
+//! Owned ASCII text: making a string, reading it, and its edits.
 //!
-//! The other methods of `AsciiString` are in the modules of their subject: `extend_chars`,
-//! `collect_chars` and `collect_strs` in `collect`, `from_char`, `from_chars` and other copies in
-//! `copies`, conversions to boxed and shared text in `boxed`, JSON values in `json`. A string is made
-//! of a `Vec<u8>` or a `String` by `vec` and `string`.
+//! An edit that may allocate returns a `Result`. If its allocation fails, the text is unchanged. It never fails if the
+//! new text fits the capacity, so a caller that reserves first knows that the edits after it succeed:
+//!
+//!     let mut line = AsciiString::with_capacity(alloc, 3)?;
+//!     line.push(AsciiChar::a)?;
+//!     line.push_str(view("bc"))?;
+//!
+//! A contract sees a string as `string.text`, a list of codes, and `string.capacity`.
+//!
+//! The other methods of `AsciiString` are in the modules of their subject: `extend_chars`, `collect_chars` and
+//! `collect_strs` in `collect`, `from_char`, `from_chars` and other copies in `copies`, conversions to boxed and shared
+//! text in `boxed`, JSON values in `json`. The modules `vec` and `string` make a string from a `Vec<u8>` or a `String`.
 
 ghost use Rattle.std.specs.Prelude.{◌≡◌, ◌+◌, ◌-◌, ◌<◌, ◌≤◌, ◌↔◌, ◌++◌, ◌∷◌, [], IfOk, IsOk};
-ghost use Rattle.std.specs.Prelude.{IsTrue, OnErr, OnOk, insert, length, map, remove, slice_get};
+ghost use Rattle.std.specs.Prelude.{IsTrue, OnErr, OnOk, drop, insert, length, map, remove, slice_get};
 ghost use Rattle.std.specs.Prelude.{slice_index, slice_set, take, vec_capacity, vec_len};
 ghost use Rattle.std.specs.Option.{option_map};
 ghost use Rattle.ascii_base.specs.Case.{lower_image, upper_image};
@@ -18,14 +26,17 @@ use crate::ascii_str::AsciiStr;
 use crate::text;
 use ascii_base::ascii_char::{AsciiChar, ToAsciiChar};
 use ascii_base::kernels;
+use itoa::{Buffer, Integer};
 use std::alloc::{AllocError, Allocator, Global};
 use std::cmp::Ordering;
 use std::fmt;
 use std::hash::{Hash, Hasher};
 use std::marker::Model;
 
-/// A text of ASCII characters that owns its bytes and can grow. It keeps the allocator that it was
-/// made with.
+/// Owned ASCII text that can grow: a `String` that can hold nothing else. It keeps the allocator
+/// that it was made with.
+///
+/// `==`, the order and the hash are those of the text; the capacity does not count.
 #[derive(Drop)]
 pub struct AsciiString<A: Allocator = Global> {
     bytes: Vec<u8, A>,
@@ -46,7 +57,7 @@ impl<A: Allocator> Model for AsciiString<A> {
 impl<A: Allocator> AsciiString<A> {
     ghost use Rattle.std.specs.Str.{IsAscii};
 
-    /// The empty text. It takes no memory.
+    /// Creates an empty string. Does not allocate.
     ///
     ///     AsciiString::new(alloc).len() // 0
     #[inline]
@@ -58,7 +69,8 @@ impl<A: Allocator> AsciiString<A> {
         }
     }
 
-    /// The empty text, with room for at least `capacity` bytes.
+    /// Creates an empty string with room for at least `capacity` bytes. Fails only if the
+    /// allocation fails.
     ///
     ///     AsciiString::with_capacity(alloc, 10)?.capacity() >= 10 // true
     pub fn with_capacity(alloc: A, capacity: usize) -> Result<AsciiString<A>, AllocError>
@@ -71,7 +83,9 @@ impl<A: Allocator> AsciiString<A> {
         })
     }
 
-    /// The text of bytes that are known to be under 128. The buffer is kept, and so is its capacity.
+    /// Converts the bytes into a string, keeping their buffer. Nothing is checked.
+    ///
+    /// Condition: every byte is ASCII.
     ///
     ///     AsciiString::from_ascii_unchecked(Vec::from_slice(alloc, b"foo")?) // "foo"
     #[inline]
@@ -83,7 +97,7 @@ impl<A: Allocator> AsciiString<A> {
         AsciiString { bytes }
     }
 
-    /// A view of the whole text.
+    /// Returns a view of the whole text.
     ///
     ///     view("foo").to_ascii_string(alloc)?.as_ascii_str() // "foo"
     #[inline]
@@ -95,7 +109,7 @@ impl<A: Allocator> AsciiString<A> {
         }
     }
 
-    /// The number of bytes that the text can have before it has to grow, at least its length.
+    /// Returns the number of bytes up to which the text does not have to grow: at least its length.
     ///
     ///     AsciiString::new(alloc).capacity() // 0
     #[inline]
@@ -106,8 +120,11 @@ impl<A: Allocator> AsciiString<A> {
         self.bytes.capacity()
     }
 
-    /// Makes room for `additional` more bytes. The text stays, and a refusal of memory comes only
-    /// where the room was missing; room for none never is.
+    /// Makes room for at least `additional` more bytes. Fails only if there is not enough room and
+    /// the allocation fails. The text is unchanged.
+    ///
+    /// Condition: the length and `additional` together are at most `usize::MAX`. May make more room
+    /// than that, so that repeated calls do not allocate each time.
     ///
     ///     let mut text = view("foo").to_ascii_string(alloc)?;
     ///     text.reserve(10) // Ok(())
@@ -119,8 +136,10 @@ impl<A: Allocator> AsciiString<A> {
         self.bytes.reserve(additional)
     }
 
-    /// Makes room for `additional` more bytes and asks for no more than that. The text stays, and a
-    /// refusal of memory comes only where the room was missing; room for none never is.
+    /// Makes room for `additional` more bytes, and asks for no more than that. Fails only if there
+    /// is not enough room and the allocation fails. The text is unchanged.
+    ///
+    /// Condition: the length and `additional` together are at most `usize::MAX`.
     ///
     ///     let mut text = view("foo").to_ascii_string(alloc)?;
     ///     text.reserve_exact(10) // Ok(())
@@ -132,8 +151,8 @@ impl<A: Allocator> AsciiString<A> {
         self.bytes.reserve_exact(additional)
     }
 
-    /// Gives back the room that the text does not need. The text stays; a refusal of memory leaves
-    /// the room too, and comes only where there was some.
+    /// Gives back the room that the text does not need, or returns an error if the allocation fails
+    /// and such room is left. The text is unchanged, and the capacity does not grow.
     ///
     ///     let mut text = AsciiString::with_capacity(alloc, 10)?;
     ///     text.shrink_to_fit() // Ok(())
@@ -152,8 +171,10 @@ impl<A: Allocator> AsciiString<A> {
         Ok(())
     }
 
-    /// Appends a character. It is never refused where the longer text fits the capacity; a refusal
-    /// of memory leaves the text.
+    /// Appends `ch`. Fails only if the string has to grow and the allocation fails; the text is
+    /// then unchanged.
+    ///
+    /// Amortized constant time.
     ///
     ///     let mut text = view("fo").to_ascii_string(alloc)?;
     ///     text.push(AsciiChar::o) // Ok(())
@@ -166,8 +187,8 @@ impl<A: Allocator> AsciiString<A> {
         Ok(())
     }
 
-    /// Appends a view. It is never refused where the longer text fits the capacity, as it does with
-    /// the empty view; a refusal of memory leaves the text.
+    /// Appends a view. Fails only if the string has to grow and the allocation fails; the text is
+    /// then unchanged. Never fails for the empty view.
     ///
     ///     let mut text = view("foo").to_ascii_string(alloc)?;
     ///     text.push_str(view("bar")) // Ok(())
@@ -179,8 +200,23 @@ impl<A: Allocator> AsciiString<A> {
         self.bytes.extend_from_slice(view.as_bytes())
     }
 
-    /// Puts a character before the position `idx`; at the length it is appended. It is never refused
-    /// where the longer text fits the capacity; a refusal of memory leaves the text.
+    /// Appends the decimal digits of `n`, after `-` if `n` is negative. Fails only if the string has
+    /// to grow and the allocation fails; the text is then unchanged.
+    ///
+    ///     let mut text = view("n = ").to_ascii_string(alloc)?;
+    ///     text.push_decimal(42u64) // Ok(())
+    ///     text // "n = 42"
+    pub fn push_decimal<I: Integer>(&mut self, n: I) -> Result<(), AllocError>
+        ensures { GrowsTo (self.old.text ++ I.text n) self.old self.new result }
+    {
+        let mut buffer = Buffer::new();
+        self.bytes.extend_from_slice(buffer.format(n).as_bytes())
+    }
+
+    /// Inserts `ch` before position `idx`, or appends it if `idx` is the length. Fails only if the
+    /// string has to grow and the allocation fails; the text is then unchanged.
+    ///
+    /// Condition: `idx` is at most the length. Moves the bytes from `idx` on.
     ///
     ///     let mut text = view("fo").to_ascii_string(alloc)?;
     ///     text.insert(0, AsciiChar::z) // Ok(())
@@ -193,9 +229,11 @@ impl<A: Allocator> AsciiString<A> {
         Ok(())
     }
 
-    /// Puts a view before the position `idx`; at the length it is appended. It is never refused where
-    /// the longer text fits the capacity, as it does with the empty view; a refusal of memory leaves
-    /// the text.
+    /// Inserts a view before position `idx`, or appends it if `idx` is the length. Fails only if
+    /// the string has to grow and the allocation fails; the text is then unchanged. Never fails for
+    /// the empty view.
+    ///
+    /// Condition: `idx` is at most the length. Moves the bytes from `idx` on.
     ///
     ///     let mut text = view("fo").to_ascii_string(alloc)?;
     ///     text.insert_str(1, view("lo")) // Ok(())
@@ -209,7 +247,9 @@ impl<A: Allocator> AsciiString<A> {
         Ok(())
     }
 
-    /// Takes out the character at a position from 0 that is under the length.
+    /// Removes the character at position `idx`, counted from 0, and returns it. Does not allocate.
+    ///
+    /// Condition: `idx` is less than the length. Moves the bytes after `idx`.
     ///
     ///     let mut text = view("foo").to_ascii_string(alloc)?;
     ///     text.remove(0) // 'f'
@@ -222,7 +262,8 @@ impl<A: Allocator> AsciiString<A> {
         AsciiChar::from_ascii_unchecked(self.bytes.remove(idx))
     }
 
-    /// Takes off the last character, or answers `None` of the empty text.
+    /// Removes the last character and returns it, or returns `None` if the text is empty. Does not
+    /// allocate.
     ///
     ///     let mut text = view("fo").to_ascii_string(alloc)?;
     ///     text.pop() // Some('o')
@@ -238,7 +279,8 @@ impl<A: Allocator> AsciiString<A> {
         Some(AsciiChar::from_ascii_unchecked(byte))
     }
 
-    /// Keeps the first `n` characters, or all where there are fewer.
+    /// Keeps the first `n` characters, or all if there are fewer. Does not allocate, and keeps the
+    /// capacity.
     ///
     ///     let mut text = view("foo").to_ascii_string(alloc)?;
     ///     text.truncate(2);
@@ -250,7 +292,27 @@ impl<A: Allocator> AsciiString<A> {
         self.bytes.truncate(n);
     }
 
-    /// Takes off all characters. The capacity stays.
+    /// Keeps the first `at` characters and returns the others as a string of their own. On error, the
+    /// text is unchanged; the capacity is unchanged either way.
+    ///
+    /// Condition: `at` is at most the length.
+    ///
+    ///     let mut text = view("foobar").to_ascii_string(alloc)?;
+    ///     text.split_off(3) // Ok("bar")
+    ///     text // "foo"
+    pub fn split_off(&mut self, at: usize) -> Result<AsciiString<A>, AllocError>
+    where
+        A: Clone,
+        requires { at ≤ length self.old.text }
+        ensures tail { IfOk result (λ tail. tail.text ≡ drop at self.old.text) }
+        ensures ok { OnOk result (EditsInPlace (take at self.old.text) self.old self.new) }
+        ensures err { OnErr result (EditsInPlace self.old.text self.old self.new) }
+    {
+        let bytes = self.bytes.split_off(at)?;
+        Ok(AsciiString { bytes })
+    }
+
+    /// Removes all characters. Does not allocate, and keeps the capacity.
     ///
     ///     let mut text = view("foo").to_ascii_string(alloc)?;
     ///     text.clear();
@@ -262,7 +324,9 @@ impl<A: Allocator> AsciiString<A> {
         self.bytes.clear();
     }
 
-    /// Puts a character in the place of the one at a position from 0 that is under the length.
+    /// Sets the character at position `i`, counted from 0, to `ch`. Does not allocate.
+    ///
+    /// Condition: `i` is less than the length.
     ///
     ///     let mut text = view("foo").to_ascii_string(alloc)?;
     ///     text.set(0, AsciiChar::z);
@@ -275,7 +339,7 @@ impl<A: Allocator> AsciiString<A> {
         self.bytes[i] = ch.as_byte();
     }
 
-    /// Changes `a` to `z` to `A` to `Z`, and leaves every other character.
+    /// Changes each letter `a` to `z` to `A` to `Z`. Every other character is unchanged.
     ///
     ///     let mut text = view("foo").to_ascii_string(alloc)?;
     ///     text.make_ascii_uppercase();
@@ -286,7 +350,7 @@ impl<A: Allocator> AsciiString<A> {
         kernels::upper_in_place(&mut self.bytes);
     }
 
-    /// Changes `A` to `Z` to `a` to `z`, and leaves every other character.
+    /// Changes each letter `A` to `Z` to `a` to `z`. Every other character is unchanged.
     ///
     ///     let mut text = view("FOO").to_ascii_string(alloc)?;
     ///     text.make_ascii_lowercase();
@@ -297,7 +361,7 @@ impl<A: Allocator> AsciiString<A> {
         kernels::lower_in_place(&mut self.bytes);
     }
 
-    /// The number of characters, which is the number of bytes.
+    /// Returns the number of characters, which is also the number of bytes.
     ///
     ///     view("foo").to_ascii_string(alloc)?.len() // 3
     #[inline]
@@ -307,7 +371,7 @@ impl<A: Allocator> AsciiString<A> {
         self.bytes.len()
     }
 
-    /// Whether the text has no character.
+    /// Returns `true` if the text is empty.
     ///
     ///     view("foo").to_ascii_string(alloc)?.is_empty() // false
     #[inline]
@@ -318,7 +382,7 @@ impl<A: Allocator> AsciiString<A> {
     }
 }
 
-/// Puts bytes before the position `idx`, or leaves the bytes where memory is refused.
+/// Inserts bytes before position `idx`. If the allocation fails, the bytes are unchanged.
 fn insert_bytes<A: Allocator>(
     bytes: &mut Vec<u8, A>,
     idx: usize,
@@ -339,7 +403,8 @@ fn insert_bytes<A: Allocator>(
 impl<A: Allocator + Clone> Clone for AsciiString<A> {
     ghost is_clone = { λ string copy. copy.text ≡ string.text };
 
-    /// The same text in memory of its own.
+    /// Returns a copy of the string, with a copy of its allocator. Fails only if the allocation
+    /// fails.
     ///
     ///     view("foo").to_ascii_string(alloc)?.clone()? // "foo"
     fn clone(&self) -> Result<AsciiString<A>, AllocError> {
@@ -360,6 +425,8 @@ impl<A: Allocator> PartialEq for AsciiString<A> {
 
     ghost laws = { Prim.search (comparing, rules) };
 
+    /// Returns `true` if the two texts are equal.
+    ///
     ///     view("foo").to_ascii_string(alloc)? == view("foo").to_ascii_string(alloc)? // true
     fn eq(&self, other: &AsciiString<A>) -> bool {
         self.as_ascii_str() == other.as_ascii_str()
@@ -385,6 +452,8 @@ impl<A: Allocator> PartialOrd for AsciiString<A> {
     ghost laws = { partial_order_from_own_ties
         (Prim.search (comparing, rules)) (Prim.search (comparing, rules)) };
 
+    /// Returns the order of the two texts: that of `cmp`.
+    ///
     ///     view("foo").to_ascii_string(alloc)? < view("fop").to_ascii_string(alloc)? // true
     fn partial_cmp(&self, other: &AsciiString<A>) -> Option<Ordering> {
         Some(self.cmp(other))
@@ -405,6 +474,8 @@ impl<A: Allocator> Ord for AsciiString<A> {
 
     ghost matches_eq = { Prim.search (comparing, rules) };
 
+    /// Returns the order of the two texts: lexicographic, by the codes.
+    ///
     ///     view("foo").to_ascii_string(alloc)?.cmp(&view("fo").to_ascii_string(alloc)?) // Greater
     fn cmp(&self, other: &AsciiString<A>) -> Ordering {
         self.as_ascii_str().cmp(&other.as_ascii_str())
@@ -420,6 +491,8 @@ impl<A: Allocator> Hash for AsciiString<A> {
 
     ghost respects_eq = { Prim.search (hashing, rules) };
 
+    /// Hashes the text as a view of it is hashed.
+    ///
     ///     let mut seen = HashSet::new(alloc);
     ///     seen.insert(view("foo").to_ascii_string(alloc)?)?;
     ///     seen.contains(&view("foo").to_ascii_string(alloc)?) // true
@@ -436,6 +509,9 @@ impl<A: Allocator> fmt::Display for AsciiString<A> {
 
     ghost styled_output = { λ string spec. Some (styled_text spec string.text) };
 
+    /// Writes the text, with the width, the alignment and the precision of the format, as for
+    /// `str`.
+    ///
     ///     format!(in alloc; "{}", view("foo").to_ascii_string(alloc)?)? // "foo"
     fn fmt<W: fmt::Write>(&self, f: &mut fmt::Formatter<W>) -> fmt::Result {
         fmt::Display::fmt(&self.as_ascii_str(), f)
@@ -448,6 +524,8 @@ impl<A: Allocator> fmt::Debug for AsciiString<A> {
 
     ghost debug_output = { λ string. Some (debug_text string.text) };
 
+    /// Writes the text in double quotes, escaped as std escapes it.
+    ///
     ///     format!(in alloc; "{:?}", view("foo").to_ascii_string(alloc)?)? // "\"foo\""
     fn fmt<W: fmt::Write>(&self, f: &mut fmt::Formatter<W>) -> fmt::Result {
         fmt::Debug::fmt(&self.as_ascii_str(), f)
@@ -457,7 +535,8 @@ impl<A: Allocator> fmt::Debug for AsciiString<A> {
 impl<A: Allocator> AsciiString<A> {
     ghost use Rattle.std.specs.Str.{IsAscii};
 
-    /// Appends a character. One past 127, or a refusal of memory, is an error and leaves the text.
+    /// Appends a character. Fails if it is not ASCII, or if the string has to grow and the
+    /// allocation fails; the text is then unchanged.
     ///
     ///     let mut text = view("foo").to_ascii_string(alloc)?;
     ///     text.write_char('d') // Ok(())
@@ -480,8 +559,9 @@ impl<A: Allocator> fmt::Write for AsciiString<A> {
 
     ghost write_str_gives = { λ old bytes new. new.text ≡ old.text ++ bytes };
 
-    /// Appends a text. One with a character past 127, or a refusal of memory, is an error and leaves
-    /// the text: no part of it goes in.
+    /// Appends a text. Fails if it has a character that is not ASCII, or if the string has to grow
+    /// and the allocation fails; the text is then unchanged, and no part of the other one was
+    /// appended.
     ///
     ///     let mut text = view("foo").to_ascii_string(alloc)?;
     ///     write!(text, "{}", 7) // Ok(())
@@ -503,7 +583,7 @@ impl<A: Allocator> From<AsciiString<A>> for Vec<u8, A> {
     ghost from_gives = { λ string bytes.
         (bytes.items ≡ string.text) × (vec_capacity bytes ≡ string.capacity) };
 
-    /// The bytes of the text, in the buffer that it had.
+    /// Converts the string into its bytes, keeping the buffer. Cannot fail.
     ///
     ///     Vec::from(view("foo").to_ascii_string(alloc)?) // [102, 111, 111]
     fn from(string: AsciiString<A>) -> Vec<u8, A> {
@@ -517,7 +597,7 @@ impl<A: Allocator> From<AsciiString<A>> for String<A> {
     ghost from_gives = { λ string text.
         (string_bytes text ≡ string.text) × (string_capacity text ≡ string.capacity) };
 
-    /// The text as a `String`, in the buffer that it had.
+    /// Converts the string into a `String`, keeping the buffer. Cannot fail.
     ///
     ///     String::from(view("foo").to_ascii_string(alloc)?) // "foo"
     fn from(string: AsciiString<A>) -> String<A> {

@@ -1,4 +1,4 @@
-//! The one test that stands under every form of a range over every source.
+//! The one test of a range over a source, for every form of range and every kind of source.
 
 ghost use Rattle.std.specs.Prelude.{MatchResult};
 ghost use Rattle.ascii.specs.Slice.{IsAsciiBounds, IsRejected};

@@ -11,7 +11,7 @@ use std::boxed::BoxedStr;
 use std::marker::Model;
 use std::rc::RcStr;
 
-/// A text of ASCII characters in a box, which does not grow.
+/// ASCII text in a box: owned text that does not grow.
 #[derive(Drop)]
 pub struct BoxedAsciiStr<A: Allocator = Global> {
     text: BoxedStr<A>,
@@ -30,7 +30,7 @@ impl<A: Allocator> Model for BoxedAsciiStr<A> {
 }
 
 impl<A: Allocator> BoxedAsciiStr<A> {
-    /// A copy of a view.
+    /// Returns a copy of a view in a box. Fails only if the allocation fails.
     ///
     ///     BoxedAsciiStr::from_ascii_str(alloc, view("foo"))?.as_ascii_str() // "foo"
     pub fn from_ascii_str(alloc: A, view: AsciiStr<'_>) -> Result<BoxedAsciiStr<A>, AllocError>
@@ -41,7 +41,7 @@ impl<A: Allocator> BoxedAsciiStr<A> {
         })
     }
 
-    /// A view of the text.
+    /// Returns a view of the text.
     ///
     ///     BoxedAsciiStr::from_ascii_str(alloc, view("foo"))?.as_ascii_str().len() // 3
     #[inline]
@@ -53,7 +53,7 @@ impl<A: Allocator> BoxedAsciiStr<A> {
         }
     }
 
-    /// The text as a string that can grow, in the memory that it has. It is never refused.
+    /// Converts the box into a string that can grow, keeping its buffer. Always returns `Ok`.
     ///
     ///     BoxedAsciiStr::from_ascii_str(alloc, view("foo"))?.into_ascii_string().ok() // Some("foo")
     pub fn into_ascii_string(self) -> Result<AsciiString<A>, BoxedAsciiStr<A>>
@@ -63,7 +63,7 @@ impl<A: Allocator> BoxedAsciiStr<A> {
         Ok(AsciiString::from_ascii_unchecked(bytes))
     }
 
-    /// The text as a boxed `str`, in the memory that it has.
+    /// Converts the box into a boxed `str`, keeping its buffer. Cannot fail.
     ///
     ///     BoxedAsciiStr::from_ascii_str(alloc, view("foo"))?.into_boxed_str() // "foo"
     pub fn into_boxed_str(self) -> BoxedStr<A>
@@ -73,7 +73,7 @@ impl<A: Allocator> BoxedAsciiStr<A> {
     }
 }
 
-/// A text of ASCII characters that several owners share.
+/// ASCII text that several owners share by counting references.
 #[derive(Drop)]
 pub struct RcAsciiStr<A: Allocator = Global> {
     text: RcStr<A>,
@@ -92,7 +92,7 @@ impl<A: Allocator> Model for RcAsciiStr<A> {
 }
 
 impl<A: Allocator> RcAsciiStr<A> {
-    /// A copy of a view.
+    /// Returns a shared copy of a view. Fails only if the allocation fails.
     ///
     ///     RcAsciiStr::from_ascii_str(alloc, view("foo"))?.as_ascii_str() // "foo"
     pub fn from_ascii_str(alloc: A, view: AsciiStr<'_>) -> Result<RcAsciiStr<A>, AllocError>
@@ -105,7 +105,7 @@ impl<A: Allocator> RcAsciiStr<A> {
         })
     }
 
-    /// A view of the text.
+    /// Returns a view of the text.
     ///
     ///     RcAsciiStr::from_ascii_str(alloc, view("foo"))?.as_ascii_str().len() // 3
     #[inline]
@@ -121,7 +121,7 @@ impl<A: Allocator> RcAsciiStr<A> {
 impl<A: Allocator> Clone for RcAsciiStr<A> {
     ghost is_clone = { λ shared copy. copy ≡ shared };
 
-    /// One more owner of the same text.
+    /// Returns one more owner of the text. Does not allocate.
     ///
     ///     RcAsciiStr::from_ascii_str(alloc, view("foo"))?.clone()?.as_ascii_str() // "foo"
     fn clone(&self) -> Result<RcAsciiStr<A>, AllocError> {
@@ -132,7 +132,7 @@ impl<A: Allocator> Clone for RcAsciiStr<A> {
 }
 
 impl<A: Allocator> AsciiString<A> {
-    /// The text in a box, in the memory that it has. It is never refused.
+    /// Converts the string into boxed text, keeping its buffer. Always returns `Ok`.
     ///
     ///     view("foo").to_ascii_string(alloc)?.into_boxed_ascii_str().is_ok() // true
     pub fn into_boxed_ascii_str(self) -> Result<BoxedAsciiStr<A>, AsciiString<A>>
@@ -142,7 +142,8 @@ impl<A: Allocator> AsciiString<A> {
         Ok(BoxedAsciiStr { text })
     }
 
-    /// A shared copy of the text. Where memory is refused the string comes back.
+    /// Returns a shared copy of the text, and drops the string. If the allocation fails, returns
+    /// the string as the error.
     ///
     ///     view("foo").to_ascii_string(alloc)?.into_rc_ascii_str(alloc).is_ok() // true
     pub fn into_rc_ascii_str<B: Allocator + Clone>(
@@ -156,19 +157,19 @@ impl<A: Allocator> AsciiString<A> {
     }
 }
 
-/// A text of ASCII characters that is borrowed or owned.
+/// ASCII text that is borrowed or owned.
 #[derive(Drop)]
 pub enum CowAsciiStr<'a, A: Allocator = Global> {
-    /// A view.
+    /// Borrowed text: a view.
     Borrowed(AsciiStr<'a>),
-    /// A string.
+    /// Owned text: a string.
     Owned(AsciiString<A>),
 }
 
 impl<'a, A: Allocator> CowAsciiStr<'a, A> {
     ghost use Rattle.ascii.specs.Cow.{OwnedStays, cow_text};
 
-    /// A view of the text.
+    /// Returns a view of the text.
     ///
     ///     let cow: CowAsciiStr = view("foo").into();
     ///     cow.as_ascii_str() // "foo"
@@ -181,8 +182,8 @@ impl<'a, A: Allocator> CowAsciiStr<'a, A> {
         }
     }
 
-    /// The text as a string: the owned one itself, which is never refused, or a copy of the borrowed
-    /// one. Where memory is refused the value comes back.
+    /// Converts the text into a string: an owned one is returned as it is, a borrowed one is
+    /// copied. If the allocation for the copy fails, returns the value itself as the error.
     ///
     ///     let cow: CowAsciiStr = view("foo").into();
     ///     cow.into_owned(alloc).ok() // Some("foo")
@@ -205,6 +206,8 @@ impl<'a, A: Allocator> From<AsciiStr<'a>> for CowAsciiStr<'a, A> {
 
     ghost from_gives = { λ view cow. cow ≡ Borrowed view };
 
+    /// Wraps a view as borrowed text.
+    ///
     ///     let cow: CowAsciiStr = view("foo").into();
     ///     cow.as_ascii_str() // "foo"
     fn from(view: AsciiStr<'a>) -> CowAsciiStr<'a, A> {
@@ -217,6 +220,8 @@ impl<'a, A: Allocator> From<AsciiString<A>> for CowAsciiStr<'a, A> {
 
     ghost from_gives = { λ string cow. cow ≡ Owned string };
 
+    /// Wraps a string as owned text.
+    ///
     ///     let cow: CowAsciiStr = view("foo").to_ascii_string(alloc)?.into();
     ///     cow.as_ascii_str() // "foo"
     fn from(string: AsciiString<A>) -> CowAsciiStr<'a, A> {

@@ -19,6 +19,8 @@ impl<A: Allocator> PartialEq for BoxedAsciiStr<A> {
 
     ghost laws = { Prim.search (comparing, rules) };
 
+    /// Returns `true` if the two texts are equal.
+    ///
     ///     BoxedAsciiStr::from_ascii_str(alloc, view("foo"))? == BoxedAsciiStr::from_ascii_str(alloc, view("foo"))? // true
     fn eq(&self, other: &BoxedAsciiStr<A>) -> bool {
         self.as_ascii_str() == other.as_ascii_str()
@@ -35,6 +37,8 @@ impl<A: Allocator> PartialOrd for BoxedAsciiStr<A> {
     ghost laws = { partial_order_from_own_ties
         (Prim.search (comparing, rules)) (Prim.search (comparing, rules)) };
 
+    /// Returns the order of the two texts: that of `cmp`.
+    ///
     ///     BoxedAsciiStr::from_ascii_str(alloc, view("foo"))? < BoxedAsciiStr::from_ascii_str(alloc, view("fop"))? // true
     fn partial_cmp(&self, other: &BoxedAsciiStr<A>) -> Option<Ordering> {
         Some(self.cmp(other))
@@ -50,6 +54,8 @@ impl<A: Allocator> Ord for BoxedAsciiStr<A> {
 
     ghost matches_eq = { Prim.search (comparing, rules) };
 
+    /// Returns the order of the two texts: lexicographic, by the codes.
+    ///
     ///     BoxedAsciiStr::from_ascii_str(alloc, view("foo"))?.cmp(&BoxedAsciiStr::from_ascii_str(alloc, view("fo"))?) // Greater
     fn cmp(&self, other: &BoxedAsciiStr<A>) -> Ordering {
         self.as_ascii_str().cmp(&other.as_ascii_str())
@@ -61,6 +67,8 @@ impl<A: Allocator> Hash for BoxedAsciiStr<A> {
 
     ghost respects_eq = { Prim.search (hashing, rules) };
 
+    /// Hashes the text as a view of it is hashed.
+    ///
     ///     let mut seen = HashSet::new(alloc);
     ///     seen.insert(BoxedAsciiStr::from_ascii_str(alloc, view("foo"))?)?;
     ///     seen.contains(&BoxedAsciiStr::from_ascii_str(alloc, view("foo"))?) // true
@@ -74,6 +82,8 @@ impl<A: Allocator> PartialEq for RcAsciiStr<A> {
 
     ghost laws = { Prim.search (comparing, rules) };
 
+    /// Returns `true` if the two texts are equal.
+    ///
     ///     RcAsciiStr::from_ascii_str(alloc, view("foo"))? == RcAsciiStr::from_ascii_str(alloc, view("foo"))? // true
     fn eq(&self, other: &RcAsciiStr<A>) -> bool {
         self.as_ascii_str() == other.as_ascii_str()
@@ -90,6 +100,8 @@ impl<A: Allocator> PartialOrd for RcAsciiStr<A> {
     ghost laws = { partial_order_from_own_ties
         (Prim.search (comparing, rules)) (Prim.search (comparing, rules)) };
 
+    /// Returns the order of the two texts: that of `cmp`.
+    ///
     ///     RcAsciiStr::from_ascii_str(alloc, view("foo"))? < RcAsciiStr::from_ascii_str(alloc, view("fop"))? // true
     fn partial_cmp(&self, other: &RcAsciiStr<A>) -> Option<Ordering> {
         Some(self.cmp(other))
@@ -105,6 +117,8 @@ impl<A: Allocator> Ord for RcAsciiStr<A> {
 
     ghost matches_eq = { Prim.search (comparing, rules) };
 
+    /// Returns the order of the two texts: lexicographic, by the codes.
+    ///
     ///     RcAsciiStr::from_ascii_str(alloc, view("foo"))?.cmp(&RcAsciiStr::from_ascii_str(alloc, view("fo"))?) // Greater
     fn cmp(&self, other: &RcAsciiStr<A>) -> Ordering {
         self.as_ascii_str().cmp(&other.as_ascii_str())
@@ -116,6 +130,8 @@ impl<A: Allocator> Hash for RcAsciiStr<A> {
 
     ghost respects_eq = { Prim.search (hashing, rules) };
 
+    /// Hashes the text as a view of it is hashed.
+    ///
     ///     let mut seen = HashSet::new(alloc);
     ///     seen.insert(RcAsciiStr::from_ascii_str(alloc, view("foo"))?)?;
     ///     seen.contains(&RcAsciiStr::from_ascii_str(alloc, view("foo"))?) // true
@@ -129,6 +145,8 @@ impl<A: Allocator> PartialEq for CowAsciiStr<'_, A> {
 
     ghost laws = { Prim.search (comparing, rules) };
 
+    /// Returns `true` if the two texts are equal, whether borrowed or owned.
+    ///
     ///     CowAsciiStr::<Global>::from(view("foo")) == CowAsciiStr::<Global>::from(view("foo")) // true
     fn eq(&self, other: &CowAsciiStr<'_, A>) -> bool {
         self.as_ascii_str() == other.as_ascii_str()
@@ -145,6 +163,8 @@ impl<A: Allocator> PartialOrd for CowAsciiStr<'_, A> {
     ghost laws = { partial_order_from_own_ties
         (Prim.search (comparing, rules)) (Prim.search (comparing, rules)) };
 
+    /// Returns the order of the two texts: that of `cmp`.
+    ///
     ///     CowAsciiStr::<Global>::from(view("foo")) < CowAsciiStr::<Global>::from(view("fop")) // true
     fn partial_cmp(&self, other: &CowAsciiStr<'_, A>) -> Option<Ordering> {
         Some(self.cmp(other))
@@ -160,6 +180,8 @@ impl<A: Allocator> Ord for CowAsciiStr<'_, A> {
 
     ghost matches_eq = { Prim.search (comparing, rules) };
 
+    /// Returns the order of the two texts: lexicographic, by the codes.
+    ///
     ///     CowAsciiStr::<Global>::from(view("foo")).cmp(&CowAsciiStr::<Global>::from(view("fo"))) // Greater
     fn cmp(&self, other: &CowAsciiStr<'_, A>) -> Ordering {
         self.as_ascii_str().cmp(&other.as_ascii_str())
@@ -171,6 +193,8 @@ impl<A: Allocator> Hash for CowAsciiStr<'_, A> {
 
     ghost respects_eq = { Prim.search (hashing, rules) };
 
+    /// Hashes the text as a view of it is hashed.
+    ///
     ///     let mut seen = HashSet::new(alloc);
     ///     seen.insert(CowAsciiStr::<Global>::from(view("foo")))?;
     ///     seen.contains(&CowAsciiStr::<Global>::from(view("foo"))) // true

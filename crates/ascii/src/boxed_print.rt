@@ -14,6 +14,9 @@ impl<A: Allocator> fmt::Display for BoxedAsciiStr<A> {
 
     ghost styled_output = { λ boxed spec. Some (styled_text spec boxed) };
 
+    /// Writes the text, with the width, the alignment and the precision of the format, as for
+    /// `str`.
+    ///
     ///     format!(in alloc; "{}", BoxedAsciiStr::from_ascii_str(alloc, view("a\"b"))?)? // "a\"b"
     fn fmt<W: fmt::Write>(&self, f: &mut fmt::Formatter<W>) -> fmt::Result {
         fmt::Display::fmt(&self.as_ascii_str(), f)
@@ -23,6 +26,8 @@ impl<A: Allocator> fmt::Display for BoxedAsciiStr<A> {
 impl<A: Allocator> fmt::Debug for BoxedAsciiStr<A> {
     ghost debug_output = { λ boxed. Some (debug_text boxed) };
 
+    /// Writes the text in double quotes, escaped as std escapes it.
+    ///
     ///     format!(in alloc; "{:?}", BoxedAsciiStr::from_ascii_str(alloc, view("foo"))?)? // "\"foo\""
     fn fmt<W: fmt::Write>(&self, f: &mut fmt::Formatter<W>) -> fmt::Result {
         fmt::Debug::fmt(&self.as_ascii_str(), f)
@@ -34,6 +39,9 @@ impl<A: Allocator> fmt::Display for RcAsciiStr<A> {
 
     ghost styled_output = { λ shared spec. Some (styled_text spec shared) };
 
+    /// Writes the text, with the width, the alignment and the precision of the format, as for
+    /// `str`.
+    ///
     ///     format!(in alloc; "{}", RcAsciiStr::from_ascii_str(alloc, view("a\"b"))?)? // "a\"b"
     fn fmt<W: fmt::Write>(&self, f: &mut fmt::Formatter<W>) -> fmt::Result {
         fmt::Display::fmt(&self.as_ascii_str(), f)
@@ -43,6 +51,8 @@ impl<A: Allocator> fmt::Display for RcAsciiStr<A> {
 impl<A: Allocator> fmt::Debug for RcAsciiStr<A> {
     ghost debug_output = { λ shared. Some (debug_text shared) };
 
+    /// Writes the text in double quotes, escaped as std escapes it.
+    ///
     ///     format!(in alloc; "{:?}", RcAsciiStr::from_ascii_str(alloc, view("foo"))?)? // "\"foo\""
     fn fmt<W: fmt::Write>(&self, f: &mut fmt::Formatter<W>) -> fmt::Result {
         fmt::Debug::fmt(&self.as_ascii_str(), f)
@@ -54,6 +64,9 @@ impl<A: Allocator> fmt::Display for CowAsciiStr<'_, A> {
 
     ghost styled_output = { λ cow spec. Some (styled_text spec (cow_text cow)) };
 
+    /// Writes the text, with the width, the alignment and the precision of the format, as for
+    /// `str`.
+    ///
     ///     format!(in alloc; "{}", CowAsciiStr::<Global>::from(view("a\"b")))? // "a\"b"
     fn fmt<W: fmt::Write>(&self, f: &mut fmt::Formatter<W>) -> fmt::Result {
         fmt::Display::fmt(&self.as_ascii_str(), f)
@@ -63,6 +76,8 @@ impl<A: Allocator> fmt::Display for CowAsciiStr<'_, A> {
 impl<A: Allocator> fmt::Debug for CowAsciiStr<'_, A> {
     ghost debug_output = { λ cow. Some (debug_text (cow_text cow)) };
 
+    /// Writes the text in double quotes, escaped as std escapes it.
+    ///
     ///     format!(in alloc; "{:?}", CowAsciiStr::<Global>::from(view("foo")))? // "\"foo\""
     fn fmt<W: fmt::Write>(&self, f: &mut fmt::Formatter<W>) -> fmt::Result {
         fmt::Debug::fmt(&self.as_ascii_str(), f)

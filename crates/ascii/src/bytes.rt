@@ -1,4 +1,20 @@
-//! Views of borrowed bytes.
+//! Views of bytes, and copies of them as strings.
+//!
+//! | | may not be ASCII | known to be ASCII |
+//! |---|---|---|
+//! | all bytes | `as_ascii_str`, `from_ascii` | `as_ascii_str_unchecked`, `from_ascii_unchecked` |
+//! | the bytes in a range | `slice_ascii` | |
+//! | one byte | `get_ascii` | |
+//! | all bytes, to edit in place | `as_mut_ascii_str` | `as_mut_ascii_str_unchecked` |
+//! | the bytes in a range, to edit in place | `slice_ascii_mut` | `slice_ascii_mut_unchecked` |
+//! | a copy | `to_ascii_string` | |
+//!
+//! A call in the middle column scans the bytes once, and returns an error with a position in the source. A call in the
+//! last column checks nothing; it has a condition, which its caller has to prove.
+//!
+//!     bytes::slice_ascii(b"ab\xc4d", AsciiRange::To(2))
+//!
+//! is a view of `ab`: the byte 0xc4, which is not ASCII, is outside the range.
 
 ghost use Rattle.std.specs.Prelude.{◌≡◌, MatchResult, OnOk, length};
 ghost use Rattle.std.specs.Str.{IsAscii};
@@ -19,7 +35,9 @@ use ascii_base::ascii_char::{AsciiChar, ToAsciiChar};
 use ascii_base::range::AsciiRange;
 use std::alloc::Allocator;
 
-/// The whole source as ASCII text, or the position of its first byte over 127.
+/// Returns the whole source as a view, or an error with the position of its first non-ASCII byte.
+///
+/// Scans the source once, 32 bytes or more at a time. Does not allocate.
 ///
 ///     bytes::as_ascii_str(b"foo") // Ok("foo")
 ///     bytes::as_ascii_str(b"ab\xc4") // Err(AsAsciiStrError(2))
@@ -30,7 +48,8 @@ pub fn as_ascii_str(source: &[u8]) -> Result<AsciiStr<'_>, AsAsciiStrError>
     slice_ascii(source, AsciiRange::Full)
 }
 
-/// The same as `as_ascii_str`.
+/// Returns the whole source as a view, or an error with the position of its first non-ASCII byte.
+/// This is `as_ascii_str` under the name that upstream's `AsciiStr::from_ascii` has.
 ///
 ///     bytes::from_ascii(b"foo") // Ok("foo")
 pub fn from_ascii(source: &[u8]) -> Result<AsciiStr<'_>, AsAsciiStrError>
@@ -40,9 +59,11 @@ pub fn from_ascii(source: &[u8]) -> Result<AsciiStr<'_>, AsAsciiStrError>
     as_ascii_str(source)
 }
 
-/// The part of the source that the range names, as ASCII text. A range that does not fit is refused
-/// with the length of the source, and one that fits with the position in the source of its first
-/// byte over 127. Bytes outside the range do not matter.
+/// Returns the part of the source in `range` as a view, or an error: with the length of the source
+/// if the range does not fit, and otherwise with the position in the source of the first non-ASCII
+/// byte in the range.
+///
+/// Bytes outside the range do not matter. Scans the range once. Does not allocate.
 ///
 ///     bytes::slice_ascii(b"ab\xc4d", AsciiRange::From(3)) // Ok("d")
 ///     bytes::slice_ascii(b"ab\xc4d", AsciiRange::From(1)) // Err(AsAsciiStrError(2))
@@ -58,7 +79,8 @@ pub fn slice_ascii(source: &[u8], range: AsciiRange) -> Result<AsciiStr<'_>, AsA
     })
 }
 
-/// The character at a position from 0: `None` past the end, and where the byte is over 127.
+/// Returns the character at position `i`, counted from 0, or `None` if `i` is not less than the
+/// length or the byte there is not ASCII.
 ///
 ///     bytes::get_ascii(b"ab\xc4", 1) // Some('b')
 ///     bytes::get_ascii(b"ab\xc4", 2) // None
@@ -68,7 +90,9 @@ pub fn get_ascii(source: &[u8], i: usize) -> Option<AsciiChar>
     source.get(i)?.to_ascii_char().ok()
 }
 
-/// The whole source as ASCII text. Nothing is checked.
+/// Returns the whole source as a view. Nothing is checked.
+///
+/// Condition: every byte of `source` is ASCII.
 ///
 ///     bytes::as_ascii_str_unchecked(b"foo") // "foo"
 #[inline]
@@ -79,7 +103,10 @@ pub fn as_ascii_str_unchecked(source: &[u8]) -> AsciiStr<'_>
     AsciiStr { bytes: source }
 }
 
-/// The same as `as_ascii_str_unchecked`.
+/// Returns the whole source as a view. Nothing is checked. This is `as_ascii_str_unchecked` under
+/// the name that upstream's `AsciiStr::from_ascii_unchecked` has.
+///
+/// Condition: every byte of `source` is ASCII.
 ///
 ///     bytes::from_ascii_unchecked(b"foo") // "foo"
 #[inline]
@@ -90,8 +117,10 @@ pub fn from_ascii_unchecked(source: &[u8]) -> AsciiStr<'_>
     as_ascii_str_unchecked(source)
 }
 
-/// A copy of the source, or the position of its first byte over 127 with the source itself. The
-/// bytes are checked before memory is asked for; that of no bytes is never refused.
+/// Returns a copy of the source as a string, or an error that holds the source: `NotAscii` with the
+/// position of its first non-ASCII byte, or `Memory` if the allocation fails.
+///
+/// The bytes are checked before anything is allocated. A copy of no bytes never fails.
 ///
 ///     bytes::to_ascii_string(alloc, b"foo") // Ok("foo")
 pub fn to_ascii_string<A: Allocator>(

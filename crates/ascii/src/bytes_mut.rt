@@ -102,14 +102,14 @@ pub fn as_mut_ascii_str(source: &mut [u8]) -> Result<AsciiStrMut<'_>, AsAsciiStr
 /// What a search of a range of a source found.
 #[derive(Drop)]
 struct SearchOutcome<'a> {
-    /// the part of the range; of a refused source, no part
+    /// The part of the source in the range; an empty part if the source is rejected.
     view: AsciiStrMut<'a>,
     is_refused: bool,
-    /// the position that a refusal names
+    /// The position that the error names.
     valid_up_to: usize,
 }
 
-/// Looks through the range of a source, and keeps hold of the source.
+/// Searches the range of a source for a non-ASCII byte, and keeps the borrow of the source.
 fn search(source: &mut [u8], range: AsciiRange) -> SearchOutcome<'_>
     ensures accepted { result.is_refused ≡ false → let n = length source.old in
         Fits range n × IsViewOf source.old (start_of range) (end_of range n) result.view }

@@ -40,8 +40,12 @@ fn gather<I: Iterator<Item = AsciiChar>>(iter: &mut I, codes: &mut [u8]) -> usiz
 }
 
 impl<A: Allocator> AsciiString<A> {
-    /// Appends the characters of an iterator that ends. On error, the characters before the first that
-    /// did not fit have been appended. Never fails if all of them fit the capacity.
+    /// Appends the characters of an iterator. Fails only if the string has to grow and the
+    /// allocation fails; the characters before the first that did not fit have then been appended.
+    /// Never fails if all of them fit the capacity.
+    ///
+    /// Condition: the iterator can be called, and it ends. The string grows as the characters come;
+    /// the size hint is not used.
     ///
     ///     let mut text = view("foo").to_ascii_string(alloc)?;
     ///     text.extend_chars(view("bar").chars()) // Ok(())
@@ -81,9 +85,12 @@ impl<A: Allocator> AsciiString<A> {
         Ok(())
     }
 
-    /// Appends the views of an iterator that ends, one by one. Where memory is refused, those before
-    /// the refused one stay, and no part of that one. It is never refused where all of them fit the
-    /// capacity.
+    /// Appends the views of an iterator, one by one. Fails only if the string has to grow and the
+    /// allocation fails; the views before the first that did not fit have then been appended, and
+    /// no part of that one. Never fails if all of them fit the capacity.
+    ///
+    /// Condition: the iterator can be called, and it ends. The string grows as the views come; the
+    /// size hint is not used.
     ///
     ///     let mut text = view("a").to_ascii_string(alloc)?;
     ///     text.extend_strs(view("b,c").split(AsciiChar::Comma)) // Ok(())
@@ -103,7 +110,10 @@ impl<A: Allocator> AsciiString<A> {
         Ok(())
     }
 
-    /// The text of the characters of an iterator that ends.
+    /// Returns a string of the characters of an iterator, in order. Fails only if an allocation
+    /// fails.
+    ///
+    /// Condition: the iterator can be called, and it ends. The string grows as the characters come.
     ///
     ///     AsciiString::collect_chars(alloc, view("foo").chars().rev())? // "oof"
     pub fn collect_chars<I: Iterator<Item = AsciiChar> + Drop>(
@@ -119,7 +129,10 @@ impl<A: Allocator> AsciiString<A> {
         Ok(string)
     }
 
-    /// The text of the views of an iterator that ends, one after the other.
+    /// Returns a string of the views of an iterator, one after the other. Fails only if an
+    /// allocation fails.
+    ///
+    /// Condition: the iterator can be called, and it ends. The string grows as the views come.
     ///
     ///     AsciiString::collect_strs(alloc, view("b,c").split(AsciiChar::Comma))? // "bc"
     pub fn collect_strs<'a, I: Iterator<Item = AsciiStr<'a>> + Drop>(

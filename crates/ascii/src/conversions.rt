@@ -19,6 +19,8 @@ use std::path::AsPath;
 impl AsStr for AsciiStr<'_> {
     ghost text = { λ view. text_of view };
 
+    /// Returns the view as a `&str`. Nothing is checked or copied.
+    ///
     ///     AsStr::as_str(&view("foo")) // "foo"
     fn as_str(&self) -> &str {
         AsciiStr::as_str(*self)
@@ -28,6 +30,8 @@ impl AsStr for AsciiStr<'_> {
 impl AsSlice<u8> for AsciiStr<'_> {
     ghost items = { λ view. text_of view };
 
+    /// Returns the bytes of the view, one for each character.
+    ///
     ///     view("foo").as_slice() // [102, 111, 111]
     fn as_slice(&self) -> &[u8] {
         self.as_bytes()
@@ -37,6 +41,8 @@ impl AsSlice<u8> for AsciiStr<'_> {
 impl AsBytes for AsciiStr<'_> {
     ghost bytes = { λ view. Some (text_of view) };
 
+    /// Returns the bytes of the view, one for each character.
+    ///
     ///     view("foo").as_byte_slice() // [102, 111, 111]
     fn as_byte_slice(&self) -> &[u8] {
         self.as_bytes()
@@ -46,6 +52,8 @@ impl AsBytes for AsciiStr<'_> {
 impl AsPath for AsciiStr<'_> {
     ghost path_text = { λ view. Some (text_of view) };
 
+    /// Returns the view as the text of a path.
+    ///
     ///     view("a/b").path_text() // "a/b"
     fn path_text(&self) -> &str {
         AsciiStr::as_str(*self)
@@ -55,6 +63,8 @@ impl AsPath for AsciiStr<'_> {
 impl<A: Allocator> AsStr for AsciiString<A> {
     ghost text = { λ string. string.text };
 
+    /// Returns the text as a `&str`. Nothing is checked or copied.
+    ///
     ///     AsStr::as_str(&view("foo").to_ascii_string(alloc)?) // "foo"
     fn as_str(&self) -> &str {
         self.as_ascii_str().as_str()
@@ -64,6 +74,8 @@ impl<A: Allocator> AsStr for AsciiString<A> {
 impl<A: Allocator> AsSlice<u8> for AsciiString<A> {
     ghost items = { λ string. string.text };
 
+    /// Returns the bytes of the text, one for each character.
+    ///
     ///     view("foo").to_ascii_string(alloc)?.as_slice() // [102, 111, 111]
     fn as_slice(&self) -> &[u8] {
         self.as_ascii_str().as_bytes()
@@ -73,6 +85,8 @@ impl<A: Allocator> AsSlice<u8> for AsciiString<A> {
 impl<A: Allocator> AsBytes for AsciiString<A> {
     ghost bytes = { λ string. Some string.text };
 
+    /// Returns the bytes of the text, one for each character.
+    ///
     ///     view("foo").to_ascii_string(alloc)?.as_byte_slice() // [102, 111, 111]
     fn as_byte_slice(&self) -> &[u8] {
         self.as_ascii_str().as_bytes()

@@ -11,7 +11,10 @@ use ascii_base::ascii_char::AsciiChar;
 use std::alloc::{AllocError, Allocator};
 
 impl AsciiStr<'_> {
-    /// A copy of the view. That of the empty view is never refused.
+    /// Returns a copy of the view as a string. Fails only if the allocation fails, and never for
+    /// the empty view.
+    ///
+    /// Allocates once, for the length of the view.
     ///
     ///     view("foo").to_ascii_string(alloc)? // "foo"
     pub fn to_ascii_string<A: Allocator>(self, alloc: A) -> Result<AsciiString<A>, AllocError>
@@ -23,7 +26,10 @@ impl AsciiStr<'_> {
         Ok(string)
     }
 
-    /// A copy in upper case.
+    /// Returns a copy of the view with each letter `a` to `z` changed to `A` to `Z`. Fails only if
+    /// the allocation fails.
+    ///
+    /// Allocates once, and changes the case in the copy.
     ///
     ///     view("foo").to_ascii_uppercase(alloc)? // "FOO"
     pub fn to_ascii_uppercase<A: Allocator>(self, alloc: A) -> Result<AsciiString<A>, AllocError>
@@ -34,7 +40,10 @@ impl AsciiStr<'_> {
         Ok(string)
     }
 
-    /// A copy in lower case.
+    /// Returns a copy of the view with each letter `A` to `Z` changed to `a` to `z`. Fails only if
+    /// the allocation fails.
+    ///
+    /// Allocates once, and changes the case in the copy.
     ///
     ///     view("FOO").to_ascii_lowercase(alloc)? // "foo"
     pub fn to_ascii_lowercase<A: Allocator>(self, alloc: A) -> Result<AsciiString<A>, AllocError>
@@ -45,7 +54,7 @@ impl AsciiStr<'_> {
         Ok(string)
     }
 
-    /// The characters of the view, in order.
+    /// Returns the characters of the view as a `Vec`, in order. Fails only if the allocation fails.
     ///
     ///     view("ab").to_chars(alloc)? // ['a', 'b']
     pub fn to_chars<A: Allocator>(self, alloc: A) -> Result<Vec<AsciiChar, A>, AllocError>
@@ -61,7 +70,7 @@ impl AsciiStr<'_> {
 }
 
 impl<A: Allocator> AsciiString<A> {
-    /// The text of one character.
+    /// Returns a string of one character. Fails only if the allocation fails.
     ///
     ///     AsciiString::from_char(alloc, AsciiChar::a)? // "a"
     pub fn from_char(alloc: A, ch: AsciiChar) -> Result<AsciiString<A>, AllocError>
@@ -72,7 +81,7 @@ impl<A: Allocator> AsciiString<A> {
         Ok(string)
     }
 
-    /// The text of a list of characters.
+    /// Returns a string of the characters, in order. Fails only if the allocation fails.
     ///
     ///     AsciiString::from_chars(alloc, &[AsciiChar::a, AsciiChar::b])? // "ab"
     pub fn from_chars(alloc: A, chars: &[AsciiChar]) -> Result<AsciiString<A>, AllocError>
@@ -85,7 +94,8 @@ impl<A: Allocator> AsciiString<A> {
         Ok(string)
     }
 
-    /// The characters of the text, in order. Where memory is refused the string comes back.
+    /// Copies the characters of the string into a `Vec`, in order. If the allocation fails, returns
+    /// the string as the error.
     ///
     ///     view("ab").to_ascii_string(alloc)?.into_chars(alloc) // Ok(['a', 'b'])
     pub fn into_chars<B: Allocator>(self, alloc: B) -> Result<Vec<AsciiChar, B>, AsciiString<A>>

@@ -5,6 +5,7 @@ ghost use Rattle.std.specs.Prelude.{Some};
 use crate::ascii_str::AsAsciiStrError;
 use crate::from_ascii::{CopyError, FromAsciiError};
 use crate::json::JsonError;
+use crate::numbers::NumberError;
 use std::error::Error;
 use std::fmt;
 
@@ -17,6 +18,8 @@ impl<O> fmt::Display for CopyError<O> {
 
     ghost output = { λ e. Some (copy_error_text e) };
 
+    /// Writes the line of the error: that of the position, or `no memory`.
+    ///
     ///     text::to_ascii_string(alloc, "abč").map_err(|e| e.to_string(alloc)) // Err(Ok("the byte at index 2 is not ASCII"))
     fn fmt<W: fmt::Write>(&self, f: &mut fmt::Formatter<W>) -> fmt::Result {
         match self {
@@ -33,6 +36,8 @@ impl fmt::Display for JsonError {
 
     ghost output = { λ e. Some (json_error_text e) };
 
+    /// Writes the line of the error.
+    ///
     ///     JsonError::NotText.to_string(alloc)? // "not a JSON string"
     ///     JsonError::NotOneByte.to_string(alloc)? // "not a string of one character"
     fn fmt<W: fmt::Write>(&self, f: &mut fmt::Formatter<W>) -> fmt::Result {
@@ -46,3 +51,26 @@ impl fmt::Display for JsonError {
 }
 
 impl Error for JsonError {}
+
+impl fmt::Display for NumberError {
+    ghost use Rattle.ascii.specs.Numbers.{number_error_text};
+
+    ghost output = { λ e. Some (number_error_text e) };
+
+    ///     NumberError::Empty.to_string(alloc)? // "no digits"
+    ///     NumberError::NotDigit(1).to_string(alloc)? // "the character at index 1 is not a digit"
+    ///     NumberError::TooLarge(2).to_string(alloc)? // "the number is too large at index 2"
+    fn fmt<W: fmt::Write>(&self, f: &mut fmt::Formatter<W>) -> fmt::Result {
+        match self {
+            NumberError::Empty => f.write_str("no digits"),
+            NumberError::NotDigit(position) => {
+                write!(f, "the character at index {position} is not a digit")
+            }
+            NumberError::TooLarge(position) => {
+                write!(f, "the number is too large at index {position}")
+            }
+        }
+    }
+}
+
+impl Error for NumberError {}

@@ -1,7 +1,8 @@
-//! Prefixes of views when the case of letters is ignored. No call of this module allocates.
+//! Prefixes and suffixes of views when the case of letters is ignored. No call of this module
+//! allocates.
 
 ghost use Rattle.std.specs.Prelude.{◌↔◌, IsTrue};
-ghost use Rattle.ascii.specs.Search.{StartsFolded, StripsFolded};
+ghost use Rattle.ascii.specs.Search.{EndsFolded, StartsFolded, StripsFolded, StripsFoldedSuffix};
 ghost use Rattle.ascii.specs.View.{text_of};
 
 use crate::ascii_str::AsciiStr;
@@ -32,6 +33,42 @@ impl<'a> AsciiStr<'a> {
         let n = prefix.len();
         if n <= self.len() && self.slice(AsciiRange::To(n)).eq_ignore_ascii_case(prefix) {
             Some(self.slice(AsciiRange::From(n)))
+        } else {
+            None
+        }
+    }
+
+    /// Returns `true` if the view ends with `suffix` when the case of letters is ignored. Does not
+    /// allocate.
+    ///
+    ///     view("a.HTML").ends_with_ignore_ascii_case(view(".html")) // true
+    ///     view("a.HTML").ends_with_ignore_ascii_case(view("a")) // false
+    #[tactic(auto, using(crate::proofs::FoldLemmas::folded_ends))]
+    pub fn ends_with_ignore_ascii_case(self, suffix: AsciiStr<'_>) -> bool
+        ensures { IsTrue result ↔ EndsFolded (text_of suffix.entry) (text_of self.entry) }
+    {
+        self.strip_suffix_ignore_ascii_case(suffix).is_some()
+    }
+
+    /// Returns the view without `suffix`, or `None` if the view does not end with it when the case of
+    /// letters is ignored. Does not allocate.
+    ///
+    ///     view("a.HTML").strip_suffix_ignore_ascii_case(view(".html")) // Some("a")
+    ///     view("a.HTML").strip_suffix_ignore_ascii_case(view("a")) // None
+    #[tactic(auto, using(crate::proofs::FoldLemmas::folded_suffix_reads, crate::proofs::FoldLemmas::folded_suffix_fits, crate::proofs::FoldLemmas::folded_front))]
+    pub fn strip_suffix_ignore_ascii_case(self, suffix: AsciiStr<'_>) -> Option<AsciiStr<'a>>
+        ensures { StripsFoldedSuffix (text_of suffix.entry) (text_of self.entry) result }
+    {
+        let n = suffix.len();
+        if self.len() < n {
+            return None;
+        }
+        let start = self.len() - n;
+        if self
+            .slice(AsciiRange::From(start))
+            .eq_ignore_ascii_case(suffix)
+        {
+            Some(self.slice(AsciiRange::To(start)))
         } else {
             None
         }

@@ -1,4 +1,4 @@
-//! The refusals of conversions into owned text.
+//! The errors of conversions to ASCII text.
 
 ghost use Rattle.std.specs.Prelude.{◌≡◌, Some};
 
@@ -6,7 +6,8 @@ use crate::ascii_str::AsAsciiStrError;
 use std::alloc::AllocError;
 use std::fmt;
 
-/// A source was refused as ASCII text. It has the source, unchanged.
+/// The error of a failed conversion to ASCII text: it holds the source, unchanged, and the position
+/// of its first non-ASCII byte.
 #[derive(PartialEq, Eq, Drop)]
 pub struct FromAsciiError<O> {
     pub(crate) error: AsAsciiStrError,
@@ -16,7 +17,7 @@ pub struct FromAsciiError<O> {
 impl<O> FromAsciiError<O> {
     ghost use Rattle.ascii.specs.ConversionError.{ascii_error_of, source_of};
 
-    /// Why the source was refused: the position of its first byte over 127.
+    /// Returns why the source was rejected: the position of its first non-ASCII byte.
     ///
     ///     vec::into_ascii_string(Vec::from_slice(alloc, b"ab\xc4")?).map_err(|e| e.ascii_error()) // Err(AsAsciiStrError(2))
     #[inline]
@@ -26,7 +27,7 @@ impl<O> FromAsciiError<O> {
         self.error
     }
 
-    /// The source, unchanged.
+    /// Returns the source, unchanged.
     ///
     ///     vec::into_ascii_string(Vec::from_slice(alloc, b"ab\xc4")?).map_err(|e| e.into_source()) // Err([97, 98, 196])
     #[inline]
@@ -44,6 +45,8 @@ impl<O> fmt::Display for FromAsciiError<O> {
 
     ghost output = { λ e. Some (error_text (position_of (ascii_error_of e))) };
 
+    /// Writes the line of the position, as `the byte at index 2 is not ASCII`.
+    ///
     ///     vec::into_ascii_string(Vec::from_slice(alloc, b"ab\xc4")?).map_err(|e| e.to_string(alloc)) // Err(Ok("the byte at index 2 is not ASCII"))
     fn fmt<W: fmt::Write>(&self, f: &mut fmt::Formatter<W>) -> fmt::Result {
         fmt::Display::fmt(&self.error, f)
@@ -51,17 +54,19 @@ impl<O> fmt::Display for FromAsciiError<O> {
 }
 
 impl<O> fmt::Debug for FromAsciiError<O> {
+    /// Writes the error for a programmer. No contract states this text.
+    ///
     ///     vec::into_ascii_string(Vec::from_slice(alloc, b"ab\xc4")?) // Err(AsAsciiStrError(2))
     fn fmt<W: fmt::Write>(&self, f: &mut fmt::Formatter<W>) -> fmt::Result {
         fmt::Debug::fmt(&self.error, f)
     }
 }
 
-/// A copy of a source into owned text was refused.
+/// The error of a failed copy of a source into owned text.
 #[derive(PartialEq, Eq, Debug, Drop)]
 pub enum CopyError<O> {
-    /// A byte of the source is over 127. This is decided before memory is asked for.
+    /// A byte of the source is not ASCII. This is decided before anything is allocated.
     NotAscii(FromAsciiError<O>),
-    /// Memory was refused.
+    /// The allocation for the copy failed.
     Memory(AllocError),
 }

@@ -1,15 +1,39 @@
-//! Iterators over the characters, the pieces and the lines of a view, from both ends. They hold
-//! views alone, take no memory and refuse nothing.
+//! Iterators over the characters, the pieces, the words and the lines of a view, from both ends.
+//!
+//! | Items | Made by | With their starts |
+//! |---|---|---|
+//! | characters | `view.chars()` | |
+//! | pieces between separators | `view.split(on)`, `view.splitn(n, on)` | `view.split_spans(on)` |
+//! | words: the longest runs outside a class | `view.split_whitespace()`, `view.words::<C>()` | `view.word_spans::<C>()` |
+//! | lines | `view.lines()` | `view.line_spans()`, also with how each line ends |
+//!
+//! Take from either end, in any order; `remainder` returns what is left as a view, which can be iterated again:
+//!
+//!     let mut pieces = view("a,b,c").split(AsciiChar::Comma);
+//!     pieces.next_back()
+//!     pieces.remainder()
+//!
+//! gives `Some("c")` and `Some("a,b")`. If a text is a part of a longer one, `split_spans_from(on, offset)` and
+//! `line_spans_from(offset)` count positions from the start of that one.
+//!
+//! The iterators hold only views: they do not allocate, and a clone never fails. A contract sees an iterator as the
+//! list of items that it has yet to yield.
 
 mod chars;
 mod cursor;
 mod lines;
 mod spans;
 mod split;
+mod split_n;
 mod walks;
+mod word_spans;
+mod words;
 
 pub use chars::{Chars, CharsRef};
 pub use lines::{LineSpans, Lines};
 pub use spans::{Ending, LineSpan, SplitSpan};
 pub use split::{Split, SplitSpans};
+pub use split_n::SplitN;
 pub use walks::{End, take_end, walk_line_spans, walk_lines, walk_split, walk_split_spans};
+pub use word_spans::WordSpans;
+pub use words::Words;

@@ -16,21 +16,21 @@ use ascii_base::ascii_char::{AsciiChar, ToAsciiChar};
 use serde_json::Value;
 use std::alloc::{AllocError, Allocator, Global};
 
-/// A JSON value was refused as a character or as a text.
+/// Why a JSON value is rejected as a character or as a text.
 #[derive(Clone, Copy, PartialEq, Eq, Debug)]
 pub enum JsonError {
-    /// The value is no JSON string.
+    /// The value is not a JSON string.
     NotText,
-    /// The JSON string has not one byte.
+    /// The length of the JSON string is not one byte.
     NotOneByte,
-    /// The JSON string has a byte over 127; the error has the position of the first.
+    /// The JSON string has a non-ASCII byte; the error holds the position of the first one.
     NotAscii(AsAsciiStrError),
-    /// Memory was refused.
+    /// The allocation for a copy failed.
     Memory,
 }
 
 impl AsciiStr<'_> {
-    /// The view as a JSON string.
+    /// Returns the view as a JSON string. Fails only if the allocation fails.
     ///
     ///     view("a\"b").to_json(alloc)?.to_string(alloc)? // "\"a\\\"b\""
     pub fn to_json(self, alloc: Global) -> Result<Value, AllocError>
@@ -41,7 +41,7 @@ impl AsciiStr<'_> {
 }
 
 impl<A: Allocator> AsciiString<A> {
-    /// The text as a JSON string.
+    /// Returns the text as a JSON string. Fails only if the allocation fails.
     ///
     ///     view("foo").to_ascii_string(alloc)?.to_json(alloc)?.to_string(alloc)? // "\"foo\""
     pub fn to_json(&self, alloc: Global) -> Result<Value, AllocError>
@@ -51,7 +51,7 @@ impl<A: Allocator> AsciiString<A> {
     }
 }
 
-/// The character as a JSON string of one byte.
+/// Returns the character as a JSON string of one byte. Fails only if the allocation fails.
 ///
 ///     char_to_json(alloc, AsciiChar::a)?.to_string(alloc)? // "\"a\""
 pub fn char_to_json(alloc: Global, ch: AsciiChar) -> Result<Value, AllocError>
@@ -62,7 +62,8 @@ pub fn char_to_json(alloc: Global, ch: AsciiChar) -> Result<Value, AllocError>
     Ok(Value::String(text))
 }
 
-/// The character of a JSON string of one byte.
+/// Returns the character of a JSON string of one byte, or an error: `NotText` if the value is not a
+/// JSON string, and `NotOneByte` if the length of the string is not one byte.
 ///
 ///     char_from_json(&Value::from_str(alloc, "\"a\"")?) // Ok('a')
 ///     char_from_json(&Value::from_str(alloc, "\"ab\"")?) // Err(NotOneByte)
@@ -78,7 +79,8 @@ pub fn char_from_json(value: &Value) -> Result<AsciiChar, JsonError>
     Ok(AsciiChar::from_ascii_unchecked(byte))
 }
 
-/// A view of the text of a JSON string, in the value's own memory.
+/// Returns a view of the text of a JSON string, or an error: `NotText` if the value is not a JSON
+/// string, and `NotAscii` with the position of the first non-ASCII byte. Does not allocate.
 ///
 ///     str_from_json(&Value::from_str(alloc, "\"foo\"")?) // Ok("foo")
 ///     str_from_json(&Value::from_str(alloc, "7")?) // Err(NotText)
@@ -90,7 +92,11 @@ pub fn str_from_json(value: &Value) -> Result<AsciiStr<'_>, JsonError>
     text::as_ascii_str(text).map_err(JsonError::NotAscii)
 }
 
-/// A copy of the text of a JSON string. Memory is asked for after every other test.
+/// Returns a copy of the text of a JSON string, or an error: `NotText` if the value is not a JSON
+/// string, `NotAscii` with the position of the first non-ASCII byte, and `Memory` if the allocation
+/// fails.
+///
+/// The value is checked before anything is allocated. A copy of the empty text never fails.
 ///
 ///     string_from_json(alloc, &Value::from_str(alloc, "\"foo\"")?) // Ok("foo")
 pub fn string_from_json<A: Allocator>(alloc: A, value: &Value) -> Result<AsciiString<A>, JsonError>

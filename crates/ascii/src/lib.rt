@@ -1,8 +1,27 @@
-//! Text that can hold nothing but ASCII: views over bytes, checked once and read without a copy,
-//! and owned strings.
+//! Text that can hold nothing but ASCII: views over bytes, iterators over them, and owned strings.
 //!
-//! In an example `view("ab")` is the view of that text, `alloc` an allocator, and behind `//` stands what `{:?}`
-//! prints of the value.
+//! A source is checked once, when its view is made; then the view is read without further checks:
+//!
+//!     bytes::as_ascii_str(b"Host: a.example") // Ok("Host: a.example")
+//!     AsciiStr::literal("Host: a.example").split_once(AsciiChar::Colon) // Some(("Host", " a.example"))
+//!
+//! | You want | Use |
+//! |---|---|
+//! | a view of bytes or of a `str` | `bytes::as_ascii_str`, `text::as_ascii_str`; a literal: `AsciiStr::literal` |
+//! | to edit a part of a source in place | `bytes::slice_ascii_mut`, which returns an `AsciiStrMut` |
+//! | an owned string | `AsciiString`; the buffer of a `Vec<u8>` or a `String`: the modules `vec` and `string` |
+//! | characters, pieces, lines or words, from both ends | `chars`, `split`, `lines`, `split_whitespace` of a view |
+//! | the positions of pieces, lines or words | `split_spans`, `line_spans`, `word_spans` |
+//! | to search for a text, a character or a class | `find`, `position`, `span::<C>()` of a view |
+//! | a class of characters of your own | the module `classes` |
+//! | JSON values, serde | the module `json`; the traits of `serde` |
+//!
+//! Views, iterators and searches do not allocate. A call that may allocate returns a `Result`. If its allocation
+//! fails, an edit leaves the string unchanged; an extend keeps what it has appended. A contract sees a view as
+//! `text_of view`, the list of its codes.
+//!
+//! In an example, `view("ab")` is a view of that text, `alloc` is an allocator, and the comment after `//` is the
+//! value's `{:?}` output.
 #![tactic(auto)]
 
 pub mod ascii_str;
@@ -18,15 +37,20 @@ mod collect;
 mod conversions;
 mod copies;
 mod errors;
+pub mod folded;
 mod folded_search;
 mod from_ascii;
 pub mod iter;
 pub mod json;
+pub mod numbers;
+mod replace;
+mod runs;
 mod search;
 mod serde_impls;
 mod splits;
 pub mod string;
 pub mod text;
+mod trims;
 pub mod vec;
 
 pub use ascii_base::ascii_char::{AsciiChar, ToAsciiChar, ToAsciiCharError};

@@ -1,11 +1,13 @@
-//! Cutting a view in two at a character. No call of this module allocates.
+//! Cutting a view in two at a character or a text. No call of this module allocates.
 
 ghost use Rattle.ascii_base.specs.Code.{code_of};
-ghost use Rattle.ascii.specs.Search.{SplitsOnce, SplitsOnceAtLast};
+ghost use Rattle.ascii.specs.Search.{SplitsOnce, SplitsOnceAtLast, SplitsOnceAtLastText};
+ghost use Rattle.ascii.specs.Search.{SplitsOnceAtText};
 ghost use Rattle.ascii.specs.View.{text_of};
 
 use crate::ascii_str::AsciiStr;
 use ascii_base::ascii_char::AsciiChar;
+use ascii_base::range::AsciiRange;
 
 impl<'a> AsciiStr<'a> {
     /// Returns the parts of the view before and after its first `on`, or `None` if the view does not
@@ -35,5 +37,39 @@ impl<'a> AsciiStr<'a> {
         let after = pieces.next_back()?;
         let before = pieces.remainder()?;
         Some((before, after))
+    }
+
+    /// Returns the parts of the view before and after its first `needle`, or `None` if the view does
+    /// not contain `needle`. An empty needle is found at 0. Does not allocate.
+    ///
+    ///     view("a: b: c").split_once_str(view(": ")) // Some(("a", "b: c"))
+    ///     view("a:b").split_once_str(view(": ")) // None
+    #[tactic(auto, using(crate::proofs::CutLemmas::not_found))]
+    pub fn split_once_str(self, needle: AsciiStr<'_>) -> Option<(AsciiStr<'a>, AsciiStr<'a>)>
+        ensures { SplitsOnceAtText (text_of needle.entry) (text_of self.entry) result }
+    {
+        let start = self.find(needle)?;
+        let end = start + needle.len();
+        Some((
+            self.slice(AsciiRange::To(start)),
+            self.slice(AsciiRange::From(end)),
+        ))
+    }
+
+    /// Returns the parts of the view before and after its last `needle`, or `None` if the view does
+    /// not contain `needle`. An empty needle is found at the length. Does not allocate.
+    ///
+    ///     view("a: b: c").rsplit_once_str(view(": ")) // Some(("a: b", "c"))
+    ///     view("a:b").rsplit_once_str(view(": ")) // None
+    #[tactic(auto, using(crate::proofs::CutLemmas::not_found_last))]
+    pub fn rsplit_once_str(self, needle: AsciiStr<'_>) -> Option<(AsciiStr<'a>, AsciiStr<'a>)>
+        ensures { SplitsOnceAtLastText (text_of needle.entry) (text_of self.entry) result }
+    {
+        let start = self.rfind(needle)?;
+        let end = start + needle.len();
+        Some((
+            self.slice(AsciiRange::To(start)),
+            self.slice(AsciiRange::From(end)),
+        ))
     }
 }

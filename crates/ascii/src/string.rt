@@ -10,8 +10,8 @@ use crate::from_ascii::FromAsciiError;
 use ascii_base::kernels;
 use std::alloc::Allocator;
 
-/// The string as a text in the same buffer, or the position of its first byte over 127 with the
-/// string itself. It takes no memory.
+/// Converts the `String` into an ASCII string, keeping its buffer, or returns an error with the
+/// `String` and the position of its first non-ASCII byte. Does not allocate.
 ///
 ///     string::into_ascii_string(String::from_str(alloc, "foo")?) // Ok("foo")
 pub fn into_ascii_string<A: Allocator>(
@@ -30,7 +30,9 @@ pub fn into_ascii_string<A: Allocator>(
     }
 }
 
-/// The same as `into_ascii_string`.
+/// Converts the `String` into an ASCII string, keeping its buffer, or returns an error with the
+/// `String` and the position of its first non-ASCII byte. This is `into_ascii_string` under the
+/// name that upstream's `AsciiString::from_ascii` has.
 ///
 ///     string::from_ascii(String::from_str(alloc, "foo")?) // Ok("foo")
 pub fn from_ascii<A: Allocator>(

@@ -1,4 +1,7 @@
-//! Views of borrowed text. Positions count bytes, and may fall inside a character.
+//! Views of `str`s, and copies of them as strings. Positions and ranges count bytes, and may be inside a character.
+//!
+//! The calls are those of the module `bytes`, for a source that is UTF-8. `AsciiStr::literal` makes a view of a literal,
+//! which is checked when the caller is proved.
 
 ghost use Rattle.std.specs.Prelude.{◌≡◌, MatchResult};
 ghost use Rattle.std.specs.Str.{IsAscii};
@@ -14,7 +17,10 @@ use ascii_base::ascii_char::AsciiChar;
 use ascii_base::range::AsciiRange;
 use std::alloc::Allocator;
 
-/// The whole source as ASCII text, or the position of its first byte over 127.
+/// Returns the whole source as a view, or an error with the position in bytes of its first
+/// non-ASCII byte.
+///
+/// Scans the source once, 32 bytes or more at a time. Does not allocate.
 ///
 ///     text::as_ascii_str("foo") // Ok("foo")
 ///     text::as_ascii_str("abč") // Err(AsAsciiStrError(2))
@@ -24,7 +30,9 @@ pub fn as_ascii_str(source: &str) -> Result<AsciiStr<'_>, AsAsciiStrError>
     bytes::as_ascii_str(source.as_bytes())
 }
 
-/// The same as `as_ascii_str`.
+/// Returns the whole source as a view, or an error with the position in bytes of its first
+/// non-ASCII byte. This is `as_ascii_str` under the name that upstream's `AsciiStr::from_ascii`
+/// has.
 ///
 ///     text::from_ascii("foo") // Ok("foo")
 pub fn from_ascii(source: &str) -> Result<AsciiStr<'_>, AsAsciiStrError>
@@ -33,9 +41,12 @@ pub fn from_ascii(source: &str) -> Result<AsciiStr<'_>, AsAsciiStrError>
     as_ascii_str(source)
 }
 
-/// The part of the source that the range of bytes names, as ASCII text. A range that does not fit is
-/// refused with the number of bytes of the source, and one that fits with the position in the source
-/// of its first byte over 127. Bytes outside the range do not matter.
+/// Returns the part of the source in `range`, a range of bytes, as a view, or an error: with the
+/// number of bytes of the source if the range does not fit, and otherwise with the position in the
+/// source of the first non-ASCII byte in the range.
+///
+/// Bytes outside the range do not matter, and the range may begin or end inside a character. Scans
+/// the range once. Does not allocate.
 ///
 ///     text::slice_ascii("abčd", AsciiRange::From(4)) // Ok("d")
 ///     text::slice_ascii("abčd", AsciiRange::To(3)) // Err(AsAsciiStrError(2))
@@ -45,7 +56,8 @@ pub fn slice_ascii(source: &str, range: AsciiRange) -> Result<AsciiStr<'_>, AsAs
     bytes::slice_ascii(source.as_bytes(), range)
 }
 
-/// The character at a position in bytes from 0: `None` past the end, and where the byte is over 127.
+/// Returns the character at position `i`, counted in bytes from 0, or `None` if `i` is not less
+/// than the number of bytes or the byte there is not ASCII.
 ///
 ///     text::get_ascii("abč", 1) // Some('b')
 ///     text::get_ascii("abč", 2) // None
@@ -55,7 +67,25 @@ pub fn get_ascii(source: &str, i: usize) -> Option<AsciiChar>
     bytes::get_ascii(source.as_bytes(), i)
 }
 
-/// The whole source as ASCII text. Nothing is checked.
+impl<'a> AsciiStr<'a> {
+    /// Returns the view of a literal.
+    ///
+    /// Condition: the literal is ASCII. The condition is proved at each call, so that a literal that is
+    /// not ASCII does not compile; nothing is checked at run time.
+    ///
+    ///     AsciiStr::literal("GET") // "GET"
+    #[inline]
+    pub fn literal(text: &'a str) -> AsciiStr<'a>
+        requires { IsAscii text.now }
+        ensures { text_of result ≡ text.now }
+    {
+        as_ascii_str_unchecked(text)
+    }
+}
+
+/// Returns the whole source as a view. Nothing is checked.
+///
+/// Condition: every byte of `source` is ASCII.
 ///
 ///     text::as_ascii_str_unchecked("foo") // "foo"
 #[inline]
@@ -66,7 +96,10 @@ pub fn as_ascii_str_unchecked(source: &str) -> AsciiStr<'_>
     bytes::as_ascii_str_unchecked(source.as_bytes())
 }
 
-/// The same as `as_ascii_str_unchecked`.
+/// Returns the whole source as a view. Nothing is checked. This is `as_ascii_str_unchecked` under
+/// the name that upstream's `AsciiStr::from_ascii_unchecked` has.
+///
+/// Condition: every byte of `source` is ASCII.
 ///
 ///     text::from_ascii_unchecked("foo") // "foo"
 #[inline]
@@ -77,8 +110,10 @@ pub fn from_ascii_unchecked(source: &str) -> AsciiStr<'_>
     as_ascii_str_unchecked(source)
 }
 
-/// A copy of the source, or the position of its first byte over 127 with the source itself. The
-/// bytes are checked before memory is asked for; that of the empty text is never refused.
+/// Returns a copy of the source as a string, or an error that holds the source: `NotAscii` with the
+/// position in bytes of its first non-ASCII byte, or `Memory` if the allocation fails.
+///
+/// The bytes are checked before anything is allocated. A copy of the empty text never fails.
 ///
 ///     text::to_ascii_string(alloc, "foo") // Ok("foo")
 pub fn to_ascii_string<A: Allocator>(

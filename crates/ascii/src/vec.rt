@@ -9,8 +9,8 @@ use crate::from_ascii::FromAsciiError;
 use ascii_base::kernels;
 use std::alloc::Allocator;
 
-/// The bytes as a text in the same buffer, or the position of the first byte over 127 with the
-/// vector itself. It takes no memory.
+/// Converts the bytes into a string, keeping their buffer, or returns an error with the bytes and
+/// the position of the first non-ASCII byte. Does not allocate.
 ///
 ///     vec::into_ascii_string(Vec::from_slice(alloc, b"foo")?) // Ok("foo")
 pub fn into_ascii_string<A: Allocator>(
@@ -29,7 +29,9 @@ pub fn into_ascii_string<A: Allocator>(
     }
 }
 
-/// The same as `into_ascii_string`.
+/// Converts the bytes into a string, keeping their buffer, or returns an error with the bytes and
+/// the position of the first non-ASCII byte. This is `into_ascii_string` under the name that
+/// upstream's `AsciiString::from_ascii` has.
 ///
 ///     vec::from_ascii(Vec::from_slice(alloc, b"foo")?) // Ok("foo")
 pub fn from_ascii<A: Allocator>(

@@ -16,7 +16,7 @@ use std::iter::FusedIterator;
 use std::marker::Model;
 use std::slice;
 
-/// The characters of a view that are left, from both ends.
+/// An iterator over the characters of a view, from both ends, which knows how many remain.
 #[derive(Drop)]
 pub struct Chars<'a> {
     bytes: slice::Iter<'a, u8>,
@@ -33,7 +33,7 @@ impl<'a> Model for Chars<'a> {
 }
 
 impl<'a> Chars<'a> {
-    /// The view of the characters that are left.
+    /// Returns a view of the remaining characters.
     ///
     ///     let mut chars = view("foo").chars();
     ///     chars.next() // Some('f')
@@ -53,7 +53,7 @@ impl Clone for Chars<'_> {
 
     ghost is_infallible = { λ _. ⊤ };
 
-    /// An iterator over the same characters. It is never refused.
+    /// Returns an iterator over the same characters. Always returns `Ok`, and does not allocate.
     ///
     ///     let mut chars = view("foo").chars();
     ///     let copy = chars.clone()?;
@@ -71,6 +71,9 @@ impl<'a> Iterator for Chars<'a> {
 
     ghost remaining = { item_count (λ chars. chars) };
 
+    /// Returns the next character, or `None` if there are none left; it then keeps returning
+    /// `None`.
+    ///
     ///     view("foo").chars().next() // Some('f')
     #[inline]
     fn next(&mut self) -> Option<AsciiChar> {
@@ -78,7 +81,7 @@ impl<'a> Iterator for Chars<'a> {
         Some(AsciiChar::from_ascii_unchecked(*first))
     }
 
-    /// The number of characters that are left, twice.
+    /// Returns the number of remaining characters, as the least and as the largest number.
     ///
     ///     view("foo").chars().size_hint() // (3, Some(3))
     #[inline]
@@ -94,6 +97,9 @@ impl<'a> Iterator for Chars<'a> {
 impl<'a> DoubleEndedIterator for Chars<'a> {
     ghost next_back_gives = { YieldsLastBy code_of (λ chars. chars) };
 
+    /// Returns the last of the remaining characters, or `None` if there are none left; it then
+    /// keeps returning `None`.
+    ///
     ///     view("foo").chars().next_back() // Some('o')
     #[inline]
     fn next_back(&mut self) -> Option<AsciiChar> {
@@ -103,6 +109,8 @@ impl<'a> DoubleEndedIterator for Chars<'a> {
 }
 
 impl ExactSizeIterator for Chars<'_> {
+    /// Returns the number of remaining characters.
+    ///
     ///     view("foo").chars().len() // 3
     #[inline]
     fn len(&self) -> usize {
@@ -112,7 +120,7 @@ impl ExactSizeIterator for Chars<'_> {
 
 impl FusedIterator for Chars<'_> {}
 
-/// The characters of a view that are left, from both ends: what `for` walks over.
+/// An iterator over the characters of a view, from both ends: the one that `for ch in view` uses.
 #[derive(Drop)]
 pub struct CharsRef<'a> {
     chars: Chars<'a>,
@@ -127,7 +135,7 @@ impl<'a> Model for CharsRef<'a> {
 }
 
 impl<'a> CharsRef<'a> {
-    /// The view of the characters that are left.
+    /// Returns a view of the remaining characters.
     ///
     ///     view("foo").into_iter().as_str() // "foo"
     #[inline]
@@ -143,7 +151,7 @@ impl Clone for CharsRef<'_> {
 
     ghost is_infallible = { λ _. ⊤ };
 
-    /// An iterator over the same characters. It is never refused.
+    /// Returns an iterator over the same characters. Always returns `Ok`, and does not allocate.
     ///
     ///     view("foo").into_iter().clone()?.as_str() // "foo"
     fn clone(&self) -> Result<Self, AllocError> {
@@ -160,13 +168,16 @@ impl<'a> Iterator for CharsRef<'a> {
 
     ghost remaining = { item_count (λ chars. chars) };
 
+    /// Returns the next character, or `None` if there are none left; it then keeps returning
+    /// `None`.
+    ///
     ///     view("foo").into_iter().next() // Some('f')
     #[inline]
     fn next(&mut self) -> Option<AsciiChar> {
         self.chars.next()
     }
 
-    /// The number of characters that are left, twice.
+    /// Returns the number of remaining characters, as the least and as the largest number.
     ///
     ///     view("foo").into_iter().size_hint() // (3, Some(3))
     #[inline]
@@ -182,6 +193,9 @@ impl<'a> Iterator for CharsRef<'a> {
 impl<'a> DoubleEndedIterator for CharsRef<'a> {
     ghost next_back_gives = { YieldsLastBy code_of (λ chars. chars) };
 
+    /// Returns the last of the remaining characters, or `None` if there are none left; it then
+    /// keeps returning `None`.
+    ///
     ///     view("foo").into_iter().next_back() // Some('o')
     #[inline]
     fn next_back(&mut self) -> Option<AsciiChar> {
@@ -198,6 +212,9 @@ impl<'a> IntoIterator for AsciiStr<'a> {
 
     ghost into_iter_gives = { λ view chars. chars ≡ text_of view };
 
+    /// Returns an iterator over the characters of the view, so that `for ch in view` works. Does
+    /// not allocate.
+    ///
     ///     let mut digit = false;
     ///     for ch in view("f7") {
     ///         digit = digit || ch.is_ascii_digit();
@@ -212,7 +229,8 @@ impl<'a> IntoIterator for AsciiStr<'a> {
 }
 
 impl<'a> AsciiStr<'a> {
-    /// The characters of the view.
+    /// Returns an iterator over the characters of the view, from both ends. Constant time; does not
+    /// allocate.
     ///
     ///     let mut chars = view("foo").chars();
     ///     chars.next() // Some('f')

@@ -82,7 +82,7 @@ impl<'a> Cursor<'a> {
         }
     }
 
-    /// What stands before the first byte that is `on`, and what stands behind it.
+    /// The text before the first byte that is `on`, and the text after it.
     #[inline(always)]
     pub(crate) fn split_at_first(self, on: u8) -> Option<(Cursor<'a>, Cursor<'a>)>
         ensures { MatchOption result (HasNo on (text_of self.entry.view))
@@ -92,7 +92,7 @@ impl<'a> Cursor<'a> {
         Some((self.to(place), self.from(place + 1)))
     }
 
-    /// What stands before the last byte that is `on`, and what stands behind it.
+    /// The text before the last byte that is `on`, and the text after it.
     #[inline(always)]
     pub(crate) fn split_at_last(self, on: u8) -> Option<(Cursor<'a>, Cursor<'a>)>
         ensures { MatchOption result (HasNo on (text_of self.entry.view))
@@ -102,7 +102,7 @@ impl<'a> Cursor<'a> {
         Some((self.to(place), self.from(place + 1)))
     }
 
-    /// What stands up to the last LF, and what stands behind it.
+    /// The text up to the last LF, and the text after it.
     #[inline(always)]
     pub(crate) fn split_after_last_lf(self) -> (Cursor<'a>, Cursor<'a>)
         ensures { IsSplitAfterLastLf (part_in self.entry) result }

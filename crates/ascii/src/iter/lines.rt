@@ -18,7 +18,7 @@ use std::iter::FusedIterator;
 use std::marker::Model;
 
 impl<'a> Cursor<'a> {
-    /// All of it as one line before a LF: one CR before the LF is of the ending.
+    /// The whole part as one line before an LF: one CR before the LF belongs to the ending.
     #[inline(always)]
     fn terminated_line(self) -> LineSpan<'a>
         ensures line { line_in result
@@ -42,7 +42,7 @@ impl<'a> Cursor<'a> {
         }
     }
 
-    /// All of it as one line with no ending.
+    /// The whole part as one line without an ending.
     #[inline(always)]
     fn unterminated_line(self) -> LineSpan<'a>
         ensures line { line_in result ≡ record {
@@ -58,7 +58,7 @@ impl<'a> Cursor<'a> {
         }
     }
 
-    /// The first line, and what stands behind its ending.
+    /// The first line, and the part after its ending.
     #[inline(always)]
     fn first_line(self) -> Option<(LineSpan<'a>, Cursor<'a>)>
         ensures lines { MatchOption result (line_spans (part_in self.entry) ≡ [])
@@ -74,7 +74,7 @@ impl<'a> Cursor<'a> {
         }
     }
 
-    /// The last line, and what stands before it.
+    /// The last line, and the part before it.
     #[inline(always)]
     fn last_line(self) -> Option<(LineSpan<'a>, Cursor<'a>)>
         ensures lines { MatchOption result (line_spans (part_in self.entry) ≡ []) (λ cut.
@@ -92,7 +92,7 @@ impl<'a> Cursor<'a> {
     }
 }
 
-/// The lines of a view that are left, each with its start and its ending, from both ends.
+/// An iterator over the lines of a view, each with its start and its ending, from both ends.
 #[derive(Drop)]
 pub struct LineSpans<'a> {
     // The lines that are left, with their endings.
@@ -115,7 +115,8 @@ impl Clone for LineSpans<'_> {
 
     ghost is_infallible = { λ _. ⊤ };
 
-    /// An iterator that owes the same lines with the same starts. It is never refused.
+    /// Returns an iterator with the same remaining lines, starts and endings. Always returns `Ok`,
+    /// and does not allocate.
     ///
     ///     view("x\ny").line_spans().clone()?.remainder() // Some((0, "x\ny"))
     fn clone(&self) -> Result<Self, AllocError> {
@@ -132,6 +133,9 @@ impl<'a> Iterator for LineSpans<'a> {
 
     ghost remaining = { item_count (λ lines. lines) };
 
+    /// Returns the next line with its start and its ending, or `None` if there are none left; it
+    /// then keeps returning `None`.
+    ///
     ///     view("x\ny").line_spans().next() // Some(LineSpan { start: 0, text: "x", ending: Lf })
     #[inline(always)]
     fn next(&mut self) -> Option<LineSpan<'a>> {
@@ -144,6 +148,9 @@ impl<'a> Iterator for LineSpans<'a> {
 impl<'a> DoubleEndedIterator for LineSpans<'a> {
     ghost next_back_gives = { YieldsLastAnd line_in (λ lines. lines) DropsLastSpan };
 
+    /// Returns the last of the remaining lines with its start and its ending, or `None` if there
+    /// are none left; it then keeps returning `None`.
+    ///
     ///     view("x\ny").line_spans().next_back() // Some(LineSpan { start: 2, text: "y", ending: Absent })
     #[inline(always)]
     fn next_back(&mut self) -> Option<LineSpan<'a>> {
@@ -156,8 +163,8 @@ impl<'a> DoubleEndedIterator for LineSpans<'a> {
 impl FusedIterator for LineSpans<'_> {}
 
 impl<'a> LineSpans<'a> {
-    /// The lines that are left, with their endings, behind the place where the first one starts.
-    /// `None` where none is left; the iterator stays as it is.
+    /// Returns the remaining lines with their endings as one view, with the start of the first one,
+    /// or `None` if there are none left. The iterator is unchanged. Constant time.
     ///
     ///     let mut spans = view("x\r\ny").line_spans();
     ///     spans.next() // Some(LineSpan { start: 0, text: "x", ending: CrLf })
@@ -173,7 +180,7 @@ impl<'a> LineSpans<'a> {
     }
 }
 
-/// The lines of a view that are left, from both ends. The items are the bodies.
+/// An iterator over the lines of a view without their endings, from both ends.
 #[derive(Drop)]
 pub struct Lines<'a> {
     spans: LineSpans<'a>,
@@ -194,7 +201,8 @@ impl Clone for Lines<'_> {
 
     ghost is_infallible = { λ _. ⊤ };
 
-    /// An iterator that owes the same lines. It is never refused.
+    /// Returns an iterator with the same remaining lines. Always returns `Ok`, and does not
+    /// allocate.
     ///
     ///     view("x\ny").lines().clone()?.remainder() // Some("x\ny")
     fn clone(&self) -> Result<Self, AllocError> {
@@ -211,6 +219,9 @@ impl<'a> Iterator for Lines<'a> {
 
     ghost remaining = { item_count bodies };
 
+    /// Returns the next line without its ending, or `None` if there are none left; it then keeps
+    /// returning `None`.
+    ///
     ///     view("\nx").lines().next() // Some("")
     #[inline(always)]
     fn next(&mut self) -> Option<AsciiStr<'a>> {
@@ -222,6 +233,9 @@ impl<'a> Iterator for Lines<'a> {
 impl<'a> DoubleEndedIterator for Lines<'a> {
     ghost next_back_gives = { YieldsLastAnd text_of bodies DropsLast };
 
+    /// Returns the last of the remaining lines without its ending, or `None` if there are none
+    /// left; it then keeps returning `None`.
+    ///
     ///     view("x\n").lines().next_back() // Some("x")
     #[inline(always)]
     fn next_back(&mut self) -> Option<AsciiStr<'a>> {
@@ -233,8 +247,8 @@ impl<'a> DoubleEndedIterator for Lines<'a> {
 impl FusedIterator for Lines<'_> {}
 
 impl<'a> Lines<'a> {
-    /// The lines that are left, with their endings. `None` where none is left; the iterator stays
-    /// as it is.
+    /// Returns the remaining lines with their endings as one view, or `None` if there are none
+    /// left. The iterator is unchanged. Constant time.
     ///
     ///     let mut lines = view("x\r\ny").lines();
     ///     lines.next() // Some("x")
@@ -249,8 +263,11 @@ impl<'a> Lines<'a> {
 }
 
 impl<'a> AsciiStr<'a> {
-    /// The lines of the view, without their endings. A line ends in LF or in CR LF; a CR before that
-    /// stays in its line, and so does a last CR with no LF behind it. A last LF makes no further line.
+    /// Returns an iterator over the lines of the view without their endings, from both ends. A line
+    /// ends in LF or in CR LF; another CR belongs to its line, and so does a last CR with no LF
+    /// after it. An LF at the end of the view makes no further line.
+    ///
+    /// Constant time; a full walk searches the view once. Does not allocate.
     ///
     ///     let mut lines = view("x\r\ny\nz").lines();
     ///     lines.next() // Some("x")
@@ -267,7 +284,10 @@ impl<'a> AsciiStr<'a> {
         }
     }
 
-    /// The lines of the view, each with its ending and the place in the view where it starts.
+    /// Returns an iterator over the lines of the view, from both ends, each with its ending and the
+    /// position in the view at which it starts.
+    ///
+    /// Constant time; a full walk searches the view once. Does not allocate.
     ///
     ///     let mut spans = view("x\r\ny").line_spans();
     ///     spans.next() // Some(LineSpan { start: 0, text: "x", ending: CrLf })
@@ -280,8 +300,10 @@ impl<'a> AsciiStr<'a> {
         self.line_spans_from(0)
     }
 
-    /// The same for a view that starts at an offset: each place is larger by the offset. The offset
-    /// and the length together are at most `usize::MAX`.
+    /// Returns an iterator over the lines of the view, like `line_spans`, but adds `offset` to
+    /// every start.
+    ///
+    /// Condition: `offset` and the length together are at most `usize::MAX`.
     ///
     ///     view("x\r\ny").line_spans_from(10).next_back() // Some(LineSpan { start: 13, text: "y", ending: Absent })
     pub fn line_spans_from(self, offset: usize) -> LineSpans<'a>

@@ -2,31 +2,31 @@
 
 use crate::ascii_str::AsciiStr;
 
-/// A piece, and where it starts.
+/// A piece or a word of a text, with its start.
 #[derive(Clone, Copy, PartialEq, Eq, Debug)]
 pub struct SplitSpan<'a> {
-    /// The place of its first byte; where the piece is empty, that of the separator or the end
-    /// behind it.
+    /// The position of its first byte; if the piece is empty, that of the separator after it, or
+    /// the end of the text.
     pub start: usize,
-    /// The piece.
+    /// The piece or the word.
     pub text: AsciiStr<'a>,
 }
 
-/// What stands behind the body of a line.
+/// How a line ends.
 #[derive(Clone, Copy, PartialEq, Eq, Debug)]
 pub enum Ending {
     /// LF.
     Lf,
     /// CR LF.
     CrLf,
-    /// Nothing: the text ends.
+    /// No ending: the text ends.
     Absent,
 }
 
-/// A line, where it starts and how it ends.
+/// A line of a text, with its start and its ending.
 #[derive(Clone, Copy, PartialEq, Eq, Debug)]
 pub struct LineSpan<'a> {
-    /// The place of the first byte of its body or, where that is empty, of its ending.
+    /// The position of the first byte of its body or, if the body is empty, of its ending.
     pub start: usize,
     /// The body.
     pub text: AsciiStr<'a>,

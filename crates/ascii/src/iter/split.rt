@@ -22,7 +22,7 @@ use std::iter::FusedIterator;
 use std::marker::Model;
 
 impl<'a> Cursor<'a> {
-    /// All of it as one piece.
+    /// The whole part as one piece.
     #[inline(always)]
     fn piece(self) -> SplitSpan<'a>
         ensures piece { piece_in result ≡ part_in self.entry }
@@ -34,7 +34,7 @@ impl<'a> Cursor<'a> {
         }
     }
 
-    /// The first piece, and what stands behind its separator where there is one.
+    /// The first piece, and the part after its separator if there is one.
     #[inline(always)]
     fn first_piece(self, on: AsciiChar) -> (SplitSpan<'a>, Option<Cursor<'a>>)
         ensures pieces { piece_spans (code_of on) (part_in self.entry)
@@ -48,7 +48,7 @@ impl<'a> Cursor<'a> {
         }
     }
 
-    /// The last piece, and what stands before its separator where there is one.
+    /// The last piece, and the part before its separator if there is one.
     #[inline(always)]
     fn last_piece(self, on: AsciiChar) -> (SplitSpan<'a>, Option<Cursor<'a>>)
         ensures pieces { piece_spans (code_of on) (part_in self.entry)
@@ -63,7 +63,7 @@ impl<'a> Cursor<'a> {
     }
 }
 
-/// The pieces of a view between separators that are left, each with its start, from both ends.
+/// An iterator over the pieces of a view between separators, each with its start, from both ends.
 #[derive(Drop)]
 pub struct SplitSpans<'a> {
     // The pieces that are left, joined by the separator, or `None` where none is left.
@@ -92,7 +92,8 @@ impl Clone for SplitSpans<'_> {
 
     ghost is_infallible = { λ _. ⊤ };
 
-    /// An iterator that owes the same pieces with the same starts. It is never refused.
+    /// Returns an iterator with the same remaining pieces and starts. Always returns `Ok`, and does
+    /// not allocate.
     ///
     ///     view("foo;bar").split_spans(AsciiChar::Semicolon).clone()?.remainder() // Some((0, "foo;bar"))
     fn clone(&self) -> Result<Self, AllocError> {
@@ -110,6 +111,11 @@ impl<'a> Iterator for SplitSpans<'a> {
 
     ghost remaining = { item_count (λ split. split.items) };
 
+    /// Returns the next piece with its start, or `None` if there are none left; it then keeps
+    /// returning `None`.
+    ///
+    /// Searches the view up to the next separator.
+    ///
     ///     view(";foo").split_spans(AsciiChar::Semicolon).next() // Some(SplitSpan { start: 0, text: "" })
     #[inline(always)]
     fn next(&mut self) -> Option<SplitSpan<'a>> {
@@ -122,6 +128,9 @@ impl<'a> Iterator for SplitSpans<'a> {
 impl<'a> DoubleEndedIterator for SplitSpans<'a> {
     ghost next_back_gives = { YieldsLastAnd piece_in (λ split. split.items) StepsPieceSpan };
 
+    /// Returns the last of the remaining pieces with its start, or `None` if there are none left;
+    /// it then keeps returning `None`.
+    ///
     ///     view(";foo").split_spans(AsciiChar::Semicolon).next_back() // Some(SplitSpan { start: 1, text: "foo" })
     #[inline(always)]
     fn next_back(&mut self) -> Option<SplitSpan<'a>> {
@@ -134,8 +143,8 @@ impl<'a> DoubleEndedIterator for SplitSpans<'a> {
 impl FusedIterator for SplitSpans<'_> {}
 
 impl<'a> SplitSpans<'a> {
-    /// The pieces that are left, joined by the separator, behind the place where the first one
-    /// starts. `None` where none is left; the iterator stays as it is.
+    /// Returns the remaining pieces joined by the separator, with the start of the first one, or
+    /// `None` if there are none left. The iterator is unchanged. Constant time.
     ///
     ///     let mut spans = view("foo;bar").split_spans(AsciiChar::Semicolon);
     ///     spans.next() // Some(SplitSpan { start: 0, text: "foo" })
@@ -149,7 +158,7 @@ impl<'a> SplitSpans<'a> {
     }
 }
 
-/// The pieces of a view between separators that are left, from both ends.
+/// An iterator over the pieces of a view between separators, from both ends.
 #[derive(Drop)]
 pub struct Split<'a> {
     spans: SplitSpans<'a>,
@@ -170,7 +179,8 @@ impl Clone for Split<'_> {
 
     ghost is_infallible = { λ _. ⊤ };
 
-    /// An iterator that owes the same pieces. It is never refused.
+    /// Returns an iterator with the same remaining pieces. Always returns `Ok`, and does not
+    /// allocate.
     ///
     ///     let mut pieces = view("foo;bar").split(AsciiChar::Semicolon);
     ///     let copy = pieces.clone()?;
@@ -190,6 +200,10 @@ impl<'a> Iterator for Split<'a> {
 
     ghost remaining = { item_count (λ split. split.items) };
 
+    /// Returns the next piece, or `None` if there are none left; it then keeps returning `None`.
+    ///
+    /// Searches the view up to the next separator.
+    ///
     ///     view(";foo").split(AsciiChar::Semicolon).next() // Some("")
     #[inline(always)]
     fn next(&mut self) -> Option<AsciiStr<'a>> {
@@ -201,6 +215,9 @@ impl<'a> Iterator for Split<'a> {
 impl<'a> DoubleEndedIterator for Split<'a> {
     ghost next_back_gives = { YieldsLastAnd text_of (λ split. split.items) StepsPiece };
 
+    /// Returns the last of the remaining pieces, or `None` if there are none left; it then keeps
+    /// returning `None`.
+    ///
     ///     view(";foo").split(AsciiChar::Semicolon).next_back() // Some("foo")
     #[inline(always)]
     fn next_back(&mut self) -> Option<AsciiStr<'a>> {
@@ -212,10 +229,10 @@ impl<'a> DoubleEndedIterator for Split<'a> {
 impl FusedIterator for Split<'_> {}
 
 impl<'a> Split<'a> {
-    /// The pieces that are left, joined by the separator. `None` where none is left; the iterator
-    /// stays as it is.
+    /// Returns the remaining pieces joined by the separator, or `None` if there are none left. The
+    /// iterator is unchanged. Constant time.
     ///
-    ///     let mut pieces = view("foo;bar;baz").split(AsciiChar::Semicolon);
+    ///     let mut pieces = AsciiStr::literal("foo;bar;baz").split(AsciiChar::Semicolon);
     ///     pieces.next() // Some("foo")
     ///     pieces.remainder() // Some("bar;baz")
     pub fn remainder(&self) -> Option<AsciiStr<'a>>
@@ -227,10 +244,13 @@ impl<'a> Split<'a> {
 }
 
 impl<'a> AsciiStr<'a> {
-    /// The pieces of the view at each separator: at least one, none of which has the separator. A
-    /// separator at an end makes an empty piece there.
+    /// Returns an iterator over the pieces of the view at each `on`, from both ends. There is at
+    /// least one piece, and none contains `on`. A separator at an end of the view makes an empty
+    /// piece there.
     ///
-    ///     let mut pieces = view("foo;bar;baz").split(AsciiChar::Semicolon);
+    /// Constant time; a full walk searches the view once. Does not allocate.
+    ///
+    ///     let mut pieces = AsciiStr::literal("foo;bar;baz").split(AsciiChar::Semicolon);
     ///     pieces.next() // Some("foo")
     ///     pieces.next_back() // Some("baz")
     ///     pieces.next() // Some("bar")
@@ -245,7 +265,10 @@ impl<'a> AsciiStr<'a> {
         }
     }
 
-    /// The pieces of the view at each separator, each with the place in the view where it starts.
+    /// Returns an iterator over the pieces of the view at each `on`, from both ends, each with the
+    /// position in the view at which it starts.
+    ///
+    /// Constant time; a full walk searches the view once. Does not allocate.
     ///
     ///     let mut spans = view("foo;bar").split_spans(AsciiChar::Semicolon);
     ///     spans.next_back() // Some(SplitSpan { start: 4, text: "bar" })
@@ -257,8 +280,10 @@ impl<'a> AsciiStr<'a> {
         self.split_spans_from(on, 0)
     }
 
-    /// The same for a view that starts at an offset: each place is larger by the offset. The offset
-    /// and the length together are at most `usize::MAX`.
+    /// Returns an iterator over the pieces of the view at each `on`, like `split_spans`, but adds
+    /// `offset` to every start.
+    ///
+    /// Condition: `offset` and the length together are at most `usize::MAX`.
     ///
     ///     let mut spans = view("foo;bar").split_spans_from(AsciiChar::Semicolon, 10);
     ///     spans.next_back() // Some(SplitSpan { start: 14, text: "bar" })

@@ -18,7 +18,9 @@ pub enum End {
     Back,
 }
 
-/// Takes from an end of an iterator: `next` at the front, `next_back` at the back.
+/// Takes the next item from an end of an iterator: `next` for `Front`, `next_back` for `Back`.
+///
+/// Condition: both steps of the iterator can be called.
 ///
 ///     take_end(&mut view("x\ny").lines(), End::Back) // Some("y")
 #[inline]
@@ -34,7 +36,7 @@ pub fn take_end<I: DoubleEndedIterator>(items: &mut I, end: End) -> Option<I::It
     }
 }
 
-/// The answers of an iterator to a script of ends, one for each end of the script, in order.
+/// Returns what an iterator yields for a script of ends, one item for each end, in order.
 fn walk<I: DoubleEndedIterator + Drop, A: Allocator>(
     alloc: A,
     mut items: I,
@@ -54,8 +56,8 @@ where
     Ok(answers)
 }
 
-/// The answers of a split to a script of ends, one for each end of the script, in order. Where memory
-/// is refused nothing is given; the empty script takes none.
+/// Returns what a split of the view at `on` yields for a script of ends, one item for each end, in
+/// order, or an error if the allocation of the list fails. Does not fail for the empty script.
 ///
 ///     walk_split(alloc, view("a,b"), AsciiChar::Comma, &[End::Back, End::Front, End::Back])? // [Some("b"), Some("a"), None]
 pub fn walk_split<'a, A: Allocator>(
@@ -70,7 +72,8 @@ pub fn walk_split<'a, A: Allocator>(
     walk(alloc, view.split(on), script)
 }
 
-/// The same for the lines of a view: each answer is a body.
+/// Returns what the lines of the view yield for a script of ends, one body for each end, in order,
+/// or an error if the allocation of the list fails. Does not fail for the empty script.
 ///
 ///     walk_lines(alloc, view("a\nb"), &[End::Back, End::Front])? // [Some("b"), Some("a")]
 pub fn walk_lines<'a, A: Allocator>(
@@ -84,7 +87,9 @@ pub fn walk_lines<'a, A: Allocator>(
     walk(alloc, view.lines(), script)
 }
 
-/// The same for the pieces of a view with their starts.
+/// Returns what a split of the view at `on` with starts yields for a script of ends, one item for
+/// each end, in order, or an error if the allocation of the list fails. Does not fail for the empty
+/// script.
 ///
 ///     walk_split_spans(alloc, view("a,b"), AsciiChar::Comma, &[End::Back])? // [Some(SplitSpan { start: 2, text: "b" })]
 pub fn walk_split_spans<'a, A: Allocator>(
@@ -99,7 +104,9 @@ pub fn walk_split_spans<'a, A: Allocator>(
     walk(alloc, view.split_spans(on), script)
 }
 
-/// The same for the lines of a view with their starts and endings.
+/// Returns what the lines of the view with their starts and endings yield for a script of ends, one
+/// item for each end, in order, or an error if the allocation of the list fails. Does not fail for
+/// the empty script.
 ///
 ///     walk_line_spans(alloc, view("a\nb"), &[End::Front])? // [Some(LineSpan { start: 0, text: "a", ending: Lf })]
 pub fn walk_line_spans<'a, A: Allocator>(

@@ -1,0 +1,124 @@
+-- At most `n` pieces of a text, of which the n-th holds the rest.
+use Rattle.std.proofs.Common.{◌≡◌, ◌≢◌, ℕ, zero, suc, List, [], ◌∷◌, ◌++◌}
+use Rattle.std.proofs.Common.{take, refl, sym, ap, ◌∙◌, arith, Option, None, Some}
+use native.Mathlib.Numerals.{unary_clauses}
+use Rattle.std.specs.List.{Contains, join_with_byte}
+use Rattle.std.proofs.Math.Seq.{take-nil}
+use Rattle.std.proofs.lemmas.List.Elements.{All-cons, All-head, All-nil, All-tail}
+use Rattle.ascii.specs.Found.{pieces_of, pieces_up_to}
+use Rattle.ascii.specs.Pieces.{IsRemainderOfPieces, Pieces, PiecesUpTo}
+use Rattle.ascii.specs.Steps.{DropsFirst, YieldsFirstAnd}
+use Rattle.ascii.specs.View.{text_of}
+use Rattle.ascii.specs.declared.ascii_str.AsciiStr.{AsciiStr}
+use Rattle.ascii.proofs.PiecesLemmas.{HasNo-from_absent, pieces_of-free, pieces_of-split_at_first}
+use Rattle.ascii.proofs.PiecesLemmas.{Pieces-pieces_of}
+
+module _ (on : ℕ) where
+  pub up_to-zero : (pieces : List (List ℕ)) → pieces_up_to on 0 pieces ≡ []
+  up_to-zero [] = refl
+  up_to-zero (piece ∷ pieces) = refl
+
+  -- the only piece is the text
+  pub up_to-one : (text : List ℕ) (pieces : List (List ℕ)) → Pieces text on pieces
+      → pieces_up_to on 1 pieces ≡ text ∷ []
+  up_to-one text [] whole = absurd (whole.some refl)
+  up_to-one text (piece ∷ pieces) whole = ap (λ t. t ∷ []) whole.joined
+
+  join-more : (piece : List ℕ) (pieces : List (List ℕ)) → pieces ≢ []
+      → join_with_byte on (piece ∷ pieces) ≡ piece ++ on ∷ join_with_byte on pieces
+  join-more piece [] some = absurd (some refl)
+  join-more piece (next ∷ pieces) some = refl
+
+  -- the pieces found are in the relation
+  pub up_to_found : (n : ℕ) (text : List ℕ) (pieces : List (List ℕ)) → Pieces text on pieces
+      → PiecesUpTo n text on (pieces_up_to on n pieces)
+  up_to_found n text [] whole = absurd (whole.some refl)
+  up_to_found zero text (piece ∷ pieces) whole = record {
+    count = omega arith;
+    free = All-nil _;
+    some = λ more. absurd (omega arith);
+    joined = λ more. absurd (omega arith);
+  }
+  up_to_found (suc zero) text (piece ∷ pieces) whole = record {
+    count = omega arith;
+    free = All-nil _;
+    some = λ more none. cc;
+    joined = λ more. whole.joined;
+  }
+  up_to_found (suc (suc n)) text (piece ∷ []) whole = record {
+    count = omega arith;
+    free = simp unary_clauses (All-cons (λ (p : List ℕ). ¬ (Contains p on)) piece (take n [])
+        (whole.free 0 [] (omega arith)) (simp take-nil (All-nil _)));
+    some = λ more none. cc;
+    joined = λ more. whole.joined;
+  }
+  up_to_found (suc (suc n)) text (piece ∷ next ∷ others) whole =
+      let rest = next ∷ others in
+      let Free = λ (p : List ℕ). ¬ (Contains p on) in
+      let after = up_to_found (suc n) (join_with_byte on rest) rest
+      (record { some = λ none. cc; free = All-tail Free piece rest whole.free; joined = refl }) in
+      record {
+        count = omega (arith, after.count);
+        free = simp unary_clauses (All-cons Free piece (take n (pieces_up_to on (suc n) rest))
+            (All-head Free piece rest whole.free) (simp unary_clauses at after.free));
+        some = λ more none. cc;
+        joined = λ more. join-more piece (pieces_up_to on (suc n) rest) (after.some (omega arith))
+            ∙ (ap (λ t. piece ++ on ∷ t) (after.joined (omega arith)) ∙ whole.joined);
+      }
+
+  -- no other list is in the relation
+  pub up_to_only : (n : ℕ) (text : List ℕ) (pieces : List (List ℕ))
+      → PiecesUpTo n text on pieces → pieces ≡ pieces_up_to on n (pieces_of on text)
+  up_to_only zero text [] held = sym (up_to-zero (pieces_of on text))
+  up_to_only zero text (piece ∷ pieces) held = absurd (omega (arith, held.count))
+  up_to_only (suc n) text [] held = absurd (held.some (omega arith) refl)
+  up_to_only (suc zero) text (piece ∷ []) held =
+      sym (up_to-one text (pieces_of on text) (Pieces-pieces_of text on)
+      ∙ ap (λ t. t ∷ []) (sym (held.joined (omega arith))))
+  up_to_only (suc zero) text (piece ∷ next ∷ others) held = absurd (omega (arith, held.count))
+  up_to_only (suc (suc n)) text (piece ∷ []) held =
+      let Free = λ (p : List ℕ). ¬ (Contains p on) in
+      let free = HasNo-from_absent on piece
+      (All-head Free piece (take n []) (simp unary_clauses at held.free)) in
+      sym (ap (λ t. pieces_up_to on (suc (suc n)) (pieces_of on t))
+      (sym (held.joined (omega arith)))
+      ∙ ap (pieces_up_to on (suc (suc n))) (pieces_of-free on piece free))
+  up_to_only (suc (suc n)) text (piece ∷ next ∷ others) held =
+      let Free = λ (p : List ℕ). ¬ (Contains p on) in
+      let rest = next ∷ others in
+      let after = join_with_byte on rest in
+      let all_free = simp unary_clauses at held.free in
+      let free = HasNo-from_absent on piece (All-head Free piece (take n rest) all_free) in
+      let others_up_to = up_to_only (suc n) after rest (record {
+        count = omega (arith, held.count);
+        free = simp unary_clauses (All-tail Free piece (take n rest) all_free);
+        some = λ more none. cc;
+        joined = λ more. refl;
+      }) in
+      ap (λ ps. piece ∷ ps) others_up_to
+      ∙ ap (pieces_up_to on (suc (suc n))) (sym (pieces_of-split_at_first on text piece after
+      (sym (held.joined (omega arith))) free))
+
+-- ---- a step of the iterator whose pieces to come are `old`
+
+module _ (on count : ℕ) (pieces old : List (List ℕ)) (is : old ≡ pieces_up_to on count pieces)
+  where
+    -- nothing is yielded if no piece may come
+    pub up_to_done : count ≡ 0
+        → YieldsFirstAnd {A = AsciiStr} text_of (λ texts. texts) DropsFirst old None old
+    up_to_done none =
+        let empty : old ≡ [] =
+        is ∙ (ap (λ n. pieces_up_to on n pieces) none ∙ up_to-zero on pieces) in
+        ((empty, empty), rw empty refl)
+
+    -- the rest is yielded if one piece may come
+    pub up_to_rest : (result : Option AsciiStr) → count ≡ 1
+        → IsRemainderOfPieces (record { on = on; items = pieces }) result
+        → YieldsFirstAnd text_of (λ texts. texts) DropsFirst old result (pieces_up_to on 0 pieces)
+    up_to_rest None one none =
+        let empty : old ≡ [] = is ∙ (ap (pieces_up_to on count) none) in
+        rw (up_to-zero on pieces, empty) ((refl, refl), refl)
+    up_to_rest (Some view) one left =
+        let last : old ≡ text_of view ∷ [] =
+        is ∙ (ap (λ n. pieces_up_to on n pieces) one ∙ up_to-one on (text_of view) pieces left) in
+        rw (up_to-zero on pieces, last) (refl, refl)

@@ -1,0 +1,98 @@
+//! At most `n` pieces of a view, of which the n-th holds the rest.
+
+ghost use Rattle.std.specs.Prelude.{⊤, ◌≡◌};
+ghost use Rattle.std.specs.Iterator.{item_count};
+ghost use Rattle.ascii_base.specs.Code.{code_of};
+ghost use Rattle.ascii.specs.Pieces.{IteratesPiecesUpTo};
+ghost use Rattle.ascii.specs.Steps.{DropsFirst, LoopsOverTexts, YieldsFirstAnd};
+ghost use Rattle.ascii.specs.View.{text_of};
+
+use crate::ascii_str::AsciiStr;
+use crate::iter::split::Split;
+use ascii_base::ascii_char::AsciiChar;
+use std::alloc::AllocError;
+use std::iter::FusedIterator;
+use std::marker::Model;
+
+/// An iterator over at most `n` pieces of a view, of which the n-th holds the rest of the view.
+#[derive(Drop)]
+pub struct SplitN<'a> {
+    pieces: Split<'a>,
+    count: usize,
+}
+
+impl<'a> Model for SplitN<'a> {
+    ghost use Rattle.std.specs.Prelude.{List, ℕ};
+    ghost use Rattle.ascii.specs.Found.{pieces_up_to};
+
+    ghost Value = { List (List ℕ) };
+
+    ghost view = { λ split. pieces_up_to split.pieces.on split.count split.pieces.items };
+}
+
+impl Clone for SplitN<'_> {
+    ghost is_clone = { λ split copy. copy ≡ split };
+
+    ghost is_infallible = { λ _. ⊤ };
+
+    /// Returns an iterator with the same remaining pieces. Always returns `Ok`, and does not
+    /// allocate.
+    ///
+    ///     let mut pieces = view("a,b,c").splitn(2, AsciiChar::Comma);
+    ///     let mut copy = pieces.clone()?;
+    ///     pieces.next() // Some("a")
+    ///     copy.next() // Some("a")
+    fn clone(&self) -> Result<Self, AllocError> {
+        Ok(SplitN {
+            pieces: self.pieces.clone()?,
+            count: self.count,
+        })
+    }
+}
+
+impl<'a> Iterator for SplitN<'a> {
+    type Item = AsciiStr<'a>;
+
+    ghost next_gives = { YieldsFirstAnd text_of (λ pieces. pieces) DropsFirst };
+
+    ghost remaining = { item_count (λ pieces. pieces) };
+
+    /// Returns the next piece, or `None` if there are none left; it then keeps returning `None`.
+    ///
+    ///     view("a,b,c").splitn(1, AsciiChar::Comma).next() // Some("a,b,c")
+    #[inline(always)]
+    fn next(&mut self) -> Option<AsciiStr<'a>> {
+        match self.count {
+            0 => None,
+            1 => {
+                self.count = 0;
+                self.pieces.remainder()
+            }
+            _ => {
+                self.count -= 1;
+                self.pieces.next()
+            }
+        }
+    }
+}
+
+impl FusedIterator for SplitN<'_> {}
+
+impl<'a> AsciiStr<'a> {
+    /// Returns an iterator over at most `n` pieces of the view at `on`: the n-th piece holds the rest
+    /// of the view, with every `on` in it. There are none if `n` is 0. Does not allocate.
+    ///
+    ///     let mut pieces = view("a,b,c").splitn(2, AsciiChar::Comma);
+    ///     pieces.next() // Some("a")
+    ///     pieces.next() // Some("b,c")
+    ///     pieces.next() // None
+    pub fn splitn(self, n: usize, on: AsciiChar) -> SplitN<'a>
+        ensures iterates { IteratesPiecesUpTo n (text_of self.entry) (code_of on) result }
+        ensures loops { LoopsOverTexts }
+    {
+        SplitN {
+            pieces: self.split(on),
+            count: n,
+        }
+    }
+}

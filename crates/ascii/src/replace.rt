@@ -1,0 +1,40 @@
+//! Copies of views with a text in place of another.
+
+ghost use Rattle.std.specs.Prelude.{◌≢◌, [], IfOk};
+ghost use Rattle.ascii.specs.Replace.{Replaces};
+ghost use Rattle.ascii.specs.View.{text_of};
+
+use crate::ascii_str::AsciiStr;
+use crate::ascii_string::AsciiString;
+use ascii_base::range::AsciiRange;
+use std::alloc::{AllocError, Allocator};
+
+impl AsciiStr<'_> {
+    /// Returns a copy of the view with `to` in place of each `from`. The occurrences are found from the
+    /// left, and do not overlap. Fails only if an allocation fails.
+    ///
+    /// Condition: `from` is not empty.
+    ///
+    ///     view("a-b-c").replace(alloc, view("-"), view("::")) // Ok("a::b::c")
+    ///     view("aaa").replace(alloc, view("aa"), view("b")) // Ok("ba")
+    pub fn replace<A: Allocator>(
+        self,
+        alloc: A,
+        from: AsciiStr<'_>,
+        to: AsciiStr<'_>,
+    ) -> Result<AsciiString<A>, AllocError>
+        requires { text_of from ≢ [] }
+        ensures { IfOk result (λ copy.
+            Replaces (text_of from.entry) (text_of to.entry) (text_of self.entry) copy.text) }
+    {
+        let mut copy = AsciiString::new(alloc);
+        let mut rest = self;
+        while let Some(at) = rest.find(from) {
+            copy.push_str(rest.slice(AsciiRange::To(at)))?;
+            copy.push_str(to)?;
+            rest = rest.slice(AsciiRange::From(at + from.len()));
+        }
+        copy.push_str(rest)?;
+        Ok(copy)
+    }
+}
