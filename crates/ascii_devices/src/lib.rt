@@ -1,11 +1,17 @@
-//! Devices that give bytes and that take them.
+//! Devices: sources that give bytes and sinks that take them, as contracts can speak of them.
 //!
-//! `Source` gives bytes and `Sink` takes them; both count their failures, and an error is no more than
-//! `DeviceFault`. `Input` is a source over any reader of std, `Output` a sink over any writer. A contract
-//! sees of a source the bytes that it has yet to give, and of a sink those that it has taken, if they
-//! are known at all.
+//! After an error, std's contracts say little of a reader or a writer. These traits say more: a contract sees of a
+//! `Source` the bytes that it has yet to give, if they are known, and of a `Sink` those that it has taken. Both count
+//! the calls that failed, so that a caller can tell from the count whether a device failed. The only error is
+//! `DeviceFault`; the device's own error is dropped.
 //!
-//! In an example `alloc` is an allocator, and the comment after `//` is the `{:?}` output of the value.
+//! | You have | Use |
+//! |---|---|
+//! | a reader of std, also `&[u8]` | `Input::new(reader)` |
+//! | a writer of std, also `Vec<u8>` | `Output::new(writer)` |
+//! | a device of your own | an `impl` of `Source` or `Sink` |
+//!
+//! In an example, `alloc` is an allocator, and the comment after `//` is the value's `{:?}` output.
 #![tactic(auto)]
 
 ghost use Rattle.std.specs.Prelude.{◌≡◌, ℕ, ◌<◌, ◌≤◌, List, length, take, IfOk, MatchResult};
@@ -25,6 +31,8 @@ impl fmt::Display for DeviceFault {
 
     ghost output = { λ _. Some (codes "a device failed") };
 
+    /// Writes `a device failed`.
+    ///
     ///     DeviceFault.to_string(alloc)? // "a device failed"
     fn fmt<W: fmt::Write>(&self, f: &mut fmt::Formatter<W>) -> fmt::Result {
         f.write_str("a device failed")
@@ -41,14 +49,17 @@ pub trait Source {
     // How many calls have failed.
     ghost failures: { Self → ℕ };
 
-    /// How many calls have failed.
+    /// Returns how many calls have failed.
     ///
     ///     Input::new(b"ab".as_slice()).failures() // 0
     fn failures(&self) -> u64
         ensures { result ≡ failures self.now };
 
-    /// Moves the next bytes to the start of `buf` and returns their number, which is 0 only if
-    /// there are none left.
+    /// Copies the next bytes to the start of `buf` and returns their number, or an error if the
+    /// device failed; the count of failures then rises by one. The number is 0 only if there are no
+    /// bytes left.
+    ///
+    /// Condition: `buf` is not empty, and fewer than `u64::MAX` calls have failed.
     ///
     ///     let mut input = Input::new(b"ab".as_slice());
     ///     let mut buffer = [0; 3];
@@ -71,13 +82,16 @@ pub trait Sink {
     // How many calls have failed.
     ghost failures: { Self → ℕ };
 
-    /// How many calls have failed.
+    /// Returns how many calls have failed.
     ///
     ///     Output::new(Vec::new(alloc)).failures() // 0
     fn failures(&self) -> u64
         ensures { result ≡ failures self.now };
 
-    /// Takes a prefix of `bytes` of at least one byte, and returns its length.
+    /// Takes a prefix of `bytes` of at least one byte and returns its length, or an error if the
+    /// device failed; the count of failures then rises by one.
+    ///
+    /// Condition: `bytes` is not empty, and fewer than `u64::MAX` calls have failed.
     ///
     ///     let mut output = Output::new(Vec::new(alloc));
     ///     output.write(b"ab") // Ok(2)
@@ -91,7 +105,10 @@ pub trait Sink {
             (λ _. Keeps (taken self.old) (taken self.new)) }
         ensures count { CountsFault (failures self.old) (failures self.new) result };
 
-    /// Passes on the bytes that it holds. The bytes that it has taken are unchanged.
+    /// Passes on the bytes that the device holds, or returns an error if the device failed; the
+    /// count of failures then rises by one. The bytes that it has taken are unchanged.
+    ///
+    /// Condition: fewer than `u64::MAX` calls have failed.
     ///
     ///     Output::new(Vec::new(alloc)).flush() // Ok(())
     fn flush(&mut self) -> Result<(), DeviceFault>
@@ -110,7 +127,7 @@ pub struct Input<R> {
 impl<R: io::Read> Input<R> {
     ghost use Rattle.ascii_devices.specs.Wrapped.{reader_of, input_failures};
 
-    /// A source over the reader, with no failure so far.
+    /// Creates a source over the reader, with no failure so far.
     ///
     ///     Input::new(b"ab".as_slice()).failures() // 0
     pub fn new(reader: R) -> Input<R>
@@ -123,7 +140,7 @@ impl<R: io::Read> Input<R> {
         }
     }
 
-    /// The reader.
+    /// Returns the reader.
     ///
     ///     Input::new(b"ab".as_slice()).into_inner() // [97, 98]
     pub fn into_inner(self) -> R
@@ -171,7 +188,7 @@ pub struct Output<W> {
 impl<W: io::Write> Output<W> {
     ghost use Rattle.ascii_devices.specs.Wrapped.{writer_of, output_failures};
 
-    /// A sink over the writer, with no failure so far.
+    /// Creates a sink over the writer, with no failure so far.
     ///
     ///     Output::new(Vec::new(alloc)).failures() // 0
     pub fn new(writer: W) -> Output<W>
@@ -184,7 +201,7 @@ impl<W: io::Write> Output<W> {
         }
     }
 
-    /// The writer.
+    /// Returns the writer.
     ///
     ///     let mut output = Output::new(Vec::new(alloc));
     ///     output.write(b"ab") // Ok(2)
