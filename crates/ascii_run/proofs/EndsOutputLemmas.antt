@@ -8,7 +8,7 @@ use Rattle.ascii.specs.Walks.{ListAnswersTo, TakesEnd}
 use Rattle.ascii.proofs.EndsLemmas.{AnswersTo-all, AnswersTo-step}
 use Rattle.ascii_run.specs.Modes.Ends.{ShowsEnds}
 
--- the output of the answers so far, and what is still owed
+-- the output of the answers so far, and of those that are left
 abbrev pub ShowsSoFar : {A : Type 0} → (Option A → List ℕ) → List A → List End → List ℕ → List A
     → Type 0
 ShowsSoFar {A} shown items script output left =

@@ -1,4 +1,4 @@
--- Edits of a text that may stand in the value itself leave it codes, with room.
+-- Edits of a text that may be inline leave it codes, with room.
 use Rattle.std.proofs.Common.{ℕ, ◌≡◌, ◌+◌, ◌<◌, ◌≤◌, List, ◌++◌, arith, drop, length, map, refl}
 use Rattle.std.proofs.Common.{subst, suc, sym, take}
 use Rattle.std.specs.List.{insert, length_refill, refill, remove}
@@ -29,7 +29,7 @@ IsSmallText-remove t i capacity small inside = record {
   sure = small.sure;
 }
 
--- written anew in its place
+-- written again in its place
 pub IsSmallText-written : (t new : List ℕ) (capacity : ℕ) → IsSmallText t capacity → IsAscii new
     → IsSmallText (refill (length t) t new) capacity
 IsSmallText-written t new capacity small ascii = record {

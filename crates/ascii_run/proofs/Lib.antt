@@ -1,5 +1,7 @@
+pub mod BoundedLemmas
 pub mod BufferCopyLemmas
 pub mod EndsOutputLemmas
+pub mod FrontOutputLemmas
 pub mod InlineLemmas
 pub mod JsonTextLemmas
 pub mod LineFeedLemmas

@@ -3,7 +3,8 @@
 use Rattle.std.proofs.Common.{append-nil, ◌≡◌, ◌≢◌, ℕ, zero, suc, ◌+◌, ◌-◌, ◌<◌, Bool, true, false}
 use Rattle.std.proofs.Common.{eqb, cond, ◌&&◌, List, [], ◌∷◌, ◌++◌, length, get_or, take, drop}
 use Rattle.std.proofs.Common.{refl, sym, ap, ◌∙◌, subst, arith, eqb-true, append_assoc, Some}
-use Rattle.std.proofs.Common.{length-drop}
+use Rattle.std.proofs.Common.{length-drop, inl, inr, ◌⊎◌}
+use Rattle.std.proofs.lemmas.List.Folds.{flat_map-map}
 use Rattle.std.specs.List.{All, Contains, flat_map}
 use Rattle.std.specs.Prelude.{slice_index}
 use Rattle.std.proofs.lemmas.List.Elements.{All-head, All-tail}
@@ -14,20 +15,25 @@ use Rattle.memchr.specs.Find.{NoneBefore, Nowhere, OccursAt}
 use Rattle.ascii.specs.declared.iter.spans.Ending.{Ending}
 use Rattle.ascii.specs.declared.iter.spans.Ending.TheVariants.{Lf, CrLf, Absent}
 use Rattle.ascii.specs.Found.{HasNo, lines_of}
-use Rattle.ascii.specs.Lines.{EndsInCr, Line, MayFollow, bodies, ending_text, line_text}
+use Rattle.ascii.specs.Lines.{EndsInCr, Line, MayFollow, ending_text, line_text}
 use Rattle.ascii.proofs.LinesLemmas.{LinesOf-lines_of}
 use Rattle.ascii.proofs.PiecesLemmas.{HasNo-from_absent}
 use Rattle.ascii_run.specs.declared.modes.Mode.TheVariants.{Lines}
+use Rattle.ascii_run.specs.Bounded.{ShowsFront, front_by_ending, front_of_line}
+use Rattle.ascii_run.specs.Bounded.{without_last_cr}
+use Rattle.ascii_run.specs.FrontOutput.{IsLastSegment, held_cr, lines_part, unless_cr}
+use Rattle.ascii_run.specs.FrontOutput.{with_feeds}
 use Rattle.ascii_run.specs.Modes.Lines.{with_line_feed}
 use Rattle.ascii_run.specs.Modes.{IsOutput}
 use Rattle.ascii_run.proofs.ListLemmas.{last_is}
 
+-- the last code of a whole text: LF comes after it unless it is LF
+abbrev pub and_feed : ℕ → List ℕ
+and_feed c = cond (eqb c 10) (c ∷ []) (c ∷ 10 ∷ [])
+
 -- a text with LF for each ending, and after a last line that has none
 abbrev pub with_line_feeds : List ℕ → List ℕ
-with_line_feeds [] = []
-with_line_feeds (c ∷ []) = cond (eqb c 10) (c ∷ []) (c ∷ 10 ∷ [])
-with_line_feeds (c ∷ d ∷ cs) = cond (eqb c 13 && eqb d 10) (with_line_feeds (d ∷ cs))
-    (c ∷ with_line_feeds (d ∷ cs))
+with_line_feeds text = with_feeds and_feed text
 
 -- ---- how it goes over a code
 
@@ -37,43 +43,60 @@ neither c d true true at_cr at_lf other = absurd (other (eqb-true c 13 at_cr) (e
 neither c d true false at_cr at_lf other = refl
 neither c d false y at_cr at_lf other = refl
 
-keeps : (c d : ℕ) (cs : List ℕ) → (c ≡ 13 → d ≡ 10 → ⊥)
-    → with_line_feeds (c ∷ d ∷ cs) ≡ c ∷ with_line_feeds (d ∷ cs)
-keeps c d cs other =
-    ap (λ b. cond b (with_line_feeds (d ∷ cs)) (c ∷ with_line_feeds (d ∷ cs)))
+keeps : (last : ℕ → List ℕ) (c d : ℕ) (cs : List ℕ) → (c ≡ 13 → d ≡ 10 → ⊥)
+    → with_feeds last (c ∷ d ∷ cs) ≡ c ∷ with_feeds last (d ∷ cs)
+keeps last c d cs other =
+    ap (λ b. cond b (with_feeds last (d ∷ cs)) (c ∷ with_feeds last (d ∷ cs)))
     (neither c d (eqb c 13) (eqb d 10) refl refl other)
 
-feed : (t : List ℕ) → with_line_feeds (10 ∷ t) ≡ 10 ∷ with_line_feeds t
-feed [] = refl
-feed (c ∷ cs) = refl
+feed : (last : ℕ → List ℕ) → last 10 ≡ 10 ∷ [] → (t : List ℕ)
+    → with_feeds last (10 ∷ t) ≡ 10 ∷ with_feeds last t
+feed last is [] = is
+feed last is (c ∷ cs) = refl
 
 no_feed : (c : ℕ) → eqb c 10 ≡ false → c ≡ 10 → ⊥
 no_feed c other is = false≢true (sym other ∙ ap (λ x. eqb x 10) is)
 
+-- the last place of two codes or more
+last_place : (c d : ℕ) (cs : List ℕ) → length (c ∷ d ∷ cs) - 1 ≡ suc (length (d ∷ cs) - 1)
+last_place c d cs = omega arith
+
+-- the codes before the last one, and the last one
+init_last : (t : List ℕ) → t ≢ [] → take (length t - 1) t ++ get_or t (length t - 1) 0 ∷ [] ≡ t
+init_last [] some = absurd (some refl)
+init_last (c ∷ []) some = refl
+init_last (c ∷ d ∷ cs) some =
+    ap (λ k. take k (c ∷ d ∷ cs) ++ get_or (c ∷ d ∷ cs) k 0 ∷ []) (last_place c d cs)
+    ∙ ap (λ t. c ∷ t) (init_last (d ∷ cs) (λ nil. cc))
+
 -- ---- the body of a line
 
 -- no CR at the end of a body before LF
-spliced : (body : List ℕ) (d : ℕ) (ds : List ℕ) → HasNo 10 body
+spliced : (last : ℕ → List ℕ) (body : List ℕ) (d : ℕ) (ds : List ℕ) → HasNo 10 body
     → (d ≡ 10 → get_or body (length body - 1) 0 ≡ 13 → ⊥)
-    → with_line_feeds (body ++ d ∷ ds) ≡ body ++ with_line_feeds (d ∷ ds)
-spliced [] d ds free may = refl
-spliced (c ∷ []) d ds free may = keeps c d ds (λ at_cr at_lf. may at_lf at_cr)
-spliced (c ∷ e ∷ es) d ds free may =
+    → with_feeds last (body ++ d ∷ ds) ≡ body ++ with_feeds last (d ∷ ds)
+spliced last [] d ds free may = refl
+spliced last (c ∷ []) d ds free may = keeps last c d ds (λ at_cr at_lf. may at_lf at_cr)
+spliced last (c ∷ e ∷ es) d ds free may =
     let NoFeed : ℕ → Type 0 = λ code. eqb code 10 ≡ false in
     let rest = All-tail NoFeed c (e ∷ es) free in
-    keeps c e (es ++ d ∷ ds) (λ at_cr at_lf. no_feed e (All-head NoFeed e es rest) at_lf)
+    keeps last c e (es ++ d ∷ ds)
+    (λ at_cr at_lf. no_feed e (All-head NoFeed e es rest) at_lf)
     ∙ ap (λ t. c ∷ t)
-    (spliced (e ∷ es) d ds rest (λ at_lf at_cr. may at_lf (last_is c e es ∙ at_cr)))
+    (spliced last (e ∷ es) d ds rest (λ at_lf at_cr. may at_lf (last_is c e es ∙ at_cr)))
 
-open_end : (body : List ℕ) → HasNo 10 body → body ≢ [] → with_line_feeds body ≡ body ++ 10 ∷ []
-open_end [] free some = absurd (some refl)
-open_end (c ∷ []) free some = ap (λ b. cond b (c ∷ []) (c ∷ 10 ∷ []))
-    (All-head (λ code. eqb code 10 ≡ false) c [] free)
-open_end (c ∷ e ∷ es) free some =
+-- a body alone
+alone : (last : ℕ → List ℕ) (body : List ℕ) → HasNo 10 body → body ≢ []
+    → with_feeds last body ≡ take (length body - 1) body ++ last (get_or body (length body - 1) 0)
+alone last [] free some = absurd (some refl)
+alone last (c ∷ []) free some = refl
+alone last (c ∷ e ∷ es) free some =
     let NoFeed : ℕ → Type 0 = λ code. eqb code 10 ≡ false in
     let rest = All-tail NoFeed c (e ∷ es) free in
-    keeps c e es (λ at_cr at_lf. no_feed e (All-head NoFeed e es rest) at_lf)
-    ∙ ap (λ t. c ∷ t) (open_end (e ∷ es) rest (λ none. cc))
+    let whole = c ∷ e ∷ es in
+    keeps last c e es (λ at_cr at_lf. no_feed e (All-head NoFeed e es rest) at_lf)
+    ∙ (ap (λ t. c ∷ t) (alone last (e ∷ es) rest (λ none. cc))
+    ∙ ap (λ k. take k whole ++ last (get_or whole k 0)) (sym (last_place c e es)))
 
 ends_in_cr : (body : List ℕ) → get_or body (length body - 1) 0 ≡ 13 → EndsInCr body
 ends_in_cr [] is = absurd (omega (arith, is))
@@ -81,63 +104,134 @@ ends_in_cr (c ∷ cs) is =
     let inside : length (c ∷ cs) - 1 < length (c ∷ cs) = omega arith in
     slice_get-get_or (c ∷ cs) (length (c ∷ cs) - 1) 0 inside ∙ ap Some is
 
--- ---- a line, and all
+-- ---- a line, and all, where `shown` is what becomes of a line
 
-ended : (body : List ℕ) (ending : Ending) (t : List ℕ) → HasNo 10 body → MayFollow ending body
-    → ending ≢ Absent
-    → with_line_feeds ((body ++ ending_text ending) ++ t) ≡ with_line_feed body ++ with_line_feeds t
-ended body Lf t free may has =
-    ap with_line_feeds (append_assoc body (10 ∷ []) t)
-    ∙ (spliced body 10 t free (λ is at_cr. may (ends_in_cr body at_cr))
-    ∙ (ap (λ xs. body ++ xs) (feed t) ∙ sym (append_assoc body (10 ∷ []) (with_line_feeds t))))
-ended body CrLf t free may has =
-    ap with_line_feeds (append_assoc body (13 ∷ 10 ∷ []) t)
-    ∙ (spliced body 13 (10 ∷ t) free (λ is at_cr. absurd (omega (arith, is)))
-    ∙ (ap (λ xs. body ++ xs) (feed t) ∙ sym (append_assoc body (10 ∷ []) (with_line_feeds t))))
-ended body Absent t free may has = absurd (has refl)
+ended : (last : ℕ → List ℕ) → last 10 ≡ 10 ∷ [] → (body : List ℕ) (ending : Ending) (t : List ℕ)
+    → HasNo 10 body → MayFollow ending body → ending ≢ Absent
+    → with_feeds last ((body ++ ending_text ending) ++ t) ≡ with_line_feed body ++ with_feeds last t
+ended last is body Lf t free may has =
+    ap (with_feeds last) (append_assoc body (10 ∷ []) t)
+    ∙ (spliced last body 10 t free (λ is_lf at_cr. may (ends_in_cr body at_cr))
+    ∙ (ap (λ xs. body ++ xs) (feed last is t)
+    ∙ sym (append_assoc body (10 ∷ []) (with_feeds last t))))
+ended last is body CrLf t free may has =
+    ap (with_feeds last) (append_assoc body (13 ∷ 10 ∷ []) t)
+    ∙ (spliced last body 13 (10 ∷ t) free (λ is_lf at_cr. absurd (omega (arith, is_lf)))
+    ∙ (ap (λ xs. body ++ xs) (feed last is t)
+    ∙ sym (append_assoc body (10 ∷ []) (with_feeds last t))))
+ended last is body Absent t free may has = absurd (has refl)
 
-last_line : (body : List ℕ) (ending : Ending) → HasNo 10 body → MayFollow ending body
-    → with_line_feeds ((body ++ ending_text ending) ++ []) ≡ with_line_feed body ++ []
-last_line body Lf free may = ended body Lf [] free may (λ none. cc)
-last_line body CrLf free may = ended body CrLf [] free may (λ none. cc)
-last_line body Absent free may =
-    ap with_line_feeds (append-nil (body ++ []) ∙ append-nil body)
-    ∙ (open_end body free may ∙ sym (append-nil (body ++ 10 ∷ [])))
+-- a line without an ending, or with one
+has_ending : (ending : Ending) → (ending ≡ Absent) ⊎ (ending ≢ Absent)
+has_ending Lf = inr (λ none. cc)
+has_ending CrLf = inr (λ none. cc)
+has_ending Absent = inl refl
 
-all_lines : (lines : List Line) → All (λ line. ¬ (Contains line.body 10)) lines
-    → All (λ line. MayFollow line.ending line.body) lines
-    → All (λ line. line.ending ≢ Absent) (take (length lines - 1) lines)
-    → with_line_feeds (flat_map line_text lines) ≡ flat_map with_line_feed (bodies lines)
-all_lines [] absent may has = refl
-all_lines (line ∷ []) absent may has =
-    last_line line.body line.ending
-    (HasNo-from_absent 10 line.body
-    (All-head (λ one. ¬ (Contains one.body 10)) line [] absent))
-    (All-head (λ one. MayFollow one.ending one.body) line [] may)
-all_lines (line ∷ next ∷ others) absent may has =
-    let NoFeed : Line → Type 0 = λ one. ¬ (Contains one.body 10) in
-    let MayEnd : Line → Type 0 = λ one. MayFollow one.ending one.body in
-    let Ended : Line → Type 0 = λ one. one.ending ≢ Absent in
-    let n : length (line ∷ next ∷ others) - 1 ≡ suc (length (next ∷ others) - 1) = omega arith in
-    let front = subst (λ m. All Ended (take m (line ∷ next ∷ others))) n has in
-    ended line.body line.ending (flat_map line_text (next ∷ others))
-    (HasNo-from_absent 10 line.body (All-head NoFeed line (next ∷ others) absent))
-    (All-head MayEnd line (next ∷ others) may)
-    (All-head Ended line (take (length (next ∷ others) - 1) (next ∷ others)) front)
-    ∙ ap (λ xs. with_line_feed line.body ++ xs)
-    (all_lines (next ∷ others) (All-tail NoFeed line (next ∷ others) absent)
-    (All-tail MayEnd line (next ∷ others) may)
-    (All-tail Ended line (take (length (next ∷ others) - 1) (next ∷ others)) front))
+module _ (last : ℕ → List ℕ) (is : last 10 ≡ 10 ∷ []) (shown : Line → List ℕ)
+    (whole : (line : Line) → line.ending ≢ Absent → shown line ≡ with_line_feed line.body)
+    (unended : (line : Line) → line.ending ≡ Absent → HasNo 10 line.body → line.body ≢ []
+    → with_feeds last line.body ≡ shown line) where
+  last_line : (line : Line) → HasNo 10 line.body → MayFollow line.ending line.body
+      → with_feeds last (line_text line ++ []) ≡ shown line ++ []
+  last_line line free may = elim (has_ending line.ending) [
+    | inl absent ↦
+        ap (with_feeds last) (append-nil (line_text line)
+        ∙ (ap (λ ending. line.body ++ ending_text ending) absent ∙ append-nil line.body))
+        ∙ (unended line absent free (subst (λ ending. MayFollow ending line.body) absent may)
+        ∙ sym (append-nil (shown line)))
+    | inr has ↦
+        ended last is line.body line.ending [] free may has
+        ∙ ap (λ xs. xs ++ []) (sym (whole line has))
+  ]
+
+  all_lines : (lines : List Line) → All (λ line. ¬ (Contains line.body 10)) lines
+      → All (λ line. MayFollow line.ending line.body) lines
+      → All (λ line. line.ending ≢ Absent) (take (length lines - 1) lines)
+      → with_feeds last (flat_map line_text lines) ≡ flat_map shown lines
+  all_lines [] absent may has = refl
+  all_lines (line ∷ []) absent may has =
+      last_line line
+      (HasNo-from_absent 10 line.body
+      (All-head (λ one. ¬ (Contains one.body 10)) line [] absent))
+      (All-head (λ one. MayFollow one.ending one.body) line [] may)
+  all_lines (line ∷ next ∷ others) absent may has =
+      let NoFeed : Line → Type 0 = λ one. ¬ (Contains one.body 10) in
+      let MayEnd : Line → Type 0 = λ one. MayFollow one.ending one.body in
+      let Ended : Line → Type 0 = λ one. one.ending ≢ Absent in
+      let n : length (line ∷ next ∷ others) - 1 ≡ suc (length (next ∷ others) - 1) = omega arith in
+      let front = subst (λ m. All Ended (take m (line ∷ next ∷ others))) n has in
+      let head = All-head Ended line (take (length (next ∷ others) - 1) (next ∷ others)) front in
+      ended last is line.body line.ending (flat_map line_text (next ∷ others))
+      (HasNo-from_absent 10 line.body (All-head NoFeed line (next ∷ others) absent))
+      (All-head MayEnd line (next ∷ others) may) head
+      ∙ ((λ k. sym (whole line head) k
+      ++ with_feeds last (flat_map line_text (next ∷ others)))
+      ∙ ap (λ xs. shown line ++ xs)
+      (all_lines (next ∷ others) (All-tail NoFeed line (next ∷ others) absent)
+      (All-tail MayEnd line (next ∷ others) may)
+      (All-tail Ended line (take (length (next ∷ others) - 1) (next ∷ others)) front)))
+
+  shows : (t : List ℕ) → with_feeds last t ≡ flat_map shown (lines_of t)
+  shows t =
+      let lines = LinesOf-lines_of t in
+      ap (with_feeds last) (sym lines.joined)
+      ∙ all_lines (lines_of t) lines.bodies lines.endings lines.ended
+
+not_feed : (body : List ℕ) → HasNo 10 body → body ≢ []
+    → eqb (get_or body (length body - 1) 0) 10 ≡ false
+not_feed [] free some = absurd (some refl)
+not_feed (c ∷ []) free some = All-head (λ code. eqb code 10 ≡ false) c [] free
+not_feed (c ∷ e ∷ es) free some =
+    ap (λ code. eqb code 10) (last_is c e es)
+    ∙ not_feed (e ∷ es) (All-tail (λ code. eqb code 10 ≡ false) c (e ∷ es) free) (λ none. cc)
+
+-- a last line that has no ending
+open_end : (body : List ℕ) → HasNo 10 body → body ≢ [] → with_line_feeds body ≡ with_line_feed body
+open_end body free some =
+    let m = length body - 1 in
+    let x = get_or body m 0 in
+    alone and_feed body free some
+    ∙ (ap (λ b. take m body ++ cond b (x ∷ []) (x ∷ 10 ∷ [])) (not_feed body free some)
+    ∙ (sym (append_assoc (take m body) (x ∷ []) (10 ∷ []))
+    ∙ ap (λ xs. xs ++ 10 ∷ []) (init_last body some)))
 
 -- it is the output of `lines`
 pub IsOutput-lines : (t : List ℕ) → IsOutput Lines t (with_line_feeds t)
-IsOutput-lines t =
-    let lines = LinesOf-lines_of t in (
-      lines_of t,
-      lines,
-      ap with_line_feeds (sym lines.joined)
-          ∙ all_lines (lines_of t) lines.bodies lines.endings lines.ended,
-    )
+IsOutput-lines t = (
+  lines_of t,
+  LinesOf-lines_of t,
+  shows and_feed refl (λ line. with_line_feed line.body) (λ line has. refl)
+      (λ line absent free some. open_end line.body free some) t
+      ∙ sym (flat_map-map with_line_feed (λ line. line.body) (lines_of t)),
+)
+
+-- a text, by whether its last code is CR
+without_by : (t : List ℕ) → t ≢ [] → (b : Bool) → eqb (get_or t (length t - 1) 0) 13 ≡ b
+    → take (length t - 1) t ++ cond b [] (get_or t (length t - 1) 0 ∷ [])
+    ≡ cond b (take (length t - 1) t) t
+without_by t some true is = append-nil (take (length t - 1) t)
+without_by t some false is = init_last t some
+
+front_ended : (ending : Ending) (body : List ℕ) → ending ≢ Absent
+    → front_by_ending ending body ≡ with_line_feed body
+front_ended Lf body has = refl
+front_ended CrLf body has = refl
+front_ended Absent body has = absurd (has refl)
+
+-- what is written of a text before more is read, as one text
+abbrev pub front_feeds : List ℕ → List ℕ
+front_feeds text = with_feeds unless_cr text
+
+-- it is the front output of `lines`
+pub ShowsFront-feeds : (t : List ℕ) → ShowsFront t (front_feeds t)
+ShowsFront-feeds t = (
+  lines_of t,
+  LinesOf-lines_of t,
+  shows unless_cr refl front_of_line (λ line has. front_ended line.ending line.body has)
+      (λ line absent free some. alone unless_cr line.body free some
+      ∙ (without_by line.body some (eqb (get_or line.body (length line.body - 1) 0) 13) refl
+      ∙ ap (λ ending. front_by_ending ending line.body) (sym absent))) t,
+)
 
 -- ---- by runs
 
@@ -170,81 +264,110 @@ before c t k occurs = record {
 }
 
 -- up to the CR of the first CR LF
-run_before : (t : List ℕ) (k : ℕ) → Nowhere (OccursAt t end) 0 k → OccursAt t end k
-    → with_line_feeds t ≡ take k t ++ with_line_feeds (drop 1 (drop k t))
-run_before [] k none at = absurd (omega (arith, at.fits))
-run_before (c ∷ []) k none at = absurd (omega (arith, at.fits))
-run_before (c ∷ d ∷ cs) zero none at =
+run_before : (last : ℕ → List ℕ) (t : List ℕ) (k : ℕ)
+    → Nowhere (OccursAt t end) 0 k → OccursAt t end k
+    → with_feeds last t ≡ take k t ++ with_feeds last (drop 1 (drop k t))
+run_before last [] k none at = absurd (omega (arith, at.fits))
+run_before last (c ∷ []) k none at = absurd (omega (arith, at.fits))
+run_before last (c ∷ d ∷ cs) zero none at =
     let at_cr : c ≡ 13 = at.reads 0 (omega arith) in
     let at_lf : d ≡ 10 = at.reads 1 (omega arith) in
-    ap (λ x. with_line_feeds (x ∷ d ∷ cs)) at_cr
-    ∙ (ap (λ x. with_line_feeds (13 ∷ x ∷ cs)) at_lf
-    ∙ ap (λ x. with_line_feeds (x ∷ cs)) (sym at_lf))
-run_before (c ∷ d ∷ cs) (suc k) none at =
-    keeps c d cs (λ at_cr at_lf. none 0 (omega arith) (omega arith) (at_front c d cs at_cr at_lf))
+    ap (λ x. with_feeds last (x ∷ d ∷ cs)) at_cr
+    ∙ (ap (λ x. with_feeds last (13 ∷ x ∷ cs)) at_lf
+    ∙ ap (λ x. with_feeds last (x ∷ cs)) (sym at_lf))
+run_before last (c ∷ d ∷ cs) (suc k) none at =
+    keeps last c d cs
+    (λ at_cr at_lf. none 0 (omega arith) (omega arith) (at_front c d cs at_cr at_lf))
     ∙ ap (λ t. c ∷ t)
-    (run_before (d ∷ cs) k
+    (run_before last (d ∷ cs) k
     (λ j low high occurs. none (suc j) (omega arith) (omega (arith, high))
     (before c (d ∷ cs) j occurs)) (later c (d ∷ cs) k at))
 
 -- what was put in, and the run up to the first CR LF
-pub run_more : (done t whole needle run behind : List ℕ) (k : ℕ) → needle ≡ end
+pub run_more : (text done t needle run behind : List ℕ) (k : ℕ) → needle ≡ end
     → NoneBefore (OccursAt t needle) 0 (length t + 1) k × OccursAt t needle k
-    → run ≡ take k t → behind ≡ drop k t → done ++ with_line_feeds t ≡ whole
-    → (done ++ run) ++ with_line_feeds (take (length behind - 1) (drop 1 behind)) ≡ whole
-run_more done t whole needle run behind k is found front back held =
+    → run ≡ take k t → behind ≡ drop k t
+    → ((last : ℕ → List ℕ) → done ++ with_feeds last t ≡ with_feeds last text)
+    → (last : ℕ → List ℕ)
+    → (done ++ run) ++ with_feeds last (take (length behind - 1) (drop 1 behind))
+    ≡ with_feeds last text
+run_more text done t needle run behind k is found front back held last =
     let here = subst (λ n. NoneBefore (OccursAt t n) 0 (length t + 1) k × OccursAt t n k) is
     found in
     let rest : take (length behind - 1) (drop 1 behind) ≡ drop 1 (drop k t) =
     ap (λ n. take n (drop 1 behind)) (sym (length-drop 1 behind))
     ∙ (take-length (drop 1 behind) ∙ ap (λ xs. drop 1 xs) back) in
-    append_assoc done run (with_line_feeds (take (length behind - 1) (drop 1 behind)))
-    ∙ (ap (λ xs. done ++ (run ++ with_line_feeds xs)) rest
-    ∙ (ap (λ xs. done ++ (xs ++ with_line_feeds (drop 1 (drop k t)))) front
-    ∙ (ap (λ xs. done ++ xs) (sym (run_before t k here.0.before here.1)) ∙ held)))
-
-pick : (b : Bool) (c : ℕ) → cond b (c ∷ []) (c ∷ 10 ∷ []) ≡ c ∷ cond b [] (10 ∷ [])
-pick true c = refl
-pick false c = refl
+    append_assoc done run (with_feeds last (take (length behind - 1) (drop 1 behind)))
+    ∙ (ap (λ xs. done ++ (run ++ with_feeds last xs)) rest
+    ∙ (ap (λ xs. done ++ (xs ++ with_feeds last (drop 1 (drop k t)))) front
+    ∙ (ap (λ xs. done ++ xs) (sym (run_before last t k here.0.before here.1)) ∙ held last)))
 
 -- a rest without CR LF
-rest_by_end : (t : List ℕ) → t ≢ [] → Nowhere (OccursAt t end) 0 (length t + 1)
-    → with_line_feeds t ≡ t ++ cond (eqb (get_or t (length t - 1) 0) 10) [] (10 ∷ [])
-rest_by_end [] some none = absurd (some refl)
-rest_by_end (c ∷ []) some none = pick (eqb c 10) c
-rest_by_end (c ∷ d ∷ cs) some none =
-    keeps c d cs (λ at_cr at_lf. none 0 (omega arith) (omega arith) (at_front c d cs at_cr at_lf))
+rest_by_end : (last : ℕ → List ℕ) (t : List ℕ) → t ≢ []
+    → Nowhere (OccursAt t end) 0 (length t + 1)
+    → with_feeds last t ≡ take (length t - 1) t ++ last (get_or t (length t - 1) 0)
+rest_by_end last [] some none = absurd (some refl)
+rest_by_end last (c ∷ []) some none = refl
+rest_by_end last (c ∷ d ∷ cs) some none =
+    let whole = c ∷ d ∷ cs in
+    keeps last c d cs
+    (λ at_cr at_lf. none 0 (omega arith) (omega arith) (at_front c d cs at_cr at_lf))
     ∙ (ap (λ t. c ∷ t)
-    (rest_by_end (d ∷ cs) (λ nil. cc)
+    (rest_by_end last (d ∷ cs) (λ nil. cc)
     (λ j low high occurs. none (suc j) (omega arith) (omega (arith, high))
     (before c (d ∷ cs) j occurs)))
-    ∙ ap (λ code. c ∷ ((d ∷ cs) ++ cond (eqb code 10) [] (10 ∷ []))) (sym (last_is c d cs)))
+    ∙ ap (λ k. take k whole ++ last (get_or whole k 0)) (sym (last_place c d cs)))
 
 -- no rest
-pub rest_of_none : (t : List ℕ) → true ≡ eqb (length t) 0 → with_line_feeds t ≡ t
-rest_of_none [] none = refl
-rest_of_none (c ∷ cs) none = absurd (omega (arith, eqb-true (length (c ∷ cs)) 0 (sym none)))
+pub rest_of_none : (last : ℕ → List ℕ) (t : List ℕ) → true ≡ eqb (length t) 0
+    → with_feeds last t ≡ t
+rest_of_none last [] none = refl
+rest_of_none last (c ∷ cs) none = absurd (omega (arith, eqb-true (length (c ∷ cs)) 0 (sym none)))
 
 filled : (t : List ℕ) → false ≡ eqb (length t) 0 → t ≢ []
 filled t some none = false≢true (some ∙ ap (λ xs. eqb (length xs) 0) none)
 
 -- a rest that ends in LF
-pub rest_ended : (t needle : List ℕ) → needle ≡ end
-    → Nowhere (OccursAt t needle) 0 (length t + 1) → false ≡ eqb (length t) 0
-    → get_or t (length t - 1) 0 ≡ 10 → with_line_feeds t ≡ t
-rest_ended t needle is none some last =
-    rest_by_end t (filled t some) (subst (λ n. Nowhere (OccursAt t n) 0 (length t + 1)) is none)
-    ∙ (ap (λ code. t ++ cond (eqb code 10) [] (10 ∷ [])) last ∙ append-nil t)
+pub rest_ended : (t : List ℕ) → Nowhere (OccursAt t end) 0 (length t + 1)
+    → false ≡ eqb (length t) 0 → get_or t (length t - 1) 0 ≡ 10 → with_line_feeds t ≡ t
+rest_ended t none some is =
+    let front = take (length t - 1) t in
+    rest_by_end and_feed t (filled t some) none
+    ∙ (ap (λ code. front ++ cond (eqb code 10) (code ∷ []) (code ∷ 10 ∷ [])) is
+    ∙ (ap (λ code. front ++ code ∷ []) (sym is) ∙ init_last t (filled t some)))
 
-other : (c : ℕ) (b : Bool) → eqb c 10 ≡ b → (c ≡ 10 → ⊥) → b ≡ false
-other c true is not_lf = absurd (not_lf (eqb-true c 10 is))
-other c false is not_lf = refl
+other_than : (c n : ℕ) (b : Bool) → eqb c n ≡ b → (c ≡ n → ⊥) → b ≡ false
+other_than c n true is other = absurd (other (eqb-true c n is))
+other_than c n false is other = refl
 
 -- a rest that ends in another code
-pub rest_open : (t needle : List ℕ) → needle ≡ end → Nowhere (OccursAt t needle) 0 (length t + 1)
+pub rest_open : (t : List ℕ) → Nowhere (OccursAt t end) 0 (length t + 1)
     → false ≡ eqb (length t) 0
     → (get_or t (length t - 1) 0 ≡ 10 → ⊥) → with_line_feeds t ≡ t ++ 10 ∷ []
-rest_open t needle is none some last =
-    rest_by_end t (filled t some) (subst (λ n. Nowhere (OccursAt t n) 0 (length t + 1)) is none)
-    ∙ ap (λ b. t ++ cond b [] (10 ∷ []))
-    (other (get_or t (length t - 1) 0) (eqb (get_or t (length t - 1) 0) 10) refl last)
+rest_open t none some is_not =
+    let front = take (length t - 1) t in
+    let x = get_or t (length t - 1) 0 in
+    rest_by_end and_feed t (filled t some) none
+    ∙ (ap (λ b. front ++ cond b (x ∷ []) (x ∷ 10 ∷ [])) (other_than x 10 (eqb x 10) refl is_not)
+    ∙ (sym (append_assoc front (x ∷ []) (10 ∷ []))
+    ∙ ap (λ xs. xs ++ 10 ∷ []) (init_last t (filled t some))))
+
+-- a rest before more is read
+front_rest : (t : List ℕ) → Nowhere (OccursAt t end) 0 (length t + 1)
+    → front_feeds t ≡ without_last_cr t
+front_rest [] none = refl
+front_rest (c ∷ cs) none =
+    let t = c ∷ cs in
+    let some : t ≢ [] = λ nil. cc in
+    rest_by_end unless_cr t some none
+    ∙ without_by t some (eqb (get_or t (length t - 1) 0) 13) refl
+
+-- a part of a text before more is read
+pub part_of_lines : (before : ℕ) (part held done rest last : List ℕ) → false ≡ eqb (length part) 0
+    → held ≡ held_cr before (get_or part 0 0) → IsLastSegment part done rest
+    → last ≡ without_last_cr rest → (held ++ done) ++ last ≡ lines_part before part
+part_of_lines before [] held done rest last some held_is segment last_is = absurd (false≢true some)
+part_of_lines before (c ∷ cs) held done rest last some held_is segment end_is =
+    append_assoc held done last
+    ∙ (λ k. held_is k ++ (ap (λ xs. done ++ xs) (end_is ∙ sym (front_rest rest segment.without))
+    ∙ segment.joined unless_cr) k)

@@ -31,7 +31,7 @@ worked_replies b is_b = rw is_b refl
 worked_text : (b : AsciiStr) → plain_text abc (worked b) ≡ []
 worked_text b = refl
 
--- the second command is the first that is refused, whatever comes behind it
+-- the second command is the first that is rejected, whatever comes after it
 abbrev faulty : List Cmd
 faulty = cmd.Pop ∷ cmd.Remove 2 ∷ cmd.Set 9 ch.z ∷ []
 

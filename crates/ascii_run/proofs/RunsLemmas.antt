@@ -31,13 +31,13 @@ run_more {A} sure t (c ∷ cmds) [] mid cmd r t2 h s = absurd h
 run_more {A} sure t (c ∷ cmds) (q ∷ replies) mid cmd r t2 h s =
     (h.0, h.1, run_more sure h.0 cmds replies mid cmd r t2 h.2 s)
 
--- a step that is not want of memory answers and edits
+-- a step whose allocation does not fail replies and edits
 pub step_plain : (sure : ℕ) (t : List ℕ) (cmd : Cmd) (r : ReplyValue) (t2 : List ℕ)
     → Step sure t cmd r t2 → r ≢ no_memory → (r ≡ answer t cmd) × (t2 ≡ after t cmd)
 step_plain sure t cmd r t2 (inl plain) some = plain
 step_plain sure t cmd r t2 (inr wants) some = absurd (some wants.0)
 
--- a run without want of memory is the plain run
+-- a run in which no allocation fails is the plain run
 pub run_plain : {A : Type 0} (sure : ℕ) (t : List ℕ) (cmds : List Cmd) (replies : List (Reply A))
     (t2 : List ℕ)
     → Run sure t cmds replies t2 → NeverOutOfMemory replies
@@ -54,7 +54,7 @@ run_plain {A} sure t (cmd ∷ cmds) (r ∷ replies) t2 h some =
       rw (rest.1, step.1) refl,
     )
 
--- up to the first want of memory the replies of a run are those of the plain run
+-- up to the first allocation failure the replies of a run are those of the plain run
 pub run_front : {A : Type 0} (sure : ℕ) (t : List ℕ) (cmds : List Cmd) (replies : List (Reply A))
     (t2 : List ℕ) (k : ℕ)
     → Run sure t cmds replies t2 → NeverOutOfMemory (take k replies)
@@ -93,7 +93,7 @@ Run-count sure t (cmd ∷ cmds) [] t2 run = absurd run
 Run-count sure t (cmd ∷ cmds) (r ∷ replies) t2 run =
     omega (arith, Run-count sure run.0 cmds replies t2 run.2)
 
--- memory that may be wanting past a sure length may be wanting past a smaller one
+-- an allocation that may fail past a sure length may fail past a smaller one
 may_refuse_less : (sure less : ℕ) (t : List ℕ) (cmd : Cmd) → less ≤ sure → MayRunOut sure t cmd
     → MayRunOut less t cmd
 may_refuse_less sure less t (Push ch) le h = (h.0, omega (arith, h.1))
@@ -110,7 +110,7 @@ lacks_room : (sure : ℕ) (held : StringState) (cmd : Cmd) → cmd ≢ Shrink
 lacks_room sure held Shrink ne h = absurd (ne refl)
 lacks_room sure held other ne h = h
 
--- where room is missing, memory may be wanting past the sure length
+-- if room is missing, an allocation may fail past the sure length
 lacks_may_refuse : (sure : ℕ) (held : StringState) (cmd : Cmd) → sure ≤ held.capacity
     → MayRunOutIn sure held cmd → MayRunOut sure held.text cmd
 lacks_may_refuse sure held Shrink le h = h.0
@@ -142,7 +142,7 @@ pub step_fault : (t : List ℕ) (cmd : Cmd) (r : ReplyValue) (t2 : List ℕ)
 step_fault t cmd r t2 step fault =
     subst IsFault ((step_plain 0 t cmd r t2 step (λ out. subst IsFault out fault)).0) fault
 
--- the plain text behind one command more
+-- the plain text after one command more
 pub plain_text_more : (t : List ℕ) (cmds : List Cmd) (cmd : Cmd)
     → plain_text t (cmds ++ cmd ∷ []) ≡ after (plain_text t cmds) cmd
 plain_text_more t [] cmd = refl
@@ -162,7 +162,7 @@ no_fault_more t cmds cmd none good =
     plain_replies_more t (c ∷ cmds) =
         ap (λ replies. answer t c ∷ replies) (plain_replies_more (after t c) cmds)
 
--- the first command that is refused is at the fault place
+-- the first command that is rejected is at the fault place
 pub fault_here : (t : List ℕ) (cmds : List Cmd) (k : ℕ) (cmd : Cmd)
     → slice_get cmds k ≡ Some cmd → HasNoFault t (take k cmds)
     → IsFault (answer (plain_text t (take k cmds)) cmd) → IsFaultPlace t cmds k
@@ -194,7 +194,7 @@ edits_stop t cmds k cmd mid r t2 (Position i) at none text step stops =
 edits_stop t cmds k cmd mid r t2 Memory at none text step stops = tt
 edits_stop t cmds k cmd mid r t2 other at none text step stops = stops
 
--- edits that go on behind a command have its plain text
+-- edits that go on after a command have its plain text
 pub edit_more : (t : List ℕ) (front : List Cmd) (mid : List ℕ) (cmd : Cmd) (r : ReplyValue)
     (t2 : List ℕ)
     → HasNoFault t front → mid ≡ plain_text t front → Step 0 mid cmd r t2 → IsNoFault r

@@ -1,7 +1,9 @@
+pub mod Bounded
 pub mod BufferCopy
 pub mod Edit
 pub mod Engine
 pub mod Faults
+pub mod FrontOutput
 pub mod Inline
 pub mod Modes
 pub mod OutputState

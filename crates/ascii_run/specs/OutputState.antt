@@ -1,5 +1,5 @@
 -- A writer with the output buffer before it, and what appending bytes to them does.
-use Rattle.std.specs.Prelude.{◌≡◌, ℕ, ◌+◌, ◌<◌, ◌^◌, List, ◌++◌, Bool, true, false, ◌-◌, IsTrue}
+use Rattle.std.specs.Prelude.{◌≡◌, ℕ, ◌+◌, ◌<◌, ◌^◌, List, [], ◌++◌, Bool, true, false, ◌-◌, IsTrue}
 use Rattle.std.specs.Io.KnownBytes.{Appends, Keeps}
 use Rattle.std.specs.declared.option.Option.{Option}
 use Rattle.std.specs.declared.result.Result.{Result}
@@ -29,6 +29,10 @@ pub record OutputState : Type 0 where
 abbrev pub output_state : {K : Type 0} → Ghosts K → K → BufferState → OutputState
 output_state sink writer buffer =
     record { taken = sink.taken writer; failures = sink.failures writer; buffer = buffer }
+
+-- the buffer holds no bytes, and no write has failed
+abbrev pub IsReady : BufferState → Type 0
+IsReady buffer = (buffer.bytes ≡ []) × (buffer.is_broken ≡ false)
 
 -- a write has failed before, or the writer can count one more failure
 abbrev pub MayFail : OutputState → Type 0

@@ -1,4 +1,16 @@
-//! Runs of commands over a text.
+//! Lists of commands over a string: `run` carries them out in order and returns one reply for each.
+//!
+//! A command edits the text, asks for a character or a number, or asks for a copy. A command that does not fit the
+//! text, such as `Cmd::Remove` at its length, is rejected: its reply is `BadPosition`, the text is unchanged, and
+//! the next commands are carried out. An allocation that fails is a reply too (`NoMemory`).
+//!
+//!     let mut text = AsciiString::new(alloc);
+//!     let replies = run(alloc, &mut text, &[Cmd::Push(AsciiChar::a), Cmd::Remove(1), Cmd::Len])?;
+//!
+//! The replies are `Done`, `BadPosition` and `Number(1)`.
+//!
+//! Two lemmas have no run-time effect: `plain_run` says that a run without `NoMemory` is decided by the text and the
+//! commands, and `runs_agree` that two runs of the same commands agree up to the first `NoMemory`.
 
 ghost use Rattle.std.specs.Prelude.{◌≡◌, ◌≢◌, ℕ, ◌≤◌, List, [], IfErr, IfOk, IsOk, OnErr, OnOk};
 ghost use Rattle.std.specs.Prelude.{length, vec_len};

@@ -28,6 +28,8 @@ impl fmt::Display for EngineFault {
 
     ghost output = { λ fault. Some (fault_text fault) };
 
+    /// Writes the line of the error. Positions and indices are counted from 0.
+    ///
     ///     EngineFault::NotAscii(2).to_string(alloc)? // "the byte at index 2 is not ASCII"
     ///     EngineFault::Position(0).to_string(alloc)? // "bad position in command 0"
     ///     EngineFault::Memory.to_string(alloc)? // "no memory"
@@ -51,6 +53,8 @@ impl From<AllocError> for EngineFault {
 
     ghost from_gives = { λ _ fault. fault ≡ Memory };
 
+    /// Returns `Memory`.
+    ///
     ///     EngineFault::from(AllocError) // Memory
     fn from(_: AllocError) -> EngineFault {
         EngineFault::Memory
@@ -63,8 +67,63 @@ impl From<AsAsciiStrError> for EngineFault {
 
     ghost from_gives = { λ e fault. fault ≡ NotAscii (position_of e) };
 
+    /// Returns `NotAscii` with the position of the error.
+    ///
     ///     bytes::as_ascii_str(b"ab\xc4").map_err(EngineFault::from) // Err(NotAscii(2))
     fn from(e: AsAsciiStrError) -> EngineFault {
         EngineFault::NotAscii(e.valid_up_to())
+    }
+}
+
+/// Why a run in bounded memory stopped.
+#[derive(Clone, Copy, PartialEq, Eq, Debug)]
+pub enum BoundedFault {
+    /// The byte of the input at this position, counted from 0, is the first that is not ASCII.
+    NotAscii(u64),
+    /// The first `2^64` bytes of the input are ASCII, so that a position after them does not fit.
+    TooLong,
+    /// An allocation failed.
+    Memory,
+    /// The reader failed.
+    Read,
+    /// The writer failed, or took no byte.
+    Write,
+}
+
+impl fmt::Display for BoundedFault {
+    ghost use Rattle.ascii_run.specs.Faults.{bounded_fault_text};
+
+    ghost output = { λ fault. Some (bounded_fault_text fault) };
+
+    /// Writes the line of the error. Positions are counted from 0.
+    ///
+    ///     BoundedFault::NotAscii(2).to_string(alloc)? // "the byte at index 2 is not ASCII"
+    ///     BoundedFault::TooLong.to_string(alloc)? // "the input is too long"
+    ///     BoundedFault::Memory.to_string(alloc)? // "no memory"
+    fn fmt<W: fmt::Write>(&self, f: &mut fmt::Formatter<W>) -> fmt::Result {
+        match *self {
+            BoundedFault::NotAscii(position) => {
+                write!(f, "the byte at index {position} is not ASCII")
+            }
+            BoundedFault::TooLong => f.write_str("the input is too long"),
+            BoundedFault::Memory => f.write_str("no memory"),
+            BoundedFault::Read => f.write_str("read failed"),
+            BoundedFault::Write => f.write_str("write failed"),
+        }
+    }
+}
+
+impl Error for BoundedFault {}
+
+impl From<AllocError> for BoundedFault {
+    ghost use Rattle.ascii_run.specs.declared.faults.BoundedFault.TheVariants.{Memory};
+
+    ghost from_gives = { λ _ fault. fault ≡ Memory };
+
+    /// Returns `Memory`.
+    ///
+    ///     BoundedFault::from(AllocError) // Memory
+    fn from(_: AllocError) -> BoundedFault {
+        BoundedFault::Memory
     }
 }

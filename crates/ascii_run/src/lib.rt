@@ -1,14 +1,28 @@
-//! Runs over ASCII text: a filter from bytes to bytes in one of several modes.
+//! Programs over ASCII text: an inline string type, lists of commands, and an engine from bytes to bytes.
 //!
-//! In an example `view("ab")` is the view of that text, `alloc` is an allocator, and the comment
-//! after `//` is the `{:?}` output of the value.
+//! | You want | Use |
+//! |---|---|
+//! | a string that keeps up to 24 characters in the value itself | `SmallAsciiString` |
+//! | code that edits either string type | the trait `AsciiBuf`, for `AsciiString` and `SmallAsciiString` |
+//! | a list of edits and questions carried out in order, with a reply for each | `run` over a list of `Cmd` |
+//! | the output of a mode, such as `Mode::Tac`, for all bytes of an input | `engine` |
+//! | the output of a mode, such as `BoundedMode::Lines`, in bounded memory | `bounded_engine` |
+//! | readers and writers whose bytes a contract can name | `Source` and `Sink`, with `Input` and `Output` over std's |
+//!
+//! A contract sees a string as its text, a list of codes, and its capacity. Up to the *sure length* of its type an
+//! edit never allocates: 0 for `AsciiString`, 24 for `SmallAsciiString`.
+//!
+//! In an example, `view("ab")` is a view of that text, `alloc` is an allocator, and the comment after `//` is the
+//! value's `{:?}` output.
 #![tactic(auto)]
 
 mod both_types;
+mod bounded;
 pub mod buf;
 mod buffer_copy;
 mod commands;
 mod faults;
+mod front_output;
 mod modes;
 mod output_buffer;
 mod text_engine;
@@ -17,8 +31,9 @@ pub use ascii::iter::End;
 pub use ascii::{AsAsciiStrError, AsciiChar, AsciiRange, AsciiStr, AsciiString};
 pub use ascii_devices::{DeviceFault, Input, Output, Sink, Source};
 pub use both_types::{BothRuns, run_both};
+pub use bounded::{BoundedMode, bounded_engine};
 pub use buf::{AsciiBuf, SmallAsciiString};
 pub use commands::{Cmd, Reply, plain_run, run, runs_agree};
-pub use faults::EngineFault;
+pub use faults::{BoundedFault, EngineFault};
 pub use modes::Mode;
 pub use text_engine::engine;

@@ -5,11 +5,11 @@ ghost use Rattle.std.specs.Prelude.{◌≡◌, IfErr, OnErr, OnOk};
 ghost use Rattle.ascii_run.specs.Engine.{StopsOutput};
 ghost use Rattle.ascii_run.specs.OutputState.{AppendsOutputTo, MayFail, output_state};
 
-mod caret;
+pub(crate) mod caret;
 mod edit;
 mod ends;
-mod json_string;
-mod lines;
+pub(crate) mod json_string;
+pub(crate) mod lines;
 mod tac;
 
 use crate::commands::Cmd;

@@ -5,7 +5,8 @@ ghost use Rattle.std.specs.Prelude.{take, vec_len};
 ghost use Rattle.std.specs.Io.KnownBytes.{Appends};
 ghost use Rattle.ascii_run.specs.Engine.{AppendsFront, write_failures};
 ghost use Rattle.ascii_run.specs.Modes.Lines.{with_line_feed};
-ghost use Rattle.ascii_run.specs.OutputState.{AppendsTo, FinishOutcome, MayFail, output_state};
+ghost use Rattle.ascii_run.specs.OutputState.{AppendsTo, FinishOutcome, IsReady, MayFail};
+ghost use Rattle.ascii_run.specs.OutputState.{output_state};
 
 use crate::buffer_copy::{FIXED, copy_at, copy_front};
 use crate::faults::EngineFault;
@@ -44,7 +45,7 @@ impl<A: Allocator> Model for OutputBuffer<A> {
 impl<A: Allocator> OutputBuffer<A> {
     /// Creates an empty buffer with this size in bytes, or returns an error if the allocation fails.
     pub(crate) fn new(alloc: A, size: usize) -> Result<OutputBuffer<A>, AllocError>
-        ensures { IfOk result (λ buffer. (buffer.bytes ≡ []) × (buffer.is_broken ≡ false)) }
+        ensures { IfOk result IsReady }
     {
         Ok(OutputBuffer {
             room: zeros(alloc, size)?,
@@ -158,14 +159,14 @@ impl<A: Allocator> OutputBuffer<A> {
 
     /// Writes the bytes of the buffer and flushes the writer. Returns `EngineFault::Write` if a write
     /// or the flush fails, or if a write had failed before.
-    pub(crate) fn finish<K: Sink>(self, writer: &mut K) -> Result<(), EngineFault>
-        requires { MayFail (output_state K.Sink writer.old self) }
-        ensures { FinishOutcome self.is_broken (output_state K.Sink writer.old self)
+    pub(crate) fn finish<K: Sink>(&mut self, writer: &mut K) -> Result<(), EngineFault>
+        requires { MayFail (output_state K.Sink writer.old self.old) }
+        ensures outcome { FinishOutcome self.old.is_broken (output_state K.Sink writer.old self.old)
             (K.taken writer.new) (K.failures writer.new) result }
+        ensures ready { OnOk result (IsReady self.new) }
     {
-        let mut buffer = self;
-        buffer.send(writer);
-        if buffer.is_broken {
+        self.send(writer);
+        if self.is_broken {
             return Err(EngineFault::Write);
         }
         writer.flush().map_err(|_| EngineFault::Write)
@@ -177,7 +178,7 @@ static ZEROS: [u8; 1_024] = [0; 1_024];
 
 /// Zeros of this number. They are copied 1,024 at a time, since a loop that appends a byte at a time
 /// takes longer than the output of a short text.
-fn zeros<A: Allocator>(alloc: A, count: usize) -> Result<Vec<u8, A>, AllocError>
+pub(crate) fn zeros<A: Allocator>(alloc: A, count: usize) -> Result<Vec<u8, A>, AllocError>
     ensures { IfOk result (λ zeros. vec_len zeros ≡ count) }
 {
     let mut zeros = Vec::with_capacity(alloc, count)?;

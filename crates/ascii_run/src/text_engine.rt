@@ -1,4 +1,8 @@
-//! The engine: the output of a mode for all bytes of an input.
+//! The engine: reads all bytes of an input, and writes the output of a mode.
+//!
+//! It works over any `Source` and `Sink`. Nothing is written before the whole input was read and found to be ASCII,
+//! so it holds the input in memory. Its contract says of each outcome what was read, what was written, and how the
+//! devices' counts of failures rose.
 
 ghost use Rattle.std.specs.Prelude.{◌≡◌, ◌⊎◌, ℕ, ◌+◌, ◌<◌, ◌≤◌, List, ◌++◌, IfErr, IfOk, length};
 ghost use Rattle.std.specs.Option.{ForSome};
@@ -12,9 +16,12 @@ use ascii::{AsciiString, kernels};
 use ascii_devices::{Sink, Source};
 use std::alloc::Allocator;
 
-/// Reads the input to its end, and then writes the output of the mode and flushes it, or returns
-/// why it stopped. All allocations are made before the first byte is written: after `NotAscii`,
+/// Reads the input to its end, writes the output of the mode and flushes it, or returns why it
+/// stopped. All allocations are made before the first byte is written: after `NotAscii`,
 /// `Position`, `Memory` and `Read` nothing was written; after `Write` a prefix of the output was.
+///
+/// Condition: fewer than `u64::MAX` calls of the reader and of the writer have failed. Holds the
+/// whole input and one output buffer of at most 64 KiB, and reads 32 KiB at a time.
 ///
 ///     let mut output = Output::new(Vec::new(alloc));
 ///     engine(alloc, Mode::Tac, &mut Input::new(b"x\ny\n".as_slice()), &mut output) // Ok(())

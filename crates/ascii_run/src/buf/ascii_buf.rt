@@ -20,7 +20,7 @@ pub trait AsciiBuf {
     // The sure length: an edit never allocates for a text up to it.
     ghost sure: { ℕ };
 
-    /// A view of the whole text.
+    /// Returns a view of the whole text.
     ///
     ///     AsciiBuf::as_ascii_str(&SmallAsciiString::new(alloc)) // ""
     fn as_ascii_str(&self) -> AsciiStr<'_>

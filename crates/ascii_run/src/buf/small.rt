@@ -67,7 +67,7 @@ impl SmallAsciiString {
         Ok(SmallAsciiString { bytes })
     }
 
-    /// A view of the whole text.
+    /// Returns a view of the whole text.
     ///
     ///     SmallAsciiString::from_ascii_str(alloc, view("foo"))?.as_ascii_str() // "foo"
     #[inline]
@@ -88,7 +88,7 @@ impl SmallAsciiString {
         !self.bytes.spilled()
     }
 
-    /// The number of characters, which is the number of bytes.
+    /// Returns the number of characters, which is also the number of bytes.
     ///
     ///     SmallAsciiString::from_ascii_str(alloc, view("foo"))?.len() // 3
     #[inline]
@@ -108,8 +108,8 @@ impl SmallAsciiString {
         self.bytes.is_empty()
     }
 
-    /// The number of bytes up to which the text does not have to grow: at least its length, and at
-    /// least 24.
+    /// Returns the number of bytes up to which the text does not have to grow: at least its length,
+    /// and at least 24.
     ///
     ///     SmallAsciiString::new(alloc).capacity() // 24
     #[inline]
@@ -267,6 +267,8 @@ impl PartialEq for SmallAsciiString {
 
     ghost laws = { Prim.search (comparing, rules) };
 
+    /// Returns `true` if the two texts are equal, whether inline or in an allocation.
+    ///
     ///     SmallAsciiString::new(alloc) == SmallAsciiString::from_ascii_str(alloc, view("foo"))? // false
     fn eq(&self, other: &SmallAsciiString) -> bool {
         self.as_ascii_str() == other.as_ascii_str()
@@ -292,6 +294,8 @@ impl PartialOrd for SmallAsciiString {
     ghost laws = { partial_order_from_own_ties
         (Prim.search (comparing, rules)) (Prim.search (comparing, rules)) };
 
+    /// Returns the order of the two texts: that of `cmp`.
+    ///
     ///     SmallAsciiString::new(alloc) < SmallAsciiString::from_ascii_str(alloc, view("foo"))? // true
     fn partial_cmp(&self, other: &SmallAsciiString) -> Option<Ordering> {
         Some(self.cmp(other))
@@ -312,6 +316,8 @@ impl Ord for SmallAsciiString {
 
     ghost matches_eq = { Prim.search (comparing, rules) };
 
+    /// Returns the order of the two texts: lexicographic, by the codes.
+    ///
     ///     SmallAsciiString::new(alloc).cmp(&SmallAsciiString::from_ascii_str(alloc, view("foo"))?) // Less
     fn cmp(&self, other: &SmallAsciiString) -> Ordering {
         self.as_ascii_str().cmp(&other.as_ascii_str())
@@ -327,6 +333,8 @@ impl Hash for SmallAsciiString {
 
     ghost respects_eq = { Prim.search (hashing, rules) };
 
+    /// Hashes the text as a view of it is hashed.
+    ///
     ///     let mut seen = HashSet::new(alloc);
     ///     seen.insert(SmallAsciiString::new(alloc))?;
     ///     seen.contains(&SmallAsciiString::new(alloc)) // true
@@ -343,6 +351,9 @@ impl fmt::Display for SmallAsciiString {
 
     ghost styled_output = { λ string spec. Some (styled_text spec string.text) };
 
+    /// Writes the text, with the width, the alignment and the precision of the format, as for
+    /// `str`.
+    ///
     ///     format!(in alloc; "{}", SmallAsciiString::from_ascii_str(alloc, view("foo"))?)? // "foo"
     fn fmt<W: fmt::Write>(&self, f: &mut fmt::Formatter<W>) -> fmt::Result {
         fmt::Display::fmt(&self.as_ascii_str(), f)
@@ -355,6 +366,8 @@ impl fmt::Debug for SmallAsciiString {
 
     ghost debug_output = { λ string. Some (debug_text string.text) };
 
+    /// Writes the text in double quotes, escaped as std escapes it.
+    ///
     ///     format!(in alloc; "{:?}", SmallAsciiString::from_ascii_str(alloc, view("foo"))?)? // "\"foo\""
     fn fmt<W: fmt::Write>(&self, f: &mut fmt::Formatter<W>) -> fmt::Result {
         fmt::Debug::fmt(&self.as_ascii_str(), f)

@@ -42,7 +42,7 @@ impl<const N: usize> ClassBy<N> for CaretPassThrough {
 
 /// Appends each character; a control character other than LF as `^` and its caret letter. The
 /// characters between two of these are appended in one call.
-pub(super) fn put_caret<K: Sink, A: Allocator>(
+pub(crate) fn put_caret<K: Sink, A: Allocator>(
     text: AsciiStr<'_>,
     buffer: &mut OutputBuffer<A>,
     writer: &mut K,

@@ -78,7 +78,7 @@ fn json_string<A: Allocator>(alloc: A, text: AsciiStr<'_>) -> Result<AsciiString
 }
 
 /// The JSON string of each character by itself, indexed by its code.
-fn escapes<A: Allocator + Copy>(alloc: A) -> Result<Vec<AsciiString<A>, A>, AllocError>
+pub(crate) fn escapes<A: Allocator + Copy>(alloc: A) -> Result<Vec<AsciiString<A>, A>, AllocError>
     ensures { IfOk result (λ escapes. AreEscapes 128 (map (λ escape. escape.text) escapes.items)) }
 {
     let mut escapes = Vec::with_capacity(alloc, 128)?;
@@ -90,7 +90,7 @@ fn escapes<A: Allocator + Copy>(alloc: A) -> Result<Vec<AsciiString<A>, A>, Allo
 
 /// Appends each character, escaped if need be. The characters between two escaped ones are appended
 /// in one call.
-fn write_escaped_runs<K: Sink, A: Allocator>(
+pub(crate) fn write_escaped_runs<K: Sink, A: Allocator>(
     text: AsciiStr<'_>,
     escapes: &[AsciiString<A>],
     buffer: &mut OutputBuffer<A>,

@@ -1,0 +1,143 @@
+use Rattle.std.proofs.Common.{◌<◌, ◌≤◌, ◌∙◌, [], ◌++◌, length, take, arith, refl}
+use Rattle.std.proofs.Common.{length-append, length-take-le}
+use Rattle.std.proofs.KnownBytes.{Consumes-nil}
+use Rattle.std.proofs.lemmas.Str.{IsAscii-append}
+use Rattle.std.proofs.lemmas.Str.Ascii.{IsAscii-nil}
+use Rattle.ascii_run.proofs.BoundedLemmas.{closes, gives_all, last_kept, opened}
+use Rattle.ascii_run.proofs.BoundedLemmas.{opening_fails, part_fails, part_written, prefix_written}
+use Rattle.ascii_run.proofs.BoundedLemmas.{stops_there, too_long, whole_part}
+use Rattle.ascii_run.proofs.FrontOutputLemmas.{front_text}
+use Rattle.ascii_run.proofs.bounded.bounded_engine.Goals as goal
+
+pub returns-in_default-clause-outcome : goal.returns-in_default-clause-outcome
+returns-in_default-clause-outcome g c =
+    opening_fails c.args.mode c.in_ok-output.output.mode (g.S.Source.rest c.args.reader.now)
+    (g.K.Sink.taken c.args.writer.now) (g.K.Sink.taken c.open.new.writer) c.in_ok-output.ensures.0
+    (prefix_written _ _ _ _ _ c.in_default.field-0 c.in_default.ensures.passes)
+
+pub chunks-init : goal.chunks-init
+chunks-init g c =
+    let is = c.in_ok-output.ensures.0 in (
+      refl,
+      c.in-Ok.ensures.passes.1,
+      c.in-Ok.ensures.kept.0 ∙ is,
+      c.in-Ok.ensures.ready,
+      (
+        [],
+        refl,
+        Consumes-nil (g.S.Source.rest c.args.reader.now),
+        IsAscii-nil,
+        c.in-Ok.ensures.kept.1 ∙ c.in_ok-output.ensures.1,
+        opened c.args.mode c.in_ok-output.output.mode (g.K.Sink.taken c.args.writer.now)
+            (g.K.Sink.taken c.open.new.writer) is c.in-Ok.ensures.passes.0,
+      ),
+    )
+
+pub returns-in_default-read-clause-outcome : goal.returns-in_default-read-clause-outcome
+returns-in_default-read-clause-outcome g c =
+    let (done, long, gave, ascii, last, wrote) = c.chunks.invariant.4 in (
+      front_text c.args.mode done,
+      g.S.Source.rest c.chunks.reader,
+      gives_all c.args.mode (g.S.Source.rest c.args.reader.now) (g.S.Source.rest c.chunks.reader)
+          done gave ascii,
+      wrote,
+    )
+
+pub returns-then-n-eq0-clause-outcome : goal.returns-then-n-eq0-clause-outcome
+returns-then-n-eq0-clause-outcome g c =
+    let (done, long, gave, ascii, last, wrote) = c.chunks.invariant.4 in
+    let rest = g.S.Source.rest in
+    let taken = g.K.Sink.taken in
+    let none = c.if-n-eq0.true in
+    closes c.args.mode c.chunks.output.mode c.chunks.output.last (rest c.args.reader.now)
+    (rest c.chunks.reader) (rest c.read.new.self) (taken c.args.writer.now)
+    (taken c.chunks.writer) (taken c.close.new.writer) _ _ done c.read.new.buf c.in-Ok-read.n
+    c.close.result none c.chunks.invariant.2 last gave c.in-Ok-read.ensures.bytes.1
+    (c.in-Ok-read.ensures.end none) ascii wrote c.close.ensures.passes
+
+pub returns-in_default-append-clause-outcome : goal.returns-in_default-append-clause-outcome
+returns-in_default-append-clause-outcome g c =
+    let (done, long, gave, ascii, last, wrote) = c.chunks.invariant.4 in
+    let rest = g.S.Source.rest in
+    let taken = g.K.Sink.taken in
+    part_fails c.args.mode c.chunks.output.mode c.chunks.output.last (rest c.args.reader.now)
+    (rest c.chunks.reader) (rest c.read.new.self) (taken c.args.writer.now)
+    (taken c.chunks.writer) (taken c.append.new.writer) done (take c.in-Ok-read.n c.read.new.buf)
+    c.text_length-length.result c.chunks.invariant.2 last gave c.in-Ok-read.ensures.bytes.1 ascii
+    c.text_length-length.ensures.ascii wrote
+    (prefix_written _ _ _ _ _ c.in_default-append.field-0 c.in_default-append.ensures.passes)
+
+pub returns-in_default-checked_add-clause-outcome :
+    goal.returns-in_default-checked_add-clause-outcome
+returns-in_default-checked_add-clause-outcome g c =
+    let (done, long, gave, ascii, last, wrote) = c.chunks.invariant.4 in
+    let rest = g.S.Source.rest in
+    let taken = g.K.Sink.taken in
+    let n = c.text_length-length.result in
+    let part = take c.in-Ok-read.n c.read.new.buf in
+    too_long c.args.mode (rest c.args.reader.now) (rest c.chunks.reader) (rest c.read.new.self)
+    (taken c.args.writer.now) (taken c.append.new.writer) done part c.chunks.position n long
+    c.text_length-length.ensures.within c.in_default-checked_add.ensures gave
+    c.in-Ok-read.ensures.bytes.1 ascii c.text_length-length.ensures.ascii
+    (part_written c.args.mode c.chunks.output.mode c.chunks.output.last
+    (taken c.args.writer.now) (taken c.chunks.writer) (taken c.append.new.writer) done
+    (take n part) c.chunks.invariant.2 last wrote c.in-Ok-append.ensures.passes.0)
+
+pub returns-then-length-n-clause-outcome : goal.returns-then-length-n-clause-outcome
+returns-then-length-n-clause-outcome g c =
+    let (done, long, gave, ascii, last, wrote) = c.chunks.invariant.4 in
+    let rest = g.S.Source.rest in
+    let taken = g.K.Sink.taken in
+    let n = c.text_length-length.result in
+    let part = take c.in-Ok-read.n c.read.new.buf in
+    let inside : n < length part =
+    omega (
+      arith,
+      c.if-length-n.true,
+      length-take-le c.in-Ok-read.n c.read.new.buf c.in-Ok-read.ensures.bytes.0,
+    ) in
+    stops_there c.args.mode (rest c.args.reader.now) (rest c.chunks.reader)
+    (rest c.read.new.self) (taken c.args.writer.now) (taken c.append.new.writer) done part
+    c.chunks.position n c.in-Some.next long c.in-Some.ensures.1 gave
+    c.in-Ok-read.ensures.bytes.1 ascii (c.text_length-length.ensures.other inside)
+    (part_written c.args.mode c.chunks.output.mode c.chunks.output.last
+    (taken c.args.writer.now) (taken c.chunks.writer) (taken c.append.new.writer) done
+    (take n part) c.chunks.invariant.2 last wrote c.in-Ok-append.ensures.passes.0)
+
+pub chunks-preserved : goal.chunks-preserved
+chunks-preserved g c =
+    let (done, long, gave, ascii, last, wrote) = c.chunks.invariant.4 in
+    let rest = g.S.Source.rest in
+    let taken = g.K.Sink.taken in
+    let n = c.text_length-length.result in
+    let part = take c.in-Ok-read.n c.read.new.buf in
+    let text = take n part in
+    let all : length part ≤ n =
+    omega (
+      arith,
+      c.if-length-n.false,
+      length-take-le c.in-Ok-read.n c.read.new.buf c.in-Ok-read.ensures.bytes.0,
+    ) in (
+      c.in-Ok-read.ensures.count ∙ c.chunks.invariant.0,
+      c.in-Ok-append.ensures.passes.1 ∙ c.chunks.invariant.1,
+      c.in-Ok-append.ensures.kept.0 ∙ c.chunks.invariant.2,
+      c.in-Ok-append.ensures.ready,
+      (
+        done ++ text,
+        omega (
+          arith,
+          length-append done text,
+          long,
+          c.in-Some.ensures.1,
+          length-take-le n part c.text_length-length.ensures.within,
+        ),
+        whole_part (rest c.args.reader.now) (rest c.chunks.reader) (rest c.read.new.self) done
+            part n all gave c.in-Ok-read.ensures.bytes.1,
+        IsAscii-append done text ascii c.text_length-length.ensures.ascii,
+        last_kept c.append.new.self.last c.chunks.output.last done text
+            c.in-Ok-append.ensures.kept.1 last,
+        part_written c.args.mode c.chunks.output.mode c.chunks.output.last
+            (taken c.args.writer.now) (taken c.chunks.writer) (taken c.append.new.writer) done
+            text c.chunks.invariant.2 last wrote c.in-Ok-append.ensures.passes.0,
+      ),
+    )

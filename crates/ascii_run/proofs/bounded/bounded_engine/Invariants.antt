@@ -1,0 +1,22 @@
+use Rattle.std.proofs.Common.{◌≡◌, ◌-◌, ◌^◌, List, ℕ, length}
+use Rattle.std.specs.Io.KnownBytes.{Appends, Consumes}
+use Rattle.std.specs.Str.{IsAscii}
+use Rattle.ascii_run.specs.FrontOutput.{last_after}
+use Rattle.ascii_run.specs.OutputState.{IsReady}
+use Rattle.ascii_run.proofs.FrontOutputLemmas.{front_text}
+use Rattle.ascii_run.proofs.bounded.bounded_engine.Given as goal
+
+-- the text so far was read, and its front output was written
+abbrev pub invariant-chunks : goal.invariant-chunks
+invariant-chunks g l =
+    (g.S.Source.failures l.reader ≡ g.S.Source.failures l.fn.reader)
+    × (g.K.Sink.failures l.writer ≡ g.K.Sink.failures l.fn.writer)
+    × (l.output.mode ≡ l.fn.mode) × IsReady l.output.buffer
+    × ((done : List ℕ) × (length done ≡ l.position)
+    × Consumes (g.S.Source.rest l.fn.reader) (g.S.Source.rest l.reader) done
+    × IsAscii done × (l.output.last ≡ last_after 10 done)
+    × Appends (g.K.Sink.taken l.fn.writer) (g.K.Sink.taken l.writer) (front_text l.fn.mode done))
+
+-- the room left below the largest position
+abbrev pub decreases-chunks : goal.decreases-chunks
+decreases-chunks g l = 2 ^ 64 - l.position
