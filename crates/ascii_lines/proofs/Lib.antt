@@ -1,2 +1,5 @@
 pub mod LineBufferLemmas
 pub mod LineReaderLemmas
+pub mod ServeLemmas
+pub mod RepliesLemmas
+pub mod WriteBufferLemmas

@@ -1,4 +1,4 @@
--- A first LF among the bytes of a buffer, and what stands behind them after a read.
+-- A first LF among the bytes of a buffer, and the bytes after them after a read.
 use Rattle.std.proofs.Common.{◌≡◌, ◌≢◌, ℕ, ◌+◌, ◌-◌, ◌<◌, ◌≤◌, List, ◌++◌, length, get_or, take}
 use Rattle.std.proofs.Common.{drop, None, Some, Option, MatchOption, unwrap_or, sym, ap, subst, ◌∙◌}
 use Rattle.std.proofs.Common.{arith, eq-eqb, eqb-true, inl, inr}
@@ -81,7 +81,7 @@ module _ (bytes : List ℕ) (given from searched checked filled : ℕ)
         },
       )
 
--- ---- a read behind the bytes
+-- ---- a read after the bytes
 
 module _ (old new : List ℕ) (filled : ℕ) (front : take filled new ≡ take filled old) where
   pub at_front : (k : ℕ) → k < filled → get_or new k 0 ≡ get_or old k 0

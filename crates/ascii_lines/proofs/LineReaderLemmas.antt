@@ -1,4 +1,4 @@
--- What a reader of lines has read and handed out.
+-- What a line reader has read and yielded.
 use Rattle.std.proofs.Common.{◌≡◌, ◌≢◌, ◌⊎◌, ℕ, ◌+◌, ◌-◌, List, [], ◌∷◌, ◌++◌, length, take, None}
 use Rattle.std.proofs.Common.{Some, Ok, Err, Option, Result, IfErr, refl, sym, ap, subst, ◌∙◌}
 use Rattle.std.proofs.Common.{arith, inl, inr, length-append, append_assoc, append-nil, add-zero}
@@ -38,7 +38,7 @@ IsHeldThenRead-more held rest mid left text more first then = (
 
 -- ---- a line that fills the buffer
 
--- what is value_of_reply where no LF and no byte over 127 is held and there is no room
+-- what is returned if no LF and no non-ASCII byte is held and there is no room
 pub full : (start size : ℕ) (held text : List ℕ) (rest mid left : Option (List ℕ))
     (result : Result (Option ℕ) LineError)
     → IsHeldThenRead held rest mid text → length text ≡ size → IsAscii text → FreeUpTo text size
@@ -66,12 +66,12 @@ full start size held text rest mid left (Err error) is long ascii free told = el
       )
 ]
 
--- ---- lines behind lines
+-- ---- lines after lines
 
 abbrev IsEnded : WithStart Line → Type 0
 IsEnded span = span.item.ending ≢ Absent
 
-with_starts-append : (s : ℕ) (xs ys : List Line)
+pub with_starts-append : (s : ℕ) (xs ys : List Line)
     → with_starts line_size s (xs ++ ys) ≡ with_starts line_size s xs ++ with_starts line_size
     (s + length (flat_map line_text xs)) ys
 with_starts-append s [] ys = ap (λ n. with_starts line_size n ys) (sym (add-zero s))
@@ -155,11 +155,11 @@ YieldsLines-push a b c lines line first ended then =
       size = then.size ∙ first.size;
     }
 
-none_is_some : (result : Result (Option ReadLine) LineError) (line : ReadLine) → result ≡ Ok None
+pub none_is_some : (result : Result (Option ReadLine) LineError) (line : ReadLine) → result ≡ Ok None
     → result ≡ Ok (Some line) → ⊥
 none_is_some result line none some = cc
 
--- the next line of a reader behind the lines before it
+-- the next line of a reader, after the lines before it
 module _ {S Z : Type 0} (rest : S → Option (List ℕ)) (failures : S → ℕ) where
   pub one_more : (a : ReaderState) (lines : List (WithStart Line)) (old new : LineReader S Z)
       (result : Result (Option ReadLine) LineError) (line : ReadLine) (last : WithStart Line)
@@ -208,7 +208,7 @@ some_spans s text =
 going_is_not_done : (reading : ReaderState) → reading.stage ≡ Open → IsDone reading → ⊥
 going_is_not_done reading going done = let ended : reading.stage ≡ Ended = done.ended in cc
 
--- those handed out are the first lines of all, and all of them at the end
+-- the lines yielded are the first lines of all bytes, and all of them at the end
 pub first_lines : (old new : ReaderState) (lines : List (WithStart Line)) (told : List ℕ)
     → old.rest ≡ Some told → YieldsLines old lines new
     → (others : List (WithStart Line))

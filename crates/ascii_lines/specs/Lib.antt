@@ -1,6 +1,10 @@
 pub mod CollectedLines
+pub mod Errors
 pub mod LineBuffer
 pub mod LineReader
+pub mod LineWriter
+pub mod Serve
+pub mod WriteBuffer
 pub use Rattle.ascii.specs.Lines
 pub use Rattle.ascii.specs.Spans
 pub use Rattle.ascii.specs.StringState

@@ -15,9 +15,10 @@ use Rattle.ascii.specs.Bytes.{FirstOther}
 use Rattle.ascii_lines.specs.LineBuffer.{WindowState, EndsLine, FreeUpTo}
 use Rattle.ascii_lines.specs.declared.line_reader.LineError.{LineError}
 use Rattle.ascii_lines.specs.declared.line_reader.LineError.TheVariants.{NotAscii, TooLong, TooFar}
-use Rattle.ascii_lines.specs.declared.line_reader.LineError.TheVariants.{Read}
+use Rattle.ascii_lines.specs.declared.line_reader.LineError.TheVariants.{Incomplete, Read}
 use Rattle.ascii_lines.specs.declared.line_reader.LineReader.{LineReader}
 use Rattle.ascii_lines.specs.declared.line_reader.ReadLine.{ReadLine}
+use Rattle.ascii_lines.specs.declared.line_reader.ReadPart.{ReadPart}
 use Rattle.ascii_lines.specs.declared.line_reader.Stage.{Stage}
 use Rattle.ascii_lines.specs.declared.line_reader.Stage.TheVariants.{Open, Ended, Refused}
 
@@ -48,6 +49,10 @@ state_of_reader rest failures reader = record {
 -- the source of a reader
 abbrev pub source_of : {S Z : Type 0} → LineReader S Z → S
 source_of reader = reader.source
+
+-- the position in the input at which the next line or part of a reader starts
+abbrev pub start_of_next : {S Z : Type 0} → LineReader S Z → ℕ
+start_of_next reader = reader.start
 
 -- the reader has returned neither `None` nor an error
 abbrev pub IsOpen : {S Z : Type 0} → LineReader S Z → Type 0
@@ -92,8 +97,8 @@ pub record YieldsLines (old : ReaderState) (lines : List (WithStart Line)) (new 
 -- through a buffer of `size` bytes. `NotAscii`: a byte of the line, among its first `size` bytes,
 -- is the first of `text` that is not less than 128; the error holds its position. `TooLong`: the
 -- line has more bytes than the buffer, of which the first `size` are ASCII; the error holds its
--- position. `TooFar`: the line has a byte at the position 2 ^ 64 - 1 or after it. `Read` says
--- nothing of `text`
+-- position. `TooFar`: the line has a byte at the position 2 ^ 64 - 1 or after it. `Incomplete` is
+-- not an error of a line. `Read` says nothing of `text`
 abbrev pub RejectsLine : ℕ → ℕ → List ℕ → LineError → Type 0
 RejectsLine start size text (NotAscii place) = (i : ℕ) × (place ≡ start + i) × (i < size)
     × FirstOther text 0 (length text) i × FreeUpTo text i
@@ -101,6 +106,7 @@ RejectsLine start size text (TooLong place) =
     (place ≡ start) × (size < length text) × IsAscii (take size text) × FreeUpTo text size
 RejectsLine start size text TooFar =
     (n : ℕ) × (n ≤ length text) × FreeUpTo text (n - 1) × (2 ^ 64 - 1 < start + n)
+RejectsLine start size text (Incomplete count) = ⊥
 RejectsLine start size text Read = ⊤
 
 -- why a reader stops that held the bytes `held`. `Read` says nothing of the bytes that the source
@@ -110,6 +116,30 @@ abbrev pub IsLineError
 IsLineError start size held rest left Read = ⊤
 IsLineError start size held rest left error =
     (text : List ℕ) × IsHeldThenRead held rest left text × RejectsLine start size text error
+
+-- from the state `old` to the state `new` the reader returned `bytes`: of the bytes held before and
+-- those that the source gave they are the first, and the others are held
+pub record ReadsBytes (old : ReaderState) (bytes : List ℕ) (new : ReaderState) : Type 0 where
+  pub text : IsHeldThenRead old.held old.rest new.rest (bytes ++ new.held)
+  pub start : new.start ≡ old.start + length bytes
+  pub size : new.size ≡ old.size
+
+-- why a reader that held the bytes `held` returns no part of `n` bytes. `NotAscii`: one of these
+-- bytes is the first that is not less than 128; the error holds its position. `TooLong`: `n` is more
+-- than the size of the buffer; the error holds the start. `TooFar`: the part ends after the position
+-- 2 ^ 64 - 1. `Incomplete`: the source is at its end, and the bytes held and given are ASCII and
+-- fewer than `n`; the error holds their number. `Read` says nothing of the bytes
+abbrev pub IsPartError
+    : ℕ → ℕ → ℕ → List ℕ → Option (List ℕ) → Option (List ℕ) → LineError → Type 0
+IsPartError start size n held rest left (NotAscii place) = (text : List ℕ)
+    × IsHeldThenRead held rest left text
+    × ((i : ℕ) × (place ≡ start + i) × (i < n) × FirstOther text 0 (length text) i)
+IsPartError start size n held rest left (TooLong place) = (place ≡ start) × (size < n)
+IsPartError start size n held rest left TooFar = 2 ^ 64 - 1 < start + n
+IsPartError start size n held rest left (Incomplete count) = (text : List ℕ)
+    × IsHeldThenRead held rest left text
+    × (IsAtEnd left × IsAscii text × (count ≡ length text) × (count < n))
+IsPartError start size n held rest left Read = ⊤
 
 -- the failures of the source after a call that returns this, of `n` before: one more if the call
 -- returns `Read`, unless `n` is 2 ^ 64 - 1
@@ -127,6 +157,14 @@ YieldsNext old (Ok None) new = YieldsLines old [] new × IsDone new
 YieldsNext old (Err error) new = (new.stage ≡ Refused error)
     × IsLineError old.start old.size old.held old.rest new.rest error
 
+-- what an open reader returns for a part of `n` bytes. `Ok`: the next `n` bytes with their start, and
+-- the reader is open. `Err`: the reader has stopped, and why
+abbrev pub YieldsPart : ℕ → ReaderState → Result ReadPart LineError → ReaderState → Type 0
+YieldsPart n old (Ok part) new = ReadsBytes old (text_of part.text) new
+    × (length (text_of part.text) ≡ n) × (part.start ≡ old.start) × (new.stage ≡ Open)
+YieldsPart n old (Err error) new = (new.stage ≡ Refused error)
+    × IsPartError old.start old.size n old.held old.rest new.rest error
+
 module _ {S Z : Type 0} (rest : S → Option (List ℕ)) (failures : S → ℕ) where
   -- what a reader at a stage returns. At `Open`, `YieldsNext` says what, and `failures_after` how
   -- many calls of its source have then failed. At `Ended` it returns `None`, at `Refused` the error
@@ -143,6 +181,24 @@ module _ {S Z : Type 0} (rest : S → Option (List ℕ)) (failures : S → ℕ) 
   abbrev pub Next
       : LineReader S Z → Result (Option ReadLine) LineError → LineReader S Z → Type 0
   Next old result new = NextFrom old.stage old result new
+
+module _ {S Z : Type 0} (rest : S → Option (List ℕ)) (failures : S → ℕ) (n : ℕ) where
+  -- what a reader at a stage returns for a part of `n` bytes. At `Open`, `YieldsPart` says what, and
+  -- `failures_after` how many calls of its source have then failed. At `Ended` it returns
+  -- `Incomplete 0`, at `Refused` the error that it returned before, and then reader and source are
+  -- unchanged
+  abbrev pub NextPartFrom
+      : Stage → LineReader S Z → Result ReadPart LineError → LineReader S Z → Type 0
+  NextPartFrom Open old result new =
+      YieldsPart n (state_of_reader rest failures old) result (state_of_reader rest failures new)
+      × (failures new.source ≡ failures_after (failures old.source) result)
+  NextPartFrom Ended old result new = (result ≡ Err (Incomplete 0)) × (new ≡ old)
+  NextPartFrom (Refused error) old result new = (result ≡ Err error) × (new ≡ old)
+
+  -- what a reader returns for a part of `n` bytes, by its stage
+  abbrev pub NextPart
+      : LineReader S Z → Result ReadPart LineError → LineReader S Z → Type 0
+  NextPart old result new = NextPartFrom old.stage old result new
 
 -- ---- cited by private functions only
 
@@ -201,3 +257,23 @@ module _ {S Z : Type 0} (rest : S → Option (List ℕ)) (failures : S → ℕ) 
       × (failures new.source ≡ failures_after (failures old.source) result)
   AdvancesFrom Ended old result new = (result ≡ Ok false) × (new ≡ old)
   AdvancesFrom (Refused error) old result new = (result ≡ Err error) × (new ≡ old)
+
+-- the outcome of taking the next `n` bytes, which are `given`. `Ok`: the reader is open. `Err`: the
+-- reader has stopped, and why
+abbrev pub AdvancesPart
+    : ℕ → ReaderState → Result (Unit {0}) LineError → ReaderState → List ℕ → Type 0
+AdvancesPart n old (Ok _) new given =
+    ReadsBytes old given new × (length given ≡ n) × (new.stage ≡ Open)
+AdvancesPart n old (Err error) new given = (new.stage ≡ Refused error)
+    × IsPartError old.start old.size n old.held old.rest new.rest error
+
+module _ {S Z : Type 0} (rest : S → Option (List ℕ)) (failures : S → ℕ) (n : ℕ) where
+  -- the outcome of taking the next `n` bytes, at a stage
+  abbrev pub AdvancesPartFrom
+      : Stage → LineReader S Z → Result (Unit {0}) LineError → LineReader S Z → Type 0
+  AdvancesPartFrom Open old result new =
+      AdvancesPart n (state_of_reader rest failures old) result
+      (state_of_reader rest failures new) new.buffer.given
+      × (failures new.source ≡ failures_after (failures old.source) result)
+  AdvancesPartFrom Ended old result new = (result ≡ Err (Incomplete 0)) × (new ≡ old)
+  AdvancesPartFrom (Refused error) old result new = (result ≡ Err error) × (new ≡ old)

@@ -1,17 +1,31 @@
-//! Lines of an input, read in bounded memory.
+//! Lines of an input, read and written in bounded memory.
 //!
 //! `LineReader` reads any `Source` through one buffer of a size that the caller chooses, and lends each
 //! line out of it, with the position where it starts and how it ends. `collect_lines` keeps all lines.
 //! A byte that is not ASCII and a line that is longer than the buffer are errors with their position,
-//! returned after the lines before them.
+//! returned after the lines before them. `LineWriter` writes lines into any `Sink` through one buffer.
+//!
+//! | To | Use |
+//! |---|---|
+//! | read lines one after another | `LineReader::next_line` |
+//! | read a part of an announced length | `LineReader::read_exact_part` |
+//! | keep all lines | `collect_lines` |
+//! | write lines | `LineWriter` |
+//! | answer each line of an input with lines | `serve`, with a `Handler` |
 #![tactic(auto)]
 
+mod errors;
 mod line_buffer;
 mod line_reader;
+mod line_writer;
 mod owned_lines;
+mod serving;
+mod write_buffer;
 
 pub use ascii::iter::Ending;
 pub use ascii::{AsciiChar, AsciiStr, AsciiString};
 pub use ascii_devices::{DeviceFault, Input, Output, Sink, Source};
-pub use line_reader::{LineError, LineReader, ReadLine};
+pub use line_reader::{LineError, LineReader, ReadLine, ReadPart};
+pub use line_writer::{LineWriter, WriteError};
 pub use owned_lines::{CollectedLines, OwnedLine, collect_lines};
+pub use serving::{Handler, Next, Stop, serve};

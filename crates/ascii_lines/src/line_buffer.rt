@@ -22,9 +22,9 @@ pub(crate) struct LineBuffer<A: Allocator> {
     given: usize,
     // Where they end, and those start that were not taken.
     from: usize,
-    // No LF stands from there up to here.
+    // There is no LF from there up to here.
     searched: usize,
-    // No byte over 127 stands from there up to here.
+    // There is no non-ASCII byte from there up to here.
     checked: usize,
     // Where the bytes end.
     filled: usize,
@@ -72,6 +72,21 @@ impl<A: Allocator> LineBuffer<A> {
         self.filled - self.from
     }
 
+    /// How many bytes fit.
+    pub(crate) fn size(&self) -> usize
+        ensures { result ≡ self.now.size }
+    {
+        self.bytes.len()
+    }
+
+    /// How many of the bytes that it holds, from the first, are known to be ASCII.
+    pub(crate) fn checked_len(&self) -> usize
+        ensures checked { result ≡ self.now.checked }
+        ensures within { result ≤ length self.now.held }
+    {
+        self.checked - self.from
+    }
+
     /// Whether it has no room left.
     pub(crate) fn is_full(&self) -> bool
         ensures { IsTrue result ↔ (length self.now.held ≡ self.now.size) }
@@ -79,7 +94,7 @@ impl<A: Allocator> LineBuffer<A> {
         self.filled - self.from == self.bytes.len()
     }
 
-    /// The place of the first byte over 127 among those that it holds.
+    /// The position of the first non-ASCII byte among those that it holds.
     #[inline]
     pub(crate) fn first_non_ascii(&self) -> Option<usize>
         ensures place { MatchOption result
@@ -148,7 +163,7 @@ impl<A: Allocator> LineBuffer<A> {
         self.given = 0;
     }
 
-    /// Reads more bytes behind those that it holds, by one call of the source, and checks them.
+    /// Reads more bytes after those that it holds, by one call of the source, and checks them.
     pub(crate) fn refill<S: Source>(&mut self, source: &mut S) -> Result<usize, DeviceFault>
         requires room { length self.old.held < self.old.size }
         requires checked { self.old.checked ≡ length self.old.held }
@@ -170,7 +185,7 @@ impl<A: Allocator> LineBuffer<A> {
     }
 }
 
-/// Reads behind the first `filled` bytes, by one call of the source.
+/// Reads bytes after the first `filled` ones, by one call of the source.
 fn read_behind<S: Source>(
     source: &mut S,
     bytes: &mut [u8],

@@ -1,11 +1,12 @@
 //! A reader of lines over any source, through one buffer of fixed size.
 
-ghost use Rattle.std.specs.Prelude.{◌≡◌, ◌≢◌, ◌⊎◌, ◌<◌, ◌≤◌, ◌∷◌, [], IfErr, IfOk, None, OnOk};
-ghost use Rattle.std.specs.Prelude.{length, ℕ};
+ghost use Rattle.std.specs.Prelude.{◌≡◌, ◌≢◌, ◌⊎◌, ◌+◌, ◌^◌, ◌<◌, ◌≤◌, ◌∷◌, ◌++◌, [], IfErr, IfOk};
+ghost use Rattle.std.specs.Prelude.{None, OnOk, length, ℕ};
 ghost use Rattle.std.specs.Io.KnownBytes.{Consumes, IsAtEnd};
 ghost use Rattle.std.specs.Str.{IsAscii};
 ghost use Rattle.ascii.specs.Spans.{LineSpansOf, line_size};
 ghost use Rattle.ascii_lines.specs.LineReader.{FindsLineEnd, IsOneLine, IsHeldThenRead, IsLineError};
+ghost use Rattle.ascii_lines.specs.LineReader.{IsPartError};
 ghost use Rattle.ascii_lines.specs.LineReader.{TakesLine, failures_after, read_line_in, error_at};
 ghost use Rattle.ascii_lines.specs.LineBuffer.{EndsLine};
 
@@ -22,10 +23,12 @@ pub enum LineError {
     /// the bytes of its line that fit in the buffer.
     NotAscii(u64),
     /// The line that starts at this position of the input, counted from 0, is longer than the buffer, with
-    /// its ending.
+    /// its ending; or the part that starts there is longer than the buffer.
     TooLong(u64),
-    /// The next line ends after the position `u64::MAX`, or its first non-ASCII byte is there.
+    /// The next line or part ends after the position `u64::MAX`, or its first non-ASCII byte is there.
     TooFar,
+    /// The input ended after this number of bytes of a part, which is longer.
+    Incomplete(usize),
     /// The source failed, or has failed `u64::MAX` times before.
     Read,
 }
@@ -39,6 +42,15 @@ pub struct ReadLine<'a> {
     pub text: AsciiStr<'a>,
     /// The ending.
     pub ending: Ending,
+}
+
+/// A part of an input, of a length that the caller has named.
+#[derive(Clone, Copy, PartialEq, Eq, Debug)]
+pub struct ReadPart<'a> {
+    /// The position of its first byte in the input, counted from 0.
+    pub start: u64,
+    /// The text, which may have any ASCII character.
+    pub text: AsciiStr<'a>,
 }
 
 /// Whether a reader has further lines.
@@ -68,7 +80,8 @@ impl<S: Source, A: Allocator> LineReader<S, A> {
     ghost use Rattle.std.specs.Borrow.{sem};
     ghost use Rattle.std.specs.Io.BufRead.{Rests};
     ghost use Rattle.ascii_lines.specs.LineReader.{AdvancesFrom, IsFresh, Next, state_of_reader};
-    ghost use Rattle.ascii_lines.specs.LineReader.{source_of};
+    ghost use Rattle.ascii_lines.specs.LineReader.{AdvancesPartFrom, NextPart, source_of};
+    ghost use Rattle.ascii_lines.specs.LineReader.{start_of_next};
     ghost use Rattle.ascii_lines.specs.contracts.line_reader.LineReader.{the_row};
 
     /// Creates a reader over `source` with a buffer of `size` bytes, or returns an error if the allocation
@@ -103,6 +116,18 @@ impl<S: Source, A: Allocator> LineReader<S, A> {
         ensures { result ≡ source_of self }
     {
         self.source
+    }
+
+    /// Returns the position in the input at which the next line or part starts, counted from 0.
+    ///
+    ///     let mut reader = LineReader::new(alloc, Input::new(b"ab\r\ncd".as_slice()), 64)?;
+    ///     reader.position() // 0
+    ///     let _ = reader.next_line();
+    ///     reader.position() // 4
+    pub fn position(&self) -> u64
+        ensures { result ≡ start_of_next self.now }
+    {
+        self.start
     }
 
     /// Returns the next line with its start and its ending, or `None` if there are no more lines, or
@@ -148,7 +173,64 @@ impl<S: Source, A: Allocator> LineReader<S, A> {
         }
     }
 
-    /// Takes the bytes of the next line, and answers whether there is one.
+    /// Returns the next `n` bytes as a text with its start, or an error. It is for protocols that announce
+    /// a length, and may be mixed with `next_line` in any order: the next line or part starts after it.
+    ///
+    /// - `TooLong` if `n` is larger than the buffer. The error has the start of the part, and nothing is read.
+    /// - `NotAscii` if one of the bytes is not ASCII. The error has the position of the first one.
+    /// - `Incomplete` if the input ends before. The error has the number of bytes that came.
+    /// - `TooFar` if the part ends after the position `u64::MAX`. Nothing is read.
+    /// - `Read` if a call of the source failed, or `u64::MAX` calls have failed before.
+    ///
+    /// Once a call of the reader has returned an error, every later call returns the same, and leaves the
+    /// reader and its source unchanged. After `next_line` has returned `None`, or a line without an ending,
+    /// the error is `Incomplete(0)`, and the reader is unchanged.
+    ///
+    ///     let mut reader = LineReader::new(alloc, Input::new(b"$4\na\nbc\nd".as_slice()), 64)?;
+    ///     reader.next_line() // Ok(Some(ReadLine { start: 0, text: "$4", ending: Lf }))
+    ///     reader.read_exact_part(4) // Ok(ReadPart { start: 3, text: "a\nbc" })
+    ///     reader.next_line() // Ok(Some(ReadLine { start: 7, text: "", ending: Lf }))
+    ///     reader.read_exact_part(2) // Err(Incomplete(1))
+    pub fn read_exact_part(&mut self, n: usize) -> Result<ReadPart<'_>, LineError>
+        ensures* part { sem 𝓛 (Rests (the_row S.row A.row A.Allocator) self.entry
+            (NextPart S.rest S.failures n self.old result)) }
+    {
+        let start = self.start;
+        self.advance_part(n)?;
+        Ok(ReadPart {
+            start,
+            text: bytes::as_ascii_str_unchecked(self.buffer.line_bytes()),
+        })
+    }
+
+    /// Takes the next `n` bytes.
+    fn advance_part(&mut self, n: usize) -> Result<(), LineError>
+        ensures { AdvancesPartFrom S.rest S.failures n self.old.stage self.old result self.new }
+    {
+        match self.stage {
+            Stage::Open => {}
+            Stage::Ended => return Err(LineError::Incomplete(0)),
+            Stage::Refused(error) => return Err(error),
+        }
+        match take_part(&mut self.buffer, &mut self.source, self.start, n) {
+            Ok(end) => {
+                self.start = end;
+                Ok(())
+            }
+            Err(error) => Err(self.stop(error)),
+        }
+    }
+
+    /// Stops at an error, which every later call returns.
+    fn stop(&mut self, error: LineError) -> LineError
+        ensures same { result ≡ error }
+        ensures stopped { self.new ≡ record self.old { stage = Stage.Refused error } }
+    {
+        self.stage = Stage::Refused(error);
+        error
+    }
+
+    /// Takes the bytes of the next line, and returns whether there is one.
     fn advance(&mut self) -> Result<bool, LineError>
         ensures { AdvancesFrom S.rest S.failures self.old.stage self.old result self.new }
     {
@@ -166,15 +248,12 @@ impl<S: Source, A: Allocator> LineReader<S, A> {
                 self.start = end;
                 Ok(is_line)
             }
-            Err(error) => {
-                self.stage = Stage::Refused(error);
-                Err(error)
-            }
+            Err(error) => Err(self.stop(error)),
         }
     }
 }
 
-/// Takes the bytes of the next line, or all where no line is left. Gives the place behind them, and
+/// Takes the bytes of the next line, or all bytes if no LF is left. Returns the position after them, and
 /// whether the source has ended.
 fn take_line<S: Source, A: Allocator>(
     buffer: &mut LineBuffer<A>,
@@ -198,7 +277,70 @@ fn take_line<S: Source, A: Allocator>(
     Ok((end, found.is_none()))
 }
 
-/// Reads until a LF is held. Gives the number of bytes up to it, or `None` where the source has ended.
+/// Takes the next `n` bytes, and returns the position after them.
+fn take_part<S: Source, A: Allocator>(
+    buffer: &mut LineBuffer<A>,
+    source: &mut S,
+    start: u64,
+    n: usize,
+) -> Result<u64, LineError>
+    ensures ok { IfOk result (λ end. (end ≡ start + n) × (length buffer.new.given ≡ n)
+        × IsHeldThenRead buffer.old.held (S.rest source.old) (S.rest source.new)
+        (buffer.new.given ++ buffer.new.held)) }
+    ensures err { IfErr result (IsPartError start buffer.old.size n buffer.old.held
+        (S.rest source.old) (S.rest source.new)) }
+    ensures count { S.failures source.new ≡ failures_after (S.failures source.old) result }
+    ensures size { buffer.new.size ≡ buffer.old.size }
+{
+    if n > buffer.size() {
+        return Err(LineError::TooLong(start));
+    }
+    let Some(end) = start.checked_add(n as u64) else {
+        return Err(LineError::TooFar);
+    };
+    fill(buffer, source, start, n)?;
+    buffer.take(n);
+    Ok(end)
+}
+
+/// Reads until `n` bytes are held that are ASCII.
+fn fill<S: Source, A: Allocator>(
+    buffer: &mut LineBuffer<A>,
+    source: &mut S,
+    start: u64,
+    n: usize,
+) -> Result<(), LineError>
+    requires room { n ≤ buffer.old.size }
+    requires near { start + n < 2 ^ 64 }
+    ensures text { OnOk result
+        (IsHeldThenRead buffer.old.held (S.rest source.old) (S.rest source.new) buffer.new.held) }
+    ensures checked { OnOk result (n ≤ buffer.new.checked) }
+    ensures within { OnOk result (n ≤ length buffer.new.held) }
+    ensures err { IfErr result (IsPartError start buffer.old.size n buffer.old.held
+        (S.rest source.old) (S.rest source.new)) }
+    ensures count { S.failures source.new ≡ failures_after (S.failures source.old) result }
+    ensures size { buffer.new.size ≡ buffer.old.size }
+{
+    'fills: loop {
+        if n <= buffer.checked_len() {
+            return Ok(());
+        }
+        if let Some(place) = buffer.first_non_ascii() {
+            return Err(LineError::NotAscii(start + place as u64));
+        }
+        if source.failures() == u64::MAX {
+            return Err(LineError::Read);
+        }
+        let Ok(read) = buffer.refill(source) else {
+            return Err(LineError::Read);
+        };
+        if read == 0 {
+            return Err(LineError::Incomplete(buffer.len()));
+        }
+    }
+}
+
+/// Reads until an LF is held. Returns the number of bytes up to it, or `None` if the source has ended.
 fn seek<S: Source, A: Allocator>(
     buffer: &mut LineBuffer<A>,
     source: &mut S,
@@ -234,7 +376,7 @@ fn seek<S: Source, A: Allocator>(
     }
 }
 
-/// The refusal of a byte over 127 that stands this far behind the start of a line.
+/// The error of a non-ASCII byte at this distance from the start of a line.
 fn other_at(start: u64, place: usize) -> LineError
     ensures { result ≡ error_at start place }
 {
@@ -244,7 +386,7 @@ fn other_at(start: u64, place: usize) -> LineError
     }
 }
 
-/// Whether the source has ended, where a line without LF fills the buffer.
+/// Returns `None` if the source has ended, after a line without LF that fills the buffer.
 fn past_full<S: Source>(source: &mut S, start: u64) -> Result<Option<usize>, LineError>
     requires { S.failures source.old < u64.MAX }
     ensures ok { IfOk result (λ found. (found ≡ None) × IsAtEnd (S.rest source.new)
@@ -262,7 +404,7 @@ fn past_full<S: Source>(source: &mut S, start: u64) -> Result<Option<usize>, Lin
     }
 }
 
-/// The line of bytes of which the last alone may be LF.
+/// The line of bytes of which only the last one may be LF.
 #[inline]
 fn line_at(start: u64, line: &[u8]) -> ReadLine<'_>
     requires ascii { IsAscii line.now }

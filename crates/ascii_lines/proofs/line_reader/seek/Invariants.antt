@@ -2,7 +2,7 @@ use Rattle.std.proofs.Common.{◌≡◌, ◌-◌, length}
 use Rattle.ascii_lines.specs.LineReader.{IsHeldThenRead}
 use Rattle.ascii_lines.proofs.line_reader.seek.Given as goal
 
--- the bytes that are held are those that were, and behind them what the source gave; no read has
+-- the bytes that are held are those that were, and after them what the source gave; no read has
 -- failed
 abbrev pub invariant-fills : goal.invariant-fills
 invariant-fills g l =

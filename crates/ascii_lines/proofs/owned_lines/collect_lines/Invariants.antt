@@ -3,7 +3,7 @@ use Rattle.ascii_lines.specs.CollectedLines.{owned_line_in}
 use Rattle.ascii_lines.specs.LineReader.{YieldsLines, state_of_reader}
 use Rattle.ascii_lines.proofs.owned_lines.collect_lines.Given as goal
 
--- the lines so far were handed out, the reader goes on where it was, and no read has failed
+-- the lines so far were yielded, the reader goes on where it was, and no read has failed
 abbrev pub invariant-lines : goal.invariant-lines
 invariant-lines g l =
     YieldsLines (state_of_reader g.S.Source.rest g.S.Source.failures l.fn.reader)

@@ -1,0 +1,45 @@
+use Rattle.std.proofs.Common.{subst}
+use Rattle.ascii_lines.specs.LineWriter.{FlushesOutcome, state_of_writer}
+use Rattle.ascii_lines.specs.Serve.{writing_of}
+use Rattle.ascii_lines.proofs.RepliesLemmas.{failed_replies, sent_replies}
+use Rattle.ascii_lines.proofs.serving.serve.Goals as goal
+
+pub returns-in-Ok : goal.returns-in-Ok
+returns-in-Ok g c =
+    let taken = g.K.Sink.taken in let failures = g.K.Sink.failures in
+    let served = c.converse-stop.ensures in
+    record {
+      replies = served.replies;
+      last = served.last;
+      mid = served.mid;
+      state = served.state;
+      talk = served.talk;
+      stops = served.stops;
+      wrote = sent_replies taken failures c.args.ending
+          (state_of_writer taken failures c.args.writer.now) served.replies
+          c.converse-stop.new.writer c.flush.new.self (writing_of c.converse-stop.result)
+          c.in-Ok.field-0 served.wrote
+          (subst
+          (λ r. FlushesOutcome taken failures c.converse-stop.new.writer r c.flush.new.self)
+          c.in-Ok.is c.flush.ensures);
+    }
+
+pub returns-in-Err : goal.returns-in-Err
+returns-in-Err g c =
+    let taken = g.K.Sink.taken in let failures = g.K.Sink.failures in
+    let served = c.converse-stop.ensures in
+    record {
+      replies = served.replies;
+      last = served.last;
+      mid = served.mid;
+      state = served.state;
+      talk = served.talk;
+      stops = tt;
+      wrote = failed_replies taken failures c.args.ending
+          (state_of_writer taken failures c.args.writer.now) served.replies
+          c.converse-stop.new.writer c.flush.new.self (writing_of c.converse-stop.result)
+          c.in-Err.error served.wrote
+          (subst
+          (λ r. FlushesOutcome taken failures c.converse-stop.new.writer r c.flush.new.self)
+          c.in-Err.is c.flush.ensures);
+    }

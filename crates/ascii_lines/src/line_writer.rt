@@ -1,0 +1,192 @@
+//! A writer of lines over any sink, through one buffer of fixed size.
+
+ghost use Rattle.std.specs.Prelude.{◌≡◌, ◌+◌, ◌-◌, ◌^◌, ◌++◌, [], IfOk, OnErr, OnOk, min};
+ghost use Rattle.ascii.specs.Lines.{ending_text};
+ghost use Rattle.ascii_lines.specs.LineWriter.{FlushesOutcome, IsFreshWriter, WritesLine};
+ghost use Rattle.ascii_lines.specs.LineWriter.{line_with, sink_of, state_of_writer};
+ghost use Rattle.ascii_lines.specs.WriteBuffer.{Passes, PassesPrefix, failures_of_sink, flow};
+
+use crate::write_buffer::WriteBuffer;
+use ascii::AsciiStr;
+use ascii::iter::Ending;
+use ascii_devices::{DeviceFault, Sink};
+use memchr::memchr2;
+use std::alloc::{AllocError, Allocator, Global};
+
+/// Why a line was not written.
+#[derive(Clone, Copy, PartialEq, Eq, Debug)]
+pub enum WriteError {
+    /// The character at this index of the body, counted from 0, is CR or LF, and none before it is. The
+    /// writer and its sink are unchanged.
+    LineBreak(usize),
+    /// The sink failed, or has failed `u64::MAX` times before.
+    Write,
+}
+
+/// Whether a writer writes further lines.
+#[derive(Clone, Copy)]
+enum WriterStage {
+    /// It does.
+    Ready,
+    /// A call of the sink has failed.
+    Failed,
+}
+
+/// A writer of lines. It gathers lines in one buffer, and passes that to its sink when it is full or flushed.
+/// A line that is longer than the buffer goes to the sink in parts.
+#[derive(Drop)]
+pub struct LineWriter<K, A: Allocator = Global> {
+    sink: K,
+    buffer: WriteBuffer<A>,
+    stage: WriterStage,
+}
+
+impl<K: Sink, A: Allocator> LineWriter<K, A> {
+    /// Creates a writer over `sink` with a buffer of `size` bytes, or returns an error if the allocation
+    /// fails; the sink is then dropped. No later call allocates.
+    ///
+    /// With a `size` of 0, each line goes to the sink at once.
+    ///
+    ///     let mut writer = LineWriter::new(alloc, Output::new(Vec::new(alloc)), 64)?;
+    ///     writer.write_line(view("ab"), Ending::CrLf) // Ok(())
+    ///     writer.flush() // Ok(())
+    ///     writer.into_sink().into_inner() // [97, 98, 13, 10]
+    pub fn new(alloc: A, sink: K, size: usize) -> Result<LineWriter<K, A>, AllocError>
+    where
+        K: Drop,
+        ensures fresh { IfOk result (λ writer. IsFreshWriter size (K.taken sink) (K.failures sink)
+            (state_of_writer K.taken K.failures writer)) }
+        ensures sink { IfOk result (λ writer. sink_of writer ≡ sink) }
+    {
+        let buffer = WriteBuffer::new(alloc, size)?;
+        Ok(LineWriter {
+            sink,
+            buffer,
+            stage: WriterStage::Ready,
+        })
+    }
+
+    /// Returns the sink. Bytes that the writer holds are lost: call `flush` first.
+    ///
+    ///     let mut writer = LineWriter::new(alloc, Output::new(Vec::new(alloc)), 64)?;
+    ///     writer.write_line(view("ab"), Ending::Lf) // Ok(())
+    ///     writer.into_sink().into_inner() // []
+    pub fn into_sink(self) -> K
+        ensures { result ≡ sink_of self }
+    {
+        self.sink
+    }
+
+    /// Writes a line, or returns an error. With the ending `Absent`, the body alone is written, and the
+    /// next line continues it.
+    ///
+    /// - `LineBreak` if the body has a CR or an LF. The error has the index of the first one, and the writer
+    ///   and its sink are unchanged.
+    /// - `Write` if a call of the sink failed, or `u64::MAX` calls have failed before. Of the bytes
+    ///   written so far, this line included, the sink has taken a prefix.
+    ///
+    /// Once a call has returned `Write`, every later call returns it, and leaves the writer and its sink
+    /// unchanged. The sink's count of failures rises by one when `Write` is first returned, unless it is
+    /// `u64::MAX`; otherwise no call changes it.
+    ///
+    ///     let mut writer = LineWriter::new(alloc, Output::new(Vec::new(alloc)), 64)?;
+    ///     writer.write_line(view("a\nb"), Ending::Lf) // Err(LineBreak(1))
+    ///     writer.write_line(view("c"), Ending::Lf) // Ok(())
+    ///     writer.flush() // Ok(())
+    ///     writer.into_sink().into_inner() // [99, 10]
+    pub fn write_line(&mut self, body: AsciiStr<'_>, ending: Ending) -> Result<(), WriteError>
+        ensures { WritesLine K.taken K.failures self.old (line_with body.entry ending) result
+            self.new }
+    {
+        if let WriterStage::Failed = self.stage {
+            return Err(WriteError::Write);
+        }
+        let body = body.as_bytes();
+        if let Some(place) = memchr2(b'\r', b'\n', body) {
+            return Err(WriteError::LineBreak(place));
+        }
+        if put_line(&mut self.buffer, &mut self.sink, body, ending).is_err() {
+            self.stage = WriterStage::Failed;
+            return Err(WriteError::Write);
+        }
+        Ok(())
+    }
+
+    /// Passes the bytes that the writer holds to the sink and flushes it, or returns `Write` if a call of
+    /// the sink failed, or `u64::MAX` calls have failed before; every later call then returns `Write`.
+    ///
+    /// After `Ok` the sink has taken all lines that were written. On an error it has taken a prefix of
+    /// them.
+    ///
+    ///     let mut writer = LineWriter::new(alloc, Output::new(Vec::new(alloc)), 64)?;
+    ///     writer.flush() // Ok(())
+    pub fn flush(&mut self) -> Result<(), WriteError>
+        ensures { FlushesOutcome K.taken K.failures self.old result self.new }
+    {
+        if let WriterStage::Failed = self.stage {
+            return Err(WriteError::Write);
+        }
+        if send_all(&mut self.buffer, &mut self.sink).is_err() {
+            self.stage = WriterStage::Failed;
+            return Err(WriteError::Write);
+        }
+        Ok(())
+    }
+}
+
+/// Writes a body and its ending.
+#[inline]
+fn put_line<K: Sink, A: Allocator>(
+    buffer: &mut WriteBuffer<A>,
+    sink: &mut K,
+    body: &[u8],
+    ending: Ending,
+) -> Result<(), DeviceFault>
+    ensures ok { OnOk result (Passes (flow (K.taken sink.old) buffer.old.held)
+        (flow (K.taken sink.new) buffer.new.held) (body.now ++ ending_text ending)) }
+    ensures err { OnErr result (PassesPrefix (flow (K.taken sink.old) buffer.old.held)
+        (flow (K.taken sink.new) buffer.new.held) (body.now ++ ending_text ending)) }
+    ensures count { K.failures sink.new ≡ failures_of_sink (K.failures sink.old) result }
+    ensures size { buffer.new.size ≡ buffer.old.size }
+{
+    if sink.failures() == u64::MAX {
+        return Err(DeviceFault);
+    }
+    buffer.put(sink, body)?;
+    match ending {
+        Ending::Lf => buffer.put_byte(sink, b'\n'),
+        _ => buffer.put(sink, ending_bytes(ending)),
+    }
+}
+
+/// Sends what the buffer holds, and flushes the sink.
+fn send_all<K: Sink, A: Allocator>(
+    buffer: &mut WriteBuffer<A>,
+    sink: &mut K,
+) -> Result<(), DeviceFault>
+    ensures ok { OnOk result (Passes (flow (K.taken sink.old) buffer.old.held)
+        (flow (K.taken sink.new) buffer.new.held) []) }
+    ensures empty { OnOk result (buffer.new.held ≡ []) }
+    ensures err { OnErr result (PassesPrefix (flow (K.taken sink.old) buffer.old.held)
+        (flow (K.taken sink.new) buffer.new.held) []) }
+    ensures count { K.failures sink.new ≡ failures_of_sink (K.failures sink.old) result }
+    ensures size { buffer.new.size ≡ buffer.old.size }
+{
+    if sink.failures() == u64::MAX {
+        return Err(DeviceFault);
+    }
+    buffer.send(sink)?;
+    sink.flush()
+}
+
+/// The bytes of an ending.
+#[inline]
+fn ending_bytes(ending: Ending) -> &'static [u8]
+    ensures { result.now ≡ ending_text ending }
+{
+    match ending {
+        Ending::Lf => b"\n",
+        Ending::CrLf => b"\r\n",
+        Ending::Absent => b"",
+    }
+}
