@@ -81,7 +81,7 @@ done words mode old new asks outcome = (
       (outcome.1.ascii, (outcome.0, outcome.1.output_of)),
 )
 
--- a failure handed on by `?`
+-- a failure passed on by `?`
 pub handed_on : (words : List (List ℕ)) (known : Option (List ℕ)) (fault : EngineFault)
     (result : Result (Unit {0}) Failure)
     → IsErrAnd result (λ failure. failure ≡ Engine fault)

@@ -55,7 +55,7 @@ number_of_insertion word k n view at of =
     rw (of.1, same) (grind (arith, take-append_seam of.0 (58 ∷ text_of view))) in
     subst (λ ds. AreDigitsOf ds n) (sym digits) of.2
 
--- a word with a colon is what stands before it, the colon, and what stands behind it
+-- an argument with a colon is what comes before it, the colon, and what comes after it
 pub at_colon : (word : List ℕ) (k : ℕ) → Some k ≡ position is_colon word
     → word ≡ slice_range word 0 k ++ (58 ∷ slice_range word (k + 1) (length word))
 at_colon word k at =

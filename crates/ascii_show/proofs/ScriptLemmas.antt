@@ -19,7 +19,7 @@ pub no_script : (script : List ℕ) (i : ℕ) → i < length script
 no_script script i inside none is =
     none (get_or is.0 i Front) (grind (arith, get_or-map, length-map, inside, is.1))
 
--- `-s` is no script
+-- `-s` is not a script
 no_letter_is_minus : (end : End) → letter_of end ≢ 45
 no_letter_is_minus Front is = omega (arith, is)
 no_letter_is_minus Back is = omega (arith, is)
@@ -46,7 +46,7 @@ two_words (x ∷ y ∷ []) none two first last is_first is_last =
     ap₂ (λ (a : List ℕ) (b : List ℕ). a ∷ (b ∷ [])) is_first is_last
 two_words (x ∷ y ∷ z ∷ zs) none two first last is_first is_last = absurd (omega (arith, two))
 
--- words behind `ends` that have no script are no call
+-- arguments after `ends` without a script are not a call
 no_ends : (words : List (List ℕ)) → ((script : List ℕ) (n : ℕ) → ¬ (HasScript words script n))
     → ¬ (IsCall (codes "ends" ∷ words))
 no_ends words none (inl (inl is, _)) = omega (arith, ap (λ word. get_or word 0 0) is)
@@ -59,7 +59,7 @@ no_ends words none (inl (inr (inr (inr (inr is))), _)) =
 no_ends words none (inr (inl (_, has))) = none has.0 has.1 has.2
 no_ends words none (inr (inr is)) = omega (arith, ap (λ word. get_or word 1 0) is)
 
--- `-s` alone is no call
+-- only `-s` is not a call
 pub option_alone : (args : List (Bor (List ℕ))) (none : Bor (List ℕ)) → length args ≡ 1
     → (get_or args 0 none).now ≡ codes "-s"
     → ¬ (IsCall (codes "ends" ∷ words_of args))
@@ -69,7 +69,7 @@ option_alone args none one is = no_ends (words_of args) (λ script n has. elim h
   | inr behind ↦ omega (arith, one, ap length behind.0, length-map args bytes_of)
 ])
 
--- why a script behind `ends` gives no ends is why the words ask for nothing
+-- why a script after `ends` has no ends is why the arguments request nothing
 pub script_fault : (others : List (List ℕ)) (script : List ℕ) (n : ℕ) (failure : Failure)
     → HasScript others script n → IsScriptFault script n failure
     → IsWordsFault (codes "ends" ∷ others) failure

@@ -1,4 +1,4 @@
--- The letter that the word of a command begins with, and what stands behind it.
+-- The letter that the argument of a command begins with, and what comes after it.
 use Rattle.std.proofs.Common.{◌≡◌, ◌≤◌, ℕ, List, [], ◌∷◌, Option, Some, None, MatchOption, get_or}
 use Rattle.std.proofs.Common.{drop, refl, sym, ap, subst, arith}
 use Rattle.std.specs.Str.{IsAscii}
@@ -53,7 +53,7 @@ only_insertion rest Upper of = absurd (omega (arith, ap (λ word. get_or word 0 
 only_insertion rest Lower of = absurd (omega (arith, ap (λ word. get_or word 0 0) of))
 only_insertion rest other of = absurd of
 
--- what stands behind the `i` tells the word
+-- what comes after the `i` determines the argument
 pub insertion_word : (rest : List ℕ) (result : Option Cmd)
     → MatchOption result (¬ ((n : ℕ) × (view : AsciiStr) × IsInsertion rest n view))
     (λ cmd. (n : ℕ) × (view : AsciiStr) × (cmd ≡ InsertStr n view) × IsInsertion rest n view)

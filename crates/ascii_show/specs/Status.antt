@@ -2,6 +2,7 @@
 use Rattle.std.specs.Prelude.{ℕ, List, ◌+◌, ◌++◌, codes, decimal, min, ◌^◌, ◌-◌}
 use Rattle.ascii_run.specs.declared.faults.EngineFault.TheVariants.{NotAscii, Position, Memory}
 use Rattle.ascii_run.specs.declared.faults.EngineFault.TheVariants.{Read, Write}
+use Rattle.ascii_run.specs.Faults.{fault_text}
 use Rattle.ascii_show.specs.Modes.{usage_line}
 use Rattle.ascii_show.specs.declared.failure.Failure.{Failure}
 use Rattle.ascii_show.specs.declared.failure.Failure.TheVariants.{Usage, BadWord, Engine}
@@ -22,7 +23,4 @@ abbrev pub line_of : Failure → List ℕ
 line_of Usage = usage_line
 line_of (BadWord n) = codes "bad word " ++ decimal n
 line_of (Engine (Position k)) = codes "bad position in word " ++ decimal (min (k + 1) (2 ^ 64 - 1))
-line_of (Engine (NotAscii n)) = codes "the byte at index " ++ (decimal n ++ codes " is not ASCII")
-line_of (Engine Memory) = codes "no memory"
-line_of (Engine Read) = codes "read failed"
-line_of (Engine Write) = codes "write failed"
+line_of (Engine fault) = fault_text fault

@@ -45,12 +45,7 @@ impl fmt::Display for Failure {
                 let number = place.saturating_add(1);
                 write!(f, "bad position in word {number}")
             }
-            Failure::Engine(EngineFault::NotAscii(position)) => {
-                write!(f, "the byte at index {position} is not ASCII")
-            }
-            Failure::Engine(EngineFault::Memory) => f.write_str("no memory"),
-            Failure::Engine(EngineFault::Read) => f.write_str("read failed"),
-            Failure::Engine(EngineFault::Write) => f.write_str("write failed"),
+            Failure::Engine(fault) => fmt::Display::fmt(&fault, f),
         }
     }
 }

@@ -5,7 +5,7 @@ use Rattle.ascii_show.specs.Call.{words_of}
 use Rattle.ascii_show.proofs.ScriptLemmas.{one_word, option_alone, script_fault, two_words}
 use Rattle.ascii_show.proofs.arguments.parse_ends.Goals as goal
 
--- what stands where there is no word
+-- what is there if there is no argument
 abbrev none : Bor (List ℕ)
 none = record { ref_ptr = (0, 0); now = [] }
 

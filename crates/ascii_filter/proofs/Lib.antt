@@ -1,0 +1,2 @@
+pub mod ScannerLemmas
+pub mod PlaceLemmas

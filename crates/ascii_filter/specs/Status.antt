@@ -1,0 +1,26 @@
+-- The statuses of the program, and what an answer says of its input.
+use Rattle.std.specs.Prelude.{ℕ, List, ⊤, IfSome, length}
+use Rattle.std.specs.Str.{IsAscii}
+use Rattle.std.specs.declared.option.Option.{Option}
+use Rattle.std.specs.declared.result.Result.{Result}
+use Rattle.std.specs.declared.result.Result.TheVariants.{Ok, Err}
+use Rattle.ascii.specs.Bytes.{FirstOther}
+use Rattle.ascii_filter.specs.declared.failure.Failure.{Failure}
+use Rattle.ascii_filter.specs.declared.failure.Failure.TheVariants.{NotAscii}
+use Rattle.ascii_filter.specs.declared.remembering.Remembering.{Remembering}
+
+-- the status of a failure: 1 for input that is not ASCII, otherwise 3
+abbrev pub status_of : Failure → ℕ
+status_of (NotAscii n) = 1
+status_of other = 3
+
+-- an input may be answered so, if its bytes are known. `Ok`: they are ASCII. `NotAscii`: it holds
+-- the position of the first byte over 127
+abbrev pub MayAnswer : Option (List ℕ) → Result (Unit {0}) Failure → Type 0
+MayAnswer known (Ok _) = IfSome known IsAscii
+MayAnswer known (Err (NotAscii n)) = IfSome known (λ bytes. FirstOther bytes 0 (length bytes) n)
+MayAnswer known (Err other) = ⊤
+
+-- the device that a reader or a writer remembers the errors of
+abbrev pub device_of : {D : Type 0} → Remembering D → D
+device_of remembering = remembering.device

@@ -1,0 +1,59 @@
+//! Why the program stops at an input.
+
+ghost use Rattle.std.specs.Prelude.{◌≡◌};
+ghost use Rattle.ascii_filter.specs.Status.{status_of};
+
+use std::{fmt, io};
+
+/// A failure of the program at an input.
+#[derive(Clone, Copy)]
+pub enum Failure {
+    /// The byte of the input at this position, counted from 0, is the first that is not ASCII.
+    NotAscii(u64),
+    /// The input is too long.
+    TooLong,
+    /// An allocation failed.
+    Memory,
+    /// The input could not be opened or read.
+    Input(io::Error),
+    /// The output could not be written.
+    Output(io::Error),
+}
+
+impl Failure {
+    /// The status that the program ends with, at least.
+    pub fn status(self) -> u8
+        ensures { result ≡ status_of self }
+    {
+        match self {
+            Failure::NotAscii(_) => 1,
+            Failure::TooLong | Failure::Memory | Failure::Input(_) | Failure::Output(_) => 3,
+        }
+    }
+
+    /// Returns `true` if the output could not be written.
+    pub fn is_of_output(self) -> bool {
+        matches!(self, Failure::Output(_))
+    }
+
+    /// Returns `true` if nobody reads the output any more.
+    pub fn is_closed_pipe(self) -> bool {
+        match self {
+            Failure::Output(error) => error.kind() == io::ErrorKind::BrokenPipe,
+            _ => false,
+        }
+    }
+}
+
+impl fmt::Display for Failure {
+    fn fmt<W: fmt::Write>(&self, f: &mut fmt::Formatter<W>) -> fmt::Result {
+        match *self {
+            Failure::NotAscii(position) => {
+                write!(f, "the byte at index {position} is not ASCII")
+            }
+            Failure::TooLong => f.write_str("the input is too long"),
+            Failure::Memory => f.write_str("no memory"),
+            Failure::Input(error) | Failure::Output(error) => fmt::Display::fmt(&error, f),
+        }
+    }
+}

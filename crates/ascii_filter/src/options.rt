@@ -1,0 +1,104 @@
+//! The options of the program.
+
+use ascii_run::BoundedMode;
+use clap::builder::ValueParser;
+use clap::{Arg, ArgAction, ArgMatches, Command};
+use std::alloc::{AllocError, Global};
+
+/// What the program calls standard input.
+pub const STANDARD_INPUT: &str = "(standard input)";
+
+/// The names of the modes.
+static MODES: [&str; 7] = ["copy", "lines", "caret", "json", "upper", "lower", "check"];
+
+/// What `check` writes of each input.
+#[derive(Clone, Copy)]
+pub struct Check {
+    /// How many bytes over 127 are looked for at most.
+    pub most: u64,
+    /// Whether their number is written, and not each of them.
+    pub is_count: bool,
+    /// Whether nothing is written.
+    pub is_quiet: bool,
+}
+
+/// What is done with each input.
+#[derive(Clone, Copy)]
+pub enum Task {
+    /// The output of a mode is written.
+    Filter(BoundedMode),
+    /// Each byte over 127 is named.
+    Check(Check),
+}
+
+/// The task that the parsed arguments ask for, or a line that says what is wrong with them.
+pub fn task_of(matches: &ArgMatches<'_>) -> Result<Task, &'static str> {
+    let is_count = matches.get_flag("count");
+    let is_quiet = matches.get_flag("quiet");
+    let max = matches.get_one::<u64>("max");
+    let name = matches.get_str("MODE").unwrap_or_default();
+    let files = matches.get_strs("FILE").unwrap_or_default();
+    let Some(mode) = mode_of(name) else {
+        let most = if is_quiet { 1 } else { max.unwrap_or(u64::MAX) };
+        return Ok(Task::Check(Check {
+            most,
+            is_count,
+            is_quiet,
+        }));
+    };
+    if is_count || is_quiet || max.is_some() {
+        return Err("ascii_filter: --count, --max and --quiet are options of check\n");
+    }
+    if mode == BoundedMode::Json && files.len() > 1 {
+        return Err("ascii_filter: json takes one input\n");
+    }
+    Ok(Task::Filter(mode))
+}
+
+/// The mode with a name, or `None` for `check`.
+fn mode_of(name: &str) -> Option<BoundedMode> {
+    match name {
+        "copy" => Some(BoundedMode::Copy),
+        "lines" => Some(BoundedMode::Lines),
+        "caret" => Some(BoundedMode::Caret),
+        "json" => Some(BoundedMode::Json),
+        "upper" => Some(BoundedMode::Upper),
+        "lower" => Some(BoundedMode::Lower),
+        _ => None,
+    }
+}
+
+/// The command line of the program.
+pub fn command<'a>(alloc: Global) -> Result<Command<'a>, AllocError> {
+    let mode = Arg::new(alloc, "MODE")
+        .required(true)
+        .action(ArgAction::Set)
+        .value_parser(MODES.as_slice())
+        .help("What is written of each input");
+    let files = Arg::new(alloc, "FILE")
+        .action(ArgAction::Append)
+        .default_value("-")
+        .help("The files to read, each as an input of its own; `-` is standard input");
+    let count = Arg::new(alloc, "count")
+        .long("count")
+        .action(ArgAction::SetTrue)
+        .help("check: write the number of bytes over 127 of each file");
+    let max = Arg::new(alloc, "max")
+        .long("max")
+        .value_name("N")
+        .action(ArgAction::Set)
+        .value_parser(ValueParser::unsigned(1, u64::MAX))
+        .help("check: stop after N of them in a file");
+    let quiet = Arg::new(alloc, "quiet")
+        .long("quiet")
+        .action(ArgAction::SetTrue)
+        .help("check: write nothing, and stop at the first of them");
+    Command::new(alloc, "ascii_filter")
+        .version("0.1.0")
+        .about("Writes ASCII inputs of any length in one of several modes")
+        .arg(mode)?
+        .arg(files)?
+        .arg(count)?
+        .arg(max)?
+        .arg(quiet)
+}
