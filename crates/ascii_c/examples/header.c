@@ -1,4 +1,4 @@
-/* Prints the name of a header trimmed and in lower case, and where a part of a text is refused.
+/* Prints the name of a header trimmed and in lower case, and where a part of a text is rejected.
  * cc -Wall -I .. header.c ../out/libascii_c.a */
 #include <stdio.h>
 #include "ascii.h"

@@ -99,7 +99,8 @@ pub extern "C" fn ascii_accepts_part(
 #[unsafe(no_mangle)]
 pub extern "C" fn ascii_trim_start(bytes: &[u8]) -> usize
     ensures inside { result ≤ length bytes.now }
-    ensures trims { TrimsStart bytes.now (slice_range bytes.now result (length bytes.now)) }
+    ensures trims { TrimsStart IsWhitespace bytes.now
+        (slice_range bytes.now result (length bytes.now)) }
 {
     kernels::first_not_whitespace(bytes).unwrap_or(bytes.len())
 }
@@ -108,7 +109,7 @@ pub extern "C" fn ascii_trim_start(bytes: &[u8]) -> usize
 #[unsafe(no_mangle)]
 pub extern "C" fn ascii_trim_end(bytes: &[u8]) -> usize
     ensures inside { result ≤ length bytes.now }
-    ensures trims { TrimsEnd bytes.now (take result bytes.now) }
+    ensures trims { TrimsEnd IsWhitespace bytes.now (take result bytes.now) }
 {
     kernels::last_not_whitespace(bytes).map_or(0, |last| last + 1)
 }

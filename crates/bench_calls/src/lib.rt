@@ -1,10 +1,11 @@
-//! Calls that bench/ measures, for a driver that is not Rattle. Each goes through all of its bytes in one
-//! call, so that what it takes is the loop and not the way into the library.
+//! Calls that bench/ measures, for a driver that is not Rattle. Each processes all of its bytes in one
+//! call, so that what is measured is the loop and not the way into the library.
 #![tactic(auto)]
 
 ghost use Rattle.std.specs.Prelude.{◌≡◌, ◌↔◌, ℕ, IsTrue, List, length, map};
 ghost use Rattle.std.specs.Str.{IsAscii};
 ghost use Rattle.ascii.specs.Case.{lower_image, upper_image};
+ghost use Rattle.ascii.specs.Class.{IsWhitespace};
 ghost use Rattle.ascii.specs.Trim.{Trims};
 
 use ascii::{AsciiChar, AsciiStr, AsciiString, bytes};
@@ -29,7 +30,7 @@ pub extern "C" fn bench_upper(source: &mut [u8])
     bytes::as_mut_ascii_str_unchecked(source).make_ascii_uppercase();
 }
 
-/// Whether two texts are equal when the case of letters does not count.
+/// Whether two texts are equal when the case of letters is ignored.
 #[unsafe(no_mangle)]
 pub extern "C" fn bench_equal(first: &[u8], second: &[u8]) -> bool
     requires first { IsAscii first.now }
@@ -39,11 +40,12 @@ pub extern "C" fn bench_equal(first: &[u8], second: &[u8]) -> bool
     bytes::as_ascii_str_unchecked(first).eq_ignore_ascii_case(bytes::as_ascii_str_unchecked(second))
 }
 
-/// The length of a text without the white space at its ends.
+/// The length of a text without the whitespace at its ends.
 #[unsafe(no_mangle)]
 pub extern "C" fn bench_trim(source: &[u8]) -> usize
     requires { IsAscii source.now }
-    ensures { (trimmed : List ℕ) × Trims source.now trimmed × (result ≡ length trimmed) }
+    ensures { (trimmed : List ℕ) × Trims IsWhitespace source.now trimmed
+        × (result ≡ length trimmed) }
 {
     bytes::as_ascii_str_unchecked(source).trim().len()
 }
@@ -67,8 +69,8 @@ pub extern "C" fn bench_lines(source: &[u8], from_back: bool) -> usize
     sum
 }
 
-/// The lengths of the lines of an input, mixed in their order, which is read through a buffer of 64 KiB; 0
-/// where a line is refused, or memory.
+/// The lengths of the lines of an input, mixed in their order, read through a buffer of 64 KiB; 0 if a
+/// line is rejected or an allocation fails.
 #[unsafe(no_mangle)]
 pub extern "C" fn bench_read_lines(alloc: Global, source: &[u8]) -> usize {
     let Ok(reader) = LineReader::new(alloc, Input::new(source), 65_536) else {
@@ -98,6 +100,69 @@ pub extern "C" fn bench_split(source: &[u8]) -> usize
     sum
 }
 
+/// The position of the first `needle` in a text, or the length of the text if there is none.
+#[unsafe(no_mangle)]
+pub extern "C" fn bench_find(source: &[u8], needle: &[u8]) -> usize
+    requires source { IsAscii source.now }
+    requires needle { IsAscii needle.now }
+{
+    let view = bytes::as_ascii_str_unchecked(source);
+    view.find(bytes::as_ascii_str_unchecked(needle))
+        .unwrap_or(source.len())
+}
+
+/// The position of the first percent sign in a text, or the length of the text if there is none.
+#[unsafe(no_mangle)]
+pub extern "C" fn bench_position(source: &[u8]) -> usize
+    requires { IsAscii source.now }
+{
+    bytes::as_ascii_str_unchecked(source)
+        .position(AsciiChar::Percent)
+        .unwrap_or(source.len())
+}
+
+/// The lengths of the two sides of the first colon of a text, mixed, or 0 if there is none.
+#[unsafe(no_mangle)]
+pub extern "C" fn bench_split_once(source: &[u8]) -> usize
+    requires { IsAscii source.now }
+{
+    match bytes::as_ascii_str_unchecked(source).split_once(AsciiChar::Colon) {
+        Some((before, after)) => mixed(before.len(), after.len()),
+        None => 0,
+    }
+}
+
+/// The lengths of the words of a text, mixed in their order.
+#[unsafe(no_mangle)]
+pub extern "C" fn bench_words(source: &[u8]) -> usize
+    requires { IsAscii source.now }
+{
+    let mut sum: usize = 0;
+    for word in bytes::as_ascii_str_unchecked(source).split_whitespace() {
+        sum = mixed(sum, word.len());
+    }
+    sum
+}
+
+/// The number that the digits of a text write, or 0 if they write none.
+#[unsafe(no_mangle)]
+pub extern "C" fn bench_number(source: &[u8]) -> usize
+    requires { IsAscii source.now }
+{
+    bytes::as_ascii_str_unchecked(source)
+        .to_number::<usize>()
+        .unwrap_or(0)
+}
+
+/// Whether two texts are equal as `FoldedStr`s.
+#[unsafe(no_mangle)]
+pub extern "C" fn bench_folded(first: &[u8], second: &[u8]) -> bool
+    requires first { IsAscii first.now }
+    requires second { IsAscii second.now }
+{
+    bytes::as_ascii_str_unchecked(first).folded() == bytes::as_ascii_str_unchecked(second).folded()
+}
+
 /// The sum of the codes of a text.
 #[unsafe(no_mangle)]
 pub extern "C" fn bench_chars(source: &[u8]) -> usize
@@ -110,7 +175,7 @@ pub extern "C" fn bench_chars(source: &[u8]) -> usize
     sum
 }
 
-/// A text out of the characters of another, in upper case: its mark, or 0 where memory is refused.
+/// A text made of the characters of another, in upper case: its mark, or 0 if the allocation fails.
 #[unsafe(no_mangle)]
 pub extern "C" fn bench_collect(alloc: Global, source: &[u8]) -> usize
     requires { IsAscii source.now }
@@ -123,7 +188,7 @@ pub extern "C" fn bench_collect(alloc: Global, source: &[u8]) -> usize
 }
 
 /// A text to which the characters of another are pushed one by one, on the heap or inline while it is
-/// short: its mark, or 0 where memory is refused.
+/// short: its mark, or 0 if the allocation fails.
 #[unsafe(no_mangle)]
 pub extern "C" fn bench_push(alloc: Global, source: &[u8], inline: bool) -> usize
     requires { IsAscii source.now }
@@ -136,8 +201,8 @@ pub extern "C" fn bench_push(alloc: Global, source: &[u8], inline: bool) -> usiz
     }
 }
 
-/// A copy of a text, made and let go, on the heap or inline while it is short: its mark, or 0 where memory
-/// is refused.
+/// A copy of a text, created and dropped, on the heap or inline while it is short: its mark, or 0 if the
+/// allocation fails.
 #[unsafe(no_mangle)]
 pub extern "C" fn bench_build(alloc: Global, source: &[u8], inline: bool) -> usize
     requires { IsAscii source.now }
@@ -151,8 +216,8 @@ pub extern "C" fn bench_build(alloc: Global, source: &[u8], inline: bool) -> usi
     }
 }
 
-/// Copies in lower case of the pieces of a text between commas, each made and let go in turn, on the
-/// heap or inline while it is short: their marks, mixed, with 0 where memory is refused.
+/// Copies in lower case of the pieces of a text between commas, each created and dropped in turn, on the
+/// heap or inline while it is short: their marks, mixed, with 0 if an allocation fails.
 #[unsafe(no_mangle)]
 pub extern "C" fn bench_names(alloc: Global, source: &[u8], inline: bool) -> usize
     requires { IsAscii source.now }
@@ -171,7 +236,7 @@ pub extern "C" fn bench_names(alloc: Global, source: &[u8], inline: bool) -> usi
     sum
 }
 
-/// The mark of a text with the characters of a view behind it, or 0 where memory is refused.
+/// The mark of a text with the characters of a view appended, or 0 if the allocation fails.
 #[inline(always)]
 fn pushed<B: AsciiBuf + Drop>(buf: B, view: AsciiStr<'_>) -> usize {
     let mut buf = buf;
@@ -183,7 +248,7 @@ fn pushed<B: AsciiBuf + Drop>(buf: B, view: AsciiStr<'_>) -> usize {
     mark(buf.as_ascii_str())
 }
 
-/// The mark of a text in lower case, or 0 where it was refused memory.
+/// The mark of a text in lower case, or 0 if its allocation failed.
 #[inline(always)]
 fn lowered<B: AsciiBuf + Drop>(made: Result<B, AllocError>) -> usize {
     match made {

@@ -14,7 +14,7 @@ use Rattle.ascii.specs.Lines.{IsRemainderOfLines, Line, LinesOf, MayFollow, line
 use Rattle.ascii.specs.View.{text_of}
 use Rattle.ascii.proofs.LinesLemmas.{LinesOf-lines_of}
 
--- the first k lines and the others, one behind the other
+-- the first k lines and the others, one after the other
 pub lines_joined : (text front : List ℕ) (lines : List Line) (k : ℕ) → LinesOf text lines
     → LinesOf front (take k lines)
     → front ++ flat_map line_text (drop k lines) ≡ text
@@ -35,7 +35,7 @@ ended_behind lines k i d within ended =
     (rw (get_or-take (length lines - 1) lines (k + i) d all_within) at
     (ended (k + i) d short))
 
--- the text behind the first k lines has the others
+-- the text after the first k lines has the others
 pub lines_behind : (text front : List ℕ) (lines : List Line) (k : ℕ) → LinesOf text lines
     → LinesOf front (take k lines)
     → LinesOf (drop (length front) text) (drop k lines)
@@ -49,7 +49,7 @@ lines_behind text front lines k of before = record {
   joined = sym (front_rest text front _ (sym (lines_joined text front lines k of before)));
 }
 
--- the rest of lines, or the empty text where none is owed
+-- the remainder of lines, or the empty text if none remain
 pub rest_or_nothing : (lines : List Line) (rest : Option AsciiStr) (view : AsciiStr)
     → IsRemainderOfLines lines rest
     → UnwrapsOrElse rest (λ v. text_of v ≡ []) view → LinesOf (text_of view) lines

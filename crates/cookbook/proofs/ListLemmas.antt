@@ -13,7 +13,7 @@ use Rattle.ascii.specs.First.{IsFirstAt}
 
 -- ---- what holds of each item
 
--- what holds of each item of a list holds of the one behind the first
+-- what holds of each item of a list holds of the one after the first
 pub All-seam : {A : Type 0} (P : A → Type 0) (before after : List A) (here : A)
     → All P (before ++ here ∷ after) → P here
 All-seam P before after here each =
@@ -49,7 +49,7 @@ slice_get-seam : {A : Type 0} (before after : List A) (here : A)
 slice_get-seam [] after here = refl
 slice_get-seam (x ∷ before) after here = slice_get-seam before after here
 
--- the item behind those that have the other property is the first
+-- the item after those that have the other property is the first
 pub IsFirstAt-seam : {A : Type 0} (Before Here : A → Type 0) (before after : List A) (here : A)
     → All Before before → Here here → (k : ℕ) → length before ≡ k
     → IsFirstAt Before Here (before ++ here ∷ after) k
@@ -81,18 +81,6 @@ pub IsFirstAt-position : {A : Type 0} (Is : A → Type 0) (items : List A) (foun
 IsFirstAt-position Is items None each = All-from_all_within Is items each
 IsFirstAt-position Is items (Some i) first =
     IsFirstAt-from_at Is (λ item. ¬ (Is item)) items i first.0 first.1 first.2
-
--- the first code outside a class, as the searches by class find it
-pub first_not_is_first : (Is : ℕ → Type 0) (codes : List ℕ) (found : Option ℕ)
-    → MatchOption found (All Is codes) (IsFirstNot Is codes 0 (length codes))
-    → MatchOption found (All Is codes) (IsFirstAt Is (λ code. ¬ (Is code)) codes)
-first_not_is_first Is codes None all = all
-first_not_is_first Is codes (Some i) first =
-    IsFirstAt-from_at Is (λ code. ¬ (Is code)) codes i first.inside
-    (λ d here. first.other (subst Is (get_or_default codes i d 0 first.inside) here))
-    (λ k d low high.
-    let inside : k < length codes = omega (arith, high, first.inside) in
-    subst Is (sym (get_or_default codes k d 0 inside)) (first.least k (omega arith) high))
 
 -- the first item with a property, which `find` finds
 pub IsFirstAt-find : {A : Type 0} (Is : A → Type 0) (items : List A) (found : Option A)

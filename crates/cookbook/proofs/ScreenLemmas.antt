@@ -204,7 +204,7 @@ shown_quiet w c (n ∷ text) wide inside = let good = good_shown w c n wide insi
     (screen_text w (column_after c (char_on_screen w c n)) text) good.quiet
     (shown_quiet w (column_after c (char_on_screen w c n)) text wide good.column)
 
--- behind a front the rest begins at some column
+-- after a prefix the remainder begins at some column
 skip : (w c : ℕ) (front rest : List ℕ) → c ≤ w → Within w c (front ++ rest)
     → (k : ℕ) × (k ≤ w) × Within w k rest
 skip w c [] rest inside all = (c, inside, all)

@@ -6,9 +6,11 @@ use Rattle.ascii.specs.Class.{IsWhitespace}
 use Rattle.ascii.specs.Trim.{Trims}
 
 -- it is white space
-pub all_white : (text left : List ℕ) → Trims text left → left ≡ [] → All IsWhitespace text
+pub all_white : (text left : List ℕ) → Trims IsWhitespace text left → left ≡ []
+    → All IsWhitespace text
 all_white text left trims nothing =
-    let middle : trims.2.cut ≡ trims.0 = ap (λ t. t ++ trims.2.cut) (sym nothing) ∙ trims.2.parts in
-    let both = All-append IsWhitespace trims.1.cut trims.0 trims.1.white
-    (subst (All IsWhitespace) middle trims.2.white) in
-    subst (All IsWhitespace) trims.1.parts both
+    let middle : trims.2.cut ≡ trims.0 =
+    ap (λ t. t ++ trims.2.cut) (sym nothing) ∙ trims.2.joined in
+    let both = All-append IsWhitespace trims.1.cut trims.0 trims.1.span.within
+    (subst (All IsWhitespace) middle trims.2.within) in
+    subst (All IsWhitespace) trims.1.span.joined both

@@ -5,7 +5,7 @@ use Rattle.std.specs.List.{All, AllZip, Contains}
 use Rattle.std.specs.declared.alloc.Global.{Global}
 use Rattle.std.specs.declared.result.Result.{Result}
 use Rattle.std.specs.declared.vec.Vec.{Vec}
-use Rattle.ascii.specs.Class.{IsTokenCode}
+use Rattle.ascii.specs.Class.{IsBlank, IsTokenCode}
 use Rattle.ascii.specs.First.{IsFirstAt}
 use Rattle.ascii.specs.Lines.{Line}
 use Rattle.ascii.specs.Spans.{LineSpansOf, WithStart}
@@ -19,14 +19,14 @@ use Rattle.cookbook.specs.declared.headers.Header.{Header}
 use Rattle.cookbook.specs.declared.headers.HeaderError.{HeaderError}
 use Rattle.cookbook.specs.declared.headers.HeaderError.TheVariants.{NoColon, NoName, NotToken}
 
--- `line` is `name`, a colon and a text that without leading and trailing whitespace is `value`;
--- `name` is not empty, and its codes are those that a header name may contain
+-- `line` is `name`, a colon and a text that without leading and trailing spaces and tabs is
+-- `value`; `name` is not empty, and its codes are those that a header name may contain
 pub record IsHeader (line name value : List ℕ) : Type 0 where
   pub some : name ≢ []
   pub token : All IsTokenCode name
   pub after : List ℕ
   pub joined : name ++ 58 ∷ after ≡ line
-  pub trimmed : Trims after value
+  pub trimmed : Trims IsBlank after value
 
 -- why `line` is not a header. `NoColon`: it contains no colon. `NoName`: it starts with a colon.
 -- `NotToken`: the code at the position that the error holds is the first one that a header name

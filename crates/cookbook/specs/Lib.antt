@@ -1,5 +1,5 @@
 pub mod Cases
-pub mod ClassSearch
+pub mod ErrorTexts
 pub mod Headers
 pub mod Hosts
 pub mod Identifiers

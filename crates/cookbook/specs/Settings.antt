@@ -20,15 +20,16 @@ IsWithoutComment line body = ((comment : List ℕ) × IsCutAt 35 line body comme
 -- leading and trailing whitespace; the key is not empty
 abbrev pub IsSetting : List ℕ → Setting → Type 0
 IsSetting body setting = (before : List ℕ) × (after : List ℕ) × IsCutAt 61 body before after
-    × Trims before (text_of setting.key) × Trims after (text_of setting.value)
-    × (text_of setting.key ≢ [])
+    × Trims IsWhitespace before (text_of setting.key)
+    × Trims IsWhitespace after (text_of setting.value) × (text_of setting.key ≢ [])
 
 -- why `body` is not a setting. `NoEquals`: it contains no `=`, and its first code that is not
 -- whitespace is at the position `place`. `NoKey`: only whitespace is before its first `=`, which is
 -- at the position `place`
 abbrev pub IsSettingError : List ℕ → SettingError → Type 0
 IsSettingError body (NoEquals place) =
-    ¬ (Contains body 61) × (place < length body) × TrimsStart body (drop place body)
+    ¬ (Contains body 61) × (place < length body)
+    × TrimsStart IsWhitespace body (drop place body)
 IsSettingError body (NoKey place) = (before : List ℕ) × (after : List ℕ)
     × IsCutAt 61 body before after × All IsWhitespace before × (place ≡ length before)
 

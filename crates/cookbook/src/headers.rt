@@ -1,48 +1,48 @@
-//! Reading the header lines of a message: a name, a colon and a value. Names are found without regard to case.
+//! Reading the header lines of a message: a name, a colon and a value. A header is found by its name, ignoring case.
 //!
-//! White space around a value is that of `trim`: beside space and tab also vertical tab, form feed and carriage
-//! return, which no value of a well-formed message has.
+//! Only spaces and tabs around a value are removed. Another character there, such as a vertical tab, stays in the value;
+//! the value of a well-formed message has none.
 
 ghost use Rattle.std.specs.Prelude.{◌≡◌};
 ghost use Rattle.ascii.specs.View.{text_of};
 ghost use Rattle.cookbook.specs.Headers.{FindsHeader, ReadsHeader, ReadsHeaders};
 
-use crate::class_search::first_outside;
-use ascii::classes::Token;
+use ascii::classes::{Blank, Token};
 use ascii::{AsciiChar, AsciiStr};
 use std::alloc::{AllocFailed, Global};
 
 /// A header line.
 #[derive(Clone, Copy, PartialEq, Eq, Debug)]
 pub struct Header<'a> {
-    /// What stands before the first colon, in the case that the line has.
+    /// The text before the first colon, in the case that the line has.
     pub name: AsciiStr<'a>,
-    /// What stands behind the first colon, without white space around it.
+    /// The text after the first colon, without spaces and tabs around it.
     pub value: AsciiStr<'a>,
 }
 
-/// Why a line is no header.
+/// Why a line is not a header.
 #[derive(Clone, Copy, PartialEq, Eq, Debug)]
 pub enum HeaderError {
     /// The line has no colon.
     NoColon,
-    /// Nothing stands before the colon.
+    /// There is nothing before the colon.
     NoName,
-    /// The character at this place of the line is the first before the colon that no name has.
+    /// The character at this position of the line is the first before the colon that no name may
+    /// have.
     NotToken(usize),
 }
 
-/// Why a block of lines was refused.
+/// Why a block of lines was rejected.
 #[derive(Clone, Copy, PartialEq, Eq, Debug)]
 pub enum HeaderBlockError {
-    /// The line of this number, counted from 0, is the first that is no header; it starts at this place of the
-    /// block.
+    /// The line at this index, counted from 0, is the first that is not a header; it starts at this
+    /// position of the block.
     InLine {
         number: usize,
         start: usize,
         error: HeaderError,
     },
-    /// A growth of the list of headers was refused.
+    /// The allocation for the list of headers failed.
     Memory,
 }
 
@@ -56,7 +56,8 @@ impl<T: Drop> From<AllocFailed<T>> for HeaderBlockError {
     }
 }
 
-/// The headers of a block of lines, in order. An empty line is no header, so the block has to end before it.
+/// Returns the headers of a block of lines, in order, or an error with the first line that is not a
+/// header. An empty line is not a header, so the block has to end before it.
 pub fn read_headers<'a>(
     alloc: Global,
     block: AsciiStr<'a>,
@@ -81,7 +82,9 @@ pub fn read_headers<'a>(
     Ok(headers)
 }
 
-/// The header of one line without its ending: `Host: a.example` has the name `Host` and the value `a.example`.
+/// Returns the header of one line without its ending, or an error. For `Host: a.example`, the name
+/// is `Host` and the value `a.example`.
+#[tactic(auto, using(ascii::proofs::CallerLemmas::span_all, ascii::proofs::CallerLemmas::span_first))]
 pub fn read_header<'a>(line: AsciiStr<'a>) -> Result<Header<'a>, HeaderError>
     ensures { ReadsHeader (text_of line.entry) result }
 {
@@ -91,14 +94,16 @@ pub fn read_header<'a>(line: AsciiStr<'a>) -> Result<Header<'a>, HeaderError>
     if name.is_empty() {
         return Err(HeaderError::NoName);
     }
-    if let Some(place) = first_outside::<Token>(name) {
-        return Err(HeaderError::NotToken(place));
+    let (token, rest) = name.span::<Token>();
+    if !rest.is_empty() {
+        return Err(HeaderError::NotToken(token.len()));
     }
-    let value = behind.trim();
+    let value = behind.trim_matches::<Blank>();
     Ok(Header { name, value })
 }
 
-/// The first header of a name, where case does not count: `HOST` finds `Host: a.example`.
+/// Returns the first header with the name, when case is ignored, or `None` if there is none: `HOST`
+/// finds `Host: a.example`.
 pub fn find_header<'a>(headers: &[Header<'a>], name: AsciiStr<'_>) -> Option<Header<'a>>
     ensures { FindsHeader headers.now (text_of name.entry) result }
 {

@@ -1,4 +1,4 @@
-//! Holding the name of a host: labels of letters, digits and hyphens, joined by dots. Case does not count.
+//! Host names: labels of letters, digits and hyphens, joined by dots. Case is ignored.
 
 ghost use Rattle.std.specs.Prelude.{◌≡◌, ◌+◌, ◌≤◌, ◌↔◌, IfErr, IfOk, IsTrue, MatchResult, OnOk};
 ghost use Rattle.std.specs.Prelude.{length};
@@ -8,7 +8,6 @@ ghost use Rattle.cookbook.specs.Cases.{EqIgnoringCase, lower_text, order_ignorin
 ghost use Rattle.cookbook.specs.Hosts.{OnlyFailsOnAlloc, IsHost, IsHostError, IsLabel};
 ghost use Rattle.cookbook.specs.Hosts.{IsLabelError, host_text};
 
-use crate::class_search::first_outside;
 use ascii::classes::Label;
 use ascii::iter::SplitSpan;
 use ascii::{AsciiChar, AsciiStr};
@@ -16,27 +15,27 @@ use ascii_run::{AsciiBuf, SmallAsciiString};
 use std::alloc::{AllocError, Global};
 use std::cmp::Ordering;
 
-/// The name of a host. It is kept in lower case, so that `==`, the order and the hash, which are those of what is
-/// kept, do not count case; names of at most 24 characters take no memory.
+/// A host name. It is kept in lower case, so that `==`, the order and the hash, which are those of
+/// what is kept, ignore case. A name of at most 24 characters does not allocate.
 #[derive(PartialEq, Eq, PartialOrd, Ord, Hash, Debug, Drop)]
 pub struct HostName {
     name: SmallAsciiString,
 }
 
-/// Why a name was refused. A place is that of a byte from the start of the name.
+/// Why a name was rejected. A position is that of a byte, counted from the start of the name.
 #[derive(Clone, Copy, PartialEq, Eq, Debug)]
 pub enum HostNameError {
     /// The name has more than 253 characters.
     TooLong,
-    /// The label that should start at this place is empty.
+    /// The label at this position is empty.
     EmptyLabel(usize),
-    /// The label that starts at this place has more than 63 characters.
+    /// The label at this position has more than 63 characters.
     LongLabel(usize),
-    /// The character at this place is no letter, digit, hyphen or dot.
+    /// The character at this position is not a letter, a digit, a hyphen or a dot.
     Character(usize),
-    /// The hyphen at this place is the first or the last character of its label.
+    /// The hyphen at this position is the first or the last character of its label.
     Hyphen(usize),
-    /// Memory was refused for a name of more than 24 characters.
+    /// The allocation for a name of more than 24 characters failed.
     Memory,
 }
 
@@ -51,8 +50,9 @@ impl From<AllocError> for HostNameError {
 }
 
 impl HostName {
-    /// The host of a name, or why the name is none: the first label that is wrong, and in it first its length.
-    /// `Example.ORG` is kept as `example.org`; `a..b` is refused with `EmptyLabel(2)`.
+    /// Returns the host of a name, or an error with the first label that is wrong, whose length is
+    /// tested first. `Example.ORG` is kept as `example.org`; for `a..b` the error is
+    /// `EmptyLabel(2)`.
     pub fn parse(alloc: Global, name: AsciiStr<'_>) -> Result<HostName, HostNameError>
         ensures host { OnOk result (IsHost (text_of name.entry)) }
         ensures text { IfOk result (λ host. host_text host ≡ lower_text (text_of name.entry)) }
@@ -70,7 +70,7 @@ impl HostName {
         Ok(HostName { name: kept })
     }
 
-    /// The name in lower case.
+    /// Returns the name in lower case.
     pub fn as_ascii_str(&self) -> AsciiStr<'_>
         ensures { text_of result ≡ host_text self.now }
     {
@@ -78,7 +78,8 @@ impl HostName {
     }
 }
 
-/// Whether two names are those of one host: `WWW.a.example` and `www.A.example` are.
+/// Returns `true` if two names are those of one host, as `WWW.a.example` and `www.A.example` are,
+/// or an error if one of them is not a host name.
 pub fn same_host(alloc: Global, a: AsciiStr<'_>, b: AsciiStr<'_>) -> Result<bool, HostNameError>
     ensures same { IfOk result (λ same.
         IsTrue same ↔ EqIgnoringCase (text_of a.entry) (text_of b.entry)) }
@@ -88,7 +89,8 @@ pub fn same_host(alloc: Global, a: AsciiStr<'_>, b: AsciiStr<'_>) -> Result<bool
     Ok(HostName::parse(alloc, a)? == HostName::parse(alloc, b)?)
 }
 
-/// The order of the hosts of two names: that of the names in lower case.
+/// Returns the order of the hosts of two names, which is that of the names in lower case, or an
+/// error if one of them is not a host name.
 pub fn host_order(
     alloc: Global,
     a: AsciiStr<'_>,
@@ -102,7 +104,8 @@ pub fn host_order(
     Ok(HostName::parse(alloc, a)?.cmp(&HostName::parse(alloc, b)?))
 }
 
-/// Rejects what is no label.
+/// Returns an error if the piece is not a valid label.
+#[tactic(auto, using(ascii::proofs::CallerLemmas::span_all, ascii::proofs::CallerLemmas::span_first))]
 fn check_label(label: SplitSpan<'_>) -> Result<(), HostNameError>
     requires { label.start + length (text_of label.text) ≤ usize.MAX }
     ensures { MatchResult result (λ _. IsLabel (text_of label.entry.text))
@@ -115,8 +118,9 @@ fn check_label(label: SplitSpan<'_>) -> Result<(), HostNameError>
     if text.len() > 63 {
         return Err(HostNameError::LongLabel(start));
     }
-    if let Some(i) = first_outside::<Label>(text) {
-        return Err(HostNameError::Character(start + i));
+    let (front, rest) = text.span::<Label>();
+    if !rest.is_empty() {
+        return Err(HostNameError::Character(start + front.len()));
     }
     if text.first() == Some(AsciiChar::Minus) {
         return Err(HostNameError::Hyphen(start));

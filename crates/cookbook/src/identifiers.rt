@@ -1,11 +1,10 @@
 //! A class of a caller's own, and a search for it: identifiers of letters, digits and `_`.
 
 ghost use Rattle.std.specs.Prelude.{◌≡◌};
+ghost use Rattle.ascii.specs.Trim.{IsSpan};
 ghost use Rattle.ascii.specs.View.{text_of};
-ghost use Rattle.cookbook.specs.ClassSearch.{FindsOther};
 ghost use Rattle.cookbook.specs.Identifiers.{IsIdentifierCode};
 
-use crate::class_search::first_outside;
 use ascii::AsciiStr;
 use ascii::classes::{Alphanumeric, Class, ClassBy};
 
@@ -23,10 +22,10 @@ impl Class for Identifier {
 
 impl<const N: usize> ClassBy<N> for Identifier {}
 
-/// Returns the position of the first character that an identifier cannot contain, or `None` if there
-/// is none: 5 for `a_max = 3`.
-pub fn identifier_end(text: AsciiStr<'_>) -> Option<usize>
-    ensures { FindsOther IsIdentifierCode (text_of text.entry) result }
+/// Returns the characters at the start of a text that an identifier can contain, and the rest of the text:
+/// `("a_max", " = 3")` for `a_max = 3`.
+pub fn split_identifier<'a>(text: AsciiStr<'a>) -> (AsciiStr<'a>, AsciiStr<'a>)
+    ensures { IsSpan IsIdentifierCode (text_of text.entry) (text_of result.0) (text_of result.1) }
 {
-    first_outside::<Identifier>(text)
+    text.span::<Identifier>()
 }

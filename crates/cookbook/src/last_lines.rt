@@ -55,7 +55,7 @@ pub fn is_open(view: AsciiStr<'_>) -> bool
     }
 }
 
-/// The lines that an iterator still owes, as a view: an empty one where it owes none.
+/// The lines that an iterator has yet to yield, as a view: an empty one if none remain.
 fn remaining_text<'a>(lines: &Lines<'a>) -> AsciiStr<'a>
     ensures { LinesOf (text_of result) lines.now }
 {

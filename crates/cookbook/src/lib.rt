@@ -1,9 +1,20 @@
-//! What users write over the library, proved from its public contracts: readers of headers,
-//! hosts, settings and tables; the last lines of a text, and what a screen shows of it; loops and adapters over
-//! characters, pieces and lines; edits of a part of a source, and texts as JSON values.
+//! Recipes: problems that users have, solved over the public contracts of `ascii` and `ascii_run` and proved.
+//!
+//! | You have | You want | Module |
+//! |---|---|---|
+//! | the header lines of a message | names and values, or the first line that is not a header | `headers` |
+//! | a host name | to check it, and to compare it when case is ignored | `hosts` |
+//! | a settings file, `key = value # comment` | the key and the value of a line | `settings` |
+//! | a table with tabs between the fields | the fields of a row | `table` |
+//! | a text that begins with an identifier | the identifier and the rest, by a class of one's own | `identifiers` |
+//! | a log | its last lines, and whether the last one is complete | `last_lines` |
+//! | text for a terminal | what a screen of a given width shows of it | `screen` |
+//! | an `AsciiString` and JSON | a value, and the string back | `values` |
+//!
+//! Each error prints a line and implements `Error`. Lines of an input are read by the crate `ascii_lines`.
 #![tactic(auto)]
 
-pub mod class_search;
+mod errors;
 pub mod headers;
 pub mod hosts;
 pub mod identifiers;

@@ -41,7 +41,7 @@ pub fn wrap_for_screen(
     Ok(ScreenText { text, column })
 }
 
-/// Puts out what a screen shows of a character at a column, and gives the column behind it.
+/// Appends what a screen shows of a character at a column, and returns the column after it.
 fn put(
     out: &mut AsciiString,
     ch: AsciiChar,
@@ -67,7 +67,7 @@ fn put(
     put_cell(out, ch, 0, width)
 }
 
-/// How many columns a character takes that is no LF.
+/// How many columns a character other than LF takes.
 fn cell_size(ch: AsciiChar, column: usize, width: usize) -> usize
     requires column { column ≤ width }
     requires other { code_of ch ≢ 10 }
@@ -88,7 +88,7 @@ fn spaces(column: usize, width: usize) -> usize
     (8 - column % 8).min(width - column)
 }
 
-/// Puts out the cell of a character that is no LF, and gives the column behind it.
+/// Appends the cell of a character other than LF, and returns the column after it.
 fn put_cell(
     out: &mut AsciiString,
     ch: AsciiChar,

@@ -1,30 +1,31 @@
-//! Reading a line of a file of settings: `key = value # comment`.
+//! Reading a line of a settings file: `key = value # comment`.
 
 ghost use Rattle.ascii.specs.View.{text_of};
 ghost use Rattle.cookbook.specs.Settings.{IsWithoutComment, ReadsSetting};
 
 use ascii::{AsciiChar, AsciiStr};
 
-/// A setting. White space around its key and its value is cut.
+/// A setting, without whitespace around its key and its value.
 #[derive(Clone, Copy, PartialEq, Eq, Debug)]
 pub struct Setting<'a> {
-    /// What stands before the first `=`; it is not empty.
+    /// The text before the first `=`; it is not empty.
     pub key: AsciiStr<'a>,
-    /// What stands behind the first `=`; it may be empty, and have more of them.
+    /// The text after the first `=`; it may be empty, and may have more of them.
     pub value: AsciiStr<'a>,
 }
 
-/// Why a line was refused. A place is that of a byte from the start of the line.
+/// Why a line was rejected. A position is that of a byte, counted from the start of the line.
 #[derive(Clone, Copy, PartialEq, Eq, Debug)]
 pub enum SettingError {
-    /// There is no `=` before the comment, in the words that begin at this place.
+    /// There is no `=` before the comment, in the text that begins at this position.
     NoEquals(usize),
-    /// No key stands before the `=` at this place.
+    /// There is no key before the `=` at this position.
     NoKey(usize),
 }
 
-/// What a line says: `None` where it has nothing but white space and a comment, else its setting. Of
-/// ` mode = fast # or slow` the key is `mode` and the value `fast`. White space is that of `trim`.
+/// Returns the setting of a line, `None` if the line has nothing but whitespace and a comment, or
+/// an error. For ` mode = fast # or slow` the key is `mode` and the value `fast`. Whitespace is
+/// that of `trim`.
 pub fn read_setting<'a>(line: AsciiStr<'a>) -> Result<Option<Setting<'a>>, SettingError>
     ensures { ReadsSetting (text_of line.entry) result }
 {

@@ -7,16 +7,17 @@ ghost use Rattle.cookbook.specs.Rows.{ReadsRow};
 use ascii::{AsciiChar, AsciiStr};
 use std::alloc::{AllocFailed, Global};
 
-/// Why a row was refused. A field is counted from 0, and a place is that of a byte from the start of the row.
+/// Why a row was rejected. A field is counted from 0, and a position is that of a byte from the
+/// start of the row.
 #[derive(Clone, Copy, PartialEq, Eq, Debug)]
 pub enum RowError {
-    /// This field is the first empty one; it stands at this place.
+    /// This field is the first empty one; it is at this position.
     Empty { field: usize, start: usize },
     /// The row has only this many fields.
     TooFew { found: usize },
-    /// The first field too many starts at this place.
+    /// The first extra field starts at this position.
     TooMany { start: usize },
-    /// A growth of the list of fields was refused.
+    /// The allocation for the list of fields failed.
     Memory,
 }
 
@@ -30,8 +31,9 @@ impl<T: Drop> From<AllocFailed<T>> for RowError {
     }
 }
 
-/// The fields of a row that has just as many as the table has columns, none of them empty: a row `Ann<tab>Rome`
-/// of 2 columns gives `Ann` and `Rome`. A row `Ann<tab>` is refused with `Empty { field: 1, start: 4 }`.
+/// Returns the fields of a row if it has as many as the table has columns and none is empty, or an
+/// error. A row `Ann<tab>Rome` of 2 columns has the fields `Ann` and `Rome`. For `Ann<tab>` the
+/// error is `Empty { field: 1, start: 4 }`.
 pub fn read_row<'a>(
     alloc: Global,
     row: AsciiStr<'a>,

@@ -117,7 +117,7 @@ impl Asked {
     }
 }
 
-/// A line that is no question.
+/// A line that is not a question.
 fn bad(random: &mut Random) -> Vec<u8> {
     let lines: [&[u8]; 24] = [
         b"",

@@ -132,7 +132,7 @@ fn main() -> ExitCode {
         return ExitCode::from(2);
     };
     println!("seed {seed}");
-    // A position that is no position makes the crate panic, which is an answer here.
+    // A position outside the text makes the upstream crate panic, which is an answer here.
     std::panic::set_hook(Box::new(|_| ()));
     let counts = match soak(program, seconds, seed) {
         Ok(counts) => counts,

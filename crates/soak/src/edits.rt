@@ -7,7 +7,7 @@
 //! - `g` PLACE get, `x` RANGE copy, `e` TEXT equal without case.
 //!
 //! The answer has the replies in order and then the text, apart by spaces: `.` done, `cCODE` or `c-`, `nNUMBER`,
-//! `t1` or `t0`, `=TEXT`, `!` for a bad position, `rPLACE` for a refusal, `+` for too many, `m` for no memory.
+//! `t1` or `t0`, `=TEXT`, `!` for a bad position, `rPLACE` for an error, `+` for too many, `m` for no memory.
 
 use crate::question::{Fault, Question, number_of, range_of, shown, text_named};
 use ascii::{AsciiChar, AsciiStr, AsciiString};
@@ -141,7 +141,7 @@ fn bare_command<'a>(word: &str) -> Result<Cmd<'a>, Fault> {
     }
 }
 
-/// A place, and what stands behind the colon.
+/// A position, and what comes after the colon.
 fn parts_of(rest: &str) -> Result<(usize, &str), Fault> {
     let (place, behind) = rest.split_once(':').ok_or(Fault::Bad)?;
     Ok((number_of(place)?, behind))

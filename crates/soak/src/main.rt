@@ -1,7 +1,7 @@
 //! `soak`: answers questions about texts, one line of standard input a question, one line of standard output
-//! an answer. A line that is no question is answered with `bad`.
+//! an answer. A line that is not a question is answered with `bad`.
 //!
-//! The words of a question stand apart by one space. The first names the call, and the others are what it takes:
+//! The words of a question are separated by one space. The first names the call, and the others are what it takes:
 //! bytes in lower case hexadecimal (the empty list is `-`), numbers in decimal, ranges as in Rust, a script of
 //! letters `F` and `B` (the empty one is `-`). The modules say which calls there are, and what is answered.
 #![tactic(auto)]

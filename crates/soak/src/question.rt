@@ -7,7 +7,7 @@ use std::alloc::{AllocError, AllocFailed, Global};
 /// Why a question has no answer.
 #[derive(Clone, Copy, Debug, PartialEq, Eq)]
 pub(crate) enum Fault {
-    /// It is no question.
+    /// It is not a question.
     Bad,
     /// There was no memory.
     Memory,
@@ -25,7 +25,7 @@ impl<T: Drop> From<AllocFailed<T>> for Fault {
     }
 }
 
-/// The words behind the name of a call, and where memory is taken.
+/// The words after the name of a call, and the allocator.
 #[derive(Clone, Copy)]
 pub(crate) struct Question<'a> {
     pub(crate) alloc: Global,

@@ -2,10 +2,10 @@
 //!
 //! - `turn_bytes BYTES`, `turn_text UTF8`, `turn_vec BYTES`, `turn_string UTF8`: `ok TEXT`, or `refused PLACE` and
 //!   the source;
-//! - `turn_chars TEXT`, `turn_boxes TEXT`: the text behind a way through lists of characters, or through the boxes,
+//! - `turn_chars TEXT`, `turn_boxes TEXT`: the text after a way through lists of characters, or through the boxes,
 //!   a `Vec` and a `String`;
-//! - `turn_write TEXT UTF8`, `turn_writechar TEXT NUMBER`: `ok TEXT` or `err TEXT` behind a piece or a character;
-//! - `turn_collect CODE TEXT`: the pieces at a separator collected, and then the lines put behind them.
+//! - `turn_write TEXT UTF8`, `turn_writechar TEXT NUMBER`: `ok TEXT` or `err TEXT` after a piece or a character;
+//! - `turn_collect CODE TEXT`: the pieces at a separator collected, and then the lines appended.
 
 use crate::question::{Fault, Question};
 use crate::texts::both;
@@ -124,7 +124,7 @@ fn char_written(question: &Question<'_>) -> Result<String, Fault> {
     behind(question, answer, &string)
 }
 
-/// Whether something was written, and the text behind it.
+/// Whether something was written, and the text after it.
 fn behind(question: &Question<'_>, is_ok: bool, string: &AsciiString) -> Result<String, Fault> {
     let text = question.shown(string.as_ascii_str().as_bytes())?;
     let answer = if is_ok { "ok" } else { "err" };

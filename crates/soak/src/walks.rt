@@ -1,10 +1,10 @@
-//! Walks over a text from both ends. The answers of the iterator stand apart by spaces, and for the empty script
+//! Walks over a text from both ends. The answers of the iterator are separated by spaces, and for the empty script
 //! there is none; a piece or a line is `TEXT`, one with its start `START:TEXT`, where there is none `none`.
 //!
 //! - `walk_split CODE TEXT SCRIPT`, `walk_lines TEXT SCRIPT`: the pieces at a separator, the lines;
 //! - `walk_splitrests CODE TEXT SCRIPT`, `walk_linerests TEXT SCRIPT`: each answer with `/` and what is left then;
 //! - `walk_splitspans FROM CODE TEXT SCRIPT`, `walk_linespans FROM TEXT SCRIPT`: the same with starts, of a text
-//!   that starts at a place; behind a line stands how it ends, `:lf`, `:crlf` or `:none`;
+//!   that starts at an offset; after a line comes how it ends, `:lf`, `:crlf` or `:none`;
 //! - `walk_chars TEXT SCRIPT`: each code with `/` and what is left.
 
 use crate::question::{Fault, Question, shown};
@@ -26,7 +26,7 @@ pub(crate) fn reply(question: &Question<'_>, call: &str) -> Result<String, Fault
     }
 }
 
-/// The answers of a walk, one behind the other.
+/// The answers of a walk, one after the other.
 #[derive(Drop)]
 struct Answers {
     alloc: Global,

@@ -1,4 +1,4 @@
-//! One growth is refused, and none before or behind it.
+//! One allocation fails, and none before or after it.
 
 use crate::FailNth;
 use ascii::AsciiChar;

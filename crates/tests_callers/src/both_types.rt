@@ -12,7 +12,7 @@ use ascii::{AsciiChar, AsciiStr, AsciiString};
 use ascii_run::{AsciiBuf, Cmd, Reply, SmallAsciiString, run};
 use std::alloc::{AllocError, Allocator, Global};
 
-/// The name of a header in lower case. Up to 24 characters it is never refused.
+/// The name of a header in lower case. Up to 24 characters it never fails.
 pub fn header_name(alloc: Global, name: AsciiStr<'_>) -> Result<SmallAsciiString, AllocError>
     ensures text { IfOk result (λ string. string.text ≡ map lower_image (text_of name.entry)) }
     ensures succeeds { length (text_of name.entry) ≤ inline_size → IsOk result }
@@ -32,7 +32,7 @@ pub fn letter(alloc: Global, ch: AsciiChar) -> SmallAsciiString
     string
 }
 
-/// Appends a view to a text in any form. Up to the sure length of the form it is never refused.
+/// Appends a view to a string of either type. Up to the sure length of the type it never fails.
 pub fn append<B: AsciiBuf>(buf: &mut B, view: AsciiStr<'_>) -> Result<(), AllocError>
     ensures ok { OnOk result
         ((B.state buf.new).text ≡ (B.state buf.old).text ++ text_of view.entry) }

@@ -9,7 +9,7 @@ ghost use Rattle.ascii.specs.WritingView.{borrow_of};
 
 use ascii::{AsAsciiStrError, AsciiRange, AsciiStrMut, bytes};
 
-/// Changes the letters of a part of a source to upper case, where the part is ASCII text. A refused
+/// Changes the letters of a part of a source to upper case, if the part is ASCII text. A rejected
 /// source is unchanged.
 pub fn upper_in(source: &mut [u8], range: AsciiRange) -> Result<(), AsAsciiStrError>
     ensures done { OnOk result (source.new ≡ upper_part source.old range) }

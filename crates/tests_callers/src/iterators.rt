@@ -115,8 +115,8 @@ pub fn copy_chars(alloc: Global, view: AsciiStr<'_>) -> Result<AsciiString, Allo
     Ok(string)
 }
 
-/// Appends the characters of a view in upper case. Where memory is refused, those before the refused
-/// one stay; it is never refused where all of them fit the capacity.
+/// Appends the characters of a view in upper case. If an allocation fails, those before the one that
+/// did not fit have been appended; it never fails if all of them fit the capacity.
 pub fn push_upper(string: &mut AsciiString, view: AsciiStr<'_>) -> Result<(), AllocError>
     ensures ok { OnOk result
         (string.new.text ≡ string.old.text ++ map upper_image (text_of view.entry)) }

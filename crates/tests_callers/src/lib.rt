@@ -3,8 +3,11 @@
 #![tactic(auto)]
 
 pub mod both_types;
+pub mod cuts;
+pub mod folded;
 pub mod in_place;
 pub mod iterators;
+pub mod numbers;
 pub mod prefixes;
 pub mod remainders;
 pub mod spans;

@@ -14,7 +14,7 @@ use ascii::iter::{End, LineSpan, LineSpans, Lines, Split, SplitSpans, take_end};
 use ascii::{AsciiChar, AsciiStr};
 use std::alloc::{AllocError, Global};
 
-/// The number of pieces of a view behind the first one.
+/// The number of pieces of a view after the first one.
 pub fn count_after_first(view: AsciiStr<'_>, on: AsciiChar) -> usize
     ensures { OfPieces view.entry on (λ pieces. result ≡ length pieces - 1) }
 {
@@ -32,7 +32,7 @@ pub fn count_before_last(view: AsciiStr<'_>) -> usize
     lines.count()
 }
 
-/// The number of lines of a view, and an iterator that still owes them all.
+/// The number of lines of a view, and an iterator that has yet to yield all of them.
 pub fn count_and_lines(view: AsciiStr<'_>) -> Result<(usize, Lines<'_>), AllocError>
     ensures { IfOk result (λ answer.
         LinesOf (text_of view.entry) answer.1 × (answer.0 ≡ length answer.1)) }
@@ -42,7 +42,7 @@ pub fn count_and_lines(view: AsciiStr<'_>) -> Result<(usize, Lines<'_>), AllocEr
     Ok((count, lines))
 }
 
-/// What stands behind the first two separators.
+/// The text after the first two separators.
 pub fn after_two_separators<'a>(view: AsciiStr<'a>, on: AsciiChar) -> Option<AsciiStr<'a>>
     ensures { OfPieces view.entry on (λ pieces. MatchOption result (drop 2 pieces ≡ [])
         (λ rest. Pieces (text_of rest) (code_of on) (drop 2 pieces))) }
@@ -53,7 +53,7 @@ pub fn after_two_separators<'a>(view: AsciiStr<'a>, on: AsciiChar) -> Option<Asc
     split.remainder()
 }
 
-/// A split that owes the same pieces as one that was stopped, where any is left.
+/// A split with the same remaining pieces as one that was stopped, if any remain.
 pub fn resume_split<'a>(split: &Split<'a>, on: AsciiChar) -> Option<Split<'a>>
     requires { code_of on ≡ split.now.on }
     ensures { MatchOption result (split.now.items ≡ [])
@@ -63,7 +63,7 @@ pub fn resume_split<'a>(split: &Split<'a>, on: AsciiChar) -> Option<Split<'a>>
     Some(rest.split(on))
 }
 
-/// An iterator that owes the same lines as one that was stopped, where any is left.
+/// An iterator with the same remaining lines as one that was stopped, if any remain.
 pub fn resume_lines<'a>(lines: &Lines<'a>) -> Option<Lines<'a>>
     ensures { MatchOption result (lines.now ≡ []) (λ other. other ≡ lines.now) }
 {
@@ -71,7 +71,7 @@ pub fn resume_lines<'a>(lines: &Lines<'a>) -> Option<Lines<'a>>
     Some(rest.lines())
 }
 
-/// A split that owes the same pieces with the same starts, where any is left.
+/// A split with the same remaining pieces and starts, if any remain.
 pub fn resume_split_spans<'a>(split: &SplitSpans<'a>, on: AsciiChar) -> Option<SplitSpans<'a>>
     requires { code_of on ≡ split.now.on }
     ensures { MatchOption result (split.now.items ≡ [])
@@ -81,7 +81,7 @@ pub fn resume_split_spans<'a>(split: &SplitSpans<'a>, on: AsciiChar) -> Option<S
     Some(rest.split_spans_from(on, start))
 }
 
-/// An iterator that owes the same lines with the same starts and endings, where any is left.
+/// An iterator with the same remaining lines, starts and endings, if any remain.
 pub fn resume_line_spans<'a>(lines: &LineSpans<'a>) -> Option<LineSpans<'a>>
     ensures { MatchOption result (lines.now ≡ []) (λ other. other ≡ lines.now) }
 {
@@ -96,7 +96,7 @@ pub fn take_line_span<'a>(lines: &mut LineSpans<'a>, end: End) -> Option<LineSpa
     take_end(lines, end)
 }
 
-/// The lengths of the pieces that a split still owes.
+/// The lengths of the pieces that a split has yet to yield.
 #[tactic(auto, using(ascii::proofs::StepsLemmas::run_of_first_and))]
 pub fn lengths_left(alloc: Global, split: Split<'_>) -> Result<Vec<usize>, AllocError>
     ensures { IfOk result (λ lengths. lengths.items ≡ map length split.entry.items) }

@@ -8,7 +8,7 @@ use ascii::{AsciiChar, AsciiString};
 use std::alloc::AllocError;
 use std::fmt::{self, Write};
 
-/// Puts a character in the place of the last one of a text that has one. It is never refused.
+/// Replaces the last character of a text that has one. It never fails.
 pub fn replace_last(string: &mut AsciiString, ch: AsciiChar) -> Result<(), AllocError>
     requires { 0 < length string.old.text }
     ensures ok { IsOk result }
@@ -19,7 +19,7 @@ pub fn replace_last(string: &mut AsciiString, ch: AsciiChar) -> Result<(), Alloc
     string.push(ch)
 }
 
-/// Moves the character at a position from 0 to the end of the text. It is never refused.
+/// Moves the character at a position, counted from 0, to the end of the text. It never fails.
 pub fn move_to_end(string: &mut AsciiString, idx: usize) -> Result<(), AllocError>
     requires { idx < length string.old.text }
     ensures ok { IsOk result }
@@ -30,8 +30,8 @@ pub fn move_to_end(string: &mut AsciiString, idx: usize) -> Result<(), AllocErro
     string.push(ch)
 }
 
-/// Cuts a text that is longer than `n` down to `n` characters and a mark behind them. It is never
-/// refused.
+/// Cuts a text that is longer than `n` down to `n` characters and a mark after them. It never
+/// fails.
 pub fn truncate_with_mark(
     string: &mut AsciiString,
     n: usize,
@@ -45,7 +45,7 @@ pub fn truncate_with_mark(
     string.push(mark)
 }
 
-/// Begins a text that is not empty anew with one character. It is never refused.
+/// Replaces a text that is not empty by one character. It never fails.
 pub fn replace_with_char(string: &mut AsciiString, ch: AsciiChar) -> Result<(), AllocError>
     requires { 0 < length string.old.text }
     ensures ok { IsOk result }
@@ -55,7 +55,7 @@ pub fn replace_with_char(string: &mut AsciiString, ch: AsciiChar) -> Result<(), 
     string.push(ch)
 }
 
-/// Writes nothing, which is never refused.
+/// Writes nothing, which never fails.
 pub fn write_nothing(string: &mut AsciiString) -> fmt::Result
     ensures ok { IsOk result }
     ensures text { string.new.text ≡ string.old.text }
@@ -70,7 +70,7 @@ pub fn spare_room(string: &AsciiString) -> usize
     string.capacity() - string.len()
 }
 
-/// The bytes of a text with one more in the room that the string had spare. It is never refused.
+/// The bytes of a text with one more in the room that the string had spare. It never fails.
 pub fn into_bytes_with_end(string: AsciiString, end: u8) -> Result<Vec<u8>, AllocError>
     requires { length string.text < string.capacity }
     ensures { IsOkAnd result (λ bytes. bytes.items ≡ string.text ++ end ∷ []) }
@@ -81,7 +81,7 @@ pub fn into_bytes_with_end(string: AsciiString, end: u8) -> Result<Vec<u8>, Allo
 }
 
 /// A text as a `String` with one character more in the room that the string had spare. It is never
-/// refused.
+/// fails.
 pub fn into_string_with_end(string: AsciiString) -> Result<String, AllocError>
     requires { length string.text < string.capacity }
     ensures { IsOkAnd result (λ text. string_bytes text ≡ string.text ++ codes ".") }

@@ -6,7 +6,7 @@ use crate::random::Random;
 use ascii::{AsAsciiStr, AsciiChar, AsciiStr};
 use std::collections::VecDeque;
 
-/// A character that often stands in the text.
+/// A character that is often in the text.
 fn separator(random: &mut Random, text: &[u8]) -> u8 {
     if text.is_empty() || random.below(8) == 0 {
         random.below(128) as u8
@@ -96,7 +96,7 @@ fn step<'a>(
     (item, rest)
 }
 
-/// The answers of a walk with what is left behind each.
+/// The answers of a walk, each with the remainder after it.
 fn rests(text: &[u8], mut items: VecDeque<Item>, script: &str) -> String {
     let said = script.chars().map(|end| {
         let (item, rest) = step(text, &mut items, end);

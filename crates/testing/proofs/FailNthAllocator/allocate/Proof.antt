@@ -1,4 +1,4 @@
--- `allocate` counts the growth, and refuses it or answers what the allocator inside answers. Assumes `Logic`.
+-- `allocate` counts the allocation, and fails or returns what the inner allocator returns. Assumes `Logic`.
 use Rattle.std.proofs.Common.{◌≡◌, ℕ, ◌^◌, ◌<◌, Bool, true, false, List, [], ◌∷◌, Ok, Err, refl, w64, Bor}
 use seplogic.Ra.Ura.{Ura}
 use mir.Syntax.{Ty, Args, Fn, a_type, dnil, dcons}

@@ -1,5 +1,5 @@
 -- The walk: the source is lent again for the view, the arm of the `match` uses the view or has the
--- refusal, and the source comes back at its last list. Assumes `Logic`.
+-- error, and the source is returned at its last list. Assumes `Logic`.
 use mathlib.Core.Path.{◌≡◌, refl, sym, ap, subst, ◌∙◌}
 use mathlib.Core.List.{List, [], ◌∷◌}
 use Prim.Native.Nat.{ℕ}
@@ -88,7 +88,7 @@ told_of a = enum_told (RS.the_type (V.the_row a) E.the_row) (
   ((row_laws E.the_row error_laws.the_row_laws error_laws.the_told, tt), tt),
 )
 
--- where an arm ends, the code behind the `match` runs
+-- when an arm ends, the code after the `match` runs
 abbrev then_runs : {M : Type 1} {𝓤 : Ura M} (𝓛 : Logic 𝓤) → Calls 𝓤 𝓛.H → Loops 𝓤 𝓛.H → Env 𝓤 𝓛.H
     → Body → Post 𝓤 𝓛.H → Post 𝓤 𝓛.H
 then_runs {𝓤 = 𝓤} 𝓛 C Λ E b q = any_q

@@ -1,0 +1,67 @@
+//! Callers that cut a view: at a prefix, at its last separator, at the end of a class, and into words.
+
+ghost use Rattle.std.specs.Prelude.{◌≡◌, ◌↔◌, ◌⊎◌, ◌∷◌, ◌++◌, [], All, IfOk, IfSome, IsTrue};
+ghost use Rattle.std.specs.Prelude.{codes, length, map};
+ghost use Rattle.ascii.specs.Class.{IsDigit, IsWhitespace};
+ghost use Rattle.ascii.specs.Pieces.{OfPieces};
+ghost use Rattle.ascii.specs.View.{text_of};
+ghost use Rattle.ascii.specs.Words.{OfWords};
+ghost use Rattle.tests_callers.specs.Cuts.{EndsWithPiece};
+
+use ascii::classes::Digit;
+use ascii::{AsciiChar, AsciiStr};
+use std::alloc::{AllocError, Global};
+
+/// The view without a prefix, or the view itself if it does not start with it.
+pub fn without_prefix<'a>(view: AsciiStr<'a>, prefix: AsciiStr<'_>) -> AsciiStr<'a>
+    ensures { (text_of prefix.entry ++ text_of result ≡ text_of view.entry)
+        ⊎ (text_of result ≡ text_of view.entry) }
+{
+    view.strip_prefix(prefix).unwrap_or(view)
+}
+
+/// The part of a file name after its last dot: its last piece.
+pub fn extension<'a>(name: AsciiStr<'a>) -> Option<AsciiStr<'a>>
+    ensures { IfSome result (λ end. OfPieces name.entry AsciiChar.Dot
+        (λ pieces. EndsWithPiece pieces (text_of end))) }
+{
+    let (_stem, end) = name.rsplit_once(AsciiChar::Dot)?;
+    Some(end)
+}
+
+/// The digits at the start of a view, and its unit: `("42", "px")` for `42px`.
+pub fn number_and_unit<'a>(view: AsciiStr<'a>) -> (AsciiStr<'a>, AsciiStr<'a>)
+    ensures joined { text_of result.0 ++ text_of result.1 ≡ text_of view.entry }
+    ensures digits { All IsDigit (text_of result.0) }
+{
+    view.span::<Digit>()
+}
+
+/// The first word of a view.
+pub fn first_word<'a>(view: AsciiStr<'a>) -> Option<AsciiStr<'a>>
+    ensures { IfSome result (λ word. All (λ code. ¬ (IsWhitespace code)) (text_of word)) }
+{
+    view.split_whitespace().next()
+}
+
+/// The number of words of a view.
+pub fn word_count(view: AsciiStr<'_>) -> usize
+    ensures { OfWords IsWhitespace view.entry (λ words. result ≡ length words) }
+{
+    view.split_whitespace().count()
+}
+
+/// The words of a view, in order.
+pub fn all_words<'a>(alloc: Global, view: AsciiStr<'a>) -> Result<Vec<AsciiStr<'a>>, AllocError>
+    ensures { IfOk result (λ views.
+        OfWords IsWhitespace view.entry (λ words. map text_of views.items ≡ words)) }
+{
+    view.split_whitespace().collect(alloc)
+}
+
+/// Returns `true` if the word is `GET`.
+pub fn is_get(word: AsciiStr<'_>) -> bool
+    ensures { IsTrue result ↔ (text_of word.entry ≡ codes "GET") }
+{
+    word.eq_text(AsciiStr::literal("GET"))
+}
