@@ -5,11 +5,14 @@
 
 mod both_ends;
 mod clones;
+mod folded;
 mod json;
 mod long_texts;
 mod mutable_views;
+mod numbers;
 mod of_ascii;
 mod remainders;
+mod replacements;
 mod searches;
 mod size_hints;
 mod small_texts;
@@ -18,6 +21,7 @@ mod strings;
 mod upstream_vectors;
 mod upstream_walks;
 mod views;
+mod words_and_trims;
 
 use std::alloc::Global;
 use std::fmt::Debug;

@@ -1,4 +1,4 @@
-//! Tests of the cookbook: texts whose parts are known from its rules, and bad input with its exact refusal.
+//! Tests of the cookbook: texts whose parts are known from its rules, and bad input with its exact error.
 #![tactic(auto)]
 
 #[cfg(test)]

@@ -1,18 +1,16 @@
-//! Each public call of the cookbook and of the line reader once, on texts that are written out by hand, and over
-//! sources that give little at a call or fail. `bin/examples` writes `of_ascii_lines.rt`, the examples in the
-//! documentation of the calls.
+//! Each public call of the cookbook once, on texts that are written out by hand.
 
 mod callers_in_place;
 mod callers_of_both_types;
+mod callers_of_cuts;
 mod callers_of_iterators;
 mod callers_of_spans;
+mod errors;
 mod headers;
 mod hosts;
 mod identifiers;
 mod json_round_trip;
 mod last_lines;
-mod line_reader;
-mod of_ascii_lines;
 mod screen;
 mod settings;
 mod table;

@@ -1,5 +1,5 @@
-//! Each growth of a call is refused in turn, and what the call then answers and leaves is compared; and where none is
-//! refused, no call gives up past a length.
+//! Each allocation of a call fails in turn, and what the call then returns and leaves is compared; and if none
+//! fails, no call gives up past a length.
 
 mod asks_no_memory;
 mod copies_leave_the_source;

@@ -4,6 +4,7 @@
 //! `of_ascii_devices.rt`, the examples in the documentation of the calls.
 
 mod both_types_agree;
+mod bounded_engine;
 mod byte_past_127_everywhere;
 mod command_replies;
 mod device_steps;

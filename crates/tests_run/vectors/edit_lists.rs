@@ -23,7 +23,7 @@ impl Picks {
         ((self.state >> 33) as usize).checked_rem(n).unwrap_or(0)
     }
 
-    /// Up to five letters that stand one behind the other in the alphabet.
+    /// Up to five letters that follow each other in the alphabet.
     fn piece(&mut self) -> &'static str {
         let start = self.below(20);
         let size = self.below(6);

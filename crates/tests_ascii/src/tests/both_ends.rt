@@ -37,7 +37,7 @@ where
     }
 }
 
-/// The answers of a walk, each with a bar behind it, and `~` for a `None`.
+/// The answers of a walk, each followed by a bar, with `~` for a `None`.
 fn joined(alloc: Global, answers: &[Option<AsciiStr<'_>>]) -> Result<AsciiString, AllocError> {
     let mut text = AsciiString::new(alloc);
     for answer in answers {

@@ -9,7 +9,7 @@ use std::process::Abort;
 
 const LENGTHS: [usize; 4] = [0, 1, 33, 5_000];
 
-/// As many characters `a`, each written behind the others.
+/// A text of `n` characters `a`, each written after the others.
 fn long<R: Abort + AllocGlobal>(rt: &R, length: usize) -> AsciiString {
     let mut string = AsciiString::new(rt.alloc());
     for _ in 0..length {

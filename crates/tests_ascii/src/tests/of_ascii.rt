@@ -1,8 +1,11 @@
 //! The examples in the documentation of `ascii`, made by `bin/examples`.
 
 use super::assert_debug;
+use ascii::classes::{Blank, Digit, Punctuation};
+use ascii::folded::FoldedStr;
 use ascii::iter::{End, take_end, walk_line_spans, walk_lines, walk_split, walk_split_spans};
 use ascii::json::{JsonError, char_from_json, char_to_json, str_from_json, string_from_json};
+use ascii::numbers::{Number, NumberError};
 use ascii::{
     AsAsciiStrError, AsciiChar, AsciiRange, AsciiStr, AsciiString, BoxedAsciiStr, CowAsciiStr,
     RcAsciiStr, bytes, string, text, vec,
@@ -135,20 +138,35 @@ fn ascii_str_5(rt: HostRuntime) {
         &(
             // AsciiStr::to_chars
             view("ab").to_chars(alloc).expect(&rt, "refused"),
+            // AsciiStr::folded
+            view("Host").folded() == view("HOST").folded(),
             // AsciiStr::starts_with_ignore_ascii_case
             view("Host: a").starts_with_ignore_ascii_case(view("hOST")),
             view("Host: a").starts_with_ignore_ascii_case(view("a")),
             // AsciiStr::strip_prefix_ignore_ascii_case
             view("Host: a").strip_prefix_ignore_ascii_case(view("hOST:")),
             view("Host: a").strip_prefix_ignore_ascii_case(view("a")),
+            // AsciiStr::ends_with_ignore_ascii_case
+            view("a.HTML").ends_with_ignore_ascii_case(view(".html")),
+            view("a.HTML").ends_with_ignore_ascii_case(view("a")),
         ),
-        "(['a', 'b'], true, false, Some(\" a\"), None)",
+        "(['a', 'b'], true, true, false, Some(\" a\"), None, true, false)",
     );
 }
 
 #[test]
 fn ascii_str_6(rt: HostRuntime) {
     let alloc = rt.alloc();
+    assert_debug(
+        &rt,
+        alloc,
+        &(
+            // AsciiStr::strip_suffix_ignore_ascii_case
+            view("a.HTML").strip_suffix_ignore_ascii_case(view(".html")),
+            view("a.HTML").strip_suffix_ignore_ascii_case(view("a")),
+        ),
+        "(Some(\"a\"), None)",
+    );
     // IntoIterator for AsciiStr::into_iter
     {
         let mut digit = false;
@@ -206,7 +224,7 @@ fn ascii_str_8(rt: HostRuntime) {
     let alloc = rt.alloc();
     // AsciiStr::split
     {
-        let mut pieces = view("foo;bar;baz").split(AsciiChar::Semicolon);
+        let mut pieces = AsciiStr::literal("foo;bar;baz").split(AsciiChar::Semicolon);
         assert_debug(&rt, alloc, &pieces.next(), "Some(\"foo\")");
         assert_debug(&rt, alloc, &pieces.next_back(), "Some(\"baz\")");
         assert_debug(&rt, alloc, &pieces.next(), "Some(\"bar\")");
@@ -237,6 +255,55 @@ fn ascii_str_8(rt: HostRuntime) {
 #[test]
 fn ascii_str_9(rt: HostRuntime) {
     let alloc = rt.alloc();
+    // AsciiStr::splitn
+    {
+        let mut pieces = view("a,b,c").splitn(2, AsciiChar::Comma);
+        assert_debug(&rt, alloc, &pieces.next(), "Some(\"a\")");
+        assert_debug(&rt, alloc, &pieces.next(), "Some(\"b,c\")");
+        assert_debug(&rt, alloc, &pieces.next(), "None");
+    }
+    // AsciiStr::word_spans
+    {
+        let mut spans = view(" ab c").word_spans::<Blank>();
+        assert_debug(
+            &rt,
+            alloc,
+            &spans.next(),
+            "Some(SplitSpan { start: 1, text: \"ab\" })",
+        );
+        assert_debug(
+            &rt,
+            alloc,
+            &spans.next_back(),
+            "Some(SplitSpan { start: 4, text: \"c\" })",
+        );
+        assert_debug(&rt, alloc, &spans.next(), "None");
+    }
+}
+
+#[test]
+fn ascii_str_10(rt: HostRuntime) {
+    let alloc = rt.alloc();
+    // AsciiStr::words
+    {
+        let mut words = view("a, b,,c").words::<Punctuation>();
+        assert_debug(&rt, alloc, &words.next(), "Some(\"a\")");
+        assert_debug(&rt, alloc, &words.next_back(), "Some(\"c\")");
+        assert_debug(&rt, alloc, &words.next(), "Some(\" b\")");
+        assert_debug(&rt, alloc, &words.next(), "None");
+    }
+    // AsciiStr::split_whitespace
+    {
+        let mut words = view(" a \t b\n").split_whitespace();
+        assert_debug(&rt, alloc, &words.next(), "Some(\"a\")");
+        assert_debug(&rt, alloc, &words.next(), "Some(\"b\")");
+        assert_debug(&rt, alloc, &words.next(), "None");
+    }
+}
+
+#[test]
+fn ascii_str_11(rt: HostRuntime) {
+    let alloc = rt.alloc();
     assert_debug(
         &rt,
         alloc,
@@ -247,6 +314,30 @@ fn ascii_str_9(rt: HostRuntime) {
                 .expect(&rt, "refused")
                 .to_string(alloc)
                 .expect(&rt, "refused"),
+            // AsciiStr::to_number
+            view("0042").to_number::<u8>(),
+            view("4.2").to_number::<u8>(),
+            view("256").to_number::<u8>(),
+            view("").to_number::<u8>(),
+            // AsciiStr::take_number
+            view("42 km").take_number::<u8>(),
+            view("km").take_number::<u8>(),
+            view("256 km").take_number::<u8>(),
+        ),
+        "(\"\\\"a\\\\\\\"b\\\"\", Ok(42), Err(NotDigit(1)), Err(TooLarge(2)), Err(Empty), Ok((42, \" km\")), Err(NotDigit(0)), Err(TooLarge(2)))",
+    );
+}
+
+#[test]
+fn ascii_str_12(rt: HostRuntime) {
+    let alloc = rt.alloc();
+    assert_debug(
+        &rt,
+        alloc,
+        &(
+            // AsciiStr::replace
+            view("a-b-c").replace(alloc, view("-"), view("::")),
+            view("aaa").replace(alloc, view("aa"), view("b")),
             // AsciiStr::find
             view("abcabc").find(view("bc")),
             view("abcabc").find(view("d")),
@@ -256,21 +347,21 @@ fn ascii_str_9(rt: HostRuntime) {
             // AsciiStr::contains
             view("abcabc").contains(view("ca")),
             view("abcabc").contains(view("ac")),
+            // AsciiStr::position
+            view("abcabc").position(AsciiChar::b),
+            view("abcabc").position(AsciiChar::d),
         ),
-        "(\"\\\"a\\\\\\\"b\\\"\", Some(1), None, Some(4), None, true, false)",
+        "(Ok(\"a::b::c\"), Ok(\"ba\"), Some(1), None, Some(4), None, true, false, Some(1), None)",
     );
 }
 
 #[test]
-fn ascii_str_10(rt: HostRuntime) {
+fn ascii_str_13(rt: HostRuntime) {
     let alloc = rt.alloc();
     assert_debug(
         &rt,
         alloc,
         &(
-            // AsciiStr::position
-            view("abcabc").position(AsciiChar::b),
-            view("abcabc").position(AsciiChar::d),
             // AsciiStr::rposition
             view("abcabc").rposition(AsciiChar::b),
             view("abcabc").rposition(AsciiChar::d),
@@ -283,21 +374,21 @@ fn ascii_str_10(rt: HostRuntime) {
             // AsciiStr::ends_with
             view("foobar").ends_with(view("bar")),
             view("foobar").ends_with(view("foo")),
+            // AsciiStr::strip_prefix
+            view("foobar").strip_prefix(view("foo")),
+            view("foobar").strip_prefix(view("bar")),
         ),
-        "(Some(1), None, Some(4), None, true, false, true, false, true, false)",
+        "(Some(4), None, true, false, true, false, true, false, Some(\"bar\"), None)",
     );
 }
 
 #[test]
-fn ascii_str_11(rt: HostRuntime) {
+fn ascii_str_14(rt: HostRuntime) {
     let alloc = rt.alloc();
     assert_debug(
         &rt,
         alloc,
         &(
-            // AsciiStr::strip_prefix
-            view("foobar").strip_prefix(view("foo")),
-            view("foobar").strip_prefix(view("bar")),
             // AsciiStr::strip_suffix
             view("foobar").strip_suffix(view("bar")),
             view("foobar").strip_suffix(view("foo")),
@@ -308,23 +399,51 @@ fn ascii_str_11(rt: HostRuntime) {
             // AsciiStr::split_once
             view("a=b=c").split_once(AsciiChar::Equal),
             view("abc").split_once(AsciiChar::Equal),
+            // AsciiStr::rsplit_once
+            view("a=b=c").rsplit_once(AsciiChar::Equal),
+            view("abc").rsplit_once(AsciiChar::Equal),
         ),
-        "(Some(\"bar\"), None, Some(\"foo\"), None, \"\\\"a\\\\\\\"b\\\"\", Some(\"foo\"), Some((\"a\", \"b=c\")), None)",
+        "(Some(\"foo\"), None, \"\\\"a\\\\\\\"b\\\"\", Some(\"foo\"), Some((\"a\", \"b=c\")), None, Some((\"a=b\", \"c\")), None)",
     );
 }
 
 #[test]
-fn ascii_str_12(rt: HostRuntime) {
+fn ascii_str_15(rt: HostRuntime) {
     let alloc = rt.alloc();
     assert_debug(
         &rt,
         alloc,
         &(
-            // AsciiStr::rsplit_once
-            view("a=b=c").rsplit_once(AsciiChar::Equal),
-            view("abc").rsplit_once(AsciiChar::Equal),
+            // AsciiStr::split_once_str
+            view("a: b: c").split_once_str(view(": ")),
+            view("a:b").split_once_str(view(": ")),
+            // AsciiStr::rsplit_once_str
+            view("a: b: c").rsplit_once_str(view(": ")),
+            view("a:b").rsplit_once_str(view(": ")),
+            // AsciiStr::literal
+            AsciiStr::literal("GET"),
+            // AsciiStr::span
+            view("42px").span::<Digit>(),
+            view("px").span::<Digit>(),
+            // AsciiStr::trim_matches
+            view(" \ta b ").trim_matches::<Blank>(),
+            view("007").trim_matches::<Digit>(),
+            // AsciiStr::trim_start_matches
+            view("42px7").trim_start_matches::<Digit>(),
         ),
-        "(Some((\"a=b\", \"c\")), None)",
+        "(Some((\"a\", \"b: c\")), None, Some((\"a: b\", \"c\")), None, \"GET\", (\"42\", \"px\"), (\"\", \"px\"), \"a b\", \"\", \"px7\")",
+    );
+}
+
+#[test]
+fn ascii_str_16(rt: HostRuntime) {
+    let alloc = rt.alloc();
+    // AsciiStr::trim_end_matches
+    assert_debug(
+        &rt,
+        alloc,
+        &view("42px7").trim_end_matches::<Digit>(),
+        "\"42px\"",
     );
 }
 
@@ -475,50 +594,67 @@ fn ascii_string_4(rt: HostRuntime) {
         assert_debug(&rt, alloc, &text.push_str(view("bar")), "Ok(())");
         assert_debug(&rt, alloc, &text, "\"foobar\"");
     }
-    // AsciiString::insert
+    // AsciiString::push_decimal
     {
-        let mut text = view("fo").to_ascii_string(alloc).expect(&rt, "refused");
-        assert_debug(&rt, alloc, &text.insert(0, AsciiChar::z), "Ok(())");
-        assert_debug(&rt, alloc, &text, "\"zfo\"");
+        let mut text = view("n = ").to_ascii_string(alloc).expect(&rt, "refused");
+        assert_debug(&rt, alloc, &text.push_decimal(42u64), "Ok(())");
+        assert_debug(&rt, alloc, &text, "\"n = 42\"");
     }
 }
 
 #[test]
 fn ascii_string_5(rt: HostRuntime) {
     let alloc = rt.alloc();
+    // AsciiString::insert
+    {
+        let mut text = view("fo").to_ascii_string(alloc).expect(&rt, "refused");
+        assert_debug(&rt, alloc, &text.insert(0, AsciiChar::z), "Ok(())");
+        assert_debug(&rt, alloc, &text, "\"zfo\"");
+    }
     // AsciiString::insert_str
     {
         let mut text = view("fo").to_ascii_string(alloc).expect(&rt, "refused");
         assert_debug(&rt, alloc, &text.insert_str(1, view("lo")), "Ok(())");
         assert_debug(&rt, alloc, &text, "\"floo\"");
     }
+}
+
+#[test]
+fn ascii_string_6(rt: HostRuntime) {
+    let alloc = rt.alloc();
     // AsciiString::remove
     {
         let mut text = view("foo").to_ascii_string(alloc).expect(&rt, "refused");
         assert_debug(&rt, alloc, &text.remove(0), "'f'");
         assert_debug(&rt, alloc, &text, "\"oo\"");
     }
-}
-
-#[test]
-fn ascii_string_6(rt: HostRuntime) {
-    let alloc = rt.alloc();
     // AsciiString::pop
     {
         let mut text = view("fo").to_ascii_string(alloc).expect(&rt, "refused");
         assert_debug(&rt, alloc, &text.pop(), "Some('o')");
         assert_debug(&rt, alloc, &text, "\"f\"");
     }
+}
+
+#[test]
+fn ascii_string_7(rt: HostRuntime) {
+    let alloc = rt.alloc();
     // AsciiString::truncate
     {
         let mut text = view("foo").to_ascii_string(alloc).expect(&rt, "refused");
         text.truncate(2);
         assert_debug(&rt, alloc, &text, "\"fo\"");
     }
+    // AsciiString::split_off
+    {
+        let mut text = view("foobar").to_ascii_string(alloc).expect(&rt, "refused");
+        assert_debug(&rt, alloc, &text.split_off(3), "Ok(\"bar\")");
+        assert_debug(&rt, alloc, &text, "\"foo\"");
+    }
 }
 
 #[test]
-fn ascii_string_7(rt: HostRuntime) {
+fn ascii_string_8(rt: HostRuntime) {
     let alloc = rt.alloc();
     // AsciiString::clear
     {
@@ -535,7 +671,7 @@ fn ascii_string_7(rt: HostRuntime) {
 }
 
 #[test]
-fn ascii_string_8(rt: HostRuntime) {
+fn ascii_string_9(rt: HostRuntime) {
     let alloc = rt.alloc();
     // AsciiString::make_ascii_uppercase
     {
@@ -562,7 +698,7 @@ fn ascii_string_8(rt: HostRuntime) {
 }
 
 #[test]
-fn ascii_string_9(rt: HostRuntime) {
+fn ascii_string_10(rt: HostRuntime) {
     let alloc = rt.alloc();
     assert_debug(
         &rt,
@@ -588,7 +724,7 @@ fn ascii_string_9(rt: HostRuntime) {
 }
 
 #[test]
-fn ascii_string_10(rt: HostRuntime) {
+fn ascii_string_11(rt: HostRuntime) {
     let alloc = rt.alloc();
     assert_debug(
         &rt,
@@ -608,7 +744,7 @@ fn ascii_string_10(rt: HostRuntime) {
 }
 
 #[test]
-fn ascii_string_11(rt: HostRuntime) {
+fn ascii_string_12(rt: HostRuntime) {
     let alloc = rt.alloc();
     // Hash for AsciiString::hash
     {
@@ -636,7 +772,7 @@ fn ascii_string_11(rt: HostRuntime) {
 }
 
 #[test]
-fn ascii_string_12(rt: HostRuntime) {
+fn ascii_string_13(rt: HostRuntime) {
     let alloc = rt.alloc();
     // Debug for AsciiString::fmt
     assert_debug(
@@ -659,7 +795,7 @@ fn ascii_string_12(rt: HostRuntime) {
 }
 
 #[test]
-fn ascii_string_13(rt: HostRuntime) {
+fn ascii_string_14(rt: HostRuntime) {
     let alloc = rt.alloc();
     // Write for AsciiString::write_str
     {
@@ -689,7 +825,7 @@ fn ascii_string_13(rt: HostRuntime) {
 }
 
 #[test]
-fn ascii_string_14(rt: HostRuntime) {
+fn ascii_string_15(rt: HostRuntime) {
     let alloc = rt.alloc();
     // AsciiString::extend_chars
     {
@@ -723,7 +859,7 @@ fn ascii_string_14(rt: HostRuntime) {
 }
 
 #[test]
-fn ascii_string_15(rt: HostRuntime) {
+fn ascii_string_16(rt: HostRuntime) {
     let alloc = rt.alloc();
     assert_debug(
         &rt,
@@ -753,7 +889,7 @@ fn ascii_string_15(rt: HostRuntime) {
 }
 
 #[test]
-fn ascii_string_16(rt: HostRuntime) {
+fn ascii_string_17(rt: HostRuntime) {
     let alloc = rt.alloc();
     assert_debug(
         &rt,
@@ -776,7 +912,7 @@ fn ascii_string_16(rt: HostRuntime) {
 }
 
 #[test]
-fn ascii_string_17(rt: HostRuntime) {
+fn ascii_string_18(rt: HostRuntime) {
     let alloc = rt.alloc();
     assert_debug(
         &rt,
@@ -812,7 +948,7 @@ fn ascii_string_17(rt: HostRuntime) {
 }
 
 #[test]
-fn ascii_string_18(rt: HostRuntime) {
+fn ascii_string_19(rt: HostRuntime) {
     let alloc = rt.alloc();
     // Deserialize for AsciiString::deserialize
     assert_debug(
@@ -1235,6 +1371,77 @@ fn json_error_1(rt: HostRuntime) {
 }
 
 #[test]
+fn number_error_1(rt: HostRuntime) {
+    let alloc = rt.alloc();
+    assert_debug(
+        &rt,
+        alloc,
+        &(
+            // Display for NumberError::fmt
+            NumberError::Empty.to_string(alloc).expect(&rt, "refused"),
+            NumberError::NotDigit(1)
+                .to_string(alloc)
+                .expect(&rt, "refused"),
+            NumberError::TooLarge(2)
+                .to_string(alloc)
+                .expect(&rt, "refused"),
+        ),
+        "(\"no digits\", \"the character at index 1 is not a digit\", \"the number is too large at index 2\")",
+    );
+}
+
+#[test]
+fn folded_1(rt: HostRuntime) {
+    let alloc = rt.alloc();
+    // folded::FoldedStr
+    assert_debug(&rt, alloc, &view("Host").folded(), "\"Host\"");
+}
+
+#[test]
+fn folded_str_1(rt: HostRuntime) {
+    let alloc = rt.alloc();
+    assert_debug(
+        &rt,
+        alloc,
+        &(
+            // FoldedStr::new
+            FoldedStr::new(view("Host")),
+            // FoldedStr::as_view
+            FoldedStr::new(view("Host")).as_view(),
+            // PartialEq for FoldedStr::eq
+            view("Host").folded() == view("Hosts").folded(),
+            // PartialOrd for FoldedStr::partial_cmp
+            view("HOST").folded() < view("hostess").folded(),
+            // Ord for FoldedStr::cmp
+            view("b").folded().cmp(&view("A").folded()),
+        ),
+        "(\"Host\", \"Host\", false, true, Greater)",
+    );
+    // Hash for FoldedStr::hash
+    {
+        let mut seen = HashSet::new(alloc);
+        seen.insert(view("Host").folded()).expect(&rt, "refused");
+        assert_debug(&rt, alloc, &seen.contains(&view("HOST").folded()), "true");
+    }
+}
+
+#[test]
+fn folded_str_2(rt: HostRuntime) {
+    let alloc = rt.alloc();
+    assert_debug(
+        &rt,
+        alloc,
+        &(
+            // Display for FoldedStr::fmt
+            format!(in alloc; "{}", view("Host").folded()).expect(&rt, "refused"),
+            // Debug for FoldedStr::fmt
+            format!(in alloc; "{:?}", view("Host").folded()).expect(&rt, "refused"),
+        ),
+        "(\"Host\", \"\\\"Host\\\"\")",
+    );
+}
+
+#[test]
 fn from_ascii_error_1(rt: HostRuntime) {
     let alloc = rt.alloc();
     assert_debug(
@@ -1448,10 +1655,29 @@ fn split_1(rt: HostRuntime) {
     );
     // Split::remainder
     {
-        let mut pieces = view("foo;bar;baz").split(AsciiChar::Semicolon);
+        let mut pieces = AsciiStr::literal("foo;bar;baz").split(AsciiChar::Semicolon);
         assert_debug(&rt, alloc, &pieces.next(), "Some(\"foo\")");
         assert_debug(&rt, alloc, &pieces.remainder(), "Some(\"bar;baz\")");
     }
+}
+
+#[test]
+fn split_n_1(rt: HostRuntime) {
+    let alloc = rt.alloc();
+    // Clone for SplitN::clone
+    {
+        let mut pieces = view("a,b,c").splitn(2, AsciiChar::Comma);
+        let mut copy = pieces.clone().expect(&rt, "refused");
+        assert_debug(&rt, alloc, &pieces.next(), "Some(\"a\")");
+        assert_debug(&rt, alloc, &copy.next(), "Some(\"a\")");
+    }
+    // Iterator for SplitN::next
+    assert_debug(
+        &rt,
+        alloc,
+        &view("a,b,c").splitn(1, AsciiChar::Comma).next(),
+        "Some(\"a,b,c\")",
+    );
 }
 
 #[test]
@@ -1481,6 +1707,68 @@ fn iter_1(rt: HostRuntime) {
             walk_line_spans(alloc, view("a\nb"), &[End::Front]).expect(&rt, "refused"),
         ),
         "(Some(\"y\"), [Some(\"b\"), Some(\"a\"), None], [Some(\"b\"), Some(\"a\")], [Some(SplitSpan { start: 2, text: \"b\" })], [Some(LineSpan { start: 0, text: \"a\", ending: Lf })])",
+    );
+}
+
+#[test]
+fn word_spans_1(rt: HostRuntime) {
+    let alloc = rt.alloc();
+    // Clone for WordSpans::clone
+    {
+        let mut spans = view(" a b").word_spans::<Blank>();
+        let mut copy = spans.clone().expect(&rt, "refused");
+        assert_debug(
+            &rt,
+            alloc,
+            &spans.next(),
+            "Some(SplitSpan { start: 1, text: \"a\" })",
+        );
+        assert_debug(
+            &rt,
+            alloc,
+            &copy.next(),
+            "Some(SplitSpan { start: 1, text: \"a\" })",
+        );
+    }
+    assert_debug(
+        &rt,
+        alloc,
+        &(
+            // Iterator for WordSpans::next
+            view(" a b").word_spans::<Blank>().next(),
+            // DoubleEndedIterator for WordSpans::next_back
+            view("a b ").word_spans::<Blank>().next_back(),
+        ),
+        "(Some(SplitSpan { start: 1, text: \"a\" }), Some(SplitSpan { start: 2, text: \"b\" }))",
+    );
+}
+
+#[test]
+fn words_1(rt: HostRuntime) {
+    let alloc = rt.alloc();
+    // Words::as_str
+    {
+        let mut words = view("a b c").split_whitespace();
+        assert_debug(&rt, alloc, &words.next(), "Some(\"a\")");
+        assert_debug(&rt, alloc, &words.as_str(), "\" b c\"");
+    }
+    // Clone for Words::clone
+    {
+        let mut words = view("a b").split_whitespace();
+        let mut copy = words.clone().expect(&rt, "refused");
+        assert_debug(&rt, alloc, &words.next(), "Some(\"a\")");
+        assert_debug(&rt, alloc, &copy.next(), "Some(\"a\")");
+    }
+    assert_debug(
+        &rt,
+        alloc,
+        &(
+            // Iterator for Words::next
+            view("  a b").split_whitespace().next(),
+            // DoubleEndedIterator for Words::next_back
+            view("a b  ").split_whitespace().next_back(),
+        ),
+        "(Some(\"a\"), Some(\"b\"))",
     );
 }
 
@@ -1521,6 +1809,22 @@ fn json_2(rt: HostRuntime) {
             ),
         ),
         "(Ok(\"foo\"), Err(NotText), Ok(\"foo\"))",
+    );
+}
+
+#[test]
+fn numbers_1(rt: HostRuntime) {
+    let alloc = rt.alloc();
+    assert_debug(
+        &rt,
+        alloc,
+        &(
+            // numbers::Number
+            <u8 as Number>::zero(),
+            25u8.with_digit(5),
+            25u8.with_digit(6),
+        ),
+        "(0, Some(255), None)",
     );
 }
 

@@ -8,14 +8,14 @@ use ascii::{AsciiChar, AsciiStr};
 use std::process::Abort;
 use testing::ascii;
 
-/// A script that stops at a place: the ends up to it, and those behind it.
+/// A script that stops at an index: the ends up to it, and those after it.
 #[derive(Clone, Copy)]
 pub struct Halves<'a> {
     pub front: &'a [End],
     pub behind: &'a [End],
 }
 
-/// The script cut at a place, or whole where that is behind its end.
+/// The script cut at an index, or whole if that is after its end.
 pub fn cut_at(script: &[End], place: usize) -> Halves<'_> {
     let (front, behind) = script.split_at(place.min(script.len()));
     Halves { front, behind }

@@ -57,6 +57,23 @@ fn prefixes_and_suffixes_are_those_of_str(rt: HostRuntime) {
     }
 }
 
+#[test]
+fn a_view_is_cut_at_a_text_as_in_str(rt: HostRuntime) {
+    for &(source, needle) in &PAIRS {
+        let (view, text) = (ascii(source), ascii(needle));
+        assert_same(
+            &rt,
+            texts_in(view.split_once_str(text)),
+            source.split_once(needle),
+        );
+        assert_same(
+            &rt,
+            texts_in(view.rsplit_once_str(text)),
+            source.rsplit_once(needle),
+        );
+    }
+}
+
 /// A text, and what `str` gives for `=` in it: its first and last position, and the two cuts.
 static CUTS: [(
     &str,
@@ -113,5 +130,28 @@ fn prefixes_ignore_the_case_of_letters_alone(rt: HostRuntime) {
             view.starts_with_ignore_ascii_case(text),
             want.is_some(),
         );
+    }
+}
+
+/// A text, a suffix, and what comes before the suffix if the case of letters is ignored.
+static FOLDED_ENDS: [(&str, &str, Option<&str>); 6] = [
+    ("a.HTML", ".html", Some("a")),
+    ("a.HTML", "", Some("a.HTML")),
+    ("html", ".html", None),
+    ("", "h", None),
+    ("a[", "{", None),
+    ("a@", "`", None),
+];
+
+#[test]
+fn suffixes_ignore_the_case_of_letters_alone(rt: HostRuntime) {
+    for &(source, suffix, want) in &FOLDED_ENDS {
+        let (view, text) = (ascii(source), ascii(suffix));
+        assert_same(
+            &rt,
+            text_in(view.strip_suffix_ignore_ascii_case(text)),
+            want,
+        );
+        assert_same(&rt, view.ends_with_ignore_ascii_case(text), want.is_some());
     }
 }

@@ -9,7 +9,7 @@ use ascii::iter::{
 use ascii::{AsciiChar, AsciiStr, bytes};
 use std::process::Abort;
 
-/// Whether these are the lines of a text: no body has LF, an ending is one that may stand behind its
+/// Whether these are the lines of a text: no body has LF, an ending is one that may follow its
 /// body, and the bodies and endings in order, each from its start, are the text.
 fn are_lines_of(text: &[u8], lines: &[LineSpan<'_>]) -> bool {
     let mut left = text;

@@ -9,7 +9,7 @@ use std::process::Abort;
 use testing::ascii;
 
 // For sources of length 0, 1 and 33 the outcomes of the ranges in the order of `ranges`: `w` for the
-// whole source, `e` for no byte, `f` for the first byte, `r` for a refusal, which names the length.
+// whole source, `e` for no byte, `f` for the first byte, `r` for an error, which holds the length.
 static OUTCOMES: [(usize, &str); 3] = [
     (0, "wwwrwrwrrrrrwwrwrwrrrrrrrrrrrrrrrrrrrrrrrrrrr"),
     (1, "wwewewwrrrrrewrreerrrrrrrrrrrrrrrrrrrrrrrrrrr"),
@@ -36,7 +36,7 @@ fn ranges(alloc: Global, length: usize) -> Result<Vec<AsciiRange>, AllocError> {
     Ok(all)
 }
 
-/// The length of a part for writing, or the position of the refusal.
+/// The length of a mutable part, or the position of the error.
 fn length_for_writing(source: &mut [u8], range: AsciiRange) -> Result<usize, usize> {
     match bytes::slice_ascii_mut(source, range) {
         Ok(view) => Ok(view.as_ascii_str().len()),
@@ -44,7 +44,7 @@ fn length_for_writing(source: &mut [u8], range: AsciiRange) -> Result<usize, usi
     }
 }
 
-/// The length of a text, or the position of the refusal.
+/// The length of a text, or the position of the error.
 fn length_of(slice: Result<&str, usize>) -> Result<usize, usize> {
     match slice {
         Ok(text) => Ok(text.len()),

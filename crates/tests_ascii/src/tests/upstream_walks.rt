@@ -4,7 +4,7 @@ use super::assert_same;
 use super::both_ends::{lines_walked, pieces_walked};
 use ascii::AsciiChar;
 
-// A text, ends, and what its split at a comma answers to them: a bar behind each, `~` for a `None`.
+// A text, ends, and what its split at a comma yields for them: a bar after each, `~` for a `None`.
 static SPLITS: [(&str, &str, &str); 24] = [
     (",,a,baba", "BFBFF", "baba||a||~|"),
     ("", "FBBFBFFF", "|~|~|~|~|~|~|~|"),

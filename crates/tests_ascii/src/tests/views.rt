@@ -5,7 +5,7 @@ use ascii::{AsAsciiStrError, AsciiChar, AsciiRange, AsciiStr, bytes, text};
 use std::cmp::Ordering;
 use testing::ascii;
 
-/// What a slice gave: its text, or the position of the refusal.
+/// The outcome of a slice: its text, or the position of the error.
 pub fn outcome(slice: Result<AsciiStr<'_>, AsAsciiStrError>) -> Result<&str, usize> {
     match slice {
         Ok(view) => Ok(view.as_str()),

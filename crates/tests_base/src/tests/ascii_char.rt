@@ -180,6 +180,7 @@ fn every_code(rt: HostRuntime) {
         assert_same(&rt, classes(ch), bits);
         for tried in 2..37u32 {
             assert_same(&rt, ch.is_digit(tried), tried >= radix);
+            assert_same(&rt, ch.to_digit(tried), ch.as_char().to_digit(tried));
         }
         assert_same(&rt, ch.to_ascii_uppercase().as_byte(), upper);
         assert_same(&rt, ch.to_ascii_lowercase().as_byte(), lower);
@@ -305,18 +306,18 @@ fn refusal_texts(rt: HostRuntime) {
 #[test]
 fn digits_in_strange_radixes(rt: HostRuntime) {
     for (ch, radix, want) in [
-        (AsciiChar::_0, 1, true),
-        (AsciiChar::_0, 0, false),
-        (AsciiChar::_5, 5, false),
-        (AsciiChar::z, 35, false),
-        (AsciiChar::z, 36, true),
+        (AsciiChar::_0, 1, Some(0)),
+        (AsciiChar::_0, 0, None),
+        (AsciiChar::_5, 5, None),
+        (AsciiChar::z, 35, None),
+        (AsciiChar::z, 36, Some(35)),
+        (AsciiChar::Slash, 36, None),
     ] {
-        assert_same(&rt, is_digit(ch, radix), want);
+        if radix <= 36 {
+            assert_same(&rt, ch.to_digit(radix), want);
+            assert_same(&rt, ch.is_digit(radix), want.is_some());
+        }
     }
-}
-
-fn is_digit(ch: AsciiChar, radix: u32) -> bool {
-    radix <= 36 && ch.is_digit(radix)
 }
 
 /// Two characters, and whether they are alike without case.

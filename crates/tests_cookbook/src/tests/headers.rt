@@ -16,7 +16,7 @@ static GOOD: [(&str, &str, &str); 6] = [
     ("!#$%&'*+-.^_`|~aZ09: b", "!#$%&'*+-.^_`|~aZ09", "b"),
 ];
 
-/// Lines that are refused, and why.
+/// Lines that are rejected, and why.
 static BAD: [(&str, HeaderError); 9] = [
     ("", HeaderError::NoColon),
     ("Host", HeaderError::NoColon),

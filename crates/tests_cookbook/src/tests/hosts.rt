@@ -22,7 +22,7 @@ static GOOD: [(&str, &str); 6] = [
     ("Z0", "z0"),
 ];
 
-/// Names that are refused, and why.
+/// Names that are rejected, and why.
 static BAD: [(&str, HostNameError); 15] = [
     ("", HostNameError::EmptyLabel(0)),
     (".", HostNameError::EmptyLabel(0)),

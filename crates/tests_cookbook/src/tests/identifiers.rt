@@ -1,21 +1,23 @@
 use super::assert_same;
-use ascii::classes::Digit;
-use cookbook::class_search::first_outside;
-use cookbook::identifiers::identifier_end;
+use cookbook::identifiers::split_identifier;
 use testing::ascii;
 
-#[test]
-fn ends_of_identifiers(rt: HostRuntime) {
-    assert_same(&rt, identifier_end(ascii("a_max = 3")), Some(5));
-    assert_same(&rt, identifier_end(ascii("_x9")), None);
-    assert_same(&rt, identifier_end(ascii("-")), Some(0));
-    assert_same(&rt, identifier_end(ascii("")), None);
-    let long = "a_name_of_more_than_sixty_four_characters_so_that_a_loop_is_taken_x9@";
-    assert_same(&rt, identifier_end(ascii(long)), Some(68));
-}
+/// A text, the identifier at its start, and the rest.
+static ROWS: [(&str, &str, &str); 4] = [
+    ("a_max = 3", "a_max", " = 3"),
+    ("_x9", "_x9", ""),
+    ("-a", "", "-a"),
+    (
+        "a_name_of_more_than_sixty_four_characters_so_that_a_loop_is_taken_x9@",
+        "a_name_of_more_than_sixty_four_characters_so_that_a_loop_is_taken_x9",
+        "@",
+    ),
+];
 
 #[test]
-fn first_outside_of_a_class(rt: HostRuntime) {
-    assert_same(&rt, first_outside::<Digit>(ascii("8080/x")), Some(4));
-    assert_same(&rt, first_outside::<Digit>(ascii("8080")), None);
+fn identifiers_at_the_start(rt: HostRuntime) {
+    for &(source, name, rest) in &ROWS {
+        let got = split_identifier(ascii(source));
+        assert_same(&rt, (got.0.as_str(), got.1.as_str()), (name, rest));
+    }
 }

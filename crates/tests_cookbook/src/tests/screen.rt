@@ -4,7 +4,7 @@ use super::assert_same;
 use cookbook::screen::wrap_for_screen;
 use testing::ascii;
 
-/// A text, a width, what goes out, and the column behind it.
+/// A text, a width, the output, and the column after it.
 static ROWS: [(&str, usize, &str, usize); 13] = [
     ("", 2, "", 0),
     ("ab", 2, "ab", 2),

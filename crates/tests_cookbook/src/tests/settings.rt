@@ -18,7 +18,7 @@ static GOOD: [(&str, &str, &str); 7] = [
 /// Lines that say nothing.
 static BLANK: [&str; 5] = ["", "  \t", "#", " # mode = fast", "\r"];
 
-/// Lines that are refused, and why.
+/// Lines that are rejected, and why.
 static BAD: [(&str, SettingError); 6] = [
     ("mode", SettingError::NoEquals(0)),
     ("  mode fast  # =", SettingError::NoEquals(2)),

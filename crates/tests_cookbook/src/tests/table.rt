@@ -5,7 +5,7 @@ use ascii::AsciiStr;
 use cookbook::table::{RowError, read_row};
 use testing::ascii;
 
-/// Rows that are refused, and why.
+/// Rows that are rejected, and why.
 static BAD: [(&str, RowError); 9] = [
     ("", RowError::Empty { field: 0, start: 0 }),
     ("\tb\tc", RowError::Empty { field: 0, start: 0 }),

@@ -56,7 +56,7 @@ fn nothing_to_add(rt: HostRuntime) {
     }
 }
 
-/// A call that makes a value out of nothing, or that refuses its source.
+/// A call that makes a value out of nothing, or that rejects its source.
 fn made(alloc: Global, heap: &Heap, call: &str) -> Result<String, AllocError> {
     let none: AsciiStr<'_> = view("");
     let script: [End; 0] = [];

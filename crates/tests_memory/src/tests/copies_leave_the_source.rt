@@ -4,7 +4,7 @@ use super::each_allocation::{
     Heap, shown, view, with_each_allocation_failing, with_each_two_allocations_failing,
 };
 use ascii::iter::{End, walk_line_spans, walk_lines, walk_split, walk_split_spans};
-use ascii::{AsciiChar, AsciiString, BoxedAsciiStr, RcAsciiStr};
+use ascii::{AsciiChar, AsciiStr, AsciiString, BoxedAsciiStr, RcAsciiStr};
 use std::alloc::{AllocError, Global};
 
 /// A call that makes a text.
@@ -25,6 +25,7 @@ fn made(alloc: Global, heap: &Heap, call: &str) -> Result<String, AllocError> {
         "to_ascii_string" => shown(alloc, source.to_ascii_string(heap)),
         "to_ascii_uppercase" => shown(alloc, source.to_ascii_uppercase(heap)),
         "to_ascii_lowercase" => shown(alloc, source.to_ascii_lowercase(heap)),
+        "replace" => replaced(alloc, heap, source),
         "to_chars" => shown(alloc, source.to_chars(heap)),
         "clone" => {
             let string = source.to_ascii_string(heap)?;
@@ -35,8 +36,17 @@ fn made(alloc: Global, heap: &Heap, call: &str) -> Result<String, AllocError> {
     }
 }
 
+/// The view with each comma replaced.
+fn replaced(alloc: Global, heap: &Heap, source: AsciiStr<'_>) -> Result<String, AllocError> {
+    let comma = view(",");
+    if comma.is_empty() {
+        return Err(AllocError);
+    }
+    shown(alloc, source.replace(heap, comma, view("--")))
+}
+
 /// A call that makes a text, and its answers.
-static TEXTS: [(&str, &[&str]); 10] = [
+static TEXTS: [(&str, &[&str]); 11] = [
     ("with_capacity", &["Err(AllocError)", "Ok(\"\")"]),
     ("from_char", &["Err(AllocError)", "Ok(\"a\")"]),
     ("from_chars", &["Err(AllocError)", "Ok(\"aB\")"]),
@@ -45,6 +55,7 @@ static TEXTS: [(&str, &[&str]); 10] = [
     ("to_ascii_string", &["Err(AllocError)", "Ok(\"aB,c\")"]),
     ("to_ascii_uppercase", &["Err(AllocError)", "Ok(\"AB,C\")"]),
     ("to_ascii_lowercase", &["Err(AllocError)", "Ok(\"ab,c\")"]),
+    ("replace", &["Err(AllocError)", "Ok(\"aB--c\")"]),
     ("to_chars", &["Err(AllocError)", "Ok(['a', 'B', ',', 'c'])"]),
     (
         "clone",

@@ -1,4 +1,4 @@
-//! Runs of a call with its first growth refused, its second, and so on.
+//! Runs of a call with its first allocation failing, its second, and so on.
 
 use ascii::{AsciiChar, AsciiStr, AsciiString, text};
 use std::alloc::{AllocError, Allocator, Global};
@@ -17,9 +17,9 @@ pub fn right<R: Abort>(rt: &R, is_right: bool, call: &str, run: u64, answer: &st
     assert!(rt; is_right, "{call}, run {run}: {answer}");
 }
 
-/// Runs a call with its first growth refused, then with its second, until a run meets no refusal. What the
-/// runs answer is `wanted`, in this order and each as often as it comes; the last is the answer with ample
-/// memory. A run with an error was refused before its call began, and is passed over.
+/// Runs a call with its first allocation failing, then with its second, until no allocation fails. The answers
+/// must be those of `wanted`, in this order, each at least once; the last is the answer with ample
+/// memory. A run with an error failed before its call began, and is skipped.
 pub fn with_each_allocation_failing<R: Abort + AllocGlobal, F>(
     rt: &R,
     call: &str,
@@ -33,7 +33,7 @@ where
     each_failure(rt, call, wanted, false, run)
 }
 
-/// Like `with_each_allocation_failing`, but the next growth after the refused one is refused too.
+/// Like `with_each_allocation_failing`, but the next allocation after the one that fails also fails.
 pub fn with_each_two_allocations_failing<R: Abort + AllocGlobal, F>(
     rt: &R,
     call: &str,
@@ -96,7 +96,7 @@ pub fn shown<T: fmt::Debug + Drop>(alloc: Global, answer: T) -> Result<String, A
     format!(in alloc; "{answer:?}")
 }
 
-/// What a call answered, the text behind it, and that text once more behind a further growth.
+/// What a call returned, the text after it, and that text again after one more allocation.
 pub fn told<T: fmt::Debug + Drop, A: Allocator>(
     alloc: Global,
     answer: T,

@@ -1,5 +1,5 @@
 //! Runs of a call whose memory is the program's own: all that there is is taken first, and then none, one, two and
-//! more blocks are let go.
+//! more blocks are freed.
 
 use super::each_allocation::right;
 use ascii::AsciiChar;
@@ -16,7 +16,7 @@ const MANY: u64 = 1_000;
 const ROOM: usize = 1 << 30;
 
 /// Takes all the memory that there is, in blocks of falling size: each half as large as those before, and below
-/// 1,024 bytes of every size, since small blocks that were let go are kept by their size. There is an error where
+/// 1,024 bytes of every size, since small freed blocks are cached by their size. There is an error if
 /// that takes too many of them: the allocator of `rt try`, which finds faults of memory, has small blocks without end.
 fn all_memory(alloc: Global) -> Result<Vec<Vec<u8>>, AllocError> {
     let mut held = Vec::with_capacity(alloc, 100_000)?;
@@ -77,7 +77,7 @@ impl Scarce {
         Ok(line)
     }
 
-    /// What a call answered, the text behind it, and that text once more behind a growth with all memory there.
+    /// What a call returned, the text after it, and that text again after a growth with all memory there.
     pub fn told<T: fmt::Debug + Drop>(
         self,
         answer: T,

@@ -1,4 +1,4 @@
-//! With nothing refused, no call gives up past a length. The calls that are not here stand in the tests of lengths of
+//! If no allocation fails, no call gives up past a length. The calls that are not here are in the tests of lengths of
 //! `tests_ascii` and `tests_run`.
 
 use super::assert_same;
@@ -86,7 +86,7 @@ fn spans<R: Abort + AllocGlobal>(rt: &R, source: AsciiStr<'_>) {
     assert_same(rt, written.starts_with(b"+0 none a"), !empty);
 }
 
-/// Lets the inline form of the view grow by each of the edits, and turns it into a string.
+/// Lets an inline string of the view grow by each of the edits, and converts it into an `AsciiString`.
 fn small<R: Abort + AllocGlobal>(rt: &R, source: AsciiStr<'_>) {
     let length = source.len();
     assert!(rt; length <= 5_000);

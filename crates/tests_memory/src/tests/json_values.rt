@@ -1,4 +1,4 @@
-//! JSON values, whose memory is the program's. The call is refused, and then gives the value.
+//! JSON values, whose memory is the program's. The call fails, and then returns the value.
 
 use super::each_allocation::{right, view};
 use super::each_free_block::{Scarce, with_each_free_block};
@@ -7,7 +7,7 @@ use ascii::json::char_to_json;
 use serde_json::Value;
 use std::alloc::{AllocError, Global};
 
-/// The text of a value, or the refusal.
+/// The text of a value, or the error.
 fn texted(scarce: Scarce, answer: Result<Value, AllocError>) -> Result<String, AllocError> {
     match answer {
         Ok(value) => scarce.shown(value.as_str()),

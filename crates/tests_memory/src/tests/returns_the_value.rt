@@ -1,4 +1,4 @@
-//! Calls that turn a value into another one: where memory is refused, the value comes back or stays.
+//! Calls that convert a value into another one: if the allocation fails, the value is returned or unchanged.
 
 use super::each_allocation::{Heap, right, shown, view, with_each_allocation_failing};
 use ascii::json::{JsonError, string_from_json};
@@ -11,7 +11,7 @@ fn came(alloc: Global, word: &str, text: AsciiStr<'_>) -> Result<String, AllocEr
     format!(in alloc; "{word}({text:?})")
 }
 
-/// A call that takes a value and gives it back where memory is refused.
+/// A call that takes a value and returns it if an allocation fails.
 fn turned(alloc: Global, heap: &Heap, call: &str) -> Result<String, AllocError> {
     let source = view("abc");
     match call {

@@ -85,7 +85,7 @@ fn mode_of(name: &str) -> Mode<'static> {
     }
 }
 
-/// Runs a mode over `INPUT` and over bytes that are not all ASCII, with each growth refused in turn.
+/// Runs a mode over `INPUT` and over bytes that are not all ASCII, with each allocation failing in turn.
 fn goes_out<R: Abort + AllocGlobal>(rt: &R, mode: Mode<'_>, name: &str, ample: &str) {
     let alloc = rt.alloc();
     let other: &[u8] = &[97, 98, 200, 201];

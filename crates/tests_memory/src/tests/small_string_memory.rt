@@ -31,7 +31,7 @@ fn grown(alloc: Global, start: &str, call: &str, left: Left) -> Result<String, A
     }
 }
 
-/// A growth of a text, its refusal, and what it puts before the text and behind it.
+/// A growth of a text, its error, and what it puts before the text and after it.
 static GROWTHS: [(&str, &str, &str, &str); 7] = [
     ("reserve", "AllocError", "", ""),
     ("push", "AllocError", "", "y"),
@@ -142,7 +142,7 @@ fn no_memory_for_short_texts(rt: HostRuntime) {
 }
 
 /// The replies of a run over a text that just fits inline, and the text at its end. The replies and copies have
-/// another heap, which refuses the growth behind `growths` others.
+/// another heap, in which the allocation after `growths` others fails.
 fn ran(alloc: Global, cmds: &[Cmd<'_>], growths: u64, left: Left) -> Result<String, AllocError> {
     let heap = FailNth::new(LocalHeap::new(alloc, 4096)?, growths);
     let mut string = SmallAsciiString::from_ascii_str(alloc, view("aaaaaaaaaaaaaaaaaaaaaaaa"))?;

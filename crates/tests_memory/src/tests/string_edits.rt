@@ -14,6 +14,7 @@ fn edited(alloc: Global, heap: &Heap, call: &str) -> Result<String, AllocError> 
     match call {
         "push" => told(alloc, string.push(AsciiChar::y), &mut string),
         "push_str" => told(alloc, string.push_str(view("yy")), &mut string),
+        "push_decimal" => told(alloc, string.push_decimal(42u64), &mut string),
         "insert" => told(alloc, string.insert(0, AsciiChar::w), &mut string),
         "insert_str" => told(alloc, string.insert_str(1, view("yy")), &mut string),
         "reserve" => told(alloc, string.reserve(100), &mut string),
@@ -21,6 +22,10 @@ fn edited(alloc: Global, heap: &Heap, call: &str) -> Result<String, AllocError> 
         "shrink_to_fit" => {
             string.reserve(100)?;
             told(alloc, string.shrink_to_fit(), &mut string)
+        }
+        "split_off" => {
+            let tail = string.split_off(0).map(|tail| tail.len());
+            told(alloc, tail, &mut string)
         }
         "write_str" => told(alloc, string.write_str("yy"), &mut string),
         "write_char" => told(alloc, string.write_char('y'), &mut string),
@@ -37,14 +42,16 @@ fn edited(alloc: Global, heap: &Heap, call: &str) -> Result<String, AllocError> 
 }
 
 /// A call on the string `x`, and its answers.
-static EDITS: [(&str, &[&str]); 9] = [
+static EDITS: [(&str, &[&str]); 11] = [
     ("push", &["Err(AllocError) x xz", "Ok(()) xy xyz"]),
     ("push_str", &["Err(AllocError) x xz", "Ok(()) xyy xyyz"]),
+    ("push_decimal", &["Err(AllocError) x xz", "Ok(()) x42 x42z"]),
     ("insert", &["Err(AllocError) x xz", "Ok(()) wx wxz"]),
     ("insert_str", &["Err(AllocError) x xz", "Ok(()) xyy xyyz"]),
     ("reserve", &["Err(AllocError) x xz", "Ok(()) x xz"]),
     ("reserve_exact", &["Err(AllocError) x xz", "Ok(()) x xz"]),
     ("shrink_to_fit", &["Err(AllocError) x xz", "Ok(()) x xz"]),
+    ("split_off", &["Err(AllocError) x xz", "Ok(1)  z"]),
     ("write_str", &["Err(Error) x xz", "Ok(()) xyy xyyz"]),
     ("write_char", &["Err(Error) x xz", "Ok(()) xy xyz"]),
 ];

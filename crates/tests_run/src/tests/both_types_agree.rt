@@ -46,7 +46,7 @@ fn any_command(picks: &mut Picks) -> Cmd<'static> {
     command(kind, picks)
 }
 
-/// The replies, one behind the other.
+/// The replies, one after the other.
 fn shown(alloc: Global, replies: &[Reply]) -> Result<String, AllocError> {
     let mut shown = String::new(alloc);
     for reply in replies {

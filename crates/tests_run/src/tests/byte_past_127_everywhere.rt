@@ -1,4 +1,4 @@
-//! A byte past 127 at every place, alone and with a second one behind it.
+//! A byte above 127 at every position, alone and with a second one after it.
 
 use super::assert_same;
 use ascii::{AsAsciiStrError, AsciiRange, AsciiStr, CopyError, bytes, string, text, vec};
@@ -8,7 +8,7 @@ use std::process::Abort;
 /// Around the widths of the loops over bytes.
 const LENGTHS: [usize; 8] = [0, 1, 31, 32, 33, 63, 64, 65];
 
-/// The position of a refusal, or `None` where a view was given.
+/// The position of an error, or `None` if a view was returned.
 fn position(answer: Result<AsciiStr<'_>, AsAsciiStrError>) -> Option<usize> {
     match answer {
         Ok(_) => None,
@@ -16,7 +16,7 @@ fn position(answer: Result<AsciiStr<'_>, AsAsciiStrError>) -> Option<usize> {
     }
 }
 
-/// Each way from bytes to a text refuses the source with the place, and accepts what ends before it.
+/// Each way from bytes to a text rejects the source with the position, and accepts what ends before it.
 fn bytes_refused<R: Abort>(rt: &R, source: &[u8], place: usize) {
     let wanted = Some(place);
     assert_same(rt, position(bytes::as_ascii_str(source)), wanted);

@@ -6,7 +6,7 @@ use ascii::{AsciiChar, AsciiRange, AsciiStr, text};
 use ascii_run::{Cmd, EngineFault, Mode, plain_run, run, runs_agree};
 use std::process::Abort;
 
-/// The replies to the commands, each with `; ` behind it, and then the text at the end.
+/// The replies to the commands, each followed by `; `, and then the text at the end.
 fn ran<R: Abort + AllocGlobal>(rt: &R, start: &str, cmds: &[Cmd<'_>]) -> String {
     let alloc = rt.alloc();
     let mut buf = view(start).to_ascii_string(alloc).expect(rt, "refused");

@@ -11,7 +11,7 @@ pub enum Step {
     Fails(ErrorKind),
 }
 
-/// Takes the next step: how many bytes may move. Behind the last step all do.
+/// Takes the next step: how many bytes may move. After the last step all do.
 fn follow(steps: &mut &[Step]) -> io::Result<usize> {
     let Some((step, others)) = steps.split_first() else {
         return Ok(usize::MAX);

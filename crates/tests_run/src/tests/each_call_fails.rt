@@ -1,4 +1,4 @@
-//! One byte a call, with each call refused in turn.
+//! One byte a call, with each call failing in turn.
 
 use super::assert_same;
 use super::device_steps::{Giving, KINDS, Step, Taking};

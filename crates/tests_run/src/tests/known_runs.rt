@@ -6,7 +6,7 @@ use ascii_run::{AsciiBuf, Cmd, SmallAsciiString, run};
 use std::alloc::{AllocError, Global};
 use testing::ascii;
 
-/// The replies to the commands, each with `; ` behind it, and then the text at the end.
+/// The replies to the commands, each followed by `; `, and then the text at the end.
 fn ran<B: AsciiBuf>(alloc: Global, buf: &mut B, cmds: &[Cmd<'_>]) -> Result<String, AllocError> {
     let replies = run(alloc, buf, cmds)?;
     let mut shown = String::new(alloc);
@@ -100,7 +100,7 @@ fn one_of_each_reply(rt: HostRuntime) {
     assert!(rt; both_give(rt.alloc(), "abc", &cmds, want).expect(&rt, "refused"));
 }
 
-/// What some edits of `abc` take out, and the texts behind them.
+/// What some edits of `abc` take out, and the texts after them.
 fn edited<B: AsciiBuf>(alloc: Global, buf: &mut B) -> Result<String, AllocError> {
     let mut shown = String::new(alloc);
     buf.push_str(ascii("abc"))?;

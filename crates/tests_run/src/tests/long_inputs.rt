@@ -8,7 +8,7 @@ use ascii_run::{Cmd, EngineFault, Input, Mode, Output, Reply, engine, run};
 use std::io;
 use std::process::Abort;
 
-const LENGTHS: [usize; 8] = [0, 1, 33, 5_000, 65_535, 65_536, 65_537, 300_000];
+const LENGTHS: [usize; 8] = [0, 1, 33, 5_000, 65_535, 65_536, 65_537, 1_000_000];
 
 /// As many bytes `a`, between a front and a back.
 fn bytes_of<R: Abort + AllocGlobal>(rt: &R, front: &str, length: usize, back: &str) -> Vec<u8> {
@@ -146,7 +146,7 @@ fn room_is_made_and_given_back(rt: HostRuntime) {
     assert_same(&rt, buf.as_ascii_str().as_str(), "x");
 }
 
-/// `json` of a long text of `a` with a character at a place, and how it stands there.
+/// `json` of a long text of `a` with a character at a position, and its form there.
 fn is_json_at<R: Abort + AllocGlobal>(rt: &R, place: usize, code: u8, form: &str) -> bool {
     let alloc = rt.alloc();
     let mut input = bytes_of(rt, "", place, "");

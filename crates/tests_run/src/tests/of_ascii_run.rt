@@ -3,8 +3,8 @@
 use super::assert_debug;
 use ascii::bytes;
 use ascii_run::{
-    AsciiBuf, AsciiChar, Cmd, EngineFault, Input, Mode, Output, SmallAsciiString, engine,
-    plain_run, run, run_both, runs_agree,
+    AsciiBuf, AsciiChar, BoundedFault, BoundedMode, Cmd, EngineFault, Input, Mode, Output,
+    SmallAsciiString, bounded_engine, engine, plain_run, run, run_both, runs_agree,
 };
 use std::alloc::AllocError;
 use std::collections::HashSet;
@@ -24,6 +24,28 @@ fn run_both_1(rt: HostRuntime) {
             .small,
         "\"FO\"",
     );
+}
+
+#[test]
+fn bounded_engine_1(rt: HostRuntime) {
+    let alloc = rt.alloc();
+    // bounded_engine
+    {
+        let mut output = Output::new(Vec::new(alloc));
+        let mode = BoundedMode::Upper;
+        assert_debug(
+            &rt,
+            alloc,
+            &bounded_engine(
+                alloc,
+                mode,
+                &mut Input::new(b"ab\n".as_slice()),
+                &mut output,
+            ),
+            "Ok(())",
+        );
+        assert_debug(&rt, alloc, &output.into_inner(), "[65, 66, 10]");
+    }
 }
 
 #[test]
@@ -346,6 +368,28 @@ fn engine_fault_1(rt: HostRuntime) {
             bytes::as_ascii_str(b"ab\xc4").map_err(EngineFault::from),
         ),
         "(\"the byte at index 2 is not ASCII\", \"bad position in command 0\", \"no memory\", Memory, Err(NotAscii(2)))",
+    );
+}
+
+#[test]
+fn bounded_fault_1(rt: HostRuntime) {
+    let alloc = rt.alloc();
+    assert_debug(
+        &rt,
+        alloc,
+        &(
+            // Display for BoundedFault::fmt
+            BoundedFault::NotAscii(2)
+                .to_string(alloc)
+                .expect(&rt, "refused"),
+            BoundedFault::TooLong
+                .to_string(alloc)
+                .expect(&rt, "refused"),
+            BoundedFault::Memory.to_string(alloc).expect(&rt, "refused"),
+            // From<AllocError> for BoundedFault::from
+            BoundedFault::from(AllocError),
+        ),
+        "(\"the byte at index 2 is not ASCII\", \"the input is too long\", \"no memory\", Memory)",
     );
 }
 

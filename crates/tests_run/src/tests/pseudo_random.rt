@@ -24,7 +24,7 @@ impl Picks {
         ((self.state >> 33) as usize).checked_rem(n).unwrap_or(0)
     }
 
-    /// Up to five letters that stand one behind the other in the alphabet.
+    /// Up to five letters that follow each other in the alphabet.
     pub fn piece(&mut self) -> AsciiStr<'static> {
         let start = self.below(20);
         let end = start.saturating_add(self.below(6));

@@ -1,14 +1,14 @@
-//! A reader of lines over sources that give little at a call, that fail, and that hold what it refuses.
+//! A line reader over sources that give little at a call, that fail, and that hold what it rejects.
 
 use super::assert_same;
-use ascii::iter::Ending;
-use ascii_lines::{CollectedLines, LineError, LineReader, OwnedLine, collect_lines};
-use ascii_run::Input;
+use ascii_lines::{
+    CollectedLines, Ending, Input, LineError, LineReader, OwnedLine, ReadPart, collect_lines,
+};
 use std::alloc::{AllocError, Global};
 use std::io::{self, ErrorKind};
 use std::process::Abort;
 
-/// A reader of bytes that gives so many at a call, fails at one call, and counts its calls.
+/// A reader of bytes that gives at most `step` of them at a call, fails at one call, and counts its calls.
 #[derive(Drop)]
 struct Counted<'a> {
     bytes: &'a [u8],
@@ -84,7 +84,7 @@ fn text_of(alloc: Global, number: u32, length: usize) -> Result<Vec<u8>, AllocEr
     Ok(text)
 }
 
-/// The bytes of lines that may stand in this order, each where it starts; `Absent` stands at the end alone.
+/// The bytes of lines that may be in this order, each where it starts; `Absent` is only at the end.
 fn joined<R: Abort>(rt: &R, alloc: Global, lines: &[OwnedLine]) -> Result<Vec<u8>, AllocError> {
     let mut bytes = Vec::new(alloc);
     let mut has_ended = false;
@@ -109,8 +109,8 @@ fn joined<R: Abort>(rt: &R, alloc: Global, lines: &[OwnedLine]) -> Result<Vec<u8
     Ok(bytes)
 }
 
-/// The lines of a text in a buffer of this size are the text; or the first line that was not handed out has no
-/// LF in so many bytes, and has more.
+/// The lines of a text in a buffer of this size are the text; or the first line that was not yielded has no
+/// LF among as many bytes as the buffer has, and has more.
 fn related<R: Abort>(rt: &R, alloc: Global, text: &[u8], size: usize, most: usize) {
     let kept = kept(alloc, giving(text, most), size).expect(rt, "refused");
     let front = joined(rt, alloc, &kept.lines).expect(rt, "refused");
@@ -207,7 +207,7 @@ fn a_failure_at_each_call(rt: HostRuntime) {
     assert_same(&rt, last.error, Some(LineError::Read));
 }
 
-/// The source is called so often before the first answer that is no line, and not once behind it.
+/// The source is called this often before the first answer other than a line, and not once after it.
 fn stays<R: Abort>(
     rt: &R,
     alloc: Global,
@@ -299,4 +299,65 @@ fn one_line_at_a_time(rt: HostRuntime) {
 fn no_memory_for_the_buffer(rt: HostRuntime) {
     let source = Input::new(b"abc".as_slice());
     assert!(rt; LineReader::new(rt.alloc(), source, usize::MAX).is_err());
+}
+
+/// Compares what a reader returns for a part with a text and its start.
+fn compare_part<R: Abort>(
+    rt: &R,
+    part: Result<ReadPart<'_>, LineError>,
+    want: Result<(u64, &str), LineError>,
+) {
+    assert_same(rt, part.map(|part| (part.start, part.text.as_str())), want);
+}
+
+#[test]
+fn parts_and_lines_in_turn(rt: HostRuntime) {
+    for most in [1, 2, 100] {
+        for size in [5, 6, 64] {
+            let source = giving(b"$5\r\na\nb\rc\r\nxyz", most);
+            let mut reader = LineReader::new(rt.alloc(), source, size).expect(&rt, "refused");
+            let line = reader
+                .next_line()
+                .map(|line| line.map(|line| line.text.len()));
+            assert_same(&rt, line, Ok(Some(2)));
+            compare_part(&rt, reader.read_exact_part(0), Ok((4, "")));
+            compare_part(&rt, reader.read_exact_part(5), Ok((4, "a\nb\rc")));
+            let line = reader.next_line().map(|line| line.map(|line| line.ending));
+            assert_same(&rt, line, Ok(Some(Ending::CrLf)));
+            compare_part(&rt, reader.read_exact_part(2), Ok((11, "xy")));
+            compare_part(
+                &rt,
+                reader.read_exact_part(3),
+                Err(LineError::Incomplete(1)),
+            );
+            compare_part(
+                &rt,
+                reader.read_exact_part(0),
+                Err(LineError::Incomplete(1)),
+            );
+            assert_same(&rt, reader.next_line(), Err(LineError::Incomplete(1)));
+        }
+    }
+}
+
+#[test]
+fn a_part_with_bad_input(rt: HostRuntime) {
+    let alloc = rt.alloc();
+    for most in [1, 100] {
+        let mut other = LineReader::new(alloc, giving(b"a\nbc\xffd", most), 4).expect(
+            &rt, "refused",
+        );
+        compare_part(&rt, other.read_exact_part(4), Ok((0, "a\nbc")));
+        compare_part(&rt, other.read_exact_part(2), Err(LineError::NotAscii(4)));
+        let mut long = LineReader::new(alloc, giving(b"abcdef", most), 4).expect(&rt, "refused");
+        compare_part(&rt, long.read_exact_part(1), Ok((0, "a")));
+        compare_part(&rt, long.read_exact_part(5), Err(LineError::TooLong(1)));
+        let mut failed = LineReader::new(alloc, failing(b"abc", 1, 2), 4).expect(&rt, "refused");
+        compare_part(&rt, failed.read_exact_part(3), Err(LineError::Read));
+        compare_part(&rt, failed.read_exact_part(1), Err(LineError::Read));
+        let mut ended = LineReader::new(alloc, giving(b"ab", most), 4).expect(&rt, "refused");
+        assert!(rt; ended.next_line().is_ok());
+        compare_part(&rt, ended.read_exact_part(1), Err(LineError::Incomplete(0)));
+        assert_same(&rt, ended.next_line(), Ok(None));
+    }
 }

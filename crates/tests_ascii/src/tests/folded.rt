@@ -1,0 +1,48 @@
+//! Folded views, compared with std's texts in lower case.
+
+use super::assert_same;
+use std::alloc::Global;
+use std::collections::{BTreeMap, HashMap};
+use std::process::Abort;
+use testing::ascii;
+
+/// Texts that differ in case, in one code, in length, and in codes next to the letters.
+static TEXTS: [&str; 10] = [
+    "", "host", "HOST", "Host", "hose", "HOSTS", "a@", "A`", "a[", "A{",
+];
+
+fn lower_text(rt: &impl Abort, alloc: Global, text: &str) -> String {
+    text.to_ascii_lowercase(alloc).expect(rt, "refused")
+}
+
+#[test]
+fn order_is_that_of_lower_texts(rt: HostRuntime) {
+    for &first in &TEXTS {
+        for &second in &TEXTS {
+            let lower = lower_text(&rt, rt.alloc(), first);
+            let other = lower_text(&rt, rt.alloc(), second);
+            let (one, two) = (ascii(first).folded(), ascii(second).folded());
+            assert_same(&rt, one == two, lower == other);
+            assert_same(&rt, one.cmp(&two), lower.cmp(&other));
+            assert_same(&rt, one < two, lower < other);
+        }
+    }
+}
+
+#[test]
+fn maps_find_the_name_in_any_case(rt: HostRuntime) {
+    let mut hashed = HashMap::new(rt.alloc());
+    let mut sorted = BTreeMap::new(rt.alloc());
+    let name = ascii("Content-Type").folded();
+    let in_hashed: Result<_, _> = hashed.insert(name, 7);
+    in_hashed.expect(&rt, "refused");
+    let in_sorted: Result<_, _> = sorted.insert(name, 7);
+    in_sorted.expect(&rt, "refused");
+    let same = ascii("content-TYPE").folded();
+    let other = ascii("content_type").folded();
+    assert_same(&rt, hashed.get(&same).copied(), Some(7));
+    assert_same(&rt, sorted.get(&same).copied(), Some(7));
+    assert_same(&rt, hashed.get(&other).copied(), None);
+    assert_same(&rt, sorted.get(&other).copied(), None);
+    assert_same(&rt, same.as_view().as_str(), "content-TYPE");
+}

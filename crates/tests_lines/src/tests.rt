@@ -1,0 +1,47 @@
+//! Each public call of `ascii_lines` over devices that give or take little at a call, or fail. `bin/examples`
+//! writes `of_ascii_lines.rt`, the examples in the documentation of the calls.
+
+mod line_reader;
+mod line_writer;
+mod of_ascii_lines;
+mod serving;
+
+ghost use Rattle.std.specs.Prelude.{◌≡◌, ◌∷◌, []};
+
+use ascii_lines::{AsciiStr, AsciiString, Handler, Next};
+use std::alloc::{AllocError, Global};
+use std::fmt::Debug;
+use std::process::Abort;
+
+/// Fails the test if `got` differs from `want`, and prints both.
+fn assert_same<T: PartialEq + Debug + Drop>(rt: &impl Abort, got: T, want: T) {
+    assert_eq!(rt; got, want);
+}
+
+/// Fails the test if `{:?}` of the value is not `want`.
+fn assert_debug(rt: &impl Abort, alloc: Global, value: &impl Debug, want: &str) {
+    match format!(in alloc; "{:?}", value) {
+        Ok(text) => assert_eq!(rt; text.as_str(), want),
+        Err(_) => panic!(rt; "no memory"),
+    }
+}
+
+/// A handler that replies with the text that it is handed.
+#[derive(Drop)]
+struct Echo;
+
+impl Handler for Echo {
+    ghost use Rattle.ascii_lines.specs.declared.serving.Next.TheVariants.{Line};
+
+    ghost answers = { λ old text replies next new. (replies ≡ text ∷ []) × (next ≡ Line) };
+
+    fn answer(
+        &mut self,
+        alloc: Global,
+        text: AsciiStr<'_>,
+        replies: &mut Vec<AsciiString>,
+    ) -> Result<Next, AllocError> {
+        replies.push(text.to_ascii_string(alloc)?)?;
+        Ok(Next::Line)
+    }
+}

@@ -1,0 +1,125 @@
+//! A line writer over sinks that take little at a call or fail.
+
+use super::assert_same;
+use ascii_lines::{Ending, LineWriter, Output, WriteError};
+use std::alloc::Global;
+use std::io::{self, ErrorKind};
+use std::process::Abort;
+use testing::ascii;
+
+/// A writer that takes at most `most` bytes at a call, fails at one call, and counts its calls.
+#[derive(Drop)]
+pub struct Counted {
+    pub taken: Vec<u8>,
+    most: usize,
+    fails: u64,
+    pub calls: u64,
+}
+
+/// A sink that fails at this call, from 0. A flush is a call.
+pub fn sink(alloc: Global, most: usize, fails: u64) -> Output<Counted> {
+    Output::new(Counted {
+        taken: Vec::new(alloc),
+        most,
+        fails,
+        calls: 0,
+    })
+}
+
+impl Counted {
+    /// Counts a call, which may be the one that fails.
+    fn count(&mut self) -> io::Result<()> {
+        let call = self.calls;
+        self.calls = call.saturating_add(1);
+        if call == self.fails {
+            return Err(io::Error::from(ErrorKind::Interrupted));
+        }
+        Ok(())
+    }
+}
+
+impl io::Write for Counted {
+    fn write(&mut self, buf: &[u8]) -> io::Result<usize> {
+        self.count()?;
+        let n = self.most.min(buf.len());
+        self.taken.extend_from_slice(&buf[..n])?;
+        Ok(n)
+    }
+
+    fn flush(&mut self) -> io::Result<()> {
+        self.count()
+    }
+}
+
+static LINES: [(&str, Ending); 5] = [
+    ("", Ending::Lf),
+    ("ab", Ending::CrLf),
+    ("abcdefgh", Ending::Lf),
+    ("c", Ending::Lf),
+    ("d", Ending::Absent),
+];
+
+static BYTES: &str = "\nab\r\nabcdefgh\nc\nd";
+
+/// Writes the lines and flushes, up to the first error.
+fn write_all(writer: &mut LineWriter<Output<Counted>>) -> Result<(), WriteError> {
+    for &(body, ending) in &LINES {
+        writer.write_line(ascii(body), ending)?;
+    }
+    writer.flush()
+}
+
+/// Whether the sink that a writer returns has taken these bytes, in this number of calls.
+fn compare<R: Abort>(rt: &R, writer: LineWriter<Output<Counted>>, taken: &[u8], calls: u64) {
+    let sink = writer.into_sink().into_inner();
+    assert!(rt; sink.taken.as_slice() == taken);
+    assert_same(rt, sink.calls, calls);
+}
+
+#[test]
+fn all_lines_go_out_through_any_buffer(rt: HostRuntime) {
+    for size in 0..20 {
+        for most in [1, 3, 100] {
+            let sink = sink(rt.alloc(), most, u64::MAX);
+            let mut writer = LineWriter::new(rt.alloc(), sink, size).expect(&rt, "refused");
+            assert_same(&rt, write_all(&mut writer), Ok(()));
+            let sink = writer.into_sink().into_inner();
+            assert!(rt; sink.taken.as_slice() == BYTES.as_bytes());
+        }
+    }
+}
+
+#[test]
+fn a_failure_at_each_call_leaves_a_prefix(rt: HostRuntime) {
+    for size in [0, 1, 4, 64] {
+        for fails in 0..18 {
+            let sink = sink(rt.alloc(), 1, fails);
+            let mut writer = LineWriter::new(rt.alloc(), sink, size).expect(&rt, "refused");
+            assert_same(&rt, write_all(&mut writer), Err(WriteError::Write));
+            let again = writer.write_line(ascii("x\n"), Ending::Lf);
+            assert_same(&rt, again, Err(WriteError::Write));
+            assert_same(&rt, writer.flush(), Err(WriteError::Write));
+            let taken = BYTES.as_bytes().get(..fails as usize);
+            compare(&rt, writer, taken.unwrap_or_default(), fails + 1);
+        }
+    }
+}
+
+#[test]
+fn a_line_break_in_the_body_changes_nothing(rt: HostRuntime) {
+    let sink = sink(rt.alloc(), 100, u64::MAX);
+    let mut writer = LineWriter::new(rt.alloc(), sink, 4).expect(&rt, "refused");
+    assert_same(&rt, writer.write_line(ascii("ab"), Ending::Lf), Ok(()));
+    for (body, place) in [("\n", 0), ("a\r", 1), ("abcdefgh\r\n", 8), ("a\nb\r", 1)] {
+        let error = writer.write_line(ascii(body), Ending::Absent);
+        assert_same(&rt, error, Err(WriteError::LineBreak(place)));
+    }
+    assert_same(&rt, writer.flush(), Ok(()));
+    compare(&rt, writer, b"ab\n", 2);
+}
+
+#[test]
+fn no_memory_for_the_buffer_of_a_writer(rt: HostRuntime) {
+    let sink = sink(rt.alloc(), 100, u64::MAX);
+    assert!(rt; LineWriter::new(rt.alloc(), sink, usize::MAX).is_err());
+}

@@ -1,0 +1,27 @@
+//! Each call that may run out of memory, with ample memory, at lengths that nobody would call short. What a call has to
+//! return is counted or written out by a plain loop.
+
+mod edits;
+mod input_lines;
+mod recipes;
+mod words;
+
+use ascii::AsciiString;
+use std::fmt::Debug;
+use std::process::Abort;
+use testing::ascii;
+
+/// Fails the test if `got` differs from `want`, and prints both.
+fn assert_same<T: PartialEq + Debug + Drop>(rt: &impl Abort, got: T, want: T) {
+    assert_eq!(rt; got, want);
+}
+
+/// The text of `piece`, `times` times.
+fn repeated<R: Abort + AllocGlobal>(rt: &R, piece: &str, times: usize) -> AsciiString {
+    let piece = ascii(piece);
+    let mut text = AsciiString::new(rt.alloc());
+    for _ in 0..times {
+        text.push_str(piece).expect(rt, "no memory");
+    }
+    text
+}

@@ -1,0 +1,36 @@
+//! Edits that allocate, on strings of 20,000 characters.
+
+use super::{assert_same, repeated};
+use ascii::AsciiChar;
+use testing::ascii;
+
+#[test]
+fn every_occurrence_is_replaced(rt: HostRuntime) {
+    let text = repeated(&rt, "a,", 10_000);
+    let new = text
+        .as_ascii_str()
+        .replace(rt.alloc(), ascii(","), ascii(", "))
+        .expect(&rt, "no memory");
+    assert!(rt; new == repeated(&rt, "a, ", 10_000));
+}
+
+#[test]
+fn cut_in_two(rt: HostRuntime) {
+    let mut text = repeated(&rt, "ab", 10_000);
+    assert!(rt; text.len() == 20_000);
+    let end = text.split_off(5_000).expect(&rt, "no memory");
+    assert!(rt; text == repeated(&rt, "ab", 2_500));
+    assert!(rt; end == repeated(&rt, "ab", 7_500));
+}
+
+#[test]
+fn numbers_are_appended(rt: HostRuntime) {
+    let mut text = repeated(&rt, "", 0);
+    for n in 0u64..10_000 {
+        text.push_decimal(n).expect(&rt, "no memory");
+    }
+    // 10 numbers of one digit, 90 of two, 900 of three, 9,000 of four
+    assert_same(&rt, text.len(), 38_890);
+    assert!(rt; text.as_ascii_str().ends_with(ascii("99989999")));
+    assert_same(&rt, text.as_ascii_str().first(), Some(AsciiChar::_0));
+}

@@ -1,0 +1,222 @@
+//! The library together with std and the kit's crates, one combination a test. docs/BESIDE.md quotes them.
+
+use super::assert_same;
+use anyhow::Context;
+use ascii::{AsAsciiStrError, AsciiChar, AsciiStr, AsciiString, bytes, string};
+use bstr::ByteSlice;
+use indexmap::IndexMap;
+use itertools::Itertools;
+use std::alloc::{AllocError, Global};
+use std::collections::{BTreeMap, HashMap, HashSet};
+use std::io::{BufRead, BufReader};
+use thiserror::Error;
+
+const NAMES: &str = "foo;bar;baz";
+
+/// Why a name was not read.
+#[derive(Debug, Drop, Error)]
+enum ReadError {
+    #[error("not ASCII: {0}")]
+    NotAscii(#[from] AsAsciiStrError),
+    #[error("no memory")]
+    Memory(#[from] AllocError),
+}
+
+fn read_name(alloc: Global, source: &[u8]) -> Result<AsciiString, ReadError> {
+    let view = bytes::as_ascii_str(source)?;
+    Ok(view.to_ascii_string(alloc)?)
+}
+
+#[test]
+fn thiserror_converts_the_errors(rt: HostRuntime) {
+    let error = read_name(rt.alloc(), b"ab\xc4").err();
+    assert_eq!(rt; error.is_some(), true);
+    if let Some(error) = error {
+        let line = format!(in rt.alloc(); "{error}").expect(&rt, "no memory");
+        assert_eq!(rt;
+            line.as_str(),
+            "not ASCII: the byte at index 2 is not ASCII"
+        );
+    }
+}
+
+fn header_length(source: &[u8]) -> anyhow::Result<usize> {
+    Ok(
+        bytes::as_ascii_str(source)
+            .context("reading the header")?
+            .len(),
+    )
+}
+
+#[test]
+fn anyhow_takes_the_errors(rt: HostRuntime) {
+    assert_same(&rt, header_length(b"Host: a").ok(), Some(7));
+    assert_same(&rt, header_length(b"H\xf6st").is_err(), true);
+}
+
+#[test]
+fn hash_map_with_owned_keys(rt: HostRuntime) {
+    let alloc = rt.alloc();
+    let mut sizes: HashMap<AsciiString, u32> = HashMap::new(alloc);
+    let name = AsciiStr::literal("foo")
+        .to_ascii_string(alloc)
+        .expect(&rt, "no memory");
+    let key = AsciiStr::literal("foo")
+        .to_ascii_string(alloc)
+        .expect(&rt, "no memory");
+    sizes
+        .insert(name, 3)
+        .map_err(AllocError::from)
+        .expect(&rt, "no memory");
+    assert_same(&rt, sizes.get(&key).copied(), Some(3));
+}
+
+#[test]
+fn hash_map_with_borrowed_keys(rt: HostRuntime) {
+    let mut sizes: HashMap<AsciiStr<'_>, u32> = HashMap::new(rt.alloc());
+    sizes
+        .insert(AsciiStr::literal("foo"), 3)
+        .map_err(AllocError::from)
+        .expect(&rt, "no memory");
+    assert_same(&rt, sizes.get(&AsciiStr::literal("foo")).copied(), Some(3));
+}
+
+#[test]
+fn hash_set_that_ignores_case(rt: HostRuntime) {
+    let mut seen = HashSet::new(rt.alloc());
+    let is_new = seen
+        .insert(AsciiStr::literal("Host").folded())
+        .expect(&rt, "no memory");
+    assert_same(&rt, is_new, true);
+    assert_same(
+        &rt,
+        seen.contains(&AsciiStr::literal("HOST").folded()),
+        true,
+    );
+}
+
+#[test]
+fn btree_map_in_the_order_of_the_bytes(rt: HostRuntime) {
+    let mut ranks: BTreeMap<AsciiStr<'_>, u32> = BTreeMap::new(rt.alloc());
+    ranks
+        .insert(AsciiStr::literal("b"), 2)
+        .map_err(AllocError::from)
+        .expect(&rt, "no memory");
+    ranks
+        .insert(AsciiStr::literal("B"), 1)
+        .map_err(AllocError::from)
+        .expect(&rt, "no memory");
+    assert_same(&rt, ranks.get(&AsciiStr::literal("b")).copied(), Some(2));
+}
+
+#[test]
+fn index_map_in_the_order_of_insertion(rt: HostRuntime) {
+    let mut sizes: IndexMap<AsciiStr<'_>, u32> = IndexMap::new(rt.alloc());
+    sizes
+        .insert(AsciiStr::literal("foo"), 3)
+        .map_err(AllocError::from)
+        .expect(&rt, "no memory");
+    assert_same(&rt, sizes.get(&AsciiStr::literal("foo")).copied(), Some(3));
+}
+
+#[test]
+fn itertools_joins_pieces(rt: HostRuntime) {
+    let mut pieces = AsciiStr::literal(NAMES).split(AsciiChar::Semicolon);
+    let joined = pieces.join(rt.alloc(), ", ").expect(&rt, "no memory");
+    assert_same(&rt, joined.as_str(), "foo, bar, baz");
+}
+
+#[test]
+fn itertools_sorts_pieces(rt: HostRuntime) {
+    let pieces = AsciiStr::literal(NAMES).split(AsciiChar::Semicolon);
+    let mut sorted = pieces.sorted(rt.alloc()).expect(&rt, "no memory");
+    assert_same(&rt, sorted.next(), Some(AsciiStr::literal("bar")));
+}
+
+#[test]
+fn adapters_of_iterators(rt: HostRuntime) {
+    let pieces = AsciiStr::literal("a;bb;ccc").split(AsciiChar::Semicolon);
+    let count = pieces
+        .enumerate()
+        .filter(|pair| pair.1.len() > pair.0)
+        .count();
+    assert_same(&rt, count, 3);
+}
+
+#[test]
+fn bstr_over_the_bytes(rt: HostRuntime) {
+    let view = AsciiStr::literal(NAMES);
+    assert_same(&rt, view.as_bytes().find(b"bar"), Some(4));
+}
+
+#[test]
+fn memchr_over_the_bytes(rt: HostRuntime) {
+    let view = AsciiStr::literal(NAMES);
+    assert_same(&rt, memchr::memmem::find(view.as_bytes(), b"baz"), Some(8));
+}
+
+#[test]
+fn str_calls_of_std(rt: HostRuntime) {
+    let view = AsciiStr::literal(NAMES);
+    assert_same(&rt, view.as_str().split_once(";"), Some(("foo", "bar;baz")));
+}
+
+#[test]
+fn str_parse_of_std(rt: HostRuntime) {
+    assert_same(
+        &rt,
+        AsciiStr::literal("-80").as_str().parse::<i16>().ok(),
+        Some(-80),
+    );
+}
+
+#[test]
+fn format_options(rt: HostRuntime) {
+    let view = AsciiStr::literal("foobar");
+    let line = format!(in rt.alloc(); "[{view:>8}] [{view:<8}] [{view:.3}]").expect(
+        &rt,
+        "no memory",
+    );
+    assert_same(&rt, line.as_str(), "[  foobar] [foobar  ] [foo]");
+}
+
+/// A key with a mark.
+#[derive(Clone, Copy, Drop, Debug, PartialEq, Eq, PartialOrd, Ord, Hash, Default)]
+struct MarkedKey<'a> {
+    key: AsciiStr<'a>,
+    mark: AsciiChar,
+}
+
+#[test]
+fn derives_of_std(rt: HostRuntime) {
+    let key = MarkedKey {
+        key: AsciiStr::literal("foo"),
+        mark: AsciiChar::Asterisk,
+    };
+    assert_same(&rt, key > MarkedKey::default(), true);
+    super::assert_debug(
+        &rt,
+        rt.alloc(),
+        &key,
+        "MarkedKey { key: \"foo\", mark: '*' }",
+    );
+}
+
+#[test]
+fn idna_gives_a_string(rt: HostRuntime) {
+    let host = idna::domain_to_ascii(rt.alloc(), "bücher.example").ok();
+    let host = host.and_then(|host| string::into_ascii_string(host).ok());
+    assert_same(&rt, host.as_ref().map(|host| host.len()), Some(21));
+}
+
+#[test]
+fn lines_of_a_reader_of_std(rt: HostRuntime) {
+    let alloc = rt.alloc();
+    let reader = BufReader::new(alloc, &b"a\nbc\n"[..]).expect(&rt, "no memory");
+    let mut length = 0usize;
+    for line in reader.lines(alloc) {
+        let line = line.expect(&rt, "read failed");
+        length = length.wrapping_add(string::into_ascii_string(line).map_or(0, |line| line.len()));
+    }
+    assert_same(&rt, length, 3);
+}
