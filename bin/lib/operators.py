@@ -1,0 +1,352 @@
+"""The mutants of a function: its body with one small change, by operators (relations, literals, deletions, arguments ..)."""
+import re
+from dataclasses import dataclass
+
+from tokens import KEYWORDS, OPENING, Function, Token, lex, partners, parts
+
+
+@dataclass
+class Mutant:
+    """A function with a change of its body. `kind` and `why` are the verdict, once it is judged."""
+
+    function: Function
+    operator: str
+    edits: list  # (start, end, new text), from the start of the file
+    shown: str
+    number: int = 0
+    kind: str = ""
+    why: str = ""
+    lines: tuple = ()  # the file, the first and the last line at which it was written
+
+    @property
+    def key(self):
+        """What names the mutant in a file of results; it depends on the text of its function only."""
+        edits = [(a - self.function.opens, b - self.function.opens, new) for a, b, new in self.edits]
+        return f"{self.function.file}:{self.function.block}:{self.function.name}:{self.operator}:{edits}"
+
+    @property
+    def name(self):
+        return f"{self.function.name}_mutant{self.number}"
+
+
+TURNED = {
+    "<": ["<="], "<=": ["<"], ">": [">="], ">=": [">"], "==": ["!="], "!=": ["=="],
+    "+": ["-"], "-": ["+"], "*": ["+"], "/": ["*"], "%": ["/"], "+=": ["-=", "="], "-=": ["+=", "="],
+    "&&": ["||"], "||": ["&&"], "&": ["|"], "|": ["&"], "^": ["|"], "<<": [">>"], ">>": ["<<"],
+}  # fmt: skip
+OPERATOR_OF = {
+    **dict.fromkeys(["<", "<=", ">", ">=", "==", "!="], "relation"),
+    **dict.fromkeys(["+", "-", "*", "/", "%", "+=", "-="], "arithmetic"),
+    **dict.fromkeys(["&&", "||", "&", "|", "^", "<<", ">>"], "logic"),
+}
+WORDS = [
+    ("first", "last"), ("start", "end"), ("front", "back"), ("Front", "Back"), ("upper", "lower"), ("uppercase", "lowercase"),
+    ("Upper", "Lower"), ("First", "Last"), ("before", "after"), ("min", "max"), ("any", "all"), ("some", "none"), ("ok", "err"),
+    ("memchr", "memrchr"), ("find", "rfind"), ("position", "rposition"), ("leading", "trailing"), ("ge", "gt"), ("lt", "le"),
+    ("ne", "eq"), ("insert", "remove"), ("left", "right"), ("add", "sub"), ("from", "to"), ("len", "capacity"),
+]  # fmt: skip
+SWAPS = {a: b for pair in WORDS for a, b in (pair, pair[::-1])}
+WHOLE = {"next": "next_back", "next_back": "next", "is_empty": "is_full", "pop": "clear"}
+
+
+class Operators:
+    """The mutants of one function."""
+
+    def __init__(self, function, text, names):
+        self.function, self.text, self.names = function, text, names
+        offset = function.opens
+        self.tokens = [
+            Token(it.kind, it.text, it.start + offset, it.end + offset) for it in lex(text[offset : function.end])
+        ]
+        self.pairs = partners(self.tokens)
+        self.made, self.seen = [], set()
+
+    def all(self):
+        for make in (
+            self.signs, self.literals, self.conditions, self.truths, self.deletions, self.arguments, self.arms,
+            self.defaults, self.words, self.options, self.variants, self.constants, self.variables, self.ranges, self.calls,
+            self.alternatives,
+        ):  # fmt: skip
+            make()
+        return self.made
+
+    def add(self, operator, *edits):
+        edits = sorted(edits)
+        new = self.written(edits)
+        if new in self.seen or "".join(new.split()) == "".join(self.text[self.function.opens : self.function.end].split()):
+            return
+        self.seen.add(new)
+        start = min(it[0] for it in edits)
+        line = self.text.count("\n", 0, start) + 1
+        shown = "; ".join(f"`{clip(self.text[a:b])}` -> `{clip(c)}`" for a, b, c in edits)
+        self.made.append(Mutant(self.function, operator, edits, f"{line}: {shown}"))
+
+    def written(self, edits):
+        text, at = "", self.function.opens
+        for start, end, new in edits:
+            text += self.text[at:start] + new
+            at = end
+        return text + self.text[at : self.function.end]
+
+    def span(self, first, last):
+        """The text of the tokens from `first` up to `last`, without it."""
+        return self.tokens[first].start, self.tokens[last - 1].end
+
+    def before(self, i):
+        return self.tokens[i - 1] if i else self.tokens[0]
+
+    def is_value(self, i):
+        """Whether the token may end a value."""
+        it = self.tokens[i]
+        return (it.kind in ("word", "number", "char", "text") and it.text not in KEYWORDS - {"self", "Self", "true", "false"}) or it.text in (")", "]", "?")
+
+    def closes_at(self, i, ends):
+        """The index of the first of these signs from `i` on that is in no bracket."""
+        while i < len(self.tokens) and self.tokens[i].text not in ends:
+            i = self.pairs.get(i, i) + 1 if self.tokens[i].text in OPENING else i + 1
+        return i
+
+    def signs(self):
+        for i, it in enumerate(self.tokens):
+            spaced = self.text[it.start - 1 : it.start].isspace() and self.text[it.end : it.end + 1].isspace()
+            if it.kind == "sign" and it.text in TURNED and spaced and i and self.is_value(i - 1):
+                for new in TURNED[it.text]:
+                    self.add(OPERATOR_OF[it.text], (it.start, it.end, new))
+            if it.text == "!" and it.kind == "sign" and self.before(i).kind != "word" and self.tokens[i + 1].text != "=":
+                self.add("negation", (it.start, it.end, ""))
+
+    def literals(self):
+        for it in self.tokens:
+            if it.kind == "number":
+                digits = re.match(r"0x[0-9a-fA-F_]+|0b[01_]+|[0-9_]+", it.text)[0]
+                value, suffix = int(digits.replace("_", ""), 0), it.text[len(digits) :]
+                for new in [value + 1] + [value - 1] * (value > 0):
+                    self.add("literal", (it.start, it.end, f"{new}{suffix}"))
+            elif it.kind == "char":
+                body = it.text[it.text.index("'") + 1 : -1]
+                code = {"\\n": 10, "\\t": 9, "\\r": 13, "\\\\": 92, "\\'": 39, "\\0": 0}.get(body)
+                if code is None and len(body) == 1:
+                    code = ord(body)
+                if code is None:
+                    continue
+                for new in [code + 1] + [code - 1] * (code > 0):
+                    written = chr(new) if 32 <= new < 127 and chr(new) not in "'\\" or new > 160 else f"\\x{new:02x}"
+                    self.add("literal", (it.start, it.end, it.text[: it.text.index("'")] + f"'{written}'"))
+            elif it.kind == "text" and "{" not in it.text:
+                inside = it.text[it.text.index('"') + 1 : -1]
+                for at in {0, len(inside) - 1}:
+                    if 0 <= at < len(inside) and "\\" not in inside[max(0, at - 1) : at + 1]:
+                        new = inside[:at] + ("x" if inside[at] != "x" else "y") + inside[at + 1 :]
+                        self.add("text", (it.start, it.end, it.text[: it.text.index('"') + 1] + new + '"'))
+                if inside:
+                    self.add("text", (it.start, it.end, it.text[: it.text.index('"') + 1] + '"'))
+
+    def conditions(self):
+        for i, it in enumerate(self.tokens):
+            if it.kind == "word" and it.text in ("if", "while") and self.tokens[i + 1].text != "let":
+                end = self.closes_at(i + 1, {"{", "=>"})
+                a, b = self.span(i + 1, end)
+                self.add("condition", (a, b, f"!({self.text[a:b]})"))
+                if it.text == "if":
+                    self.add("condition", (a, b, "true"))
+                self.add("condition", (a, b, "false"))
+
+    def truths(self):
+        for it in self.tokens:
+            if it.kind == "word" and it.text in ("true", "false"):
+                self.add("truth", (it.start, it.end, "false" if it.text == "true" else "true"))
+            if it.kind == "word" and it.text in ("break", "continue"):
+                self.add("truth", (it.start, it.end, "continue" if it.text == "break" else "break"))
+
+    def deletions(self):
+        for opening, closing in self.pairs.items():
+            if self.tokens[opening].text != "{" or opening > closing:
+                continue
+            i = opening + 1
+            while i < closing:
+                start = i
+                first = self.tokens[i]
+                at = i + 1 if first.kind == "label" and self.tokens[i + 1].text == ":" else i
+                at += at != i
+                is_block = self.tokens[at].text in ("if", "while", "for", "loop", "match", "unsafe", "{")
+                i = self.closes_at(at, {";", "{"} if is_block else {";"})
+                i = min(i, closing)
+                while is_block and i < closing and self.tokens[i].text == "{":
+                    i = self.pairs[i] + 1
+                    if i < closing and self.tokens[i].text == "else":
+                        i = self.closes_at(i, {"{"})
+                    elif i < closing and self.tokens[i].text in (".", "?"):
+                        i, is_block = min(self.closes_at(i, {";"}), closing), False
+                if i < closing and self.tokens[i].text == ";":
+                    i += 1
+                elif not is_block:
+                    break
+                if first.text == "let" and self.tokens[start + 1].text != "_":
+                    continue
+                a, b = self.span(start, i)
+                if "=>" not in {t.text for t in self.tokens[start:i]} or is_block or self.tokens[i - 1].text == ";":
+                    self.add("deletion", (a, b, ""))
+
+    def arguments(self):
+        for i, it in enumerate(self.tokens):
+            if it.text != "(" or it.kind != "sign" or i not in self.pairs or self.before(i).kind != "word" or self.before(i).text in KEYWORDS:
+                if not (it.text == "(" and self.before(i).text == ">"):
+                    continue
+            args = parts(self.tokens[i + 1 : self.pairs[i]])
+            for one, two in zip(args, args[1:]):
+                a, b, c, d = one[0].start, one[-1].end, two[0].start, two[-1].end
+                if self.text[a:b] != self.text[c:d]:
+                    self.add("arguments", (a, b, self.text[c:d]), (c, d, self.text[a:b]))
+
+    def arms(self):
+        for i, it in enumerate(self.tokens):
+            if it.text != "match" or it.kind != "word":
+                continue
+            opening = self.closes_at(i + 1, {"{"})
+            bodies, at = [], opening + 1
+            while at < self.pairs[opening]:
+                arrow = self.closes_at(at, {"=>"})
+                start = arrow + 1
+                if self.tokens[start].text == "{":
+                    end = self.pairs[start] + 1
+                    at = end + (self.tokens[end].text == ",")
+                else:
+                    end = min(self.closes_at(start, {","}), self.pairs[opening])
+                    at = end + 1
+                bodies.append(self.span(start, end))
+            for (a, b), (c, d) in zip(bodies, bodies[1:]):
+                self.add("arms", (a, b, self.text[c:d]), (c, d, self.text[a:b]))
+
+    def defaults(self):
+        kinds = {
+            "": [""], "bool": ["true", "false"], "( )": [""], "Result < ( ) , AllocError >": ["Ok(())"],
+            "Self": [], "char": ["'a'"], "f64": [],
+        }  # fmt: skip
+        result = self.function.result
+        news = kinds.get(result)
+        if news is None and re.fullmatch(r"[ui](8|16|32|64|size)", result):
+            news = ["0", "1"]
+        elif news is None and result.startswith("Option <"):
+            news = ["None"]
+        elif news is None and result.startswith("Result < ( )"):
+            news = ["Ok(())"]
+        for new in news or []:
+            self.add("default", (self.function.opens, self.function.end, f"{{ {new} }}" if new else "{}"))
+
+    def words(self):
+        for i, it in enumerate(self.tokens):
+            if it.kind != "word" or it.text in KEYWORDS:
+                continue
+            if it.text in WHOLE and self.before(i).text == ".":
+                self.add("word", (it.start, it.end, WHOLE[it.text]))
+            pieces = it.text.split("_")
+            for at, piece in enumerate(pieces):
+                if piece in SWAPS:
+                    new = "_".join([*pieces[:at], SWAPS[piece], *pieces[at + 1 :]])
+                    self.add("word", (it.start, it.end, new))
+            camel = re.sub(r"(Front|Back|Upper|Lower|First|Last)", lambda m: SWAPS[m[0]], it.text)
+            if camel != it.text:
+                self.add("word", (it.start, it.end, camel))
+
+    def options(self):
+        for i, it in enumerate(self.tokens):
+            if it.text == "Some" and self.tokens[i + 1].text == "(":
+                closing = self.pairs[i + 1]
+                if self.tokens[min(closing + 1, len(self.tokens) - 1)].text not in ("=>", "=", "|", "if"):
+                    self.add("option", (it.start, self.tokens[closing].end, "None"))
+
+    def variants(self):
+        for i, it in enumerate(self.tokens[:-2]):
+            holds = self.names.variants.get(it.text)
+            variant = self.tokens[i + 2]
+            if not holds or self.tokens[i + 1].text != "::" or variant.text not in holds:
+                continue
+            same = [name for name, inside in holds.items() if inside == holds[variant.text] and name != variant.text]
+            if len(same) > 6:
+                order = [*holds]
+                at = order.index(variant.text)
+                same = [name for name in (order[(at + 1) % len(order)], order[at - 1]) if name in same]
+            for name in same[:4]:
+                self.add("variant", (variant.start, variant.end, name))
+
+    def constants(self):
+        for it in self.tokens:
+            kind = self.names.constants.get(it.text) if it.kind == "word" else None
+            if kind:
+                others = [name for name, its in self.names.constants.items() if its == kind and name != it.text]
+                for name in others[:3]:
+                    self.add("constant", (it.start, it.end, name))
+                if kind in ("usize", "u8", "u32", "u64"):
+                    self.add("constant", (it.start, it.end, f"({it.text} + 1)"))
+                    self.add("constant", (it.start, it.end, f"({it.text} - 1)"))
+
+    def variables(self):
+        """Another variable that may have the type, and another field of a struct of the file's."""
+        types = dict(self.function.params)
+        for i, it in enumerate(self.tokens):
+            if it.kind == "word" and it.text in ("let", "for"):
+                end = self.closes_at(i + 1, {"=", ";", "in"})
+                for t in self.tokens[i + 1 : end]:
+                    if t.kind == "word" and t.text not in KEYWORDS and t.text[0].islower():
+                        types.setdefault(t.text, "?")
+        for i, it in enumerate(self.tokens):
+            if it.kind != "word" or it.text not in types:
+                continue
+            nearby = (self.before(i).text, self.tokens[i + 1].text)
+            if nearby[0] in (".", "let", "mut", "::", "for") or nearby[1] in (":", "::", "("):
+                continue
+            like = [n for n, its in types.items() if n != it.text and (its == types[it.text] or "?" in (its, types[it.text]))]
+            for name in sorted(like, key=lambda n: types[n] != types[it.text])[:3]:
+                self.add("variable", (it.start, it.end, name))
+        for i, it in enumerate(self.tokens[1:], 1):
+            if it.kind != "word" or self.before(i).text != "." or self.tokens[i + 1].text == "(":
+                continue
+            for holds in self.names.fields.values():
+                same = [n for n, its in holds.items() if it.text in holds and its == holds[it.text] and n != it.text]
+                for name in same[:3]:
+                    self.add("field", (it.start, it.end, name))
+
+    def ranges(self):
+        for i, it in enumerate(self.tokens):
+            if it.kind != "sign" or it.text not in ("..", "..="):
+                continue
+            self.add("range", (it.start, it.end, "..=" if it.text == ".." else ".."))
+        for i, it in enumerate(self.tokens):
+            if it.text != "[" or it.kind != "sign" or not i or not self.is_value(i - 1) or i not in self.pairs:
+                continue
+            inside = self.tokens[i + 1 : self.pairs[i]]
+            bounds = [p for p in parts(inside, "..")] if ".." in {t.text for t in inside} else [inside]
+            for part in bounds:
+                if part and not (len(part) == 1 and part[0].kind == "number"):
+                    a, b = part[0].start, part[-1].end
+                    self.add("range", (a, b, f"{self.text[a:b]} + 1"))
+                    self.add("range", (a, b, f"{self.text[a:b]} - 1"))
+        for i, it in enumerate(self.tokens):
+            if it.text == "for" and it.kind == "word":
+                start = self.closes_at(i, {"in"})
+                end = self.closes_at(start, {"{"})
+                dots = [k for k in range(start, end) if self.tokens[k].text == ".."]
+                if len(dots) == 1 and self.tokens[start + 1].text != "(":
+                    a, b = self.span(start + 1, dots[0])
+                    self.add("range", (a, b, f"{self.text[a:b]} + 1"))
+                    a, b = self.span(dots[0] + 1, end)
+                    self.add("range", (a, b, f"{self.text[a:b]} - 1"))
+
+    def calls(self):
+        for i, it in enumerate(self.tokens[:-2]):
+            if it.text == "." and self.tokens[i + 1].kind == "word" and self.tokens[i + 2].text == "(":
+                end = self.pairs[i + 2] + 1
+                self.add("call", (it.start, self.tokens[end - 1].end, ""))
+
+    def alternatives(self):
+        for i, it in enumerate(self.tokens):
+            if it.text == "|" and it.kind == "sign" and i and (self.is_value(i - 1)):
+                end = i + 1
+                while end < len(self.tokens) and self.tokens[end].text not in ("|", "=>", ")", "if", ","):
+                    end = self.pairs[end] + 1 if self.tokens[end].text in OPENING else end + 1
+                self.add("alternative", (it.start, self.tokens[end - 1].end, ""))
+
+
+def clip(text):
+    text = " ".join(text.split())
+    return text if len(text) <= 90 else f"{text[:60]} .. {text[-25:]}"

@@ -1,0 +1,125 @@
+"""Tests of the parts of bin/mutants, on a small crate of their own: `python3 bin/lib/test_mutants.py`."""
+import sys
+import tempfile
+import unittest
+from pathlib import Path
+
+sys.dont_write_bytecode = True
+sys.path.insert(0, str(Path(__file__).resolve().parent))
+from mutation import Crate, camel, give_kinds, in_turn  # noqa: E402
+from tokens import functions_of, lex, partners  # noqa: E402
+
+SOURCE = '''\
+//! A crate.
+
+/// The smaller of two numbers.
+#[inline]
+pub fn smaller(a: u8, b: u8) -> u8
+    ensures { (result ≤ a) × (result ≤ b) }
+{
+    // a < b { is a comment
+    if a < b { a } else { b }
+}
+
+impl<'a> Shown for Pair<'a> {
+    ghost is = { λ n. n };
+
+    fn shown(&self) -> &'static str
+        ensures { result ≡ "}" }
+    {
+        match self.side {
+            Side::Left => "left",
+            Side::Right => "right",
+        }
+    }
+}
+
+enum Side {
+    Left,
+    Right,
+}
+'''
+
+
+class OfOneCrate(unittest.TestCase):
+    def setUp(self):
+        self.folder = tempfile.TemporaryDirectory()
+        copy = Path(self.folder.name)
+        (copy / "crates" / "small" / "src").mkdir(parents=True)
+        (copy / "crates" / "small" / "src" / "lib.rt").write_text(SOURCE, encoding="utf-8")
+        self.crate = Crate(copy, "small")
+        self.mutants = self.crate.mutants()
+
+    def tearDown(self):
+        self.folder.cleanup()
+
+    def text(self):
+        return (self.crate.folder / "src" / "lib.rt").read_text(encoding="utf-8")
+
+    def of(self, operator):
+        return [m for m in self.mutants if m.operator == operator]
+
+    def test_tokens(self):
+        tokens = lex("a[1..=2] // x\n&& '\\n'")
+        self.assertEqual([it.text for it in tokens], ["a", "[", "1", "..=", "2", "]", "&&", "'\\n'"])
+        self.assertEqual(partners(tokens), {1: 5, 5: 1})
+
+    def test_functions(self):
+        found = functions_of("src/lib.rt", SOURCE)
+        self.assertEqual([it.name for it in found], ["smaller", "shown"])
+        self.assertEqual(found[0].params, [("a", "u8"), ("b", "u8")])
+        self.assertEqual([it.in_trait for it in found], [False, True])
+        self.assertTrue(SOURCE[found[0].start :].startswith("#[inline]"))
+
+    def test_operators(self):
+        self.assertEqual([m.shown for m in self.of("relation")], ["9: `<` -> `<=`"])
+        self.assertEqual(len(self.of("arms")), 1)
+        self.assertEqual({m.function.name for m in self.of("variant")}, {"shown"})
+        self.assertFalse([m for m in self.mutants if m.shown.startswith("8: ")])
+
+    def test_each_mutant_changes_the_body(self):
+        keys = {m.key for m in self.mutants}
+        self.assertEqual(len(keys), len(self.mutants))
+
+    def test_written_after_the_function(self):
+        mutant = self.of("relation")[0]
+        self.crate.write([mutant], False)
+        self.assertIn(f"pub fn {mutant.name}(a: u8, b: u8) -> u8", self.text())
+        self.assertIn("if a <= b { a }", self.text())
+        self.assertIn("if a < b { a }", self.text())
+        lines = self.text().splitlines()[mutant.lines[1] - 1 : mutant.lines[2]]
+        self.assertIn(mutant.name, "".join(lines))
+
+    def test_written_in_place(self):
+        self.crate.write(self.of("arms"), True)
+        self.assertIn('Side::Left => "right"', self.text())
+        self.crate.write([], True)
+        self.assertEqual(self.text(), SOURCE)
+
+    def test_verdicts(self):
+        proved, opened, lost = self.mutants[:3]
+        for m, first in ((proved, 1), (opened, 10), (lost, 20)):
+            m.lines = ("src/lib.rt", first, first + 5)
+        said = "fn small::one: proved\nfn small::two: not proved\nsrc/lib.rt:12:5: not proved (`returns`): it"
+        give_kinds([proved, opened, lost], said, ["one", "two", "three"])
+        self.assertEqual([m.kind for m in (proved, opened, lost)], ["survived", "open", "unknown"])
+
+    def test_the_prover_did_not_decide(self):
+        give_kinds(self.mutants[:1], "fn small::one: it calls small::two, which is not proved", ["one"])
+        self.assertEqual(self.mutants[0].kind, "waits")
+
+    def test_turns(self):
+        order = in_turn(self.mutants, 1)
+        self.assertEqual(len(order), len(self.mutants))
+        first = order[:2]
+        self.assertEqual({m.function.name for m in first}, {"smaller", "shown"})
+        self.assertEqual([m.key for m in order], [m.key for m in in_turn(self.mutants, 1)])
+
+    def test_symbols(self):
+        self.assertEqual(camel("&'a [u8]", set()), "RefSliceU8")
+        self.crate.symbols = {"small::smaller": "proved", "small::PairShown::shown": "proved"}
+        self.assertEqual([self.crate.symbol_of(f) for f in self.crate.functions], [*self.crate.symbols])
+
+
+if __name__ == "__main__":
+    unittest.main()
