@@ -1,8 +1,8 @@
-//! Measures single calls, and writes a line for each: what is called, the number of bytes, the side,
-//! nanoseconds.
+//! Measures single calls, and writes a line for each: what is called, the number of bytes, the
+//! implementation, nanoseconds.
 //! usage: calls ROUNDS MICROSECONDS SIZE,..
 //!
-//! A round lasts so many microseconds at least, and the least of the rounds counts.
+//! A round lasts at least the given number of microseconds, and the minimum of the rounds counts.
 
 mod peers;
 mod texts;
@@ -32,7 +32,7 @@ impl<'a> Side<'a> {
         }
     }
 
-    /// A call that writes into a copy of a text of its own; the answer is what stands there after the
+    /// A call that writes into a copy of a text of its own; the answer is the text there after the
     /// first time.
     fn writes(name: &'static str, text: &[u8], call: impl Fn(&mut [u8]) + 'a) -> Side<'a> {
         let mut target = text.to_vec();
@@ -116,7 +116,7 @@ fn checks(clock: &Clock, size: usize) {
     refused[size - 1] = 200;
     let text = &refused[..];
     clock.compare(
-        "accept, last byte refused",
+        "accept, last byte rejected",
         size,
         sides![text:
         "ours" ours::accept, "crate" by_crate::accept, "std" by_std::accept],
@@ -209,6 +209,66 @@ fn walks(clock: &Clock, size: usize) {
     );
 }
 
+fn searches(clock: &Clock, size: usize) {
+    // The needle is at the end, and its last character is nowhere else.
+    for length in [1, 4, 16] {
+        if size < length {
+            continue;
+        }
+        let mut needle = texts::letters(length);
+        needle[length - 1] = b'%';
+        let mut text = texts::letters(size);
+        text[size - length..].copy_from_slice(&needle);
+        let (text, needle) = (&text[..], &needle[..]);
+        clock.compare(
+            &format!("find {length}"),
+            size,
+            vec![
+                Side::reads("ours", || ours::find(black_box(text), black_box(needle))),
+                Side::reads("std", || by_std::find(black_box(text), black_box(needle))),
+                Side::reads("memchr", || {
+                    by_memchr::find(black_box(text), black_box(needle))
+                }),
+            ],
+        );
+    }
+    let mut text = texts::letters(size);
+    text[size - 1] = b'%';
+    let text = &text[..];
+    clock.compare("position", size, sides![text:
+        "ours" ours::position, "std" by_std::position, "memchr" by_memchr::position]);
+    let mut text = texts::letters(size);
+    text[size / 2] = b':';
+    let text = &text[..];
+    clock.compare("split once", size, sides![text:
+        "ours" ours::split_once, "std" by_std::split_once, "memchr" by_memchr::split_once]);
+    let text = &texts::marked(size, 9, b' ')[..];
+    clock.compare(
+        "words",
+        size,
+        sides![text: "ours" ours::words, "std" by_std::words],
+    );
+    // No number of more digits fits.
+    if size <= 16 {
+        let text = &texts::digits(size)[..];
+        clock.compare(
+            "number",
+            size,
+            sides![text: "ours" ours::number, "std" by_std::number],
+        );
+    }
+    let text = &texts::letters(size)[..];
+    let raised = &text.to_ascii_uppercase()[..];
+    clock.compare(
+        "folded",
+        size,
+        vec![
+            Side::reads("ours", || ours::folded(black_box(text), black_box(raised))),
+            Side::reads("std", || by_std::equal(black_box(text), black_box(raised))),
+        ],
+    );
+}
+
 fn owned(clock: &Clock, size: usize) {
     let text = &texts::marked(size, 9, b',')[..];
     clock.compare(
@@ -268,6 +328,7 @@ fn main() {
         checks(&clock, size);
         cases(&clock, size);
         walks(&clock, size);
+        searches(&clock, size);
         owned(&clock, size);
     }
 }

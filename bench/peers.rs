@@ -102,6 +102,22 @@ pub mod ours {
             pub fn bench_lines(source: *const u8, length: usize, from_back: bool) -> usize;
             pub fn bench_read_lines(source: *const u8, length: usize) -> usize;
             pub fn bench_split(source: *const u8, length: usize) -> usize;
+            pub fn bench_find(
+                source: *const u8,
+                length: usize,
+                needle: *const u8,
+                length: usize,
+            ) -> usize;
+            pub fn bench_position(source: *const u8, length: usize) -> usize;
+            pub fn bench_split_once(source: *const u8, length: usize) -> usize;
+            pub fn bench_words(source: *const u8, length: usize) -> usize;
+            pub fn bench_number(source: *const u8, length: usize) -> usize;
+            pub fn bench_folded(
+                first: *const u8,
+                length: usize,
+                second: *const u8,
+                length: usize,
+            ) -> bool;
             pub fn bench_chars(source: *const u8, length: usize) -> usize;
             pub fn bench_collect(source: *const u8, length: usize) -> usize;
             pub fn bench_push(source: *const u8, length: usize, inline: bool) -> usize;
@@ -152,6 +168,38 @@ pub mod ours {
     #[inline(always)]
     pub fn split(source: &[u8]) -> usize {
         unsafe { bench_split(source.as_ptr(), source.len()) }
+    }
+
+    #[inline(always)]
+    pub fn find(source: &[u8], needle: &[u8]) -> usize {
+        unsafe { bench_find(source.as_ptr(), source.len(), needle.as_ptr(), needle.len()) }
+    }
+
+    #[inline(always)]
+    pub fn position(source: &[u8]) -> usize {
+        unsafe { bench_position(source.as_ptr(), source.len()) }
+    }
+
+    #[inline(always)]
+    pub fn split_once(source: &[u8]) -> usize {
+        unsafe { bench_split_once(source.as_ptr(), source.len()) }
+    }
+
+    #[inline(always)]
+    pub fn words(source: &[u8]) -> usize {
+        unsafe { bench_words(source.as_ptr(), source.len()) }
+    }
+
+    #[inline(always)]
+    pub fn number(source: &[u8]) -> usize {
+        unsafe { bench_number(source.as_ptr(), source.len()) }
+    }
+
+    #[inline(always)]
+    pub fn folded(first: &[u8], second: &[u8]) -> usize {
+        unsafe {
+            bench_folded(first.as_ptr(), first.len(), second.as_ptr(), second.len()) as usize
+        }
     }
 
     #[inline(always)]
@@ -345,6 +393,30 @@ pub mod by_std {
             .fold(0, |sum, piece| mixed(sum, piece.len()))
     } }
 
+    called! { "by_std_find": fn find(source: &[u8], needle: &[u8]) -> usize {
+        text(source).find(text(needle)).unwrap_or(source.len())
+    } }
+
+    called! { "by_std_position": fn position(source: &[u8]) -> usize {
+        text(source).find('%').unwrap_or(source.len())
+    } }
+
+    called! { "by_std_split_once": fn split_once(source: &[u8]) -> usize {
+        text(source)
+            .split_once(':')
+            .map_or(0, |(before, after)| mixed(before.len(), after.len()))
+    } }
+
+    called! { "by_std_words": fn words(source: &[u8]) -> usize {
+        text(source)
+            .split_ascii_whitespace()
+            .fold(0, |sum, word| mixed(sum, word.len()))
+    } }
+
+    called! { "by_std_number": fn number(source: &[u8]) -> usize {
+        text(source).parse().unwrap_or(0)
+    } }
+
     called! { "by_std_chars": fn chars(source: &[u8]) -> usize {
         text(source)
             .bytes()
@@ -383,7 +455,7 @@ pub mod by_memchr {
     //! Bare loops over the Rust crate `memchr`.
 
     use super::mixed;
-    use memchr::{memchr, memrchr};
+    use memchr::{memchr, memmem, memrchr};
 
     called! { "by_memchr_lines": fn lines(source: &[u8]) -> usize {
         let (mut sum, mut rest) = (0, source);
@@ -410,6 +482,18 @@ pub mod by_memchr {
             rest = &rest[..start];
         }
         sum
+    } }
+
+    called! { "by_memchr_find": fn find(source: &[u8], needle: &[u8]) -> usize {
+        memmem::find(source, needle).unwrap_or(source.len())
+    } }
+
+    called! { "by_memchr_position": fn position(source: &[u8]) -> usize {
+        memchr(b'%', source).unwrap_or(source.len())
+    } }
+
+    called! { "by_memchr_split_once": fn split_once(source: &[u8]) -> usize {
+        memchr(b':', source).map_or(0, |at| mixed(at, source.len() - at - 1))
     } }
 
     called! { "by_memchr_split": fn split(source: &[u8]) -> usize {

@@ -1,7 +1,7 @@
 //! Measures whole programs over a text on standard input, and writes a line for each: the mode, the mean
 //! length of a line, the program, milliseconds of processor time (user and system), kilobytes of memory at
 //! the peak.
-//! usage: programs ROUNDS BYTES FOLDER OURS BY_CRATE [cat] [tac] [iconv] [jq]
+//! usage: programs ROUNDS BYTES FOLDER SHOW FILTER BY_CRATE [cat] [tac] [iconv] [jq] [tr] [grep]
 //!
 //! The memory of a program that is started counts from what its starter had, so this one goes through texts
 //! and outputs by small parts.
@@ -104,7 +104,7 @@ fn write_text(path: &str, bytes: usize, mean: u64) -> std::io::Result<()> {
     file.flush()
 }
 
-/// Whether two files are equal, but for one LF that may stand at the end of the second.
+/// Whether two files are equal, except for one LF that may be at the end of the second.
 fn agree(first: &str, second: &str) -> std::io::Result<bool> {
     let (mut first, mut second) = (
         BufReader::new(File::open(first)?),
@@ -123,26 +123,56 @@ fn agree(first: &str, second: &str) -> std::io::Result<bool> {
     }
 }
 
-/// The programs that are compared, by mode; ours stands first in each.
-fn programs(ours: &str, by_crate: &str, tools: &[String]) -> Vec<Program> {
-    let peers: [(&str, &[&str]); 5] = [
-        ("copy", &["cat"]),
-        ("copy", &["iconv", "-f", "ascii", "-t", "utf-8"]),
-        ("tac", &["tac"]),
-        ("caret", &["cat", "-v"]),
-        ("json", &["jq", "-Rs", "."]),
-    ];
+/// What `check` is compared with. `grep` ends with status 1 if it finds nothing, which is expected here.
+const GREP: &str = r"LC_ALL=C grep -nP '[^\x00-\x7F]' || :";
+
+/// The modes, and which programs have each: ascii_show, ascii_filter, the program over the Rust crate.
+const MODES: [(&str, bool, bool, bool); 7] = [
+    ("copy", true, true, true),
+    ("lines", true, true, true),
+    ("tac", true, false, true),
+    ("caret", true, true, true),
+    ("json", true, true, true),
+    ("upper", false, true, false),
+    ("check", false, true, false),
+];
+
+/// The tools of the system that are compared, by mode: the tool, and its command.
+const TOOLS: [(&str, &str, &[&str]); 8] = [
+    ("copy", "cat", &["cat"]),
+    ("copy", "iconv", &["iconv", "-f", "ascii", "-t", "utf-8"]),
+    ("lines", "tr", &["tr", "-d", r"\r"]),
+    ("tac", "tac", &["tac"]),
+    ("caret", "cat", &["cat", "-v"]),
+    ("json", "jq", &["jq", "-Rs", "."]),
+    ("upper", "tr", &["tr", "a-z", "A-Z"]),
+    ("check", "grep", &["sh", "-c", GREP]),
+];
+
+/// The programs that are compared, by mode; one of ours is the first in each.
+fn programs(show: &str, filter: &str, by_crate: &str, tools: &[String]) -> Vec<Program> {
     let mut programs = Vec::new();
-    for mode in ["copy", "lines", "tac", "caret", "json"] {
-        programs.push(Program::new(
-            mode,
-            &format!("ascii_show {mode}"),
-            &[ours, mode],
-        ));
-        programs.push(Program::new(mode, "by the Rust crate", &[by_crate, mode]));
-        for (of, command) in peers {
-            if of == mode && tools.iter().any(|tool| tool == command[0]) {
-                programs.push(Program::new(mode, &command.join(" "), command));
+    for (mode, of_show, of_filter, of_crate) in MODES {
+        let ours = [
+            (of_show, "ascii_show", show),
+            (of_filter, "ascii_filter", filter),
+        ];
+        for (has, name, path) in ours {
+            if has {
+                programs.push(Program::new(mode, &format!("{name} {mode}"), &[path, mode]));
+            }
+        }
+        if of_crate {
+            programs.push(Program::new(mode, "by the Rust crate", &[by_crate, mode]));
+        }
+        for (of, tool, command) in TOOLS {
+            if of == mode && tools.iter().any(|it| it == tool) {
+                let name = if tool == "grep" {
+                    GREP.trim_end_matches(" || :").to_string()
+                } else {
+                    command.join(" ")
+                };
+                programs.push(Program::new(mode, &name, command));
             }
         }
     }
@@ -166,17 +196,15 @@ fn compare_outputs(programs: &[Program], text: &str, folder: &str) {
                 .into(),
         );
         if path == &theirs && !agree(&ours, &theirs).expect("the outputs can be read") {
-            program.give_up(&format!(
-                "its output over {text} is not that of ascii_show {mode}"
-            ));
+            program.give_up(&format!("its output over {text} is not that of our {mode}"));
         }
     }
 }
 
 fn main() {
     let words: Vec<String> = std::env::args().collect();
-    let [_, rounds, bytes, folder, ours, by_crate, tools @ ..] = &words[..] else {
-        eprintln!("usage: programs ROUNDS BYTES FOLDER OURS BY_CRATE [cat] [tac] [iconv] [jq]");
+    let [_, rounds, bytes, folder, show, filter, by_crate, tools @ ..] = &words[..] else {
+        eprintln!("usage: programs ROUNDS BYTES FOLDER SHOW FILTER BY_CRATE [cat] [tac] [iconv] [jq] [tr] [grep]");
         exit(2);
     };
     let rounds: usize = rounds.parse().expect("a number of rounds");
@@ -185,7 +213,7 @@ fn main() {
         let text = format!("{folder}/lines_of_{mean}");
         write_text(&text, bytes.parse().expect("a number of bytes"), mean)
             .expect("the folder can be written");
-        let mut programs = programs(ours, by_crate, tools);
+        let mut programs = programs(show, filter, by_crate, tools);
         compare_outputs(&programs, &text, folder);
         for _ in 0..rounds {
             for program in &mut programs {

@@ -1,7 +1,7 @@
 //! Writes PERFORMANCE.md and performance.svg out of what was measured.
 //! usage: report FOLDER PAGES REASONS
 //!
-//! FOLDER has facts, calls.tsv and programs.tsv; REASONS is a file that says why rows are behind.
+//! FOLDER has facts, calls.tsv and programs.tsv; REASONS is a file that says why rows are slower.
 
 use std::collections::HashMap;
 use std::fmt::Write;
@@ -25,6 +25,24 @@ fn each_once<T: PartialEq>(items: impl Iterator<Item = T>) -> Vec<T> {
     once
 }
 
+/// The items of all lists, each once. An item that the lists before lack comes after the one before it in its list.
+fn in_order<T: PartialEq>(lists: impl Iterator<Item = Vec<T>>) -> Vec<T> {
+    let mut all: Vec<T> = Vec::new();
+    for list in lists {
+        let mut place = 0;
+        for item in list {
+            place = match all.iter().position(|it| *it == item) {
+                Some(found) => found + 1,
+                None => {
+                    all.insert(place, item);
+                    place + 1
+                }
+            };
+        }
+    }
+    all
+}
+
 /// The calls that were measured: nanoseconds by call, size and side.
 struct Calls {
     calls: Vec<String>,
@@ -37,10 +55,11 @@ impl Calls {
         let rows = rows(path);
         let size = |row: &Vec<String>| row[1].parse().expect("a size");
         let sizes: Vec<usize> = each_once(rows.iter().map(size));
-        // Short texts have no long lines, so the longest one has each call in its place.
-        let longest = rows.iter().filter(|row| Some(&size(row)) == sizes.last());
         Calls {
-            calls: each_once(longest.map(|row| row[0].clone())),
+            calls: in_order(sizes.iter().rev().map(|n| {
+                let of_size = rows.iter().filter(|row| size(row) == *n);
+                each_once(of_size.map(|row| row[0].clone()))
+            })),
             nanoseconds: rows
                 .iter()
                 .map(|row| {
@@ -71,14 +90,18 @@ impl Calls {
         ratios.min_by(f64::total_cmp)
     }
 
-    /// A table of the sizes at which each call is ahead of the fastest peer, level with it, or behind.
+    /// A table of the sizes at which each call is faster than the fastest peer, level with it, or slower.
     fn standings(&self) -> String {
-        let mut table = String::from("| Call | ahead | level | behind |\n|---|---|---|---|\n");
+        let mut table = String::from("| Call | faster | level | slower |\n|---|---|---|---|\n");
         for call in &self.calls {
             let mut cells = [const { Vec::new() }; 3];
             for size in &self.sizes {
                 if let Some(ratio) = self.best_ratio(call, *size) {
-                    let cell = if ratio > 1.05 { 0 } else { 1 + (ratio < 0.95) as usize };
+                    let cell = if ratio > 1.05 {
+                        0
+                    } else {
+                        1 + (ratio < 0.95) as usize
+                    };
                     let size = bytes(*size);
                     cells[cell].push(match cell {
                         2 => format!("{size} ({})", as_ratio(ratio)),
@@ -87,7 +110,12 @@ impl Calls {
                 }
             }
             if cells.iter().any(|cell| !cell.is_empty()) {
-                writeln!(table, "| {call} | {} |", cells.map(|cell| cell.join(", ")).join(" | ")).unwrap();
+                writeln!(
+                    table,
+                    "| {call} | {} |",
+                    cells.map(|cell| cell.join(", ")).join(" | ")
+                )
+                .unwrap();
             }
         }
         table
@@ -268,10 +296,10 @@ name means. A number in a comparison is the peer's time divided by ours: above 1
 | Peers | {rustc}, for x86-64; ascii {ascii}, memchr {memchr} |
 | Programs | {tools} |
 {missing}
-## Ahead, level, behind
+## Faster, level, slower
 
 Each call against the fastest of its peers: the Rust crate, std, and a bare loop over the Rust crate
-`memchr`. *Level* is a ratio of 0.95 to 1.05; behind a peer, the ratio is given.
+`memchr`. *Level* is a ratio of 0.95 to 1.05; if another is faster, the ratio is given.
 
 {standings}
 {reasons}
@@ -291,11 +319,11 @@ Ours, and `memcpy` as the limit of what goes through memory once.
 {times}
 ## Whole programs
 
-Over {text} of text: processor time, user and system together, and memory at the peak.
+Over {text} of text: CPU time, user and system together, and memory at the peak.
 
 {programs}
 With `GLIBC_TUNABLES=glibc.malloc.hugetlb=1` in the caller's environment, the C library asks the kernel for huge pages:
-`ascii_show copy` over 64 MiB at lines of 60 then takes 40 ms of processor time instead of 72 (the minimum of 15 runs each,
+`ascii_show copy` over 64 MiB at lines of 60 then takes 40 ms of CPU time instead of 72 (the minimum of 15 runs each,
 where the kernel gives huge pages on request).
 ",
         command = fact("command"),
@@ -333,7 +361,8 @@ fn main() {
         let path = format!("{pages}/{name}");
         std::fs::write(&path, text).unwrap_or_else(|error| panic!("{path}: {error}"));
     };
-    let reasons = std::fs::read_to_string(reasons).unwrap_or_else(|error| panic!("{reasons}: {error}"));
+    let reasons =
+        std::fs::read_to_string(reasons).unwrap_or_else(|error| panic!("{reasons}: {error}"));
     write("PERFORMANCE.md", page(&facts, &calls, &programs, &reasons));
     write("performance.svg", chart(&calls, &facts["ascii"]));
 }

@@ -41,7 +41,15 @@ pub fn marked(length: usize, mean: u64, mark: u8) -> Vec<u8> {
     text
 }
 
-/// White space of all six kinds, with a letter in the middle.
+/// `length` digits, of which the first is not zero.
+pub fn digits(length: usize) -> Vec<u8> {
+    let mut numbers = Numbers::new(length as u64 + 1);
+    (0..length)
+        .map(|at| b'1' + numbers.under(9) as u8 - (at > 0) as u8)
+        .collect()
+}
+
+/// Whitespace of all six kinds, with a letter in the middle.
 pub fn blank_but_the_middle(length: usize) -> Vec<u8> {
     let mut numbers = Numbers::new(length as u64 + 1);
     let mut text: Vec<u8> = (0..length)
