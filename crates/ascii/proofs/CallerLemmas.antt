@@ -2,20 +2,25 @@
 -- caller as `#[tactic(auto, using(ascii::proofs::CallerLemmas::last_of_pieces))]`.
 use Rattle.std.proofs.Common.{◌≡◌, ◌≢◌, ℕ, ◌+◌, ◌≤◌, List, [], ◌∷◌, ◌++◌, length, append-nil, refl}
 use Rattle.std.proofs.Common.{arith, append_assoc, ap, ◌∙◌, Result, IsOk, OnOk, ◌-◌, ◌<◌, Option}
-use Rattle.std.proofs.Common.{Some, get_or, length-append, map, sym, subst}
+use Rattle.std.proofs.Common.{Some, get_or, length-append, map, sym, subst, Bool, true, false, cond}
 use Rattle.std.specs.Iterator.{YieldsFirstBy}
-use Rattle.std.specs.List.{All, Contains, flat_map, join_with_byte, slice_get}
+use Rattle.std.specs.Fn.{Called, Mut}
+use Rattle.std.specs.List.{All, Contains, filter, flat_map, join_with_byte, slice_get}
 use Rattle.std.specs.declared.alloc.AllocError.{AllocError}
 use Rattle.std.proofs.lemmas.Grind.{flat_map-append, common_steps}
 use Rattle.std.proofs.lemmas.Iterator.{YieldsList}
 use Rattle.std.proofs.lemmas.Iterator.Consumers.{YieldsList-from_first}
 use Rattle.std.proofs.lemmas.List.{same_from_push, map_push}
 use Rattle.std.proofs.lemmas.List.Elements.{All-cons, All-nil, All-get_or, All-head}
+use Rattle.std.proofs.lemmas.List.Elements.{filter_from_retain}
 use Rattle.ascii_base.specs.Code.{code_of, code_text}
+use Rattle.ascii_base.specs.declared.ascii_char.AsciiChar.{AsciiChar}
+use Rattle.ascii.specs.Chunks.{ChunksOf, Run}
 use Rattle.ascii.specs.Extend.{Collects, Extends}
 use Rattle.ascii.specs.Lines.{Line, LinesOf, bodies, line_text}
 use Rattle.ascii.specs.Pieces.{Pieces, Remaining}
 use Rattle.ascii.specs.Spans.{LineSpansOf, PieceSpans, WithStart, items_of, line_size, piece_size}
+use Rattle.ascii.specs.Retain.{RetainsChars}
 use Rattle.ascii.specs.Spans.{with_starts}
 use Rattle.ascii.specs.Steps.{DropsFirst, StepsPiece, YieldsFirstAnd}
 use Rattle.ascii.specs.StringState.{StringState}
@@ -287,3 +292,36 @@ module _ (Is : ℕ → Type 0) where
       let mid : twice.0 ≡ m = no_start m twice.0 twice.1.cut twice.1.span start in
       let end = subst (λ xs. TrimsEnd Is xs again) mid twice.2 in
       no_end m again end.cut end.joined end.within once.2.bounded
+
+-- ---- chunks, and characters that are kept
+
+-- the chunks of a part, joined, are its bytes
+pub joined_chunks : (part : WithStart (List ℕ)) (chunks : List (WithStart Run))
+    → ChunksOf part chunks → flat_map (λ chunk. chunk.item.bytes) chunks ≡ part.item
+joined_chunks part [] none = sym none
+joined_chunks part (chunk ∷ chunks) held =
+    ap (λ t. chunk.item.bytes ++ t) (joined_chunks held.0 chunks held.2) ∙ held.1.joined
+
+codes_kept : (test : ℕ → Bool) (chars : List AsciiChar)
+    → map code_of (filter (λ ch. test (code_of ch)) chars) ≡ filter test (map code_of chars)
+codes_kept test [] = refl
+codes_kept test (ch ∷ chars) =
+    let kept = filter (λ other. test (code_of other)) chars in
+    let codes = filter test (map code_of chars) in
+    let same = codes_kept test chars in
+    elim (test (code_of ch)) as (λ b.
+    map code_of (cond b (ch ∷ kept) kept) ≡ cond b (code_of ch ∷ codes) codes) [
+      | true ↦ ap (λ t. code_of ch ∷ t) same
+      | false ↦ same
+    ]
+
+-- a closure that tests the code of each character leaves a filter of the codes
+pub kept_by_code : {F : Type 0} (calls : Mut F (AsciiChar × Unit {0}) Bool) (test : ℕ → Bool)
+    → ((f : F) (ch : AsciiChar) (stays : Bool) (g : F) → Called calls f (ch, tt) stays g
+    → stays ≡ test (code_of ch))
+    → (keep : F) (old new : List ℕ) → RetainsChars calls keep old new → new ≡ filter test old
+kept_by_code calls test says keep old new is =
+    let kept = filter_from_retain (λ f ch stays g. Called calls f (ch, tt) stays g)
+    (λ ch. test (code_of ch)) says keep is.all is.kept is.chosen in
+    sym is.stay ∙ (ap (map code_of) kept
+    ∙ (codes_kept test is.all ∙ ap (filter test) is.are))

@@ -1,11 +1,10 @@
 -- Worked values of the definitions. docs/MODEL.md quotes them.
-use Rattle.std.proofs.Common.{ℕ, ◌≡◌, List, [], ◌∷◌, rules, refl}
+use Rattle.std.proofs.Common.{◌≡◌, [], ◌∷◌, rules, refl}
 use Rattle.std.specs.Prelude.{codes}
 use Rattle.ascii_base.specs.declared.range.AsciiRange.TheVariants as range
 use Rattle.ascii_base.specs.Range.{Fits, part_of}
 use Rattle.ascii.specs.Found.{lines_of, pieces_of}
-use Rattle.ascii.specs.Lines.{Line}
-use Rattle.ascii.specs.Spans.{line_size, piece_size, with_starts}
+use Rattle.ascii.specs.Spans.{piece_size, with_starts}
 use Rattle.ascii.specs.StringState.{insert_text}
 use Rattle.ascii.specs.declared.iter.spans.Ending.TheVariants.{Absent, CrLf, Lf}
 

@@ -1,4 +1,5 @@
 pub mod CallerLemmas
+pub mod ChunkLemmas
 pub mod CutLemmas
 pub mod DebugLemmas
 pub mod EndsLemmas
@@ -13,6 +14,7 @@ pub mod OrderLemmas
 pub mod PiecesLemmas
 pub mod ReplaceLemmas
 pub mod RestsLemmas
+pub mod RetainLemmas
 pub mod SearchLemmas
 pub mod SliceLemmas
 pub mod SpansLemmas

@@ -48,6 +48,27 @@ three_parts t a b order =
     drop-drop (b - a) a t ∙ ap (λ n. drop n t) back in
     rw (← after, take-append-drop (b - a) (drop a t)) (take-append-drop a t)
 
+-- ---- the last code
+
+-- the last code of a text that ends with another, not empty, is that of the end
+pub last_kept : (front t : List ℕ) → t ≢ []
+    → get_or (front ++ t) (length (front ++ t) - 1) 0 ≡ get_or t (length t - 1) 0
+last_kept front [] some = absurd (some refl)
+last_kept front (c ∷ t) some = grind (arith, common_steps)
+
+-- the last code of a text that is not empty has what is true of the last one, if there is one
+pub last_code : (P : ℕ → Type 0) (t : List ℕ) → t ≢ []
+    → IfSome (slice_get t (length t - 1)) P → P (get_or t (length t - 1) 0)
+last_code P [] some bounded = absurd (some refl)
+last_code P (c ∷ t) some bounded =
+    let inside : length (c ∷ t) - 1 < length (c ∷ t) = omega arith in
+    subst (λ o. IfSome o P) (slice_get-get_or (c ∷ t) (length (c ∷ t) - 1) 0 inside) bounded
+
+-- the last code of a text that is not empty has what is true of all
+pub last_of_all : (P : ℕ → Type 0) (t : List ℕ) → t ≢ [] → All P t → P (get_or t (length t - 1) 0)
+last_of_all P [] some all = absurd (some refl)
+last_of_all P (c ∷ t) some all = All-get_or P (c ∷ t) (length (c ∷ t) - 1) 0 (omega arith) all
+
 module _ (Is : ℕ → Type 0) where
   -- a run that begins at a code of its side is not empty
   some_run : (t : List ℕ) (start end : ℕ) → start < length t → EndsRun Is true t 0 start
@@ -128,23 +149,6 @@ module _ (Is : ℕ → Type 0) where
   head_of [] all = tt
   head_of (c ∷ t) all = All-head Is c t all
 
-  -- the last code of a text that ends with another, not empty, is that of the end
-  last_kept : (front t : List ℕ) → t ≢ []
-      → get_or (front ++ t) (length (front ++ t) - 1) 0 ≡ get_or t (length t - 1) 0
-  last_kept front [] some = absurd (some refl)
-  last_kept front (c ∷ t) some = grind (arith, common_steps)
-
-  last_code : (P : ℕ → Type 0) (t : List ℕ) → t ≢ []
-      → IfSome (slice_get t (length t - 1)) P → P (get_or t (length t - 1) 0)
-  last_code P [] some bounded = absurd (some refl)
-  last_code P (c ∷ t) some bounded =
-      let inside : length (c ∷ t) - 1 < length (c ∷ t) = omega arith in
-      subst (λ o. IfSome o P) (slice_get-get_or (c ∷ t) (length (c ∷ t) - 1) 0 inside) bounded
-
-  last_of_all : (P : ℕ → Type 0) (t : List ℕ) → t ≢ [] → All P t → P (get_or t (length t - 1) 0)
-  last_of_all P [] some all = absurd (some refl)
-  last_of_all P (c ∷ t) some all = All-get_or P (c ∷ t) (length (c ∷ t) - 1) 0 (omega arith) all
-
   -- what follows the first word is not empty if the text ends with a code of the class
   rest_some : (t word rest : List ℕ) → IsFirstWord Is t word rest
       → IfSome (slice_get t (length t - 1)) Is → rest ≢ []
@@ -168,7 +172,7 @@ module _ (Is : ℕ → Type 0) where
   head_kept (c ∷ t) more some bounded = bounded
 
   -- the part of a text after its first word ends as the text does
-  end_kept : (front t : List ℕ) → t ≢ []
+  pub end_kept : (front t : List ℕ) → t ≢ []
       → IfSome (slice_get (front ++ t) (length (front ++ t) - 1)) Is
       → IfSome (slice_get t (length t - 1)) Is
   end_kept front t some bounded = code_at Is t (length t - 1) (λ inside.

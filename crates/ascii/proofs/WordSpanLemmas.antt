@@ -7,7 +7,7 @@ use Rattle.std.specs.List.{All, slice_get}
 use Rattle.std.specs.Option.{IfSome}
 use Rattle.std.proofs.lemmas.List.{take_rest}
 use Rattle.std.specs.Iterator.{Yields}
-use Rattle.std.specs.Iterator.Runs.{Run, YieldsRun}
+use Rattle.std.specs.Iterator.Runs.{YieldsRun}
 use Rattle.ascii.specs.declared.iter.spans.SplitSpan.{SplitSpan}
 use Rattle.ascii.specs.Search.{EndsWith}
 use Rattle.ascii.specs.Spans.{WithStart, piece_in}
@@ -19,7 +19,7 @@ use Rattle.ascii.proofs.CutLemmas.{suffix_reads}
 use Rattle.ascii.proofs.WordLemmas.{first_kept, head_of, last_kept_after, no_word, one_first_word}
 
 -- items at one start are equal
-same_span : (a b : WithStart (List ℕ)) → a.start ≡ b.start → a.item ≡ b.item → a ≡ b
+pub same_span : (a b : WithStart (List ℕ)) → a.start ≡ b.start → a.item ≡ b.item → a ≡ b
 same_span a b starts items = ap (λ n. record { start = n; item = a.item }) starts
     ∙ ap (λ t. record { start = b.start; item = t }) items
 

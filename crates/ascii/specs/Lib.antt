@@ -1,3 +1,4 @@
+pub mod Chunks
 pub mod ConversionError
 pub mod Cow
 pub mod Extend
@@ -8,8 +9,9 @@ pub mod Json
 pub mod Lines
 pub mod Numbers
 pub mod Pieces
-pub mod Runs
 pub mod Replace
+pub mod Retain
+pub mod Runs
 pub mod Search
 pub mod Slice
 pub mod Spans

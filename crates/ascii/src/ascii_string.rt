@@ -10,8 +10,8 @@
 //! A contract sees a string as `string.text`, a list of codes, and `string.capacity`.
 //!
 //! The other methods of `AsciiString` are in the modules of their subject: `extend_chars`, `collect_chars` and
-//! `collect_strs` in `collect`, `from_char`, `from_chars` and other copies in `copies`, conversions to boxed and shared
-//! text in `boxed`, JSON values in `json`. The modules `vec` and `string` make a string from a `Vec<u8>` or a `String`.
+//! `collect_strs` in `collect`, `retain` in `retain`, `from_char`, `from_chars` and other copies in `copies`,
+//! conversions to boxed and shared text in `boxed`, JSON values in `json`. The modules `vec` and `string` make a string from a `Vec<u8>` or a `String`.
 
 ghost use Rattle.std.specs.Prelude.{◌≡◌, ◌+◌, ◌-◌, ◌<◌, ◌≤◌, ◌↔◌, ◌++◌, ◌∷◌, [], IfOk, IsOk};
 ghost use Rattle.std.specs.Prelude.{IsTrue, OnErr, OnOk, drop, insert, length, map, remove, slice_get};
@@ -39,7 +39,7 @@ use std::marker::Model;
 /// `==`, the order and the hash are those of the text; the capacity does not count.
 #[derive(Drop)]
 pub struct AsciiString<A: Allocator = Global> {
-    bytes: Vec<u8, A>,
+    pub(crate) bytes: Vec<u8, A>,
 }
 
 impl<A: Allocator> Model for AsciiString<A> {

@@ -8,6 +8,7 @@
 //! | all bytes, to edit in place | `as_mut_ascii_str` | `as_mut_ascii_str_unchecked` |
 //! | the bytes in a range, to edit in place | `slice_ascii_mut` | `slice_ascii_mut_unchecked` |
 //! | a copy | `to_ascii_string` | |
+//! | the ASCII runs and the others, with their starts | `ascii_chunks` | |
 //!
 //! A call in the middle column scans the bytes once, and returns an error with a position in the source. A call in the
 //! last column checks nothing; it has a condition, which its caller has to prove.
@@ -30,6 +31,7 @@ use crate::bounds::checked_bounds;
 pub use crate::bytes_mut::{
     as_mut_ascii_str, as_mut_ascii_str_unchecked, slice_ascii_mut, slice_ascii_mut_unchecked,
 };
+pub use crate::chunks::ascii_chunks;
 use crate::from_ascii::{CopyError, FromAsciiError};
 use ascii_base::ascii_char::{AsciiChar, ToAsciiChar};
 use ascii_base::range::AsciiRange;

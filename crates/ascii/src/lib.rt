@@ -13,6 +13,7 @@
 //! | characters, pieces, lines or words, from both ends | `chars`, `split`, `lines`, `split_whitespace` of a view |
 //! | the positions of pieces, lines or words | `split_spans`, `line_spans`, `word_spans` |
 //! | to search for a text, a character or a class | `find`, `position`, `span::<C>()` of a view |
+//! | the ASCII runs of bytes that may hold others | `bytes::ascii_chunks` |
 //! | a class of characters of your own | the module `classes` |
 //! | JSON values, serde | the module `json`; the traits of `serde` |
 //!
@@ -33,6 +34,7 @@ mod boxed_order;
 mod boxed_print;
 pub mod bytes;
 mod bytes_mut;
+pub mod chunks;
 mod collect;
 mod conversions;
 mod copies;
@@ -44,6 +46,7 @@ pub mod iter;
 pub mod json;
 pub mod numbers;
 mod replace;
+mod retain;
 mod runs;
 mod search;
 mod serde_impls;

@@ -4,6 +4,7 @@
 //! the documentation of the calls.
 
 mod both_ends;
+mod chunks;
 mod clones;
 mod folded;
 mod json;

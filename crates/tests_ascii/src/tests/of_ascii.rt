@@ -914,26 +914,40 @@ fn ascii_string_17(rt: HostRuntime) {
 #[test]
 fn ascii_string_18(rt: HostRuntime) {
     let alloc = rt.alloc();
+    // AsciiString::to_json
     assert_debug(
         &rt,
         alloc,
-        &(
-            // AsciiString::to_json
-            view("foo")
-                .to_ascii_string(alloc)
-                .expect(&rt, "refused")
-                .to_json(alloc)
-                .expect(&rt, "refused")
-                .to_string(alloc)
-                .expect(&rt, "refused"),
-            // Serialize for AsciiString::serialize
-            serde_json::to_string(
-                alloc,
-                &view("foo").to_ascii_string(alloc).expect(&rt, "refused"),
-            )
+        &view("foo")
+            .to_ascii_string(alloc)
+            .expect(&rt, "refused")
+            .to_json(alloc)
+            .expect(&rt, "refused")
+            .to_string(alloc)
             .expect(&rt, "refused"),
-        ),
-        "(\"\\\"foo\\\"\", \"\\\"foo\\\"\")",
+        "\"\\\"foo\\\"\"",
+    );
+    // AsciiString::retain
+    {
+        let mut text = view("a-b-c").to_ascii_string(alloc).expect(&rt, "refused");
+        text.retain(|ch| ch != AsciiChar::Minus);
+        assert_debug(&rt, alloc, &text, "\"abc\"");
+    }
+}
+
+#[test]
+fn ascii_string_19(rt: HostRuntime) {
+    let alloc = rt.alloc();
+    // Serialize for AsciiString::serialize
+    assert_debug(
+        &rt,
+        alloc,
+        &serde_json::to_string(
+            alloc,
+            &view("foo").to_ascii_string(alloc).expect(&rt, "refused"),
+        )
+        .expect(&rt, "refused"),
+        "\"\\\"foo\\\"\"",
     );
     // DeserializeOwned for AsciiString::deserialize_owned
     {
@@ -945,11 +959,6 @@ fn ascii_string_18(rt: HostRuntime) {
             "Some(\"foo\")",
         );
     }
-}
-
-#[test]
-fn ascii_string_19(rt: HostRuntime) {
-    let alloc = rt.alloc();
     // Deserialize for AsciiString::deserialize
     assert_debug(
         &rt,
@@ -1339,6 +1348,67 @@ fn bytes_3(rt: HostRuntime) {
         }
         assert_debug(&rt, alloc, &(source == *b"FOO"), "true");
     }
+}
+
+#[test]
+fn bytes_4(rt: HostRuntime) {
+    let alloc = rt.alloc();
+    // bytes::ascii_chunks
+    {
+        let mut chunks = bytes::ascii_chunks(b"ab\xc4\x96cd");
+        assert_debug(
+            &rt,
+            alloc,
+            &chunks.next(),
+            "Some(AsciiChunk { start: 0, run: Ascii(\"ab\") })",
+        );
+        assert_debug(
+            &rt,
+            alloc,
+            &chunks.next_back(),
+            "Some(AsciiChunk { start: 4, run: Ascii(\"cd\") })",
+        );
+        assert_debug(
+            &rt,
+            alloc,
+            &chunks.next(),
+            "Some(AsciiChunk { start: 2, run: Other([196, 150]) })",
+        );
+        assert_debug(&rt, alloc, &chunks.next(), "None");
+    }
+}
+
+#[test]
+fn ascii_chunks_1(rt: HostRuntime) {
+    let alloc = rt.alloc();
+    // Clone for AsciiChunks::clone
+    {
+        let mut chunks = bytes::ascii_chunks(b"ab\xc4");
+        let mut copy = chunks.clone().expect(&rt, "refused");
+        assert_debug(
+            &rt,
+            alloc,
+            &chunks.next(),
+            "Some(AsciiChunk { start: 0, run: Ascii(\"ab\") })",
+        );
+        assert_debug(
+            &rt,
+            alloc,
+            &copy.next(),
+            "Some(AsciiChunk { start: 0, run: Ascii(\"ab\") })",
+        );
+    }
+    assert_debug(
+        &rt,
+        alloc,
+        &(
+            // Iterator for AsciiChunks::next
+            bytes::ascii_chunks(b"\xc4ab").next(),
+            // DoubleEndedIterator for AsciiChunks::next_back
+            bytes::ascii_chunks(b"\xc4ab").next_back(),
+        ),
+        "(Some(AsciiChunk { start: 0, run: Other([196]) }), Some(AsciiChunk { start: 1, run: Ascii(\"ab\") }))",
+    );
 }
 
 #[test]

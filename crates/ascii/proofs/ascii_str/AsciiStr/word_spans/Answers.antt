@@ -1,6 +1,3 @@
-use Rattle.std.proofs.Common.{List, ℕ}
-use Rattle.ascii.specs.Spans.{WithStart}
-use Rattle.ascii.specs.View.{text_of}
 use Rattle.ascii.proofs.WordSpanLemmas.{WordSpans-only, word_spans_in_order}
 use Rattle.ascii.proofs.WordSpanLemmas.{word_spans_in_reverse}
 use Rattle.ascii.proofs.ascii_str.AsciiStr.word_spans.Goals as goal

@@ -1,0 +1,79 @@
+//! Bytes as chunks, from either end, against lists written out by hand; and strings of which some
+//! characters are kept, against those of std.
+
+use super::{assert_debug, assert_same};
+use ascii::{AsciiChar, bytes};
+use testing::ascii;
+
+/// A source, and its chunks as `{:?}` prints them.
+static CHUNKS: [(&[u8], &[&str]); 6] = [
+    (b"", &[]),
+    (
+        b"ab",
+        &["Some(AsciiChunk { start: 0, run: Ascii(\"ab\") })"],
+    ),
+    (
+        b"\xc4\x96",
+        &["Some(AsciiChunk { start: 0, run: Other([196, 150]) })"],
+    ),
+    (
+        b"a\x80b",
+        &[
+            "Some(AsciiChunk { start: 0, run: Ascii(\"a\") })",
+            "Some(AsciiChunk { start: 1, run: Other([128]) })",
+            "Some(AsciiChunk { start: 2, run: Ascii(\"b\") })",
+        ],
+    ),
+    (
+        b"\xff\x7f\n\xfe",
+        &[
+            "Some(AsciiChunk { start: 0, run: Other([255]) })",
+            "Some(AsciiChunk { start: 1, run: Ascii(\"\u{7f}\\n\") })",
+            "Some(AsciiChunk { start: 3, run: Other([254]) })",
+        ],
+    ),
+    (
+        b"a23456789.123456789.123456789.123456789.\x80",
+        &[
+            "Some(AsciiChunk { start: 0, run: Ascii(\"a23456789.123456789.123456789.123456789.\") })",
+            "Some(AsciiChunk { start: 40, run: Other([128]) })",
+        ],
+    ),
+];
+
+#[test]
+fn chunks_come_in_order(rt: HostRuntime) {
+    for &(source, want) in &CHUNKS {
+        let mut chunks = bytes::ascii_chunks(source);
+        for &text in want {
+            assert_debug(&rt, rt.alloc(), &chunks.next(), text);
+        }
+        assert_debug(&rt, rt.alloc(), &chunks.next(), "None");
+    }
+}
+
+#[test]
+fn chunks_come_from_the_end(rt: HostRuntime) {
+    for &(source, want) in &CHUNKS {
+        let mut chunks = bytes::ascii_chunks(source);
+        for &text in want.iter().rev() {
+            assert_debug(&rt, rt.alloc(), &chunks.next_back(), text);
+        }
+        assert_debug(&rt, rt.alloc(), &chunks.next_back(), "None");
+    }
+}
+
+static TEXTS: [&str; 6] = ["", "-", "abc", "a-b--c", "--a", "a--"];
+
+#[test]
+fn kept_characters_are_those_of_a_string(rt: HostRuntime) {
+    for &source in &TEXTS {
+        let mut got = ascii(source)
+            .to_ascii_string(rt.alloc())
+            .expect(&rt, "no memory");
+        got.retain(|ch| ch != AsciiChar::Minus);
+        let mut want = String::from_str(rt.alloc(), source).expect(&rt, "no memory");
+        want.retain(|ch| ch != '-');
+        assert_same(&rt, got.as_ascii_str().as_str(), want.as_str());
+    }
+}
