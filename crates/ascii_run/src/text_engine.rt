@@ -11,7 +11,7 @@ ghost use Rattle.ascii_run.specs.Engine.{read_failures, write_failures};
 
 use crate::faults::EngineFault;
 use crate::modes::{Mode, buffer_size, render_output};
-use crate::output_buffer::OutputBuffer;
+use crate::output_buffer::{OutputBuffer, zeros};
 use ascii::{AsciiString, kernels};
 use ascii_devices::{Sink, Source};
 use std::alloc::Allocator;
@@ -21,7 +21,7 @@ use std::alloc::Allocator;
 /// `Position`, `Memory` and `Read` nothing was written; after `Write` a prefix of the output was.
 ///
 /// Condition: fewer than `u64::MAX` calls of the reader and of the writer have failed. Holds the
-/// whole input and one output buffer of at most 64 KiB, and reads 32 KiB at a time.
+/// whole input, a buffer of 32 KiB that is read into, and then one output buffer of at most 64 KiB.
 ///
 ///     let mut output = Output::new(Vec::new(alloc));
 ///     engine(alloc, Mode::Tac, &mut Input::new(b"x\ny\n".as_slice()), &mut output) // Ok(())
@@ -52,12 +52,13 @@ pub fn engine<S: Source, K: Sink, A: Allocator + Copy>(
     )
 }
 
-/// How many bytes one read asks for.
+/// How many bytes one read asks for. They are on the heap, so that a run needs little of the stack: if
+/// memory is short, an allocation can fail, but a stack that cannot grow ends the program.
 const CHUNK: usize = 32_768;
 
 /// All bytes that the reader has yet to give, and the position of the first that is not ASCII. Each
 /// chunk is searched right after it is read.
-fn read_all<S: Source, A: Allocator>(
+fn read_all<S: Source, A: Allocator + Copy>(
     alloc: A,
     reader: &mut S,
 ) -> Result<(Vec<u8, A>, Option<usize>), EngineFault>
@@ -71,9 +72,10 @@ fn read_all<S: Source, A: Allocator>(
 {
     let mut input = Vec::new(alloc);
     let mut other = None;
-    let mut chunk = [0; CHUNK];
+    let mut room = zeros(alloc, CHUNK)?;
+    let chunk: &mut [u8] = &mut room;
     'reads: loop {
-        let Ok(n) = reader.read(&mut chunk) else {
+        let Ok(n) = reader.read(chunk) else {
             return Err(EngineFault::Read);
         };
         if n == 0 {
