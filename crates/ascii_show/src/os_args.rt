@@ -3,6 +3,9 @@
 use std::alloc::{AllocError, Global};
 use std::env::{Env, FillError};
 
+/// How many bytes of an argument fit on the stack.
+const ROOM: usize = 32_768;
+
 /// The arguments, one after another.
 #[derive(Drop)]
 pub(crate) struct OsArgs {
@@ -14,11 +17,16 @@ pub(crate) struct OsArgs {
 
 impl OsArgs {
     /// Reads the arguments. If they are not valid UTF-8, there are none.
+    ///
+    /// The room for one argument makes the stack as deep as any later call needs, before anything is
+    /// allocated: if memory is short later, an allocation fails, and not the growth of the stack.
+    #[inline(never)]
     pub(crate) fn read(rt: &HostRuntime) -> Result<OsArgs, AllocError> {
+        let mut room = [0; ROOM];
         let mut bytes = Vec::new(rt.alloc());
         let mut count = 0;
         for before in 0..usize::MAX {
-            if !append_arg(rt, before + 1, &mut bytes)? {
+            if !append_arg(rt, before + 1, &mut room, &mut bytes)? {
                 break;
             }
             count = before + 1;
@@ -44,10 +52,33 @@ impl OsArgs {
 
 /// Appends the argument with a number, counted from 1, and a NUL. Returns `false` if there is no
 /// such argument.
-fn append_arg(rt: &HostRuntime, number: usize, bytes: &mut Vec<u8>) -> Result<bool, AllocError> {
+fn append_arg(
+    rt: &HostRuntime,
+    number: usize,
+    room: &mut [u8],
+    bytes: &mut Vec<u8>,
+) -> Result<bool, AllocError> {
+    match rt.arg(number, room) {
+        Ok(length) => {
+            bytes.extend_from_slice(&room[..length])?;
+            bytes.push(0)?;
+            Ok(true)
+        }
+        Err(FillError::NotPresent) => Ok(false),
+        Err(FillError::TooLong) => append_long_arg(rt, number, bytes),
+    }
+}
+
+/// Appends an argument that has no room on the stack, and a NUL.
+fn append_long_arg(
+    rt: &HostRuntime,
+    number: usize,
+    bytes: &mut Vec<u8>,
+) -> Result<bool, AllocError> {
     let start = bytes.len();
-    let mut room = 256usize;
+    let mut room = ROOM;
     for _ in 0..usize::BITS {
+        room = room.saturating_add(room);
         bytes.resize(start.saturating_add(room), 0u8)?;
         match rt.arg(number, &mut bytes[start..]) {
             Ok(length) => {
@@ -59,7 +90,7 @@ fn append_arg(rt: &HostRuntime, number: usize, bytes: &mut Vec<u8>) -> Result<bo
                 bytes.truncate(start);
                 return Ok(false);
             }
-            Err(FillError::TooLong) => room = room.saturating_add(room),
+            Err(FillError::TooLong) => {}
         }
     }
     Err(AllocError)
