@@ -4,6 +4,7 @@ pub mod Headers
 pub mod Hosts
 pub mod Identifiers
 pub mod LastLines
+pub mod Lossy
 pub mod Rows
 pub mod Screen
 pub mod Settings

@@ -1,7 +1,8 @@
 //! Strings that are written again in the room that they have.
 
-ghost use Rattle.std.specs.Prelude.{◌≡◌, ◌+◌, ◌-◌, ◌<◌, ◌++◌, ◌∷◌, [], IsOk, IsOkAnd, codes};
-ghost use Rattle.std.specs.Prelude.{length, remove, slice_index, string_bytes, take};
+ghost use Rattle.std.specs.Prelude.{◌≡◌, ◌+◌, ◌-◌, ◌<◌, ◌++◌, ◌∷◌, ◌==◌, [], IsOk, IsOkAnd};
+ghost use Rattle.std.specs.Prelude.{codes, filter, length, not, remove, slice_index, string_bytes};
+ghost use Rattle.std.specs.Prelude.{take};
 ghost use Rattle.ascii.specs.Code.{code_of};
 
 use ascii::{AsciiChar, AsciiString};
@@ -96,4 +97,11 @@ pub fn blank() -> AsciiChar
     ensures { code_of result ≡ 0 }
 {
     AsciiChar::default()
+}
+
+/// Removes each `-` of a text.
+pub fn remove_minus(text: &mut AsciiString)
+    ensures { text.new.text ≡ filter (λ code. not (code == 45)) text.old.text }
+{
+    text.retain(|ch| ch != AsciiChar::Minus);
 }

@@ -11,6 +11,7 @@ mod hosts;
 mod identifiers;
 mod json_round_trip;
 mod last_lines;
+mod lossy;
 mod screen;
 mod settings;
 mod table;
