@@ -1,16 +1,19 @@
-//! The questions of each kind, and what the Rust crate answers to them.
+//! The questions of each kind, and the answers of the upstream crate, of std, or of plain loops.
 
 mod chars;
 mod edits;
+mod finds;
+mod modes;
 mod slices;
 mod texts;
 mod turns;
 mod walks;
+mod words;
 
 use crate::random::Random;
 use std::fmt::Write;
 
-/// A question, and the answer that is wanted.
+/// A question, and the expected answer.
 pub struct Asked {
     pub kind: usize,
     pub question: Vec<u8>,
@@ -18,18 +21,18 @@ pub struct Asked {
 }
 
 /// A question of a kind and its answer.
-type Make = fn(&mut Random) -> (String, String);
+pub type Make = fn(&mut Random) -> (String, String);
 
 /// The kinds, which are asked equally often.
-pub const KINDS: [&str; 39] = [
+pub const KINDS: [&str; 65] = [
     "slices ..",
     "slices a..",
     "slices ..b",
     "slices a..b",
     "slices a..=b",
     "slices ..=b",
-    "places in bytes",
-    "places in a text, first, last",
+    "positions in bytes",
+    "positions in a text, first, last",
     "split by scripts",
     "lines by scripts",
     "split with remainders",
@@ -42,11 +45,11 @@ pub const KINDS: [&str; 39] = [
     "trim_end",
     "upper case",
     "lower case",
-    "equal without case",
+    "equal when case is ignored",
     "equal",
     "compared",
     "edits",
-    "edits of the inline form",
+    "edits of inline strings",
     "printed views",
     "printed strings",
     "printed characters",
@@ -60,10 +63,36 @@ pub const KINDS: [&str; 39] = [
     "characters written",
     "collected and extended",
     "characters",
+    "texts found, and what is left without them",
+    "texts found when case is ignored",
+    "characters found",
+    "cuts at a text",
+    "at most n pieces",
+    "replaced texts",
+    "words by scripts",
+    "words with starts",
+    "runs and trims of a class",
+    "chunks by scripts",
+    "numbers read",
+    "numbers appended",
+    "characters kept",
+    "strings cut in two",
+    "modes of the engine",
+    "modes of the bounded engine",
+    "lines of a reader",
+    "parts of a reader",
+    "JSON texts",
+    "headers",
+    "host names",
+    "settings",
+    "text with marks",
+    "printed inline strings",
+    "compared inline strings",
+    "inline strings that grow",
     "bad lines",
 ];
 
-const MAKES: [Make; 38] = [
+pub const MAKES: [Make; 64] = [
     |r| slices::asked(r, 0),
     |r| slices::asked(r, 1),
     |r| slices::asked(r, 2),
@@ -102,6 +131,32 @@ const MAKES: [Make; 38] = [
     turns::char_written,
     turns::collected,
     chars::asked,
+    finds::text,
+    finds::folded,
+    finds::char,
+    finds::cuts,
+    finds::splitn,
+    finds::replace,
+    words::white,
+    words::spans,
+    words::trims,
+    words::chunks,
+    words::number,
+    words::decimal,
+    words::keep,
+    words::cut,
+    modes::engine,
+    modes::bounded,
+    modes::reader,
+    modes::parts,
+    modes::json_text,
+    modes::header,
+    modes::host,
+    modes::setting,
+    modes::lossy,
+    modes::small_printed,
+    modes::small_compared,
+    modes::small_room,
 ];
 
 impl Asked {
@@ -147,7 +202,7 @@ fn bad(random: &mut Random) -> Vec<u8> {
     ];
     let mut line = random.pick(&lines).to_vec();
     if random.below(4) == 0 {
-        // A byte that begins no UTF-8, wherever it stands.
+        // A byte that begins no UTF-8, at any position.
         let place = random.below(line.len() + 1);
         line.insert(place, 0xf8 + random.below(8) as u8);
     }

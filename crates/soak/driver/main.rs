@@ -1,150 +1,183 @@
-//! Asks the program of crates/soak questions at random and compares each answer with the upstream crate `ascii` 1.1.0,
-//! or, for calls that it does not have (starts, remainders), with plain loops over the pieces and lines.
+//! Compares the answers of the static library crates/soak, which is linked into this program, with those of the upstream
+//! crate `ascii` 1.1.0, of std, or of plain loops.
 //!
-//!     soak PROGRAM SECONDS SEED
+//!     soak SECONDS SEED [THREADS]
 //!
-//! The seed decides the questions. The last lines are the number of questions of each kind and the number of answers
-//! that differ. The status is 1 if an answer differs or is missing, if the program hangs, writes too much or ends with a
-//! failure, or if the driver panics; it is 2 for bad arguments.
+//! It first asks the worked questions, then all small cases of each kind (texts over five codes, up to a length at which
+//! there are not too many), then calls the kernels over buffers that end where memory may not be read, and then asks at
+//! random for so many seconds. The seed decides those questions. The last lines are the number of questions of each kind
+//! and the number of answers that differ. The status is 1 if an answer differs, or if this program or the library
+//! panics; it is 2 for bad arguments.
 
+mod edges;
 mod expected;
 mod random;
 
-use expected::{Asked, KINDS};
+use expected::{Asked, KINDS, MAKES};
 use random::Random;
-use std::io::{BufRead, BufReader, BufWriter, Write};
-use std::process::{Command, ExitCode, Stdio};
-use std::sync::mpsc::{channel, Receiver, RecvTimeoutError, Sender};
+use std::panic::{catch_unwind, AssertUnwindSafe};
+use std::process::ExitCode;
+use std::sync::atomic::{AtomicU64, Ordering};
 use std::time::{Duration, Instant};
 
-/// Questions that go out together.
+/// Questions between two looks at the clock.
 const BATCH: usize = 1_000;
-
-/// How long an answer may take.
-const LIMIT: Duration = Duration::from_secs(20);
 
 /// Differences that are printed whole.
 const SHOWN: u64 = 20;
 
-struct Counts {
-    asked: [u64; KINDS.len()],
-    differ: u64,
+/// The most small cases of a kind.
+const SMALL: u64 = 300_000;
+
+/// How many answers differ.
+static DIFFER: AtomicU64 = AtomicU64::new(0);
+
+extern "C" {
+    fn soak_answer(question: *const u8, length: usize, room: *mut u8, size: usize) -> usize;
 }
 
-/// Puts out batches of questions until the time is over. A batch is told before it is written, so that its answers
-/// are read while it is.
-fn ask(
-    seed: u64,
-    time: Duration,
-    tell: Sender<Vec<Asked>>,
-    mut questions: impl Write,
-) -> std::io::Result<()> {
-    let mut random = Random::new(seed);
-    let begin = Instant::now();
-    while begin.elapsed() < time {
-        let batch: Vec<Asked> = (0..BATCH).map(|_| Asked::at_random(&mut random)).collect();
-        let mut lines = Vec::new();
-        for asked in &batch {
-            lines.extend_from_slice(&asked.question);
-            lines.push(b'\n');
-        }
-        if tell.send(batch).is_err() {
-            break;
-        }
-        questions.write_all(&lines)?;
+/// The answer of the library, or why there is none.
+fn answer<'a>(question: &[u8], room: &'a mut [u8]) -> &'a [u8] {
+    let length = unsafe { soak_answer(question.as_ptr(), question.len(), room.as_mut_ptr(), room.len()) };
+    if length <= room.len() {
+        &room[..length]
+    } else {
+        b"(no answer)"
     }
-    questions.flush()
 }
 
-/// Compares an answer for each question. Stops if one takes longer than `LIMIT`.
-fn compare(told: Receiver<Vec<Asked>>, answers: &Receiver<String>) -> Counts {
-    let mut counts = Counts { asked: [0; KINDS.len()], differ: 0 };
-    for asked in told.into_iter().flatten() {
-        let (answer, hangs) = match answers.recv_timeout(LIMIT) {
-            Ok(answer) => (answer, false),
-            Err(RecvTimeoutError::Disconnected) => ("(no answer)".into(), false),
-            Err(RecvTimeoutError::Timeout) => ("(no answer in time)".into(), true),
-        };
-        counts.asked[asked.kind] += 1;
-        if answer != asked.wanted {
-            counts.differ += 1;
-            if counts.differ <= SHOWN {
-                let question = String::from_utf8_lossy(&asked.question);
-                println!("{question}\n  answer: {answer}\n  expected: {}", asked.wanted);
+/// Counts a difference, and prints the first ones.
+fn differ(what: &str) {
+    if DIFFER.fetch_add(1, Ordering::Relaxed) < SHOWN {
+        println!("{what}");
+    }
+}
+
+/// Asks a question and compares the answer.
+fn ask(asked: &Asked, room: &mut [u8], counts: &mut [u64]) {
+    let got = answer(&asked.question, room);
+    counts[asked.kind] += 1;
+    if got != asked.wanted.as_bytes() {
+        let question = String::from_utf8_lossy(&asked.question);
+        differ(&format!("{question}\n  answer: {}\n  expected: {}", String::from_utf8_lossy(got), asked.wanted));
+    }
+}
+
+/// Room for the longest answer.
+fn room() -> Vec<u8> {
+    vec![0; 1 << 20]
+}
+
+/// Asks questions with the makers of some kinds. A panic of this program is a difference.
+fn guarded(what: &str, questions: impl FnOnce()) {
+    if let Err(panic) = catch_unwind(AssertUnwindSafe(questions)) {
+        let text = panic.downcast_ref::<String>().map(String::as_str);
+        let text = text.or_else(|| panic.downcast_ref::<&str>().copied()).unwrap_or("");
+        differ(&format!("{what}: the driver panicked: {text}"));
+    }
+}
+
+/// The worked questions, line by line.
+fn worked(room: &mut [u8]) -> usize {
+    let questions = include_str!("worked_questions.txt").lines();
+    let answers = include_str!("worked_answers.txt").lines();
+    let mut count = 0;
+    for (question, wanted) in questions.zip(answers) {
+        let got = answer(question.as_bytes(), room);
+        count += 1;
+        if got != wanted.as_bytes() {
+            differ(&format!("{question}\n  answer: {}\n  expected: {wanted}", String::from_utf8_lossy(got)));
+        }
+    }
+    count
+}
+
+/// All small cases of a kind, with the longest texts of which there are at most `SMALL`; returns that length.
+fn small_cases(kind: usize, room: &mut [u8], counts: &mut [u64]) -> usize {
+    for longest in (0..=6).rev() {
+        let mut random = Random::small(longest);
+        let begun = counts[kind];
+        loop {
+            let (question, wanted) = MAKES[kind](&mut random);
+            ask(&Asked { kind, question: question.into_bytes(), wanted }, room, counts);
+            if !random.advance() {
+                return longest;
+            }
+            if counts[kind] - begun > SMALL {
+                break;
             }
         }
-        if hangs {
-            return counts;
-        }
     }
-    if let Ok(line) = answers.recv_timeout(LIMIT) {
-        counts.fail(&format!("the program wrote more than its answers: {line}"));
+    0
+}
+
+/// The small cases of the kinds that are a thread's.
+fn small_share(share: usize, threads: usize) -> Vec<u64> {
+    let (mut room, mut counts) = (room(), vec![0; KINDS.len()]);
+    for kind in (share..MAKES.len()).step_by(threads) {
+        guarded(KINDS[kind], || {
+            small_cases(kind, &mut room, &mut counts);
+        });
     }
     counts
 }
 
-impl Counts {
-    /// Counts a failure that is not of one question.
-    fn fail(&mut self, line: &str) {
-        println!("{line}");
-        self.differ += 1;
-    }
+/// Questions at random until the time is over.
+fn random_share(seed: u64, time: Duration) -> Vec<u64> {
+    let (mut room, mut counts) = (room(), vec![0; KINDS.len()]);
+    let begin = Instant::now();
+    guarded("at random", || {
+        let mut random = Random::new(seed);
+        while begin.elapsed() < time {
+            for _ in 0..BATCH {
+                ask(&Asked::at_random(&mut random), &mut room, &mut counts);
+            }
+        }
+    });
+    counts
 }
 
-fn soak(program: &str, seconds: u64, seed: u64) -> std::io::Result<Counts> {
-    let mut child = Command::new(program).stdin(Stdio::piped()).stdout(Stdio::piped()).spawn()?;
-    let questions = BufWriter::new(child.stdin.take().unwrap());
-    let lines = BufReader::new(child.stdout.take().unwrap()).lines();
-    let (tell, told) = channel();
-    let (give, answers) = channel();
-    let time = Duration::from_secs(seconds);
-    let asking = std::thread::spawn(move || ask(seed, time, tell, questions));
-    std::thread::spawn(move || lines.map_while(Result::ok).try_for_each(|line| give.send(line)));
-    let mut counts = compare(told, &answers);
-    // A program that hangs would not read the remaining questions.
-    if counts.differ > 0 {
-        let _ = child.kill();
-    }
-    match asking.join() {
-        Ok(Ok(())) => {}
-        Ok(Err(error)) => counts.fail(&format!("the questions could not be written: {error}")),
-        Err(panic) => {
-            let text = panic.downcast_ref::<String>().map(String::as_str);
-            let text = text.or_else(|| panic.downcast_ref::<&str>().copied()).unwrap_or("");
-            counts.fail(&format!("the driver panicked: {text}"));
+/// Runs a share on each thread, and adds up what they count.
+fn on_threads(threads: usize, share: impl Fn(usize) -> Vec<u64> + Sync) -> Vec<u64> {
+    let mut all = vec![0; KINDS.len()];
+    std::thread::scope(|scope| {
+        let share = &share;
+        let running: Vec<_> = (0..threads).map(|number| scope.spawn(move || share(number))).collect();
+        for thread in running {
+            for (sum, count) in all.iter_mut().zip(thread.join().unwrap_or_default()) {
+                *sum += count;
+            }
         }
-    }
-    let status = child.wait()?;
-    if !status.success() && counts.differ == 0 {
-        counts.fail(&format!("{program} ended with {status}"));
-    }
-    Ok(counts)
+    });
+    all
 }
 
 fn main() -> ExitCode {
     let words: Vec<String> = std::env::args().skip(1).collect();
-    let [program, seconds, seed] = &words[..] else {
-        eprintln!("usage: soak ASK SECONDS SEED");
-        return ExitCode::from(2);
-    };
-    let (Ok(seconds), Ok(seed)) = (seconds.parse(), seed.parse()) else {
-        eprintln!("soak: SECONDS and SEED are numbers");
-        return ExitCode::from(2);
-    };
-    println!("seed {seed}");
-    // A position outside the text makes the upstream crate panic, which is an answer here.
-    std::panic::set_hook(Box::new(|_| ()));
-    let counts = match soak(program, seconds, seed) {
-        Ok(counts) => counts,
-        Err(error) => {
-            eprintln!("soak: {error}");
-            return ExitCode::from(1);
+    let numbers: Vec<u64> = words.iter().filter_map(|word| word.parse().ok()).collect();
+    let (seconds, seed, threads) = match (&numbers[..], words.len()) {
+        ([seconds, seed], 2) => (*seconds, *seed, 1),
+        ([seconds, seed, threads], 3) => (*seconds, *seed, (*threads).max(1) as usize),
+        _ => {
+            eprintln!("usage: soak SECONDS SEED [THREADS]");
+            return ExitCode::from(2);
         }
     };
-    for (kind, asked) in KINDS.iter().zip(counts.asked) {
-        println!("{asked:>10} {kind}");
+    // A position outside the text makes the upstream crate panic, which is an answer here.
+    std::panic::set_hook(Box::new(|_| ()));
+    println!("seed {seed}, {threads} threads");
+    println!("{:>10} worked questions", worked(&mut room()));
+    guarded("edges of memory", || println!("{:>10} buffers that end where memory may not be read", edges::all(differ)));
+    let begin = Instant::now();
+    let small = on_threads(threads, |share| small_share(share, threads));
+    let random = on_threads(threads, |share| random_share(seed.wrapping_add(share as u64), Duration::from_secs(seconds)));
+    let took = begin.elapsed().as_secs_f64();
+    for (kind, (small, random)) in KINDS.iter().zip(small.iter().zip(&random)) {
+        println!("{small:>10} small {random:>12} at random: {kind}");
     }
-    let (all, differ) = (counts.asked.iter().sum::<u64>(), counts.differ);
+    let all: u64 = small.iter().chain(&random).sum();
+    let differ = DIFFER.load(Ordering::Relaxed);
+    println!("{:.1} million answers a second", all as f64 / took / 1e6);
     println!("{all} questions of {} kinds, seed {seed}: {differ} answers differ", KINDS.len());
     ExitCode::from(u8::from(differ > 0))
 }

@@ -23,7 +23,8 @@ static FORMS: [&str; 11] = [
     "-", ":?", ":7", ":>20", ":<20", ":*^33", ":.5", ":.0", ":10.3", ":->12.40", ":^1",
 ];
 
-fn printed<T: fmt::Display + fmt::Debug>(
+/// The text of a value in the form that the first word is.
+pub(crate) fn printed<T: fmt::Display + fmt::Debug>(
     question: &Question<'_>,
     value: &T,
 ) -> Result<String, Fault> {

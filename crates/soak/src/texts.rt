@@ -67,7 +67,8 @@ fn truth(question: &Question<'_>, holds: bool) -> Result<String, Fault> {
     question.said(if holds { "true" } else { "false" })
 }
 
-fn order(order: Ordering) -> &'static str {
+/// The word for an order.
+pub(crate) fn order(order: Ordering) -> &'static str {
     match order {
         Ordering::Less => "less",
         Ordering::Equal => "equal",

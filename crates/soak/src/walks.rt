@@ -7,10 +7,10 @@
 //!   that starts at an offset; after a line comes how it ends, `:lf`, `:crlf` or `:none`;
 //! - `walk_chars TEXT SCRIPT`: each code with `/` and what is left.
 
-use crate::question::{Fault, Question, shown};
+use crate::answers::Answers;
+use crate::question::{Fault, Question};
 use ascii::AsciiStr;
 use ascii::iter::{Ending, LineSpan, SplitSpan, take_end};
-use std::alloc::Global;
 
 /// The answer to a question whose first word ends in `call`.
 pub(crate) fn reply(question: &Question<'_>, call: &str) -> Result<String, Fault> {
@@ -26,95 +26,6 @@ pub(crate) fn reply(question: &Question<'_>, call: &str) -> Result<String, Fault
     }
 }
 
-/// The answers of a walk, one after the other.
-#[derive(Drop)]
-struct Answers {
-    alloc: Global,
-    said: String,
-}
-
-impl Answers {
-    fn new(alloc: Global) -> Answers {
-        Answers {
-            alloc,
-            said: String::new(alloc),
-        }
-    }
-
-    /// Begins an answer.
-    fn next(&mut self) -> Result<(), Fault> {
-        if !self.said.is_empty() {
-            self.said.push(' ')?;
-        }
-        Ok(())
-    }
-
-    /// An answer, without what is left then.
-    fn item(&mut self, item: Option<AsciiStr<'_>>) -> Result<(), Fault> {
-        self.next()?;
-        self.view(item)
-    }
-
-    /// An answer, and what is left then.
-    fn item_and_rest(
-        &mut self,
-        item: Option<AsciiStr<'_>>,
-        rest: Option<AsciiStr<'_>>,
-    ) -> Result<(), Fault> {
-        self.item(item)?;
-        self.text("/")?;
-        self.view(rest)
-    }
-
-    /// An answer with its start and how it ends, and what is left then.
-    fn span_and_rest(
-        &mut self,
-        span: Option<(usize, AsciiStr<'_>)>,
-        ending: &str,
-        rest: Option<(usize, AsciiStr<'_>)>,
-    ) -> Result<(), Fault> {
-        self.next()?;
-        self.placed(span)?;
-        self.text(ending)?;
-        self.text("/")?;
-        self.placed(rest)
-    }
-
-    /// The code of a character, and what is left then.
-    fn code_and_rest(&mut self, code: u32, rest: AsciiStr<'_>) -> Result<(), Fault> {
-        self.next()?;
-        let code = format!(in self.alloc; "{code}/")?;
-        self.text(code.as_str())?;
-        self.view(Some(rest))
-    }
-
-    fn view(&mut self, view: Option<AsciiStr<'_>>) -> Result<(), Fault> {
-        match view {
-            Some(view) => {
-                let text = shown(self.alloc, view.as_bytes())?;
-                self.said.push_str(text.as_str())?;
-            }
-            None => self.said.push_str("none")?,
-        }
-        Ok(())
-    }
-
-    fn placed(&mut self, placed: Option<(usize, AsciiStr<'_>)>) -> Result<(), Fault> {
-        match placed {
-            Some((start, view)) => {
-                let start = format!(in self.alloc; "{start}:")?;
-                self.said.push_str(start.as_str())?;
-                self.view(Some(view))
-            }
-            None => self.view(None),
-        }
-    }
-
-    fn text(&mut self, text: &str) -> Result<(), Fault> {
-        Ok(self.said.push_str(text)?)
-    }
-}
-
 fn split(question: &Question<'_>) -> Result<String, Fault> {
     let on = question.char(0)?;
     let source = question.text(1)?;
@@ -123,7 +34,7 @@ fn split(question: &Question<'_>) -> Result<String, Fault> {
     for end in &question.script(2)? {
         answers.item(take_end(&mut pieces, *end))?;
     }
-    Ok(answers.said)
+    Ok(answers.text)
 }
 
 fn lines(question: &Question<'_>) -> Result<String, Fault> {
@@ -133,7 +44,7 @@ fn lines(question: &Question<'_>) -> Result<String, Fault> {
     for end in &question.script(1)? {
         answers.item(take_end(&mut lines, *end))?;
     }
-    Ok(answers.said)
+    Ok(answers.text)
 }
 
 fn split_rests(question: &Question<'_>) -> Result<String, Fault> {
@@ -145,7 +56,7 @@ fn split_rests(question: &Question<'_>) -> Result<String, Fault> {
         let piece = take_end(&mut pieces, *end);
         answers.item_and_rest(piece, pieces.remainder())?;
     }
-    Ok(answers.said)
+    Ok(answers.text)
 }
 
 fn line_rests(question: &Question<'_>) -> Result<String, Fault> {
@@ -156,7 +67,7 @@ fn line_rests(question: &Question<'_>) -> Result<String, Fault> {
         let line = take_end(&mut lines, *end);
         answers.item_and_rest(line, lines.remainder())?;
     }
-    Ok(answers.said)
+    Ok(answers.text)
 }
 
 fn split_spans(question: &Question<'_>) -> Result<String, Fault> {
@@ -173,7 +84,7 @@ fn split_spans(question: &Question<'_>) -> Result<String, Fault> {
         let piece = piece_parts(take_end(&mut spans, *end));
         answers.span_and_rest(piece, "", spans.remainder())?;
     }
-    Ok(answers.said)
+    Ok(answers.text)
 }
 
 fn piece_parts<'a>(span: Option<SplitSpan<'a>>) -> Option<(usize, AsciiStr<'a>)> {
@@ -194,7 +105,7 @@ fn line_spans(question: &Question<'_>) -> Result<String, Fault> {
         let span = take_end(&mut spans, *end);
         answers.span_and_rest(line_parts(span), ending(span), spans.remainder())?;
     }
-    Ok(answers.said)
+    Ok(answers.text)
 }
 
 fn line_parts<'a>(span: Option<LineSpan<'a>>) -> Option<(usize, AsciiStr<'a>)> {
@@ -223,5 +134,5 @@ fn chars(question: &Question<'_>) -> Result<String, Fault> {
         let code = ch.map_or(128, |ch| u32::from(ch.as_byte()));
         answers.code_and_rest(code, chars.as_str())?;
     }
-    Ok(answers.said)
+    Ok(answers.text)
 }
