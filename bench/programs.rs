@@ -3,6 +3,9 @@
 //! the peak.
 //! usage: programs ROUNDS BYTES FOLDER SHOW FILTER BY_CRATE [cat] [tac] [iconv] [jq] [tr] [grep]
 //!
+//! Lines that begin with `size` are of texts of other lengths, with lines of 60 bytes, each measured three times; the last
+//! line is `ascii_filter copy` from a pipe through which 80 times BYTES go.
+//!
 //! The memory of a program that is started counts from what its starter had, so this one goes through texts
 //! and outputs by small parts.
 
@@ -50,6 +53,11 @@ impl Program {
     /// Runs the program over the text: milliseconds of processor time, and kilobytes at the peak.
     fn run(&self, text: &str, output: Stdio) -> (f64, i64) {
         let input = File::open(text).expect("the text is there");
+        self.run_over(input.into(), output)
+    }
+
+    /// Runs the program over an input.
+    fn run_over(&self, input: Stdio, output: Stdio) -> (f64, i64) {
         let mut command = Command::new(&self.command[0]);
         let child = command
             .args(&self.command[1..])
@@ -201,6 +209,55 @@ fn compare_outputs(programs: &[Program], text: &str, folder: &str) {
     }
 }
 
+/// The programs that are measured over texts of several lengths: the mode, and the tool beside it.
+const SIZED: [(&str, usize); 3] = [("copy", 0), ("caret", 4), ("check", 7)];
+
+/// Measures the programs over texts from a sixth of `bytes` to 16 times as many.
+fn measure_sizes(bytes: usize, folder: &str, filter: &str, tools: &[String]) {
+    let text = format!("{folder}/lines_of_60");
+    for size in [bytes / 6, bytes / 2, bytes * 3 / 2, bytes * 5, bytes * 16] {
+        eprintln!("programs over {} MiB", size >> 20);
+        write_text(&text, size, 60).expect("the folder can be written");
+        for (mode, at) in SIZED {
+            let (_, tool, command) = TOOLS[at];
+            let mut sized = vec![Program::new(mode, &format!("ascii_filter {mode}"), &[filter, mode])];
+            if tools.iter().any(|it| it == tool) {
+                let name = if tool == "grep" { "grep" } else { &command.join(" ") };
+                sized.push(Program::new(mode, name, command));
+            }
+            for program in &mut sized {
+                for _ in 0..3 {
+                    let (milliseconds, peak) = program.run(&text, Stdio::null());
+                    program.best = program.best.min(milliseconds);
+                    program.peak = program.peak.max(peak);
+                }
+                println!("size\t{size}\t{}\t{:.1}\t{}", program.name, program.best, program.peak);
+            }
+        }
+    }
+    std::fs::remove_file(&text).expect("the text can be removed");
+}
+
+/// Passes many bytes through a pipe to `ascii_filter copy`.
+fn measure_pipe(bytes: usize, filter: &str) {
+    eprintln!("ascii_filter over {} MiB from a pipe", bytes >> 20);
+    let program = Program::new("copy", "ascii_filter copy, from a pipe", &[filter, "copy"]);
+    let (input, mut feed) = std::io::pipe().expect("a pipe");
+    let feeder = std::thread::spawn(move || {
+        let block = [b'a'; 1 << 16];
+        let mut left = bytes;
+        while left > 0 {
+            let part = left.min(block.len());
+            feed.write_all(&block[..part])?;
+            left -= part;
+        }
+        Ok::<(), std::io::Error>(())
+    });
+    let (milliseconds, peak) = program.run_over(input.into(), Stdio::null());
+    feeder.join().expect("the feeder ends").expect("the pipe takes all bytes");
+    println!("size\t{bytes}\t{}\t{milliseconds:.1}\t{peak}", program.name);
+}
+
 fn main() {
     let words: Vec<String> = std::env::args().collect();
     let [_, rounds, bytes, folder, show, filter, by_crate, tools @ ..] = &words[..] else {
@@ -230,6 +287,9 @@ fn main() {
         }
         std::fs::remove_file(&text).expect("the text can be removed");
     }
+    let bytes = bytes.parse().expect("a number of bytes");
+    measure_sizes(bytes, folder, filter, tools);
+    measure_pipe(80 * bytes, filter);
     for name in ["output_of_ours", "output_of_peer"] {
         std::fs::remove_file(format!("{folder}/{name}")).expect("the outputs can be removed");
     }

@@ -1,4 +1,4 @@
-//! Writes PERFORMANCE.md and performance.svg out of what was measured.
+//! Writes PERFORMANCE.md, performance.svg and sizes.svg out of what was measured.
 //! usage: report FOLDER PAGES REASONS
 //!
 //! FOLDER has facts, calls.tsv and programs.tsv; REASONS is a file that says why rows are slower.
@@ -186,6 +186,70 @@ fn programs(rows: &[Vec<String>]) -> String {
     table
 }
 
+/// A table of programs over texts of several lengths: milliseconds, and MiB of memory at the peak.
+fn sizes(rows: &[Vec<String>]) -> String {
+    let mut table = String::from("| Program | Input: MiB | ms | memory: MiB |\n|---|--:|--:|--:|\n");
+    for row in rows {
+        let (size, peak): (usize, f64) = (row[1].parse().expect("a size"), row[4].parse().expect("kilobytes"));
+        let size = size >> 20;
+        writeln!(table, "| {} | {size} | {} | {:.1} |", row[2], row[3], peak / 1024.0).unwrap();
+    }
+    table
+}
+
+/// A chart of time by the length of the input, both on a scale of powers of ten, with a line for each program.
+fn sizes_chart(rows: &[Vec<String>]) -> String {
+    const COLOURS: [&str; 6] = ["#2563a8", "#8fb8de", "#b4532a", "#f2c48d", "#3f7d3a", "#a9d3a4"];
+    let points: Vec<(&str, f64, f64)> = rows
+        .iter()
+        .filter(|row| !row[2].contains("pipe"))
+        .map(|row| (row[2].as_str(), row[1].parse::<f64>().unwrap() / 1048576.0, row[3].parse::<f64>().unwrap().max(1.0)))
+        .collect();
+    let x = |mib: f64| 70.0 + 250.0 * (mib.log10() - 1.0);
+    let y = |ms: f64| 330.0 - 70.0 * ms.log10();
+    let mut marks = String::new();
+    for power in 0..=4 {
+        let ms = 10f64.powi(power);
+        writeln!(
+            marks,
+            r##"<line x1="70" y1="{0}" x2="590" y2="{0}" stroke="#e1e5ea"/>
+<text x="62" y="{1}" text-anchor="end" font-size="11" fill="#5b6470">{ms} ms</text>"##,
+            y(ms),
+            y(ms) + 4.0
+        )
+        .unwrap();
+    }
+    for (mib, name) in [(10.0, "10 MiB"), (100.0, "100 MiB"), (1024.0, "1 GiB")] {
+        let at = x(mib);
+        writeln!(marks, r##"<text x="{at:.1}" y="350" text-anchor="middle" font-size="11" fill="#5b6470">{name}</text>"##).unwrap();
+    }
+    let mut lines = String::new();
+    for (at, name) in each_once(points.iter().map(|point| point.0)).into_iter().enumerate() {
+        let colour = COLOURS[at % COLOURS.len()];
+        let path: Vec<String> =
+            points.iter().filter(|point| point.0 == name).map(|point| format!("{:.1},{:.1}", x(point.1), y(point.2))).collect();
+        let key = 60.0 + 20.0 * at as f64;
+        writeln!(
+            lines,
+            r##"<polyline points="{}" fill="none" stroke="{colour}" stroke-width="2"/>
+<line x1="604" y1="{key}" x2="624" y2="{key}" stroke="{colour}" stroke-width="3"/>
+<text x="630" y="{}">{name}</text>"##,
+            path.join(" "),
+            key + 4.0
+        )
+        .unwrap();
+    }
+    format!(
+        r##"<svg xmlns="http://www.w3.org/2000/svg" width="760" height="364" viewBox="0 0 760 364"
+ font-family="system-ui, sans-serif" font-size="12.5" fill="#2b323b" role="img"
+ aria-label="CPU time of programs by the length of their input">
+<rect width="760" height="364" rx="8" fill="#fafbfc"/>
+<text x="20" y="24" font-size="15" font-weight="600">CPU time by the length of the input, lines of 60 bytes</text>
+{marks}{lines}</svg>
+"##
+    )
+}
+
 const CHART_SIZE: usize = 1024;
 
 /// The calls of the chart, with how it names them.
@@ -266,7 +330,13 @@ fn chart(calls: &Calls, ascii: &str) -> String {
     )
 }
 
-fn page(facts: &HashMap<String, String>, calls: &Calls, programs: &str, reasons: &str) -> String {
+fn page(
+    facts: &HashMap<String, String>,
+    calls: &Calls,
+    programs: &str,
+    sizes: &str,
+    reasons: &str,
+) -> String {
     let fact = |name: &str| facts.get(name).map_or("", String::as_str);
     let beside = |peer| calls.table(|call, size| calls.ratio(call, size, peer).map(as_ratio));
     let times = calls.table(|call, size| {
@@ -325,7 +395,15 @@ Over {text} of text: CPU time, user and system together, and memory at the peak.
 With `GLIBC_TUNABLES=glibc.malloc.hugetlb=1` in the caller's environment, the C library asks the kernel for huge pages:
 `ascii_show copy` over 64 MiB at lines of 60 then takes 40 ms of CPU time instead of 72 (the minimum of 15 runs each,
 where the kernel gives huge pages on request).
-",
+
+## Inputs of any length
+
+`ascii_filter` holds one chunk of its input. Lines of 60 bytes, CPU time, the minimum of three runs; the last row is one
+run over a pipe.
+
+![CPU time by the length of the input](sizes.svg)
+
+{sizes}",
         command = fact("command"),
         rounds = fact("rounds"),
         date = fact("date"),
@@ -356,13 +434,16 @@ fn main() {
         .map(|row| (row[0].clone(), row[1].clone()))
         .collect();
     let calls = Calls::read(format!("{folder}/calls.tsv"));
-    let programs = programs(&rows(format!("{folder}/programs.tsv")));
+    let (sized, timed): (Vec<_>, Vec<_>) =
+        rows(format!("{folder}/programs.tsv")).into_iter().partition(|row| row[0] == "size");
+    let programs = programs(&timed);
     let write = |name: &str, text: String| {
         let path = format!("{pages}/{name}");
         std::fs::write(&path, text).unwrap_or_else(|error| panic!("{path}: {error}"));
     };
     let reasons =
         std::fs::read_to_string(reasons).unwrap_or_else(|error| panic!("{reasons}: {error}"));
-    write("PERFORMANCE.md", page(&facts, &calls, &programs, &reasons));
+    write("PERFORMANCE.md", page(&facts, &calls, &programs, &sizes(&sized), &reasons));
     write("performance.svg", chart(&calls, &facts["ascii"]));
+    write("sizes.svg", sizes_chart(&sized));
 }

@@ -104,7 +104,7 @@ class Crate:
 
     # Writing mutants
 
-    def write(self, mutants, in_place, proofs=True):
+    def write(self, mutants, in_place):
         """Writes the sources with these mutants and no others."""
         self.clear()
         for file, text in self.sources.items():
@@ -112,7 +112,7 @@ class Crate:
             new = self.written(text, sorted(here, key=lambda m: (m.function.opens, m.number)), in_place)
             if new != (self.folder / file).read_text(encoding="utf-8"):
                 (self.folder / file).write_text(new, encoding="utf-8")
-        for m in [] if in_place or not proofs else mutants:
+        for m in [] if in_place else mutants:
             self.copy_proofs(m)
 
     def written(self, text, mutants, in_place):
@@ -153,18 +153,6 @@ class Crate:
         self.made = []
 
     # Judging mutants
-
-    def sift(self, mutants, probe):
-        """The mutants that compile, of those that can be written after their functions; the others get their kind. The
-        compiler reads all of them at once, until it finds no error; then the function `probe` is checked."""
-        left = list(mutants)
-        while left:
-            self.write(left, False, proofs=False)
-            wrong = self.unread(left, self.check([probe], MOST_SECONDS) or "")
-            if not wrong:
-                break
-            left = [m for m in left if id(m) not in wrong]
-        return left
 
     def judge(self, mutants, in_place):
         """Checks these mutants, and gives each its kind. Those that do not compile are left out, and the others are checked

@@ -5,7 +5,7 @@
 //!
 //! It first asks the worked questions, then all small cases of each kind (texts over five codes, up to a length at which
 //! there are not too many), then calls the kernels over buffers that end where memory may not be read, and then asks at
-//! random for so many seconds. The seed decides those questions. The last lines are the number of questions of each kind
+//! random for that time. The seed decides those questions. The last lines are the number of questions of each kind
 //! and the number of answers that differ. The status is 1 if an answer differs, or if this program or the library
 //! panics; it is 2 for bad arguments.
 

@@ -6,7 +6,7 @@
 //!   at the start and at the end; whether both are equal, and how they compare;
 //! - `find_char CODE TEXT`: the first and the last position; the two sides of the first and of the last one;
 //! - `find_cuts TEXT NEEDLE`: the two sides of the first and of the last occurrence;
-//! - `find_splitn NUMBER CODE TEXT`: at most so many pieces;
+//! - `find_splitn NUMBER CODE TEXT`: at most that number of pieces;
 //! - `find_replace TEXT NEEDLE TEXT`: the text with the last one in place of each occurrence.
 
 use crate::answers::Answers;
