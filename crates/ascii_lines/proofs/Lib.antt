@@ -1,3 +1,5 @@
+pub mod EndedLemmas
+pub mod EndingsLemmas
 pub mod LineBufferLemmas
 pub mod LineReaderLemmas
 pub mod ServeLemmas

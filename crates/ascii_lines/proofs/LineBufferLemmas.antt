@@ -1,7 +1,7 @@
--- A first LF among the bytes of a buffer, and the bytes after them after a read.
-use Rattle.std.proofs.Common.{◌≡◌, ◌≢◌, ℕ, ◌+◌, ◌-◌, ◌<◌, ◌≤◌, List, ◌++◌, length, get_or, take}
+-- The bytes of a buffer, and those after them after a read.
+use Rattle.std.proofs.Common.{◌≡◌, ℕ, ◌+◌, ◌-◌, ◌<◌, ◌≤◌, List, ◌++◌, length, get_or, take}
 use Rattle.std.proofs.Common.{drop, None, Some, Option, MatchOption, unwrap_or, sym, ap, subst, ◌∙◌}
-use Rattle.std.proofs.Common.{arith, eq-eqb, eqb-true, inl, inr}
+use Rattle.std.proofs.Common.{arith, inl, inr}
 use Rattle.std.specs.List.{slice_range}
 use Rattle.std.specs.Str.{IsAscii}
 use Rattle.std.proofs.Math.Seq.{take-add}
@@ -10,8 +10,10 @@ use Rattle.std.proofs.lemmas.List.{drop-drop, get_or-take}
 use Rattle.std.proofs.lemmas.Slice.{between_is}
 use Rattle.ascii.specs.Bytes.{FirstOther}
 use Rattle.ascii.proofs.ListLemmas.{length-slice_range, slice_range-at}
-use Rattle.memchr.specs.Find.{IsFirstByte, is_byte}
-use Rattle.ascii_lines.specs.LineBuffer.{EndsLine, FreeUpTo, IsLaidOut}
+use Rattle.ascii_lines.specs.LineBuffer.{IsLaidOut}
+use Rattle.ascii_lines.specs.declared.endings.Endings.{Endings}
+use Rattle.ascii_lines.specs.Endings.{EndsLine, FreeUpTo}
+use Rattle.ascii_lines.proofs.EndingsLemmas.{AgreeUpTo, EndsLine-same, FreeUpTo-same}
 
 -- a byte of a part, by its place in the whole
 at_place : (bytes : List ℕ) (s e k : ℕ) → s ≤ k → k < e
@@ -20,66 +22,43 @@ at_place bytes s e k low high =
     let same : s + (k - s) ≡ k = omega arith in
     slice_range-at bytes s e (k - s) (omega arith) ∙ ap (λ j. get_or bytes j 0) same
 
--- ---- a search for LF
+-- the bytes of a part up to an earlier end are those of the part
+pub agree_part : (bytes : List ℕ) (from checked filled : ℕ) → checked ≤ filled
+    → AgreeUpTo (slice_range bytes from checked) (slice_range bytes from filled) (checked - from)
+agree_part bytes from checked filled low k inside =
+    slice_range-at bytes from checked k inside
+    ∙ sym (slice_range-at bytes from filled k (omega (arith, inside, low)))
 
-module _ (bytes : List ℕ) (given from searched checked filled : ℕ)
-    (laid : IsLaidOut bytes given from searched checked filled) where
-  low_end : searched ≤ checked
-  low_end = laid.then_searched
+-- no line ends up to a place in the part up to an earlier end
+pub free_part : (kind : Endings) (bytes : List ℕ) (from checked filled n : ℕ) → checked ≤ filled
+    → n ≤ checked - from → FreeUpTo kind (slice_range bytes from filled) n
+    → FreeUpTo kind (slice_range bytes from checked) n
+free_part kind bytes from checked filled n low within = FreeUpTo-same kind
+    (slice_range bytes from filled) (slice_range bytes from checked) n
+    (λ k inside. sym (agree_part bytes from checked filled low k (omega (arith, inside, within))))
 
-  -- the searched part had none, so no LF stands before its end
-  pub free_behind : IsFirstByte (is_byte 10) (slice_range bytes searched checked) None → (k : ℕ)
-      → from ≤ k → k < checked → get_or bytes k 0 ≢ 10
-  free_behind none k low high = λ is. elim (cases_lt k searched) [
-    | inl before ↦ laid.free k low before is
-    | inr after ↦
-        let long = length-slice_range bytes searched checked low_end
-        (omega (arith, laid.then_checked, laid.inside)) in
-        none (k - searched) (omega arith) (omega (arith, after, high, long))
-        (eq-eqb _ _ (at_place bytes searched checked k after high ∙ is))
-  ]
-
-  pub free_all : IsFirstByte (is_byte 10) (slice_range bytes searched checked) None
-      → FreeUpTo (slice_range bytes from filled) (checked - from)
-  free_all none k inside = λ is.
-      free_behind none (from + k) (omega arith) (omega (arith, inside))
-      (sym (slice_range-at bytes from filled k (omega (arith, inside, laid.then_checked))) ∙ is)
-
-  pub ends_line : (place : ℕ) → IsFirstByte (is_byte 10) (slice_range bytes searched checked)
-      (Some place)
-      → (searched + place + 1 - from ≤ checked - from)
-      × EndsLine (slice_range bytes from filled) (searched + place + 1 - from)
-  ends_line place found =
-      let long = length-slice_range bytes searched checked low_end
-      (omega (arith, laid.then_checked, laid.inside)) in
-      let high : searched + place < checked = omega (arith, found.0.high, long, low_end) in
-      let part : searched + place - searched ≡ place = omega arith in
-      let here : get_or bytes (searched + place) 0 ≡ 10 =
-      sym (at_place bytes searched checked (searched + place) (omega arith) high)
-      ∙ (ap (λ j. get_or (slice_range bytes searched checked) j 0) part ∙ eqb-true _ _ found.1) in
-      let last : searched + place + 1 - from - 1 ≡ searched + place - from = omega arith in (
-        omega (arith, high),
-        record {
-          some = omega (arith, laid.then_from);
-          feed = ap (λ j. get_or (slice_range bytes from filled) j 0) last
-              ∙ (at_place bytes from filled (searched + place) (omega (arith, laid.then_from))
-              (omega (arith, high, laid.then_checked)) ∙ here);
-          free = λ k before is.
-              let short : k < filled - from = omega (arith, before, high, laid.then_checked) in
-              let at : get_or bytes (from + k) 0 ≡ 10 =
-              sym (slice_range-at bytes from filled k short) ∙ is in
-              elim (cases_lt (from + k) searched) [
-                | inl early ↦ laid.free (from + k) (omega arith) early at
-                | inr late ↦
-                    let near : from + k - searched < place =
-                    omega (arith, before, late, laid.then_from) in
-                    found.0.before (from + k - searched) (omega arith) near
-                    (eq-eqb _ _
-                    (at_place bytes searched checked (from + k) late
-                    (omega (arith, before, high)) ∙ at))
-              ];
-        },
-      )
+-- what is found in the part up to an earlier end is found in the part
+pub found_part : (kind : Endings) (bytes : List ℕ) (from checked filled : ℕ) (r : Option ℕ)
+    → from ≤ checked → checked ≤ filled → filled ≤ length bytes
+    → MatchOption r
+    (FreeUpTo kind (slice_range bytes from checked) (length (slice_range bytes from checked)))
+    (λ n. (n ≤ length (slice_range bytes from checked))
+    × EndsLine kind (slice_range bytes from checked) n)
+    → MatchOption r (FreeUpTo kind (slice_range bytes from filled) (checked - from))
+    (λ n. (n ≤ checked - from) × EndsLine kind (slice_range bytes from filled) n)
+found_part kind bytes from checked filled None first then inside free =
+    let long = length-slice_range bytes from checked first (omega (arith, then, inside)) in
+    FreeUpTo-same kind (slice_range bytes from checked) (slice_range bytes from filled)
+    (checked - from) (agree_part bytes from checked filled then)
+    (subst (FreeUpTo kind (slice_range bytes from checked)) long free)
+found_part kind bytes from checked filled (Some n) first then inside found =
+    let long = length-slice_range bytes from checked first (omega (arith, then, inside)) in
+    let within : n ≤ checked - from = omega (arith, found.0, long) in (
+      within,
+      EndsLine-same kind (slice_range bytes from checked) (slice_range bytes from filled) n
+          (λ k low. agree_part bytes from checked filled then k (omega (arith, low, within)))
+          found.1,
+    )
 
 -- ---- a read after the bytes
 
@@ -136,22 +115,19 @@ module _ (old new : List ℕ) (filled : ℕ) (front : take filled new ≡ take f
         ],
       )
 
-  pub refilled : (given from searched n under : ℕ) (r : Option ℕ)
-      → IsLaidOut old given from searched filled filled → filled + n ≤ length new
+  pub refilled : (given from n under : ℕ) (r : Option ℕ)
+      → IsLaidOut old given from filled filled → filled + n ≤ length new
       → under ≡ unwrap_or r n → MatchOption r (IsAscii (slice_range new filled (filled + n)))
       (FirstOther (slice_range new filled (filled + n)) 0
       (length (slice_range new filled (filled + n))))
-      → IsLaidOut new given from searched (filled + under) (filled + n)
-  refilled given from searched n under r laid within is first =
+      → IsLaidOut new given from (filled + under) (filled + n)
+  refilled given from n under r laid within is first =
       let found = under_first n under r within is first in
       record {
         given_first = laid.given_first;
-        then_from = laid.then_from;
-        then_searched = omega (arith, laid.then_searched);
+        then_from = omega (arith, laid.then_from);
         then_checked = omega (arith, found.0);
         inside = within;
-        free = λ k low high. subst (λ x. x ≢ 10)
-            (sym (at_front k (omega (arith, high, laid.then_searched)))) (laid.free k low high);
         ascii = λ k low high. elim (cases_lt k filled) [
           | inl early ↦ subst (λ x. x < 128) (sym (at_front k early)) (laid.ascii k low early)
           | inr late ↦ found.1 k late high

@@ -1,29 +1,33 @@
 -- What a line reader has read and yielded.
+use Rattle.std.proofs.Common.{Bool, true, false, not, drop, ◌≤◌, take-append-drop}
 use Rattle.std.proofs.Common.{◌≡◌, ◌≢◌, ◌⊎◌, ℕ, ◌+◌, ◌-◌, List, [], ◌∷◌, ◌++◌, length, take, None}
 use Rattle.std.proofs.Common.{Some, Ok, Err, Option, Result, IfErr, refl, sym, ap, subst, ◌∙◌}
 use Rattle.std.proofs.Common.{arith, inl, inr, length-append, append_assoc, append-nil, add-zero}
 use Rattle.std.specs.Io.KnownBytes.{Consumes, IsAtEnd}
 use Rattle.std.specs.Str.{IsAscii}
-use Rattle.std.specs.List.{All, Contains, flat_map}
+use Rattle.std.specs.List.{All, flat_map}
 use Rattle.std.proofs.KnownBytes.{Consumes-trans}
-use Rattle.std.proofs.Math.ListN.{get_or-append}
 use Rattle.std.proofs.Math.Seq.{take-append-add}
 use Rattle.std.proofs.lemmas.Grind.{flat_map-append}
-use Rattle.std.proofs.lemmas.List.{map-append, take_at}
+use Rattle.std.proofs.lemmas.Bool.{false≢true}
+use Rattle.std.proofs.lemmas.List.{get_or-take, map-append, take_at}
+use Rattle.std.specs.Option.{is_some, unwrap_or}
+use Rattle.ascii_lines.specs.LineBuffer.{WindowState}
 use Rattle.std.proofs.lemmas.List.Elements.{All-append, All-map, All-nil, All-take}
 use Rattle.ascii.specs.declared.iter.spans.Ending.TheVariants.{Absent}
-use Rattle.ascii.specs.Found.{line_spans}
-use Rattle.ascii.specs.Lines.{Line, LinesOf, MayFollow, line_text}
-use Rattle.ascii.specs.Spans.{LineSpansOf, WithStart, items_of, line_size, with_starts}
-use Rattle.ascii.proofs.SpansLemmas.{line_spans_found}
+use Rattle.ascii.specs.Lines.{Line, line_text}
+use Rattle.ascii.specs.Spans.{WithStart, items_of, line_size, with_starts}
+use Rattle.ascii_lines.specs.declared.endings.Endings.{Endings}
 use Rattle.ascii_lines.specs.declared.line_reader.LineError.{LineError}
 use Rattle.ascii_lines.specs.declared.line_reader.LineError.TheVariants.{TooLong, Read}
 use Rattle.ascii_lines.specs.declared.line_reader.LineReader.{LineReader}
 use Rattle.ascii_lines.specs.declared.line_reader.ReadLine.{ReadLine}
 use Rattle.ascii_lines.specs.declared.line_reader.Stage.TheVariants.{Open, Ended}
 use Rattle.ascii_lines.specs.LineReader.{YieldsLines, IsDone, IsHeldThenRead, Next, NextFrom}
-use Rattle.ascii_lines.specs.LineReader.{ReaderState, IsLineError, read_line_in, state_of_reader}
-use Rattle.ascii_lines.specs.LineBuffer.{FreeUpTo}
+use Rattle.ascii_lines.specs.LineReader.{FindsLineEnd, IsLineTaken, ReaderState, TakesLine, IsLineError, read_line_in, state_of_reader}
+use Rattle.ascii_lines.specs.Endings.{EndsLine, FreeUpTo, IsBody, LineSpansEndedBy, LinesEndedBy, MayEnd}
+use Rattle.ascii_lines.proofs.EndingsLemmas.{EndsLine-same, FreeUpTo-more}
+use Rattle.ascii_lines.proofs.EndedLemmas.{some_spans}
 
 -- a text is read in two parts
 pub IsHeldThenRead-more : (held : List ℕ) (rest mid left : Option (List ℕ)) (text more : List ℕ)
@@ -39,20 +43,21 @@ IsHeldThenRead-more held rest mid left text more first then = (
 -- ---- a line that fills the buffer
 
 -- what is returned if no LF and no non-ASCII byte is held and there is no room
-pub full : (start size : ℕ) (held text : List ℕ) (rest mid left : Option (List ℕ))
+pub full : (endings : Endings) (start size : ℕ) (held text : List ℕ) (rest mid left : Option (List ℕ))
     (result : Result (Option ℕ) LineError)
-    → IsHeldThenRead held rest mid text → length text ≡ size → IsAscii text → FreeUpTo text size
+    → IsHeldThenRead held rest mid text → length text ≡ size → IsAscii text
+    → FreeUpTo endings text size
     → IfErr result (λ error. (error ≡ Read)
     ⊎ ((error ≡ TooLong start) × ((byte : ℕ) × Consumes mid left (byte ∷ []))))
-    → IfErr result (IsLineError start size held rest left)
-full start size held text rest mid left (Ok found) is long ascii free told = tt
-full start size held text rest mid left (Err error) is long ascii free told = elim told [
-  | inl failed ↦ subst (IsLineError start size held rest left) (sym failed) tt
+    → IfErr result (IsLineError endings start size held rest left)
+full endings start size held text rest mid left (Ok found) is long ascii free told = tt
+full endings start size held text rest mid left (Err error) is long ascii free told = elim told [
+  | inl failed ↦ subst (IsLineError endings start size held rest left) (sym failed) tt
   | inr more ↦
       let byte = more.1.0 in
       let all = text ++ byte ∷ [] in
       let front : take size all ≡ text = take_at text (byte ∷ []) size long in
-      subst (IsLineError start size held rest left) (sym more.0) (
+      subst (IsLineError endings start size held rest left) (sym more.0) (
         all,
         IsHeldThenRead-more held rest mid left text (byte ∷ []) is more.1.1,
         (
@@ -60,11 +65,62 @@ full start size held text rest mid left (Err error) is long ascii free told = el
           omega (arith, length-append text (byte ∷ []), long),
           subst IsAscii (sym front)
               ascii,
-          λ k inside here. free k inside
-              (sym (get_or-append text (byte ∷ []) 0 k (omega (arith, inside, long))) ∙ here),
+          FreeUpTo-more endings text (byte ∷ []) size (omega (arith, long)) free,
         ),
       )
 ]
+
+-- the bytes that were searched, after more bytes were read
+pub free_more : (kind : Endings) (held new read : List ℕ) (searched checked : ℕ)
+    → new ≡ held ++ read → searched ≡ checked → checked ≤ length held → FreeUpTo kind held checked
+    → FreeUpTo kind new searched
+free_more kind held new read searched checked is all inside free =
+    subst (λ text. FreeUpTo kind text searched) (sym is)
+    (subst (FreeUpTo kind (held ++ read)) (sym all)
+    (FreeUpTo-more kind held read checked inside free))
+
+-- ---- the bytes of a line
+
+take_all : (xs : List ℕ) → take (length xs) xs ≡ xs
+take_all xs = ap (take (length xs)) (sym (append-nil xs)) ∙ take_at xs [] (length xs) refl
+
+drop_all : (xs : List ℕ) → drop (length xs) xs ≡ []
+drop_all [] = refl
+drop_all (x ∷ xs) = drop_all xs
+
+pub takes_line : (kind : Endings) (start : ℕ) (old mid new : WindowState)
+    (rest left : Option (List ℕ)) (found : Option ℕ) (n end : ℕ) (is_last : Bool)
+    → IsHeldThenRead old.held rest left mid.held → FindsLineEnd kind mid left found
+    → n ≡ unwrap_or found (length mid.held) → end ≡ start + n → new.given ≡ take n mid.held
+    → length new.given ≡ n → new.held ≡ drop n mid.held → is_some found ≡ not is_last
+    → TakesLine kind start old new rest left end is_last
+takes_line kind start old mid new rest left found n end is_last text finds is end_is given long held
+    last = record {
+      text = subst (IsHeldThenRead old.held rest left)
+          (sym (take-append-drop n mid.held) ∙ (ap (λ xs. xs ++ drop n mid.held) (sym given)
+          ∙ ap (λ xs. new.given ++ xs) (sym held))) text;
+      place_is = end_is ∙ ap (λ k. start + k) (sym long);
+      taken = taken found is_last finds is last;
+    }
+  where
+    taken : (found : Option ℕ) (is_last : Bool) → FindsLineEnd kind mid left found
+        → n ≡ unwrap_or found (length mid.held) → is_some found ≡ not is_last
+        → IsLineTaken kind is_last new left
+    taken None true finds is last =
+        let all : new.given ≡ mid.held =
+        given ∙ (ap (λ k. take k mid.held) is ∙ take_all mid.held) in (
+          held ∙ (ap (λ k. drop k mid.held) is ∙ drop_all mid.held),
+          finds.0,
+          subst (λ xs. FreeUpTo kind xs (length xs)) (sym all) finds.1,
+        )
+    taken None false finds is last = absurd (false≢true last)
+    taken (Some m) true finds is last = absurd (false≢true (sym last))
+    taken (Some m) false finds is last =
+        subst (EndsLine kind new.given) (sym long)
+        (subst (λ xs. EndsLine kind xs n) (sym given)
+        (EndsLine-same kind mid.held (take n mid.held) n
+        (λ k low. sym (get_or-take n mid.held k 0 low))
+        (subst (EndsLine kind mid.held) (sym is) finds.1)))
 
 -- ---- lines after lines
 
@@ -99,19 +155,19 @@ ended-append xs (y ∷ ys) first then =
     (All-append (λ line. line.ending ≢ Absent) xs (take (length (y ∷ ys) - 1) (y ∷ ys)) first
     then)
 
-pub LineSpansOf-append : (start : ℕ) (t u : List ℕ) (xs ys : List (WithStart Line))
-    → LineSpansOf start t xs → All IsEnded xs → LineSpansOf (start + length t) u ys
-    → LineSpansOf start (t ++ u) (xs ++ ys)
-LineSpansOf-append start t u xs ys first ended then =
+pub LineSpansEndedBy-append : (kind : Endings) (start : ℕ) (t u : List ℕ) (xs ys : List (WithStart Line))
+    → LineSpansEndedBy kind start t xs → All IsEnded xs → LineSpansEndedBy kind (start + length t) u ys
+    → LineSpansEndedBy kind start (t ++ u) (xs ++ ys)
+LineSpansEndedBy-append kind start t u xs ys first ended then =
     let is : items_of (xs ++ ys) ≡ items_of xs ++ items_of ys =
     map-append (λ (span : WithStart Line). span.item) xs ys in
     let long : start + length t ≡ start + length (flat_map line_text (items_of xs)) =
     ap (λ (zs : List ℕ). start + length zs) (sym first.lines.joined) in
     record {
-      lines = subst (LinesOf (t ++ u)) (sym is) (record {
-        bodies = All-append (λ line. ¬ (Contains line.body 10)) (items_of xs) (items_of ys)
+      lines = subst (LinesEndedBy kind (t ++ u)) (sym is) (record {
+        bodies = All-append (λ line. IsBody kind line.body) (items_of xs) (items_of ys)
             first.lines.bodies then.lines.bodies;
-        endings = All-append (λ line. MayFollow line.ending line.body) (items_of xs)
+        endings = All-append (λ line. MayEnd kind line.ending line.body) (items_of xs)
             (items_of ys) first.lines.endings then.lines.endings;
         ended = ended-append (items_of xs) (items_of ys)
             (All-map (λ (line : Line). line.ending ≢ Absent)
@@ -145,14 +201,16 @@ YieldsLines-push a b c lines line first ended then =
             ∙ (sym (append_assoc h b.held t'.0)
             ∙ (ap (λ zs. zs ++ t'.0) t.2 ∙ append_assoc a.held t.0 t'.0))),
       );
-      exact = LineSpansOf-append a.start h h' lines (line ∷ []) first.exact ended
-          (subst (λ n. LineSpansOf n h' (line ∷ [])) first.start then.exact);
+      exact = LineSpansEndedBy-append a.endings a.start h h' lines (line ∷ []) first.exact ended
+          (subst (λ n. LineSpansEndedBy a.endings n h' (line ∷ [])) first.start
+          (subst (λ kind. LineSpansEndedBy kind b.start h' (line ∷ [])) first.endings then.exact));
       start = omega (arith, first.start, then.start, length-append h h');
       whole = elim then.whole [
         | inl more ↦ inl (more.0, All-append IsEnded lines (line ∷ []) ended more.1)
         | inr done ↦ inr done
       ];
       size = then.size ∙ first.size;
+      endings = then.endings ∙ first.endings;
     }
 
 pub none_is_some : (result : Result (Option ReadLine) LineError) (line : ReadLine) → result ≡ Ok None
@@ -199,12 +257,6 @@ told_parts (Some xs) (Some ys) read told is gave = (
   λ none. none,
 )
 
-some_spans : (s : ℕ) (text : List ℕ)
-    → (spans : List (WithStart Line)) × LineSpansOf s text spans
-some_spans s text =
-    let part : WithStart (List ℕ) = record { start = s; item = text } in
-    (line_spans part, line_spans_found part)
-
 going_is_not_done : (reading : ReaderState) → reading.stage ≡ Open → IsDone reading → ⊥
 going_is_not_done reading going done = let ended : reading.stage ≡ Ended = done.ended in cc
 
@@ -212,25 +264,25 @@ going_is_not_done reading going done = let ended : reading.stage ≡ Ended = don
 pub first_lines : (old new : ReaderState) (lines : List (WithStart Line)) (told : List ℕ)
     → old.rest ≡ Some told → YieldsLines old lines new
     → (others : List (WithStart Line))
-    × LineSpansOf old.start (old.held ++ told) (lines ++ others) × (IsDone new → others ≡ [])
+    × LineSpansEndedBy old.endings old.start (old.held ++ told) (lines ++ others) × (IsDone new → others ≡ [])
 first_lines old new lines told is hands =
     let parts = told_parts old.rest new.rest hands.text.0 told is hands.text.1 in
     let more = parts.0 in
     let whole : old.held ++ told ≡ hands.handed ++ (new.held ++ more) =
     ap (λ zs. old.held ++ zs) parts.1 ∙ (sym (append_assoc old.held hands.text.0 more)
     ∙ (ap (λ zs. zs ++ more) (sym hands.text.2) ∙ append_assoc hands.handed new.held more)) in
-    let all_done : IsDone new → LineSpansOf old.start (old.held ++ told) (lines ++ []) = λ done.
+    let all_done : IsDone new → LineSpansEndedBy old.endings old.start (old.held ++ told) (lines ++ []) = λ done.
     let none : new.held ++ more ≡ [] = ap (λ zs. zs ++ more) done.none ∙ parts.2 done.left in
-    subst (λ zs. LineSpansOf old.start (old.held ++ told) zs) (sym (append-nil lines))
-    (subst (λ zs. LineSpansOf old.start zs lines)
+    subst (λ zs. LineSpansEndedBy old.endings old.start (old.held ++ told) zs) (sym (append-nil lines))
+    (subst (λ zs. LineSpansEndedBy old.endings old.start zs lines)
     (sym (whole ∙ (ap (λ zs. hands.handed ++ zs) none ∙ append-nil hands.handed)))
     hands.exact) in
     elim hands.whole [
       | inl going ↦
-          let then = some_spans (old.start + length hands.handed) (new.held ++ more) in (
+          let then = some_spans old.endings (old.start + length hands.handed) (new.held ++ more) in (
             then.0,
-            subst (λ zs. LineSpansOf old.start zs (lines ++ then.0)) (sym whole)
-                (LineSpansOf-append old.start hands.handed (new.held ++ more) lines then.0
+            subst (λ zs. LineSpansEndedBy old.endings old.start zs (lines ++ then.0)) (sym whole)
+                (LineSpansEndedBy-append old.endings old.start hands.handed (new.held ++ more) lines then.0
                 hands.exact going.1 then.1),
             λ done. absurd (going_is_not_done new going.0 done),
           )

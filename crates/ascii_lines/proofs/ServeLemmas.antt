@@ -8,7 +8,10 @@ use Rattle.std.proofs.lemmas.List.{map-append}
 use Rattle.std.specs.List.{flat_map}
 use Rattle.ascii.specs.declared.iter.spans.Ending.{Ending}
 use Rattle.ascii.specs.declared.iter.spans.Ending.TheVariants.{Absent, CrLf, Lf}
-use Rattle.ascii.specs.Lines.{Line, LinesOf, MayFollow, ending_text, line_text}
+use Rattle.ascii.specs.Lines.{Line, MayFollow, ending_text, line_text}
+use Rattle.ascii_lines.specs.declared.endings.Endings.{Endings}
+use Rattle.ascii_lines.specs.Endings.{LinesEndedBy}
+use Rattle.ascii_lines.proofs.EndedLemmas.{MayFollow-ended}
 use Rattle.ascii.specs.Spans.{WithStart, items_of, line_size, with_starts}
 use Rattle.ascii.specs.View.{text_of}
 use Rattle.ascii_lines.specs.declared.line_reader.LineError.{LineError}
@@ -38,20 +41,21 @@ line_bytes (b ∷ bs) Absent may = omega (arith, length-append (b ∷ bs) [])
 
 -- a line that was yielded is an input
 yields_input : (old new : ReaderState) (line : WithStart Line)
-    → YieldsLines old (line ∷ []) new → IsAsked next.Line line.item × TakesInput old line new
+    → YieldsLines old (line ∷ []) new → IsAsked old.endings next.Line line.item × TakesInput old line new
 yields_input old new line yields =
     let bytes = line_text line.item in
     let is : yields.handed ≡ bytes = sym yields.exact.lines.joined ∙ append-nil bytes in
     let first : line ∷ [] ≡ record { start = old.start; item = line.item } ∷ [] =
     yields.exact.starts in
     let same : line ≡ record { start = old.start; item = line.item } = cc in (
-      subst (λ text. LinesOf text (line.item ∷ [])) is yields.exact.lines,
+      subst (λ text. LinesEndedBy old.endings text (line.item ∷ [])) is yields.exact.lines,
       record {
         read = record {
           text = subst (λ text. IsHeldThenRead old.held old.rest new.rest (text ++ new.held)) is
               yields.text;
           start = yields.start ∙ ap (λ (text : List ℕ). old.start + length text) is;
           size = yields.size;
+          endings = yields.endings;
         };
         start = ap (λ (span : WithStart Line). span.start) same;
         going = elim yields.whole [ inl more ↦ inl more.0 | inr done ↦ inr done ];
@@ -67,7 +71,7 @@ module _ {S Z : Type 0} (rest : S → Option (List ℕ)) (failures : S → ℕ) 
   pub takes_line : (old new : LineReader S Z) (result : Result (Option ReadLine) LineError)
       (line : ReadLine) → IsGoing (state_of_reader rest failures old)
       → reader.Next rest failures old result new → result ≡ Ok (Some line)
-      → IsAsked next.Line (read_line_in line).item
+      → IsAsked old.endings next.Line (read_line_in line).item
       × TakesInput (state_of_reader rest failures old) (read_line_in line)
       (state_of_reader rest failures new)
   takes_line old new result line going next is = elim going [
@@ -87,7 +91,7 @@ module _ {S Z : Type 0} (rest : S → Option (List ℕ)) (failures : S → ℕ) 
   pub takes_part : (n : ℕ) (old new : LineReader S Z) (result : Result ReadPart LineError)
       (part : ReadPart) → IsGoing (state_of_reader rest failures old)
       → NextPart rest failures n old result new → result ≡ Ok part
-      → IsAsked (next.Part n) (record { body = text_of part.text; ending = Absent })
+      → IsAsked old.endings (next.Part n) (record { body = text_of part.text; ending = Absent })
       × TakesInput (state_of_reader rest failures old)
       (record { start = part.start; item = record { body = text_of part.text; ending = Absent } })
       (state_of_reader rest failures new)
@@ -117,7 +121,7 @@ module _ {S Z : Type 0} (rest : S → Option (List ℕ)) (failures : S → ℕ) 
 module _ {H : Type 0} (answers : H → List ℕ → List (List ℕ) → Next → H → Type 0) where
   pub given_to_handler : (asked : Next) (handler after : H) (old new : ReaderState)
       (replies : List (List ℕ)) (result : Result Next Stop) (input : WithStart Line)
-      → IsAsked asked input.item × TakesInput old input new
+      → IsAsked old.endings asked input.item × TakesInput old input new
       → IfOk result (λ then. answers handler input.item.body replies then after)
       → IfErr result (λ why. why ≡ stop.Memory)
       → TurnOutcome answers asked handler old replies result after new
@@ -144,6 +148,7 @@ ReadsBytes-trans {a} {b} {c} xs ys first then =
       );
       start = omega (arith, first.start, then.start, length-append xs ys);
       size = then.size ∙ first.size;
+      endings = then.endings ∙ first.endings;
     }
 
 ReadsBytes-nil : (a : ReaderState) → ReadsBytes a [] a
@@ -151,25 +156,28 @@ ReadsBytes-nil a = record {
   text = ([], Consumes-nil a.rest, sym (append-nil a.held));
   start = sym (add-zero a.start);
   size = refl;
+  endings = refl;
 }
 
 -- an input that was asked for has a byte
-pub some_bytes : (asked : Next) (input : Line) → IsRequest asked → IsAsked asked input
-    → 0 < length (line_text input)
-some_bytes next.Line input request is = line_bytes input.body input.ending (is.endings 0 input (omega arith))
-some_bytes (next.Part n) input request is =
+pub some_bytes : (endings : Endings) (asked : Next) (input : Line) → IsRequest asked
+    → IsAsked endings asked input → 0 < length (line_text input)
+some_bytes endings next.Line input request is = line_bytes input.body input.ending
+    (MayFollow-ended endings input.ending input.body (is.endings 0 input (omega arith)))
+some_bytes endings (next.Part n) input request is =
     omega (arith, length-append input.body (ending_text input.ending), is.0, request)
-some_bytes next.Close input request is = absurd is
+some_bytes endings next.Close input request is = absurd is
 
 module _ {H : Type 0} (answers : H → List ℕ → List (List ℕ) → Next → H → Type 0) where
   -- one more input was answered
-  talks_more : (old mid new : H) (first then last : Next) (inputs : List (WithStart Line))
+  talks_more : (endings : Endings) (old mid new : H) (first then last : Next) (inputs : List (WithStart Line))
       (replies now : List (List ℕ)) (input : WithStart Line)
-      → Talks answers old first inputs replies then mid → IsAsked then input.item
+      → Talks answers endings old first inputs replies then mid
+      → IsAsked endings then input.item
       → answers mid input.item.body now last new
-      → Talks answers old first (inputs ++ input ∷ []) (replies ++ now) last new
-  talks_more old mid new first then last [] replies now input talks asked answered = (
-    subst (λ n. IsAsked n input.item) talks.1 asked,
+      → Talks answers endings old first (inputs ++ input ∷ []) (replies ++ now) last new
+  talks_more endings old mid new first then last [] replies now input talks asked answered = (
+    subst (λ n. IsAsked endings n input.item) talks.1 asked,
     (
       new,
       now,
@@ -180,7 +188,7 @@ module _ {H : Type 0} (answers : H → List ℕ → List (List ℕ) → Next →
       (refl, refl, refl),
     ),
   )
-  talks_more old mid new first then last (i ∷ inputs) replies now input talks asked answered =
+  talks_more endings old mid new first then last (i ∷ inputs) replies now input talks asked answered =
       let t = talks.1 in (
         talks.0,
         (
@@ -190,7 +198,7 @@ module _ {H : Type 0} (answers : H → List ℕ → List (List ℕ) → Next →
           t.3,
           t.4,
           ap (λ xs. xs ++ now) t.5 ∙ append_assoc t.1 t.2 now,
-          talks_more t.0 mid new t.3 then last inputs t.2 now input t.6 asked answered,
+          talks_more endings t.0 mid new t.3 then last inputs t.2 now input t.6 asked answered,
         ),
       )
 
@@ -206,7 +214,7 @@ module _ {H : Type 0} (answers : H → List ℕ → List (List ℕ) → Next →
 
   pub Conversation-more : (a b c : ReaderState) (old mid new : H) (then last : Next)
       (replies now : List (List ℕ)) (input : WithStart Line)
-      → Conversation answers a old replies then b mid → IsAsked then input.item
+      → Conversation answers a old replies then b mid → IsAsked b.endings then input.item
       → TakesInput b input c → answers mid input.item.body now last new
       → Conversation answers a old (replies ++ now) last c new
   Conversation-more a b c old mid new then last replies now input talk asked takes answered =
@@ -222,8 +230,9 @@ module _ {H : Type 0} (answers : H → List ℕ → List (List ℕ) → Next →
       ap (λ n. record { start = n; item = input.item }) (takes.start ∙ talk.read.start) in
       record {
         inputs = talk.inputs ++ input ∷ [];
-        talks = talks_more old mid new next.Line then last talk.inputs replies now input
-            talk.talks asked answered;
+        talks = talks_more a.endings old mid new next.Line then last talk.inputs replies now
+            input talk.talks
+            (subst (λ kind. IsAsked kind then input.item) talk.read.endings asked) answered;
         read = subst (λ xs. ReadsBytes a xs c) (sym joined)
             (ReadsBytes-trans bytes (line_text input.item) talk.read takes.read);
         starts = ap (λ xs. xs ++ input ∷ []) talk.starts

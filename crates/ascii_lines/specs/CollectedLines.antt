@@ -2,7 +2,8 @@
 use Rattle.std.specs.Prelude.{◌≡◌, ℕ, List, [], ◌++◌, map, None, Some}
 use Rattle.std.specs.declared.option.Option.{Option}
 use Rattle.ascii.specs.Lines.{Line}
-use Rattle.ascii.specs.Spans.{LineSpansOf, WithStart}
+use Rattle.ascii.specs.Spans.{WithStart}
+use Rattle.ascii_lines.specs.Endings.{LineSpansEndedBy}
 use Rattle.ascii_lines.specs.declared.line_reader.LineError.{LineError}
 use Rattle.ascii_lines.specs.declared.owned_lines.OwnedLine.{OwnedLine}
 use Rattle.ascii_lines.specs.declared.owned_lines.CollectedLines.{CollectedLines}
@@ -25,11 +26,12 @@ abbrev pub YieldsUntil
 YieldsUntil old lines None new = YieldsLines old lines new × IsDone new
 YieldsUntil old lines (Some error) new = (new.stage ≡ Refused error)
     × ((before : ReaderState) × YieldsLines old lines before
-    × IsLineError before.start before.size before.held before.rest new.rest error)
+    × IsLineError before.endings before.start before.size before.held before.rest new.rest error)
 
 -- if it is known which bytes the source of a reader in the state `old` has yet to give, `lines` are
 -- the first lines of these and of the bytes held, and with no error they are all of their lines
 abbrev pub AreFirstLines : ReaderState → List (WithStart Line) → Option LineError → Type 0
 AreFirstLines old lines error = (told : List ℕ) → old.rest ≡ Some told
-    → (others : List (WithStart Line)) × LineSpansOf old.start (old.held ++ told) (lines ++ others)
+    → (others : List (WithStart Line))
+    × LineSpansEndedBy old.endings old.start (old.held ++ told) (lines ++ others)
     × (error ≡ None → others ≡ [])

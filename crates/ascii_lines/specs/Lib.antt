@@ -1,4 +1,5 @@
 pub mod CollectedLines
+pub mod Endings
 pub mod Errors
 pub mod LineBuffer
 pub mod LineReader

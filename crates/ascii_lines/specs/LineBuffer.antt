@@ -1,5 +1,5 @@
 -- What a buffer of fixed size holds between two reads.
-use Rattle.std.specs.Prelude.{◌≡◌, ◌≢◌, ℕ, ◌-◌, ◌<◌, ◌≤◌, List, length, slice_index}
+use Rattle.std.specs.Prelude.{ℕ, ◌<◌, ◌≤◌, List, length, slice_index}
 
 -- what contracts see of a buffer: its size; the bytes taken last; the bytes that it holds; how many
 -- of these, from the first, are known to be less than 128; the room after them
@@ -10,25 +10,13 @@ pub record WindowState : Type 0 where
   pub checked : ℕ
   pub spare : ℕ
 
--- none of the first `n` bytes is LF
-abbrev pub FreeUpTo : List ℕ → ℕ → Type 0
-FreeUpTo bytes n = (k : ℕ) → k < n → slice_index bytes k ≢ 10
-
--- the last of the first `n` bytes is LF, and no byte before it is
-pub record EndsLine (bytes : List ℕ) (n : ℕ) : Type 0 where
-  pub some : 0 < n
-  pub feed : slice_index bytes (n - 1) ≡ 10
-  pub free : FreeUpTo bytes (n - 1)
-
 -- where the bytes of a buffer are: those taken last from `given` to `from`, and those held from
--- `from` to `filled`. Of the bytes held, none before `searched` is LF. All of these bytes before
--- `checked` are less than 128, and the one at `checked` is not, if it is before `filled`
-pub record IsLaidOut (bytes : List ℕ) (given from searched checked filled : ℕ) : Type 0 where
+-- `from` to `filled`. All of these bytes before `checked` are less than 128, and the one at `checked`
+-- is not, if it is before `filled`
+pub record IsLaidOut (bytes : List ℕ) (given from checked filled : ℕ) : Type 0 where
   pub given_first : given ≤ from
-  pub then_from : from ≤ searched
-  pub then_searched : searched ≤ checked
+  pub then_from : from ≤ checked
   pub then_checked : checked ≤ filled
   pub inside : filled ≤ length bytes
-  pub free : (k : ℕ) → from ≤ k → k < searched → slice_index bytes k ≢ 10
   pub ascii : (k : ℕ) → given ≤ k → k < checked → slice_index bytes k < 128
   pub other : checked < filled → 128 ≤ slice_index bytes checked

@@ -9,10 +9,13 @@ use Rattle.std.specs.declared.option.Option.{Option}
 use Rattle.std.specs.declared.result.Result.{Result}
 use Rattle.ascii.specs.declared.iter.spans.Ending.TheVariants.{Absent}
 use Rattle.ascii.specs.Lines.{Line}
-use Rattle.ascii.specs.Spans.{LineSpansOf, WithStart, line_size}
+use Rattle.ascii.specs.Spans.{WithStart, line_size}
 use Rattle.ascii.specs.View.{text_of}
 use Rattle.ascii.specs.Bytes.{FirstOther}
-use Rattle.ascii_lines.specs.LineBuffer.{WindowState, EndsLine, FreeUpTo}
+use Rattle.ascii_lines.specs.Endings.{EndsLine, FreeUpTo, LineSpansEndedBy}
+use Rattle.ascii_lines.specs.LineBuffer.{WindowState}
+use Rattle.ascii_lines.specs.declared.endings.Endings.{Endings}
+use Rattle.ascii_lines.specs.declared.endings.Endings.TheVariants.{Any}
 use Rattle.ascii_lines.specs.declared.line_reader.LineError.{LineError}
 use Rattle.ascii_lines.specs.declared.line_reader.LineError.TheVariants.{NotAscii, TooLong, TooFar}
 use Rattle.ascii_lines.specs.declared.line_reader.LineError.TheVariants.{Incomplete, Read}
@@ -24,7 +27,8 @@ use Rattle.ascii_lines.specs.declared.line_reader.Stage.TheVariants.{Open, Ended
 
 -- the state of a reader: the size of its buffer; the position in the input at which the next line
 -- starts; the bytes that it has read and not yet yielded; the bytes that its source has yet to
--- give, if it is known which; how many calls of the source have failed; whether the reader goes on
+-- give, if it is known which; how many calls of the source have failed; whether the reader goes on;
+-- which endings end its lines
 pub record ReaderState : Type 0 where
   pub size : ℕ
   pub start : ℕ
@@ -32,6 +36,7 @@ pub record ReaderState : Type 0 where
   pub rest : Option (List ℕ)
   pub failures : ℕ
   pub stage : Stage
+  pub endings : Endings
 
 -- the state of a reader whose source has yet to give the bytes `rest source`, and has failed
 -- `failures source` times
@@ -44,7 +49,12 @@ state_of_reader rest failures reader = record {
   rest = rest reader.source;
   failures = failures reader.source;
   stage = reader.stage;
+  endings = reader.endings;
 }
+
+-- a reader whose lines these endings end, and which is otherwise unchanged
+abbrev pub ended_by : {S Z : Type 0} → Endings → LineReader S Z → LineReader S Z
+ended_by endings reader = record reader { endings = endings }
 
 -- the source of a reader
 abbrev pub source_of : {S Z : Type 0} → LineReader S Z → S
@@ -58,10 +68,11 @@ start_of_next reader = reader.start
 abbrev pub IsOpen : {S Z : Type 0} → LineReader S Z → Type 0
 IsOpen reader = reader.stage ≡ Open
 
--- the state of a new reader with a buffer of `size` bytes: it has read nothing
+-- the state of a new reader with a buffer of `size` bytes: it has read nothing, and its lines end in
+-- any ending
 abbrev pub IsFresh : ℕ → ReaderState → Type 0
-IsFresh size reading =
-    (reading.size ≡ size) × (reading.start ≡ 0) × (reading.held ≡ []) × (reading.stage ≡ Open)
+IsFresh size reading = (reading.size ≡ size) × (reading.start ≡ 0) × (reading.held ≡ [])
+    × (reading.stage ≡ Open) × (reading.endings ≡ Any)
 
 -- a `ReadLine` as a line with its start
 abbrev pub read_line_in : ReadLine → WithStart Line
@@ -87,35 +98,36 @@ pub record YieldsLines (old : ReaderState) (lines : List (WithStart Line)) (new 
     : Type 0 where
   pub handed : List ℕ
   pub text : IsHeldThenRead old.held old.rest new.rest (handed ++ new.held)
-  pub exact : LineSpansOf old.start handed lines
+  pub exact : LineSpansEndedBy old.endings old.start handed lines
   pub start : new.start ≡ old.start + length handed
   pub whole :
       ((new.stage ≡ Open) × All (λ span. span.item.ending ≢ Absent) lines) ⊎ IsDone new
   pub size : new.size ≡ old.size
+  pub endings : new.endings ≡ old.endings
 
--- why the first line of `text`, which is at the position `start` of the input, is not yielded
--- through a buffer of `size` bytes. `NotAscii`: a byte of the line, among its first `size` bytes,
+-- why the first line of `text` by `endings`, which is at the position `start` of the input, is not
+-- yielded through a buffer of `size` bytes. `NotAscii`: a byte of the line, among its first `size` bytes,
 -- is the first of `text` that is not less than 128; the error holds its position. `TooLong`: the
 -- line has more bytes than the buffer, of which the first `size` are ASCII; the error holds its
 -- position. `TooFar`: the line has a byte at the position 2 ^ 64 - 1 or after it. `Incomplete` is
 -- not an error of a line. `Read` says nothing of `text`
-abbrev pub RejectsLine : ℕ → ℕ → List ℕ → LineError → Type 0
-RejectsLine start size text (NotAscii place) = (i : ℕ) × (place ≡ start + i) × (i < size)
-    × FirstOther text 0 (length text) i × FreeUpTo text i
-RejectsLine start size text (TooLong place) =
-    (place ≡ start) × (size < length text) × IsAscii (take size text) × FreeUpTo text size
-RejectsLine start size text TooFar =
-    (n : ℕ) × (n ≤ length text) × FreeUpTo text (n - 1) × (2 ^ 64 - 1 < start + n)
-RejectsLine start size text (Incomplete count) = ⊥
-RejectsLine start size text Read = ⊤
+abbrev pub RejectsLine : Endings → ℕ → ℕ → List ℕ → LineError → Type 0
+RejectsLine endings start size text (NotAscii place) = (i : ℕ) × (place ≡ start + i) × (i < size)
+    × FirstOther text 0 (length text) i × FreeUpTo endings text i
+RejectsLine endings start size text (TooLong place) = (place ≡ start) × (size < length text)
+    × IsAscii (take size text) × FreeUpTo endings text size
+RejectsLine endings start size text TooFar =
+    (n : ℕ) × (n ≤ length text) × FreeUpTo endings text (n - 1) × (2 ^ 64 - 1 < start + n)
+RejectsLine endings start size text (Incomplete count) = ⊥
+RejectsLine endings start size text Read = ⊤
 
 -- why a reader stops that held the bytes `held`. `Read` says nothing of the bytes that the source
 -- gave. For another error, `RejectsLine` is true of these and of the bytes held
 abbrev pub IsLineError
-    : ℕ → ℕ → List ℕ → Option (List ℕ) → Option (List ℕ) → LineError → Type 0
-IsLineError start size held rest left Read = ⊤
-IsLineError start size held rest left error =
-    (text : List ℕ) × IsHeldThenRead held rest left text × RejectsLine start size text error
+    : Endings → ℕ → ℕ → List ℕ → Option (List ℕ) → Option (List ℕ) → LineError → Type 0
+IsLineError endings start size held rest left Read = ⊤
+IsLineError endings start size held rest left error =
+    (text : List ℕ) × IsHeldThenRead held rest left text × RejectsLine endings start size text error
 
 -- from the state `old` to the state `new` the reader returned `bytes`: of the bytes held before and
 -- those that the source gave they are the first, and the others are held
@@ -123,6 +135,7 @@ pub record ReadsBytes (old : ReaderState) (bytes : List ℕ) (new : ReaderState)
   pub text : IsHeldThenRead old.held old.rest new.rest (bytes ++ new.held)
   pub start : new.start ≡ old.start + length bytes
   pub size : new.size ≡ old.size
+  pub endings : new.endings ≡ old.endings
 
 -- why a reader that held the bytes `held` returns no part of `n` bytes. `NotAscii`: one of these
 -- bytes is the first that is not less than 128; the error holds its position. `TooLong`: `n` is more
@@ -155,7 +168,7 @@ YieldsNext old (Ok (Some line)) new =
     YieldsLines old (read_line_in line ∷ []) new × (line_size (read_line_in line).item ≤ old.size)
 YieldsNext old (Ok None) new = YieldsLines old [] new × IsDone new
 YieldsNext old (Err error) new = (new.stage ≡ Refused error)
-    × IsLineError old.start old.size old.held old.rest new.rest error
+    × IsLineError old.endings old.start old.size old.held old.rest new.rest error
 
 -- what an open reader returns for a part of `n` bytes. `Ok`: the next `n` bytes with their start, and
 -- the reader is open. `Err`: the reader has stopped, and why
@@ -202,36 +215,37 @@ module _ {S Z : Type 0} (rest : S → Option (List ℕ)) (failures : S → ℕ) 
 
 -- ---- cited by private functions only
 
--- `bytes` is not empty, and only its last byte may be LF
-abbrev pub IsOneLine : List ℕ → Type 0
-IsOneLine bytes = (0 < length bytes) × FreeUpTo bytes (length bytes - 1)
+-- `bytes` is not empty, and only its last byte may end a line
+abbrev pub IsOneLine : Endings → List ℕ → Type 0
+IsOneLine endings bytes = (0 < length bytes) × FreeUpTo endings bytes (length bytes - 1)
 
 -- the error for a byte that is not less than 128, `i` bytes after the position `start`: its
 -- position, or `TooFar` if that does not fit a `u64`
 abbrev pub error_at : ℕ → ℕ → LineError
 error_at start i = if nat_lt (start + i) (2 ^ 64) then NotAscii (start + i) else TooFar
 
--- what a search for the end of a line finds. `None`: the source is at its end, and the buffer holds
--- no LF and only ASCII. `Some`: the number of bytes up to the first LF, which are all ASCII
-abbrev pub FindsLineEnd : WindowState → Option (List ℕ) → Option ℕ → Type 0
-FindsLineEnd buffer left None = IsAtEnd left × FreeUpTo buffer.held (length buffer.held)
-    × (buffer.checked ≡ length buffer.held)
-FindsLineEnd buffer left (Some n) = (n ≤ buffer.checked) × EndsLine buffer.held n
+-- what a search for the end of a line finds. `None`: the source is at its end, and no line ends in
+-- the bytes of the buffer, which are ASCII. `Some`: the number of bytes up to the end of the first
+-- line, which are all ASCII
+abbrev pub FindsLineEnd : Endings → WindowState → Option (List ℕ) → Option ℕ → Type 0
+FindsLineEnd endings buffer left None = IsAtEnd left
+    × FreeUpTo endings buffer.held (length buffer.held) × (buffer.checked ≡ length buffer.held)
+FindsLineEnd endings buffer left (Some n) = (n ≤ buffer.checked) × EndsLine endings buffer.held n
 
--- the bytes taken last are all that was left, without LF, and the source is at its end (`true`); or
--- they end in their only LF (`false`)
-abbrev pub IsLineTaken : Bool → WindowState → Option (List ℕ) → Type 0
-IsLineTaken true buffer left =
-    (buffer.held ≡ []) × IsAtEnd left × FreeUpTo buffer.given (length buffer.given)
-IsLineTaken false buffer left = EndsLine buffer.given (length buffer.given)
+-- the bytes taken last are all that was left, no line ends in them, and the source is at its end
+-- (`true`); or they end where the first line does (`false`)
+abbrev pub IsLineTaken : Endings → Bool → WindowState → Option (List ℕ) → Type 0
+IsLineTaken endings true buffer left = (buffer.held ≡ []) × IsAtEnd left
+    × FreeUpTo endings buffer.given (length buffer.given)
+IsLineTaken endings false buffer left = EndsLine endings buffer.given (length buffer.given)
 
 -- the bytes of the line at the position `start` were taken from the buffer. They end at the
 -- position `place`, and `is_last` tells whether the source is at its end
-pub record TakesLine (start : ℕ) (old new : WindowState) (rest left : Option (List ℕ)) (place : ℕ)
-    (is_last : Bool) : Type 0 where
+pub record TakesLine (endings : Endings) (start : ℕ) (old new : WindowState)
+    (rest left : Option (List ℕ)) (place : ℕ) (is_last : Bool) : Type 0 where
   pub text : IsHeldThenRead old.held rest left (new.given ++ new.held)
   pub place_is : place ≡ start + length new.given
-  pub taken : IsLineTaken is_last new left
+  pub taken : IsLineTaken endings is_last new left
 
 -- the outcome of taking the bytes of the next line, which are `given`. `true`: they are one line,
 -- and fit in the buffer. `false`: there are no more lines. `Err`: the reader has stopped, and why
@@ -239,11 +253,11 @@ abbrev pub Advances : ReaderState → Result Bool LineError → ReaderState → 
 Advances old (Ok true) new given =
     IsHeldThenRead old.held old.rest new.rest (given ++ new.held)
     × (new.start ≡ old.start + length given) × (new.size ≡ old.size)
-    × IsOneLine given × (length given ≤ old.size)
-    × (((new.stage ≡ Open) × EndsLine given (length given)) ⊎ IsDone new)
+    × (new.endings ≡ old.endings) × IsOneLine old.endings given × (length given ≤ old.size)
+    × (((new.stage ≡ Open) × EndsLine old.endings given (length given)) ⊎ IsDone new)
 Advances old (Ok false) new given = YieldsLines old [] new × IsDone new
 Advances old (Err error) new given = (new.stage ≡ Refused error)
-    × IsLineError old.start old.size old.held old.rest new.rest error
+    × IsLineError old.endings old.start old.size old.held old.rest new.rest error
 
 module _ {S Z : Type 0} (rest : S → Option (List ℕ)) (failures : S → ℕ) where
   -- the outcome of taking the bytes of the next line, at a stage. At `Open`, `Advances` says which.

@@ -7,11 +7,13 @@ use Rattle.std.specs.declared.result.Result.{Result}
 use Rattle.ascii.specs.declared.ascii_string.AsciiString.{AsciiString}
 use Rattle.ascii.specs.declared.iter.spans.Ending.{Ending}
 use Rattle.ascii.specs.declared.iter.spans.Ending.TheVariants.{Absent}
-use Rattle.ascii.specs.Lines.{Line, LinesOf, line_text}
+use Rattle.ascii.specs.Lines.{Line, line_text}
 use Rattle.ascii.specs.Spans.{WithStart, items_of, line_size, with_starts}
 use Rattle.memchr.specs.Find.{IsFirstByte}
+use Rattle.ascii_lines.specs.Endings.{LinesEndedBy}
 use Rattle.ascii_lines.specs.LineReader.{IsDone, IsLineError, IsPartError, ReaderState, ReadsBytes}
 use Rattle.ascii_lines.specs.LineWriter.{FailsToWrite, WriterState, is_line_break}
+use Rattle.ascii_lines.specs.declared.endings.Endings.{Endings}
 use Rattle.ascii_lines.specs.declared.line_reader.LineError.{LineError}
 use Rattle.ascii_lines.specs.declared.line_reader.LineError.TheVariants.{Incomplete}
 use Rattle.ascii_lines.specs.declared.line_reader.Stage.TheVariants.{Open, Ended, Refused}
@@ -37,11 +39,11 @@ abbrev pub reply_bytes : Ending → List (List ℕ) → List ℕ
 reply_bytes ending replies =
     flat_map (λ reply. line_text (record { body = reply; ending = ending })) replies
 
--- an input is what was asked for: a line, or a part of `n` bytes, which has no ending
-abbrev pub IsAsked : Next → Line → Type 0
-IsAsked next.Line input = LinesOf (line_text input) (input ∷ [])
-IsAsked (next.Part n) input = (length input.body ≡ n) × (input.ending ≡ Absent)
-IsAsked next.Close input = ⊥
+-- an input is what was asked for: a line by `endings`, or a part of `n` bytes, which has no ending
+abbrev pub IsAsked : Endings → Next → Line → Type 0
+IsAsked endings next.Line input = LinesEndedBy endings (line_text input) (input ∷ [])
+IsAsked endings (next.Part n) input = (length input.body ≡ n) × (input.ending ≡ Absent)
+IsAsked endings next.Close input = ⊥
 
 -- what is asked for has a byte at least: a line has, and a part is to be of one byte or more
 abbrev pub IsRequest : Next → Type 0
@@ -62,7 +64,7 @@ pub record TakesInput (old : ReaderState) (input : WithStart Line) (new : Reader
 -- the error that the reader returned in place of what was asked for
 abbrev pub RefusesInput : Next → ReaderState → LineError → ReaderState → Type 0
 RefusesInput next.Line old error new = (new.stage ≡ Refused error)
-    × IsLineError old.start old.size old.held old.rest new.rest error
+    × IsLineError old.endings old.start old.size old.held old.rest new.rest error
 RefusesInput (next.Part n) old error new = ((new.stage ≡ Refused error)
     × IsPartError old.start old.size n old.held old.rest new.rest error)
     ⊎ ((old.stage ≡ Ended) × (error ≡ Incomplete 0) × (new ≡ old))
@@ -94,15 +96,15 @@ writing_of (stop.Writer error) = Err error
 writing_of other = Ok tt
 
 module _ {H : Type 0} (answers : H → List ℕ → List (List ℕ) → Next → H → Type 0) where
-  -- `inputs` were handed to a handler in the state `old`, which first asked for `first`; it replied
-  -- `replies`, in order, asks for `last` and is in the state `new`
+  -- `inputs`, of which `endings` end the lines, were handed to a handler in the state `old`, which
+  -- first asked for `first`; it replied `replies`, in order, asks for `last` and is in the state `new`
   abbrev pub Talks
-      : H → Next → List (WithStart Line) → List (List ℕ) → Next → H → Type 0
-  Talks old first [] replies last new = (replies ≡ []) × (last ≡ first) × (new ≡ old)
-  Talks old first (input ∷ inputs) replies last new = IsAsked first input.item
+      : Endings → H → Next → List (WithStart Line) → List (List ℕ) → Next → H → Type 0
+  Talks endings old first [] replies last new = (replies ≡ []) × (last ≡ first) × (new ≡ old)
+  Talks endings old first (input ∷ inputs) replies last new = IsAsked endings first input.item
       × ((mid : H) × (now later : List (List ℕ)) × (then : Next)
       × answers old input.item.body now then mid × (replies ≡ now ++ later)
-      × Talks mid then inputs later last new)
+      × Talks endings mid then inputs later last new)
 
   -- a conversation with a handler in the state `handler`, which asks for a line first: the inputs,
   -- laid end to end in the input, the replies to them, what the handler asks for next, and the states
@@ -110,7 +112,7 @@ module _ {H : Type 0} (answers : H → List ℕ → List (List ℕ) → Next →
   pub record Conversation (old : ReaderState) (handler : H) (replies : List (List ℕ)) (last : Next)
       (new : ReaderState) (after : H) : Type 0 where
     pub inputs : List (WithStart Line)
-    pub talks : Talks handler next.Line inputs replies last after
+    pub talks : Talks old.endings handler next.Line inputs replies last after
     pub read : ReadsBytes old (flat_map line_text (items_of inputs)) new
     pub starts : inputs ≡ with_starts line_size old.start (items_of inputs)
     pub going : IsGoing new
@@ -126,14 +128,14 @@ module _ {H : Type 0} (answers : H → List ℕ → List (List ℕ) → Next →
   StopsTurn (stop.Reader error) asked handler old after new =
       RefusesInput asked old error new × (after ≡ handler)
   StopsTurn stop.Memory asked handler old after new =
-      (input : WithStart Line) × IsAsked asked input.item × TakesInput old input new
+      (input : WithStart Line) × IsAsked old.endings asked input.item × TakesInput old input new
   StopsTurn (stop.Writer error) asked handler old after new = ⊥
 
   -- the outcome of one input: the replies to it and what is asked for next, or why there is none
   abbrev pub TurnOutcome : Next → H → ReaderState → List (List ℕ) → Result Next Stop
       → H → ReaderState → Type 0
   TurnOutcome asked handler old replies (Ok then) after new = (input : WithStart Line)
-      × IsAsked asked input.item × TakesInput old input new
+      × IsAsked old.endings asked input.item × TakesInput old input new
       × answers handler input.item.body replies then after
   TurnOutcome asked handler old replies (Err why) after new =
       StopsTurn why asked handler old after new

@@ -6,11 +6,11 @@ ghost use Rattle.std.specs.Io.KnownBytes.{Consumes, IsAtEnd};
 ghost use Rattle.std.specs.Str.{IsAscii};
 ghost use Rattle.ascii.specs.Bytes.{FirstOther};
 ghost use Rattle.ascii_devices.specs.Devices.{CountsFault};
-ghost use Rattle.ascii_lines.specs.LineBuffer.{EndsLine, FreeUpTo};
+ghost use Rattle.ascii_lines.specs.Endings.{EndsLine, FreeUpTo};
 
+use crate::endings::{Endings, find_end};
 use ascii::kernels::first_other;
 use ascii_devices::{DeviceFault, Source};
-use memchr::memchr;
 use std::alloc::{AllocError, Allocator};
 use std::marker::Model;
 
@@ -22,8 +22,6 @@ pub(crate) struct LineBuffer<A: Allocator> {
     given: usize,
     // Where they end, and those start that were not taken.
     from: usize,
-    // There is no LF from there up to here.
-    searched: usize,
     // There is no non-ASCII byte from there up to here.
     checked: usize,
     // Where the bytes end.
@@ -44,7 +42,7 @@ impl<A: Allocator> Model for LineBuffer<A> {
       spare = vec_len w.bytes - w.filled;
     } };
 
-    ghost invariant = { λ w. IsLaidOut w.bytes.items w.given w.from w.searched w.checked w.filled };
+    ghost invariant = { λ w. IsLaidOut w.bytes.items w.given w.from w.checked w.filled };
 }
 
 impl<A: Allocator> LineBuffer<A> {
@@ -59,7 +57,6 @@ impl<A: Allocator> LineBuffer<A> {
             bytes,
             given: 0,
             from: 0,
-            searched: 0,
             checked: 0,
             filled: 0,
         })
@@ -115,21 +112,16 @@ impl<A: Allocator> LineBuffer<A> {
         &self.bytes[self.given..self.from]
     }
 
-    /// The number of bytes up to the first LF among those before the first byte over 127. Each byte is
-    /// searched once.
+    /// The number of bytes up to the end of the first line among those before the first byte over 127.
+    /// None ends in the first `searched` bytes.
     #[inline]
-    pub(crate) fn find_line(&mut self) -> Option<usize>
-        ensures found { MatchOption result (FreeUpTo self.old.held self.old.checked)
-            (λ n. (n ≤ self.old.checked) × EndsLine self.old.held n) }
-        ensures same { self.new ≡ self.old }
+    pub(crate) fn find_line(&self, endings: Endings, searched: usize) -> Option<usize>
+        requires within { searched ≤ self.now.checked }
+        requires free { FreeUpTo endings self.now.held searched }
+        ensures found { MatchOption result (FreeUpTo endings self.now.held self.now.checked)
+            (λ n. (n ≤ self.now.checked) × EndsLine endings self.now.held n) }
     {
-        match memchr(b'\n', &self.bytes[self.searched..self.checked]) {
-            Some(place) => Some(self.searched + place + 1 - self.from),
-            None => {
-                self.searched = self.checked;
-                None
-            }
-        }
+        find_end(endings, &self.bytes[self.from..self.checked], searched)
     }
 
     /// Takes bytes from the front.
@@ -137,13 +129,13 @@ impl<A: Allocator> LineBuffer<A> {
     pub(crate) fn take(&mut self, n: usize)
         requires { n ≤ self.old.checked }
         ensures given { self.new.given ≡ take n self.old.held }
+        ensures len { length self.new.given ≡ n }
         ensures held { self.new.held ≡ drop n self.old.held }
         ensures size { self.new.size ≡ self.old.size }
         ensures within { length self.new.given ≤ self.new.size }
     {
         self.given = self.from;
         self.from += n;
-        self.searched = self.from;
     }
 
     /// Moves the bytes that it holds to the front of the buffer.
@@ -155,7 +147,6 @@ impl<A: Allocator> LineBuffer<A> {
     {
         if self.from > 0 {
             self.bytes.copy_within(self.from..self.filled, 0);
-            self.searched -= self.from;
             self.checked -= self.from;
             self.filled -= self.from;
             self.from = 0;
@@ -174,6 +165,7 @@ impl<A: Allocator> LineBuffer<A> {
         ensures end { IfOk result (λ n.
             n ≡ 0 → IsAtEnd (S.rest source.new) × (self.new.checked ≡ length self.new.held)) }
         ensures count { CountsFault (S.failures source.old) (S.failures source.new) result }
+        ensures checked { IfOk result (λ n. self.old.checked ≤ self.new.checked) }
         ensures size { self.new.size ≡ self.old.size }
     {
         self.move_to_front();

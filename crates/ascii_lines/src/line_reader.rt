@@ -1,15 +1,16 @@
 //! A reader of lines over any source, through one buffer of fixed size.
 
 ghost use Rattle.std.specs.Prelude.{◌≡◌, ◌≢◌, ◌⊎◌, ◌+◌, ◌^◌, ◌<◌, ◌≤◌, ◌∷◌, ◌++◌, [], IfErr, IfOk};
-ghost use Rattle.std.specs.Prelude.{None, OnOk, length, ℕ};
+ghost use Rattle.std.specs.Prelude.{◌-◌, ◌↔◌, IsTrue, None, OnOk, length, ℕ};
 ghost use Rattle.std.specs.Io.KnownBytes.{Consumes, IsAtEnd};
 ghost use Rattle.std.specs.Str.{IsAscii};
 ghost use Rattle.ascii.specs.Spans.{LineSpansOf, line_size};
 ghost use Rattle.ascii_lines.specs.LineReader.{FindsLineEnd, IsOneLine, IsHeldThenRead, IsLineError};
 ghost use Rattle.ascii_lines.specs.LineReader.{IsPartError};
 ghost use Rattle.ascii_lines.specs.LineReader.{TakesLine, failures_after, read_line_in, error_at};
-ghost use Rattle.ascii_lines.specs.LineBuffer.{EndsLine};
+ghost use Rattle.ascii_lines.specs.Endings.{EndsLine, IsCrLfAt, LineSpansEndedBy};
 
+use crate::endings::Endings;
 use crate::line_buffer::LineBuffer;
 use ascii::iter::Ending;
 use ascii::{AsciiStr, bytes};
@@ -65,7 +66,7 @@ enum Stage {
 }
 
 /// A reader of lines. It reads its source into one buffer and lends each line out of it. Each byte is
-/// checked once and searched once for LF. When the buffer is filled again, the part of an unfinished line
+/// checked once and searched once. When the buffer is filled again, the part of an unfinished line
 /// moves to its start, and nothing else is copied.
 #[derive(Drop)]
 pub struct LineReader<S, A: Allocator = Global> {
@@ -74,13 +75,14 @@ pub struct LineReader<S, A: Allocator = Global> {
     // Where the next line starts.
     start: u64,
     stage: Stage,
+    endings: Endings,
 }
 
 impl<S: Source, A: Allocator> LineReader<S, A> {
     ghost use Rattle.std.specs.Borrow.{sem};
     ghost use Rattle.std.specs.Io.BufRead.{Rests};
     ghost use Rattle.ascii_lines.specs.LineReader.{AdvancesFrom, IsFresh, Next, state_of_reader};
-    ghost use Rattle.ascii_lines.specs.LineReader.{AdvancesPartFrom, NextPart, source_of};
+    ghost use Rattle.ascii_lines.specs.LineReader.{AdvancesPartFrom, NextPart, ended_by, source_of};
     ghost use Rattle.ascii_lines.specs.LineReader.{start_of_next};
     ghost use Rattle.ascii_lines.specs.contracts.line_reader.LineReader.{the_row};
 
@@ -105,7 +107,22 @@ impl<S: Source, A: Allocator> LineReader<S, A> {
             buffer,
             start: 0,
             stage: Stage::Open,
+            endings: Endings::Any,
         })
+    }
+
+    /// Sets which endings end the lines that are returned from now on. The next line starts where it
+    /// would have, and nothing else changes: a reader that has returned `None` or an error goes on
+    /// returning it. A new reader has `Endings::Any`.
+    ///
+    ///     let mut reader = LineReader::new(alloc, Input::new(b"a\nb\r\nc".as_slice()), 64)?;
+    ///     reader.lines_ended_by(Endings::CrLf);
+    ///     reader.next_line() // Ok(Some(ReadLine { start: 0, text: "a\nb", ending: CrLf }))
+    ///     reader.next_line() // Ok(Some(ReadLine { start: 5, text: "c", ending: Absent }))
+    pub fn lines_ended_by(&mut self, endings: Endings)
+        ensures { self.new ≡ ended_by endings self.old }
+    {
+        self.endings = endings;
     }
 
     /// Returns the source. Bytes that the reader has read of it are lost.
@@ -131,8 +148,8 @@ impl<S: Source, A: Allocator> LineReader<S, A> {
     }
 
     /// Returns the next line with its start and its ending, or `None` if there are no more lines, or
-    /// an error. A line ends in LF or in CR LF; only the last one of the input may have no ending.
-    /// With its ending it is no longer than the buffer.
+    /// an error. A line ends in LF or in CR LF, or as `lines_ended_by` has set; only the last one of the
+    /// input may have no ending. With its ending it is no longer than the buffer.
     ///
     /// `None` is returned when every byte of the input was in a line that was returned, and the source
     /// is at its end. An error is returned instead of the next line:
@@ -167,7 +184,7 @@ impl<S: Source, A: Allocator> LineReader<S, A> {
     {
         let start = self.start;
         if self.advance()? {
-            Ok(Some(line_at(start, self.buffer.line_bytes())))
+            Ok(Some(line_at(self.endings, start, self.buffer.line_bytes())))
         } else {
             Ok(None)
         }
@@ -239,7 +256,7 @@ impl<S: Source, A: Allocator> LineReader<S, A> {
             Stage::Ended => return Ok(false),
             Stage::Refused(error) => return Err(error),
         }
-        match take_line(&mut self.buffer, &mut self.source, self.start) {
+        match take_line(&mut self.buffer, &mut self.source, self.endings, self.start) {
             Ok((end, is_last)) => {
                 if is_last {
                     self.stage = Stage::Ended;
@@ -253,22 +270,23 @@ impl<S: Source, A: Allocator> LineReader<S, A> {
     }
 }
 
-/// Takes the bytes of the next line, or all bytes if no LF is left. Returns the position after them, and
-/// whether the source has ended.
+/// Takes the bytes of the next line, or all bytes if no line ends in them. Returns the position after
+/// them, and whether the source has ended.
 fn take_line<S: Source, A: Allocator>(
     buffer: &mut LineBuffer<A>,
     source: &mut S,
+    endings: Endings,
     start: u64,
 ) -> Result<(u64, bool), LineError>
-    ensures ok { IfOk result (λ taken. TakesLine start buffer.old buffer.new
+    ensures ok { IfOk result (λ taken. TakesLine endings start buffer.old buffer.new
         (S.rest source.old) (S.rest source.new) taken.0 taken.1) }
-    ensures err { IfErr result (IsLineError start buffer.old.size buffer.old.held
+    ensures err { IfErr result (IsLineError endings start buffer.old.size buffer.old.held
         (S.rest source.old) (S.rest source.new)) }
     ensures count { S.failures source.new ≡ failures_after (S.failures source.old) result }
     ensures size { buffer.new.size ≡ buffer.old.size }
     ensures within { OnOk result (length buffer.new.given ≤ buffer.old.size) }
 {
-    let found = seek(buffer, source, start)?;
+    let found = seek(buffer, source, endings, start)?;
     let n = found.unwrap_or(buffer.len());
     let Some(end) = start.checked_add(n as u64) else {
         return Err(LineError::TooFar);
@@ -340,24 +358,28 @@ fn fill<S: Source, A: Allocator>(
     }
 }
 
-/// Reads until an LF is held. Returns the number of bytes up to it, or `None` if the source has ended.
+/// Reads until a line ends in the bytes that are held. Returns the number of bytes up to there, or
+/// `None` if the source has ended. Each byte is searched once.
 fn seek<S: Source, A: Allocator>(
     buffer: &mut LineBuffer<A>,
     source: &mut S,
+    endings: Endings,
     start: u64,
 ) -> Result<Option<usize>, LineError>
     ensures text { OnOk result
         (IsHeldThenRead buffer.old.held (S.rest source.old) (S.rest source.new) buffer.new.held) }
-    ensures found { IfOk result (FindsLineEnd buffer.new (S.rest source.new)) }
-    ensures err { IfErr result (IsLineError start buffer.old.size buffer.old.held
+    ensures found { IfOk result (FindsLineEnd endings buffer.new (S.rest source.new)) }
+    ensures err { IfErr result (IsLineError endings start buffer.old.size buffer.old.held
         (S.rest source.old) (S.rest source.new)) }
     ensures count { S.failures source.new ≡ failures_after (S.failures source.old) result }
     ensures size { buffer.new.size ≡ buffer.old.size }
 {
+    let mut searched = 0;
     'fills: loop {
-        if let Some(n) = buffer.find_line() {
+        if let Some(n) = buffer.find_line(endings, searched) {
             return Ok(Some(n));
         }
+        searched = buffer.checked_len();
         if let Some(place) = buffer.first_non_ascii() {
             return Err(other_at(start, place));
         }
@@ -404,14 +426,31 @@ fn past_full<S: Source>(source: &mut S, start: u64) -> Result<Option<usize>, Lin
     }
 }
 
+/// The line of bytes of which only the last one may end a line.
+#[inline]
+fn line_at(endings: Endings, start: u64, line: &[u8]) -> ReadLine<'_>
+    requires ascii { IsAscii line.now }
+    requires one { IsOneLine endings line.now }
+    ensures line { LineSpansEndedBy endings start line.now (read_line_in result ∷ []) }
+    ensures size { line_size (read_line_in result).item ≡ length line.now }
+    ensures ended { EndsLine endings line.now (length line.now)
+        → result.ending ≢ Ending.Absent }
+{
+    match endings {
+        Endings::Any => any_line_at(start, line),
+        Endings::CrLf => cr_lf_line_at(start, line),
+    }
+}
+
 /// The line of bytes of which only the last one may be LF.
 #[inline]
-fn line_at(start: u64, line: &[u8]) -> ReadLine<'_>
+fn any_line_at(start: u64, line: &[u8]) -> ReadLine<'_>
     requires ascii { IsAscii line.now }
-    requires one { IsOneLine line.now }
+    requires one { IsOneLine Endings.Any line.now }
     ensures line { LineSpansOf start line.now (read_line_in result ∷ []) }
     ensures size { line_size (read_line_in result).item ≡ length line.now }
-    ensures ended { EndsLine line.now (length line.now) → result.ending ≢ Ending.Absent }
+    ensures ended { EndsLine Endings.Any line.now (length line.now)
+        → result.ending ≢ Ending.Absent }
 {
     match line {
         [body @ .., b'\r', b'\n'] => ReadLine {
@@ -430,4 +469,35 @@ fn line_at(start: u64, line: &[u8]) -> ReadLine<'_>
             ending: Ending::Absent,
         },
     }
+}
+
+/// The line of bytes of which only the last two may be CR LF.
+fn cr_lf_line_at(start: u64, line: &[u8]) -> ReadLine<'_>
+    requires ascii { IsAscii line.now }
+    requires one { IsOneLine Endings.CrLf line.now }
+    ensures line { LineSpansEndedBy Endings.CrLf start line.now (read_line_in result ∷ []) }
+    ensures size { line_size (read_line_in result).item ≡ length line.now }
+    ensures ended { EndsLine Endings.CrLf line.now (length line.now)
+        → result.ending ≢ Ending.Absent }
+{
+    if ends_in_cr_lf(line) {
+        return ReadLine {
+            start,
+            text: bytes::as_ascii_str_unchecked(&line[..line.len() - 2]),
+            ending: Ending::CrLf,
+        };
+    }
+    ReadLine {
+        start,
+        text: bytes::as_ascii_str_unchecked(line),
+        ending: Ending::Absent,
+    }
+}
+
+/// Whether a text ends in CR LF.
+fn ends_in_cr_lf(text: &[u8]) -> bool
+    ensures { IsTrue result ↔ IsCrLfAt text.now (length text.now - 1) }
+{
+    let n = text.len();
+    n >= 2 && text[n - 2] == b'\r' && text[n - 1] == b'\n'
 }

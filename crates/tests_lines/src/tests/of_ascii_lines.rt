@@ -3,8 +3,8 @@
 use super::{Echo, assert_debug};
 use ascii_devices::Sink;
 use ascii_lines::{
-    Ending, Handler, Input, LineError, LineReader, LineWriter, Output, WriteError, collect_lines,
-    serve,
+    Ending, Endings, Handler, Input, LineError, LineReader, LineWriter, Output, WriteError,
+    collect_lines, serve,
 };
 use std::convert::AsSlice;
 use testing::view;
@@ -65,6 +65,30 @@ fn line_reader_1(rt: HostRuntime) {
             "Ok(Some(ReadLine { start: 0, text: \"ab\", ending: CrLf }))",
         );
     }
+    // LineReader::lines_ended_by
+    {
+        let mut reader = LineReader::new(alloc, Input::new(b"a\nb\r\nc".as_slice()), 64).expect(
+            &rt, "refused",
+        );
+        reader.lines_ended_by(Endings::CrLf);
+        assert_debug(
+            &rt,
+            alloc,
+            &reader.next_line(),
+            "Ok(Some(ReadLine { start: 0, text: \"a\\nb\", ending: CrLf }))",
+        );
+        assert_debug(
+            &rt,
+            alloc,
+            &reader.next_line(),
+            "Ok(Some(ReadLine { start: 5, text: \"c\", ending: Absent }))",
+        );
+    }
+}
+
+#[test]
+fn line_reader_2(rt: HostRuntime) {
+    let alloc = rt.alloc();
     // LineReader::into_source
     {
         let reader = LineReader::new(alloc, Input::new(b"ab\n".as_slice()), 64).expect(
@@ -77,11 +101,6 @@ fn line_reader_1(rt: HostRuntime) {
             "[97, 98, 10]",
         );
     }
-}
-
-#[test]
-fn line_reader_2(rt: HostRuntime) {
-    let alloc = rt.alloc();
     // LineReader::position
     {
         let mut reader = LineReader::new(alloc, Input::new(b"ab\r\ncd".as_slice()), 64).expect(

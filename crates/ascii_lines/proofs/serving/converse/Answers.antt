@@ -22,7 +22,7 @@ turns-smaller g c =
     let turn = c.in-Ok.ensures.outcome in
     omega (
       arith,
-      some_bytes c.turns.next turn.0.item c.turns.invariant.3 turn.1,
+      some_bytes c.turns.reader.endings c.turns.next turn.0.item c.turns.invariant.3 turn.1,
       turn.2.read.start,
       c.position-position.ensures,
     )

@@ -34,16 +34,16 @@ invariant_of-self-2 g c =
     let checked : i.checked - i.from ≡ length (slice_range i.bytes.items i.from i.filled) =
     ap (λ (w : WindowState). w.checked) c.self.view_is
     ∙ (c.move_to_front.ensures.checked ∙ (c.requires.checked ∙ sym (ap length (held g c)))) in
-    let low : i.from ≤ i.checked = omega (arith, laid.then_from, laid.then_searched) in
+    let low : i.from ≤ i.checked = laid.then_from in
     let ordered : i.from ≤ i.filled = omega (arith, low, laid.then_checked) in
     let long = length-slice_range i.bytes.items i.from i.filled ordered laid.inside in
     let all : i.checked ≡ i.filled = omega (arith, checked, long, low, ordered) in
-    let was : IsLaidOut i.bytes.items i.given i.from i.searched i.filled i.filled =
-    subst (λ k. IsLaidOut i.bytes.items i.given i.from i.searched k i.filled) all laid in
+    let was : IsLaidOut i.bytes.items i.given i.from i.filled i.filled =
+    subst (λ k. IsLaidOut i.bytes.items i.given i.from k i.filled) all laid in
     let read = rw (c.deref.ensures.value, put_back g c) at c.first_other.ensures in
     rw (put_back g c)
     (refilled i.bytes.items c.read_behind.new.bytes i.filled (front g c) i.given i.from
-    i.searched c.in_ok-n.n c.unwrap_or.result c.first_other.result was
+    c.in_ok-n.n c.unwrap_or.result c.first_other.result was
     c.in_ok-n.ensures.within c.unwrap_or.ensures read)
 
 pub returns-clause-bytes : goal.returns-clause-bytes
@@ -61,6 +61,6 @@ returns-clause-bytes g c =
       c.in_ok-n.ensures.bytes,
       rw (put_back g c)
           (held_more i.bytes.items new i.filled (front g c) i.from n
-          (omega (arith, laid.then_from, laid.then_searched, laid.then_checked))
+          (omega (arith, laid.then_from, laid.then_checked))
           ∙ ap (λ xs. xs ++ slice_range new i.filled (i.filled + n)) (held g c)),
     )

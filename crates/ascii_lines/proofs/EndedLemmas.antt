@@ -1,0 +1,322 @@
+-- The lines of a text by each kind of ending.
+use Rattle.std.proofs.Common.{◌≡◌, ◌≢◌, ℕ, zero, suc, ◌+◌, ◌-◌, ◌<◌, List, [], ◌∷◌, ◌++◌, length}
+use Rattle.std.proofs.Common.{◌≤◌, ◌↔◌, length-append}
+use Rattle.std.proofs.Math.ListN.{get_or-append}
+use Rattle.std.proofs.lemmas.Grind.{common_steps}
+use Rattle.std.proofs.Common.{get_or, take, refl, sym, ap, subst, ◌∙◌, arith, inl, inr, append-nil}
+use Rattle.std.specs.List.{All, flat_map}
+use Rattle.std.proofs.lemmas.Bool.{cases_eq, cases_lt}
+use Rattle.std.proofs.lemmas.List.Elements.{All-cons, All-nil, All-tail}
+use Rattle.ascii.specs.declared.iter.spans.Ending.{Ending}
+use Rattle.ascii.specs.declared.iter.spans.Ending.TheVariants as ending
+use Rattle.ascii.specs.Found.{line_spans}
+use Rattle.ascii.specs.Lines.{Line, MayFollow, line_text}
+use Rattle.ascii.specs.Spans.{LineSpansOf, WithStart, line_size, with_starts}
+use Rattle.ascii.proofs.ListLemmas.{front_is}
+use Rattle.ascii.proofs.SpansLemmas.{items-with_starts, line_spans_found}
+use Rattle.ascii_lines.specs.declared.endings.Endings.{Endings}
+use Rattle.ascii_lines.specs.declared.endings.Endings.TheVariants.{Any, CrLf}
+use Rattle.ascii_lines.specs.LineReader.{IsOneLine}
+use Rattle.ascii_lines.specs.Endings.{IsBody, IsCrLfAt, LineSpansEndedBy, LinesEndedBy, MayEnd}
+
+-- an ending that may follow a body by a kind may follow it
+pub MayFollow-ended : (kind : Endings) (end : Ending) (body : List ℕ) → MayEnd kind end body
+    → MayFollow end body
+MayFollow-ended Any end body may = may
+MayFollow-ended CrLf ending.Lf body may = absurd may
+MayFollow-ended CrLf ending.CrLf body may = may
+MayFollow-ended CrLf ending.Absent body may = may
+
+-- the lines of a text are its lines by any ending
+pub any_spans : (start : ℕ) (text : List ℕ) (spans : List (WithStart Line))
+    → LineSpansOf start text spans → LineSpansEndedBy Any start text spans
+any_spans start text spans held = record {
+  lines = record {
+    bodies = held.lines.bodies;
+    endings = held.lines.endings;
+    ended = held.lines.ended;
+    joined = held.lines.joined;
+  };
+  starts = held.starts;
+}
+
+-- ---- a text has lines by CR LF
+
+-- a line before others, which has an ending unless there are none
+pub LinesEndedBy-cons : (kind : Endings) (line : Line) (text : List ℕ) (lines : List Line)
+    → IsBody kind line.body → MayEnd kind line.ending line.body
+    → (line.ending ≡ ending.Absent → lines ≡ []) → LinesEndedBy kind text lines
+    → LinesEndedBy kind (line_text line ++ text) (line ∷ lines)
+LinesEndedBy-cons kind line text lines body may last others = record {
+  bodies = All-cons (λ one. IsBody kind one.body) line lines body others.bodies;
+  endings = All-cons (λ one. MayEnd kind one.ending one.body) line lines may others.endings;
+  ended = front lines last others.ended;
+  joined = ap (λ t. line_text line ++ t) others.joined;
+}
+  where
+    front : (ls : List Line) → (line.ending ≡ ending.Absent → ls ≡ [])
+        → All (λ one. one.ending ≢ ending.Absent) (take (length ls - 1) ls)
+        → All (λ one. one.ending ≢ ending.Absent) (take (length (line ∷ ls) - 1) (line ∷ ls))
+    front [] last ended = All-nil _
+    front (next ∷ ls) last ended = rw (front_is line next ls)
+        (All-cons (λ one. one.ending ≢ ending.Absent) line
+        (take (length (next ∷ ls) - 1) (next ∷ ls)) (λ none. let some = last none in cc) ended)
+
+pub LinesEndedBy-nil : (kind : Endings) → LinesEndedBy kind [] []
+LinesEndedBy-nil kind =
+    record { bodies = All-nil _; endings = All-nil _; ended = All-nil _; joined = refl }
+
+-- ---- one byte more before the lines by CR LF
+
+tail_body : (b : ℕ) (body : List ℕ) → IsBody CrLf (b ∷ body) → IsBody CrLf body
+tail_body b body free zero = λ is. absurd (omega (arith, is.0, is.1))
+tail_body b body free (suc k) = λ is.
+    let at : suc k - 1 ≡ k = omega arith in
+    let next : suc (suc k) - 1 ≡ suc k = omega arith in
+    free (suc (suc k)) (rw next (rw at at is.0), is.1)
+
+more_body : (b : ℕ) (body : List ℕ) → ¬ ((b ≡ 13) × (get_or body 0 0 ≡ 10)) → IsBody CrLf body
+    → IsBody CrLf (b ∷ body)
+more_body b body other free zero = λ is. absurd (omega (arith, is.0, is.1))
+more_body b body other free (suc zero) = λ is. other is
+more_body b body other free (suc (suc k)) = λ is.
+    let at : suc k - 1 ≡ k = omega arith in
+    let next : suc (suc k) - 1 ≡ suc k = omega arith in
+    free (suc k) (rw at (rw next at is.0), is.1)
+
+more_end : (b : ℕ) (body : List ℕ) (end : Ending) → MayEnd CrLf end body → MayEnd CrLf end (b ∷ body)
+more_end b body ending.Lf may = may
+more_end b body ending.CrLf may = may
+more_end b body ending.Absent may = λ none. cc
+
+first_ended : (line next : Line) (lines : List Line)
+    → All (λ one. one.ending ≢ ending.Absent)
+    (take (length (line ∷ next ∷ lines) - 1) (line ∷ next ∷ lines))
+    → All (λ one. one.ending ≢ ending.Absent) (line ∷ take (length (next ∷ lines) - 1) (next ∷ lines))
+first_ended line next lines ended =
+    subst (All (λ one. one.ending ≢ ending.Absent)) (front_is line next lines) ended
+
+-- the first line is the last one if it has no ending, and the others are lines
+last_if_absent : (line : Line) (lines : List Line)
+    → All (λ one. one.ending ≢ ending.Absent) (take (length (line ∷ lines) - 1) (line ∷ lines))
+    → line.ending ≡ ending.Absent → lines ≡ []
+last_if_absent line [] ended none = refl
+last_if_absent line (next ∷ lines) ended none =
+    absurd (first_ended line next lines ended 0 line (omega arith) none)
+
+others_ended : (line : Line) (lines : List Line)
+    → All (λ one. one.ending ≢ ending.Absent) (take (length (line ∷ lines) - 1) (line ∷ lines))
+    → All (λ one. one.ending ≢ ending.Absent) (take (length lines - 1) lines)
+others_ended line [] ended = All-nil _
+others_ended line (next ∷ lines) ended = All-tail (λ one. one.ending ≢ ending.Absent) line
+    (take (length (next ∷ lines) - 1) (next ∷ lines)) (first_ended line next lines ended)
+
+pub LinesEndedBy-tail : (kind : Endings) (line : Line) (text : List ℕ) (lines : List Line)
+    → LinesEndedBy kind text (line ∷ lines) → LinesEndedBy kind (flat_map line_text lines) lines
+LinesEndedBy-tail kind line text lines held = record {
+  bodies = All-tail (λ one. IsBody kind one.body) line lines held.bodies;
+  endings = All-tail (λ one. MayEnd kind one.ending one.body) line lines held.endings;
+  ended = others_ended line lines held.ended;
+  joined = refl;
+}
+
+-- another first line, by its body and its ending
+change_first : (kind : Endings) (line new : Line) (text : List ℕ) (lines : List Line)
+    → LinesEndedBy kind text (line ∷ lines) → IsBody kind new.body → MayEnd kind new.ending new.body
+    → new.ending ≡ line.ending
+    → LinesEndedBy kind (line_text new ++ flat_map line_text lines) (new ∷ lines)
+change_first kind line new text lines held body may same =
+    LinesEndedBy-cons kind new (flat_map line_text lines) lines body may
+    (λ none. last_if_absent line lines held.ended (sym same ∙ none))
+    (LinesEndedBy-tail kind line text lines held)
+
+-- an empty line before lines
+before_empty : (text : List ℕ) (lines : List Line) → LinesEndedBy CrLf text lines
+    → LinesEndedBy CrLf (13 ∷ 10 ∷ text) (record { body = []; ending = ending.CrLf } ∷ lines)
+before_empty text lines held = LinesEndedBy-cons CrLf (record { body = []; ending = ending.CrLf })
+    text lines (λ k is. omega (arith, is.1)) tt (λ none. cc) held
+
+-- a CR before a text whose first line begins with LF
+after_cr : (body : List ℕ) (end : Ending) (text : List ℕ) (lines : List Line)
+    → get_or body 0 0 ≡ 10 → LinesEndedBy CrLf text (record { body = body; ending = end } ∷ lines)
+    → (found : List Line) × LinesEndedBy CrLf (13 ∷ text) found
+after_cr [] end text lines feed held = absurd (omega (arith, feed))
+after_cr (x ∷ rest) ending.Lf text lines feed held =
+    absurd (held.endings 0 (record { body = x ∷ rest; ending = ending.Lf }) (omega arith))
+after_cr (x ∷ rest) ending.CrLf text lines feed held =
+    let old : Line = record { body = x ∷ rest; ending = ending.CrLf } in
+    let new : Line = record { body = rest; ending = ending.CrLf } in
+    let is : x ∷ (line_text new ++ flat_map line_text lines) ≡ text = held.joined in
+    let whole : 13 ∷ 10 ∷ (line_text new ++ flat_map line_text lines) ≡ 13 ∷ text =
+    ap (λ c. 13 ∷ c ∷ (line_text new ++ flat_map line_text lines)) (sym feed)
+    ∙ ap (λ t. 13 ∷ t) is in (
+      record { body = []; ending = ending.CrLf } ∷ new ∷ lines,
+      subst
+          (λ t. LinesEndedBy CrLf t (record { body = []; ending = ending.CrLf } ∷ new ∷ lines)) whole
+          (before_empty (line_text new ++ flat_map line_text lines) (new ∷ lines)
+          (change_first CrLf old new text lines held
+          (tail_body x rest (held.bodies 0 old (omega arith))) tt refl)),
+    )
+after_cr (x ∷ []) ending.Absent text lines feed held =
+    let old : Line = record { body = x ∷ []; ending = ending.Absent } in
+    let none : lines ≡ [] = last_if_absent old lines held.ended refl in
+    let is : x ∷ flat_map line_text lines ≡ text = held.joined in
+    let whole : 13 ∷ 10 ∷ [] ≡ 13 ∷ text = ap (λ c. 13 ∷ c ∷ []) (sym feed)
+    ∙ (ap (λ ls. 13 ∷ x ∷ flat_map line_text ls) (sym none) ∙ ap (λ t. 13 ∷ t) is) in (
+      record { body = []; ending = ending.CrLf } ∷ [],
+      subst (λ t. LinesEndedBy CrLf t (record { body = []; ending = ending.CrLf } ∷ [])) whole
+          (before_empty [] [] (LinesEndedBy-nil CrLf)),
+    )
+after_cr (x ∷ y ∷ rest) ending.Absent text lines feed held =
+    let old : Line = record { body = x ∷ y ∷ rest; ending = ending.Absent } in
+    let new : Line = record { body = y ∷ rest; ending = ending.Absent } in
+    let is : x ∷ (line_text new ++ flat_map line_text lines) ≡ text = held.joined in
+    let whole : 13 ∷ 10 ∷ (line_text new ++ flat_map line_text lines) ≡ 13 ∷ text =
+    ap (λ c. 13 ∷ c ∷ (line_text new ++ flat_map line_text lines)) (sym feed)
+    ∙ ap (λ t. 13 ∷ t) is in (
+      record { body = []; ending = ending.CrLf } ∷ new ∷ lines,
+      subst
+          (λ t. LinesEndedBy CrLf t (record { body = []; ending = ending.CrLf } ∷ new ∷ lines)) whole
+          (before_empty (line_text new ++ flat_map line_text lines) (new ∷ lines)
+          (change_first CrLf old new text lines held
+          (tail_body x (y ∷ rest) (held.bodies 0 old (omega arith))) (λ none. cc) refl)),
+    )
+
+-- a byte before lines, of which the first does not go on from it with LF
+add_byte : (b : ℕ) (line : Line) (text : List ℕ) (lines : List Line)
+    → ¬ ((b ≡ 13) × (get_or line.body 0 0 ≡ 10)) → LinesEndedBy CrLf text (line ∷ lines)
+    → (found : List Line) × LinesEndedBy CrLf (b ∷ text) found
+add_byte b line text lines other held =
+    let new : Line = record { body = b ∷ line.body; ending = line.ending } in (
+      new ∷ lines,
+      subst (λ t. LinesEndedBy CrLf t (new ∷ lines)) (ap (λ t. b ∷ t) held.joined)
+          (change_first CrLf line new text lines held
+          (more_body b line.body other (held.bodies 0 line (omega arith)))
+          (more_end b line.body line.ending (held.endings 0 line (omega arith))) refl),
+    )
+
+more_lines : (b : ℕ) (text : List ℕ) (lines : List Line) → LinesEndedBy CrLf text lines
+    → (found : List Line) × LinesEndedBy CrLf (b ∷ text) found
+more_lines b text [] held =
+    let one : Line = record { body = b ∷ []; ending = ending.Absent } in (
+      one ∷ [],
+      subst (λ t. LinesEndedBy CrLf (b ∷ t) (one ∷ [])) held.joined
+          (LinesEndedBy-cons CrLf one [] []
+          (more_body b [] (λ is. omega (arith, is.1)) (λ k is. omega (arith, is.1))) (λ none. cc)
+          (λ is. refl) (LinesEndedBy-nil CrLf)),
+    )
+more_lines b text (line ∷ lines) held = elim (cases_eq b 13) [
+  | inr other ↦ add_byte b line text lines (λ is. other is.0) held
+  | inl cr ↦ elim (cases_eq (get_or line.body 0 0) 10) [
+    | inr other ↦ add_byte b line text lines (λ is. other is.1) held
+    | inl feed ↦
+        let found = after_cr line.body line.ending text lines feed held in
+        (found.0, subst (λ c. LinesEndedBy CrLf (c ∷ text) found.0) (sym cr) found.1)
+  ]
+]
+
+pub cr_lf_lines : (text : List ℕ) → (lines : List Line) × LinesEndedBy CrLf text lines
+cr_lf_lines [] = ([], LinesEndedBy-nil CrLf)
+cr_lf_lines (b ∷ text) =
+    let later = cr_lf_lines text in more_lines b text later.0 later.1
+
+-- ---- a text has lines
+
+pub some_spans : (kind : Endings) (start : ℕ) (text : List ℕ)
+    → (spans : List (WithStart Line)) × LineSpansEndedBy kind start text spans
+some_spans Any start text =
+    let part : WithStart (List ℕ) = record { start = start; item = text } in
+    (line_spans part, any_spans start text (line_spans part) (line_spans_found part))
+some_spans CrLf start text =
+    let found = cr_lf_lines text in
+    let spans = with_starts line_size start found.0 in
+    let alone = sym (items-with_starts line_size start found.0) in (
+      spans,
+      record {
+        lines = subst (LinesEndedBy CrLf text) alone found.1;
+        starts = ap (with_starts line_size start) alone;
+      },
+    )
+
+-- ---- the line of bytes by CR LF
+
+-- past the end there is no LF
+inside : (text : List ℕ) (k : ℕ) → get_or text k 0 ≡ 10 → k < length text
+inside [] k is = absurd (omega (arith, is))
+inside (x ∷ text) zero is = omega arith
+inside (x ∷ text) (suc k) is = omega (arith, inside text k is)
+
+short_line : (line : List ℕ) → length line < 2 → ¬ (IsCrLfAt line (length line - 1))
+short_line [] short = λ is. omega (arith, is.1)
+short_line (x ∷ []) short = λ is. omega (arith, is.0, is.1)
+short_line (x ∷ y ∷ line) short = absurd (omega (arith, short))
+
+-- a text ends in CR LF where its last two bytes are these
+pub cr_lf_last : (line : List ℕ)
+    → ((2 ≤ length line) × (get_or line (length line - 2) 0 ≡ 13)
+    × (get_or line (length line - 1) 0 ≡ 10)) ↔ IsCrLfAt line (length line - 1)
+cr_lf_last line =
+    let at : length line - 1 - 1 ≡ length line - 2 = omega arith in (
+      λ is. (rw at is.1, is.2),
+      λ is. (
+        (elim (cases_lt (length line) 2) [
+          | inl short ↦ absurd (short_line line short is)
+          | inr long ↦ long
+        ]),
+        rw at at is.0,
+        is.1,
+      ),
+    )
+
+-- such a text is its body and CR LF
+cr_lf_parts : (line : List ℕ) → 2 ≤ length line → get_or line (length line - 2) 0 ≡ 13
+    → get_or line (length line - 1) 0 ≡ 10 → take (length line - 2) line ++ 13 ∷ 10 ∷ [] ≡ line
+cr_lf_parts line long cr feed = grind (arith, common_steps)
+
+module _ (start : ℕ) (line body : List ℕ) (one : IsOneLine CrLf line) where
+  -- bytes that end no line are the last line
+  pub open_line : body ≡ line → ¬ (IsCrLfAt line (length line - 1))
+      → LineSpansEndedBy CrLf start line
+      (record { start = start; item = record { body = body; ending = ending.Absent } } ∷ [])
+  open_line is other =
+      let last : Line = record { body = body; ending = ending.Absent } in
+      let free : IsBody CrLf line = λ k at. elim (cases_lt k (length line - 1)) [
+        | inl before ↦ one.1 k before at
+        | inr after ↦
+            let high : k < length line = inside line k at.1 in
+            let same : k ≡ length line - 1 = omega (arith, after, high) in
+            other (subst (IsCrLfAt line) same at)
+      ] in
+      let some : body ≢ [] = λ none. omega (arith, one.0, ap length (sym is ∙ none)) in
+      record {
+        lines = subst (λ t. LinesEndedBy CrLf t (last ∷ []))
+            (append-nil (body ++ []) ∙ (append-nil body ∙ is))
+            (LinesEndedBy-cons CrLf last [] [] (subst (IsBody CrLf) (sym is) free) some
+            (λ absent. refl) (LinesEndedBy-nil CrLf));
+        starts = refl;
+      }
+
+  -- bytes that end in CR LF are the line before it
+  pub closed_line : body ≡ take (length line - 2) line → IsCrLfAt line (length line - 1)
+      → LineSpansEndedBy CrLf start line
+      (record { start = start; item = record { body = body; ending = ending.CrLf } } ∷ [])
+  closed_line is ends =
+      let new : Line = record { body = body; ending = ending.CrLf } in
+      let parts = (cr_lf_last line).1 ends in
+      let whole : body ++ 13 ∷ 10 ∷ [] ≡ line =
+      ap (λ t. t ++ 13 ∷ 10 ∷ []) is ∙ cr_lf_parts line parts.0 parts.1 parts.2 in
+      let long : length body + 2 ≡ length line =
+      omega (arith, length-append body (13 ∷ 10 ∷ []), ap length whole) in
+      let free : IsBody CrLf body = λ k at.
+      let high : k < length body = inside body k at.1 in
+      let here : (j : ℕ) → j ≤ k → get_or line j 0 ≡ get_or body j 0 = λ j low.
+      ap (λ t. get_or t j 0) (sym whole)
+      ∙ get_or-append body (13 ∷ 10 ∷ []) 0 j (omega (arith, low, high)) in
+      one.1 k (omega (arith, high, long))
+      (here (k - 1) (omega arith) ∙ at.0, here k (omega arith) ∙ at.1) in
+      record {
+        lines = subst (λ t. LinesEndedBy CrLf t (new ∷ []))
+            (append-nil (body ++ 13 ∷ 10 ∷ []) ∙ whole)
+            (LinesEndedBy-cons CrLf new [] [] free tt (λ none. cc) (LinesEndedBy-nil CrLf));
+        starts = refl;
+      }

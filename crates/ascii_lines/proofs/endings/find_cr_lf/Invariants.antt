@@ -1,0 +1,12 @@
+use Rattle.std.proofs.Common.{◌≤◌, ◌-◌, length}
+use Rattle.ascii_lines.specs.declared.endings.Endings.TheVariants.{CrLf}
+use Rattle.ascii_lines.specs.Endings.{FreeUpTo}
+use Rattle.ascii_lines.proofs.endings.find_cr_lf.Given as goal
+
+-- no CR LF ends before `from`
+abbrev pub invariant-feeds : goal.invariant-feeds
+invariant-feeds l = (l.from ≤ length l.text) × FreeUpTo CrLf l.text l.from
+
+-- the bytes that are left
+abbrev pub decreases-feeds : goal.decreases-feeds
+decreases-feeds l = length l.text - l.from

@@ -1,0 +1,7 @@
+use Rattle.std.proofs.Common.{subst}
+use Rattle.ascii_lines.specs.Endings.{FreeUpTo}
+use Rattle.ascii_lines.proofs.endings.find_end.Goals as goal
+
+pub find_cr_lf-requires-clause-free : goal.find_cr_lf-requires-clause-free
+find_cr_lf-requires-clause-free c =
+    subst (λ kind. FreeUpTo kind c.args.text.now c.args.searched) c.in-CrLf.is c.requires.free
