@@ -4,20 +4,22 @@ use Rattle.std.proofs.Common.{◌≤◌, ◌↔◌, length-append}
 use Rattle.std.proofs.Math.ListN.{get_or-append}
 use Rattle.std.proofs.lemmas.Grind.{common_steps}
 use Rattle.std.proofs.Common.{get_or, take, refl, sym, ap, subst, ◌∙◌, arith, inl, inr, append-nil}
-use Rattle.std.specs.List.{All, flat_map}
+use Rattle.std.specs.List.{All, Contains, flat_map}
+use Rattle.std.proofs.lemmas.List.{get_or_default}
 use Rattle.std.proofs.lemmas.Bool.{cases_eq, cases_lt}
 use Rattle.std.proofs.lemmas.List.Elements.{All-cons, All-nil, All-tail}
 use Rattle.ascii.specs.declared.iter.spans.Ending.{Ending}
 use Rattle.ascii.specs.declared.iter.spans.Ending.TheVariants as ending
 use Rattle.ascii.specs.Found.{line_spans}
-use Rattle.ascii.specs.Lines.{Line, MayFollow, line_text}
+use Rattle.ascii.specs.Lines.{Line, MayFollow, ending_text, line_text}
 use Rattle.ascii.specs.Spans.{LineSpansOf, WithStart, line_size, with_starts}
 use Rattle.ascii.proofs.ListLemmas.{front_is}
 use Rattle.ascii.proofs.SpansLemmas.{items-with_starts, line_spans_found}
 use Rattle.ascii_lines.specs.declared.endings.Endings.{Endings}
-use Rattle.ascii_lines.specs.declared.endings.Endings.TheVariants.{Any, CrLf}
+use Rattle.ascii_lines.specs.declared.endings.Endings.TheVariants.{Any, CrLf, CrLfStrict}
 use Rattle.ascii_lines.specs.LineReader.{IsOneLine}
-use Rattle.ascii_lines.specs.Endings.{IsBody, IsCrLfAt, LineSpansEndedBy, LinesEndedBy, MayEnd}
+use Rattle.ascii_lines.specs.Endings.{FreeUpTo, IsBody, IsCrLfAt, IsFirstStop, MayEnd}
+use Rattle.ascii_lines.specs.Endings.{LineSpansEndedBy, LinesEndedBy, any_text}
 
 -- an ending that may follow a body by a kind may follow it
 pub MayFollow-ended : (kind : Endings) (end : Ending) (body : List ℕ) → MayEnd kind end body
@@ -26,6 +28,9 @@ MayFollow-ended Any end body may = may
 MayFollow-ended CrLf ending.Lf body may = absurd may
 MayFollow-ended CrLf ending.CrLf body may = may
 MayFollow-ended CrLf ending.Absent body may = may
+MayFollow-ended CrLfStrict ending.Lf body may = absurd may
+MayFollow-ended CrLfStrict ending.CrLf body may = may
+MayFollow-ended CrLfStrict ending.Absent body may = may
 
 -- the lines of a text are its lines by any ending
 pub any_spans : (start : ℕ) (text : List ℕ) (spans : List (WithStart Line))
@@ -66,6 +71,12 @@ pub LinesEndedBy-nil : (kind : Endings) → LinesEndedBy kind [] []
 LinesEndedBy-nil kind =
     record { bodies = All-nil _; endings = All-nil _; ended = All-nil _; joined = refl }
 
+-- past the end there is no LF
+inside : (text : List ℕ) (k : ℕ) → get_or text k 0 ≡ 10 → k < length text
+inside [] k is = absurd (omega (arith, is))
+inside (x ∷ text) zero is = omega arith
+inside (x ∷ text) (suc k) is = omega (arith, inside text k is)
+
 -- ---- one byte more before the lines by CR LF
 
 tail_body : (b : ℕ) (body : List ℕ) → IsBody CrLf (b ∷ body) → IsBody CrLf body
@@ -84,7 +95,8 @@ more_body b body other free (suc (suc k)) = λ is.
     let next : suc (suc k) - 1 ≡ suc k = omega arith in
     free (suc k) (rw at (rw next at is.0), is.1)
 
-more_end : (b : ℕ) (body : List ℕ) (end : Ending) → MayEnd CrLf end body → MayEnd CrLf end (b ∷ body)
+more_end : (b : ℕ) (body : List ℕ) (end : Ending) → MayEnd CrLf end body
+    → MayEnd CrLf end (b ∷ body)
 more_end b body ending.Lf may = may
 more_end b body ending.CrLf may = may
 more_end b body ending.Absent may = λ none. cc
@@ -92,7 +104,8 @@ more_end b body ending.Absent may = λ none. cc
 first_ended : (line next : Line) (lines : List Line)
     → All (λ one. one.ending ≢ ending.Absent)
     (take (length (line ∷ next ∷ lines) - 1) (line ∷ next ∷ lines))
-    → All (λ one. one.ending ≢ ending.Absent) (line ∷ take (length (next ∷ lines) - 1) (next ∷ lines))
+    → All (λ one. one.ending ≢ ending.Absent)
+    (line ∷ take (length (next ∷ lines) - 1) (next ∷ lines))
 first_ended line next lines ended =
     subst (All (λ one. one.ending ≢ ending.Absent)) (front_is line next lines) ended
 
@@ -152,7 +165,8 @@ after_cr (x ∷ rest) ending.CrLf text lines feed held =
     ∙ ap (λ t. 13 ∷ t) is in (
       record { body = []; ending = ending.CrLf } ∷ new ∷ lines,
       subst
-          (λ t. LinesEndedBy CrLf t (record { body = []; ending = ending.CrLf } ∷ new ∷ lines)) whole
+          (λ t. LinesEndedBy CrLf t (record { body = []; ending = ending.CrLf } ∷ new ∷ lines))
+          whole
           (before_empty (line_text new ++ flat_map line_text lines) (new ∷ lines)
           (change_first CrLf old new text lines held
           (tail_body x rest (held.bodies 0 old (omega arith))) tt refl)),
@@ -176,7 +190,8 @@ after_cr (x ∷ y ∷ rest) ending.Absent text lines feed held =
     ∙ ap (λ t. 13 ∷ t) is in (
       record { body = []; ending = ending.CrLf } ∷ new ∷ lines,
       subst
-          (λ t. LinesEndedBy CrLf t (record { body = []; ending = ending.CrLf } ∷ new ∷ lines)) whole
+          (λ t. LinesEndedBy CrLf t (record { body = []; ending = ending.CrLf } ∷ new ∷ lines))
+          whole
           (before_empty (line_text new ++ flat_map line_text lines) (new ∷ lines)
           (change_first CrLf old new text lines held
           (tail_body x (y ∷ rest) (held.bodies 0 old (omega arith))) (λ none. cc) refl)),
@@ -222,12 +237,9 @@ cr_lf_lines (b ∷ text) =
 
 -- ---- a text has lines
 
-pub some_spans : (kind : Endings) (start : ℕ) (text : List ℕ)
-    → (spans : List (WithStart Line)) × LineSpansEndedBy kind start text spans
-some_spans Any start text =
-    let part : WithStart (List ℕ) = record { start = start; item = text } in
-    (line_spans part, any_spans start text (line_spans part) (line_spans_found part))
-some_spans CrLf start text =
+cr_lf_spans : (start : ℕ) (text : List ℕ)
+    → (spans : List (WithStart Line)) × LineSpansEndedBy CrLf start text spans
+cr_lf_spans start text =
     let found = cr_lf_lines text in
     let spans = with_starts line_size start found.0 in
     let alone = sym (items-with_starts line_size start found.0) in (
@@ -238,13 +250,41 @@ some_spans CrLf start text =
       },
     )
 
--- ---- the line of bytes by CR LF
+pub some_spans : (kind : Endings) (start : ℕ) (text : List ℕ)
+    → (spans : List (WithStart Line)) × LineSpansEndedBy (any_text kind) start text spans
+some_spans Any start text =
+    let part : WithStart (List ℕ) = record { start = start; item = text } in
+    (line_spans part, any_spans start text (line_spans part) (line_spans_found part))
+some_spans CrLf start text = cr_lf_spans start text
+some_spans CrLfStrict start text = cr_lf_spans start text
 
--- past the end there is no LF
-inside : (text : List ℕ) (k : ℕ) → get_or text k 0 ≡ 10 → k < length text
-inside [] k is = absurd (omega (arith, is))
-inside (x ∷ text) zero is = omega arith
-inside (x ∷ text) (suc k) is = omega (arith, inside text k is)
+-- a body with neither CR nor LF has no CR LF
+cr_lf_body : (body : List ℕ) → IsBody CrLfStrict body → IsBody CrLf body
+cr_lf_body body strict k is =
+    let high : k < length body = inside body k is.1 in
+    strict.0 (k, high, get_or_default body k 10 0 high ∙ is.1)
+
+cr_lf_end : (end : Ending) (body : List ℕ) → MayEnd CrLfStrict end body → MayEnd CrLf end body
+cr_lf_end ending.Lf body may = may
+cr_lf_end ending.CrLf body may = may
+cr_lf_end ending.Absent body may = may
+
+-- lines by a kind are lines by the endings by which any text has some
+pub any_text_spans : (kind : Endings) (start : ℕ) (text : List ℕ) (spans : List (WithStart Line))
+    → LineSpansEndedBy kind start text spans → LineSpansEndedBy (any_text kind) start text spans
+any_text_spans Any start text spans held = held
+any_text_spans CrLf start text spans held = held
+any_text_spans CrLfStrict start text spans held = record {
+  lines = record {
+    bodies = λ k d low. cr_lf_body _ (held.lines.bodies k d low);
+    endings = λ k d low. cr_lf_end _ _ (held.lines.endings k d low);
+    ended = held.lines.ended;
+    joined = held.lines.joined;
+  };
+  starts = held.starts;
+}
+
+-- ---- the line of bytes by CR LF
 
 short_line : (line : List ℕ) → length line < 2 → ¬ (IsCrLfAt line (length line - 1))
 short_line [] short = λ is. omega (arith, is.1)
@@ -320,3 +360,115 @@ module _ (start : ℕ) (line body : List ℕ) (one : IsOneLine CrLf line) where
             (LinesEndedBy-cons CrLf new [] [] free tt (λ none. cc) (LinesEndedBy-nil CrLf));
         starts = refl;
       }
+
+-- ---- by CR LF strictly
+
+no_code : (xs : List ℕ) (c : ℕ) → ((k : ℕ) → k < length xs → get_or xs k 0 ≢ c)
+    → ¬ (Contains xs c)
+no_code xs c none found =
+    none found.0 found.1 (get_or_default xs found.0 0 c found.1 ∙ found.2)
+
+-- bytes that stop at no earlier byte stop at no earlier byte by CR LF
+pub free_cr_lf : (line : List ℕ) (n : ℕ) → FreeUpTo CrLfStrict line n → FreeUpTo CrLf line n
+free_cr_lf line n free k low is = free k low (inl is.1)
+
+-- the body of a line, which is its front, has neither CR nor LF
+clean_body : (line body : List ℕ) (n : ℕ) → length body ≡ n
+    → ((k : ℕ) → k < n → get_or line k 0 ≡ get_or body k 0)
+    → ((k : ℕ) → k < n → get_or line k 0 ≢ 10) → ((k : ℕ) → k < n → get_or line k 0 ≢ 13)
+    → IsBody CrLfStrict body
+clean_body line body n long same no_feed no_cr = (
+  no_code body 10 (λ k low is.
+      let high : k < n = omega (arith, low, long) in no_feed k high (same k high ∙ is)),
+  no_code body 13 (λ k low is.
+      let high : k < n = omega (arith, low, long) in no_cr k high (same k high ∙ is)),
+)
+
+-- bytes that stop at no earlier byte have no CR but the last
+pub no_cr_below : (line : List ℕ) (n k : ℕ) → FreeUpTo CrLfStrict line n → k + 1 < n
+    → get_or line k 0 ≢ 13
+no_cr_below line n k free low is =
+    let back : k + 1 - 1 ≡ k = omega arith in
+    free (k + 1) low (inr (omega arith, subst (λ j. get_or line j 0 ≡ 13) (sym back) is))
+
+-- the body of a strict line
+strict_body : (line body : List ℕ) (end : Ending) → body ++ ending_text end ≡ line
+    → IsBody CrLf body → MayEnd CrLf end body → IsOneLine CrLfStrict line → IsBody CrLfStrict body
+strict_body line body ending.Lf whole free may one = absurd may
+strict_body line body ending.CrLf whole free may one =
+    let long : length body + 2 ≡ length line =
+    omega (arith, length-append body (13 ∷ 10 ∷ []), ap length whole) in
+    clean_body line body (length body) refl
+    (λ k low. ap (λ t. get_or t k 0) (sym whole) ∙ get_or-append body (13 ∷ 10 ∷ []) 0 k low)
+    (λ k low is. one.1 k (omega (arith, low, long)) (inl is))
+    (λ k low. no_cr_below line (length line - 1) k one.1 (omega (arith, low, long)))
+strict_body line body ending.Absent whole free may one =
+    let is : body ≡ line = sym (append-nil body) ∙ whole in
+    let long : length body ≡ length line = ap length is in
+    elim one.2 [
+      | inl ends ↦ absurd (free (length line - 1)
+          (subst (λ t. IsCrLfAt t (length line - 1)) (sym is) ends))
+      | inr open_end ↦ clean_body line body (length body) refl
+          (λ k low. ap (λ t. get_or t k 0) (sym is))
+          (λ k low feed. elim (cases_lt k (length line - 1)) [
+            | inl before ↦ one.1 k before (inl feed)
+            | inr after ↦
+                let same : k ≡ length line - 1 = omega (arith, after, low, long) in
+                open_end.0 (subst (λ j. get_or line j 0 ≡ 10) same feed)
+          ])
+          (λ k low cr. elim (cases_lt (k + 1) (length line - 1)) [
+            | inl before ↦ no_cr_below line (length line - 1) k one.1 before cr
+            | inr after ↦ elim (cases_lt k (length line - 1)) [
+              | inl second ↦
+                  let same : k ≡ length line - 2 = omega (arith, after, second) in
+                  open_end.2 (subst (λ j. get_or line j 0 ≡ 13) same cr)
+              | inr last ↦
+                  let same : k ≡ length line - 1 = omega (arith, last, low, long) in
+                  open_end.1 (subst (λ j. get_or line j 0 ≡ 13) same cr)
+            ]
+          ])
+    ]
+
+strict_end : (end : Ending) (body : List ℕ) → MayEnd CrLf end body → MayEnd CrLfStrict end body
+strict_end ending.Lf body may = may
+strict_end ending.CrLf body may = may
+strict_end ending.Absent body may = may
+
+-- a line by CR LF, of bytes with no lone CR or LF, is a line by CR LF strictly
+pub strict_line : (start : ℕ) (line : List ℕ) (span : WithStart Line)
+    → LineSpansEndedBy CrLf start line (span ∷ []) → IsOneLine CrLfStrict line
+    → LineSpansEndedBy CrLfStrict start line (span ∷ [])
+strict_line start line span held one =
+    let body = span.item.body in let end = span.item.ending in
+    let whole : body ++ ending_text end ≡ line =
+    sym (append-nil (body ++ ending_text end)) ∙ held.lines.joined in
+    let free : IsBody CrLf body = held.lines.bodies 0 span.item (omega arith) in
+    let may : MayEnd CrLf end body = held.lines.endings 0 span.item (omega arith) in
+    record {
+      lines = record {
+        bodies = All-cons (λ (one' : Line). IsBody CrLfStrict one'.body) span.item []
+            (strict_body line body end whole free may one) (All-nil _);
+        endings = All-cons (λ (one' : Line). MayEnd CrLfStrict one'.ending one'.body) span.item []
+            (strict_end end body may) (All-nil _);
+        ended = held.lines.ended;
+        joined = held.lines.joined;
+      };
+      starts = held.starts;
+    }
+
+-- where it stops at its last byte, that is the end of CR LF
+pub strict_stop : (line : List ℕ) → IsOneLine CrLfStrict line
+    → IsFirstStop CrLfStrict line (length line) → IsFirstStop CrLf line (length line)
+strict_stop line one stop = record {
+  some = stop.some;
+  last = elim one.2 [
+    | inl ends ↦ ends
+    | inr open_end ↦ elim stop.last [
+      | inl feed ↦ absurd (open_end.0 feed)
+      | inr cr ↦
+          let at : length line - 1 - 1 ≡ length line - 2 = omega arith in
+          absurd (open_end.2 (subst (λ j. get_or line j 0 ≡ 13) at cr.1))
+    ]
+  ];
+  free = free_cr_lf line (length line - 1) stop.free;
+}

@@ -3,33 +3,37 @@ use Rattle.std.proofs.Common.{◌≡◌, ℕ, ◌+◌, ◌-◌, ◌<◌, ◌≤�
 use Rattle.std.proofs.Common.{ap, arith, subst, sym, ◌∙◌, inl, inr, eq-eqb, eqb-true}
 use Rattle.std.specs.List.{slice_range}
 use Rattle.std.proofs.Math.ListN.{get_or-append}
-use Rattle.std.proofs.lemmas.Bool.{cases_lt}
+use Rattle.std.proofs.Common.{◌≢◌, ◌⊎◌, Bool, true, eqb}
+use Rattle.std.proofs.lemmas.Bool.{cases_lt, or_cases, or_left, or_right}
 use Rattle.ascii.proofs.ListLemmas.{length-slice_range, slice_range-at}
-use Rattle.memchr.specs.Find.{IsFirst, IsFirstByte, Nowhere, is_byte}
+use Rattle.memchr.specs.Find.{IsFirst, IsFirstByte, NoneBefore, Nowhere, Passes, is_byte, is_byte2}
 use Rattle.ascii_lines.specs.declared.endings.Endings.{Endings}
-use Rattle.ascii_lines.specs.declared.endings.Endings.TheVariants.{Any, CrLf}
-use Rattle.ascii_lines.specs.Endings.{EndsAt, EndsLine, FreeUpTo, IsCrLfAt}
+use Rattle.ascii_lines.specs.declared.endings.Endings.TheVariants.{Any, CrLf, CrLfStrict}
+use Rattle.ascii_lines.specs.Endings.{StopsAt, IsFirstStop, FreeUpTo, IsCrLfAt}
 
 -- the first `n` bytes of two texts are the same
 abbrev pub AgreeUpTo : List ℕ → List ℕ → ℕ → Type 0
 AgreeUpTo a b n = (k : ℕ) → k < n → get_or a k 0 ≡ get_or b k 0
 
-EndsAt-same : (kind : Endings) (a b : List ℕ) (n k : ℕ) → AgreeUpTo a b n → k < n
-    → EndsAt kind a k → EndsAt kind b k
-EndsAt-same Any a b n k same inside is = sym (same k inside) ∙ is
-EndsAt-same CrLf a b n k same inside is =
+StopsAt-same : (kind : Endings) (a b : List ℕ) (n k : ℕ) → AgreeUpTo a b n → k < n
+    → StopsAt kind a k → StopsAt kind b k
+StopsAt-same Any a b n k same inside is = sym (same k inside) ∙ is
+StopsAt-same CrLf a b n k same inside is =
     (sym (same (k - 1) (omega (arith, inside))) ∙ is.0, sym (same k inside) ∙ is.1)
+StopsAt-same CrLfStrict a b n k same inside (inl feed) = inl (sym (same k inside) ∙ feed)
+StopsAt-same CrLfStrict a b n k same inside (inr cr) =
+    inr (cr.0, sym (same (k - 1) (omega (arith, inside))) ∙ cr.1)
 
 pub FreeUpTo-same : (kind : Endings) (a b : List ℕ) (n : ℕ) → AgreeUpTo a b n
     → FreeUpTo kind a n → FreeUpTo kind b n
 FreeUpTo-same kind a b n same free k inside = λ is. free k inside
-    (EndsAt-same kind b a n k (λ j low. sym (same j low)) inside is)
+    (StopsAt-same kind b a n k (λ j low. sym (same j low)) inside is)
 
-pub EndsLine-same : (kind : Endings) (a b : List ℕ) (n : ℕ) → AgreeUpTo a b n
-    → EndsLine kind a n → EndsLine kind b n
-EndsLine-same kind a b n same ends = record {
+pub IsFirstStop-same : (kind : Endings) (a b : List ℕ) (n : ℕ) → AgreeUpTo a b n
+    → IsFirstStop kind a n → IsFirstStop kind b n
+IsFirstStop-same kind a b n same ends = record {
   some = ends.some;
-  last = EndsAt-same kind a b n (n - 1) same (omega (arith, ends.some)) ends.last;
+  last = StopsAt-same kind a b n (n - 1) same (omega (arith, ends.some)) ends.last;
   free = FreeUpTo-same kind a b (n - 1) (λ k low. same k (omega (arith, low))) ends.free;
 }
 
@@ -56,14 +60,15 @@ module _ (text : List ℕ) (from : ℕ) (within : from ≤ length text) where
       slice_range-at text from (length text) (k - from) (omega (arith, low, high))
       ∙ ap (λ j. get_or text j 0) same
 
-  pub no_lf : IsFirstByte (is_byte 10) part None
-      → Nowhere (λ (k : ℕ). get_or text k 0 ≡ 10) from (length text)
-  no_lf none k low high = λ is. none (k - from) (omega arith) (omega (arith, low, high, long))
-      (eq-eqb _ _ (at_part k low high ∙ is))
+  -- what a search of the part finds, by its position in the text
+  pub none_passes : (test : ℕ → Bool) → IsFirstByte test part None
+      → Nowhere (Passes test text) from (length text)
+  none_passes test none k low high = λ is. none (k - from) (omega arith)
+      (omega (arith, low, high, long)) (ap test (at_part k low high) ∙ is)
 
-  pub first_lf : (place : ℕ) → IsFirstByte (is_byte 10) part (Some place)
-      → IsFirst (λ (k : ℕ). get_or text k 0 ≡ 10) from (length text) (Some (from + place))
-  first_lf place found =
+  pub first_passes : (test : ℕ → Bool) (place : ℕ) → IsFirstByte test part (Some place)
+      → IsFirst (Passes test text) from (length text) (Some (from + place))
+  first_passes test place found =
       let high : from + place < length text = omega (arith, found.0.high, long, within) in
       let back : from + place - from ≡ place = omega arith in (
         record {
@@ -71,24 +76,108 @@ module _ (text : List ℕ) (from : ℕ) (within : from ≤ length text) where
           high = high;
           before = λ k low less is. found.0.before (k - from) (omega arith)
               (omega (arith, low, less))
-              (eq-eqb _ _ (at_part k low (omega (arith, less, high)) ∙ is));
+              (ap test (at_part k low (omega (arith, less, high))) ∙ is);
         },
-        sym (at_part (from + place) (omega arith) high)
-            ∙ (ap (λ j. get_or part j 0) back ∙ eqb-true _ _ found.1),
+        ap test (sym (at_part (from + place) (omega arith) high)
+            ∙ ap (λ j. get_or part j 0) back) ∙ found.1,
       )
 
 -- ---- a search for CR LF
 
 -- no CR LF ends up to an LF that is not after a CR
 pub cr_lf_free : (text : List ℕ) (from place : ℕ) → FreeUpTo CrLf text from
-    → Nowhere (λ (k : ℕ). get_or text k 0 ≡ 10) from place → ¬ (IsCrLfAt text place)
+    → Nowhere (Passes (is_byte 10) text) from place → ¬ (IsCrLfAt text place)
     → FreeUpTo CrLf text (place + 1)
 cr_lf_free text from place free none other k inside = λ is. elim (cases_lt k from) [
   | inl before ↦ free k before is
   | inr after ↦ elim (cases_lt k place) [
-    | inl early ↦ none k after early is.1
+    | inl early ↦ none k after early (eq-eqb _ _ is.1)
     | inr late ↦
         let same : k ≡ place = omega (arith, inside, late) in
         other (subst (IsCrLfAt text) same is)
   ]
 ]
+
+-- ---- a search for CR and LF
+
+is_break : (x : ℕ) → (x ≡ 13) ⊎ (x ≡ 10) → is_byte2 13 10 x ≡ true
+is_break x (inl cr) = or_left (eqb x 13) (eqb x 10) (eq-eqb _ _ cr)
+is_break x (inr feed) = or_right (eqb x 13) (eqb x 10) (eq-eqb _ _ feed)
+
+pub break_is : (x : ℕ) → is_byte2 13 10 x ≡ true → x ≢ 10 → x ≡ 13
+break_is x is other = elim (or_cases (eqb x 13) (eqb x 10) is) [
+  | inl cr ↦ eqb-true _ _ cr
+  | inr feed ↦ absurd (other (eqb-true _ _ feed))
+]
+
+module _ (text : List ℕ) (from : ℕ) (free : FreeUpTo CrLfStrict text from)
+    (not_open : ¬ ((0 < from) × (from < length text) × (get_or text (from - 1) 0 ≡ 13))) where
+  -- no byte stops before `n` if none from `from` on is LF, and none but the last is CR
+  free_until : (n : ℕ) → n ≤ length text
+      → ((k : ℕ) → from ≤ k → k < n → get_or text k 0 ≢ 10)
+      → ((k : ℕ) → from ≤ k → k + 1 < n → get_or text k 0 ≢ 13) → FreeUpTo CrLfStrict text n
+  free_until n within no_feed no_cr k inside = λ is. elim (cases_lt k from) [
+    | inl before ↦ free k before is
+    | inr after ↦ elim is [
+      | inl feed ↦ no_feed k after inside feed
+      | inr cr ↦ elim (cases_lt (k - 1) from) [
+        | inl early ↦
+            let same : k ≡ from = omega (arith, after, early, cr.0) in
+            not_open (
+              omega (arith, same, cr.0),
+              omega (arith, same, inside, within),
+              subst (λ j. get_or text (j - 1) 0 ≡ 13) same cr.1,
+            )
+        | inr late ↦ no_cr (k - 1) late (omega (arith, inside, cr.0)) cr.1
+      ]
+    ]
+  ]
+
+  pub no_break : Nowhere (Passes (is_byte2 13 10) text) from (length text)
+      → FreeUpTo CrLfStrict text (length text)
+  no_break none = free_until (length text) (omega arith)
+      (λ k low high is. none k low high (is_break _ (inr is)))
+      (λ k low high is. none k low (omega (arith, high)) (is_break _ (inl is)))
+
+  -- up to the first CR or LF
+  pub before_break : (place : ℕ)
+      → NoneBefore (Passes (is_byte2 13 10) text) from (length text) place
+      → FreeUpTo CrLfStrict text place
+  before_break place first = free_until place (omega (arith, first.high))
+      (λ k low high is. first.before k low high (is_break _ (inr is)))
+      (λ k low high is. first.before k low (omega (arith, high)) (is_break _ (inl is)))
+
+  -- and one byte further, if it is not LF
+  pub at_break : (place : ℕ)
+      → NoneBefore (Passes (is_byte2 13 10) text) from (length text) place
+      → get_or text place 0 ≢ 10 → FreeUpTo CrLfStrict text (place + 1)
+  at_break place first other = free_until (place + 1) (omega (arith, first.high))
+      (λ k low high is. elim (cases_lt k place) [
+        | inl early ↦ first.before k low early (is_break _ (inr is))
+        | inr late ↦
+            let same : k ≡ place = omega (arith, high, late) in
+            other (subst (λ j. get_or text j 0 ≡ 10) same is)
+      ])
+      (λ k low high is. first.before k low (omega (arith, high)) (is_break _ (inl is)))
+
+-- the byte after the first bytes, of which the last is CR, stops
+pub stop_after_cr : (text : List ℕ) (n : ℕ) → 0 < n → get_or text (n - 1) 0 ≡ 13
+    → FreeUpTo CrLfStrict text n → IsFirstStop CrLfStrict text (n + 1)
+stop_after_cr text n some cr free =
+    let back : n + 1 - 1 ≡ n = omega arith in
+    record {
+      some = omega arith;
+      last = subst (StopsAt CrLfStrict text) (sym back) (inr (some, cr));
+      free = subst (FreeUpTo CrLfStrict text) (sym back) free;
+    }
+
+-- an LF stops
+pub stop_at_lf : (text : List ℕ) (place : ℕ) → get_or text place 0 ≡ 10
+    → FreeUpTo CrLfStrict text place → IsFirstStop CrLfStrict text (place + 1)
+stop_at_lf text place feed free =
+    let back : place + 1 - 1 ≡ place = omega arith in
+    record {
+      some = omega arith;
+      last = subst (StopsAt CrLfStrict text) (sym back) (inl feed);
+      free = subst (FreeUpTo CrLfStrict text) (sym back) free;
+    }

@@ -12,8 +12,8 @@ use Rattle.ascii.specs.Bytes.{FirstOther}
 use Rattle.ascii.proofs.ListLemmas.{length-slice_range, slice_range-at}
 use Rattle.ascii_lines.specs.LineBuffer.{IsLaidOut}
 use Rattle.ascii_lines.specs.declared.endings.Endings.{Endings}
-use Rattle.ascii_lines.specs.Endings.{EndsLine, FreeUpTo}
-use Rattle.ascii_lines.proofs.EndingsLemmas.{AgreeUpTo, EndsLine-same, FreeUpTo-same}
+use Rattle.ascii_lines.specs.Endings.{IsFirstStop, FreeUpTo}
+use Rattle.ascii_lines.proofs.EndingsLemmas.{AgreeUpTo, IsFirstStop-same, FreeUpTo-same}
 
 -- a byte of a part, by its place in the whole
 at_place : (bytes : List ℕ) (s e k : ℕ) → s ≤ k → k < e
@@ -43,9 +43,9 @@ pub found_part : (kind : Endings) (bytes : List ℕ) (from checked filled : ℕ)
     → MatchOption r
     (FreeUpTo kind (slice_range bytes from checked) (length (slice_range bytes from checked)))
     (λ n. (n ≤ length (slice_range bytes from checked))
-    × EndsLine kind (slice_range bytes from checked) n)
+    × IsFirstStop kind (slice_range bytes from checked) n)
     → MatchOption r (FreeUpTo kind (slice_range bytes from filled) (checked - from))
-    (λ n. (n ≤ checked - from) × EndsLine kind (slice_range bytes from filled) n)
+    (λ n. (n ≤ checked - from) × IsFirstStop kind (slice_range bytes from filled) n)
 found_part kind bytes from checked filled None first then inside free =
     let long = length-slice_range bytes from checked first (omega (arith, then, inside)) in
     FreeUpTo-same kind (slice_range bytes from checked) (slice_range bytes from filled)
@@ -55,7 +55,7 @@ found_part kind bytes from checked filled (Some n) first then inside found =
     let long = length-slice_range bytes from checked first (omega (arith, then, inside)) in
     let within : n ≤ checked - from = omega (arith, found.0, long) in (
       within,
-      EndsLine-same kind (slice_range bytes from checked) (slice_range bytes from filled) n
+      IsFirstStop-same kind (slice_range bytes from checked) (slice_range bytes from filled) n
           (λ k low. agree_part bytes from checked filled then k (omega (arith, low, within)))
           found.1,
     )

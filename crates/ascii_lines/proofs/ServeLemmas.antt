@@ -41,7 +41,8 @@ line_bytes (b ∷ bs) Absent may = omega (arith, length-append (b ∷ bs) [])
 
 -- a line that was yielded is an input
 yields_input : (old new : ReaderState) (line : WithStart Line)
-    → YieldsLines old (line ∷ []) new → IsAsked old.endings next.Line line.item × TakesInput old line new
+    → YieldsLines old (line ∷ []) new
+    → IsAsked old.endings next.Line line.item × TakesInput old line new
 yields_input old new line yields =
     let bytes = line_text line.item in
     let is : yields.handed ≡ bytes = sym yields.exact.lines.joined ∙ append-nil bytes in
@@ -170,7 +171,8 @@ some_bytes endings next.Close input request is = absurd is
 
 module _ {H : Type 0} (answers : H → List ℕ → List (List ℕ) → Next → H → Type 0) where
   -- one more input was answered
-  talks_more : (endings : Endings) (old mid new : H) (first then last : Next) (inputs : List (WithStart Line))
+  talks_more : (endings : Endings) (old mid new : H) (first then last : Next)
+      (inputs : List (WithStart Line))
       (replies now : List (List ℕ)) (input : WithStart Line)
       → Talks answers endings old first inputs replies then mid
       → IsAsked endings then input.item
@@ -188,7 +190,8 @@ module _ {H : Type 0} (answers : H → List ℕ → List (List ℕ) → Next →
       (refl, refl, refl),
     ),
   )
-  talks_more endings old mid new first then last (i ∷ inputs) replies now input talks asked answered =
+  talks_more endings old mid new first then last (i ∷ inputs) replies now input talks asked
+      answered =
       let t = talks.1 in (
         talks.0,
         (

@@ -2,8 +2,9 @@
 use Rattle.std.specs.Prelude.{◌≡◌, ℕ, List, [], ◌++◌, map, None, Some}
 use Rattle.std.specs.declared.option.Option.{Option}
 use Rattle.ascii.specs.Lines.{Line}
-use Rattle.ascii.specs.Spans.{WithStart}
-use Rattle.ascii_lines.specs.Endings.{LineSpansEndedBy}
+use Rattle.ascii.specs.Spans.{WithStart, items_of}
+use Rattle.ascii_lines.specs.Endings.{IsBody, LineSpansEndedBy, any_text}
+use Rattle.std.specs.List.{All}
 use Rattle.ascii_lines.specs.declared.line_reader.LineError.{LineError}
 use Rattle.ascii_lines.specs.declared.owned_lines.OwnedLine.{OwnedLine}
 use Rattle.ascii_lines.specs.declared.owned_lines.CollectedLines.{CollectedLines}
@@ -28,10 +29,12 @@ YieldsUntil old lines (Some error) new = (new.stage ≡ Refused error)
     × ((before : ReaderState) × YieldsLines old lines before
     × IsLineError before.endings before.start before.size before.held before.rest new.rest error)
 
--- if it is known which bytes the source of a reader in the state `old` has yet to give, `lines` are
--- the first lines of these and of the bytes held, and with no error they are all of their lines
+-- if it is known which bytes the source of a reader in the state `old` has yet to give, `lines`
+-- are the first lines of these and of the bytes held, and with no error they are all of their
+-- lines. Their bodies are bodies by the reader's endings
 abbrev pub AreFirstLines : ReaderState → List (WithStart Line) → Option LineError → Type 0
 AreFirstLines old lines error = (told : List ℕ) → old.rest ≡ Some told
     → (others : List (WithStart Line))
-    × LineSpansEndedBy old.endings old.start (old.held ++ told) (lines ++ others)
+    × LineSpansEndedBy (any_text old.endings) old.start (old.held ++ told) (lines ++ others)
     × (error ≡ None → others ≡ [])
+    × All (λ line. IsBody old.endings line.body) (items_of lines)

@@ -12,12 +12,14 @@ use Rattle.ascii.specs.Lines.{Line}
 use Rattle.ascii.specs.Spans.{WithStart, line_size}
 use Rattle.ascii.specs.View.{text_of}
 use Rattle.ascii.specs.Bytes.{FirstOther}
-use Rattle.ascii_lines.specs.Endings.{EndsLine, FreeUpTo, LineSpansEndedBy}
+use Rattle.ascii_lines.specs.Endings.{FreeUpTo, IsFirstStop, IsLoneBreak, IsWhole}
+use Rattle.ascii_lines.specs.Endings.{LineSpansEndedBy}
 use Rattle.ascii_lines.specs.LineBuffer.{WindowState}
 use Rattle.ascii_lines.specs.declared.endings.Endings.{Endings}
-use Rattle.ascii_lines.specs.declared.endings.Endings.TheVariants.{Any}
+use Rattle.ascii_lines.specs.declared.endings.Endings.TheVariants.{Any, CrLfStrict}
 use Rattle.ascii_lines.specs.declared.line_reader.LineError.{LineError}
-use Rattle.ascii_lines.specs.declared.line_reader.LineError.TheVariants.{NotAscii, TooLong, TooFar}
+use Rattle.ascii_lines.specs.declared.line_reader.LineError.TheVariants.{NotAscii, LoneBreak}
+use Rattle.ascii_lines.specs.declared.line_reader.LineError.TheVariants.{TooLong, TooFar}
 use Rattle.ascii_lines.specs.declared.line_reader.LineError.TheVariants.{Incomplete, Read}
 use Rattle.ascii_lines.specs.declared.line_reader.LineReader.{LineReader}
 use Rattle.ascii_lines.specs.declared.line_reader.ReadLine.{ReadLine}
@@ -68,8 +70,8 @@ start_of_next reader = reader.start
 abbrev pub IsOpen : {S Z : Type 0} → LineReader S Z → Type 0
 IsOpen reader = reader.stage ≡ Open
 
--- the state of a new reader with a buffer of `size` bytes: it has read nothing, and its lines end in
--- any ending
+-- the state of a new reader with a buffer of `size` bytes: it has read nothing, and its lines end
+-- in any ending
 abbrev pub IsFresh : ℕ → ReaderState → Type 0
 IsFresh size reading = (reading.size ≡ size) × (reading.start ≡ 0) × (reading.held ≡ [])
     × (reading.stage ≡ Open) × (reading.endings ≡ Any)
@@ -106,28 +108,33 @@ pub record YieldsLines (old : ReaderState) (lines : List (WithStart Line)) (new 
   pub endings : new.endings ≡ old.endings
 
 -- why the first line of `text` by `endings`, which is at the position `start` of the input, is not
--- yielded through a buffer of `size` bytes. `NotAscii`: a byte of the line, among its first `size` bytes,
--- is the first of `text` that is not less than 128; the error holds its position. `TooLong`: the
--- line has more bytes than the buffer, of which the first `size` are ASCII; the error holds its
--- position. `TooFar`: the line has a byte at the position 2 ^ 64 - 1 or after it. `Incomplete` is
--- not an error of a line. `Read` says nothing of `text`
-abbrev pub RejectsLine : Endings → ℕ → ℕ → List ℕ → LineError → Type 0
-RejectsLine endings start size text (NotAscii place) = (i : ℕ) × (place ≡ start + i) × (i < size)
-    × FirstOther text 0 (length text) i × FreeUpTo endings text i
-RejectsLine endings start size text (TooLong place) = (place ≡ start) × (size < length text)
+-- yielded through a buffer of `size` bytes, if the source has yet to give `left`. `NotAscii`: a
+-- byte of the line, among its first `size` bytes, is the first of `text` that is not less than
+-- 128; the error holds its position. `LoneBreak`: the error holds the position of the first lone
+-- CR or LF, as `IsLoneBreak` says. `TooLong`: the line has more bytes than the buffer, of which
+-- the first `size` are ASCII; the error holds its position. `TooFar`: the line has a byte at the
+-- position 2 ^ 64 - 1 or after it. `Incomplete` is not an error of a line. `Read` says nothing of
+-- `text`
+abbrev pub RejectsLine
+    : Endings → ℕ → ℕ → List ℕ → Option (List ℕ) → LineError → Type 0
+RejectsLine endings start size text left (NotAscii place) = (i : ℕ) × (place ≡ start + i)
+    × (i < size) × FirstOther text 0 (length text) i × FreeUpTo endings text i
+RejectsLine endings start size text left (LoneBreak place) = (endings ≡ CrLfStrict)
+    × ((i n : ℕ) × (place ≡ start + i) × IsLoneBreak size text left i n)
+RejectsLine endings start size text left (TooLong place) = (place ≡ start) × (size < length text)
     × IsAscii (take size text) × FreeUpTo endings text size
-RejectsLine endings start size text TooFar =
+RejectsLine endings start size text left TooFar =
     (n : ℕ) × (n ≤ length text) × FreeUpTo endings text (n - 1) × (2 ^ 64 - 1 < start + n)
-RejectsLine endings start size text (Incomplete count) = ⊥
-RejectsLine endings start size text Read = ⊤
+RejectsLine endings start size text left (Incomplete count) = ⊥
+RejectsLine endings start size text left Read = ⊤
 
 -- why a reader stops that held the bytes `held`. `Read` says nothing of the bytes that the source
 -- gave. For another error, `RejectsLine` is true of these and of the bytes held
 abbrev pub IsLineError
     : Endings → ℕ → ℕ → List ℕ → Option (List ℕ) → Option (List ℕ) → LineError → Type 0
 IsLineError endings start size held rest left Read = ⊤
-IsLineError endings start size held rest left error =
-    (text : List ℕ) × IsHeldThenRead held rest left text × RejectsLine endings start size text error
+IsLineError endings start size held rest left error = (text : List ℕ)
+    × IsHeldThenRead held rest left text × RejectsLine endings start size text left error
 
 -- from the state `old` to the state `new` the reader returned `bytes`: of the bytes held before and
 -- those that the source gave they are the first, and the others are held
@@ -138,15 +145,17 @@ pub record ReadsBytes (old : ReaderState) (bytes : List ℕ) (new : ReaderState)
   pub endings : new.endings ≡ old.endings
 
 -- why a reader that held the bytes `held` returns no part of `n` bytes. `NotAscii`: one of these
--- bytes is the first that is not less than 128; the error holds its position. `TooLong`: `n` is more
--- than the size of the buffer; the error holds the start. `TooFar`: the part ends after the position
--- 2 ^ 64 - 1. `Incomplete`: the source is at its end, and the bytes held and given are ASCII and
--- fewer than `n`; the error holds their number. `Read` says nothing of the bytes
+-- bytes is the first that is not less than 128; the error holds its position. `TooLong`: `n` is
+-- more than the size of the buffer; the error holds the start. `TooFar`: the part ends after the
+-- position 2 ^ 64 - 1. `Incomplete`: the source is at its end, and the bytes held and given are
+-- ASCII and fewer than `n`; the error holds their number. `LoneBreak` is not an error of a part.
+-- `Read` says nothing of the bytes
 abbrev pub IsPartError
     : ℕ → ℕ → ℕ → List ℕ → Option (List ℕ) → Option (List ℕ) → LineError → Type 0
 IsPartError start size n held rest left (NotAscii place) = (text : List ℕ)
     × IsHeldThenRead held rest left text
     × ((i : ℕ) × (place ≡ start + i) × (i < n) × FirstOther text 0 (length text) i)
+IsPartError start size n held rest left (LoneBreak place) = ⊥
 IsPartError start size n held rest left (TooLong place) = (place ≡ start) × (size < n)
 IsPartError start size n held rest left TooFar = 2 ^ 64 - 1 < start + n
 IsPartError start size n held rest left (Incomplete count) = (text : List ℕ)
@@ -170,8 +179,8 @@ YieldsNext old (Ok None) new = YieldsLines old [] new × IsDone new
 YieldsNext old (Err error) new = (new.stage ≡ Refused error)
     × IsLineError old.endings old.start old.size old.held old.rest new.rest error
 
--- what an open reader returns for a part of `n` bytes. `Ok`: the next `n` bytes with their start, and
--- the reader is open. `Err`: the reader has stopped, and why
+-- what an open reader returns for a part of `n` bytes. `Ok`: the next `n` bytes with their start,
+-- and the reader is open. `Err`: the reader has stopped, and why
 abbrev pub YieldsPart : ℕ → ReaderState → Result ReadPart LineError → ReaderState → Type 0
 YieldsPart n old (Ok part) new = ReadsBytes old (text_of part.text) new
     × (length (text_of part.text) ≡ n) × (part.start ≡ old.start) × (new.stage ≡ Open)
@@ -215,29 +224,31 @@ module _ {S Z : Type 0} (rest : S → Option (List ℕ)) (failures : S → ℕ) 
 
 -- ---- cited by private functions only
 
--- `bytes` is not empty, and only its last byte may end a line
+-- `bytes` is not empty, only its last byte may end a line, and it has no lone CR or LF by `endings`
 abbrev pub IsOneLine : Endings → List ℕ → Type 0
 IsOneLine endings bytes = (0 < length bytes) × FreeUpTo endings bytes (length bytes - 1)
+    × IsWhole endings bytes
 
 -- the error for a byte that is not less than 128, `i` bytes after the position `start`: its
 -- position, or `TooFar` if that does not fit a `u64`
 abbrev pub error_at : ℕ → ℕ → LineError
 error_at start i = if nat_lt (start + i) (2 ^ 64) then NotAscii (start + i) else TooFar
 
--- what a search for the end of a line finds. `None`: the source is at its end, and no line ends in
--- the bytes of the buffer, which are ASCII. `Some`: the number of bytes up to the end of the first
--- line, which are all ASCII
+-- what a search for the end of a line finds. `None`: the source is at its end, and no byte of the
+-- buffer ends a line or shows a lone CR or LF, and all are ASCII. `Some`: the number of bytes up to
+-- the first that does, which are all ASCII
 abbrev pub FindsLineEnd : Endings → WindowState → Option (List ℕ) → Option ℕ → Type 0
 FindsLineEnd endings buffer left None = IsAtEnd left
     × FreeUpTo endings buffer.held (length buffer.held) × (buffer.checked ≡ length buffer.held)
-FindsLineEnd endings buffer left (Some n) = (n ≤ buffer.checked) × EndsLine endings buffer.held n
+FindsLineEnd endings buffer left (Some n) =
+    (n ≤ buffer.checked) × IsFirstStop endings buffer.held n
 
--- the bytes taken last are all that was left, no line ends in them, and the source is at its end
--- (`true`); or they end where the first line does (`false`)
+-- the bytes taken last are all that was left, none of them ends a line or shows a lone CR or LF,
+-- and the source is at its end (`true`); or the last of them is the first that does (`false`)
 abbrev pub IsLineTaken : Endings → Bool → WindowState → Option (List ℕ) → Type 0
 IsLineTaken endings true buffer left = (buffer.held ≡ []) × IsAtEnd left
     × FreeUpTo endings buffer.given (length buffer.given)
-IsLineTaken endings false buffer left = EndsLine endings buffer.given (length buffer.given)
+IsLineTaken endings false buffer left = IsFirstStop endings buffer.given (length buffer.given)
 
 -- the bytes of the line at the position `start` were taken from the buffer. They end at the
 -- position `place`, and `is_last` tells whether the source is at its end
@@ -246,6 +257,7 @@ pub record TakesLine (endings : Endings) (start : ℕ) (old new : WindowState)
   pub text : IsHeldThenRead old.held rest left (new.given ++ new.held)
   pub place_is : place ≡ start + length new.given
   pub taken : IsLineTaken endings is_last new left
+  pub whole : IsWhole endings new.given
 
 -- the outcome of taking the bytes of the next line, which are `given`. `true`: they are one line,
 -- and fit in the buffer. `false`: there are no more lines. `Err`: the reader has stopped, and why
@@ -254,7 +266,7 @@ Advances old (Ok true) new given =
     IsHeldThenRead old.held old.rest new.rest (given ++ new.held)
     × (new.start ≡ old.start + length given) × (new.size ≡ old.size)
     × (new.endings ≡ old.endings) × IsOneLine old.endings given × (length given ≤ old.size)
-    × (((new.stage ≡ Open) × EndsLine old.endings given (length given)) ⊎ IsDone new)
+    × (((new.stage ≡ Open) × IsFirstStop old.endings given (length given)) ⊎ IsDone new)
 Advances old (Ok false) new given = YieldsLines old [] new × IsDone new
 Advances old (Err error) new given = (new.stage ≡ Refused error)
     × IsLineError old.endings old.start old.size old.held old.rest new.rest error

@@ -14,6 +14,7 @@ impl fmt::Display for LineError {
     ghost output = { λ error. Some (line_error_text error) };
 
     ///     LineError::NotAscii(7).to_string(alloc)? // "the byte at index 7 is not ASCII"
+    ///     LineError::LoneBreak(7).to_string(alloc)? // "the CR or LF at index 7 is not part of a CR LF"
     ///     LineError::TooLong(7).to_string(alloc)? // "the line or part at index 7 is longer than the buffer"
     ///     LineError::TooFar.to_string(alloc)? // "the input is longer than 18446744073709551615 bytes"
     ///     LineError::Incomplete(7).to_string(alloc)? // "the input ended after 7 bytes of a part"
@@ -22,6 +23,9 @@ impl fmt::Display for LineError {
         match *self {
             LineError::NotAscii(position) => {
                 write!(f, "the byte at index {position} is not ASCII")
+            }
+            LineError::LoneBreak(position) => {
+                write!(f, "the CR or LF at index {position} is not part of a CR LF")
             }
             LineError::TooLong(start) => {
                 write!(

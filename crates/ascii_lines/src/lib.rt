@@ -8,6 +8,7 @@
 //! | To | Use |
 //! |---|---|
 //! | read lines one after another | `LineReader::next_line` |
+//! | choose which endings end a line | `LineReader::lines_ended_by`, with `Endings` |
 //! | read a part of an announced length | `LineReader::read_exact_part` |
 //! | keep all lines | `collect_lines` |
 //! | write lines | `LineWriter` |

@@ -6,7 +6,7 @@ ghost use Rattle.std.specs.Io.KnownBytes.{Consumes, IsAtEnd};
 ghost use Rattle.std.specs.Str.{IsAscii};
 ghost use Rattle.ascii.specs.Bytes.{FirstOther};
 ghost use Rattle.ascii_devices.specs.Devices.{CountsFault};
-ghost use Rattle.ascii_lines.specs.Endings.{EndsLine, FreeUpTo};
+ghost use Rattle.ascii_lines.specs.Endings.{IsFirstStop, FreeUpTo};
 
 use crate::endings::{Endings, find_end};
 use ascii::kernels::first_other;
@@ -119,7 +119,7 @@ impl<A: Allocator> LineBuffer<A> {
         requires within { searched ≤ self.now.checked }
         requires free { FreeUpTo endings self.now.held searched }
         ensures found { MatchOption result (FreeUpTo endings self.now.held self.now.checked)
-            (λ n. (n ≤ self.now.checked) × EndsLine endings self.now.held n) }
+            (λ n. (n ≤ self.now.checked) × IsFirstStop endings self.now.held n) }
     {
         find_end(endings, &self.bytes[self.from..self.checked], searched)
     }

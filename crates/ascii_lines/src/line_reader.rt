@@ -1,16 +1,16 @@
 //! A reader of lines over any source, through one buffer of fixed size.
 
 ghost use Rattle.std.specs.Prelude.{◌≡◌, ◌≢◌, ◌⊎◌, ◌+◌, ◌^◌, ◌<◌, ◌≤◌, ◌∷◌, ◌++◌, [], IfErr, IfOk};
-ghost use Rattle.std.specs.Prelude.{◌-◌, ◌↔◌, IsTrue, None, OnOk, length, ℕ};
+ghost use Rattle.std.specs.Prelude.{None, OnOk, length, ℕ};
 ghost use Rattle.std.specs.Io.KnownBytes.{Consumes, IsAtEnd};
 ghost use Rattle.std.specs.Str.{IsAscii};
 ghost use Rattle.ascii.specs.Spans.{LineSpansOf, line_size};
 ghost use Rattle.ascii_lines.specs.LineReader.{FindsLineEnd, IsOneLine, IsHeldThenRead, IsLineError};
 ghost use Rattle.ascii_lines.specs.LineReader.{IsPartError};
 ghost use Rattle.ascii_lines.specs.LineReader.{TakesLine, failures_after, read_line_in, error_at};
-ghost use Rattle.ascii_lines.specs.Endings.{EndsLine, IsCrLfAt, LineSpansEndedBy};
+ghost use Rattle.ascii_lines.specs.Endings.{IsFirstStop, LineSpansEndedBy};
 
-use crate::endings::Endings;
+use crate::endings::{Endings, ends_in_cr_lf, lone_break};
 use crate::line_buffer::LineBuffer;
 use ascii::iter::Ending;
 use ascii::{AsciiStr, bytes};
@@ -23,6 +23,9 @@ pub enum LineError {
     /// The byte at this position of the input, counted from 0, is the first that is not ASCII. It is among
     /// the bytes of its line that fit in the buffer.
     NotAscii(u64),
+    /// The byte at this position of the input, counted from 0, is a CR without an LF after it or an LF
+    /// without a CR before it, in a line that `Endings::CrLfStrict` end.
+    LoneBreak(u64),
     /// The line that starts at this position of the input, counted from 0, is longer than the buffer, with
     /// its ending; or the part that starts there is longer than the buffer.
     TooLong(u64),
@@ -111,14 +114,23 @@ impl<S: Source, A: Allocator> LineReader<S, A> {
         })
     }
 
-    /// Sets which endings end the lines that are returned from now on. The next line starts where it
-    /// would have, and nothing else changes: a reader that has returned `None` or an error goes on
-    /// returning it. A new reader has `Endings::Any`.
+    /// Sets which endings end the lines that `next_line` returns from now on. Nothing else changes: the
+    /// next line starts where it would have started, and a reader that has returned `None` or an error
+    /// continues to return it. A new reader has `Endings::Any`.
+    ///
+    /// With `Endings::CrLf` a CR or an LF by itself is part of the line:
     ///
     ///     let mut reader = LineReader::new(alloc, Input::new(b"a\nb\r\nc".as_slice()), 64)?;
     ///     reader.lines_ended_by(Endings::CrLf);
     ///     reader.next_line() // Ok(Some(ReadLine { start: 0, text: "a\nb", ending: CrLf }))
     ///     reader.next_line() // Ok(Some(ReadLine { start: 5, text: "c", ending: Absent }))
+    ///
+    /// With `Endings::CrLfStrict` it is an error with its position:
+    ///
+    ///     let mut reader = LineReader::new(alloc, Input::new(b"a\r\nb\nc\r\n".as_slice()), 64)?;
+    ///     reader.lines_ended_by(Endings::CrLfStrict);
+    ///     reader.next_line() // Ok(Some(ReadLine { start: 0, text: "a", ending: CrLf }))
+    ///     reader.next_line() // Err(LoneBreak(4))
     pub fn lines_ended_by(&mut self, endings: Endings)
         ensures { self.new ≡ ended_by endings self.old }
     {
@@ -148,14 +160,19 @@ impl<S: Source, A: Allocator> LineReader<S, A> {
     }
 
     /// Returns the next line with its start and its ending, or `None` if there are no more lines, or
-    /// an error. A line ends in LF or in CR LF, or as `lines_ended_by` has set; only the last one of the
-    /// input may have no ending. With its ending it is no longer than the buffer.
+    /// an error. A line ends in LF or in CR LF, unless `lines_ended_by` has set other endings; only the
+    /// last one of the input may have no ending. With its ending it is no longer than the buffer.
     ///
     /// `None` is returned when every byte of the input was in a line that was returned, and the source
-    /// is at its end. An error is returned instead of the next line:
+    /// is at its end. An error is returned instead of the next line; if that line has several faults,
+    /// the first one in the order of its bytes:
     ///
     /// - `NotAscii` if that line has a non-ASCII byte among those of its bytes that fit in the buffer.
     ///   The error has the position of the first one.
+    /// - `LoneBreak` if that line has a CR without an LF after it or an LF without a CR before it, and
+    ///   the endings are `Endings::CrLfStrict`. The error has the position of the first one. It is the
+    ///   byte after a CR, or the end of the input, that shows this fault: if that byte is not ASCII or
+    ///   does not fit in the buffer, the error is `NotAscii` or `TooLong`.
     /// - `TooLong` if that line is longer than the buffer, and those of its bytes that fit are ASCII.
     ///   The error has the start of the line.
     /// - `TooFar` if that line has a byte at the position `u64::MAX` or after it.
@@ -288,10 +305,13 @@ fn take_line<S: Source, A: Allocator>(
 {
     let found = seek(buffer, source, endings, start)?;
     let n = found.unwrap_or(buffer.len());
+    buffer.take(n);
     let Some(end) = start.checked_add(n as u64) else {
         return Err(LineError::TooFar);
     };
-    buffer.take(n);
+    if let Some(place) = lone_break(endings, buffer.line_bytes()) {
+        return Err(LineError::LoneBreak(start + place as u64));
+    }
     Ok((end, found.is_none()))
 }
 
@@ -433,12 +453,13 @@ fn line_at(endings: Endings, start: u64, line: &[u8]) -> ReadLine<'_>
     requires one { IsOneLine endings line.now }
     ensures line { LineSpansEndedBy endings start line.now (read_line_in result ∷ []) }
     ensures size { line_size (read_line_in result).item ≡ length line.now }
-    ensures ended { EndsLine endings line.now (length line.now)
+    ensures ended { IsFirstStop endings line.now (length line.now)
         → result.ending ≢ Ending.Absent }
 {
     match endings {
         Endings::Any => any_line_at(start, line),
         Endings::CrLf => cr_lf_line_at(start, line),
+        Endings::CrLfStrict => strict_line_at(start, line),
     }
 }
 
@@ -449,7 +470,7 @@ fn any_line_at(start: u64, line: &[u8]) -> ReadLine<'_>
     requires one { IsOneLine Endings.Any line.now }
     ensures line { LineSpansOf start line.now (read_line_in result ∷ []) }
     ensures size { line_size (read_line_in result).item ≡ length line.now }
-    ensures ended { EndsLine Endings.Any line.now (length line.now)
+    ensures ended { IsFirstStop Endings.Any line.now (length line.now)
         → result.ending ≢ Ending.Absent }
 {
     match line {
@@ -471,13 +492,25 @@ fn any_line_at(start: u64, line: &[u8]) -> ReadLine<'_>
     }
 }
 
+/// The line of bytes of which only the last two may be CR or LF, and are then CR LF.
+fn strict_line_at(start: u64, line: &[u8]) -> ReadLine<'_>
+    requires ascii { IsAscii line.now }
+    requires one { IsOneLine Endings.CrLfStrict line.now }
+    ensures line { LineSpansEndedBy Endings.CrLfStrict start line.now (read_line_in result ∷ []) }
+    ensures size { line_size (read_line_in result).item ≡ length line.now }
+    ensures ended { IsFirstStop Endings.CrLfStrict line.now (length line.now)
+        → result.ending ≢ Ending.Absent }
+{
+    cr_lf_line_at(start, line)
+}
+
 /// The line of bytes of which only the last two may be CR LF.
 fn cr_lf_line_at(start: u64, line: &[u8]) -> ReadLine<'_>
     requires ascii { IsAscii line.now }
     requires one { IsOneLine Endings.CrLf line.now }
     ensures line { LineSpansEndedBy Endings.CrLf start line.now (read_line_in result ∷ []) }
     ensures size { line_size (read_line_in result).item ≡ length line.now }
-    ensures ended { EndsLine Endings.CrLf line.now (length line.now)
+    ensures ended { IsFirstStop Endings.CrLf line.now (length line.now)
         → result.ending ≢ Ending.Absent }
 {
     if ends_in_cr_lf(line) {
@@ -492,12 +525,4 @@ fn cr_lf_line_at(start: u64, line: &[u8]) -> ReadLine<'_>
         text: bytes::as_ascii_str_unchecked(line),
         ending: Ending::Absent,
     }
-}
-
-/// Whether a text ends in CR LF.
-fn ends_in_cr_lf(text: &[u8]) -> bool
-    ensures { IsTrue result ↔ IsCrLfAt text.now (length text.now - 1) }
-{
-    let n = text.len();
-    n >= 2 && text[n - 2] == b'\r' && text[n - 1] == b'\n'
 }

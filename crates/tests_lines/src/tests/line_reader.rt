@@ -10,7 +10,7 @@ use std::process::Abort;
 
 /// A reader of bytes that gives at most `step` of them at a call, fails at one call, and counts its calls.
 #[derive(Drop)]
-struct Counted<'a> {
+pub(super) struct Counted<'a> {
     bytes: &'a [u8],
     most: usize,
     fails: u64,
@@ -18,12 +18,12 @@ struct Counted<'a> {
 }
 
 /// A reader that never fails.
-fn giving(bytes: &[u8], most: usize) -> Input<Counted<'_>> {
+pub(super) fn giving(bytes: &[u8], most: usize) -> Input<Counted<'_>> {
     failing(bytes, most, u64::MAX)
 }
 
 /// A reader that fails at this call, from 0.
-fn failing(bytes: &[u8], most: usize, fails: u64) -> Input<Counted<'_>> {
+pub(super) fn failing(bytes: &[u8], most: usize, fails: u64) -> Input<Counted<'_>> {
     Input::new(Counted {
         bytes,
         most,
@@ -70,7 +70,7 @@ fn compare<R: Abort>(rt: &R, line: Option<&OwnedLine>, start: u64, body: &str, e
 }
 
 /// The text of a number: LF, CR or `a` for each of its digits to the base 3.
-fn text_of(alloc: Global, number: u32, length: usize) -> Result<Vec<u8>, AllocError> {
+pub(super) fn text_of(alloc: Global, number: u32, length: usize) -> Result<Vec<u8>, AllocError> {
     let mut text = Vec::new(alloc);
     let mut rest = number;
     for _ in 0..length {

@@ -20,6 +20,9 @@ fn line_error_1(rt: HostRuntime) {
             LineError::NotAscii(7)
                 .to_string(alloc)
                 .expect(&rt, "refused"),
+            LineError::LoneBreak(7)
+                .to_string(alloc)
+                .expect(&rt, "refused"),
             LineError::TooLong(7)
                 .to_string(alloc)
                 .expect(&rt, "refused"),
@@ -29,7 +32,7 @@ fn line_error_1(rt: HostRuntime) {
                 .expect(&rt, "refused"),
             LineError::Read.to_string(alloc).expect(&rt, "refused"),
         ),
-        "(\"the byte at index 7 is not ASCII\", \"the line or part at index 7 is longer than the buffer\", \"the input is longer than 18446744073709551615 bytes\", \"the input ended after 7 bytes of a part\", \"read failed\")",
+        "(\"the byte at index 7 is not ASCII\", \"the CR or LF at index 7 is not part of a CR LF\", \"the line or part at index 7 is longer than the buffer\", \"the input is longer than 18446744073709551615 bytes\", \"the input ended after 7 bytes of a part\", \"read failed\")",
     );
 }
 
@@ -65,6 +68,11 @@ fn line_reader_1(rt: HostRuntime) {
             "Ok(Some(ReadLine { start: 0, text: \"ab\", ending: CrLf }))",
         );
     }
+}
+
+#[test]
+fn line_reader_2(rt: HostRuntime) {
+    let alloc = rt.alloc();
     // LineReader::lines_ended_by
     {
         let mut reader = LineReader::new(alloc, Input::new(b"a\nb\r\nc".as_slice()), 64).expect(
@@ -83,11 +91,22 @@ fn line_reader_1(rt: HostRuntime) {
             &reader.next_line(),
             "Ok(Some(ReadLine { start: 5, text: \"c\", ending: Absent }))",
         );
+        let mut reader = LineReader::new(alloc, Input::new(b"a\r\nb\nc\r\n".as_slice()), 64).expect(
+            &rt, "refused",
+        );
+        reader.lines_ended_by(Endings::CrLfStrict);
+        assert_debug(
+            &rt,
+            alloc,
+            &reader.next_line(),
+            "Ok(Some(ReadLine { start: 0, text: \"a\", ending: CrLf }))",
+        );
+        assert_debug(&rt, alloc, &reader.next_line(), "Err(LoneBreak(4))");
     }
 }
 
 #[test]
-fn line_reader_2(rt: HostRuntime) {
+fn line_reader_3(rt: HostRuntime) {
     let alloc = rt.alloc();
     // LineReader::into_source
     {
@@ -113,7 +132,7 @@ fn line_reader_2(rt: HostRuntime) {
 }
 
 #[test]
-fn line_reader_3(rt: HostRuntime) {
+fn line_reader_4(rt: HostRuntime) {
     let alloc = rt.alloc();
     // LineReader::next_line
     {
@@ -147,7 +166,7 @@ fn line_reader_3(rt: HostRuntime) {
 }
 
 #[test]
-fn line_reader_4(rt: HostRuntime) {
+fn line_reader_5(rt: HostRuntime) {
     let alloc = rt.alloc();
     // LineReader::read_exact_part
     {

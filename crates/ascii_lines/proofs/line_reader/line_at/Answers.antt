@@ -9,3 +9,7 @@ any_line_at-requires-clause-one c =
 pub cr_lf_line_at-requires-clause-one : goal.cr_lf_line_at-requires-clause-one
 cr_lf_line_at-requires-clause-one c =
     subst (λ kind. IsOneLine kind c.args.line.now) c.in-CrLf.is c.requires.one
+
+pub strict_line_at-requires-clause-one : goal.strict_line_at-requires-clause-one
+strict_line_at-requires-clause-one c =
+    subst (λ kind. IsOneLine kind c.args.line.now) c.in-CrLfStrict.is c.requires.one
