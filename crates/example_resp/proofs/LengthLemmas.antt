@@ -1,0 +1,32 @@
+-- Which digits do not write a length.
+use Rattle.std.proofs.Common.{◌≢◌, ℕ, ◌<◌, ◌≤◌, List, [], ◌∷◌, arith, length, refl}
+use Rattle.ascii.proofs.NumbersLemmas.{no_fault}
+use Rattle.ascii.specs.Numbers.{IsNumberFault, WritesNumber}
+use Rattle.ascii.specs.declared.numbers.NumberError.{NumberError}
+
+-- digits that write a number of more than `most` do not write one of at most `most`
+pub too_large : (most wide n : ℕ) (digits : List ℕ) → WritesNumber wide digits n → most < n
+    → (m : ℕ) → ¬ (WritesNumber most digits m)
+too_large most wide n digits writes above m fits =
+    omega (arith, above, writes.value, fits.number.1)
+
+-- the number is one of at most `most` too
+pub small_enough : (most wide n : ℕ) (digits : List ℕ) → WritesNumber wide digits n → n ≤ most
+    → WritesNumber most digits n
+small_enough most wide n digits writes fits = record {
+  some = writes.some;
+  number = (writes.number.0, omega (arith, writes.value, fits));
+  value = writes.value;
+}
+
+-- a text that is not empty has a code
+long_enough : (text : List ℕ) → text ≢ [] → 0 < length text
+long_enough [] some = absurd (some refl)
+long_enough (code ∷ codes) some = omega arith
+
+-- a text at fault does not write a length
+pub at_fault : (most wide : ℕ) (digits : List ℕ) (fault : NumberError)
+    → IsNumberFault wide digits fault → most ≤ wide → (m : ℕ) → ¬ (WritesNumber most digits m)
+at_fault most wide digits fault is narrow m fits =
+    no_fault wide digits fault (long_enough digits fits.some, fits.number.0)
+    (omega (arith, fits.number.1, narrow)) is

@@ -1,0 +1,3 @@
+pub mod LengthLemmas
+pub mod LiteralLemmas
+pub mod StoreLemmas

@@ -1,0 +1,112 @@
+-- The commands of a store: the words that say each, its reply, and the store after it.
+use Rattle.std.specs.Map.{update}
+use Rattle.std.specs.Prelude.{◌≡◌, ◌≢◌, ◌⊎◌, ℕ, List, [], ◌∷◌, ◌++◌, None, Option, Some, codes}
+use Rattle.std.specs.Prelude.{MatchResult, Any, decimal, if◌then◌else◌, is_some, length, map}
+use Rattle.std.specs.Str.{bytes_eq}
+use Rattle.std.specs.declared.result.Result.{Result}
+use Rattle.ascii.specs.Case.{lower_image}
+use Rattle.ascii.specs.View.{text_of}
+use Rattle.example_resp.specs.Store.{Contents}
+use Rattle.example_resp.specs.declared.commands.Command.{Command}
+use Rattle.example_resp.specs.declared.commands.Command.TheVariants.{SetValue, GetValue}
+use Rattle.example_resp.specs.declared.commands.Command.TheVariants.{DeleteValue, Reply}
+use Rattle.example_resp.specs.declared.commands.Rejection.{Rejection}
+use Rattle.example_resp.specs.declared.commands.Rejection.TheVariants.{UnknownCommand, BadLength}
+use Rattle.example_resp.specs.declared.commands.Rejection.TheVariants.{WrongArguments, LineBreak}
+use Rattle.example_resp.specs.declared.commands.Rejection.TheVariants.{BadEnding}
+use Rattle.example_resp.specs.declared.commands.Verb.{Verb}
+use Rattle.example_resp.specs.declared.commands.Verb.TheVariants.{Set, Get, Del, Ping}
+
+-- ---- what words say
+
+-- the name of a verb in lower case
+abbrev pub name_of : Verb → List ℕ
+name_of Set = codes "set"
+name_of Get = codes "get"
+name_of Del = codes "del"
+name_of Ping = codes "ping"
+
+-- the number of arguments of a verb
+abbrev pub argument_count : Verb → ℕ
+argument_count Set = 2
+argument_count Get = 1
+argument_count Del = 1
+argument_count Ping = 0
+
+-- `word` is the name of `verb` if the case of letters is ignored
+abbrev pub IsNameOf : Verb → List ℕ → Type 0
+IsNameOf verb word = map lower_image word ≡ name_of verb
+
+-- `text` contains CR or LF
+abbrev pub HasLineBreak : List ℕ → Type 0
+HasLineBreak text = Any (λ code. (code ≡ 13) ⊎ (code ≡ 10)) text
+
+-- `command` is the verb `verb` with the arguments `arguments`, and the value of `SetValue` has no CR
+-- or LF
+abbrev pub HasParts : Verb → List (List ℕ) → Command → Type 0
+HasParts verb arguments (SetValue key value) = (verb ≡ Set)
+    × (arguments ≡ text_of key ∷ text_of value ∷ []) × ¬ (HasLineBreak (text_of value))
+HasParts verb arguments (GetValue key) = (verb ≡ Get) × (arguments ≡ text_of key ∷ [])
+HasParts verb arguments (DeleteValue key) = (verb ≡ Del) × (arguments ≡ text_of key ∷ [])
+HasParts verb arguments Reply = (verb ≡ Ping) × (arguments ≡ [])
+
+-- why `verb` with the arguments `arguments` is not a command. `WrongArguments`: their number is not
+-- that of the verb. `LineBreak`: the value to be set has CR or LF
+abbrev pub IsPartsFault : Verb → List (List ℕ) → Rejection → Type 0
+IsPartsFault verb arguments WrongArguments = length arguments ≢ argument_count verb
+IsPartsFault verb arguments LineBreak = (key : List ℕ) × (value : List ℕ) × (verb ≡ Set)
+    × (arguments ≡ key ∷ value ∷ []) × HasLineBreak value
+IsPartsFault verb arguments UnknownCommand = ⊥
+IsPartsFault verb arguments BadLength = ⊥
+IsPartsFault verb arguments BadEnding = ⊥
+
+-- `words` are the name of `verb` and then `arguments`
+abbrev pub IsCall : List (List ℕ) → Verb → List (List ℕ) → Type 0
+IsCall words verb arguments = (name : List ℕ) × (words ≡ name ∷ arguments) × IsNameOf verb name
+
+-- `words` say `command`
+abbrev pub Says : List (List ℕ) → Command → Type 0
+Says words command = (verb : Verb) × (arguments : List (List ℕ)) × IsCall words verb arguments
+    × HasParts verb arguments command
+
+-- why `words` do not say a command. `UnknownCommand`: the first is not the name of a verb, or there
+-- is none. Otherwise the verb has arguments at fault
+abbrev pub IsCallFault : List (List ℕ) → Rejection → Type 0
+IsCallFault words UnknownCommand =
+    (verb : Verb) (arguments : List (List ℕ)) → ¬ (IsCall words verb arguments)
+IsCallFault words rejection = (verb : Verb) × (arguments : List (List ℕ))
+    × IsCall words verb arguments × IsPartsFault verb arguments rejection
+
+-- `Ok`: the command that `words` say. `Err`: why they do not say one
+abbrev pub ReadsCommand : List (List ℕ) → Result Command Rejection → Type 0
+ReadsCommand words result = MatchResult result (Says words) (IsCallFault words)
+
+-- ---- what a store replies
+
+-- the reply to a value: its length and the value as a second line, or `$-1` for `None`
+abbrev pub value_reply : Option (List ℕ) → List (List ℕ)
+value_reply None = codes "$-1" ∷ []
+value_reply (Some value) = (codes "$" ++ decimal (length value)) ∷ value ∷ []
+
+-- the reply of a store with these contents to a command
+abbrev pub reply : Contents → Command → List (List ℕ)
+reply contents (SetValue key value) = codes "+OK" ∷ []
+reply contents (GetValue key) = value_reply (contents (text_of key))
+reply contents (DeleteValue key) =
+    (if is_some (contents (text_of key)) then codes ":1" else codes ":0") ∷ []
+reply contents Reply = codes "+PONG" ∷ []
+
+-- the contents of a store after a command
+abbrev pub after : Contents → Command → Contents
+after contents (SetValue key value) = update bytes_eq contents (text_of key) (Some (text_of value))
+after contents (GetValue key) = contents
+after contents (DeleteValue key) = update bytes_eq contents (text_of key) None
+after contents Reply = contents
+
+-- the line that says why a request was rejected
+abbrev pub error_line : Rejection → List ℕ
+error_line UnknownCommand = codes "-ERR unknown command"
+error_line WrongArguments = codes "-ERR wrong number of arguments"
+error_line LineBreak = codes "-ERR the value has CR or LF"
+error_line BadLength = codes "-ERR the length is not a number or too large"
+error_line BadEnding = codes "-ERR the word is longer than its length"

@@ -1,0 +1,4 @@
+pub mod Commands
+pub mod Requests
+pub mod Session
+pub mod Store

@@ -1,0 +1,81 @@
+-- The state of a session, and what it answers to a request that it has read whole.
+use Rattle.std.specs.Prelude.{◌≡◌, ℕ, List, [], ◌∷◌, MatchResult, None}
+use Rattle.std.specs.declared.alloc.Global.{Global}
+use Rattle.std.specs.declared.result.Result.{Result}
+use Rattle.ascii.specs.declared.ascii_string.AsciiString.{AsciiString}
+use Rattle.ascii_lines.specs.Serve.{reply_texts}
+use Rattle.ascii_lines.specs.declared.serving.Next.{Next}
+use Rattle.ascii_lines.specs.declared.serving.Next.TheVariants as next
+use Rattle.example_resp.specs.Commands.{ReadsCommand, after, error_line, reply}
+use Rattle.example_resp.specs.Store.{Contents, contents_of}
+use Rattle.example_resp.specs.declared.commands.Command.{Command}
+use Rattle.example_resp.specs.declared.commands.Rejection.{Rejection}
+use Rattle.example_resp.specs.declared.session.Session.{Session}
+use Rattle.example_resp.specs.declared.session.Stage.{Stage}
+use Rattle.example_resp.specs.declared.session.Stage.TheVariants as stage
+
+-- the state of a session: the contents of its store, the words that it has read of an array, and
+-- what it awaits
+pub record State : Type 0 where
+  pub contents : Contents
+  pub words : List (List ℕ)
+  pub stage : Stage
+
+-- what is answered: the replies, what is asked for next, and the state that is left
+pub record Answer : Type 0 where
+  pub replies : List (List ℕ)
+  pub next : Next
+  pub state : State
+
+-- the state of a session, without its layout
+abbrev pub state_of : Session → State
+state_of session = record {
+  contents = contents_of session.store;
+  words = reply_texts session.words.items;
+  stage = session.stage;
+}
+
+-- an answer of these replies that asks for `next` and leaves `session`
+abbrev pub answer_of : List (AsciiString Global) → Next → Session → Answer
+answer_of replies next session =
+    record { replies = reply_texts replies; next = next; state = state_of session }
+
+-- a request is awaited, and no words of an array are kept
+abbrev pub IsIdle : State → Type 0
+IsIdle state = (state.words ≡ []) × (state.stage ≡ stage.Request)
+
+-- a request is awaited, and no key has a value
+pub record IsFresh (state : State) : Type 0 where
+  pub empty : (key : List ℕ) → state.contents key ≡ None
+  pub idle : IsIdle state
+
+-- the answer has no replies and asks for `asked`; it leaves `words` and `stage`, and the contents
+-- `held`
+pub record Awaits (held : Contents) (words : List (List ℕ)) (stage : Stage) (asked : Next)
+    (answer : Answer) : Type 0 where
+  pub silent : answer.replies ≡ []
+  pub asks : answer.next ≡ asked
+  pub kept : answer.state.words ≡ words
+  pub awaited : answer.state.stage ≡ stage
+  pub contents : (key : List ℕ) → answer.state.contents key ≡ held key
+
+-- the answer is the line of the rejection, and asks for a request; it leaves the contents `held`
+pub record Rejects (held : Contents) (rejection : Rejection) (answer : Answer) : Type 0 where
+  pub replies : answer.replies ≡ error_line rejection ∷ []
+  pub asks : answer.next ≡ next.Line
+  pub idle : IsIdle answer.state
+  pub contents : (key : List ℕ) → answer.state.contents key ≡ held key
+
+-- the answer is the reply to the command, and asks for a request; it leaves the contents that are
+-- `held` after the command
+pub record Follows (held : Contents) (command : Command) (answer : Answer) : Type 0 where
+  pub replies : answer.replies ≡ reply held command
+  pub asks : answer.next ≡ next.Line
+  pub idle : IsIdle answer.state
+  pub contents : (key : List ℕ) → answer.state.contents key ≡ after held command key
+
+-- the command that `words` say is followed; if they do not say one, they are rejected
+abbrev pub CarriesOut : Contents → List (List ℕ) → Answer → Type 0
+CarriesOut held words answer = (outcome : Result Command Rejection) × ReadsCommand words outcome
+    × MatchResult outcome (λ command. Follows held command answer)
+    (λ rejection. Rejects held rejection answer)

@@ -1,0 +1,22 @@
+//! Answers the requests of standard input as a store over a RESP-like protocol does, on standard output. Why the
+//! session ended goes to standard error.
+#![tactic(auto)]
+
+mod commands;
+mod replies;
+mod session;
+mod store;
+
+use ascii_lines::{Ending, Input, LineReader, LineWriter, Output, serve};
+use session::Session;
+use std::io;
+
+fn main(rt: HostRuntime) -> io::Result<()> {
+    let alloc = rt.alloc();
+    let mut reader = LineReader::new(alloc, Input::new(rt.stdin()), 4096)?;
+    let mut writer = LineWriter::new(alloc, Output::new(rt.stdout()), 4096)?;
+    let mut session = Session::new(alloc);
+    let stop = serve(alloc, &mut reader, &mut writer, Ending::CrLf, &mut session);
+    eprintln!(rt; "{stop:?}")?;
+    Ok(())
+}

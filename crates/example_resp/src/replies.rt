@@ -1,0 +1,117 @@
+//! The replies of a store to commands.
+
+ghost use Rattle.std.specs.Option.{option_map};
+ghost use Rattle.std.specs.Prelude.{if◌then◌else◌, ◌≡◌, [], ◌∷◌, ◌++◌, List, OnOk, ℕ, codes};
+ghost use Rattle.ascii.specs.View.{text_of};
+ghost use Rattle.ascii_lines.specs.Serve.{reply_texts};
+ghost use Rattle.example_resp.specs.Commands.{after, error_line, reply, value_reply};
+ghost use Rattle.example_resp.specs.Store.{contents_of};
+
+use crate::commands::{Command, Rejection};
+use crate::store::Store;
+use ascii::{AsciiChar, AsciiStr, AsciiString};
+use std::alloc::{AllocError, Global};
+
+/// Follows a command and appends the reply to it, or returns an error if an allocation fails.
+///
+/// Condition: `replies` is empty.
+pub fn follow(
+    store: &mut Store,
+    alloc: Global,
+    command: Command<'_>,
+    replies: &mut Vec<AsciiString>,
+) -> Result<(), AllocError>
+    requires { replies.old.items ≡ [] }
+    ensures replies { OnOk result (reply_texts replies.new.items
+        ≡ reply (contents_of store.old) command.entry) }
+    ensures store { OnOk result ((key : List ℕ) →
+        contents_of store.new key ≡ after (contents_of store.old) command.entry key) }
+{
+    match command {
+        Command::SetValue { key, value } => {
+            store.set(alloc, key, value)?;
+            push_line(alloc, AsciiStr::literal("+OK"), replies)
+        }
+        Command::GetValue { key } => push_value(alloc, store.get(key), replies),
+        Command::DeleteValue { key } => {
+            let count = count_line(store.delete(key));
+            push_line(alloc, count, replies)
+        }
+        Command::Reply => push_line(alloc, AsciiStr::literal("+PONG"), replies),
+    }
+}
+
+/// Appends the line that says why a request was rejected, or returns an error if an allocation
+/// fails.
+///
+/// Condition: `replies` is empty.
+pub fn reject(
+    alloc: Global,
+    rejection: Rejection,
+    replies: &mut Vec<AsciiString>,
+) -> Result<(), AllocError>
+    requires { replies.old.items ≡ [] }
+    ensures { OnOk result (reply_texts replies.new.items ≡ error_line rejection ∷ []) }
+{
+    push_line(alloc, line_of(rejection), replies)
+}
+
+/// Returns the line that says why a request was rejected.
+fn line_of(rejection: Rejection) -> AsciiStr<'static>
+    ensures { text_of result ≡ error_line rejection }
+{
+    match rejection {
+        Rejection::UnknownCommand => AsciiStr::literal("-ERR unknown command"),
+        Rejection::WrongArguments => AsciiStr::literal("-ERR wrong number of arguments"),
+        Rejection::LineBreak => AsciiStr::literal("-ERR the value has CR or LF"),
+        Rejection::BadLength => {
+            AsciiStr::literal("-ERR the length is not a number or too large")
+        }
+        Rejection::BadEnding => AsciiStr::literal("-ERR the word is longer than its length"),
+    }
+}
+
+/// Returns the reply to `DEL`: the number of values that were removed.
+fn count_line(found: bool) -> AsciiStr<'static>
+    ensures { text_of result ≡ if found then codes ":1" else codes ":0" }
+{
+    if found {
+        AsciiStr::literal(":1")
+    } else {
+        AsciiStr::literal(":0")
+    }
+}
+
+/// Appends the reply to a value, or to none.
+///
+/// Condition: `replies` is empty.
+fn push_value(
+    alloc: Global,
+    value: Option<&AsciiString>,
+    replies: &mut Vec<AsciiString>,
+) -> Result<(), AllocError>
+    requires { replies.old.items ≡ [] }
+    ensures { OnOk result (reply_texts replies.new.items ≡ value_reply
+        (option_map (λ found. found.now.text) value.entry)) }
+{
+    let Some(value) = value else {
+        return push_line(alloc, AsciiStr::literal("$-1"), replies);
+    };
+    let mut length = AsciiString::from_char(alloc, AsciiChar::Dollar)?;
+    length.push_decimal(value.len())?;
+    replies.push(length)?;
+    push_line(alloc, value.as_ascii_str(), replies)
+}
+
+/// Appends a line.
+fn push_line(
+    alloc: Global,
+    line: AsciiStr<'_>,
+    replies: &mut Vec<AsciiString>,
+) -> Result<(), AllocError>
+    ensures { OnOk result (reply_texts replies.new.items
+        ≡ reply_texts replies.old.items ++ text_of line.entry ∷ []) }
+{
+    replies.push(line.to_ascii_string(alloc)?)?;
+    Ok(())
+}

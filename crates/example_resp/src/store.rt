@@ -1,0 +1,61 @@
+//! A store: a value for each key that was set.
+
+use ascii::{AsciiStr, AsciiString};
+use std::alloc::{AllocError, Global};
+use std::collections::HashMap;
+
+/// A map from keys to values.
+#[derive(Drop)]
+pub struct Store {
+    entries: HashMap<String, AsciiString>,
+}
+
+impl Store {
+    ghost use Rattle.std.specs.Map.{update};
+    ghost use Rattle.std.specs.Option.{option_map};
+    ghost use Rattle.std.specs.Prelude.{◌↔◌, ◌≡◌, IsSome, IsTrue, List, OnOk, ℕ};
+    ghost use Rattle.std.specs.Str.{bytes_eq};
+    ghost use Rattle.ascii.specs.View.{text_of};
+    ghost use Rattle.example_resp.specs.Store.{Changes, contents_of};
+
+    /// Creates an empty store. Does not allocate.
+    pub fn new(alloc: Global) -> Store
+        ensures { (key : List ℕ) → contents_of result key ≡ None }
+    {
+        Store {
+            entries: HashMap::new(alloc),
+        }
+    }
+
+    /// Returns the value at the key, or `None` if there is none.
+    pub fn get(&self, key: AsciiStr<'_>) -> Option<&AsciiString>
+        ensures { option_map (λ value. value.now.text) result ≡ contents_of self.now (text_of key.entry) }
+    {
+        self.entries.get(key.as_str())
+    }
+
+    /// Sets the value at the key, or returns an error if an allocation fails.
+    pub fn set(
+        &mut self,
+        alloc: Global,
+        key: AsciiStr<'_>,
+        value: AsciiStr<'_>,
+    ) -> Result<(), AllocError>
+        ensures { OnOk result (Changes (contents_of self.old) (text_of key.entry)
+            (Some (text_of value.entry)) (contents_of self.new)) }
+    {
+        let key = String::from_str(alloc, key.as_str())?;
+        let value = value.to_ascii_string(alloc)?;
+        self.entries.insert(key, value)?;
+        Ok(())
+    }
+
+    /// Removes the value at the key. Returns `true` if there was one.
+    pub fn delete(&mut self, key: AsciiStr<'_>) -> bool
+        ensures found { IsTrue result ↔ IsSome (contents_of self.old (text_of key.entry)) }
+        ensures removed { Changes (contents_of self.old) (text_of key.entry) None
+            (contents_of self.new) }
+    {
+        self.entries.remove(key.as_str()).is_some()
+    }
+}
