@@ -1,0 +1,80 @@
+-- The commands of a client, the lines that say them, and the lines that reply to them.
+use Rattle.std.specs.Prelude.{◌≡◌, ◌≢◌, ℕ, List, [], ◌++◌, MatchResult, codes}
+use Rattle.std.specs.declared.result.Result.{Result}
+use Rattle.ascii.specs.Search.{IsFoldedPrefix, StartsFolded}
+use Rattle.ascii.specs.View.{text_of}
+use Rattle.example_smtp.specs.declared.commands.Command.{Command}
+use Rattle.example_smtp.specs.declared.commands.Command.TheVariants.{AddRecipient, BeginLines}
+use Rattle.example_smtp.specs.declared.commands.Command.TheVariants.{Introduce, Leave, Reset}
+use Rattle.example_smtp.specs.declared.commands.Command.TheVariants.{SetSender}
+use Rattle.example_smtp.specs.declared.commands.Command.TheVariants as command
+use Rattle.example_smtp.specs.declared.commands.Reply.{Reply}
+use Rattle.example_smtp.specs.declared.commands.Reply.TheVariants as reply
+use Rattle.example_smtp.specs.declared.commands.Verb.{Verb}
+use Rattle.example_smtp.specs.declared.commands.Verb.TheVariants.{Helo, Mail, Rcpt, Data, Rset}
+use Rattle.example_smtp.specs.declared.commands.Verb.TheVariants.{Noop, Quit}
+
+-- the name of a verb, with what separates it from its argument
+abbrev pub name_of : Verb → List ℕ
+name_of Helo = codes "HELO "
+name_of Mail = codes "MAIL FROM:"
+name_of Rcpt = codes "RCPT TO:"
+name_of Data = codes "DATA"
+name_of Rset = codes "RSET"
+name_of Noop = codes "NOOP"
+name_of Quit = codes "QUIT"
+
+-- `path` is `address` between `<` and `>`
+abbrev pub IsPath : List ℕ → List ℕ → Type 0
+IsPath address path = codes "<" ++ (address ++ codes ">") ≡ path
+
+-- `argument` is as `verb` takes it: a domain, a path, or nothing
+abbrev pub IsArgument : Verb → List ℕ → Type 0
+IsArgument Helo argument = argument ≢ []
+IsArgument Mail argument = (address : List ℕ) × IsPath address argument
+IsArgument Rcpt argument = (address : List ℕ) × IsPath address argument
+IsArgument verb argument = argument ≡ []
+
+-- `command` is the verb `verb` with the argument `argument`
+abbrev pub HasParts : Verb → List ℕ → Command → Type 0
+HasParts verb argument (Introduce domain) =
+    (verb ≡ Helo) × (argument ≡ text_of domain) × (argument ≢ [])
+HasParts verb argument (SetSender address) = (verb ≡ Mail) × IsPath (text_of address) argument
+HasParts verb argument (AddRecipient address) = (verb ≡ Rcpt) × IsPath (text_of address) argument
+HasParts verb argument BeginLines = (verb ≡ Data) × (argument ≡ [])
+HasParts verb argument Reset = (verb ≡ Rset) × (argument ≡ [])
+HasParts verb argument command.Reply = (verb ≡ Noop) × (argument ≡ [])
+HasParts verb argument Leave = (verb ≡ Quit) × (argument ≡ [])
+
+-- why `verb` with `argument` is not a command: the argument is not as the verb takes it
+abbrev pub IsPartsFault : Verb → List ℕ → Reply → Type 0
+IsPartsFault verb argument fault = (fault ≡ reply.BadArgument) × ¬ (IsArgument verb argument)
+
+-- `line` is the name of `verb`, in any case, and then `argument`
+abbrev pub IsCall : List ℕ → Verb → List ℕ → Type 0
+IsCall line verb argument = IsFoldedPrefix (name_of verb) line argument
+
+-- `line` says `command`
+abbrev pub Says : List ℕ → Command → Type 0
+Says line command =
+    (verb : Verb) × (argument : List ℕ) × IsCall line verb argument × HasParts verb argument command
+
+-- why `line` does not say a command. `UnknownCommand`: it does not begin with the name of a verb.
+-- Otherwise it is a verb with an argument at fault
+abbrev pub IsFault : List ℕ → Reply → Type 0
+IsFault line reply.UnknownCommand = (verb : Verb) → ¬ (StartsFolded (name_of verb) line)
+IsFault line fault = (verb : Verb) × (argument : List ℕ) × IsCall line verb argument
+    × IsPartsFault verb argument fault
+
+-- `Ok`: the command that `line` says. `Err`: the reply that says why it does not say one
+abbrev pub ReadsCommand : List ℕ → Result Command Reply → Type 0
+ReadsCommand line result = MatchResult result (Says line) (IsFault line)
+
+-- the line of a reply
+abbrev pub reply_line : Reply → List ℕ
+reply_line reply.Bye = codes "221 bye"
+reply_line reply.Done = codes "250 OK"
+reply_line reply.SendLines = codes "354 send the lines"
+reply_line reply.UnknownCommand = codes "500 unknown command"
+reply_line reply.BadArgument = codes "501 bad argument"
+reply_line reply.BadSequence = codes "503 bad sequence"

@@ -1,0 +1,3 @@
+pub mod Commands
+pub mod Mail
+pub mod Session

@@ -1,0 +1,187 @@
+//! The commands of a client, and the lines that say them.
+
+ghost use Rattle.std.specs.Prelude.{◌≡◌, List, MatchOption, MatchResult, ℕ};
+ghost use Rattle.ascii.specs.Search.{IsFoldedPrefix, StartsFolded};
+ghost use Rattle.ascii.specs.View.{text_of};
+ghost use Rattle.example_smtp.specs.Commands.{HasParts, IsPartsFault, IsPath, ReadsCommand, name_of};
+ghost use Rattle.example_smtp.specs.Commands.{reply_line};
+
+use ascii_lines::AsciiStr;
+
+/// What a client may ask for.
+#[derive(Clone, Copy, PartialEq, Eq, Debug)]
+pub enum Verb {
+    /// Introduces the client.
+    Helo,
+    /// Begins a message with its sender.
+    Mail,
+    /// Adds a recipient.
+    Rcpt,
+    /// Begins the lines of the message.
+    Data,
+    /// Drops the message that was begun.
+    Rset,
+    /// Asks for a reply.
+    Noop,
+    /// Ends the session.
+    Quit,
+}
+
+impl Verb {
+    /// Returns the name of the verb, with what separates it from its argument.
+    fn name(self) -> AsciiStr<'static>
+        ensures { text_of result ≡ name_of self }
+    {
+        match self {
+            Verb::Helo => AsciiStr::literal("HELO "),
+            Verb::Mail => AsciiStr::literal("MAIL FROM:"),
+            Verb::Rcpt => AsciiStr::literal("RCPT TO:"),
+            Verb::Data => AsciiStr::literal("DATA"),
+            Verb::Rset => AsciiStr::literal("RSET"),
+            Verb::Noop => AsciiStr::literal("NOOP"),
+            Verb::Quit => AsciiStr::literal("QUIT"),
+        }
+    }
+}
+
+/// A verb with its argument.
+#[derive(Clone, Copy, PartialEq, Eq, Debug)]
+pub enum Command<'a> {
+    /// Introduces the client by its domain.
+    Introduce { domain: AsciiStr<'a> },
+    /// Begins a message with this sender.
+    SetSender { address: AsciiStr<'a> },
+    /// Adds this recipient.
+    AddRecipient { address: AsciiStr<'a> },
+    /// Begins the lines of the message.
+    BeginLines,
+    /// Drops the message that was begun.
+    Reset,
+    /// Asks for a reply.
+    Reply,
+    /// Ends the session.
+    Leave,
+}
+
+/// A reply to a line.
+#[derive(Clone, Copy, PartialEq, Eq, Debug)]
+pub enum Reply {
+    /// The session ends.
+    Bye,
+    /// The command was carried out, or the message was received.
+    Done,
+    /// The lines of the message may come.
+    SendLines,
+    /// The line does not begin with a verb.
+    UnknownCommand,
+    /// The argument of the verb is not as it has to be.
+    BadArgument,
+    /// The command is not allowed at this point.
+    BadSequence,
+}
+
+impl Reply {
+    /// Returns the line of the reply.
+    pub fn line(self) -> AsciiStr<'static>
+        ensures { text_of result ≡ reply_line self }
+    {
+        match self {
+            Reply::Bye => AsciiStr::literal("221 bye"),
+            Reply::Done => AsciiStr::literal("250 OK"),
+            Reply::SendLines => AsciiStr::literal("354 send the lines"),
+            Reply::UnknownCommand => AsciiStr::literal("500 unknown command"),
+            Reply::BadArgument => AsciiStr::literal("501 bad argument"),
+            Reply::BadSequence => AsciiStr::literal("503 bad sequence"),
+        }
+    }
+}
+
+/// A verb and the text after it.
+#[derive(Clone, Copy, PartialEq, Eq, Debug)]
+pub struct Call<'a> {
+    /// The verb.
+    pub verb: Verb,
+    /// The text after the name of the verb.
+    pub argument: AsciiStr<'a>,
+}
+
+/// Returns the command that the line says, or the reply that says why it does not say one.
+pub fn read_command<'a>(line: AsciiStr<'a>) -> Result<Command<'a>, Reply>
+    ensures { ReadsCommand (text_of line.entry) result }
+{
+    match read_verb(line) {
+        Some(call) => command_of(call.verb, call.argument),
+        None => Err(Reply::UnknownCommand),
+    }
+}
+
+/// Returns the verb with whose name the line begins when case is ignored, and the text after it; or
+/// `None` if there is none.
+fn read_verb<'a>(line: AsciiStr<'a>) -> Option<Call<'a>>
+    ensures { MatchOption result ((verb : Verb) → ¬ (StartsFolded (name_of verb) (text_of line.entry)))
+        (λ call. IsFoldedPrefix (name_of call.verb) (text_of line.entry) (text_of call.argument)) }
+{
+    if let Some(call) = call_of(line, Verb::Helo) {
+        return Some(call);
+    }
+    if let Some(call) = call_of(line, Verb::Mail) {
+        return Some(call);
+    }
+    if let Some(call) = call_of(line, Verb::Rcpt) {
+        return Some(call);
+    }
+    if let Some(call) = call_of(line, Verb::Data) {
+        return Some(call);
+    }
+    if let Some(call) = call_of(line, Verb::Rset) {
+        return Some(call);
+    }
+    if let Some(call) = call_of(line, Verb::Noop) {
+        return Some(call);
+    }
+    call_of(line, Verb::Quit)
+}
+
+/// Returns the verb and the text after its name if the line begins with the name when case is ignored.
+fn call_of<'a>(line: AsciiStr<'a>, verb: Verb) -> Option<Call<'a>>
+    ensures { MatchOption result (¬ (StartsFolded (name_of verb) (text_of line.entry)))
+        (λ call. (call.verb ≡ verb)
+        × IsFoldedPrefix (name_of verb) (text_of line.entry) (text_of call.argument)) }
+{
+    let argument = line.strip_prefix_ignore_ascii_case(verb.name())?;
+    Some(Call { verb, argument })
+}
+
+/// Returns the command of a verb with this argument, or the reply that says that there is none.
+fn command_of<'a>(verb: Verb, argument: AsciiStr<'a>) -> Result<Command<'a>, Reply>
+    ensures { MatchResult result (HasParts verb (text_of argument.entry))
+        (IsPartsFault verb (text_of argument.entry)) }
+{
+    match verb {
+        Verb::Helo if !argument.is_empty() => Ok(Command::Introduce { domain: argument }),
+        Verb::Mail => match address_of(argument) {
+            Some(address) => Ok(Command::SetSender { address }),
+            None => Err(Reply::BadArgument),
+        },
+        Verb::Rcpt => match address_of(argument) {
+            Some(address) => Ok(Command::AddRecipient { address }),
+            None => Err(Reply::BadArgument),
+        },
+        Verb::Data if argument.is_empty() => Ok(Command::BeginLines),
+        Verb::Rset if argument.is_empty() => Ok(Command::Reset),
+        Verb::Noop if argument.is_empty() => Ok(Command::Reply),
+        Verb::Quit if argument.is_empty() => Ok(Command::Leave),
+        _ => Err(Reply::BadArgument),
+    }
+}
+
+/// Returns the address between `<` and `>`, or `None` if the path has not both.
+fn address_of<'a>(path: AsciiStr<'a>) -> Option<AsciiStr<'a>>
+    ensures { MatchOption result ((address : List ℕ) → ¬ (IsPath address (text_of path.entry)))
+        (λ address. IsPath (text_of address) (text_of path.entry)) }
+{
+    let Some(rest) = path.strip_prefix(AsciiStr::literal("<")) else {
+        return None;
+    };
+    rest.strip_suffix(AsciiStr::literal(">"))
+}
