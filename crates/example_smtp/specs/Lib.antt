@@ -1,3 +1,4 @@
 pub mod Commands
+pub mod Deliveries
 pub mod Mail
 pub mod Session

@@ -1,11 +1,13 @@
-//! Receives mail over an SMTP-like protocol, on standard input and output. Why the session ended, and
-//! how many messages were received, goes to standard error.
+//! Receives mail over an SMTP-like protocol, on standard input and output. Why the session ended, and how
+//! many messages were received, goes to standard error.
 #![tactic(auto)]
 
 mod commands;
+mod receiving;
 mod session;
 
-use ascii_lines::{AsciiStr, Ending, Input, LineReader, LineWriter, Output, serve};
+use ascii_lines::{AsciiStr, Ending, Input, LineReader, LineWriter, Output};
+use receiving::receive;
 use session::Session;
 use std::io;
 
@@ -17,6 +19,6 @@ fn main(rt: HostRuntime) -> io::Result<()> {
     if let Err(error) = writer.write_line(AsciiStr::literal("220 ready"), Ending::CrLf) {
         return eprintln!(rt; "{error}");
     }
-    let stop = serve(alloc, &mut reader, &mut writer, Ending::CrLf, &mut session);
+    let stop = receive(alloc, &mut reader, &mut writer, &mut session);
     eprintln!(rt; "{stop:?}, {} messages", session.message_count())
 }
