@@ -10,15 +10,6 @@ pub too_large : (most wide n : ℕ) (digits : List ℕ) → WritesNumber wide di
 too_large most wide n digits writes above m fits =
     omega (arith, above, writes.value, fits.number.1)
 
--- the number is one of at most `most` too
-pub small_enough : (most wide n : ℕ) (digits : List ℕ) → WritesNumber wide digits n → n ≤ most
-    → WritesNumber most digits n
-small_enough most wide n digits writes fits = record {
-  some = writes.some;
-  number = (writes.number.0, omega (arith, writes.value, fits));
-  value = writes.value;
-}
-
 -- a text that is not empty has a code
 long_enough : (text : List ℕ) → text ≢ [] → 0 < length text
 long_enough [] some = absurd (some refl)

@@ -1,3 +1,4 @@
 pub mod LengthLemmas
+pub mod LineBreakLemmas
 pub mod LiteralLemmas
 pub mod StoreLemmas

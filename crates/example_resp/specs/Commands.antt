@@ -41,8 +41,8 @@ IsNameOf verb word = map lower_image word ≡ name_of verb
 abbrev pub HasLineBreak : List ℕ → Type 0
 HasLineBreak text = Any (λ code. (code ≡ 13) ⊎ (code ≡ 10)) text
 
--- `command` is the verb `verb` with the arguments `arguments`, and the value of `SetValue` has no CR
--- or LF
+-- `command` is the verb `verb` with the arguments `arguments`, and the value of `SetValue` has no
+-- CR or LF
 abbrev pub HasParts : Verb → List (List ℕ) → Command → Type 0
 HasParts verb arguments (SetValue key value) = (verb ≡ Set)
     × (arguments ≡ text_of key ∷ text_of value ∷ []) × ¬ (HasLineBreak (text_of value))

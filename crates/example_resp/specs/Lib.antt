@@ -1,4 +1,5 @@
 pub mod Commands
+pub mod Conversations
 pub mod Requests
 pub mod Session
 pub mod Store

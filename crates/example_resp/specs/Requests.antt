@@ -21,8 +21,8 @@ most_words = 64
 abbrev pub most_bytes : ℕ
 most_bytes = 1024
 
--- what `line` says of a length. `Known n`: it is the mark and digits that write `n`, which is at most
--- `most`. `Bad`: it is the mark and not such digits. `Absent`: it does not begin with the mark
+-- what `line` says of a length. `Known n`: it is the mark and digits that write `n`, which is at
+-- most `most`. `Bad`: it is the mark and not such digits. `Absent`: it does not begin with the mark
 abbrev pub IsLength : List ℕ → ℕ → List ℕ → Length → Type 0
 IsLength mark most line (Known n) =
     (digits : List ℕ) × IsPrefix mark line digits × WritesNumber most digits n

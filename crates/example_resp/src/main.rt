@@ -3,11 +3,13 @@
 #![tactic(auto)]
 
 mod commands;
+mod conversing;
 mod replies;
 mod session;
 mod store;
 
-use ascii_lines::{Ending, Input, LineReader, LineWriter, Output, serve};
+use ascii_lines::{Input, LineReader, LineWriter, Output};
+use conversing::converse;
 use session::Session;
 use std::io;
 
@@ -16,7 +18,7 @@ fn main(rt: HostRuntime) -> io::Result<()> {
     let mut reader = LineReader::new(alloc, Input::new(rt.stdin()), 4096)?;
     let mut writer = LineWriter::new(alloc, Output::new(rt.stdout()), 4096)?;
     let mut session = Session::new(alloc);
-    let stop = serve(alloc, &mut reader, &mut writer, Ending::CrLf, &mut session);
+    let stop = converse(alloc, &mut reader, &mut writer, &mut session);
     eprintln!(rt; "{stop:?}")?;
     Ok(())
 }

@@ -250,7 +250,7 @@ impl Handler for Session {
 }
 
 /// Returns the length after the mark with which the line begins, if it is at most `most`.
-#[tactic(auto, using(crate::proofs::LengthLemmas::too_large, crate::proofs::LengthLemmas::at_fault))]
+#[tactic(auto, using(crate::proofs::LengthLemmas::too_large))]
 fn read_length(line: AsciiStr<'_>, mark: AsciiStr<'_>, most: usize) -> Length
     ensures { IsLength (text_of mark.entry) most (text_of line.entry) result }
 {

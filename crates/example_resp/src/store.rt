@@ -29,7 +29,8 @@ impl Store {
 
     /// Returns the value at the key, or `None` if there is none.
     pub fn get(&self, key: AsciiStr<'_>) -> Option<&AsciiString>
-        ensures { option_map (λ value. value.now.text) result ≡ contents_of self.now (text_of key.entry) }
+        ensures { option_map (λ value. value.now.text) result
+            ≡ contents_of self.now (text_of key.entry) }
     {
         self.entries.get(key.as_str())
     }
