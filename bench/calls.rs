@@ -197,6 +197,11 @@ fn walks(clock: &Clock, size: usize) {
                 size,
                 sides![text: "ours" ours::read_lines, "std" by_std::read_lines],
             );
+            clock.compare(
+                &format!("echo, lines of {mean}"),
+                size,
+                sides![text: "ours" ours::echo_lines, "std" by_std::echo_lines],
+            );
         }
     }
     let text = &texts::marked(size, 9, b',')[..];

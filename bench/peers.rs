@@ -101,6 +101,7 @@ pub mod ours {
             pub fn bench_trim(source: *const u8, length: usize) -> usize;
             pub fn bench_lines(source: *const u8, length: usize, from_back: bool) -> usize;
             pub fn bench_read_lines(source: *const u8, length: usize) -> usize;
+            pub fn bench_echo_lines(source: *const u8, length: usize) -> usize;
             pub fn bench_split(source: *const u8, length: usize) -> usize;
             pub fn bench_find(
                 source: *const u8,
@@ -163,6 +164,11 @@ pub mod ours {
     #[inline(always)]
     pub fn read_lines(source: &[u8]) -> usize {
         unsafe { bench_read_lines(source.as_ptr(), source.len()) }
+    }
+
+    #[inline(always)]
+    pub fn echo_lines(source: &[u8]) -> usize {
+        unsafe { bench_echo_lines(source.as_ptr(), source.len()) }
     }
 
     #[inline(always)]
@@ -328,7 +334,7 @@ pub mod by_std {
 
     use super::{mark, mixed};
     use std::hint::black_box;
-    use std::io::{BufRead, BufReader};
+    use std::io::{BufRead, BufReader, BufWriter, Write};
 
     fn text(source: &[u8]) -> &str {
         unsafe { std::str::from_utf8_unchecked(source) }
@@ -375,6 +381,23 @@ pub mod by_std {
             match reader.read_until(b'\n', &mut line) {
                 Ok(0) => return sum,
                 Ok(_) if line.is_ascii() => sum = mixed(sum, body(&line).len()),
+                _ => return 0,
+            }
+        }
+    } }
+
+    called! { "by_std_echo_lines": fn echo_lines(source: &[u8]) -> usize {
+        let mut reader = BufReader::with_capacity(65_536, source);
+        let mut writer = BufWriter::with_capacity(65_536, std::io::sink());
+        let mut line = Vec::new();
+        let mut sum = 0;
+        loop {
+            line.clear();
+            match reader.read_until(b'\n', &mut line) {
+                Ok(0) => return if writer.flush().is_ok() { sum } else { 0 },
+                Ok(_) if line.is_ascii() && writer.write_all(&line).is_ok() => {
+                    sum = mixed(sum, body(&line).len())
+                }
                 _ => return 0,
             }
         }

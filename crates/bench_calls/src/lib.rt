@@ -9,9 +9,10 @@ ghost use Rattle.ascii.specs.Class.{IsWhitespace};
 ghost use Rattle.ascii.specs.Trim.{Trims};
 
 use ascii::{AsciiChar, AsciiStr, AsciiString, bytes};
-use ascii_lines::LineReader;
-use ascii_run::{AsciiBuf, Input, SmallAsciiString};
+use ascii_lines::{LineReader, LineWriter};
+use ascii_run::{AsciiBuf, Input, Output, SmallAsciiString};
 use std::alloc::{AllocError, Global};
+use std::io;
 
 /// Whether all bytes are ASCII.
 #[unsafe(no_mangle)]
@@ -86,6 +87,33 @@ pub extern "C" fn bench_read_lines(alloc: Global, source: &[u8]) -> usize {
         }
     }
     sum
+}
+
+/// The lengths of the lines of an input, mixed in their order, each written again through a buffer of
+/// 64 KiB to an output that drops it; 0 if a line is rejected or an allocation fails.
+#[unsafe(no_mangle)]
+pub extern "C" fn bench_echo_lines(alloc: Global, source: &[u8]) -> usize {
+    let Ok(reader) = LineReader::new(alloc, Input::new(source), 65_536) else {
+        return 0;
+    };
+    let Ok(writer) = LineWriter::new(alloc, Output::new(io::sink()), 65_536) else {
+        return 0;
+    };
+    let (mut reader, mut writer) = (reader, writer);
+    let mut sum: usize = 0;
+    for _ in 0..u64::MAX {
+        match reader.next_line() {
+            Ok(Some(line)) => {
+                sum = mixed(sum, line.text.len());
+                if writer.write_line(line.text, line.ending).is_err() {
+                    return 0;
+                }
+            }
+            Ok(None) => break,
+            Err(_) => return 0,
+        }
+    }
+    if writer.flush().is_ok() { sum } else { 0 }
 }
 
 /// The lengths of the pieces of a text between commas, mixed in their order.
