@@ -70,8 +70,8 @@ start_of_next reader = reader.start
 abbrev pub IsOpen : {S Z : Type 0} → LineReader S Z → Type 0
 IsOpen reader = reader.stage ≡ Open
 
--- the state of a new reader with a buffer of `size` bytes: it has read nothing, and its lines end
--- in any ending
+-- the state of a new reader with a buffer of `size` bytes: it has read nothing, and LF and CR LF
+-- end its lines
 abbrev pub IsFresh : ℕ → ReaderState → Type 0
 IsFresh size reading = (reading.size ≡ size) × (reading.start ≡ 0) × (reading.held ≡ [])
     × (reading.stage ≡ Open) × (reading.endings ≡ Any)
