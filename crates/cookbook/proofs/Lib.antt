@@ -1,3 +1,4 @@
+pub mod HeaderMapLemmas
 pub mod HostLemmas
 pub mod LastLinesLemmas
 pub mod ListLemmas

@@ -1,5 +1,6 @@
 pub mod Cases
 pub mod ErrorTexts
+pub mod HeaderMap
 pub mod Headers
 pub mod Hosts
 pub mod Identifiers

@@ -3,6 +3,7 @@
 //! | You have | You want | Module |
 //! |---|---|---|
 //! | the header lines of a message | names and values, or the first line that is not a header | `headers` |
+//! | headers | the last value at a name, when case is ignored | `header_map` |
 //! | a host name | to check it, and to compare it when case is ignored | `hosts` |
 //! | a settings file, `key = value # comment` | the key and the value of a line | `settings` |
 //! | a table with tabs between the fields | the fields of a row | `table` |
@@ -16,6 +17,7 @@
 #![tactic(auto)]
 
 mod errors;
+pub mod header_map;
 pub mod headers;
 pub mod hosts;
 pub mod identifiers;

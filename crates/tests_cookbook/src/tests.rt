@@ -6,6 +6,7 @@ mod callers_of_cuts;
 mod callers_of_iterators;
 mod callers_of_spans;
 mod errors;
+mod header_map;
 mod headers;
 mod hosts;
 mod identifiers;

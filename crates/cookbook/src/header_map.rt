@@ -1,0 +1,42 @@
+//! A map from header names to values. Names are compared when case is ignored: `HOST` finds the value
+//! of `Host: a.example`.
+
+use crate::headers::Header;
+use ascii::AsciiStr;
+use ascii::folded::FoldedStr;
+use std::alloc::{AllocError, Global};
+use std::collections::BTreeMap;
+
+/// The values of headers by name, when case is ignored. If a name occurs more than once, its last
+/// value counts.
+#[derive(Drop)]
+pub struct HeaderMap<'a> {
+    values: BTreeMap<FoldedStr<'a>, AsciiStr<'a>>,
+}
+
+impl<'a> HeaderMap<'a> {
+    ghost use Rattle.std.specs.Option.{option_map};
+    ghost use Rattle.std.specs.Prelude.{◌≡◌, IfOk};
+    ghost use Rattle.ascii.specs.View.{text_of};
+    ghost use Rattle.cookbook.specs.HeaderMap.{HasLastValues, values_of};
+
+    /// Creates the map of the headers, or returns an error if an allocation fails. It keeps views of
+    /// the names and the values; their text is not copied.
+    pub fn from_headers(alloc: Global, headers: &[Header<'a>]) -> Result<HeaderMap<'a>, AllocError>
+        ensures { IfOk result (λ map. HasLastValues headers.now (values_of map)) }
+    {
+        let mut values = BTreeMap::new(alloc);
+        for header in headers {
+            values.insert(header.name.folded(), header.value)?;
+        }
+        Ok(HeaderMap { values })
+    }
+
+    /// Returns the value of the last header with the name, when case is ignored, or `None` if no
+    /// header has the name. The name has to live as long as the headers, as a literal does.
+    pub fn get(&self, name: AsciiStr<'a>) -> Option<AsciiStr<'a>>
+        ensures { option_map text_of result ≡ values_of self.now (text_of name.entry) }
+    {
+        self.values.get(&name.folded()).copied()
+    }
+}
