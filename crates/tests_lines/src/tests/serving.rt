@@ -128,3 +128,31 @@ fn a_sink_that_fails_has_taken_a_prefix(rt: HostRuntime) {
         assert_same(&rt, sink.calls, fails + 1);
     }
 }
+
+/// A session of 200 bytes.
+static SESSION: &str =
+    "two\nab\r\ntwo\n\ntwo\nab\r\ntwo\n\ntwo\nab\r\ntwo\n\ntwo\nab\r\ntwo\n\ntwo\nab\r\ntwo\n\n\
+    two\nab\r\ntwo\n\ntwo\nab\r\ntwo\n\ntwo\nab\r\ntwo\n\ntwo\nab\r\ntwo\n\ntwo\nab\r\ntwo\n\n\
+    two\nab\r\ntwo\n\ntwo\nab\r\ntwo\n\ntwo\nab\r\ntwo\n\ntwo\nab\r\ntwo\n\ntwo\nab\r\ntwo\n\n\
+    two\na";
+
+#[test]
+fn each_cut_of_a_session_is_answered(rt: HostRuntime) {
+    for cut in 0..=SESSION.len() {
+        let text = SESSION.get(..cut).unwrap_or("");
+        let mut want = String::new(rt.alloc());
+        let mut count = 0u8;
+        for line in text.lines() {
+            count = count.saturating_add(1);
+            let replies = match line {
+                "two" => "one\r\ntwo\r\n",
+                _ if count > 9 => "many\r\n",
+                _ => "ok\r\n",
+            };
+            want.push_str(replies).expect(&rt, "no memory");
+        }
+        let sink = sink(rt.alloc(), 100, u64::MAX);
+        let sink = served(&rt, rt.alloc(), text.as_bytes(), sink, Stop::EndOfInput).into_inner();
+        assert!(rt; sink.taken.as_slice() == want.as_bytes());
+    }
+}
