@@ -3,8 +3,8 @@
 //!
 //!     soak SECONDS SEED [THREADS]
 //!
-//! It first asks the worked questions, then all small cases of each kind (texts over five codes, up to a length at which
-//! there are not too many), then calls the kernels over buffers that end where memory may not be read, and then asks at
+//! It first asks the worked questions, then small cases of each kind (texts over five codes: all of them up to the length
+//! at which there are not too many, and the first ones of longer texts), then calls the kernels over buffers that end where memory may not be read, and then asks at
 //! random for that time. The seed decides those questions. The last lines are the number of questions of each kind
 //! and the number of answers that differ. The status is 1 if an answer differs, or if this program or the library
 //! panics; it is 2 for bad arguments.
@@ -92,7 +92,7 @@ fn worked(room: &mut [u8]) -> usize {
     count
 }
 
-/// All small cases of a kind, with the longest texts of which there are at most `SMALL`; returns that length.
+/// The first small cases of a kind with texts up to 6, 5 .. codes, until all of a length were asked; returns that length.
 fn small_cases(kind: usize, room: &mut [u8], counts: &mut [u64]) -> usize {
     for longest in (0..=6).rev() {
         let mut random = Random::small(longest);
