@@ -15,6 +15,7 @@ use Rattle.ascii.specs.Spans.{WithStart}
 use Rattle.ascii.specs.View.{text_of}
 use Rattle.ascii_lines.specs.LineWriter.{is_line_break}
 use Rattle.ascii_lines.specs.Serve.{Talks}
+use Rattle.ascii_lines.specs.declared.endings.Endings.{Endings}
 use Rattle.ascii_lines.specs.declared.serving.Next.{Next}
 use Rattle.example_resp.specs.Commands.{HasLineBreak, ReadsCommand, Says, after, error_line, reply}
 use Rattle.example_resp.specs.Commands.{value_reply}
@@ -262,11 +263,12 @@ module _ (old : State) (answer : Answer) (plain : IsPlain old.contents) where
   answer_plain text (stage.End count) answers = end_plain count text answers
 
 -- no reply of a conversation has a line break
-pub talks_plain : (old new : Session) (first last : Next) (inputs : List (WithStart Line))
-    (replies : List (List ℕ)) → Talks session_answers old first inputs replies last new
+pub talks_plain : (endings : Endings) (old new : Session) (first last : Next)
+    (inputs : List (WithStart Line)) (replies : List (List ℕ))
+    → Talks session_answers endings old first inputs replies last new
     → IsPlain (state_of old).contents → NoneBroken replies
-talks_plain old new first last [] replies talks plain = subst NoneBroken (sym talks.0) tt
-talks_plain old new first last (input ∷ inputs) replies talks plain =
+talks_plain endings old new first last [] replies talks plain = subst NoneBroken (sym talks.0) tt
+talks_plain endings old new first last (input ∷ inputs) replies talks plain =
     let step = talks.1 in
     let answer : Answer = record {
       replies = step.1;
@@ -277,7 +279,7 @@ talks_plain old new first last (input ∷ inputs) replies talks plain =
     step.4 in
     subst NoneBroken (sym step.5)
     (NoneBroken-append step.1 step.2 kept.lines
-    (talks_plain step.0 new step.3 last inputs step.2 step.6 kept.contents))
+    (talks_plain endings step.0 new step.3 last inputs step.2 step.6 kept.contents))
 
 -- a code that passes the test is CR or LF
 break_code : (code : ℕ) → is_line_break code ≡ true → (code ≡ 13) ⊎ (code ≡ 10)

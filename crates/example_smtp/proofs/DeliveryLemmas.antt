@@ -11,6 +11,7 @@ use Rattle.ascii.specs.Case.{lower_image}
 use Rattle.ascii.specs.Lines.{Line}
 use Rattle.ascii.specs.Spans.{WithStart, items_of}
 use Rattle.ascii_lines.specs.Serve.{Talks}
+use Rattle.ascii_lines.specs.declared.endings.Endings.{Endings}
 use Rattle.ascii_lines.specs.declared.serving.Next.{Next}
 use Rattle.example_smtp.specs.Commands.{IsFault, ReadsCommand, Says, name_of, reply_line}
 use Rattle.example_smtp.specs.Deliveries.{Delivers, Exchange}
@@ -53,14 +54,15 @@ pub record Transcript (old : Session) (inputs : List (WithStart Line)) (replies 
   pub runs : Runs (state_of old) exchanges (state_of new)
 
 -- a conversation has a transcript
-pub transcript : (old new : Session) (first last : Next) (inputs : List (WithStart Line))
-    (replies : List (List ℕ)) → Talks session_answers old first inputs replies last new
+pub transcript : (endings : Endings) (old new : Session) (first last : Next)
+    (inputs : List (WithStart Line)) (replies : List (List ℕ))
+    → Talks session_answers endings old first inputs replies last new
     → Transcript old inputs replies new
-transcript old new first last [] replies talks =
+transcript endings old new first last [] replies talks =
     record { exchanges = []; lines = refl; says = sym talks.0; runs = ap state_of talks.2 }
-transcript old new first last (input ∷ inputs) replies talks =
+transcript endings old new first last (input ∷ inputs) replies talks =
     let step = talks.1 in
-    let others = transcript step.0 new step.3 last inputs step.2 step.6 in
+    let others = transcript endings step.0 new step.3 last inputs step.2 step.6 in
     record {
       exchanges = record { line = input.item.body; replies = step.1 } ∷ others.exchanges;
       lines = ap (λ xs. input.item.body ∷ xs) others.lines;

@@ -11,7 +11,7 @@ returns-clause-lines g c = λ k is.
     let served = c.serve.ensures in
     let old = state_of_writer g.K.Sink.taken g.K.Sink.failures c.args.writer.now in
     let new = state_of_writer g.K.Sink.taken g.K.Sink.failures c.serve.new.writer in
-    let plain = talks_plain c.args.session.now served.state next.Line served.last
+    let plain = talks_plain _ c.args.session.now served.state next.Line served.last
     served.talk.inputs served.replies served.talk.talks (fresh_plain _ c.requires.session) in
     let stops = subst
     (λ why. WritesReplies SendsBytes CrLf old served.replies (writing_of why) new) is

@@ -6,7 +6,7 @@ use Rattle.example_smtp.proofs.receiving.receive.Goals as goal
 pub returns : goal.returns
 returns g c =
     let served = c.serve.ensures in
-    let told = transcript c.args.session.now served.state next.Line served.last
+    let told = transcript _ c.args.session.now served.state next.Line served.last
     served.talk.inputs served.replies served.talk.talks in
     record {
       served = served;
