@@ -28,7 +28,7 @@ static CHUNKS: [(&[u8], &[&str]); 6] = [
         b"\xff\x7f\n\xfe",
         &[
             "Some(AsciiChunk { start: 0, run: Other([255]) })",
-            "Some(AsciiChunk { start: 1, run: Ascii(\"\u{7f}\\n\") })",
+            "Some(AsciiChunk { start: 1, run: Ascii(\"\\u{7f}\\n\") })",
             "Some(AsciiChunk { start: 3, run: Other([254]) })",
         ],
     ),
