@@ -1,5 +1,5 @@
 -- Images in upper and lower case, of vectors, of parts and of whole lists.
-use Rattle.std.proofs.Common.{◌≡◌, ◌↔◌, ℕ, ◌+◌, ◌-◌, ◌%◌, ◌^◌, ◌<◌, ◌≤◌, ltb, eqb, not, ◌&&◌}
+use Rattle.std.proofs.Common.{◌≡◌, ◌↔◌, ℕ, ◌+◌, ◌-◌, ◌%◌, ◌^◌, ◌≤◌, ltb, eqb, not, ◌&&◌}
 use Rattle.std.proofs.Common.{true, false, cond}
 use Rattle.std.proofs.Common.{List, [], ◌∷◌, ◌++◌, map, length, get_or, take, drop, replicate, Fits}
 use Rattle.std.proofs.Common.{w8, bit_and, bit_or, refl, sym, ap, ap₂, ◌∙◌, arith, inl, inr}
@@ -10,7 +10,7 @@ use Rattle.std.proofs.lemmas.Bool.{cases_Bool}
 use Rattle.std.proofs.lemmas.List.{length-map, map-append, append_assoc, append-nil}
 use Rattle.std.proofs.lemmas.List.{append_cancel_left, take-append-drop, take-take, take-map}
 use Rattle.std.proofs.lemmas.List.{take_all, drop_all, length-take, length-take-le, length-drop}
-use Rattle.std.proofs.lemmas.List.{map_more, length-append}
+use Rattle.std.proofs.lemmas.List.{length-append}
 use Rattle.std.proofs.lemmas.Simd.{put_chunk_is, length-chunk, length-zip2, bitmask_splat}
 use Rattle.std.proofs.lemmas.Simd.{splat_is_map, zip2_of_maps, zip2_splat, map-map}
 use lib.Bits.{bit_xor}
@@ -254,14 +254,3 @@ same_more xs ys at n before = (
         lower_image (chunk at n l)
     parts l = ap (map lower_image) (take-add at n l)
         ∙ map-append lower_image (take at l) (chunk at n l)
-
--- the same over one byte
-pub same_byte : (xs ys : List ℕ) (at : ℕ) → at < length xs → at < length ys → SameBefore xs ys at
-    → (lower_image (get_or xs at 0) ≡ lower_image (get_or ys at 0)) ↔ SameBefore xs ys (at + 1)
-same_byte xs ys at in_xs in_ys before = (
-  (λ e. map_more lower_image xs at 0 in_xs ∙ ap₂ (λ a x. a ++ x ∷ []) before e
-      ∙ sym (map_more lower_image ys at 0 in_ys)),
-  (λ e. ap (λ l. get_or l 0 0) (append_cancel_left (map lower_image (take at ys)) _ _
-      (ap (λ a. a ++ lower_image (get_or xs at 0) ∷ []) (sym before)
-      ∙ sym (map_more lower_image xs at 0 in_xs) ∙ e ∙ map_more lower_image ys at 0 in_ys))),
-)

@@ -1,18 +1,16 @@
 -- From the vectors of a load to the bytes that it is of.
 use Rattle.std.proofs.Common.{◌≡◌, ℕ, ◌+◌, ◌-◌, ◌*◌, ◌%◌, ◌^◌, ◌<◌, ◌≤◌, suc, Bool, true, false}
-use Rattle.std.proofs.Common.{leb, cond, List, [], ◌∷◌, map, length, get_or, replicate, Fits, w8}
+use Rattle.std.proofs.Common.{cond, List, [], ◌∷◌, map, length, get_or, replicate, Fits, w8}
 use Rattle.std.proofs.Common.{w64, ◌≢◌}
 use Rattle.std.proofs.Common.{bit_or, refl, sym, ap, ◌∙◌, subst, arith, inl, inr}
 use Rattle.std.specs.Int.{bit_at}
 use Rattle.std.proofs.lemmas.Bool.{agree_below, agree_below_at, cases_lt, cases_eq, cases_Bool}
-use Rattle.std.proofs.lemmas.Bool.{leb-false}
 use Rattle.std.proofs.lemmas.List.{length-map, get_or-map, get_or_past}
 use Rattle.std.proofs.lemmas.Nat.{le_or_l, le_or_r}
 use Rattle.std.proofs.lemmas.Nat.Bits.{bit_at-zero, bit_at_cat_high, bit_at_set_same}
 use Rattle.std.proofs.lemmas.Nat.Bits.{bit_at_set_other}
-use Rattle.std.proofs.lemmas.Simd.{map-map, tops_compared, zip2_splat_left, mask_l-mod, bit_mask_l}
-use Rattle.std.proofs.lemmas.Simd.{length-chunk, get_or-chunk, get_or-zip2, length-zip2}
-use lib.Lanes.{mask_l, top, sel_l, chunk, zip2}
+use Rattle.std.proofs.lemmas.Simd.{map-map, mask_l-mod, bit_mask_l, length-chunk, get_or-chunk}
+use lib.Lanes.{mask_l, top, sel_l, chunk}
 use Rattle.ascii_base.specs.Bytes.{IsFirstNot, IsLastNot}
 use Rattle.ascii_base.specs.Lanes.{Marks, AllBefore, AllFrom}
 
@@ -91,6 +89,14 @@ highest_bit m k low high =
     ap (λ x. bit_at x k) (sym parts)
     ∙ bit_at_cat_high 1 k (m - 2 ^ k) k (omega arith) (omega arith) ∙ ap (bit_at 1) first
 
+-- two masks of which neither has a bit
+pub or_zero : (a b : ℕ) → bit_or a b ≡ 0 → (a ≡ 0) × (b ≡ 0)
+or_zero a b none = (omega (arith, none, le_or_l a b), omega (arith, none, le_or_r a b))
+
+-- a mask with no bit
+pub no_bit : (mask : ℕ) → mask ≡ 0 → (k : ℕ) → bit_at mask k ≡ 0
+no_bit mask none k = ap (λ m. bit_at m k) none ∙ bit_at-zero k
+
 module _ (Is : ℕ → Type 0) (bytes : List ℕ) (at n mask : ℕ) (marks : Marks Is bytes at n mask)
     (room : at + n ≤ length bytes) where
   -- bytes of the class go on over the lanes before the first mark
@@ -104,6 +110,10 @@ module _ (Is : ℕ → Type 0) (bytes : List ℕ) (at n mask : ℕ) (marks : Mar
             subst (λ j. Is (get_or bytes j 0)) same
             (marks.clear (k - at) (clear (k - at) (omega arith)) (omega arith))
       ]
+
+  -- the same over all lanes, if none has a mark
+  pub before_all : mask ≡ 0 → AllBefore Is bytes at → AllBefore Is bytes (at + n)
+  before_all none = before_more n (omega arith) (λ k l. no_bit mask none k)
 
   -- the last byte with a mark, over the lanes after the last mark
   pub from_more : (m : ℕ) → ((k : ℕ) → m ≤ k → bit_at mask k ≡ 0) → AllFrom Is bytes (at + n)
@@ -178,92 +188,3 @@ module _ (Is : ℕ → Type 0) (bytes : List ℕ) (at k mask : ℕ) where
       | inr other ↦ let apart : j ≢ k = other in marks.clear j is (omega arith)
     ];
   }
-
--- a mask with no bit
-pub no_bit : (mask : ℕ) → mask ≡ 0 → (k : ℕ) → bit_at mask k ≡ 0
-no_bit mask none k = ap (λ m. bit_at m k) none ∙ bit_at-zero k
-
--- the bits of two vectors, lane by lane
-length-joined : (xs ys : List ℕ) → length xs ≡ 32 → length ys ≡ 32 → length (zip2 bit_or xs ys) ≡ 32
-length-joined xs ys long_x long_y = length-zip2 bit_or xs ys (long_x ∙ sym long_y) ∙ long_x
-
-low_joined : (xs ys : List ℕ) → length xs ≡ 32 → length ys ≡ 32
-    → ((k : ℕ) → k < 32 → get_or (zip2 bit_or xs ys) k 0 < 128)
-    → (k : ℕ) → k < 32 → (get_or xs k 0 < 128) × (get_or ys k 0 < 128)
-low_joined xs ys long_x long_y low k l =
-    let at = get_or-zip2 bit_or xs ys k 0 0 0 (omega arith) (omega arith) in (
-      omega (arith, at, low k l, le_or_l (get_or xs k 0) (get_or ys k 0)),
-      omega
-          (arith, at, low k l, le_or_r (get_or xs k 0) (get_or ys k 0)),
-    )
-
--- where no bit is set, no lane of a vector is over 127
-all_low : (lanes : List ℕ) → length lanes ≡ 32
-    → mask_l (map (top 7) (zip2 (λ a b. cond (leb a b) 255 0) (replicate 32 128) lanes)) % 2 ^
-    64 ≡ 0
-    → (k : ℕ) → k < 32 → get_or lanes k 0 < 128
-all_low lanes long empty k l =
-    let ms = map (leb 128) lanes in
-    let mask : mask_l (map (top 7) (zip2 (λ a b. cond (leb a b) 255 0) (replicate 32 128) lanes))
-    % 2 ^ 64 ≡ mask_l ms =
-    ap (λ m. mask_l m % 2 ^ 64) (tops_compared w8 leb (replicate 32 128) lanes
-    ∙ zip2_splat_left leb 128 32 lanes long)
-    ∙ mask_l-mod ms 64 (omega (arith, length-map lanes (leb 128))) in
-    let bit : cond (leb 128 (get_or lanes k 0)) 1 0 ≡ 0 =
-    ap (λ b. cond b 1 0) (sym (get_or-map (leb 128) lanes k 0 false (omega arith)))
-    ∙ sym (bit_mask_l ms k) ∙ ap (λ m. bit_at m k) (sym mask ∙ empty) ∙ bit_at-zero k in
-    elim (cases_Bool (leb 128 (get_or lanes k 0))) [
-      | inl t ↦ absurd (omega (arith, bit, ap (λ b. cond {A = ℕ} b 1 0) t))
-      | inr t ↦ leb-false 128 _ t
-    ]
-
--- the bytes of four chunks are under 128 where the bits of all four leave no mark
-pub four_low : (bytes : List ℕ) (at : ℕ) → at + 128 ≤ length bytes
-    → mask_l (map (top 7) (zip2 (λ a b. cond (leb a b) 255 0) (replicate 32 128)
-    (zip2 bit_or (zip2 bit_or (chunk at 32 bytes) (chunk (at + 32) 32 bytes))
-    (zip2 bit_or (chunk (at + 64) 32 bytes) (chunk (at + 96) 32 bytes))))) % 2 ^ 64 ≡ 0
-    → (k : ℕ) → at ≤ k → k < at + 128 → get_or bytes k 0 < 128
-four_low bytes at room empty k from to =
-    elim (cases_lt k (at + 32)) [
-      | inl l ↦ here at k (λ j m. (front j m).0) (omega arith) l
-      | inr g ↦ elim (cases_lt k (at + 64)) [
-        | inl l ↦ here (at + 32) k (λ j m. (front j m).1) g (omega arith)
-        | inr h ↦ elim (cases_lt k (at + 96)) [
-          | inl l ↦ here (at + 64) k (λ j m. (back j m).0) h (omega arith)
-          | inr i ↦ here (at + 96) k (λ j m. (back j m).1) i (omega arith)
-        ]
-      ]
-    ]
-  where
-    long : (i : ℕ) → i + 32 ≤ at + 128 → length (chunk i 32 bytes) ≡ 32
-    long i le = length-chunk i 32 bytes (omega arith)
-
-    long_front : length (zip2 bit_or (chunk at 32 bytes) (chunk (at + 32) 32 bytes)) ≡ 32
-    long_front = length-joined _ _ (long at (omega arith)) (long (at + 32) (omega arith))
-
-    long_back : length (zip2 bit_or (chunk (at + 64) 32 bytes) (chunk (at + 96) 32 bytes)) ≡ 32
-    long_back = length-joined _ _ (long (at + 64) (omega arith)) (long (at + 96) (omega arith))
-
-    all : (j : ℕ) → j < 32
-        → (get_or (zip2 bit_or (chunk at 32 bytes) (chunk (at + 32) 32 bytes)) j 0 < 128)
-        × (get_or (zip2 bit_or (chunk (at + 64) 32 bytes) (chunk (at + 96) 32 bytes)) j 0 < 128)
-    all = low_joined _ _ long_front long_back
-        (all_low _ (length-joined _ _ long_front long_back) empty)
-
-    front : (j : ℕ) → j < 32 → (get_or (chunk at 32 bytes) j 0 < 128)
-        × (get_or (chunk (at + 32) 32 bytes) j 0 < 128)
-    front = low_joined _ _ (long at (omega arith)) (long (at + 32) (omega arith))
-        (λ j l. (all j l).0)
-
-    back : (j : ℕ) → j < 32 → (get_or (chunk (at + 64) 32 bytes) j 0 < 128)
-        × (get_or (chunk (at + 96) 32 bytes) j 0 < 128)
-    back = low_joined _ _ (long (at + 64) (omega arith)) (long (at + 96) (omega arith))
-        (λ j l. (all j l).1)
-
-    here : (i k : ℕ) → ((j : ℕ) → j < 32 → get_or (chunk i 32 bytes) j 0 < 128) → i ≤ k
-        → k < i + 32 → get_or bytes k 0 < 128
-    here i k low from to =
-        let same : i + (k - i) ≡ k = omega arith in
-        let at = get_or-chunk i 32 bytes (k - i) 0 (omega arith)
-        ∙ ap (λ j. get_or bytes j 0) same in
-        omega (arith, at, low (k - i) (omega arith))

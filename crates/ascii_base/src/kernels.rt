@@ -16,8 +16,8 @@ ghost use Rattle.ascii_base.specs.Lanes.{AllBefore, AllFrom, FindsFirstNot, Find
 ghost use Rattle.ascii_base.specs.Lanes.{SameBefore};
 
 use crate::classes::{Ascii, Class, ClassBy, Searched, Whitespace};
-use crate::images::{Image, ImageBy, Lower, Upper};
-use crate::lanes::{ASCII_BLOCK, LANES, WIDE, eq_lanes, highest_set_bit, is_ascii_block};
+use crate::images::{ImageBy, Lower, Upper};
+use crate::lanes::{ASCII_BLOCK, LANES, WIDE, eq_lanes, is_ascii_block};
 use std::simd::prelude::*;
 
 /// How many bytes at an end of a text are tested one by one first: few texts have more whitespace
@@ -52,7 +52,15 @@ pub fn first_other(bytes: &[u8]) -> Option<usize>
     ensures { MatchOption result (IsAscii bytes.now) (FirstOther bytes.now 0 (length bytes.now)) }
 {
     if bytes.len() < LANES {
-        first_non_ascii_short(bytes)
+        if bytes.len() >= 16 {
+            first_non_ascii_overlapping::<16>(bytes)
+        } else if bytes.len() >= 8 {
+            first_non_ascii_overlapping::<8>(bytes)
+        } else if bytes.len() >= 4 {
+            first_non_ascii_overlapping::<4>(bytes)
+        } else {
+            first_one_by_one::<Ascii>(bytes, 0, bytes.len())
+        }
     } else if bytes.len() <= WIDE {
         first_non_ascii_overlapping::<LANES>(bytes)
     } else if bytes.len() < ASCII_BLOCK {
@@ -94,7 +102,7 @@ pub fn eq_ignore_case(first: &[u8], second: &[u8]) -> bool
         return false;
     }
     if first.len() < 4 {
-        return same_one_by_one(first, second, 0);
+        return first.eq_ignore_ascii_case(second);
     }
     if are_apart(first[0], second[0]) {
         return false;
@@ -102,11 +110,11 @@ pub fn eq_ignore_case(first: &[u8], second: &[u8]) -> bool
     if first.len() > LANES {
         eq_lanes::<16>(first, second, 0) && same_from(first, second, 16)
     } else if first.len() >= 16 {
-        same_in_two::<16>(first, second)
+        same_in_two::<16>(first, second, 0)
     } else if first.len() >= 8 {
-        same_in_two::<8>(first, second)
+        same_in_two::<8>(first, second, 0)
     } else {
-        same_in_two::<4>(first, second)
+        same_in_two::<4>(first, second, 0)
     }
 }
 
@@ -231,23 +239,6 @@ fn first_one_by_one<C: Class>(bytes: &[u8], from: usize, to: usize) -> Option<us
     None
 }
 
-/// The first non-ASCII byte of fewer than 32.
-#[inline(always)]
-fn first_non_ascii_short(bytes: &[u8]) -> Option<usize>
-    requires { length bytes.now < LANES }
-    ensures { FindsFirstNot (λ byte. byte < 128) bytes.now (length bytes.now) result }
-{
-    if bytes.len() >= 16 {
-        first_non_ascii_overlapping::<16>(bytes)
-    } else if bytes.len() >= 8 {
-        first_non_ascii_overlapping::<8>(bytes)
-    } else if bytes.len() >= 4 {
-        first_non_ascii_overlapping::<4>(bytes)
-    } else {
-        first_one_by_one::<Ascii>(bytes, 0, bytes.len())
-    }
-}
-
 /// The first non-ASCII byte of at least `N` and at most twice as many: the first `N` and the last
 /// `N` take one test if there is none.
 #[inline(always)]
@@ -352,7 +343,7 @@ fn last_in<C: ClassBy<N>, const N: usize>(bytes: &[u8], at: usize) -> Option<usi
     if marked == 0 {
         None
     } else {
-        Some(at + highest_set_bit(marked))
+        Some(at + marked.ilog2() as usize)
     }
 }
 
@@ -371,7 +362,7 @@ fn last_one_by_one<C: Class>(bytes: &[u8], from: usize, to: usize) -> Option<usi
     None
 }
 
-/// Changes each byte to its image.
+/// Changes each byte to its image: by steps, or one by one if there are fewer than four.
 #[inline(always)]
 fn map_in_place<I: ImageBy<4> + ImageBy<8> + ImageBy<16> + ImageBy<32>>(bytes: &mut [u8])
     ensures { bytes.new ≡ map I.image bytes.old }
@@ -385,7 +376,9 @@ fn map_in_place<I: ImageBy<4> + ImageBy<8> + ImageBy<16> + ImageBy<32>>(bytes: &
     } else if bytes.len() >= 4 {
         map_by::<I, 4>(bytes);
     } else {
-        map_one_by_one::<I>(bytes);
+        for byte in bytes.iter_mut() {
+            *byte = I::of(*byte);
+        }
     }
 }
 
@@ -407,16 +400,6 @@ fn map_by<I: ImageBy<N>, const N: usize>(bytes: &mut [u8])
         at += N;
     }
     end.copy_to_slice(&mut bytes[last..]);
-}
-
-/// Changes each byte to its image, byte by byte.
-#[inline(always)]
-fn map_one_by_one<I: Image>(bytes: &mut [u8])
-    ensures { bytes.new ≡ map I.image bytes.old }
-{
-    for byte in bytes.iter_mut() {
-        *byte = I::of(*byte);
-    }
 }
 
 /// Whether two bytes differ in a bit other than that of the case, as no two cases of a letter do.
@@ -443,51 +426,20 @@ fn same_from(first: &[u8], second: &[u8], from: usize) -> bool
         }
         at += WIDE;
     }
-    same_in_end(first, second, at)
+    same_in_two::<LANES>(first, second, at)
 }
 
-/// Whether at most 64 bytes from `at` on are the same in both when case is ignored.
+/// Whether at most twice `N` bytes from `at` on are the same in both when case is ignored: the first
+/// `N` of them and the last `N`.
 #[inline(always)]
-fn same_in_end(first: &[u8], second: &[u8], at: usize) -> bool
-    requires same_length { length first.now ≡ length second.now }
-    requires long { LANES ≤ length first.now }
-    requires short { length first.now ≤ at + WIDE }
-    requires before { SameBefore first.now second.now at }
-    ensures { IsTrue result ↔ (map lower_image first.now ≡ map lower_image second.now) }
-{
-    let last = first.len() - LANES;
-    if at < last {
-        eq_lanes::<LANES>(first, second, at) && eq_lanes::<LANES>(first, second, last)
-    } else {
-        eq_lanes::<LANES>(first, second, last)
-    }
-}
-
-/// Whether at least `N` and at most twice as many bytes are the same in both when case is ignored.
-#[inline(always)]
-fn same_in_two<const N: usize>(first: &[u8], second: &[u8]) -> bool
+fn same_in_two<const N: usize>(first: &[u8], second: &[u8], at: usize) -> bool
     requires lanes { N ≤ 64 }
     requires same_length { length first.now ≡ length second.now }
     requires room { N ≤ length first.now }
-    requires short { length first.now ≤ N + N }
+    requires short { length first.now ≤ at + N + N }
+    requires before { SameBefore first.now second.now at }
     ensures { IsTrue result ↔ (map lower_image first.now ≡ map lower_image second.now) }
 {
     let last = first.len() - N;
-    eq_lanes::<N>(first, second, 0) && (last == 0 || eq_lanes::<N>(first, second, last))
-}
-
-/// Whether the bytes from `from` on are the same in both when case is ignored, byte by byte.
-#[inline(always)]
-fn same_one_by_one(first: &[u8], second: &[u8], from: usize) -> bool
-    requires same_length { length first.now ≡ length second.now }
-    requires inside { from ≤ length first.now }
-    requires before { SameBefore first.now second.now from }
-    ensures { IsTrue result ↔ (map lower_image first.now ≡ map lower_image second.now) }
-{
-    for at in from..first.len() {
-        if Lower::of(first[at]) != Lower::of(second[at]) {
-            return false;
-        }
-    }
-    true
+    (at >= last || eq_lanes::<N>(first, second, at)) && eq_lanes::<N>(first, second, last)
 }

@@ -1,10 +1,9 @@
 //! Tests of several bytes at once.
 
-ghost use Rattle.std.specs.Prelude.{ℕ, ◌≡◌, ◌≢◌, ◌<◌, ◌≤◌, ◌+◌, ◌*◌, ◌↔◌, IsTrue, length};
-ghost use Rattle.std.specs.Prelude.{slice_index};
-ghost use Rattle.std.specs.Int.{bit_at};
-ghost use Rattle.ascii_base.specs.Lanes.{SameBefore};
+ghost use Rattle.std.specs.Prelude.{◌≡◌, ◌<◌, ◌≤◌, ◌+◌, ◌↔◌, IsTrue, length};
+ghost use Rattle.ascii_base.specs.Lanes.{AllBefore, SameBefore};
 
+use crate::classes::{Ascii, ClassBy};
 use std::simd::prelude::*;
 
 /// How many bytes a step of the loops takes.
@@ -19,14 +18,15 @@ pub(crate) const ASCII_BLOCK: usize = 4 * LANES;
 /// Whether the 128 bytes from `at` on are all ASCII, with one test.
 #[inline(always)]
 pub(crate) fn is_ascii_block(bytes: &[u8], at: usize) -> bool
-    requires { at + ASCII_BLOCK ≤ length bytes.now }
-    ensures { IsTrue result → (k : ℕ) → at ≤ k → k < at + ASCII_BLOCK
-        → slice_index bytes.now k < 128 }
+    requires room { at + ASCII_BLOCK ≤ length bytes.now }
+    requires before { AllBefore (λ byte. byte < 128) bytes.now at }
+    ensures { IsTrue result → AllBefore (λ byte. byte < 128) bytes.now (at + ASCII_BLOCK) }
 {
-    let front = u8x32::from_slice(&bytes[at..]) | u8x32::from_slice(&bytes[at + LANES..]);
-    let back = u8x32::from_slice(&bytes[at + 2 * LANES..])
-        | u8x32::from_slice(&bytes[at + 3 * LANES..]);
-    (front | back).simd_ge(u8x32::splat(128)).to_bitmask() == 0
+    let front = <Ascii as ClassBy<LANES>>::marks(bytes, at)
+        | <Ascii as ClassBy<LANES>>::marks(bytes, at + LANES);
+    let back = <Ascii as ClassBy<LANES>>::marks(bytes, at + 2 * LANES)
+        | <Ascii as ClassBy<LANES>>::marks(bytes, at + 3 * LANES);
+    front | back == 0
 }
 
 /// Whether the `N` bytes from `at` on are equal in both when the case of letters is ignored: two
@@ -44,14 +44,4 @@ pub(crate) fn eq_lanes<const N: usize>(first: &[u8], second: &[u8], at: usize) -
     let counted = is_letter.select(Simd::splat(0xdf), Simd::splat(0xff));
     let apart = (lanes ^ Simd::<u8, N>::from_slice(&second[at..])) & counted;
     apart.simd_ne(Simd::splat(0)).to_bitmask() == 0
-}
-
-/// The position of the highest bit that is set.
-#[inline(always)]
-pub(crate) fn highest_set_bit(mask: u64) -> usize
-    requires { mask ≢ 0 }
-    ensures set { bit_at mask result ≡ 1 }
-    ensures above { (k : ℕ) → result < k → bit_at mask k ≡ 0 }
-{
-    mask.ilog2() as usize
 }

@@ -1,12 +1,11 @@
 use Rattle.std.proofs.Common.{arith, w64}
 use Rattle.std.proofs.lemmas.Nat.Bits.{bit_at-trailing_zeros}
-use Rattle.ascii_base.proofs.LanesLemmas.{before_more, first_mark, no_bit}
+use Rattle.ascii_base.proofs.LanesLemmas.{before_all, first_mark}
 use Rattle.ascii_base.proofs.kernels.first_in.Goals as goal
 
 pub returns-then-marked-eq0 : goal.returns-then-marked-eq0
-returns-then-marked-eq0 g c = before_more _ _ _ _ _ c.marks-marked.ensures
-    c.requires.room g.row.N (omega arith) (λ k l. no_bit _ c.if-marked-eq0.true k)
-    c.requires.before
+returns-then-marked-eq0 g c = before_all _ _ _ _ _ c.marks-marked.ensures c.requires.room
+    c.if-marked-eq0.true c.requires.before
 
 pub returns-else-marked-eq0 : goal.returns-else-marked-eq0
 returns-else-marked-eq0 g c =

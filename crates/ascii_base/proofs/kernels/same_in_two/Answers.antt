@@ -1,12 +1,20 @@
 use Rattle.std.proofs.Common.{arith, rules}
 use Rattle.ascii_base.proofs.CaseLemmas.{same_shorter, same_front}
 use Rattle.ascii_base.proofs.kernels.same_in_two.Goals as goal
+use Rattle.ascii_base.proofs.kernels.same_in_two.Goals.{then-at-last, else-at-last}
 
-pub eq_lanes-requires-else-last-eq0-clause-before
-    : goal.eq_lanes-requires-else-last-eq0-clause-before
-eq_lanes-requires-else-last-eq0-clause-before g c =
-    same_shorter _ _ _ _ (omega arith) (c.eq_lanes.ensures.0 c.if-eq_lanes.true)
+pub eq_lanes-requires-then-eq_lanes-clause-before
+    : goal.eq_lanes-requires-then-eq_lanes-clause-before
+eq_lanes-requires-then-eq_lanes-clause-before g c = elim c.if-at-last.branch [
+  | then-at-last w ↦ same_shorter _ _ _ c.args.at (omega arith) c.requires.before
+  | else-at-last w ↦ same_shorter _ _ _ _ (omega arith) (w.eq_lanes.ensures.0 (search rules))
+]
 
 pub returns-else-eq_lanes : goal.returns-else-eq_lanes
-returns-else-eq_lanes g c =
-    ((λ yes. absurd (search (rules, yes))), (λ e. c.eq_lanes.ensures.1 (same_front _ _ _ e)))
+returns-else-eq_lanes g c = (
+  (λ yes. absurd (search (rules, yes))),
+  (λ e. elim c.if-at-last.branch [
+    | then-at-last w ↦ search rules
+    | else-at-last w ↦ let same = w.eq_lanes.ensures.1 (same_front _ _ _ e) in search (rules, same)
+  ]),
+)

@@ -1,5 +1,5 @@
 use Rattle.std.proofs.Common.{◌≡◌, ◌++◌, map, take, drop}
-use Rattle.ascii_base.proofs.kernels.map_one_by_one.Given as goal
+use Rattle.ascii_base.proofs.kernels.map_in_place.Given as goal
 
 -- the bytes before the index are mapped, the others are as they were
 abbrev pub invariant-loop-byte : goal.invariant-loop-byte
