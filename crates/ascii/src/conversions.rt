@@ -140,7 +140,8 @@ impl<A: Allocator> TryFrom<String<A>> for AsciiString<A> {
     type Error = FromAsciiError<String<A>>;
 
     ghost try_from_gives = { λ source result. MatchResult result
-        (λ string. string.text ≡ string_bytes source) (ReturnsSource source (string_bytes source)) };
+        (λ string. string.text ≡ string_bytes source)
+        (ReturnsSource source (string_bytes source)) };
 
     /// Converts the `String` into an ASCII string, keeping its buffer, or returns an error with the `String`
     /// and the position of its first non-ASCII byte.

@@ -13,6 +13,9 @@ impl<A: Allocator> AsciiString<A> {
     /// Removes the characters for which `keep` returns `false`. It is called once for each character,
     /// in order. Does not allocate, and keeps the capacity.
     ///
+    /// Condition: `keep` may be called any number of times with any character, as a closure whose body
+    /// has no condition of its own may.
+    ///
     ///     let mut text = view("a-b-c").to_ascii_string(alloc)?;
     ///     text.retain(|ch| ch != AsciiChar::Minus);
     ///     text // "abc"

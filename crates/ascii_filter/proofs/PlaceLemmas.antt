@@ -32,7 +32,8 @@ after_no_feed p [] none = ap (λ c. record { line = p.line; column = c }) (omega
 after_no_feed p (x ∷ xs) none =
     ap (λ b. place_after (if b then record { line = p.line + 1; column = 1 }
     else record { line = p.line; column = p.column + 1 }) xs) (All-head IsOther x xs none)
-    ∙ (after_no_feed (record { line = p.line; column = p.column + 1 }) xs (All-tail IsOther x xs none)
+    ∙ (after_no_feed (record { line = p.line; column = p.column + 1 }) xs
+    (All-tail IsOther x xs none)
     ∙ ap (λ c. record { line = p.line; column = c }) (omega arith))
 
 pub after_none : (p : Place) (xs : List ℕ) → IsLastByte (is_byte 10) xs None

@@ -51,8 +51,8 @@ IsHeldThenRead-more held rest mid left text more first then = (
 -- ---- a line that fills the buffer
 
 -- what is returned if no LF and no non-ASCII byte is held and there is no room
-pub full : (endings : Endings) (start size : ℕ) (held text : List ℕ) (rest mid left : Option (List ℕ))
-    (result : Result (Option ℕ) LineError)
+pub full : (endings : Endings) (start size : ℕ) (held text : List ℕ)
+    (rest mid left : Option (List ℕ)) (result : Result (Option ℕ) LineError)
     → IsHeldThenRead held rest mid text → length text ≡ size → IsAscii text
     → FreeUpTo endings text size
     → IfErr result (λ error. (error ≡ Read)
@@ -382,8 +382,8 @@ YieldsLines-append a b c lines others first ended then =
       endings = then.endings ∙ first.endings;
     }
 
-pub none_is_some : (result : Result (Option ReadLine) LineError) (line : ReadLine) → result ≡ Ok None
-    → result ≡ Ok (Some line) → ⊥
+pub none_is_some : (result : Result (Option ReadLine) LineError) (line : ReadLine)
+    → result ≡ Ok None → result ≡ Ok (Some line) → ⊥
 none_is_some result line none some = cc
 
 -- the next line of a reader, after the lines before it
@@ -479,7 +479,8 @@ first_lines old new lines told is hands =
     exact) in
     elim hands.whole [
       | inl going ↦
-          let then = some_spans old.endings (old.start + length hands.handed) (new.held ++ more) in (
+          let then = some_spans old.endings (old.start + length hands.handed) (new.held ++ more)
+          in (
             then.0,
             subst (λ zs. LineSpansEndedBy kind old.start zs (lines ++ then.0)) (sym whole)
                 (LineSpansEndedBy-append kind old.start hands.handed (new.held ++ more) lines

@@ -11,8 +11,8 @@ pub record WindowState : Type 0 where
   pub spare : ℕ
 
 -- where the bytes of a buffer are: those taken last from `given` to `from`, and those held from
--- `from` to `filled`. All of these bytes before `checked` are less than 128, and the one at `checked`
--- is not, if it is before `filled`
+-- `from` to `filled`. All of these bytes before `checked` are less than 128, and the one at
+-- `checked` is not, if it is before `filled`
 pub record IsLaidOut (bytes : List ℕ) (given from checked filled : ℕ) : Type 0 where
   pub given_first : given ≤ from
   pub then_from : from ≤ checked

@@ -205,8 +205,8 @@ module _ {S Z : Type 0} (rest : S → Option (List ℕ)) (failures : S → ℕ) 
   Next old result new = NextFrom old.stage old result new
 
 module _ {S Z : Type 0} (rest : S → Option (List ℕ)) (failures : S → ℕ) (n : ℕ) where
-  -- what a reader at a stage returns for a part of `n` bytes. At `Open`, `YieldsPart` says what, and
-  -- `failures_after` how many calls of its source have then failed. At `Ended` it returns
+  -- what a reader at a stage returns for a part of `n` bytes. At `Open`, `YieldsPart` says what,
+  -- and `failures_after` how many calls of its source have then failed. At `Ended` it returns
   -- `Incomplete 0`, at `Refused` the error that it returned before, and then reader and source are
   -- unchanged
   abbrev pub NextPartFrom

@@ -17,8 +17,8 @@ use Rattle.ascii_lines.specs.declared.line_writer.WriterStage.{WriterStage}
 use Rattle.ascii_lines.specs.declared.line_writer.WriterStage.TheVariants.{Ready, Failed}
 
 -- the state of a writer: the size of its buffer; the bytes that its sink has taken, if they are
--- known; the bytes that were written and that the sink has not taken yet; how many calls of the sink
--- have failed; whether the writer goes on
+-- known; the bytes that were written and that the sink has not taken yet; how many calls of the
+-- sink have failed; whether the writer goes on
 pub record WriterState : Type 0 where
   pub size : ℕ
   pub taken : Option (List ℕ)
@@ -56,16 +56,17 @@ line_with body ending = record { body = text_of body; ending = ending }
 abbrev pub is_line_break : ℕ → Bool
 is_line_break = is_byte2 13 10
 
--- from the state `old` to the state `new` the bytes were written, and no call of the sink failed: of
--- the bytes held before and then `bytes`, the sink took a prefix, and the writer holds the others
+-- from the state `old` to the state `new` the bytes were written, and no call of the sink failed:
+-- of the bytes held before and then `bytes`, the sink took a prefix, and the writer holds the
+-- others
 pub record WritesBytes (old new : WriterState) (bytes : List ℕ) : Type 0 where
   pub passed : Passes (flow old.taken old.held) (flow new.taken new.held) bytes
   pub failures : new.failures ≡ old.failures
   pub stage : new.stage ≡ Ready
   pub size : new.size ≡ old.size
 
--- a call of the sink failed while the bytes were written: of the bytes held before and then `bytes`,
--- the sink took a prefix. One more failure is counted, unless there were 2 ^ 64 - 1
+-- a call of the sink failed while the bytes were written: of the bytes held before and then
+-- `bytes`, the sink took a prefix. One more failure is counted, unless there were 2 ^ 64 - 1
 pub record FailsToWrite (old new : WriterState) (bytes : List ℕ) : Type 0 where
   pub passed : PassesPrefix (flow old.taken old.held) (flow new.taken new.held) bytes
   pub failures : new.failures ≡ min (old.failures + 1) (2 ^ 64 - 1)
@@ -86,10 +87,10 @@ abbrev pub WritesLines : WriterState → List Line → WriterState → Type 0
 WritesLines old lines new = WritesBytes old new (flat_map line_text lines)
 
 module _ {K Z : Type 0} (taken : K → Option (List ℕ)) (failures : K → ℕ) where
-  -- what writing a line does, by the stage of the writer. `Ok`: no code of the body is CR or LF, and
-  -- the line was written. `LineBreak`: the position of the first CR or LF of the body, and nothing
-  -- was changed. `Write`: a call of the sink failed. At `Failed` the error is `Write`, and nothing is
-  -- changed
+  -- what writing a line does, by the stage of the writer. `Ok`: no code of the body is CR or LF,
+  -- and the line was written. `LineBreak`: the position of the first CR or LF of the body, and
+  -- nothing was changed. `Write`: a call of the sink failed. At `Failed` the error is `Write`, and
+  -- nothing is changed
   abbrev pub WritesLineFrom : WriterStage
       → LineWriter K Z → Line → Result (Unit {0}) WriteError → LineWriter K Z → Type 0
   WritesLineFrom Ready old line (Ok _) new = IsFirstByte is_line_break line.body None
@@ -107,8 +108,8 @@ module _ {K Z : Type 0} (taken : K → Option (List ℕ)) (failures : K → ℕ)
       : LineWriter K Z → Line → Result (Unit {0}) WriteError → LineWriter K Z → Type 0
   WritesLine old line result new = WritesLineFrom old.stage old line result new
 
-  -- what a flush does, by the stage of the writer. `Ok`: `Flushes`. `Err`, always `Write`: a call of
-  -- the sink failed, or at `Failed` had failed before, and then nothing is changed
+  -- what a flush does, by the stage of the writer. `Ok`: `Flushes`. `Err`, always `Write`: a call
+  -- of the sink failed, or at `Failed` had failed before, and then nothing is changed
   abbrev pub FlushesFrom
       : WriterStage → LineWriter K Z → Result (Unit {0}) WriteError → LineWriter K Z → Type 0
   FlushesFrom Ready old (Ok _) new =

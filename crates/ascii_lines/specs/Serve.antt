@@ -79,8 +79,8 @@ pub record SendsBytes (old new : WriterState) (bytes : List ℕ) : Type 0 where
   pub size : new.size ≡ old.size
 
 -- replies were written, as `Writes` says of their bytes. `Write`: a call of the sink failed, and a
--- prefix went out. `LineBreak`: the replies before one that has CR or LF were written; the error holds
--- the position of the first one
+-- prefix went out. `LineBreak`: the replies before one that has CR or LF were written; the error
+-- holds the position of the first one
 abbrev pub WritesReplies : (WriterState → WriterState → List ℕ → Type 0) → Ending → WriterState
     → List (List ℕ) → Result (Unit {0}) WriteError → WriterState → Type 0
 WritesReplies Writes ending old replies (Ok _) new = Writes old new (reply_bytes ending replies)
@@ -97,7 +97,8 @@ writing_of other = Ok tt
 
 module _ {H : Type 0} (answers : H → List ℕ → List (List ℕ) → Next → H → Type 0) where
   -- `inputs`, of which `endings` end the lines, were handed to a handler in the state `old`, which
-  -- first asked for `first`; it replied `replies`, in order, asks for `last` and is in the state `new`
+  -- first asked for `first`; it replied `replies`, in order, asks for `last` and is in the state
+  -- `new`
   abbrev pub Talks
       : Endings → H → Next → List (WithStart Line) → List (List ℕ) → Next → H → Type 0
   Talks endings old first [] replies last new = (replies ≡ []) × (last ≡ first) × (new ≡ old)
@@ -107,8 +108,8 @@ module _ {H : Type 0} (answers : H → List ℕ → List (List ℕ) → Next →
       × Talks endings mid then inputs later last new)
 
   -- a conversation with a handler in the state `handler`, which asks for a line first: the inputs,
-  -- laid end to end in the input, the replies to them, what the handler asks for next, and the states
-  -- of reader and handler after them
+  -- laid end to end in the input, the replies to them, what the handler asks for next, and the
+  -- states of reader and handler after them
   pub record Conversation (old : ReaderState) (handler : H) (replies : List (List ℕ)) (last : Next)
       (new : ReaderState) (after : H) : Type 0 where
     pub inputs : List (WithStart Line)
@@ -118,8 +119,8 @@ module _ {H : Type 0} (answers : H → List ℕ → List (List ℕ) → Next →
     pub going : IsGoing new
 
   -- why there was no answer in a state where the handler asks for `asked`. `Closed`: it asks for
-  -- nothing. `EndOfInput`: it asks for a line, and there is none. `Reader`: the error of the reader.
-  -- `Memory`: the handler failed at an input. Except at `Memory` the handler is unchanged
+  -- nothing. `EndOfInput`: it asks for a line, and there is none. `Reader`: the error of the
+  -- reader. `Memory`: the handler failed at an input. Except at `Memory` the handler is unchanged
   abbrev pub StopsTurn : Stop → Next → H → ReaderState → H → ReaderState → Type 0
   StopsTurn stop.Closed asked handler old after new =
       (asked ≡ next.Close) × (new ≡ old) × (after ≡ handler)

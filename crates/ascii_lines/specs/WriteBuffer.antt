@@ -34,8 +34,8 @@ pub record PassesPrefix (old new : Flow) (bytes : List ℕ) : Type 0 where
 abbrev pub flow : Option (List ℕ) → List ℕ → Flow
 flow taken held = record { taken = taken; held = held }
 
--- the failures of the sink after a call with this result, of `n` before: one more on `Err`, unless `n`
--- is 2 ^ 64 - 1
+-- the failures of the sink after a call with this result, of `n` before: one more on `Err`, unless
+-- `n` is 2 ^ 64 - 1
 abbrev pub failures_of_sink : {T E : Type 0} → ℕ → Result T E → ℕ
 failures_of_sink n (Ok _) = n
 failures_of_sink n (Err _) = min (n + 1) (2 ^ 64 - 1)

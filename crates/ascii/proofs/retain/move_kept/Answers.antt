@@ -15,9 +15,9 @@ pub loop-at-preserved : goal.loop-at-preserved
 loop-at-preserved g c =
     let at = c.loop-at in (
       keeps_next _ c.args.keep at.keep c.keep-stays.new.self c.args.bytes.now at.bytes at.kept
-          at.at c.keep-stays.result c.from_ascii_unchecked-ch.result _ _ c.loop-at-test.true at.auto.bytes
-          c.from_ascii_unchecked-ch.ensures c.as_byte.ensures.code (count c.keep-stays.result) at.invariant.0
-          c.keep-stays.ensures,
+          at.at c.keep-stays.result c.from_ascii_unchecked-ch.result _ _ c.loop-at-test.true
+          at.auto.bytes c.from_ascii_unchecked-ch.ensures c.as_byte.ensures.code
+          (count c.keep-stays.result) at.invariant.0 c.keep-stays.ensures,
       λ i. grind (arith, common_steps, at.invariant.1 i, c.as_byte.ensures.small),
       search of_calls,
     )

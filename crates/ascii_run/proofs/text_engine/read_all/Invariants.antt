@@ -3,8 +3,8 @@ use Rattle.std.specs.Io.KnownBytes.{Consumes}
 use Rattle.ascii_run.specs.Engine.{HasFirstOther}
 use Rattle.ascii_run.proofs.text_engine.read_all.Given as goal
 
--- the input holds what the reader gave, the position of its first byte that is not ASCII is known, and
--- no read has failed
+-- the input holds what the reader gave, the position of its first byte that is not ASCII is known,
+-- and no read has failed
 abbrev pub invariant-reads : goal.invariant-reads
 invariant-reads g l =
     Consumes (g.S.Source.rest l.fn.reader) (g.S.Source.rest l.reader) l.input.items

@@ -1,4 +1,5 @@
--- `allocate` counts the allocation, and fails or returns what the inner allocator returns. Assumes `Logic`.
+-- `allocate` counts the allocation, and fails or returns what the inner allocator returns. Assumes
+-- `Logic`.
 use Rattle.std.proofs.Common.{◌≡◌, ℕ, ◌^◌, ◌<◌, Bool, true, false, List, [], ◌∷◌, Ok, Err, refl, w64, Bor}
 use seplogic.Ra.Ura.{Ura}
 use mir.Syntax.{Ty, Args, Fn, a_type, dnil, dcons}
@@ -137,7 +138,8 @@ allocate_spec 𝓤 𝓛 𝓜 𝓡 wired Y L g d d' met _ =
     let c = f.clauses Y g d d' 𝓛 𝓜.mem 𝓡.returns in
     let number = Goes-dropped 𝓛 2 (plain (λ _. usize)) yes (λ κs x w. refl) in
     let asks = met.allocate d' in
-    let tells = cited 𝓤 𝓛.H _ 𝓜 𝓡 𝓡.env refuses.name (𝓡.env refuses.name) refl (refuses_met.met 𝓤 𝓛 𝓜 𝓡 (code.calls-testing::refuses 𝓡.env wired)) in
+    let tells = cited 𝓤 𝓛.H _ 𝓜 𝓡 𝓡.env refuses.name (𝓡.env refuses.name) refl
+    (refuses_met.met 𝓤 𝓛 𝓜 𝓡 (code.calls-testing::refuses 𝓡.env wired)) in
     entered 𝓤 𝓛.H (triple_of 𝓛 (f.signature Y) (f.spec Y g d d' 𝓛 𝓜.mem 𝓡.returns)) 𝓣.C 𝓣.Λ (key.name (args Z)) (here Z) (code.unfolded 𝓤 𝓛.H 𝓜 𝓡 wired (Y, tt) d d')
     (walk_Meets 𝓛 (ended Z) (stayed Z) (Goes-dropped 𝓛 2 (self Z) yes (λ κs x w. refl), (number, (number, tt))) c run (WpFn-mono 𝓤 𝓛.H 𝓛.laws 𝓣 (here Z))
     (walked 𝓛 (ended Z) (stayed Z) c run (λ κs. (shr_vals, (uint_vals w64, (uint_vals w64, tt)))) (λ κs. ((λ r vs s. s.0), (uint_Tells w64, (uint_Tells w64, tt))))

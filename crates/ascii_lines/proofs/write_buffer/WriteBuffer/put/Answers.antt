@@ -1,6 +1,7 @@
 use Rattle.std.proofs.Common.{[]}
 use Rattle.std.proofs.lemmas.Result.{on_ok_weaker, on_err_weaker}
-use Rattle.ascii_lines.proofs.WriteBufferLemmas.{Passes-prefix, Passes-trans, PassesPrefix-more, on_any_err}
+use Rattle.ascii_lines.proofs.WriteBufferLemmas.{Passes-prefix, Passes-trans, PassesPrefix-more}
+use Rattle.ascii_lines.proofs.WriteBufferLemmas.{on_any_err}
 use Rattle.ascii_lines.proofs.write_buffer.WriteBuffer.put.Goals as goal
 
 pub returns-in_err-send-clause-err : goal.returns-in_err-send-clause-err
