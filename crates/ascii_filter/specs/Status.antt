@@ -1,18 +1,31 @@
 -- The statuses of the program, and what an answer says of its input.
-use Rattle.std.specs.Prelude.{ℕ, List, ⊤, IfSome, length}
+use Rattle.std.specs.Prelude.{ℕ, ◌≡◌, List, ⊤, IfSome, length}
 use Rattle.std.specs.Str.{IsAscii}
 use Rattle.std.specs.declared.option.Option.{Option}
 use Rattle.std.specs.declared.result.Result.{Result}
 use Rattle.std.specs.declared.result.Result.TheVariants.{Ok, Err}
+use Rattle.std.specs.IoError.{error_kind}
+use Rattle.std.specs.declared.io.Error.{Error}
+use Rattle.std.specs.declared.io.ErrorKind.TheVariants.{BrokenPipe}
 use Rattle.ascii.specs.Bytes.{FirstOther}
 use Rattle.ascii_filter.specs.declared.failure.Failure.{Failure}
-use Rattle.ascii_filter.specs.declared.failure.Failure.TheVariants.{NotAscii}
+use Rattle.ascii_filter.specs.declared.failure.Failure.TheVariants.{NotAscii, Output}
 use Rattle.ascii_filter.specs.declared.remembering.Remembering.{Remembering}
 
 -- the status of a failure: 1 for input that is not ASCII, otherwise 3
 abbrev pub status_of : Failure → ℕ
 status_of (NotAscii n) = 1
 status_of other = 3
+
+-- a failure of the output
+abbrev pub IsOfOutput : Failure → Type 0
+IsOfOutput (Output error) = ⊤
+IsOfOutput other = ⊥
+
+-- a failure of an output that nobody reads any more
+abbrev pub IsClosedPipe : Failure → Type 0
+IsClosedPipe (Output error) = error_kind error ≡ BrokenPipe
+IsClosedPipe other = ⊥
 
 -- an input may be answered so, if its bytes are known. `Ok`: they are ASCII. `NotAscii`: it holds
 -- the position of the first byte over 127
@@ -24,3 +37,7 @@ MayAnswer known (Err other) = ⊤
 -- the device that a reader or a writer remembers the errors of
 abbrev pub device_of : {D : Type 0} → Remembering D → D
 device_of remembering = remembering.device
+
+-- the last error of the device, if it has failed
+abbrev pub error_of : {D : Type 0} → Remembering D → Option Error
+error_of remembering = remembering.error

@@ -1,7 +1,7 @@
 //! Why the program stops at an input.
 
-ghost use Rattle.std.specs.Prelude.{◌≡◌};
-ghost use Rattle.ascii_filter.specs.Status.{status_of};
+ghost use Rattle.std.specs.Prelude.{◌≡◌, ◌↔◌, IsTrue};
+ghost use Rattle.ascii_filter.specs.Status.{IsClosedPipe, IsOfOutput, status_of};
 
 use std::{fmt, io};
 
@@ -32,12 +32,16 @@ impl Failure {
     }
 
     /// Returns `true` if the output could not be written.
-    pub fn is_of_output(self) -> bool {
+    pub fn is_of_output(self) -> bool
+        ensures { IsTrue result ↔ IsOfOutput self }
+    {
         matches!(self, Failure::Output(_))
     }
 
     /// Returns `true` if nobody reads the output any more.
-    pub fn is_closed_pipe(self) -> bool {
+    pub fn is_closed_pipe(self) -> bool
+        ensures { IsTrue result ↔ IsClosedPipe self }
+    {
         match self {
             Failure::Output(error) => error.kind() == io::ErrorKind::BrokenPipe,
             _ => false,

@@ -1,7 +1,9 @@
 //! A reader or a writer that remembers its last error, which the devices of a run drop.
 
-ghost use Rattle.std.specs.Prelude.{◌≡◌};
-ghost use Rattle.ascii_filter.specs.Status.{device_of};
+ghost use Rattle.std.specs.Prelude.{◌≡◌, MatchOption};
+ghost use Rattle.std.specs.IoError.{error_kind};
+ghost use Rattle.std.specs.declared.io.ErrorKind.TheVariants.{WriteZero};
+ghost use Rattle.ascii_filter.specs.Status.{device_of, error_of};
 
 use std::io;
 
@@ -26,7 +28,9 @@ impl<D> Remembering<D> {
 
 impl<D: Drop> Remembering<D> {
     /// Returns the last error, or one that says that nothing was written if the device gave none.
-    pub fn last_error(self) -> io::Error {
+    pub fn last_error(self) -> io::Error
+        ensures { MatchOption (error_of self) (error_kind result ≡ WriteZero) (λ error. result ≡ error) }
+    {
         match self.error {
             Some(error) => error,
             None => io::Error::from(io::ErrorKind::WriteZero),
