@@ -18,9 +18,12 @@ pub struct ScreenText {
     pub column: usize,
 }
 
-/// A text for a screen of `width` columns, at least 2. A control other than tab and LF goes out as `^` and its
-/// letter, a tab as spaces up to the next column that 8 divides, or to the edge. What has no room on its line
-/// begins a new one. Of `a\tb\x01` on 10 columns `a       b`, and `^A` on a line of its own.
+/// Lays out a text for a screen of `width` columns, or returns an error if an allocation fails. A control
+/// other than tab and LF becomes `^` and its letter, and a tab becomes spaces up to the next column that 8
+/// divides, or to the edge. What has no room on its line begins a new one: `a\tb\x01` on 10 columns becomes
+/// `a       b`, and `^A` on a line of its own.
+///
+/// Condition: `width` is at least 2.
 pub fn wrap_for_screen(
     alloc: Global,
     view: AsciiStr<'_>,
