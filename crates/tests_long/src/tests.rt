@@ -1,6 +1,7 @@
 //! Each call that may run out of memory, with ample memory, at lengths that nobody would call short. What a call has to
 //! return is counted or written out by a plain loop.
 
+mod callers;
 mod edits;
 mod input_lines;
 mod recipes;

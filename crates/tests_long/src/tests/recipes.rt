@@ -1,11 +1,14 @@
-//! The recipes: rows of 300 columns, blocks of 2,000 headers, screens of 20,000 characters, names of 253.
+//! The recipes: rows of 300 columns, blocks of 2,000 headers, texts of 20,000 characters, host names of 253.
 
 use super::{assert_same, repeated};
-use ascii::AsciiChar;
+use ascii::{AsciiChar, AsciiString};
+use cookbook::header_map::HeaderMap;
 use cookbook::headers::read_headers;
 use cookbook::hosts::{HostName, host_order, same_host};
+use cookbook::lossy::copy_lossy;
 use cookbook::screen::wrap_for_screen;
 use cookbook::table::read_row;
+use cookbook::values::through_json;
 use std::cmp::Ordering;
 use testing::ascii;
 
@@ -27,6 +30,39 @@ fn a_block_of_2000_headers(rt: HostRuntime) {
         assert_same(&rt, header.name, ascii("X-Name"));
         assert_same(&rt, header.value, ascii("some value"));
     }
+}
+
+#[test]
+fn a_map_of_2000_headers(rt: HostRuntime) {
+    let mut block = AsciiString::new(rt.alloc());
+    for number in 0u64..2_000 {
+        block.push_str(ascii("X-")).expect(&rt, "no memory");
+        block.push_decimal(number).expect(&rt, "no memory");
+        block
+            .push_str(ascii(": some value\r\n"))
+            .expect(&rt, "no memory");
+    }
+    let headers = read_headers(rt.alloc(), block.as_ascii_str()).expect(&rt, "no memory");
+    let map = HeaderMap::from_headers(rt.alloc(), &headers).expect(&rt, "no memory");
+    for header in &headers {
+        assert_same(&rt, map.get(header.name), Some(ascii("some value")));
+    }
+    assert_same(&rt, map.get(ascii("x-1999")), Some(ascii("some value")));
+    assert_same(&rt, map.get(ascii("x-2000")), None);
+}
+
+#[test]
+fn copies_of_20000_characters(rt: HostRuntime) {
+    let mut bytes = Vec::new(rt.alloc());
+    for _ in 0..10_000 {
+        bytes
+            .extend_from_slice(b"a\xff\xfe")
+            .expect(&rt, "no memory");
+    }
+    let copy = copy_lossy(rt.alloc(), &bytes).expect(&rt, "no memory");
+    let text = repeated(&rt, "a?", 10_000);
+    assert!(rt; copy == text);
+    assert!(rt; through_json(rt.alloc(), &text).expect(&rt, "no memory") == text);
 }
 
 #[test]

@@ -108,13 +108,24 @@ fn a_failed_write_leaves_a_prefix(rt: HostRuntime) {
 #[test]
 fn lengths_about_the_chunk(rt: HostRuntime) {
     let alloc = rt.alloc();
-    for length in [0, 131_071, 131_072, 131_073, 300_000] {
+    let modes = [
+        (BoundedMode::Copy, b'a', 0),
+        (BoundedMode::Lines, b'a', 1),
+        (BoundedMode::Caret, b'a', 0),
+        (BoundedMode::Json, b'a', 2),
+        (BoundedMode::Upper, b'A', 0),
+        (BoundedMode::Lower, b'a', 0),
+    ];
+    for length in [1, 131_071, 131_072, 131_073, 1_000_000] {
         let input = vec![in alloc; b'a'; length].expect(&rt, "no memory");
-        let mut writer = Output::new(Vec::new(alloc));
-        let mode = BoundedMode::Upper;
-        let got = bounded_engine(alloc, mode, &mut Input::new(input.as_slice()), &mut writer);
-        assert_same(&rt, got, Ok(()));
-        let want = vec![in alloc; b'A'; length].expect(&rt, "no memory");
-        assert!(rt; writer.into_inner() == want, "{length}");
+        for (mode, code, more) in modes {
+            let mut writer = Output::new(Vec::new(alloc));
+            let got = bounded_engine(alloc, mode, &mut Input::new(input.as_slice()), &mut writer);
+            assert_same(&rt, got, Ok(()));
+            let written = writer.into_inner();
+            assert_same(&rt, written.len(), length + more);
+            let same = written.iter().filter(|byte| **byte == code).count();
+            assert_same(&rt, same, length);
+        }
     }
 }

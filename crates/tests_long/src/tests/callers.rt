@@ -1,0 +1,104 @@
+//! Callers that allocate: texts of 20,000 characters, and 4,000 pieces, lines and words.
+
+use super::{assert_same, repeated};
+use ascii::{AsciiChar, AsciiStr, AsciiString};
+use std::alloc::AllocError;
+use std::process::Abort;
+use testing::ascii;
+use tests_callers::both_types::{append, header_name};
+use tests_callers::cuts::all_words;
+use tests_callers::iterators::{
+    append_chars, bodies_reversed, copy_chars, in_brackets, in_quotes, line_lengths, piece_lengths,
+    pieces_reversed, without_line_endings, without_separators,
+};
+use tests_callers::prefixes::{first_bodies, first_pieces};
+use tests_callers::spans::{line_starts, piece_starts};
+
+/// The views of a list, which has to be there, are as many, and all the same.
+fn are_all<R: Abort>(
+    rt: &R,
+    views: Result<Vec<AsciiStr<'_>>, AllocError>,
+    count: usize,
+    each: AsciiStr<'_>,
+) {
+    let views = views.expect(rt, "no memory");
+    assert_same(rt, views.len(), count);
+    assert!(rt; views.iter().all(|view| *view == each));
+}
+
+/// The numbers of a list, which has to be there, go up by a step from 0.
+fn go_up<R: Abort>(rt: &R, numbers: Result<Vec<usize>, AllocError>, count: usize, step: usize) {
+    let numbers = numbers.expect(rt, "no memory");
+    assert_same(rt, numbers.len(), count);
+    for index in 0..count {
+        assert_same(rt, numbers.get(index).copied(), Some(index * step));
+    }
+}
+
+#[test]
+fn texts_are_copied(rt: HostRuntime) {
+    let alloc = rt.alloc();
+    let text = repeated(&rt, "Ab", 10_000);
+    let view = text.as_ascii_str();
+    let lower = repeated(&rt, "ab", 10_000);
+    let name = header_name(alloc, view).expect(&rt, "no memory");
+    assert!(rt; name.as_ascii_str() == lower.as_ascii_str());
+    assert!(rt; copy_chars(alloc, view).expect(&rt, "no memory") == text);
+    let twice = repeated(&rt, "Ab", 20_000);
+    let mut string = repeated(&rt, "Ab", 10_000);
+    append(&mut string, view).expect(&rt, "no memory");
+    assert!(rt; string == twice);
+    let mut string = repeated(&rt, "Ab", 10_000);
+    append_chars(&mut string, view).expect(&rt, "no memory");
+    assert!(rt; string == twice);
+    let shown = in_brackets(alloc, view).expect(&rt, "no memory");
+    assert_same(&rt, shown.len(), 20_002);
+    let shown = in_quotes(alloc, view).expect(&rt, "no memory");
+    assert_same(&rt, shown.len(), 20_002);
+}
+
+#[test]
+fn pieces_are_collected(rt: HostRuntime) {
+    let alloc = rt.alloc();
+    let text = repeated(&rt, "abcd,", 4_000);
+    let view = text.as_ascii_str();
+    let comma = AsciiChar::Comma;
+    are_all(
+        &rt,
+        first_pieces(alloc, view, comma, 4_000),
+        4_000,
+        ascii("abcd"),
+    );
+    go_up(&rt, piece_starts(alloc, view, comma), 4_001, 5);
+    let lengths = piece_lengths(alloc, view, comma).expect(&rt, "no memory");
+    assert_same(&rt, lengths.iter().sum::<usize>(), 16_000);
+    let reversed = pieces_reversed(alloc, view, comma).expect(&rt, "no memory");
+    assert_same(&rt, reversed.len(), 4_001);
+    let joined = without_separators(alloc, view, comma).expect(&rt, "no memory");
+    assert!(rt; joined == repeated(&rt, "abcd", 4_000));
+}
+
+#[test]
+fn lines_are_listed(rt: HostRuntime) {
+    let alloc = rt.alloc();
+    let text = repeated(&rt, "abc\r\n", 4_000);
+    let view = text.as_ascii_str();
+    are_all(&rt, first_bodies(alloc, view, 4_000), 4_000, ascii("abc"));
+    are_all(&rt, bodies_reversed(alloc, view), 4_000, ascii("abc"));
+    go_up(&rt, line_starts(alloc, view), 4_000, 5);
+    let lengths = line_lengths(alloc, view).expect(&rt, "no memory");
+    assert_same(&rt, lengths.iter().sum::<usize>(), 12_000);
+    let joined: AsciiString = without_line_endings(alloc, view).expect(&rt, "no memory");
+    assert!(rt; joined == repeated(&rt, "abc", 4_000));
+}
+
+#[test]
+fn words_are_listed(rt: HostRuntime) {
+    let text = repeated(&rt, "word ", 4_000);
+    are_all(
+        &rt,
+        all_words(rt.alloc(), text.as_ascii_str()),
+        4_000,
+        ascii("word"),
+    );
+}
