@@ -46,7 +46,22 @@ WORDS = [
     ("ne", "eq"), ("insert", "remove"), ("left", "right"), ("add", "sub"), ("from", "to"), ("len", "capacity"),
 ]  # fmt: skip
 SWAPS = {a: b for pair in WORDS for a, b in (pair, pair[::-1])}
-WHOLE = {"next": "next_back", "next_back": "next", "is_empty": "is_full", "pop": "clear"}
+WHOLE = {"next": "next_back", "next_back": "next", "pop": "clear"}
+# Names of std that a changed word may have, although no source of the crates has it.
+OF_STD = {
+    "min", "max", "first", "last", "any", "all", "find", "rfind", "position", "rposition", "memchr", "memrchr", "next_back",
+    "trailing_zeros", "leading_zeros", "saturating_add", "saturating_sub", "wrapping_add", "wrapping_sub", "checked_add",
+    "checked_sub", "simd_ge", "simd_gt", "simd_lt", "simd_le", "simd_eq", "simd_ne", "starts_with", "ends_with",
+}  # fmt: skip
+# Calls that change the type of what they are made on: without one, the body plainly does not type.
+RETYPES = re.compile(
+    r"((as|into|is|get|next|split|checked|strip|try|collect|take|read|write|from)_\w+|to_(?!ascii_(upper|lower)case)\w+|len|iter|clone|"
+    r"cmp|partial_cmp|split|next|get|into|remainder|chars|lines|size_hint|char_at|first|last|ok|ok_or|copied|map|map_err|str|"
+    r"find|rfind|position|rposition|contains|starts_with|ends_with|folded|unwrap_or|unwrap_or_default|collect|count|fmt|eq|"
+    r"hash|push|push_str|insert|insert_str|reserve|reserve_exact|clear|extend_from_slice|truncate|words|bytes|simd_\w+)"
+)
+# Arguments that have a type of their own.
+APART = {"f", "state", "alloc", "rt", "self", "out", "writer", "reader"}
 
 
 class Operators:
@@ -99,6 +114,12 @@ class Operators:
         """Whether the token may end a value."""
         it = self.tokens[i]
         return (it.kind in ("word", "number", "char", "text") and it.text not in KEYWORDS - {"self", "Self", "true", "false"}) or it.text in (")", "]", "?")
+
+    def bound(self, arm):
+        """The names that the pattern of an arm binds, and those that its body uses."""
+        pattern, body = (self.tokens[a:b] for a, b in arm)
+        names = {t.text for t in pattern if t.kind == "word" and t.text[0].islower() and t.text not in KEYWORDS}
+        return names, {t.text for t in body}
 
     def closes_at(self, i, ends):
         """The index of the first of these signs from `i` on that is in no bracket."""
@@ -183,6 +204,9 @@ class Operators:
                     break
                 if first.text == "let" and self.tokens[start + 1].text != "_":
                     continue
+                # Without its last expression, the body has no value.
+                if i == closing and opening == 0 and self.tokens[i - 1].text != ";" and self.function.result not in ("", "( )"):
+                    continue
                 a, b = self.span(start, i)
                 if "=>" not in {t.text for t in self.tokens[start:i]} or is_block or self.tokens[i - 1].text == ";":
                     self.add("deletion", (a, b, ""))
@@ -195,7 +219,7 @@ class Operators:
             args = parts(self.tokens[i + 1 : self.pairs[i]])
             for one, two in zip(args, args[1:]):
                 a, b, c, d = one[0].start, one[-1].end, two[0].start, two[-1].end
-                if self.text[a:b] != self.text[c:d]:
+                if self.text[a:b] != self.text[c:d] and (self.text[a:b] in APART) == (self.text[c:d] in APART):
                     self.add("arguments", (a, b, self.text[c:d]), (c, d, self.text[a:b]))
 
     def arms(self):
@@ -203,9 +227,9 @@ class Operators:
             if it.text != "match" or it.kind != "word":
                 continue
             opening = self.closes_at(i + 1, {"{"})
-            bodies, at = [], opening + 1
+            bodies, parted, at = [], [], opening + 1
             while at < self.pairs[opening]:
-                arrow = self.closes_at(at, {"=>"})
+                pattern, arrow = at, self.closes_at(at, {"=>"})
                 start = arrow + 1
                 if self.tokens[start].text == "{":
                     end = self.pairs[start] + 1
@@ -214,7 +238,10 @@ class Operators:
                     end = min(self.closes_at(start, {","}), self.pairs[opening])
                     at = end + 1
                 bodies.append(self.span(start, end))
-            for (a, b), (c, d) in zip(bodies, bodies[1:]):
+                parted.append(self.bound(((pattern, arrow), (start, end))))
+            for (a, b), (c, d), (mine, used), (theirs, also) in zip(bodies, bodies[1:], parted, parted[1:]):
+                if used & (mine - theirs) or also & (theirs - mine):
+                    continue
                 self.add("arms", (a, b, self.text[c:d]), (c, d, self.text[a:b]))
 
     def defaults(self):
@@ -243,7 +270,8 @@ class Operators:
             for at, piece in enumerate(pieces):
                 if piece in SWAPS:
                     new = "_".join([*pieces[:at], SWAPS[piece], *pieces[at + 1 :]])
-                    self.add("word", (it.start, it.end, new))
+                    if new in self.names.words | OF_STD:
+                        self.add("word", (it.start, it.end, new))
             camel = re.sub(r"(Front|Back|Upper|Lower|First|Last)", lambda m: SWAPS[m[0]], it.text)
             if camel != it.text:
                 self.add("word", (it.start, it.end, camel))
@@ -308,7 +336,7 @@ class Operators:
 
     def ranges(self):
         for i, it in enumerate(self.tokens):
-            if it.kind != "sign" or it.text not in ("..", "..="):
+            if it.kind != "sign" or it.text not in ("..", "..=") or self.tokens[i + 1].text in ("]", ")", "}"):
                 continue
             self.add("range", (it.start, it.end, "..=" if it.text == ".." else ".."))
         for i, it in enumerate(self.tokens):
@@ -336,7 +364,8 @@ class Operators:
         for i, it in enumerate(self.tokens[:-2]):
             if it.text == "." and self.tokens[i + 1].kind == "word" and self.tokens[i + 2].text == "(":
                 end = self.pairs[i + 2] + 1
-                self.add("call", (it.start, self.tokens[end - 1].end, ""))
+                if not RETYPES.fullmatch(self.tokens[i + 1].text) and self.tokens[end].text != "?":
+                    self.add("call", (it.start, self.tokens[end - 1].end, ""))
 
     def alternatives(self):
         for i, it in enumerate(self.tokens):

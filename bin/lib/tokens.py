@@ -168,9 +168,11 @@ class Names:
     variants: dict = field(default_factory=dict)  # of an enum: name to the text of what it holds
     constants: dict = field(default_factory=dict)  # name to type
     fields: dict = field(default_factory=dict)  # of a struct: name to type
+    words: set = field(default_factory=set)  # every word
 
     def read(self, text):
         tokens = lex(text)
+        self.words |= {it.text for it in tokens if it.kind == "word"}
         pairs = partners(tokens)
         for i, it in enumerate(tokens):
             if it.kind != "word":
