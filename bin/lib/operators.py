@@ -79,7 +79,7 @@ class Operators:
     def all(self):
         for make in (
             self.signs, self.literals, self.conditions, self.truths, self.deletions, self.arguments, self.arms,
-            self.defaults, self.words, self.options, self.variants, self.constants, self.variables, self.ranges, self.calls,
+            self.defaults, self.results, self.words, self.options, self.variants, self.constants, self.variables, self.ranges, self.calls,
             self.alternatives,
         ):  # fmt: skip
             make()
@@ -259,6 +259,29 @@ class Operators:
             news = ["Ok(())"]
         for new in news or []:
             self.add("default", (self.function.opens, self.function.end, f"{{ {new} }}" if new else "{}"))
+
+    def results(self):
+        """Another value in place of the body's, or in place of the body."""
+        body = self.text[self.function.opens : self.function.end]
+        result = re.sub(r"'\w+ ?", "", self.function.result).replace(" ", "")
+        news = {
+            "bool": [f"!({body})"], "char": [f"((({body}) as u8) ^ 1) as char"], "&str": ['"x"', '""'],
+            "Ordering": [f"({body}).reverse()", "std::cmp::Ordering::Equal", "std::cmp::Ordering::Less"],
+            "Option<Ordering>": ["Some(std::cmp::Ordering::Equal)", "Some(std::cmp::Ordering::Greater)"],
+            "AsciiChar": ["AsciiChar::a", "AsciiChar::DEL", f"AsciiChar::from_ascii_unchecked(({body}).as_byte() ^ 1)"],
+            "Option<AsciiChar>": ["Some(AsciiChar::a)", "Some(AsciiChar::Null)"],
+            "Result<AsciiChar,ToAsciiCharError>": ["Ok(AsciiChar::a)", "Err(ToAsciiCharError(()))", "Ok(AsciiChar::DEL)"],
+            "AsciiStr<>": ['AsciiStr::literal("x")', 'AsciiStr::literal("")', f"({body}).trim_end()"],
+            "Option<AsciiStr<>>": ['Some(AsciiStr::literal("x"))', 'Some(AsciiStr::literal(""))'],
+            "fmt::Result": ["Ok(())", "Err(fmt::Error)"], "&[u8]": ['b"x"', 'b""'],
+        }  # fmt: skip
+        changed = news.get(result, [])
+        if re.fullmatch(r"[ui](8|16|32|64|128|size)", result):
+            changed = [f"({body}) ^ 1"]
+        elif re.fullmatch(r"Option<[ui](8|16|32|64|size)>", result):
+            changed = ["Some(0)", "Some(1)"]
+        for new in changed:
+            self.add("result", (self.function.opens, self.function.end, f"{{ {new} }}"))
 
     def words(self):
         for i, it in enumerate(self.tokens):

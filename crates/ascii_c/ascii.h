@@ -17,12 +17,12 @@
 extern "C" {
 #endif
 
-/* Returns the position of the first byte over 127, or the length if every byte is less than 128. For ab\xc4 it
+/* Returns the position of the first byte above 127, or the length if every byte is less than 128. For ab\xc4 it
  * is 2. */
 size_t ascii_first_other(const uint8_t *bytes, size_t length);
 
 /* Returns true if the bytes from start up to end are within the source and all less than 128; *place is then
- * unchanged. Otherwise *place becomes the position of the first of them over 127, or the length if they are not
+ * unchanged. Otherwise *place becomes the position of the first of them above 127, or the length if they are not
  * within the source. For ab\xc4 the part from 0 to 2 is accepted, the part from 1 to 3 is rejected at 2, and the
  * part from 2 to 4 at 3. */
 bool ascii_accepts_part(const uint8_t *source, size_t length, size_t start, size_t end, size_t *place);

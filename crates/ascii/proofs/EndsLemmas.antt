@@ -37,7 +37,7 @@ module _ {S A : Type 0} (takes : End → S → Option A → S → Type 0) where
       (so_far.0, so_far.1, AnswersTo-more so_far.0 script answers mid left end answer so_far.2 more)
   AnswersTo-more items script answers mid left end answer so_far more = absurd so_far
 
-  -- the answers of a script up to the next place
+  -- the answers of a script up to the next index
   pub AnswersTo-step : (items mid left : S) (script : List End) (k : ℕ) (end : End)
       (answers : List (Option A)) (answer : Option A)
       → k < length script → get_or script k end ≡ end

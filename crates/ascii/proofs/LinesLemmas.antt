@@ -41,7 +41,7 @@ lines_of-joint : (a b : List ℕ)
 lines_of-joint a b = ap lines_of_pieces (slice_split-joint _ a 10 b refl)
     ∙ lines_of_pieces-append (pieces_of 10 a) (pieces_of 10 b) (slice_split-some _ b)
 
--- the first line stands before the first LF
+-- the first line is before the first LF
 pub lines_of-split_at_first : (t a b : List ℕ) → t ≡ a ++ 10 ∷ b → HasNo 10 a
     → lines_of t ≡ terminated_line a ∷ lines_of b
 lines_of-split_at_first t a b is free =
@@ -83,7 +83,7 @@ MayEnd-ended p = ended_cases p MayEnd (λ is. tt)
 terminated_line-has : (p : List ℕ) → (terminated_line p).ending ≢ Absent
 terminated_line-has p = ended_cases p (λ line. line.ending ≢ Absent) (λ is none. cc) (λ is none. cc)
 
--- its body has no LF where the text has none
+-- its body has no LF if the text has none
 body-free : (p : List ℕ) → HasNo 10 p → HasNo 10 ((terminated_line p).body)
 body-free p free = ended_cases p (λ line. HasNo 10 line.body)
     (λ is. All-take (λ code. eqb code 10 ≡ false) (length p - 1) p free) (λ is. free)

@@ -4,7 +4,7 @@ use Rattle.std.proofs.Common.{take, arith}
 use Rattle.std.proofs.lemmas.Grind.{common_steps}
 use Rattle.std.specs.List.{AllZip, slice_range}
 
--- a byte of `&bytes[s..e]` is the byte of the source s places later
+-- a byte of `&bytes[s..e]` is the byte of the source s positions later
 pub slice_range-at : (bytes : List ℕ) (s e k : ℕ) → k < e - s
     → get_or (slice_range bytes s e) k 0 ≡ get_or bytes (s + k) 0
 slice_range-at bytes s e k h = grind (arith, common_steps)

@@ -47,7 +47,7 @@ slice_split-joint p (x ∷ xs) c b cuts =
 pub is_on : (on : ℕ) → eqb on on ≡ true
 is_on on = grind (arith, nat_tests)
 
--- the first piece stands before the first separator
+-- the first piece is before the first separator
 pub pieces_of-split_at_first : (on : ℕ) (t a b : List ℕ) → t ≡ a ++ on ∷ b → HasNo on a
     → pieces_of on t ≡ a ∷ pieces_of on b
 pieces_of-split_at_first on t a b is free =

@@ -26,7 +26,7 @@ module _ (on : ℕ) (codes : List ℕ) where
         (h.0.after (place + 1 + k) (omega arith) (omega (arith, length-drop (place + 1) codes))))),
   )
 
--- what stands up to a LF has whole lines
+-- the text up to an LF has whole lines
 pub whole_at : (codes : List ℕ) (place : ℕ) → place < length codes
     → Passes (is_byte 10) codes place → HasWholeLines (take (place + 1) codes)
 whole_at codes place inside here =

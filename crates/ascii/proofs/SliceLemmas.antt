@@ -5,7 +5,7 @@ use Rattle.std.specs.List.{slice_range}
 use Rattle.ascii_base.specs.Bytes.{FirstOther}
 use Rattle.ascii.proofs.ListLemmas.{slice_range-at}
 
--- the first byte over 127 of a part is that of the source between the ends of the part
+-- the first non-ASCII byte of a part is that of the source between the ends of the part
 pub FirstOther-shift : (bytes : List ℕ) (s e i : ℕ) → e ≤ length bytes
     → FirstOther (slice_range bytes s e) 0 (length (slice_range bytes s e)) i
     → FirstOther bytes s e (s + i)

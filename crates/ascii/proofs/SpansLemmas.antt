@@ -78,7 +78,7 @@ free_piece on byte part piece byte_is free is =
     rw is (absent-from_Free on part.item (rw byte_is at free))
 
 module _ (on : ℕ) (part : WithStart (List ℕ)) where
-  -- the first piece stands before the first separator
+  -- the first piece is before the first separator
   pub piece_spans_first : (byte : ℕ) (cut : Cursor × Cursor) (first : WithStart (List ℕ))
       → byte ≡ on → IsSplitAtFirst byte part cut → first ≡ part_in cut.0
       → piece_spans on part ≡ first ∷ piece_spans on (part_in cut.1)
@@ -142,7 +142,7 @@ room-lines_of : (t : List ℕ) → room line_size (lines_of t) ≡ length t
 room-lines_of t = room-lines (lines_of t) ∙ ap length ((LinesOf-lines_of t).joined)
 
 module _ (part : WithStart (List ℕ)) where
-  -- the first line stands before the first LF
+  -- the first line is before the first LF
   pub line_spans_first : (cut : Cursor × Cursor) (first : WithStart Line)
       → IsSplitAtFirst 10 part cut
       → first ≡ record { start = cut.0.start; item = terminated_line (text_of cut.0.view) }
@@ -158,7 +158,7 @@ module _ (part : WithStart (List ℕ)) where
       ) (ap (with_starts line_size part.start)
       (lines_of-split_at_first part.item front (text_of cut.1.view) is.0.text is.1))
 
-  -- a text without LF is one line, and none where it is empty
+  -- a text without LF is one line, or none if it is empty
   pub line_spans_open : (cursor : Cursor) (only : WithStart Line) → HasNo 10 part.item
       → part.item ≢ [] → text_of cursor.view ≡ []
       → only ≡ record { start = part.start; item = record { body = part.item; ending = Absent } }

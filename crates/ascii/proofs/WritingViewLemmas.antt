@@ -10,7 +10,7 @@ use Rattle.std.proofs.lemmas.Grind.{common_steps}
 use borrow.Rule.Slice.PartMut.{put_mid}
 use Rattle.ascii.proofs.TextLemmas.{lower_image-below, upper_image-below}
 
--- a part that holds only bytes under 128 holds them between its ends
+-- a part that holds only bytes below 128 holds them between its ends
 pub AsciiBetween-part : (bytes : List ℕ) (s e : ℕ) → IsAscii (slice_range bytes s e)
     → AsciiBetween bytes s e
 AsciiBetween-part bytes s e ascii k from to = grind (arith, common_steps, ascii (k - s))
@@ -28,7 +28,7 @@ bounds_hold bytes r s e bounds =
     AsciiBetween-part bytes (start_of r) (end_of r n) bounds.ascii in
     (omega arith, omega arith, λ k from to. part k (omega arith) (omega arith))
 
--- a part that is mapped to bytes under 128 keeps to them
+-- a part that is mapped to bytes below 128 keeps to them
 pub AsciiBetween-mapped : (f : ℕ → ℕ) (xs ys : List ℕ) (s e : ℕ)
     → ys ≡ map f (slice_range xs s e) → ((b : ℕ) → b < 128 → f b < 128)
     → s ≤ e → e ≤ length xs → AsciiBetween xs s e → AsciiBetween (put_mid s (e - s) xs ys) s e

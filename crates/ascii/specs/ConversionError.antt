@@ -16,7 +16,7 @@ ascii_error_of e = e.error
 abbrev pub source_of : {O : Type 0} → FromAsciiError O → O
 source_of e = e.source
 
--- the error holds `source` itself, and the position of the first byte over 127
+-- the error holds `source` itself, and the position of the first non-ASCII byte
 abbrev pub ReturnsSource : {O : Type 0} → O → List ℕ → FromAsciiError O → Type 0
 ReturnsSource source bytes e = (source_of e ≡ source)
     × FirstOther bytes 0 (length bytes) (position_of (ascii_error_of e))

@@ -21,7 +21,7 @@ RejectsChar value NotText = as_str value ≡ None
 RejectsChar value NotOneByte = (text : List ℕ) × (as_str value ≡ Some text) × (length text ≢ 1)
 RejectsChar value other = ⊥
 
--- `NotText`: not a JSON string. `NotAscii`: a JSON string with a byte over 127, the first of which
+-- `NotText`: not a JSON string. `NotAscii`: a JSON string with a non-ASCII byte, the first of which
 -- is at the position that `e` holds
 abbrev pub RejectsText : Data → JsonError → Type 0
 RejectsText value NotText = as_str value ≡ None

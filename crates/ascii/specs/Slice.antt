@@ -13,7 +13,7 @@ use Rattle.ascii.specs.declared.ascii_str.AsAsciiStrError.{AsAsciiStrError}
 use Rattle.ascii.specs.View.{text_of, position_of}
 
 -- why the range is rejected: either it does not fit, and `e` holds the length of the source; or it
--- fits, and `e` holds the position of its first byte over 127
+-- fits, and `e` holds the position of its first non-ASCII byte
 abbrev pub IsRejected : List ℕ → AsciiRange → AsAsciiStrError → Type 0
 IsRejected bytes r e = let n = length bytes in (¬ Fits r n × (position_of e ≡ n))
     ⊎ (Fits r n × FirstOther bytes (start_of r) (end_of r n) (position_of e))

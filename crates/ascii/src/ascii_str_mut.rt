@@ -1,5 +1,5 @@
-//! Views that write: the part of a lent source that holds only bytes under 128 can be changed, and
-//! goes on holding only such bytes.
+//! Mutable views: a part of a borrowed source that holds only ASCII bytes can be changed, and
+//! keeps holding only ASCII bytes.
 
 ghost use Rattle.std.specs.Prelude.{◌≡◌, ◌<◌, ◌≤◌, ◌++◌, length, slice_set, map};
 ghost use Rattle.std.proofs.Props.{props};

@@ -7,7 +7,7 @@ use crate::ascii_str::AsAsciiStrError;
 use ascii_base::kernels;
 use ascii_base::range::AsciiRange;
 
-/// The start and the end of a range of a source that fits and holds only bytes under 128.
+/// The start and the end of a range of a source that fits and holds only bytes below 128.
 /// The fit is tested before any byte is read, and the range is scanned once.
 pub(crate) fn checked_bounds(
     source: &[u8],

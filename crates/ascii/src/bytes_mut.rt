@@ -1,4 +1,4 @@
-//! Writing views of borrowed bytes.
+//! Mutable views of borrowed bytes.
 
 ghost use Rattle.std.specs.Prelude.{true, false, ◌≡◌, IfOk, length};
 ghost use Rattle.ascii_base.specs.Range.{start_of, end_of, Fits};
@@ -53,7 +53,7 @@ pub fn as_mut_ascii_str_unchecked(source: &mut [u8]) -> AsciiStrMut<'_>
 
 /// Returns a mutable view of the part of the source in `range`, or an error: with the length of the
 /// source if the range does not fit, and otherwise with the position in the source of the first
-/// byte over 127 in the range. Bytes outside the range do not matter.
+/// non-ASCII byte in the range. Bytes outside the range do not matter.
 ///
 /// On error, the source is unchanged. On success, once the view is dropped, the source is the bytes
 /// before the range, the last text of the view, and the bytes after the range.

@@ -1,5 +1,5 @@
 //! Characters and texts as JSON values: a character is a JSON string of one byte, a text a JSON
-//! string with all bytes under 128.
+//! string with all bytes below 128.
 
 ghost use Rattle.std.specs.Prelude.{◌≡◌, [], ◌∷◌, IfOk, MatchResult, Some};
 ghost use Rattle.serde_json.specs.Data.{string};

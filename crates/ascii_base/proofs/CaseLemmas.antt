@@ -93,7 +93,7 @@ mapped_whole f xs ys last n at ends past inside e =
 abbrev pub counted : ℕ → ℕ
 counted a = cond (top 7 (cond (ltb ((bit_or a 32 + (256 - 97)) % 256) 26) 255 0)) 223 255
 
--- two bytes differ in no bit that counts just where their lower case is one: computed over all
+-- two bytes differ in no bit that counts exactly if their lower case is one: computed over all
 -- pairs
 apart_tells : agree_below
     (λ a. agree_below (λ b. eqb (bit_and (bit_xor a b) (counted a)) 0)
@@ -139,7 +139,7 @@ apart_of xs ys cs e = ap (zip2 bit_and (zip2 bit_xor xs ys)) e ∙ go xs ys
     go (u ∷ us) [] = refl
     go (u ∷ us) (v ∷ vs) = ap (λ r. bit_and (bit_xor u v) (counted u) ∷ r) (go us vs)
 
--- no bit that counts differs just where the images are one
+-- no bit that counts differs exactly if the images are one
 pub none_apart : (xs ys : List ℕ) → length xs ≡ length ys → Each1 (Fits w8) xs → Each1 (Fits w8) ys
     → (mask_l (map (λ z. not (eqb z 0)) (zip2 (λ a b. bit_and (bit_xor a b) (counted a)) xs ys))
     ≡ 0) ↔ (map lower_image xs ≡ map lower_image ys)
@@ -239,7 +239,7 @@ same_whole xs ys i in_xs in_ys same =
     ap (map lower_image) (sym (take_all i xs in_xs)) ∙ same
     ∙ ap (map lower_image) (take_all i ys in_ys)
 
--- fronts with equal images go on over a chunk just where the images of the chunks are one
+-- fronts with equal images go on over a chunk exactly if the images of the chunks are one
 pub same_more : (xs ys : List ℕ) (at n : ℕ) → SameBefore xs ys at
     → (map lower_image (chunk at n xs) ≡ map lower_image (chunk at n ys)) ↔ SameBefore xs ys
     (at + n)

@@ -15,7 +15,7 @@ pub record IsLastNot (Is : ℕ → Type 0) (bytes : List ℕ) (i : ℕ) : Type 0
   pub other : ¬ (Is (slice_index bytes i))
   pub greatest : (k : ℕ) → i < k → k < length bytes → Is (slice_index bytes k)
 
--- `FirstOther bytes s e i`: `i` is the position of the first byte over 127 from `s` up to, but not
+-- `FirstOther bytes s e i`: `i` is the position of the first non-ASCII byte from `s` up to, but not
 -- including, `e`
 abbrev pub FirstOther : List ℕ → ℕ → ℕ → ℕ → Type 0
 FirstOther = IsFirstNot (λ byte. byte < 128)

@@ -7,7 +7,7 @@ abbrev pub IsWithin : List ℕ → ℕ → ℕ → Type 0
 IsWithin source start end = (start ≤ end) × (end ≤ length source)
 
 -- why the part is rejected: it is within the source, and `place` is the position of its first byte
--- over 127; or it is not within the source, and `place` is the length of the source
+-- above 127; or it is not within the source, and `place` is the length of the source
 abbrev pub IsRejectedAt : List ℕ → ℕ → ℕ → ℕ → Type 0
 IsRejectedAt source start end place =
     (IsWithin source start end × FirstOther source start end place)

@@ -15,7 +15,7 @@ ghost use Rattle.ascii_c.specs.Places.{IsFirstNotOrEnd, IsLastNotOrEnd};
 
 use ascii::{AsciiRange, bytes, kernels};
 
-/// Returns the position of the first byte over 127, or `length` if every byte is less than 128. For
+/// Returns the position of the first non-ASCII byte, or `length` if every byte is less than 128. For
 /// `ab\xc4` it is 2.
 #[unsafe(no_mangle)]
 pub extern "C" fn ascii_first_other(bytes: &[u8]) -> usize

@@ -40,7 +40,7 @@ cut_held items s e at inside =
     ∙ append_assoc (take at h) (get_or h at 0 ∷ [])
     (take (e - (s + (at + 1))) (drop (s + (at + 1)) items)))
 
--- those before the first over 127 are ASCII
+-- those before the first above 127 are ASCII
 pub ascii_before : (bytes : List ℕ) (at : ℕ) → FirstOther bytes 0 (length bytes) at
     → IsAscii (take at bytes)
 ascii_before bytes at first = IsAscii-from_all (take at bytes)

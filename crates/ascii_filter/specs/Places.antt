@@ -30,14 +30,14 @@ pub record ScanState : Type 0 where
   pub held : List ℕ
   pub room : ℕ
 
--- from the scanner `old` to `new` the bytes `passed` were passed, where the reader has yet to give
+-- from the scanner `old` to `new` the bytes `passed` were passed, if the reader has yet to give
 -- `rest` and then `left`
 pub record Passes (old new : ScanState) (rest left : Option (List ℕ)) (passed : List ℕ) :
     Type 0 where
   pub gave : Consumes (prepend_known old.held rest) (prepend_known new.held left) passed
   pub place : new.place ≡ place_after old.place passed
 
--- the next byte over 127 was found: those before it are ASCII, it is at its place, and all of them
+-- the next non-ASCII byte was found: those before it are ASCII, it is at its place, and all of them
 -- were passed
 pub record FindsNext (old new : ScanState) (rest left : Option (List ℕ)) (found : OtherByte) :
     Type 0 where
@@ -47,7 +47,7 @@ pub record FindsNext (old new : ScanState) (rest left : Option (List ℕ)) (foun
   pub place : found.place ≡ place_after old.place before
   pub passed : Passes old new rest left (before ++ found.byte ∷ [])
 
--- the outcome of a search for the next byte over 127. `None`: all bytes that were left are ASCII.
+-- the outcome of a search for the next non-ASCII byte. `None`: all bytes that were left are ASCII.
 -- `Read`: those before the reader failed are. `TooLong`: the reader gave more bytes than the
 -- scanner may read.
 abbrev pub ScanOutcome : Result (Option OtherByte) ScanFault → ScanState → ScanState
@@ -74,7 +74,7 @@ abbrev pub feeds : List ℕ → ℕ
 feeds [] = 0
 feeds (byte ∷ bytes) = if byte == 10 then suc (feeds bytes) else feeds bytes
 
--- of the bytes that are held, the next over 127 was found, or all are ASCII and were passed
+-- of the bytes that are held, the next above 127 was found, or all are ASCII and were passed
 abbrev pub HeldNext : ScanState → ScanState → Option OtherByte → Type 0
 HeldNext old new None =
     IsAscii old.held × (new.held ≡ []) × (new.place ≡ place_after old.place old.held)

@@ -28,7 +28,7 @@ IsClosedPipe (Output error) = error_kind error ≡ BrokenPipe
 IsClosedPipe other = ⊥
 
 -- an input may be answered so, if its bytes are known. `Ok`: they are ASCII. `NotAscii`: it holds
--- the position of the first byte over 127
+-- the position of the first non-ASCII byte
 abbrev pub MayAnswer : Option (List ℕ) → Result (Unit {0}) Failure → Type 0
 MayAnswer known (Ok _) = IfSome known IsAscii
 MayAnswer known (Err (NotAscii n)) = IfSome known (λ bytes. FirstOther bytes 0 (length bytes) n)

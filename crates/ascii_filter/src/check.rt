@@ -1,4 +1,4 @@
-//! The mode `check`: a line for each byte over 127, or their number.
+//! The mode `check`: a line for each non-ASCII byte, or their number.
 
 ghost use Rattle.std.specs.Prelude.{◌≤◌, IfOk};
 
@@ -10,7 +10,7 @@ use ascii_run::Input;
 use std::alloc::Global;
 use std::io::{self, BufWriter, Write};
 
-/// Writes a line for each byte over 127 of an input, or one with their number, and returns how many
+/// Writes a line for each non-ASCII byte of an input, or one with their number, and returns how many
 /// were found, at most `check.most`.
 pub fn name_others<I: io::Read + Drop, O: io::Write + Drop>(
     alloc: Global,

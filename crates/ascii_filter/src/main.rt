@@ -47,7 +47,7 @@ fn shown_name(name: &str) -> &str {
 }
 
 /// Opens a file, or standard input for `-`, and carries out the task on it. Returns `true` if it has
-/// a byte over 127 that `check` has named.
+/// a non-ASCII byte that `check` has named.
 fn run_file(rt: &HostRuntime, task: Task, name: &str) -> Result<bool, Failure> {
     if name == "-" {
         return run_input(rt, task, name, rt.reader());
@@ -90,7 +90,7 @@ fn report(rt: &HostRuntime, name: &str, failure: Failure) -> Result<(), AllocErr
 }
 
 /// Carries out the task on each file in order, and returns the highest status. Stops if the output is
-/// closed, with status 0, or fails, and at the first byte over 127 if nothing is to be written.
+/// closed, with status 0, or fails, and at the first non-ASCII byte if nothing is to be written.
 fn run_files(rt: &HostRuntime, task: Task, files: &[&str]) -> Result<u8, AllocError> {
     let mut status = 0;
     for &name in files {

@@ -14,7 +14,7 @@ static MODES: [&str; 7] = ["copy", "lines", "caret", "json", "upper", "lower", "
 /// What `check` writes of each input.
 #[derive(Clone, Copy)]
 pub struct Check {
-    /// How many bytes over 127 are looked for at most.
+    /// How many non-ASCII bytes are looked for at most.
     pub most: u64,
     /// Whether their number is written, and not each of them.
     pub is_count: bool,
@@ -27,7 +27,7 @@ pub struct Check {
 pub enum Task {
     /// The output of a mode is written.
     Filter(BoundedMode),
-    /// Each byte over 127 is named.
+    /// Each non-ASCII byte is named.
     Check(Check),
 }
 

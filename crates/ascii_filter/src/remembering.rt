@@ -29,7 +29,8 @@ impl<D> Remembering<D> {
 impl<D: Drop> Remembering<D> {
     /// Returns the last error, or one that says that nothing was written if the device gave none.
     pub fn last_error(self) -> io::Error
-        ensures { MatchOption (error_of self) (error_kind result ≡ WriteZero) (λ error. result ≡ error) }
+        ensures { MatchOption (error_of self) (error_kind result ≡ WriteZero)
+            (λ error. result ≡ error) }
     {
         match self.error {
             Some(error) => error,

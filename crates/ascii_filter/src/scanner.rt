@@ -1,4 +1,4 @@
-//! The bytes over 127 of an input of any length, with their lines and columns.
+//! The non-ASCII bytes of an input of any length, with their lines and columns.
 
 ghost use Rattle.std.specs.Prelude.{◌≡◌, ℕ, List, ◌+◌, ◌<◌, ◌≤◌, ◌^◌, ◌-◌, ◌++◌, ◌∷◌, [], IfOk};
 ghost use Rattle.std.specs.Prelude.{length, MatchOption, MatchResult, OnOk};
@@ -90,7 +90,7 @@ fn count_few(bytes: &[u8]) -> u8
     count
 }
 
-/// A byte over 127 and its place.
+/// A non-ASCII byte and its place.
 #[derive(Clone, Copy, PartialEq, Eq, Debug)]
 pub struct OtherByte {
     pub place: Place,
@@ -109,7 +109,7 @@ pub enum ScanFault {
 /// How many bytes one read asks for.
 const CHUNK: usize = 131_072;
 
-/// A search for the bytes over 127 of an input.
+/// A search for the non-ASCII bytes of an input.
 #[derive(Drop)]
 pub struct Scanner<A: Allocator> {
     /// The bytes that were read last, of which those from `start` to `end` were not passed.
@@ -156,7 +156,7 @@ impl<A: Allocator> Scanner<A> {
         })
     }
 
-    /// Returns the next byte over 127 with its place, or `None` if there are none left, or an error.
+    /// Returns the next non-ASCII byte with its place, or `None` if there are none left, or an error.
     ///
     /// Condition: fewer than `u64::MAX` reads have failed.
     pub fn next<S: Source>(&mut self, reader: &mut S) -> Result<Option<OtherByte>, ScanFault>
@@ -177,7 +177,7 @@ impl<A: Allocator> Scanner<A> {
         }
     }
 
-    /// Returns the next byte over 127 of those that are held, or passes all of them.
+    /// Returns the next non-ASCII byte of those that are held, or passes all of them.
     fn next_held(&mut self) -> Option<OtherByte>
         ensures { HeldNext self.old self.new result }
     {

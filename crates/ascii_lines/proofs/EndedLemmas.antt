@@ -456,7 +456,7 @@ strict_line start line span held one =
       starts = held.starts;
     }
 
--- where it stops at its last byte, that is the end of CR LF
+-- if it stops at its last byte, that is the end of CR LF
 pub strict_stop : (line : List ℕ) → IsOneLine CrLfStrict line
     → IsFirstStop CrLfStrict line (length line) → IsFirstStop CrLf line (length line)
 strict_stop line one stop = record {

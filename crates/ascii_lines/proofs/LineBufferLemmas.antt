@@ -15,7 +15,7 @@ use Rattle.ascii_lines.specs.declared.endings.Endings.{Endings}
 use Rattle.ascii_lines.specs.Endings.{IsFirstStop, FreeUpTo}
 use Rattle.ascii_lines.proofs.EndingsLemmas.{AgreeUpTo, IsFirstStop-same, FreeUpTo-same}
 
--- a byte of a part, by its place in the whole
+-- a byte of a part, by its position in the whole
 at_place : (bytes : List ℕ) (s e k : ℕ) → s ≤ k → k < e
     → get_or (slice_range bytes s e) (k - s) 0 ≡ get_or bytes k 0
 at_place bytes s e k low high =
@@ -29,7 +29,7 @@ agree_part bytes from checked filled low k inside =
     slice_range-at bytes from checked k inside
     ∙ sym (slice_range-at bytes from filled k (omega (arith, inside, low)))
 
--- no line ends up to a place in the part up to an earlier end
+-- no line ends up to a position in the part up to an earlier end
 pub free_part : (kind : Endings) (bytes : List ℕ) (from checked filled n : ℕ) → checked ≤ filled
     → n ≤ checked - from → FreeUpTo kind (slice_range bytes from filled) n
     → FreeUpTo kind (slice_range bytes from checked) n
@@ -85,7 +85,7 @@ module _ (old new : List ℕ) (filled : ℕ) (front : take filled new ≡ take f
       ∙ (ap (λ xs. xs ++ take n (drop (filled - from) (drop from new))) kept
       ∙ ap (λ xs. slice_range old from filled ++ xs) rest))
 
-  -- how far the bytes that were read are under 128
+  -- how far the bytes that were read are below 128
   under_first : (n under : ℕ) (r : Option ℕ) → filled + n ≤ length new → under ≡ unwrap_or r n
       → MatchOption r (IsAscii (slice_range new filled (filled + n)))
       (FirstOther (slice_range new filled (filled + n)) 0

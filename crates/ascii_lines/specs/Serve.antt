@@ -118,7 +118,7 @@ module _ {H : Type 0} (answers : H → List ℕ → List (List ℕ) → Next →
     pub starts : inputs ≡ with_starts line_size old.start (items_of inputs)
     pub going : IsGoing new
 
-  -- why there was no answer in a state where the handler asks for `asked`. `Closed`: it asks for
+  -- why there was no answer in a state in which the handler asks for `asked`. `Closed`: it asks for
   -- nothing. `EndOfInput`: it asks for a line, and there is none. `Reader`: the error of the
   -- reader. `Memory`: the handler failed at an input. Except at `Memory` the handler is unchanged
   abbrev pub StopsTurn : Stop → Next → H → ReaderState → H → ReaderState → Type 0

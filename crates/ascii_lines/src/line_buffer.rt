@@ -112,7 +112,7 @@ impl<A: Allocator> LineBuffer<A> {
         &self.bytes[self.given..self.from]
     }
 
-    /// The number of bytes up to the end of the first line among those before the first byte over 127.
+    /// The number of bytes up to the end of the first line among those before the first non-ASCII byte.
     /// None ends in the first `searched` bytes.
     #[inline]
     pub(crate) fn find_line(&self, endings: Endings, searched: usize) -> Option<usize>

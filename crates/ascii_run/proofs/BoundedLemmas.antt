@@ -214,7 +214,7 @@ closes mode state last r s t a b c f g done buf n result none is at first second
     by_result (Err Memory) passes = absurd passes
     by_result (Err Read) passes = absurd passes
 
--- ---- the first byte over 127
+-- ---- the first non-ASCII byte
 
 -- after a text
 pub first_after : (done part : List ℕ) (place : ℕ) → IsAscii done

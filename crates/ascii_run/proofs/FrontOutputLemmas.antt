@@ -46,7 +46,7 @@ front_start Lower = refl
 
 -- ---- lines
 
--- the last byte, where there is one
+-- the last byte, if there is one
 pub last_of_some : (before c : ℕ) (cs : List ℕ)
     → last_after before (c ∷ cs) ≡ get_or (c ∷ cs) (length (c ∷ cs) - 1) 0
 last_of_some before c cs =

@@ -9,7 +9,7 @@ use Rattle.std.specs.Str.{IsAscii}
 use Rattle.ascii.proofs.TextLemmas.{IsAscii-insert}
 use Rattle.ascii_run.specs.Inline.{IsSmallText}
 
--- with a code inside, where there is room for one more
+-- with a code inside, if there is room for one more
 pub IsSmallText-insert : (t : List ℕ) (i n capacity new : ℕ) → IsSmallText t capacity → n < 128
     → i ≤ length t → capacity ≤ new → length t + 1 ≤ new
     → IsSmallText (insert t i n) new

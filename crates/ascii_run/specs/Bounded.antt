@@ -85,7 +85,7 @@ pub record GivesFront (mode : BoundedMode) (old new : Option (List ℕ)) (others
 
 -- what the reader gave and the writer took between the old state and the new one. `Ok`: the reader
 -- is at its end, and the writer took the output of all that it gave. `NotAscii`: the error holds
--- the position of the first byte over 127 of what was read, and the writer took the front output
+-- the position of the first non-ASCII byte of what was read, and the writer took the front output
 -- of the bytes before it. `TooLong`: the first `2^64` bytes or more are ASCII, and the writer took
 -- their front output. `Memory`: nothing was read or written. `Read`: the writer took the front
 -- output of the bytes given before the reader failed. `Write`: the writer took a prefix of the

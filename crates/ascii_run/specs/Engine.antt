@@ -32,7 +32,7 @@ pub record IoState : Type 0 where
 
 -- what the reader gave and the writer took between the old state and the new one. `Ok`: the writer
 -- took the output of the mode for all that the reader gave. `NotAscii`: the reader is at its end,
--- and the error holds the position of the first byte over 127. `Position`: the reader is at its
+-- and the error holds the position of the first non-ASCII byte. `Position`: the reader is at its
 -- end, and the error holds the fault place of the mode. `Write`: the writer took a prefix of the
 -- output. The writer took nothing except on `Ok` and `Write`.
 abbrev pub EngineOutcome : Mode → Result (Unit {0}) EngineFault → IoState → IoState → Type 0

@@ -20,8 +20,8 @@ use Rattle.ascii_run.specs.Modes.Caret.{caret_text}
 use Rattle.ascii_run.specs.Modes.Json.{json_code}
 use Rattle.ascii_run.specs.OutputState.{BufferState}
 
--- how the front output of a run stands: its mode, the last byte of the text so far, LF if the text
--- is empty, and its output buffer
+-- the state of the front output of a run: its mode, the last byte of the text so far, LF if the
+-- text is empty, and its output buffer
 pub record FrontState : Type 0 where
   pub mode : BoundedMode
   pub last : ℕ
@@ -87,7 +87,7 @@ PassesOn bytes old failures new failures_now (Err Write) =
     AppendsFront old new bytes × (failures_now ≡ failures + 1)
 PassesOn bytes old failures new failures_now other = ⊥
 
--- `n` is the number of bytes before the first over 127
+-- `n` is the number of bytes before the first above 127
 pub record IsTextLength (bytes : List ℕ) (n : ℕ) : Type 0 where
   pub within : n ≤ length bytes
   pub ascii : IsAscii (take n bytes)

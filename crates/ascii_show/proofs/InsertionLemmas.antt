@@ -43,7 +43,7 @@ no_insertion word n view none of =
     rw of.1 (found_colon of.0 (text_of view) of.2.0.1) in
     grind (arith, none, some)
 
--- and its number stands before the first one
+-- and its number is before the first one
 pub number_of_insertion : (word : List ℕ) (k n : ℕ) (view : AsciiStr)
     → Some k ≡ position is_colon word → IsInsertion word n view
     → AreDigitsOf (slice_range word 0 k) n

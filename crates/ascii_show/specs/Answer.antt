@@ -28,8 +28,8 @@ HasOutput mode bytes = IsAscii bytes × ((output : List ℕ) × IsOutput mode by
 -- the program may return the result for the words and for what is known of the bytes of the input.
 -- `Ok` and `Write`: the words ask for a mode that has an output for the input. `Usage`: the words
 -- are not a call. `BadWord`: it holds the number of the first word that the mode does not accept.
--- `NotAscii`: it holds the position of the first byte over 127. `Position`: the input is ASCII, and
--- it holds the fault place of the mode. `Memory`: the words are a call. `Read`: they ask for a
+-- `NotAscii`: it holds the position of the first non-ASCII byte. `Position`: the input is ASCII,
+-- and it holds the fault place of the mode. `Memory`: the words are a call. `Read`: they ask for a
 -- mode.
 abbrev pub MayReturn : List (List ℕ) → Option (List ℕ) → Result (Unit {0}) Failure → Type 0
 MayReturn words known (Ok _) = RequestsModeWith words known HasOutput

@@ -9,8 +9,8 @@ ghost use Rattle.cookbook.specs.LastLines.{HasLastLine, HasLastLines, HasLinesBe
 use ascii::iter::{Ending, Lines};
 use ascii::{AsciiRange, AsciiStr};
 
-/// The end of a view that has its last `n` lines, with their endings: the whole view where it has fewer, and
-/// nothing where `n` is 0. Of `a\nb\r\nc` the last 2 lines are `b\r\nc`.
+/// Returns the end of a view with its last `n` lines and their endings: the whole view if it has fewer, and
+/// an empty one if `n` is 0. For `a\nb\r\nc` and 2 it is `b\r\nc`.
 pub fn last_lines<'a>(view: AsciiStr<'a>, n: usize) -> AsciiStr<'a>
     ensures lines { HasLastLines n (text_of view.entry) (text_of result) }
     ensures suffix { (front : List ℕ) × (front ++ text_of result ≡ text_of view.entry) }
@@ -19,8 +19,8 @@ pub fn last_lines<'a>(view: AsciiStr<'a>, n: usize) -> AsciiStr<'a>
     view.slice(AsciiRange::From(front.len()))
 }
 
-/// The front of a view up to its last `n` lines, as `head -n -N` gives it: nothing where it has no more lines
-/// than that. Of `a\nb\r\nc` without the last 2 lines `a\n` is left.
+/// Returns the start of a view up to its last `n` lines, as `head -n -N` does: an empty view if it has at
+/// most `n` lines. For `a\nb\r\nc` and 2 it is `a\n`.
 pub fn without_last_lines<'a>(view: AsciiStr<'a>, n: usize) -> AsciiStr<'a>
     ensures lines { HasLinesBefore n (text_of view.entry) (text_of result) }
     ensures prefix { (others : List ℕ) × (text_of result ++ others ≡ text_of view.entry) }

@@ -14,7 +14,7 @@ use std::alloc::{AllocError, Global};
 pub struct ScreenText {
     /// What goes out.
     pub text: AsciiString,
-    /// The column, from 0, at which the next character would stand.
+    /// The column, from 0, of the next character.
     pub column: usize,
 }
 

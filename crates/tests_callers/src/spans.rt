@@ -1,4 +1,4 @@
-//! Callers of the iterators that tell where each piece and each line stands.
+//! Callers of the iterators that tell the start of each piece and each line.
 
 ghost use Rattle.std.specs.Prelude.{◌≡◌, IfOk, length, map, reverse};
 ghost use Rattle.ascii.specs.Spans.{OfLineSpans, OfPieceSpans, line_in, piece_in};
@@ -14,7 +14,7 @@ pub fn piece_span_count(view: AsciiStr<'_>, on: AsciiChar) -> usize
     view.split_spans(on).count()
 }
 
-/// The places where the pieces of a view start.
+/// The starts of the pieces of a view.
 pub fn piece_starts(
     alloc: Global,
     view: AsciiStr<'_>,
@@ -61,7 +61,7 @@ pub fn line_span_count(view: AsciiStr<'_>) -> usize
     view.line_spans().count()
 }
 
-/// The places where the lines of a view start.
+/// The starts of the lines of a view.
 pub fn line_starts(alloc: Global, view: AsciiStr<'_>) -> Result<Vec<usize>, AllocError>
     ensures { IfOk result (λ starts.
         OfLineSpans view.entry (λ spans. starts.items ≡ map (λ span. span.start) spans)) }

@@ -52,7 +52,7 @@ impl<'a> Cursor<'a> {
     ghost use Rattle.ascii.specs.Found.{IsSplitAtLast, part_in};
     ghost use Rattle.ascii.specs.View.{text_of};
 
-    /// What stands before a place.
+    /// The part before a position.
     #[inline(always)]
     pub(crate) fn to(self, place: usize) -> Cursor<'a>
         requires { place ≤ length (text_of self.view) }
@@ -67,7 +67,7 @@ impl<'a> Cursor<'a> {
         }
     }
 
-    /// What stands from a place on.
+    /// The part from a position on.
     #[inline(always)]
     pub(crate) fn from(self, place: usize) -> Cursor<'a>
         requires { place ≤ length (text_of self.view) }

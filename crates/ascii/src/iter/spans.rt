@@ -1,4 +1,4 @@
-//! Pieces and lines with the places where they start. A place is counted in bytes, from 0.
+//! Pieces and lines with their starts. A start is a position in bytes, from 0.
 
 use crate::ascii_str::AsciiStr;
 

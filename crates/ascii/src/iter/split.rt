@@ -66,7 +66,7 @@ impl<'a> Cursor<'a> {
 /// An iterator over the pieces of a view between separators, each with its start, from both ends.
 #[derive(Drop)]
 pub struct SplitSpans<'a> {
-    // The pieces that are left, joined by the separator, or `None` where none is left.
+    // The pieces that are left, joined by the separator, or `None` if there are none left.
     cursor: Option<Cursor<'a>>,
     on: AsciiChar,
 }

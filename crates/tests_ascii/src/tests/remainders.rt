@@ -1,4 +1,4 @@
-//! Walks that stop at each place and go on over what is left give what an unbroken walk gives.
+//! Walks that stop at each step and go on over the remainder yield what an unbroken walk yields.
 
 use super::both_ends::{scripts, walk_on};
 use ascii::iter::{
@@ -83,7 +83,7 @@ fn line_spans_resumed<'a, R: Abort + AllocGlobal>(
     answers
 }
 
-/// Stops a walk over the pieces of a view, and one over them with their places, at each place of a script.
+/// Stops a walk over the pieces of a view, and one over them with their starts, at each step of a script.
 fn stop_pieces<R: Abort + AllocGlobal>(rt: &R, view: AsciiStr<'_>, on: AsciiChar, script: &[End]) {
     let texts = walk_split(rt.alloc(), view, on, script).expect(rt, "refused");
     let spans = walk_split_spans(rt.alloc(), view, on, script).expect(rt, "refused");

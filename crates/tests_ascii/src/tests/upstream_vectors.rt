@@ -16,7 +16,7 @@ static OUTCOMES: [(usize, &str); 3] = [
     (33, "wwefefwrrrrrewrrrerrrrrrrrrrrrrrrrrrrrrrrrrrr"),
 ];
 
-/// The six forms with 0, the length, one more and the largest number at each place.
+/// The six forms with 0, the length, one more and the largest number as each bound.
 fn ranges(alloc: Global, length: usize) -> Result<Vec<AsciiRange>, AllocError> {
     let places = [0, length, length.saturating_add(1), usize::MAX];
     let mut all = vec![in alloc; AsciiRange::Full]?;

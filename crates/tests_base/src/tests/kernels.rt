@@ -67,7 +67,7 @@ fn others(rt: HostRuntime) {
 }
 
 // Each kernel at each length and alignment, beside a plain loop: a text of up to 300 bytes that begins
-// at each of 64 places of a buffer, with two bytes of another kind in it.
+// at each of 64 offsets in a buffer, with two bytes of another kind in it.
 const LONGEST: usize = 300;
 
 const PLACES: usize = 64;

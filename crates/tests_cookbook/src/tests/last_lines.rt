@@ -4,7 +4,7 @@ use super::assert_same;
 use cookbook::last_lines::{is_open, last_body_end, last_lines, without_last_lines};
 use testing::ascii;
 
-/// A text, a number of lines, its last lines, and what stands before them.
+/// A text, a number of lines, its last lines, and what is before them.
 static ROWS: [(&str, usize, &str, &str); 12] = [
     ("", 3, "", ""),
     ("a", 0, "", "a"),

@@ -84,7 +84,7 @@ pub(super) fn text_of(alloc: Global, number: u32, length: usize) -> Result<Vec<u
     Ok(text)
 }
 
-/// The bytes of lines that may be in this order, each where it starts; `Absent` is only at the end.
+/// The bytes of lines that may be in this order, each with its start; `Absent` is only at the end.
 fn joined<R: Abort>(rt: &R, alloc: Global, lines: &[OwnedLine]) -> Result<Vec<u8>, AllocError> {
     let mut bytes = Vec::new(alloc);
     let mut has_ended = false;
@@ -175,7 +175,7 @@ fn lines_that_just_fit(rt: HostRuntime) {
 
 static LINES: &[u8] = b"ab\r\ncd\n\nefg\nh";
 
-/// How many of these lines end before each place.
+/// How many of these lines end before each position.
 static ENDED: [usize; 13] = [0, 0, 0, 0, 1, 1, 1, 2, 3, 3, 3, 3, 4];
 
 #[test]

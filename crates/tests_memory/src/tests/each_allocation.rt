@@ -12,7 +12,7 @@ pub type Heap = FailNth<FailNth<Global>>;
 /// More growths than any call of these tests makes.
 const MANY: u64 = 400;
 
-/// Fails the test where a run of a call is wrong, and shows what it answered.
+/// Fails the test if a run of a call is wrong, and shows what it returned.
 pub fn right<R: Abort>(rt: &R, is_right: bool, call: &str, run: u64, answer: &str) {
     assert!(rt; is_right, "{call}, run {run}: {answer}");
 }
@@ -107,7 +107,7 @@ pub fn told<T: fmt::Debug + Drop, A: Allocator>(
     format!(in alloc; "{stands} {string}")
 }
 
-/// The view of a text, which is empty where the text is not ASCII.
+/// The view of a text, which is empty if the text is not ASCII.
 pub fn view(source: &str) -> AsciiStr<'_> {
     text::as_ascii_str(source).unwrap_or_default()
 }

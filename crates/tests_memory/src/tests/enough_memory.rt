@@ -66,7 +66,7 @@ fn turned<R: Abort + AllocGlobal>(rt: &R, source: AsciiStr<'_>) {
     assert_same(rt, owned.as_ascii_str(), source);
 }
 
-/// Walks over the lines and pieces of the view with their places, and the mode that prints them.
+/// Walks over the lines and pieces of the view with their starts, and the mode that prints them.
 fn spans<R: Abort + AllocGlobal>(rt: &R, source: AsciiStr<'_>) {
     let alloc = rt.alloc();
     let script = [End::Front; 100];

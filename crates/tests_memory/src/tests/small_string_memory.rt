@@ -74,7 +74,7 @@ fn made(alloc: Global, start: &str, call: &str, left: Left) -> Result<String, Al
     }
 }
 
-/// A call, the text that it makes another one of, and its answers: two where it takes memory.
+/// A call, the text that it makes another one of, and its answers: two if it takes memory.
 static MADE: [(&str, &str, &[&str]); 6] = [
     (
         "from_ascii_str",

@@ -23,7 +23,7 @@ fn ran<R: Abort + AllocGlobal>(rt: &R, start: &str, cmds: &[Cmd<'_>]) -> String 
     shown
 }
 
-/// The view of a text, which is empty where the text is not ASCII.
+/// The view of a text, which is empty if the text is not ASCII.
 fn view(source: &str) -> AsciiStr<'_> {
     text::as_ascii_str(source).unwrap_or_default()
 }

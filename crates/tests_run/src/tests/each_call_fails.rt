@@ -11,7 +11,7 @@ const INPUT: &[u8] = b"a\tb\n\nc\r";
 
 const SCRIPT: [End; 3] = [End::Back, End::Front, End::Front];
 
-/// The view of a text, which is empty where the text is not ASCII.
+/// The view of a text, which is empty if the text is not ASCII.
 fn view(source: &str) -> AsciiStr<'_> {
     text::as_ascii_str(source).unwrap_or_default()
 }

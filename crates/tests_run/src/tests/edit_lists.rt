@@ -33,7 +33,7 @@ fn edits(alloc: Global, number: usize) -> Result<Vec<Cmd<'static>>, AllocError> 
     Ok(cmds)
 }
 
-/// The characters that the replies took out, with `.` where there was none, and `!` for a reply that
+/// The characters that the replies took out, with `.` if there was none, and `!` for a reply that
 /// these edits do not have.
 fn taken(alloc: Global, replies: &[Reply]) -> Result<String, AllocError> {
     let mut shown = String::new(alloc);

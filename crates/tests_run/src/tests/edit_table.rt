@@ -1,5 +1,5 @@
 //! Made by `vectors/edit_lists.rs`: for the lists of 1 to 200 edits the characters that were taken out,
-//! `.` where there was none, a colon, and the text at the end.
+//! `.` if there was none, a colon, and the text at the end.
 
 pub const RAN: &str = "\
 :\n\

@@ -54,7 +54,7 @@ fn each_mode(rt: HostRuntime) {
     }
 }
 
-/// `caret` of as many bytes `a` with a control at a place, and how it is shown.
+/// `caret` of as many bytes `a` with a control at a position, and how it is shown.
 fn is_caret_at<R: Abort + AllocGlobal>(rt: &R, place: usize, code: u8, shown: &str) -> bool {
     let alloc = rt.alloc();
     let mut input = bytes_of(rt, "", place, "");

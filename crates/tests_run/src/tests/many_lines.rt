@@ -11,7 +11,7 @@ use std::process::Abort;
 /// How many lines of ten bytes the input has.
 const LINES: usize = 30_000;
 
-/// What stands before the number of a line, and its tab, its quote, its letter and its ending.
+/// What is before the number of a line, and its tab, its quote, its letter and its ending.
 type Pieces = [&'static str; 5];
 
 /// The pieces of a line of the input.

@@ -2,7 +2,7 @@ use Rattle.std.proofs.Common.{◌≡◌, List, ℕ, ◌++◌, length}
 use Rattle.std.specs.Io.KnownBytes.{Appends}
 use Rattle.ascii_run.proofs.output_buffer.write_each.Given as goal
 
--- the writer took what stands before the rest, and no write has failed
+-- the writer took what is before the rest, and no write has failed
 abbrev pub invariant-writes : goal.invariant-writes
 invariant-writes g l =
     (sent : List ℕ) × Appends (g.K.Sink.taken l.fn.writer) (g.K.Sink.taken l.writer) sent
