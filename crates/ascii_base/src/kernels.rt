@@ -1,10 +1,18 @@
 //! The searches and maps over bytes, each equal to its plain definition at every length.
 //!
-//! A search is over a class of `classes`: `first_not` and `last_not` take any class, the calls after
-//! them are searches that texts need all the time. A search goes through the bytes 32 at a time and
-//! ends with one step of 32 over the end, which may test bytes again. Up to 64 bytes take two
-//! overlapping steps of 32, 16, 8 or 4 bytes, and fewer than 4 bytes go one by one. The maps and the
-//! comparison take the same steps.
+//! | To find or change | Call |
+//! |---|---|
+//! | the first or the last byte that is not in a class, for any class of `classes` | `first_not`, `last_not` |
+//! | the first non-ASCII byte | `first_other` |
+//! | the first or the last byte that is not whitespace | `first_not_whitespace`, `last_not_whitespace` |
+//! | the case of letters, in place | `upper_in_place`, `lower_in_place` |
+//! | whether two byte strings are equal when case is ignored | `eq_ignore_case` |
+//!
+//! None of them allocates. A search goes through the bytes 32 at a time and ends with one step of 32
+//! over the end, which may test bytes again. Up to 64 bytes take two overlapping steps of 32, 16, 8 or
+//! 4 bytes, and fewer than 4 bytes go one by one. The maps and the comparison take the same steps.
+//!
+//! A contract sees the bytes as a list of numbers, and a position as an index in it, from 0.
 
 ghost use Rattle.std.specs.Prelude.{◌≡◌, ◌≢◌, ◌↔◌, ◌+◌, ◌<◌, ◌≤◌, IsTrue, length, map};
 ghost use Rattle.std.specs.Prelude.{All, MatchOption};

@@ -1,6 +1,15 @@
-//! The library for C: which bytes are ASCII, case, comparison and whitespace. Bytes are passed as a
-//! pointer and a length; `ascii.h` declares the calls. A call that has no position to return
-//! returns the length.
+//! The library for C: which bytes are ASCII, case, comparison and whitespace.
+//!
+//! | To find or change | Call |
+//! |---|---|
+//! | the first non-ASCII byte | `ascii_first_other` |
+//! | whether a part of a source is ASCII, and if not, the position | `ascii_accepts_part` |
+//! | the case of letters, in place | `ascii_to_upper`, `ascii_to_lower` |
+//! | whether two texts are equal when case is ignored | `ascii_equal_ignoring_case` |
+//! | the whitespace at the ends of a text | `ascii_trim_start`, `ascii_trim_end` |
+//!
+//! Bytes are passed as a pointer and a length; `ascii.h` declares the calls. Nothing is allocated. A call
+//! that has no position to return returns the length.
 #![tactic(auto)]
 
 ghost use Rattle.std.specs.Prelude.{◌≡◌, ◌<◌, ◌≤◌, ◌⊎◌, ◌↔◌, IsFalse, IsTrue, length, map};

@@ -1,8 +1,14 @@
 //! The bounded engine: reads an input of any length, and writes the output of a mode as it reads.
 //!
 //! It holds one chunk of the input and one output buffer, and makes all allocations before the first read. It works
-//! over any `Source` and `Sink`. Its contract says of each outcome what was read, what was written, and how the
-//! devices' counts of failures rose.
+//! over any `Source` and `Sink`. Modes that need the whole text, such as `Mode::Tac`, are modes of `engine` only; the
+//! change of case is a mode of this engine only.
+//!
+//! The *front output* of a text is what the mode writes of it before more is read: for `Lines`, the last CR of the text
+//! is held back, because an LF may follow. If the input is not ASCII, the front output of the bytes before has been
+//! written.
+//!
+//! The contract says of each outcome what was read, what was written, and how the devices' counts of failures rose.
 
 ghost use Rattle.std.specs.Prelude.{◌≡◌, ◌<◌};
 ghost use Rattle.ascii_run.specs.Bounded.{BoundedOutcome, bounded_read_failures};

@@ -1,8 +1,15 @@
 //! The engine: reads all bytes of an input, and writes the output of a mode.
 //!
-//! It works over any `Source` and `Sink`. Nothing is written before the whole input was read and found to be ASCII,
-//! so it holds the input in memory. Its contract says of each outcome what was read, what was written, and how the
-//! devices' counts of failures rose.
+//! | The input | Use |
+//! |---|---|
+//! | fits in memory, and nothing may be written unless all of it is ASCII | `engine` |
+//! | may have any length, and the output may begin before all of it is read | `bounded_engine` |
+//!
+//! `engine` works over any `Source` and `Sink`. Nothing is written before the whole input was read and found to be
+//! ASCII, so it holds the input in memory.
+//!
+//! Its contract says of each outcome what was read, what was written, and how the devices' counts of failures rose. It
+//! sees an input as the bytes that its source has yet to give, and the output as the bytes that the sink has taken.
 
 ghost use Rattle.std.specs.Prelude.{◌≡◌, ◌⊎◌, ℕ, ◌+◌, ◌<◌, ◌≤◌, List, ◌++◌, IfErr, IfOk, length};
 ghost use Rattle.std.specs.Option.{ForSome};

@@ -1,4 +1,13 @@
-//! What tests share: an allocator of which one allocation fails, and views of literals.
+//! What tests share.
+//!
+//! | For a test | Use |
+//! |---|---|
+//! | in which one allocation fails | `FailNth`, an allocator over another one |
+//! | of the view of a text that is known to be ASCII | `view("ab")` |
+//! | of the view of any other text | `ascii`, which is empty if the text is not ASCII |
+//!
+//! A test runs a call with `FailNth::new(alloc, n)` for n from 0 until the call succeeds and
+//! `has_failed` returns `false`: each allocation of the call has then failed once.
 #![tactic(auto)]
 
 ghost use Rattle.std.specs.Prelude.{◌≡◌, ◌+◌, ◌↔◌, ◌⊎◌, IsTrue, MatchOption};
