@@ -3,7 +3,9 @@
 mod chars;
 mod edits;
 mod finds;
+mod lines;
 mod modes;
+mod recipes;
 mod slices;
 mod texts;
 mod turns;
@@ -147,13 +149,13 @@ pub const MAKES: [Make; 64] = [
     words::cut,
     modes::engine,
     modes::bounded,
-    modes::reader,
-    modes::parts,
+    lines::reader,
+    lines::parts,
     modes::json_text,
-    modes::header,
-    modes::host,
-    modes::setting,
-    modes::lossy,
+    recipes::header,
+    recipes::host,
+    recipes::setting,
+    recipes::lossy,
     modes::small_printed,
     modes::small_compared,
     modes::small_room,

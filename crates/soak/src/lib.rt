@@ -10,9 +10,11 @@ mod answers;
 mod chars;
 mod edits;
 mod finds;
+mod lines;
 mod modes;
 mod prints;
 mod question;
+mod recipes;
 mod slices;
 mod smalls;
 mod texts;
@@ -54,9 +56,9 @@ fn reply(alloc: Global, line: &[u8]) -> Result<String, Fault> {
         "word" => words::reply(&question, call),
         "mode" => modes::reply(&question, call),
         "bound" => modes::bounded_reply(&question, call),
-        "line" => modes::line_reply(&question, call),
+        "line" => lines::reply(&question, call),
         "json" => modes::json_reply(&question, call),
-        "recipe" => modes::recipe_reply(&question, call),
+        "recipe" => recipes::reply(&question, call),
         "small" => smalls::reply(&question, call),
         _ => Err(Fault::Bad),
     }
