@@ -26,7 +26,7 @@ pub struct Asked {
 pub type Make = fn(&mut Random) -> (String, String);
 
 /// The kinds, which are asked equally often.
-pub const KINDS: [&str; 65] = [
+pub const KINDS: [&str; 67] = [
     "slices ..",
     "slices a..",
     "slices ..b",
@@ -82,6 +82,8 @@ pub const KINDS: [&str; 65] = [
     "modes of the engine",
     "modes of the bounded engine",
     "lines of a reader",
+    "collected lines",
+    "lines by their endings",
     "parts of a reader",
     "JSON texts",
     "headers",
@@ -94,7 +96,7 @@ pub const KINDS: [&str; 65] = [
     "bad lines",
 ];
 
-pub const MAKES: [Make; 64] = [
+pub const MAKES: [Make; 66] = [
     |r| slices::asked(r, 0),
     |r| slices::asked(r, 1),
     |r| slices::asked(r, 2),
@@ -150,6 +152,8 @@ pub const MAKES: [Make; 64] = [
     modes::engine,
     modes::bounded,
     lines::reader,
+    lines::collected,
+    lines::ended,
     lines::parts,
     modes::json_text,
     recipes::header,
@@ -174,35 +178,38 @@ impl Asked {
     }
 }
 
+/// Lines that are not questions.
+const BAD: [&[u8]; 25] = [
+    b"",
+    b" ",
+    b"slice",
+    b"slice_",
+    b"slice_bytes",
+    b"slice_bytes 1..2",
+    b"slice_bytes 1.2 61",
+    b"slice_bytes 1..2 6",
+    b"slice_bytes 1..2 6g",
+    b"slice_bytes 1..18446744073709551616 61",
+    b"slice_bytes -1..2 61",
+    b"slice_text .. ff",
+    b"slice_view .. 80",
+    b"slice_get x 61",
+    b"walk_split 128 61 F",
+    b"walk_lines 61 FX",
+    b"walk_linespans \xff 61 F",
+    b"walk_splitspans 18446744073709551615 44 6161 F",
+    b"text_trim",
+    b"edit_string 61 z",
+    b"edit_small 61 i1:6",
+    b"print_view :% 61",
+    b"char_digit 48 37",
+    b"turn_writechar 61 55296",
+    b"line_ended lf 3 61",
+];
+
 /// A line that is not a question.
 fn bad(random: &mut Random) -> Vec<u8> {
-    let lines: [&[u8]; 24] = [
-        b"",
-        b" ",
-        b"slice",
-        b"slice_",
-        b"slice_bytes",
-        b"slice_bytes 1..2",
-        b"slice_bytes 1.2 61",
-        b"slice_bytes 1..2 6",
-        b"slice_bytes 1..2 6g",
-        b"slice_bytes 1..18446744073709551616 61",
-        b"slice_bytes -1..2 61",
-        b"slice_text .. ff",
-        b"slice_view .. 80",
-        b"slice_get x 61",
-        b"walk_split 128 61 F",
-        b"walk_lines 61 FX",
-        b"walk_linespans \xff 61 F",
-        b"walk_splitspans 18446744073709551615 44 6161 F",
-        b"text_trim",
-        b"edit_string 61 z",
-        b"edit_small 61 i1:6",
-        b"print_view :% 61",
-        b"char_digit 48 37",
-        b"turn_writechar 61 55296",
-    ];
-    let mut line = random.pick(&lines).to_vec();
+    let mut line = random.pick(&BAD).to_vec();
     if random.below(4) == 0 {
         // A byte that begins no UTF-8, at any position.
         let place = random.below(line.len() + 1);

@@ -82,8 +82,25 @@ impl Random {
 
     /// Codes of a list.
     pub fn line(&mut self, from: &[u8]) -> Vec<u8> {
-        let length = if self.is_small() { self.below(self.longest + 1) } else { self.below(20) };
+        let length = self.count(19);
         (0..length).map(|_| *self.pick(from)).collect()
+    }
+
+    /// Pieces of a list, one after the other.
+    pub fn joined(&mut self, from: &[&[u8]]) -> Vec<u8> {
+        let count = self.count(24);
+        (0..count).flat_map(|_| self.pick(from).to_vec()).collect()
+    }
+
+    /// A number up to `most`, or up to the longest text of a small case.
+    pub fn count(&mut self, most: usize) -> usize {
+        self.below(if self.is_small() { self.longest } else { most } + 1)
+    }
+
+    /// The size of a buffer, about the length of a line, or longer than several.
+    pub fn size(&mut self) -> usize {
+        let most = if self.is_small() || self.below(2) == 0 { 8 } else { 48 };
+        self.below(most)
     }
 
     /// Codes of a list, up to a length, mostly long.

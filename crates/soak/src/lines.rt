@@ -1,18 +1,23 @@
 //! Lines of an input, read through a buffer of SIZE bytes.
 //!
-//! - `line_read SIZE BYTES`: for each line its start, its text and its ending, then `end`, or the error and its
-//!   position;
-//! - `line_parts SIZE NUMBER BYTES`: parts of that length.
+//! - `line_read SIZE BYTES`: for each line its start, its text and its ending, `lf`, `crlf` or `none`; then `end`, or
+//!   the error: `ascii`, `lone` or `long` and a position, `incomplete` and a count;
+//! - `line_collect SIZE BYTES`: the lines that were collected, and the end or the error, in that form;
+//! - `line_ended KIND SIZE BYTES`: the lines by the endings `any`, `crlf` or `strict`, in that form;
+//! - `line_parts SIZE NUMBER BYTES`: parts of that length, each its start and its text, then the error.
 
 use crate::answers::Answers;
 use crate::question::{Fault, Question};
+use ascii::AsciiStr;
 use ascii::iter::Ending;
-use ascii_lines::{Input, LineError, LineReader};
+use ascii_lines::{Endings, Input, LineError, LineReader, collect_lines};
 
 /// The answer to a question whose first word ends in `call`.
 pub(crate) fn reply(question: &Question<'_>, call: &str) -> Result<String, Fault> {
     match call {
-        "read" => read_lines(question),
+        "read" => read(question),
+        "collect" => collect(question),
+        "ended" => read_by_endings(question),
         "parts" => read_parts(question),
         _ => Err(Fault::Bad),
     }
@@ -21,18 +26,45 @@ pub(crate) fn reply(question: &Question<'_>, call: &str) -> Result<String, Fault
 /// The most bytes of a buffer that is asked for.
 const LARGEST: usize = 65_536;
 
-fn read_lines(question: &Question<'_>) -> Result<String, Fault> {
-    let size = question.number(0)?.min(LARGEST);
+/// The size of a buffer that a word is.
+fn size_of(question: &Question<'_>, n: usize) -> Result<usize, Fault> {
+    Ok(question.number(n)?.min(LARGEST))
+}
+
+fn read(question: &Question<'_>) -> Result<String, Fault> {
+    let size = size_of(question, 0)?;
     let source = question.bytes(1)?;
     let mut reader = LineReader::new(question.alloc, Input::new(source.as_slice()), size)?;
+    every_line(question, &mut reader)
+}
+
+fn read_by_endings(question: &Question<'_>) -> Result<String, Fault> {
+    let endings = endings_named(question.word(0)?)?;
+    let size = size_of(question, 1)?;
+    let source = question.bytes(2)?;
+    let mut reader = LineReader::new(question.alloc, Input::new(source.as_slice()), size)?;
+    reader.lines_ended_by(endings);
+    every_line(question, &mut reader)
+}
+
+fn endings_named(word: &str) -> Result<Endings, Fault> {
+    match word {
+        "any" => Ok(Endings::Any),
+        "crlf" => Ok(Endings::CrLf),
+        "strict" => Ok(Endings::CrLfStrict),
+        _ => Err(Fault::Bad),
+    }
+}
+
+/// The lines that a reader returns, and why it stops.
+fn every_line(
+    question: &Question<'_>,
+    reader: &mut LineReader<Input<&[u8]>>,
+) -> Result<String, Fault> {
     let mut answers = Answers::new(question.alloc);
     for _ in 0..u64::MAX {
         match reader.next_line() {
-            Ok(Some(line)) => {
-                answers.long(line.start)?;
-                answers.bytes(line.text.as_bytes())?;
-                answers.word(name_of_ending(line.ending))?;
-            }
+            Ok(Some(line)) => line_words(&mut answers, line.start, line.text, line.ending)?,
             Ok(None) => {
                 answers.word("end")?;
                 break;
@@ -46,8 +78,40 @@ fn read_lines(question: &Question<'_>) -> Result<String, Fault> {
     Ok(answers.text)
 }
 
+fn collect(question: &Question<'_>) -> Result<String, Fault> {
+    let size = size_of(question, 0)?;
+    let source = question.bytes(1)?;
+    let mut reader = LineReader::new(question.alloc, Input::new(source.as_slice()), size)?;
+    let kept = collect_lines(question.alloc, &mut reader)?;
+    let mut answers = Answers::new(question.alloc);
+    for line in &kept.lines {
+        line_words(
+            &mut answers,
+            line.start,
+            line.text.as_ascii_str(),
+            line.ending,
+        )?;
+    }
+    match kept.error {
+        Some(error) => line_error(&mut answers, error)?,
+        None => answers.word("end")?,
+    }
+    Ok(answers.text)
+}
+
+fn line_words(
+    answers: &mut Answers,
+    start: u64,
+    text: AsciiStr<'_>,
+    ending: Ending,
+) -> Result<(), Fault> {
+    answers.long(start)?;
+    answers.bytes(text.as_bytes())?;
+    answers.word(name_of_ending(ending))
+}
+
 fn read_parts(question: &Question<'_>) -> Result<String, Fault> {
-    let size = question.number(0)?.min(LARGEST);
+    let size = size_of(question, 0)?;
     let n = question.number(1)?;
     let source = question.bytes(2)?;
     let mut reader = LineReader::new(question.alloc, Input::new(source.as_slice()), size)?;
@@ -77,18 +141,19 @@ fn name_of_ending(ending: Ending) -> &'static str {
 
 fn line_error(answers: &mut Answers, error: LineError) -> Result<(), Fault> {
     match error {
-        LineError::NotAscii(position) => {
-            answers.word("ascii")?;
-            answers.long(position)
-        }
-        LineError::TooLong(position) => {
-            answers.word("long")?;
-            answers.long(position)
-        }
+        LineError::NotAscii(position) => error_at(answers, "ascii", position),
+        LineError::LoneBreak(position) => error_at(answers, "lone", position),
+        LineError::TooLong(position) => error_at(answers, "long", position),
         LineError::Incomplete(count) => {
             answers.word("incomplete")?;
             answers.number(count)
         }
-        _ => answers.word("read"),
+        LineError::TooFar => answers.word("far"),
+        LineError::Read => answers.word("read"),
     }
+}
+
+fn error_at(answers: &mut Answers, what: &str, position: u64) -> Result<(), Fault> {
+    answers.word(what)?;
+    answers.long(position)
 }

@@ -56,6 +56,11 @@ pub fn reader(random: &mut Random) -> (String, String) {
     (format!("line_read {size} {}", hex(&source)), words.join(" "))
 }
 
+pub fn collected(random: &mut Random) -> (String, String) {
+    let (question, wanted) = reader(random);
+    (question.replace("line_read", "line_collect"), wanted)
+}
+
 pub fn parts(random: &mut Random) -> (String, String) {
     let source = random.bytes();
     let (size, n) = (1 + random.below(12), 1 + random.below(8));
@@ -77,4 +82,52 @@ pub fn parts(random: &mut Random) -> (String, String) {
     };
     words.push(end);
     (format!("line_parts {size} {n} {}", hex(&source)), words.join(" "))
+}
+
+/// The line that starts at a position: its body, the name of its ending, and where the next one starts; or the answer
+/// that says why there is none. Goes through the bytes once, so the first byte that shows a fault decides.
+fn line_at<'a>(
+    source: &'a [u8],
+    start: usize,
+    endings: &str,
+    size: usize,
+) -> Result<(&'a [u8], &'static str, usize), String> {
+    let rest = &source[start..];
+    let (mut follows_cr, is_strict) = (false, endings == "strict");
+    for (at, byte) in rest.iter().enumerate() {
+        let place = start + at;
+        match byte {
+            _ if at == size => return Err(format!("long {start}")),
+            128.. => return Err(format!("ascii {place}")),
+            b'\n' if follows_cr => return Ok((&rest[..at - 1], "crlf", place + 1)),
+            b'\n' if endings == "any" => return Ok((&rest[..at], "lf", place + 1)),
+            b'\n' if is_strict => return Err(format!("lone {place}")),
+            _ if is_strict && follows_cr => return Err(format!("lone {}", place - 1)),
+            _ => follows_cr = *byte == b'\r',
+        }
+    }
+    match rest.last() {
+        None => Err("end".into()),
+        Some(_) if is_strict && follows_cr => Err(format!("lone {}", source.len() - 1)),
+        Some(_) => Ok((rest, "none", source.len())),
+    }
+}
+
+pub fn ended(random: &mut Random) -> (String, String) {
+    let endings = *random.pick(&["any", "crlf", "strict"]);
+    let source = random.joined(&[b"\r\n", b"ab", b"\r\n", b"c", b"\n", b"\r", b"de\r\n", b"\xe9"]);
+    let size = random.size();
+    let mut words = Vec::new();
+    let mut start = 0;
+    let end = loop {
+        match line_at(&source, start, endings, size) {
+            Ok((body, ending, next)) => {
+                words.push(format!("{start} {} {ending}", hex(body)));
+                start = next;
+            }
+            Err(why) => break why,
+        }
+    };
+    words.push(end);
+    (format!("line_ended {endings} {size} {}", hex(&source)), words.join(" "))
 }
