@@ -26,7 +26,7 @@ pub struct Asked {
 pub type Make = fn(&mut Random) -> (String, String);
 
 /// The kinds, which are asked equally often.
-pub const KINDS: [&str; 67] = [
+pub const KINDS: [&str; 68] = [
     "slices ..",
     "slices a..",
     "slices ..b",
@@ -85,6 +85,7 @@ pub const KINDS: [&str; 67] = [
     "collected lines",
     "lines by their endings",
     "parts of a reader",
+    "written lines",
     "JSON texts",
     "headers",
     "host names",
@@ -96,7 +97,7 @@ pub const KINDS: [&str; 67] = [
     "bad lines",
 ];
 
-pub const MAKES: [Make; 66] = [
+pub const MAKES: [Make; 67] = [
     |r| slices::asked(r, 0),
     |r| slices::asked(r, 1),
     |r| slices::asked(r, 2),
@@ -155,6 +156,7 @@ pub const MAKES: [Make; 66] = [
     lines::collected,
     lines::ended,
     lines::parts,
+    lines::written,
     modes::json_text,
     recipes::header,
     recipes::host,
@@ -179,7 +181,7 @@ impl Asked {
 }
 
 /// Lines that are not questions.
-const BAD: [&[u8]; 25] = [
+const BAD: [&[u8]; 27] = [
     b"",
     b" ",
     b"slice",
@@ -205,6 +207,8 @@ const BAD: [&[u8]; 25] = [
     b"char_digit 48 37",
     b"turn_writechar 61 55296",
     b"line_ended lf 3 61",
+    b"line_write 3 61",
+    b"line_write 3 61 cr",
 ];
 
 /// A line that is not a question.

@@ -1,16 +1,19 @@
-//! Lines of an input, read through a buffer of SIZE bytes.
+//! Lines of an input, read and written through a buffer of SIZE bytes.
 //!
 //! - `line_read SIZE BYTES`: for each line its start, its text and its ending, `lf`, `crlf` or `none`; then `end`, or
 //!   the error: `ascii`, `lone` or `long` and a position, `incomplete` and a count;
 //! - `line_collect SIZE BYTES`: the lines that were collected, and the end or the error, in that form;
 //! - `line_ended KIND SIZE BYTES`: the lines by the endings `any`, `crlf` or `strict`, in that form;
-//! - `line_parts SIZE NUMBER BYTES`: parts of that length, each its start and its text, then the error.
+//! - `line_parts SIZE NUMBER BYTES`: parts of that length, each its start and its text, then the error;
+//! - `line_write SIZE (TEXT ENDING)..`: for each text `ok`, or `break` and a position; then what went out.
 
 use crate::answers::Answers;
-use crate::question::{Fault, Question};
+use crate::question::{Fault, Question, text_named};
 use ascii::AsciiStr;
 use ascii::iter::Ending;
-use ascii_lines::{Endings, Input, LineError, LineReader, collect_lines};
+use ascii_lines::{
+    Endings, Input, LineError, LineReader, LineWriter, Output, WriteError, collect_lines,
+};
 
 /// The answer to a question whose first word ends in `call`.
 pub(crate) fn reply(question: &Question<'_>, call: &str) -> Result<String, Fault> {
@@ -19,6 +22,7 @@ pub(crate) fn reply(question: &Question<'_>, call: &str) -> Result<String, Fault
         "collect" => collect(question),
         "ended" => read_by_endings(question),
         "parts" => read_parts(question),
+        "write" => write(question),
         _ => Err(Fault::Bad),
     }
 }
@@ -139,6 +143,15 @@ fn name_of_ending(ending: Ending) -> &'static str {
     }
 }
 
+fn ending_named(word: &str) -> Result<Ending, Fault> {
+    match word {
+        "lf" => Ok(Ending::Lf),
+        "crlf" => Ok(Ending::CrLf),
+        "none" => Ok(Ending::Absent),
+        _ => Err(Fault::Bad),
+    }
+}
+
 fn line_error(answers: &mut Answers, error: LineError) -> Result<(), Fault> {
     match error {
         LineError::NotAscii(position) => error_at(answers, "ascii", position),
@@ -156,4 +169,39 @@ fn line_error(answers: &mut Answers, error: LineError) -> Result<(), Fault> {
 fn error_at(answers: &mut Answers, what: &str, position: u64) -> Result<(), Fault> {
     answers.word(what)?;
     answers.long(position)
+}
+
+fn write_error(answers: &mut Answers, error: WriteError) -> Result<(), Fault> {
+    match error {
+        WriteError::LineBreak(position) => {
+            answers.word("break")?;
+            answers.number(position)
+        }
+        WriteError::Write => answers.word("write"),
+    }
+}
+
+fn write(question: &Question<'_>) -> Result<String, Fault> {
+    let size = size_of(question, 0)?;
+    let Some((_, words)) = question.words.split_first() else {
+        return Err(Fault::Bad);
+    };
+    let output = Output::new(Vec::new(question.alloc));
+    let mut writer = LineWriter::new(question.alloc, output, size)?;
+    let mut answers = Answers::new(question.alloc);
+    for line in words.chunks(2) {
+        let [text, ending] = line else {
+            return Err(Fault::Bad);
+        };
+        let text = text_named(question.alloc, *text)?;
+        match writer.write_line(text.as_ascii_str(), ending_named(*ending)?) {
+            Ok(()) => answers.word("ok")?,
+            Err(error) => write_error(&mut answers, error)?,
+        }
+    }
+    if let Err(error) = writer.flush() {
+        write_error(&mut answers, error)?;
+    }
+    answers.bytes(&writer.into_sink().into_inner())?;
+    Ok(answers.text)
 }

@@ -1,4 +1,4 @@
-//! Lines of an input, by plain loops.
+//! Lines of an input, read and written, by plain loops.
 
 use super::hex;
 use crate::random::Random;
@@ -130,4 +130,37 @@ pub fn ended(random: &mut Random) -> (String, String) {
     };
     words.push(end);
     (format!("line_ended {endings} {size} {}", hex(&source)), words.join(" "))
+}
+
+fn break_in(text: &[u8]) -> Option<usize> {
+    text.iter().position(|byte| *byte == b'\r' || *byte == b'\n')
+}
+
+/// A text, in half of the cases without line breaks.
+fn body(random: &mut Random) -> Vec<u8> {
+    let mut text = random.line(b"aB \r\n");
+    if random.below(2) == 0 {
+        text.retain(|byte| break_in(&[*byte]).is_none());
+    }
+    text
+}
+
+pub fn written(random: &mut Random) -> (String, String) {
+    let size = random.size();
+    let mut question = format!("line_write {size}");
+    let (mut words, mut sent) = (Vec::new(), Vec::new());
+    for _ in 0..random.count(6) {
+        let text = body(random);
+        let (ending, codes) = *random.pick(&[("lf", "\n"), ("crlf", "\r\n"), ("none", "")]);
+        question = format!("{question} {} {ending}", hex(&text));
+        match break_in(&text) {
+            Some(at) => words.push(format!("break {at}")),
+            None => {
+                words.push("ok".into());
+                sent.extend([&text, codes.as_bytes()].concat());
+            }
+        }
+    }
+    words.push(hex(&sent));
+    (question, words.join(" "))
 }
