@@ -26,7 +26,7 @@ pub struct Asked {
 pub type Make = fn(&mut Random) -> (String, String);
 
 /// The kinds, which are asked equally often.
-pub const KINDS: [&str; 68] = [
+pub const KINDS: [&str; 69] = [
     "slices ..",
     "slices a..",
     "slices ..b",
@@ -86,6 +86,7 @@ pub const KINDS: [&str; 68] = [
     "lines by their endings",
     "parts of a reader",
     "written lines",
+    "conversations",
     "JSON texts",
     "headers",
     "host names",
@@ -97,7 +98,7 @@ pub const KINDS: [&str; 68] = [
     "bad lines",
 ];
 
-pub const MAKES: [Make; 67] = [
+pub const MAKES: [Make; 68] = [
     |r| slices::asked(r, 0),
     |r| slices::asked(r, 1),
     |r| slices::asked(r, 2),
@@ -157,6 +158,7 @@ pub const MAKES: [Make; 67] = [
     lines::ended,
     lines::parts,
     lines::written,
+    lines::served,
     modes::json_text,
     recipes::header,
     recipes::host,
@@ -181,7 +183,7 @@ impl Asked {
 }
 
 /// Lines that are not questions.
-const BAD: [&[u8]; 27] = [
+const BAD: [&[u8]; 28] = [
     b"",
     b" ",
     b"slice",
@@ -209,6 +211,7 @@ const BAD: [&[u8]; 27] = [
     b"line_ended lf 3 61",
     b"line_write 3 61",
     b"line_write 3 61 cr",
+    b"line_serve 3",
 ];
 
 /// A line that is not a question.

@@ -5,15 +5,19 @@
 //! - `line_collect SIZE BYTES`: the lines that were collected, and the end or the error, in that form;
 //! - `line_ended KIND SIZE BYTES`: the lines by the endings `any`, `crlf` or `strict`, in that form;
 //! - `line_parts SIZE NUMBER BYTES`: parts of that length, each its start and its text, then the error;
-//! - `line_write SIZE (TEXT ENDING)..`: for each text `ok`, or `break` and a position; then what went out.
+//! - `line_write SIZE (TEXT ENDING)..`: for each text `ok`, or `break` and a position; then what went out;
+//! - `line_serve SIZE BYTES`: why a conversation stopped, `closed`, `end`, an error of the reader, or `break` and a
+//!   position; then what went out. `Echo` says what is replied.
 
 use crate::answers::Answers;
 use crate::question::{Fault, Question, text_named};
-use ascii::AsciiStr;
 use ascii::iter::Ending;
+use ascii::{AsciiStr, AsciiString};
 use ascii_lines::{
-    Endings, Input, LineError, LineReader, LineWriter, Output, WriteError, collect_lines,
+    Endings, Handler, Input, LineError, LineReader, LineWriter, Next, Output, Stop, WriteError,
+    collect_lines, serve,
 };
+use std::alloc::{AllocError, Global};
 
 /// The answer to a question whose first word ends in `call`.
 pub(crate) fn reply(question: &Question<'_>, call: &str) -> Result<String, Fault> {
@@ -23,6 +27,7 @@ pub(crate) fn reply(question: &Question<'_>, call: &str) -> Result<String, Fault
         "ended" => read_by_endings(question),
         "parts" => read_parts(question),
         "write" => write(question),
+        "serve" => converse(question),
         _ => Err(Fault::Bad),
     }
 }
@@ -204,4 +209,68 @@ fn write(question: &Question<'_>) -> Result<String, Fault> {
     }
     answers.bytes(&writer.into_sink().into_inner())?;
     Ok(answers.text)
+}
+
+fn converse(question: &Question<'_>) -> Result<String, Fault> {
+    let size = size_of(question, 0)?;
+    let source = question.bytes(1)?;
+    let output = Output::new(Vec::new(question.alloc));
+    let mut reader = LineReader::new(question.alloc, Input::new(source.as_slice()), size)?;
+    let mut writer = LineWriter::new(question.alloc, output, size)?;
+    let mut echo = Echo { awaits_part: false };
+    let stop = serve(
+        question.alloc,
+        &mut reader,
+        &mut writer,
+        Ending::CrLf,
+        &mut echo,
+    );
+    let mut answers = Answers::new(question.alloc);
+    match stop {
+        Stop::Closed => answers.word("closed")?,
+        Stop::EndOfInput => answers.word("end")?,
+        Stop::Reader(error) => line_error(&mut answers, error)?,
+        Stop::Writer(error) => write_error(&mut answers, error)?,
+        Stop::Memory => return Err(Fault::Memory),
+    }
+    answers.bytes(&writer.into_sink().into_inner())?;
+    Ok(answers.text)
+}
+
+/// A handler. It replies to a line in upper case, to an empty line with `-` and an empty line, and to a part in lower
+/// case. After a line that starts with `p` it asks for a part of three bytes, and after the line `q` it closes.
+#[derive(Drop)]
+struct Echo {
+    awaits_part: bool,
+}
+
+impl Handler for Echo {
+    ghost use Rattle.std.specs.Prelude.{⊤};
+
+    ghost answers = { λ _ _ _ _ _. ⊤ };
+
+    fn answer(
+        &mut self,
+        alloc: Global,
+        text: AsciiStr<'_>,
+        replies: &mut Vec<AsciiString>,
+    ) -> Result<Next, AllocError> {
+        if self.awaits_part {
+            self.awaits_part = false;
+            replies.push(text.to_ascii_lowercase(alloc)?)?;
+            return Ok(Next::Line);
+        }
+        if text.is_empty() {
+            replies.push(AsciiStr::literal("-").to_ascii_string(alloc)?)?;
+        }
+        replies.push(text.to_ascii_uppercase(alloc)?)?;
+        match text.as_bytes() {
+            [b'q'] => Ok(Next::Close),
+            [b'p', ..] => {
+                self.awaits_part = true;
+                Ok(Next::Part(3))
+            }
+            _ => Ok(Next::Line),
+        }
+    }
 }

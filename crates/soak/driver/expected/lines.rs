@@ -164,3 +164,57 @@ pub fn written(random: &mut Random) -> (String, String) {
     words.push(hex(&sent));
     (question, words.join(" "))
 }
+
+/// The part of three bytes that starts at a position, or the answer that says why there is none.
+fn part_at(source: &[u8], start: usize, has_ended: bool, size: usize) -> Result<&[u8], String> {
+    let part = &source[start..source.len().min(start + 3)];
+    match other_in(part) {
+        _ if has_ended => Err("incomplete 0".into()),
+        _ if size < 3 => Err(format!("long {start}")),
+        Some(at) => Err(format!("ascii {}", start + at)),
+        None if part.len() < 3 => Err(format!("incomplete {}", part.len())),
+        None => Ok(part),
+    }
+}
+
+fn send(sent: &mut Vec<u8>, reply: &[u8]) -> Result<(), String> {
+    if let Some(at) = break_in(reply) {
+        return Err(format!("break {at}"));
+    }
+    sent.extend([reply, b"\r\n"].concat());
+    Ok(())
+}
+
+/// Sends the replies of a conversation until it is closed, or returns the answer that says why it stops before.
+fn conversation(source: &[u8], size: usize, sent: &mut Vec<u8>) -> Result<(), String> {
+    let (mut start, mut has_ended, mut is_part) = (0, false, false);
+    loop {
+        if is_part {
+            let part = part_at(source, start, has_ended, size)?;
+            send(sent, &part.to_ascii_lowercase())?;
+            (start, is_part) = (start + 3, false);
+            continue;
+        }
+        let (body, ending, next) = line_at(source, start, "any", size)?;
+        (start, has_ended) = (next, ending == "none");
+        if body.is_empty() {
+            send(sent, b"-")?;
+        }
+        send(sent, &body.to_ascii_uppercase())?;
+        if body == b"q" {
+            return Ok(());
+        }
+        is_part = body.starts_with(b"p");
+    }
+}
+
+pub fn served(random: &mut Random) -> (String, String) {
+    let source = random.joined(&[b"\n", b"aB", b"\r\n", b"\np", b"Cd", b"q", b"\r", b"\nq\n", b"p\n", b"\xe9"]);
+    let size = random.size();
+    let mut sent = Vec::new();
+    let stop = match conversation(&source, size, &mut sent) {
+        Ok(()) => "closed".into(),
+        Err(why) => why,
+    };
+    (format!("line_serve {size} {}", hex(&source)), format!("{stop} {}", hex(&sent)))
+}
