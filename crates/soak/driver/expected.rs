@@ -26,7 +26,7 @@ pub struct Asked {
 pub type Make = fn(&mut Random) -> (String, String);
 
 /// The kinds, which are asked equally often.
-pub const KINDS: [&str; 69] = [
+pub const KINDS: [&str; 73] = [
     "slices ..",
     "slices a..",
     "slices ..b",
@@ -89,8 +89,12 @@ pub const KINDS: [&str; 69] = [
     "conversations",
     "JSON texts",
     "headers",
+    "blocks of headers",
+    "maps of headers",
     "host names",
     "settings",
+    "rows",
+    "texts on a screen",
     "text with marks",
     "printed inline strings",
     "compared inline strings",
@@ -98,7 +102,7 @@ pub const KINDS: [&str; 69] = [
     "bad lines",
 ];
 
-pub const MAKES: [Make; 68] = [
+pub const MAKES: [Make; 72] = [
     |r| slices::asked(r, 0),
     |r| slices::asked(r, 1),
     |r| slices::asked(r, 2),
@@ -161,8 +165,12 @@ pub const MAKES: [Make; 68] = [
     lines::served,
     modes::json_text,
     recipes::header,
+    recipes::block,
+    recipes::map,
     recipes::host,
     recipes::setting,
+    recipes::row,
+    recipes::screen,
     recipes::lossy,
     modes::small_printed,
     modes::small_compared,
@@ -183,7 +191,7 @@ impl Asked {
 }
 
 /// Lines that are not questions.
-const BAD: [&[u8]; 28] = [
+const BAD: [&[u8]; 29] = [
     b"",
     b" ",
     b"slice",
@@ -212,6 +220,7 @@ const BAD: [&[u8]; 28] = [
     b"line_write 3 61",
     b"line_write 3 61 cr",
     b"line_serve 3",
+    b"recipe_screen 1 61",
 ];
 
 /// A line that is not a question.
