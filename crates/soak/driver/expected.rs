@@ -6,6 +6,7 @@ mod finds;
 mod lines;
 mod modes;
 mod recipes;
+mod rooms;
 mod slices;
 mod texts;
 mod turns;
@@ -26,7 +27,7 @@ pub struct Asked {
 pub type Make = fn(&mut Random) -> (String, String);
 
 /// The kinds, which are asked equally often.
-pub const KINDS: [&str; 73] = [
+pub const KINDS: [&str; 75] = [
     "slices ..",
     "slices a..",
     "slices ..b",
@@ -99,10 +100,12 @@ pub const KINDS: [&str; 73] = [
     "printed inline strings",
     "compared inline strings",
     "inline strings that grow",
+    "capacities",
+    "capacities of inline strings",
     "bad lines",
 ];
 
-pub const MAKES: [Make; 72] = [
+pub const MAKES: [Make; 74] = [
     |r| slices::asked(r, 0),
     |r| slices::asked(r, 1),
     |r| slices::asked(r, 2),
@@ -175,6 +178,8 @@ pub const MAKES: [Make; 72] = [
     modes::small_printed,
     modes::small_compared,
     modes::small_room,
+    rooms::string,
+    rooms::small,
 ];
 
 impl Asked {
@@ -191,7 +196,7 @@ impl Asked {
 }
 
 /// Lines that are not questions.
-const BAD: [&[u8]; 29] = [
+const BAD: [&[u8]; 30] = [
     b"",
     b" ",
     b"slice",
@@ -221,6 +226,7 @@ const BAD: [&[u8]; 29] = [
     b"line_write 3 61 cr",
     b"line_serve 3",
     b"recipe_screen 1 61",
+    b"room_string 1 w",
 ];
 
 /// A line that is not a question.

@@ -103,6 +103,18 @@ impl Random {
         self.below(most)
     }
 
+    /// A number of bytes about those at which strings grow.
+    pub fn room(&mut self) -> usize {
+        if self.is_small() {
+            return *self.pick(&[0, 1, 8, 9, 24, 25]);
+        }
+        match self.below(4) {
+            0 => *self.pick(&EDGES),
+            1 => self.below(100),
+            _ => self.below(10),
+        }
+    }
+
     /// Codes of a list, up to a length, mostly long.
     pub fn repeated(&mut self, from: &[u8], most: usize) -> Vec<u8> {
         let length = if self.is_small() { self.below(3) } else { most - self.below(most) / 2 };

@@ -49,6 +49,15 @@ fn ran<B: AsciiBuf>(question: &Question<'_>, buf: &mut B) -> Result<String, Faul
     Ok(said)
 }
 
+/// The reply to the command that a word is.
+pub(crate) fn follow<B: AsciiBuf>(alloc: Global, buf: &mut B, word: &str) -> Result<String, Fault> {
+    let text = text_of_word(alloc, word)?;
+    let command = command_of(word, text.as_ascii_str())?;
+    let replies = run(alloc, buf, &[command])?;
+    let reply = replies.first().ok_or(Fault::Bad)?;
+    reply_word(alloc, reply)
+}
+
 /// The text that each word names, which is empty where it names none.
 fn texts_of(alloc: Global, words: &[&str]) -> Result<Vec<AsciiString>, Fault> {
     let mut texts = Vec::new(alloc);
@@ -73,7 +82,7 @@ fn text_of_word(alloc: Global, word: &str) -> Result<AsciiString, Fault> {
 }
 
 /// The word without its letter.
-fn rest_of(word: &str) -> &str {
+pub(crate) fn rest_of(word: &str) -> &str {
     let mut rest = word.chars();
     let _ = rest.next();
     rest.as_str()

@@ -15,6 +15,7 @@ mod modes;
 mod prints;
 mod question;
 mod recipes;
+mod rooms;
 mod slices;
 mod smalls;
 mod texts;
@@ -60,6 +61,7 @@ fn reply(alloc: Global, line: &[u8]) -> Result<String, Fault> {
         "json" => modes::json_reply(&question, call),
         "recipe" => recipes::reply(&question, call),
         "small" => smalls::reply(&question, call),
+        "room" => rooms::reply(&question, call),
         _ => Err(Fault::Bad),
     }
 }
