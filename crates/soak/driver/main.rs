@@ -3,11 +3,12 @@
 //!
 //!     soak SECONDS SEED [THREADS]
 //!
-//! It first asks the worked questions, then small cases of each kind (texts over five codes: all of them up to the length
-//! at which there are not too many, and the first ones of longer texts), then calls the kernels over buffers that end where memory may not be read, and then asks at
-//! random for that time. The seed decides those questions. The last lines are the number of questions of each kind
-//! and the number of answers that differ. The status is 1 if an answer differs, or if this program or the library
-//! panics; it is 2 for bad arguments.
+//! It first asks the worked questions and calls the kernels over buffers that end where memory may not be read. Then it
+//! asks small cases of each kind: each code or byte, all scripts up to 6 letters, and texts over five codes, all of them
+//! up to the length at which there are not too many, and the first ones of longer texts. Then it asks at random for that
+//! time; the seed decides those questions. The last lines are the number of questions of each kind and the number of
+//! answers that differ. The status is 1 if an answer differs, or if this program or the library panics; it is 2 for bad
+//! arguments.
 
 mod edges;
 mod expected;

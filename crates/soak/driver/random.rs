@@ -166,7 +166,7 @@ impl Random {
         (0..length).map(|_| *self.pick(from)).collect()
     }
 
-    /// Bytes, in which up to three may be past 127.
+    /// Bytes, in which up to three may be above 127.
     pub fn bytes(&mut self) -> Vec<u8> {
         let mut bytes = self.text();
         if self.is_small() {
@@ -212,7 +212,7 @@ impl Random {
 
     /// Letters `F` and `B`.
     pub fn script(&mut self) -> String {
-        let length = if self.is_small() { self.below(5) } else { self.below(12) };
+        let length = if self.is_small() { self.below(7) } else { self.below(12) };
         (0..length).map(|_| if self.below(2) == 0 { 'F' } else { 'B' }).collect()
     }
 }

@@ -1,5 +1,5 @@
 //! Printed texts, in hexadecimal: `print_view FORM TEXT`, `print_string FORM TEXT`, `print_char FORM CODE`. A form is
-//! what stands between the braces of a format, one of those below, and `-` for none.
+//! what is between the braces of a format, one of those below, and `-` for none.
 
 use crate::question::{Fault, Question};
 use std::alloc::{AllocError, Global};
