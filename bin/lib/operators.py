@@ -261,7 +261,7 @@ class Operators:
             self.add("default", (self.function.opens, self.function.end, f"{{ {new} }}" if new else "{}"))
 
     def results(self):
-        """Another value in place of the body's, or in place of the body."""
+        """Another value in place of the body's, or in place of the body; none that gives up, which no contract rejects."""
         body = self.text[self.function.opens : self.function.end]
         result = re.sub(r"'\w+ ?", "", self.function.result).replace(" ", "")
         news = {
@@ -273,7 +273,7 @@ class Operators:
             "Result<AsciiChar,ToAsciiCharError>": ["Ok(AsciiChar::a)", "Err(ToAsciiCharError(()))", "Ok(AsciiChar::DEL)"],
             "AsciiStr<>": ['AsciiStr::literal("x")', 'AsciiStr::literal("")', f"({body}).trim_end()"],
             "Option<AsciiStr<>>": ['Some(AsciiStr::literal("x"))', 'Some(AsciiStr::literal(""))'],
-            "fmt::Result": ["Ok(())", "Err(fmt::Error)"], "&[u8]": ['b"x"', 'b""'],
+            "fmt::Result": ["Ok(())"], "&[u8]": ['b"x"', 'b""'],
         }  # fmt: skip
         changed = news.get(result, [])
         if re.fullmatch(r"[ui](8|16|32|64|128|size)", result):
