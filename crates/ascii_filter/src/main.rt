@@ -1,6 +1,7 @@
 //! `ascii_filter MODE [FILE..]`: files or standard input of any length, in one of several modes, to standard output.
 #![tactic(auto)]
 
+ghost use Rattle.std.specs.Prelude.{◌≡◌, ◌≢◌, codes};
 ghost use Rattle.ascii_filter.specs.Status.{MayAnswer};
 
 mod check;
@@ -13,7 +14,7 @@ use ascii_run::{BoundedFault, BoundedMode, Input, Output, bounded_engine};
 use check::name_others;
 use clap::{ArgMatches, Error};
 use failure::Failure;
-use options::{Check, STANDARD_INPUT, Task, command, task_of};
+use options::{Check, STANDARD_INPUT, Task, command, options_of, task_of};
 use remembering::Remembering;
 use std::alloc::{AllocError, Allocator};
 use std::process::ExitCode;
@@ -42,7 +43,10 @@ fn filter<A: Allocator + Copy, I: io::Read + Drop, O: io::Write + Drop>(
 }
 
 /// What the program calls a file: its name, or for `-` standard input.
-fn shown_name(name: &str) -> &str {
+fn shown_name(name: &str) -> &str
+    ensures dash { name.now ≡ codes "-" → result.now ≡ codes "(standard input)" }
+    ensures other { name.now ≢ codes "-" → result.now ≡ name.now }
+{
     if name == "-" { STANDARD_INPUT } else { name }
 }
 
@@ -130,7 +134,7 @@ fn print_error(rt: &HostRuntime, error: &Error) -> u8 {
 /// Runs the arguments that were parsed.
 fn run_matches(rt: &HostRuntime, matches: &ArgMatches<'_>) -> Result<u8, AllocError> {
     let files = matches.get_strs("FILE").unwrap_or_default();
-    match task_of(matches) {
+    match task_of(options_of(matches)) {
         Ok(task) => run_files(rt, task, files),
         Err(line) => Ok(refuse(rt, line)),
     }

@@ -1,5 +1,9 @@
 //! The options of the program.
 
+ghost use Rattle.std.specs.Prelude.{◌≡◌, MatchOption};
+ghost use Rattle.clap.specs.Words.{found_of};
+ghost use Rattle.ascii_filter.specs.Options.{AreOptionsOf, IsModeName, TaskOutcome, mode_name};
+
 use ascii_run::BoundedMode;
 use clap::builder::ValueParser;
 use clap::{Arg, ArgAction, ArgMatches, Command};
@@ -31,14 +35,45 @@ pub enum Task {
     Check(Check),
 }
 
-/// The task that the parsed arguments ask for, or a line that says what is wrong with them.
-pub fn task_of(matches: &ArgMatches<'_>) -> Result<Task, &'static str> {
-    let is_count = matches.get_flag("count");
-    let is_quiet = matches.get_flag("quiet");
-    let max = matches.get_one::<u64>("max");
-    let name = matches.get_str("MODE").unwrap_or_default();
-    let files = matches.get_strs("FILE").unwrap_or_default();
-    let Some(mode) = mode_of(name) else {
+/// What the words of a call name.
+#[derive(Clone, Copy)]
+pub struct Options<'a> {
+    /// The name of a mode, or `check`.
+    pub mode: &'a str,
+    /// How many files are named.
+    pub files: usize,
+    /// Whether `--count` is there.
+    pub is_count: bool,
+    /// Whether `--quiet` is there.
+    pub is_quiet: bool,
+    /// The number after `--max`.
+    pub max: Option<u64>,
+}
+
+/// The options among the parsed arguments. The number after `--max` is the one that `clap` reads.
+pub fn options_of<'a>(matches: &ArgMatches<'a>) -> Options<'a>
+    ensures { AreOptionsOf (found_of matches.now) result }
+{
+    Options {
+        mode: matches.get_str("MODE").unwrap_or_default(),
+        files: matches.get_strs("FILE").unwrap_or_default().len(),
+        is_count: matches.get_flag("count"),
+        is_quiet: matches.get_flag("quiet"),
+        max: matches.get_one::<u64>("max"),
+    }
+}
+
+/// The task that the options ask for, or a line that says what is wrong with them.
+pub fn task_of(options: Options<'_>) -> Result<Task, &'static str>
+    ensures { TaskOutcome options.entry result }
+{
+    let Options {
+        is_count,
+        is_quiet,
+        max,
+        ..
+    } = options;
+    let Some(mode) = mode_of(options.mode) else {
         let most = if is_quiet { 1 } else { max.unwrap_or(u64::MAX) };
         return Ok(Task::Check(Check {
             most,
@@ -49,14 +84,16 @@ pub fn task_of(matches: &ArgMatches<'_>) -> Result<Task, &'static str> {
     if is_count || is_quiet || max.is_some() {
         return Err("ascii_filter: --count, --max and --quiet are options of check\n");
     }
-    if mode == BoundedMode::Json && files.len() > 1 {
+    if mode == BoundedMode::Json && options.files > 1 {
         return Err("ascii_filter: json takes one input\n");
     }
     Ok(Task::Filter(mode))
 }
 
-/// The mode with a name, or `None` for `check`.
-fn mode_of(name: &str) -> Option<BoundedMode> {
+/// The mode with a name, or `None` for any other word.
+fn mode_of(name: &str) -> Option<BoundedMode>
+    ensures { MatchOption result (¬ (IsModeName name.now)) (λ mode. name.now ≡ mode_name mode) }
+{
     match name {
         "copy" => Some(BoundedMode::Copy),
         "lines" => Some(BoundedMode::Lines),

@@ -1,0 +1,64 @@
+-- The options of the program: the task that the words of a call ask for.
+use Rattle.std.specs.Prelude.{◌≡◌, ◌⊎◌, ℕ, ◌^◌, ◌-◌, ◌<◌, ◌≤◌, List, [], codes, length}
+use Rattle.std.specs.Prelude.{Bool, true, false, if◌then◌else◌, option_map, unwrap_or}
+use Rattle.std.specs.Borrow.{Bor}
+use Rattle.std.specs.declared.result.Result.{Result}
+use Rattle.std.specs.declared.result.Result.TheVariants.{Ok, Err}
+use Rattle.std.specs.declared.option.Option.{Option}
+use Rattle.std.specs.declared.option.Option.TheVariants.{None, Some}
+use Rattle.clap.specs.declared.parser.matches.Found.{Found}
+use Rattle.clap.specs.Words.{first_value, matched_of, one_text, raw_values}
+use Rattle.ascii_run.specs.declared.bounded.BoundedMode.{BoundedMode}
+use Rattle.ascii_run.specs.declared.bounded.BoundedMode.TheVariants.{Copy, Lines, Caret, Json}
+use Rattle.ascii_run.specs.declared.bounded.BoundedMode.TheVariants.{Upper, Lower}
+use Rattle.ascii_filter.specs.declared.options.Options.{Options}
+use Rattle.ascii_filter.specs.declared.options.Task.{Task}
+use Rattle.ascii_filter.specs.declared.options.Task.TheVariants.{Filter, Check}
+
+-- the name of a mode
+abbrev pub mode_name : BoundedMode → List ℕ
+mode_name Copy = codes "copy"
+mode_name Lines = codes "lines"
+mode_name Caret = codes "caret"
+mode_name Json = codes "json"
+mode_name Upper = codes "upper"
+mode_name Lower = codes "lower"
+
+-- the word is the name of a mode
+abbrev pub IsModeName : List ℕ → Type 0
+IsModeName word = (mode : BoundedMode) × (word ≡ mode_name mode)
+
+-- a flag is as its value says, and not set if it has none
+abbrev pub IsFlagOf : Option (List ℕ) → Bool → Type 0
+IsFlagOf None flag = flag ≡ false
+IsFlagOf (Some value) flag =
+    (value ≡ codes "true" → flag ≡ true) × (value ≡ codes "false" → flag ≡ false)
+
+-- the options are those among the arguments that were found; without a value, `--max` is not there
+pub record AreOptionsOf (found : Found) (options : Options) : Type 0 where
+  pub mode : options.mode.now ≡ unwrap_or (first_value found (codes "MODE")) []
+  pub files : options.files
+      ≡ length (unwrap_or (option_map raw_values (matched_of found (codes "FILE"))) [])
+  pub count : IsFlagOf (one_text found (codes "count")) options.is_count
+  pub quiet : IsFlagOf (one_text found (codes "quiet")) options.is_quiet
+  pub max : one_text found (codes "max") ≡ None → options.max ≡ None
+
+-- no option of `check` was set
+abbrev pub HasNoOptionOfCheck : Options → Type 0
+HasNoOptionOfCheck options =
+    (options.is_count ≡ false) × (options.is_quiet ≡ false) × (options.max ≡ None)
+
+-- the outcome of the options: the task, or the line that says what is wrong with them
+abbrev pub TaskOutcome : Options → Result Task (Bor (List ℕ)) → Type 0
+TaskOutcome options (Ok (Filter mode)) =
+    (options.mode.now ≡ mode_name mode) × HasNoOptionOfCheck options
+    × (mode ≡ Json → options.files ≤ 1)
+TaskOutcome options (Ok (Check check)) =
+    (¬ (IsModeName options.mode.now)) × (check.is_count ≡ options.is_count)
+    × (check.is_quiet ≡ options.is_quiet)
+    × (check.most ≡ if options.is_quiet then 1 else unwrap_or options.max (2 ^ 64 - 1))
+TaskOutcome options (Err line) =
+    ((line.now ≡ codes "ascii_filter: --count, --max and --quiet are options of check\n")
+    × IsModeName options.mode.now × ¬ (HasNoOptionOfCheck options))
+    ⊎ ((line.now ≡ codes "ascii_filter: json takes one input\n")
+    × (options.mode.now ≡ mode_name Json) × HasNoOptionOfCheck options × (1 < options.files))
