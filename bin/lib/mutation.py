@@ -53,6 +53,10 @@ class Crate:
     def body(self, function):
         return self.sources[function.file][function.start : function.end]
 
+    def is_public(self, function):
+        """Whether callers of the crate may call it: it is `pub`, or a method of a trait."""
+        return function.in_trait or bool(re.search(r"(?m)^\s*pub (const )?fn\b", self.sources[function.file][function.start : function.opens]))
+
     # Which symbol of the prover a function has
 
     def check(self, names, seconds):

@@ -8,6 +8,7 @@ sys.dont_write_bytecode = True
 sys.path.insert(0, str(Path(__file__).resolve().parent))
 from mutation import Crate, camel, give_kinds, in_turn  # noqa: E402
 from tokens import functions_of, lex, partners  # noqa: E402
+from verdicts import Verdicts  # noqa: E402
 
 SOURCE = '''\
 //! A crate.
@@ -107,6 +108,21 @@ class OfOneCrate(unittest.TestCase):
     def test_the_prover_did_not_decide(self):
         give_kinds(self.mutants[:1], "fn small::one: it calls small::two, which is not proved", ["one"])
         self.assertEqual(self.mutants[0].kind, "waits")
+
+    def test_verdicts_are_kept(self):
+        folder = Path(self.folder.name) / "verdicts"
+        mutant = self.of("relation")[0]
+        mutant.kind = "open"
+        Verdicts(self.crate, folder).save([mutant])
+        kept = Verdicts(self.crate, folder)
+        self.assertTrue(kept.has(mutant))
+        self.assertEqual(kept.tried(), [("relation", "open")])
+        self.assertEqual([m.key for m in kept.mutants(("open",))], [mutant.key])
+        self.crate.sources["src/lib.rt"] = SOURCE.replace("if a < b", "if b > a")
+        self.assertEqual(Verdicts(self.crate, folder).tried(), [])
+
+    def test_public_functions(self):
+        self.assertEqual([self.crate.is_public(f) for f in self.crate.functions], [True, True])
 
     def test_turns(self):
         order = in_turn(self.mutants, 1)
