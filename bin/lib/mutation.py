@@ -11,7 +11,7 @@ import shutil
 import subprocess
 
 from operators import Operators
-from tokens import Names, functions_of
+from tokens import Names, angles, functions_of
 
 # The verdicts. `open`: a goal without a proof by hand is not proved. `answer`: a proof by hand does not prove its goal.
 # `misfit`: only a proof by hand fails that names something the mutant lacks, which says little of the contract. `unread`: it
@@ -84,7 +84,7 @@ class Crate:
             found = [s for s in self.symbols if s.split("::")[1:] == [*module, function.name]]
             return found[0] if len(found) == 1 else None
         head = re.sub(r"^(impl|trait)\s*", "", function.block)
-        generic = angles(head) if head.startswith("<") else ""
+        generic = angles(head)
         own = {it for it in re.findall(r"[<,]\s*(?:const )?(\w+)", generic)}
         head = re.sub(r"\swhere\s.*", "", head[len(generic) :].strip(), flags=re.S)
         trait, _, owner = head.rpartition(" for ")
@@ -204,16 +204,6 @@ def camel(text, generic):
     """How a symbol writes a type or a trait: `&'a [u8]` as `RefSliceU8`."""
     words = re.findall(r"&|\[|(?<!')\b[A-Za-z]\w*", re.sub(r"'\w+|\bmut\b|\bdyn\b", "", text))
     return "".join({"&": "Ref", "[": "Slice"}.get(it, it[0].upper() + it[1:]) for it in words if it not in generic)
-
-
-def angles(text):
-    """The angle brackets that a text begins with, and what is in them."""
-    depth = 0
-    for i, it in enumerate(text):
-        depth += (it == "<") - (it == ">" and text[i - 1] != "-")
-        if depth == 0:
-            return text[: i + 1]
-    return text
 
 
 def give_kinds(mutants, said, names):

@@ -3,6 +3,7 @@ import re
 from dataclasses import dataclass
 
 from tokens import KEYWORDS, OPENING, Function, Token, lex, partners, parts
+from values import changes, others, outcomes, plain
 
 
 @dataclass
@@ -75,25 +76,33 @@ class Operators:
         ]
         self.pairs = partners(self.tokens)
         self.made, self.seen = [], set()
+        # The statements that only help the prover.
+        self.helpers = [
+            self.span(i, self.closes_at(i, {";"}))
+            for i, it in enumerate(self.tokens)
+            if it.text == "let" and re.match(r"_\w", self.tokens[i + 1].text)
+        ]
 
     def all(self):
         for make in (
             self.signs, self.literals, self.conditions, self.truths, self.deletions, self.arguments, self.arms,
             self.defaults, self.results, self.words, self.options, self.variants, self.constants, self.variables, self.ranges, self.calls,
-            self.alternatives,
+            self.alternatives, self.inputs, self.fields_read, self.outputs, self.repeats,
         ):  # fmt: skip
             make()
         return self.made
 
-    def add(self, operator, *edits):
+    def add(self, operator, *edits, shown=None):
         edits = sorted(edits)
+        if any(a <= it[0] and it[1] <= b for a, b in self.helpers for it in edits):
+            return
         new = self.written(edits)
         if new in self.seen or "".join(new.split()) == "".join(self.text[self.function.opens : self.function.end].split()):
             return
         self.seen.add(new)
         start = min(it[0] for it in edits)
         line = self.text.count("\n", 0, start) + 1
-        shown = "; ".join(f"`{clip(self.text[a:b])}` -> `{clip(c)}`" for a, b, c in edits)
+        shown = shown or "; ".join(f"`{clip(self.text[a:b])}` -> `{clip(c)}`" for a, b, c in edits)
         self.made.append(Mutant(self.function, operator, edits, f"{line}: {shown}"))
 
     def written(self, edits):
@@ -273,7 +282,7 @@ class Operators:
             "Result<AsciiChar,ToAsciiCharError>": ["Ok(AsciiChar::a)", "Err(ToAsciiCharError(()))", "Ok(AsciiChar::DEL)"],
             "AsciiStr<>": ['AsciiStr::literal("x")', 'AsciiStr::literal("")', f"({body}).trim_end()"],
             "Option<AsciiStr<>>": ['Some(AsciiStr::literal("x"))', 'Some(AsciiStr::literal(""))'],
-            "fmt::Result": ["Ok(())"], "&[u8]": ['b"x"', 'b""'],
+            "fmt::Result": ["Ok(())", "f.write_str(\"x\")", "f.write_char('x')"], "&[u8]": ['b"x"', 'b""'],
         }  # fmt: skip
         changed = news.get(result, [])
         if re.fullmatch(r"[ui](8|16|32|64|128|size)", result):
@@ -397,6 +406,65 @@ class Operators:
                 while end < len(self.tokens) and self.tokens[end].text not in ("|", "=>", ")", "if", ","):
                     end = self.pairs[end] + 1 if self.tokens[end].text in OPENING else end + 1
                 self.add("alternative", (it.start, self.tokens[end - 1].end, ""))
+
+
+    def around(self, operator, before, after, shown, *edits):
+        """The body in a block, with something before and after it."""
+        opens, end = self.function.opens, self.function.end
+        self.add(operator, (opens, opens, f"{{ {before} "), *edits, (end, end, f" {after} }}"), shown=shown)
+
+    def inputs(self):
+        """The function as if it took something else."""
+        for name, kind in self.function.params:
+            for change in changes(self.names, kind, name, self.text) if name[0] != "_" else []:
+                self.around("input", f"let mut {name} = {name}; {change}", "", f"`{change}` before the body")
+        owner, receiver = self.function.owner, self.function.receiver
+        renamed = [(it.start, it.end, "changed") for it in self.tokens if it.kind == "word" and it.text == "self"]
+        if receiver in ("self", "mut self"):
+            for change in changes(self.names, owner, "changed", self.text):
+                shown = f"`{change.replace('changed', 'self')}` before the body"
+                self.around("input", f"let mut changed = self; {change}", "", shown, *renamed)
+        elif receiver == "&self":
+            for value in others(self.names, owner, "*self"):
+                self.around("input", f"let changed = &({value});", "", f"`{value}` as `self`", *renamed)
+        elif receiver == "&mut self":
+            for change in changes(self.names, owner, "self", self.text):
+                if f".{self.function.name}(" not in change:
+                    self.around("input", change, "", f"`{change}` before the body")
+                    self.around("output", "let answer =", f"; {change} answer", f"`{change}` after the body")
+
+    def fields_read(self):
+        """Another value of a field of `self` where it is read."""
+        holds = self.names.fields.get(re.match(r"\w*", plain(self.function.owner))[0], {})
+        for i, it in enumerate(self.tokens[:-3]):
+            name, after = self.tokens[i + 2], self.tokens[i + 3]
+            if it.text != "self" or self.tokens[i + 1].text != "." or name.text not in holds or after.text in ("=", "+=", "-=", ".", "["):
+                continue
+            if self.before(i).text != "mut":
+                for value in others(self.names, holds[name.text], f"self.{name.text}"):
+                    self.add("field", (it.start, name.end, f"({value})"))
+
+    def outputs(self):
+        """The function as if it returned something else."""
+        result = re.sub(r"\bSelf\b(?! ::)", self.function.owner or "Self", self.function.result)
+        for kind, pattern, value, other in outcomes(result):
+            for change in changes(self.names, kind, "changed", self.text):
+                shown = f"`{change}` after the body, of {value}"
+                if other:
+                    self.around("output", "match", f"{{ {pattern} => {{ {change} {value} }} {other} }}", shown)
+                else:
+                    self.around("output", f"let {pattern} =", f"; {change} changed", shown)
+
+    def repeats(self):
+        """The body twice, where it changes something that was there before."""
+        body, result = self.text[self.function.opens : self.function.end], plain(self.function.result)
+        taken = {self.function.receiver.replace("self", ""), *(re.match(r"(&mut)?", plain(kind))[0] for _, kind in self.function.params)}
+        if not {"&mut", "&mut "} & taken:
+            return
+        if result in ("", "()"):
+            self.around("repeat", body, "", "the body twice")
+        elif result == "fmt::Result" or result.startswith("Result<(),"):
+            self.around("repeat", f"{body}?;", "", "the body twice")
 
 
 def clip(text):

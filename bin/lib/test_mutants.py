@@ -7,7 +7,8 @@ from pathlib import Path
 sys.dont_write_bytecode = True
 sys.path.insert(0, str(Path(__file__).resolve().parent))
 from mutation import Crate, camel, give_kinds, in_turn  # noqa: E402
-from tokens import functions_of, lex, partners  # noqa: E402
+from tokens import Names, functions_of, lex, partners  # noqa: E402
+from values import changes, outcomes  # noqa: E402
 from verdicts import Verdicts  # noqa: E402
 
 SOURCE = '''\
@@ -28,11 +29,30 @@ impl<'a> Shown for Pair<'a> {
     fn shown(&self) -> &'static str
         ensures { result ≡ "}" }
     {
+        let _side = self.size + 1;
         match self.side {
             Side::Left => "left",
             Side::Right => "right",
         }
     }
+
+    fn double(&mut self) {
+        self.size *= 2;
+    }
+}
+
+impl Pair<'_> {
+    fn half(&self) -> Result<u8, String>
+        ensures { ⊤ }
+    {
+        Ok(self.size)
+    }
+}
+
+struct Pair<'a> {
+    pub side: Side,
+    text: &'a str,
+    size: u8,
 }
 
 enum Side {
@@ -67,9 +87,11 @@ class OfOneCrate(unittest.TestCase):
 
     def test_functions(self):
         found = functions_of("src/lib.rt", SOURCE)
-        self.assertEqual([it.name for it in found], ["smaller", "shown"])
+        self.assertEqual([it.name for it in found], ["smaller", "shown", "double", "half"])
+        self.assertEqual([it.receiver for it in found], ["", "&self", "&mut self", "&self"])
+        self.assertEqual([it.owner for it in found], ["", "Pair<'a>", "Pair<'a>", "Pair<'_>"])
         self.assertEqual(found[0].params, [("a", "u8"), ("b", "u8")])
-        self.assertEqual([it.in_trait for it in found], [False, True])
+        self.assertEqual([it.in_trait for it in found], [False, True, True, False])
         self.assertTrue(SOURCE[found[0].start :].startswith("#[inline]"))
 
     def test_operators(self):
@@ -77,6 +99,33 @@ class OfOneCrate(unittest.TestCase):
         self.assertEqual(len(self.of("arms")), 1)
         self.assertEqual({m.function.name for m in self.of("variant")}, {"shown"})
         self.assertFalse([m for m in self.mutants if m.shown.startswith("8: ")])
+
+    def test_helpers_of_the_prover_are_left_as_they_are(self):
+        self.assertFalse([m for m in self.mutants if m.shown.startswith("18: ")])
+
+    def test_other_inputs(self):
+        shown = {(m.function.name, m.shown.partition(": ")[2]) for m in self.of("input")}
+        self.assertIn(("smaller", "`b = b ^ 1;` before the body"), shown)
+        self.assertIn(("double", "`self.side = Side::Left;` before the body"), shown)
+        self.assertEqual({m.shown for m in self.of("field") if m.function.name == "half"}, {"34: `self.size` -> `(self.size ^ 1)`"})
+
+    def test_other_outputs(self):
+        shown = {(m.function.name, m.shown.partition(": ")[2]) for m in self.of("output")}
+        self.assertIn(("smaller", "`changed = changed ^ 1;` after the body, of changed"), shown)
+        self.assertIn(("half", "`changed.clear();` after the body, of Err(changed)"), shown)
+        self.assertIn(("double", '`self.text = "x";` after the body'), shown)
+
+    def test_the_body_twice(self):
+        self.assertEqual([m.function.name for m in self.of("repeat")], ["double"])
+
+    def test_changes(self):
+        names = Names()
+        names.read(SOURCE)
+        self.assertEqual(changes(names, "&'a str", "it", ""), ['it = "x";', 'it = "";'])
+        self.assertEqual(changes(names, "Pair<'a>", "it", ""), ["it.side = Side::Left;", "it.side = Side::Right;"])
+        self.assertEqual(changes(names, "(u8, Option<Pair>)", "it", ""), ["it.0 = it.0 ^ 1;", "it.1 = None;"])
+        self.assertEqual(changes(names, "A", "it", ""), [])
+        self.assertEqual([it[0] for it in outcomes("Result < Vec < u8 , A > , E >")], ["Vec<u8,A>", "E"])
 
     def test_each_mutant_changes_the_body(self):
         keys = {m.key for m in self.mutants}
@@ -122,18 +171,20 @@ class OfOneCrate(unittest.TestCase):
         self.assertEqual(Verdicts(self.crate, folder).tried(), [])
 
     def test_public_functions(self):
-        self.assertEqual([self.crate.is_public(f) for f in self.crate.functions], [True, True])
+        self.assertEqual([self.crate.is_public(f) for f in self.crate.functions], [True, True, True, False])
 
     def test_turns(self):
         order = in_turn(self.mutants, 1)
         self.assertEqual(len(order), len(self.mutants))
-        first = order[:2]
-        self.assertEqual({m.function.name for m in first}, {"smaller", "shown"})
+        first = order[:4]
+        self.assertEqual({m.function.name for m in first}, {"smaller", "shown", "double", "half"})
         self.assertEqual([m.key for m in order], [m.key for m in in_turn(self.mutants, 1)])
 
     def test_symbols(self):
         self.assertEqual(camel("&'a [u8]", set()), "RefSliceU8")
-        self.crate.symbols = {"small::smaller": "proved", "small::PairShown::shown": "proved"}
+        self.crate.symbols = {
+            f"small::{it}": "proved" for it in ("smaller", "PairShown::shown", "PairShown::double", "Pair::half")
+        }
         self.assertEqual([self.crate.symbol_of(f) for f in self.crate.functions], [*self.crate.symbols])
 
 

@@ -60,6 +60,14 @@ class Function:
     end: int  # the position after the brace that closes it
     params: list
     result: str
+    receiver: str = ""  # `&mut self`, `self` ..
+
+    @property
+    def owner(self):
+        """The type that it is a method of."""
+        head = re.sub(r"^(impl|trait)\s*", "", self.block)
+        head = re.sub(r"\swhere\s.*", "", head[len(angles(head)) :], flags=re.S)
+        return head.rpartition(" for ")[2].strip()
 
     @property
     def in_trait(self):
@@ -76,6 +84,23 @@ def skip_angles(tokens, i):
         i += 1
         if depth == 0:
             return i
+
+
+def angles(text):
+    """The angle brackets that a text begins with, and what is in them; nothing if it begins with none."""
+    depth = 0
+    for i, it in enumerate(text):
+        depth += (it == "<") - (it == ">" and text[i - 1] != "-")
+        if depth == 0:
+            return text[: i + 1] if i else ""
+    return ""
+
+
+def receiver_of(tokens):
+    """How these parameters take `self`, without lifetimes."""
+    first = parts(tokens)[:1]
+    words = [it.text for it in first[0] if it.kind != "label"] if first else []
+    return "".join(words).replace("mutself", "mut self") if words[-1:] == ["self"] else ""
 
 
 def parameters(tokens):
@@ -131,7 +156,7 @@ def functions_of(file, text):
         elif it.text == "fn" and it.kind == "word" and tokens[i + 1].kind == "word":
             name = tokens[i + 1]
             at = skip_angles(tokens, i + 2)
-            params = parameters(tokens[at + 1 : pairs[at]])
+            inside = tokens[at + 1 : pairs[at]]
             at = pairs[at] + 1
             told = at
             while tokens[at].text not in ("{", ";"):
@@ -150,7 +175,10 @@ def functions_of(file, text):
                     start -= len(lines.pop())
                 block = blocks[-1][1] if blocks else ""
                 found.append(
-                    Function(file, name.text, block, start, name.start, tokens[at].start, tokens[pairs[at]].end, params, result)
+                    Function(
+                        file, name.text, block, start, name.start, tokens[at].start, tokens[pairs[at]].end,
+                        parameters(inside), result, receiver_of(inside),
+                    )  # fmt: skip
                 )
                 i = pairs[at]
             else:
@@ -168,11 +196,16 @@ class Names:
     variants: dict = field(default_factory=dict)  # of an enum: name to the text of what it holds
     constants: dict = field(default_factory=dict)  # name to type
     fields: dict = field(default_factory=dict)  # of a struct: name to type
+    private: set = field(default_factory=set)  # pairs of a struct and a field that only its module sees
+    iterators: set = field(default_factory=set)  # types that iterate
+    double_ended: set = field(default_factory=set)  # those that iterate from both ends
     words: set = field(default_factory=set)  # every word
 
     def read(self, text):
         tokens = lex(text)
         self.words |= {it.text for it in tokens if it.kind == "word"}
+        self.iterators |= {*re.findall(r"\bIterator for (\w+)", text)}
+        self.double_ended |= {*re.findall(r"\bDoubleEndedIterator for (\w+)", text)}
         pairs = partners(tokens)
         for i, it in enumerate(tokens):
             if it.kind != "word":
@@ -197,3 +230,5 @@ class Names:
                 elif it.text == "struct" and words and words[0] != "ghost" and ":" in words:
                     colon = words.index(":")
                     self.fields.setdefault(tokens[i + 1].text, {})[words[colon - 1]] = " ".join(words[colon + 1 :])
+                    if "pub" not in {t.text for t in part}:
+                        self.private.add((tokens[i + 1].text, words[colon - 1]))

@@ -1,6 +1,6 @@
 """The verdicts on the mutants that were tried: a file for each crate in `verdicts/`, with a line for each mutant: the hash of
 its function, that of its change, its operator and its kind, separated by tabs. If the text of a function changes, its lines
-are dropped, so that only its mutants are tried again."""
+are dropped, so that only its mutants are tried again. So are those of mutants that the operators make no more."""
 import collections
 from hashlib import sha256
 from pathlib import Path
@@ -23,7 +23,12 @@ class Verdicts:
         self.functions = {self.hash(f): f for f in crate.functions}
         lines = self.file.read_text(encoding="utf-8").splitlines() if self.file.exists() else []
         rows = [line.split("\t") for line in lines]
-        self.kinds = {(f, change, operator): kind for f, change, operator, kind in rows if f in self.functions}
+        made = {self.name(m) for m in crate.mutants()} if rows else set()
+        self.kinds = {
+            (f, change, operator): kind
+            for f, change, operator, kind in rows
+            if (f, change, operator) in made or operator == CONTROL and f in self.functions
+        }
 
     def hash(self, function):
         return short(f"{function.file}:{function.block}:{self.crate.body(function)}")

@@ -1,0 +1,82 @@
+"""Changes of a value by its type, for mutants that change what a function takes or what it returns."""
+import re
+
+from tokens import lex, parts
+
+# Other values of a type.
+OTHERS = {
+    "&str": ['"x"', '""'], "&[u8]": ['b"x"', 'b""'], "char": ["'x'"], "AsciiChar": ["AsciiChar::a", "AsciiChar::Null"],
+    "AsciiStr": ['AsciiStr::literal("x")', 'AsciiStr::literal("")'],
+}  # fmt: skip
+# Types of which a value can be cut.
+TEXTS = {"AsciiString", "SmallAsciiString", "Vec", "String"}
+
+
+def plain(kind):
+    """A type without lifetimes and spaces."""
+    return re.sub(r"<,*>", "", re.sub(r"'\w+ ?", "", kind).replace(" ", "").replace("<,", "<"))
+
+
+def arguments_of(kind):
+    """The arguments of a generic type, or the members of a tuple."""
+    inside = kind[kind.index("(" if kind.startswith("(") else "<") + 1 : -1]
+    found, depth = [""], 0
+    for it in inside:
+        depth += (it in "<([") - (it in ">)]")
+        if it == "," and depth == 0:
+            found.append("")
+        else:
+            found[-1] += it
+    return [it for it in found if it]
+
+
+def others(names, kind, it):
+    """Expressions of other values of the type of the expression `it`."""
+    kind = plain(kind)
+    name = re.match(r"\w*", kind)[0]
+    if kind in OTHERS:
+        return OTHERS[kind]
+    if re.fullmatch(r"[ui](8|16|32|64|128|size)", kind):
+        return [f"{it} ^ 1"]
+    if kind == "bool":
+        return [f"!{it}"]
+    if name == "Option":
+        return ["None"]
+    return [f"{name}::{variant}" for variant, holds in names.variants.get(name, {}).items() if not holds][:2]
+
+
+def changes(names, kind, it, text, depth=2):
+    """Statements that change the variable `it` of a type, in a file with this text."""
+    kind = plain(kind)
+    name = re.match(r"(&mut)?(\w*)", kind)[2]
+    values = others(names, kind, it)
+    if values:
+        return [f"{it} = {value};" for value in values]
+    if name in TEXTS and not kind.startswith("&["):
+        return [f"{it}.clear();", f"{it}.truncate(1);"]
+    if name in names.iterators:
+        return [f"let _ = {it}.{step}();" for step in ("next", "next_back")[: 1 + (name in names.double_ended)]]
+    if not depth:
+        return []
+    fields = names.fields.get(name, {})
+    if kind.startswith("(") and kind != "()":
+        fields = dict(enumerate(arguments_of(kind)))
+    found = []
+    for field, inside in fields.items():
+        if (name, field) not in names.private or re.search(rf"struct {name}\b", text):
+            found += changes(names, inside, f"{it}.{field}", text, depth - 1)
+    return found[:4]
+
+
+def outcomes(result):
+    """The types of what a function returns: each with the pattern and the value of that outcome, and the arm of the other."""
+    result = plain(result).removeprefix("io::")
+    if result.startswith("Result<"):
+        kinds = arguments_of(result) + ["io::Error"]
+        return [
+            (kinds[0], "Ok(mut changed)", "Ok(changed)", "Err(why) => Err(why)"),
+            (kinds[1], "Err(mut changed)", "Err(changed)", "Ok(it) => Ok(it)"),
+        ]
+    if result.startswith("Option<"):
+        return [(arguments_of(result)[0], "Some(mut changed)", "Some(changed)", "None => None")]
+    return [(result, "mut changed", "changed", "")]
