@@ -3,10 +3,12 @@ import re
 
 from tokens import lex, parts
 
-# Other values of a type.
+# Other values of a type; `it` stands for the value.
 OTHERS = {
-    "&str": ['"x"', '""'], "&[u8]": ['b"x"', 'b""'], "char": ["'x'"], "AsciiChar": ["AsciiChar::a", "AsciiChar::Null"],
-    "AsciiStr": ['AsciiStr::literal("x")', 'AsciiStr::literal("")'],
+    "&str": ['"x"', '""', '"xy"'], "&[u8]": ['b"x"', 'b""', 'b"xy"'], "char": ["'x'", "'\\n'"], "bool": ["!it"],
+    "AsciiChar": ["AsciiChar::a", "AsciiChar::Null", "AsciiChar::DEL"],
+    "AsciiStr": ['AsciiStr::literal("x")', 'AsciiStr::literal("")', "(it).trim_end()"],
+    **{f"{sign}{size}": ["it ^ 1", "it / 2"] for sign in "iu" for size in (8, 16, 32, 64, 128, "size")},
 }  # fmt: skip
 # Types of which a value can be cut.
 TEXTS = {"AsciiString", "SmallAsciiString", "Vec", "String"}
@@ -35,11 +37,7 @@ def others(names, kind, it):
     kind = plain(kind)
     name = re.match(r"\w*", kind)[0]
     if kind in OTHERS:
-        return OTHERS[kind]
-    if re.fullmatch(r"[ui](8|16|32|64|128|size)", kind):
-        return [f"{it} ^ 1"]
-    if kind == "bool":
-        return [f"!{it}"]
+        return [re.sub(r"\bit\b", lambda _: it, value) for value in OTHERS[kind]]
     if name == "Option":
         return ["None"]
     return [f"{name}::{variant}" for variant, holds in names.variants.get(name, {}).items() if not holds][:2]
@@ -53,9 +51,10 @@ def changes(names, kind, it, text, depth=2):
     if values:
         return [f"{it} = {value};" for value in values]
     if name in TEXTS and not kind.startswith("&["):
-        return [f"{it}.clear();", f"{it}.truncate(1);"]
+        return [f"{it}.clear();", f"{it}.truncate(1);", f"let _ = {it}.pop();"]
     if name in names.iterators:
-        return [f"let _ = {it}.{step}();" for step in ("next", "next_back")[: 1 + (name in names.double_ended)]]
+        once = f"let _ = {it}.next();"
+        return [once, f"{once} {once}", *[f"let _ = {it}.next_back();"] * (name in names.double_ended)]
     if not depth:
         return []
     fields = names.fields.get(name, {})
@@ -65,7 +64,7 @@ def changes(names, kind, it, text, depth=2):
     for field, inside in fields.items():
         if (name, field) not in names.private or re.search(rf"struct {name}\b", text):
             found += changes(names, inside, f"{it}.{field}", text, depth - 1)
-    return found[:4]
+    return found[:6]
 
 
 def outcomes(result):
