@@ -39,3 +39,10 @@ fn a_string_keeps_its_text(rt: HostRuntime) {
     string.push('b').expect(&rt, "refused");
     assert_eq!(rt; string.as_str(), "ab");
 }
+
+#[test]
+fn prints_what_is_left(rt: HostRuntime) {
+    let heap = FailNth::new(rt.alloc(), 7);
+    let printed = format!(in rt.alloc(); "{heap:?}").expect(&rt, "refused");
+    assert_eq!(rt; printed.as_str(), "FailNth { left: Some(7) }");
+}
