@@ -25,7 +25,7 @@ MISFIT = re.compile(
     r"^`[^`]*`: (`[^`]*`: )?(record|module) |has no field|has no `|which was not admitted|unknown name|cannot find"
 )
 # How long one check may take, in seconds, before its mutants are judged in halves.
-MOST_SECONDS = 600
+MOST_SECONDS = 1800
 
 
 class Crate:

@@ -12,6 +12,7 @@ mod scanner;
 
 use ascii_run::{BoundedFault, BoundedMode, Input, Output, bounded_engine};
 use check::name_others;
+use clap::error::ErrorKind;
 use clap::{ArgMatches, Error};
 use failure::Failure;
 use options::{Check, STANDARD_INPUT, Task, command, options_of, task_of};
@@ -144,15 +145,20 @@ fn run_matches(rt: &HostRuntime, matches: &ArgMatches<'_>) -> Result<u8, AllocEr
 fn run_words(rt: &HostRuntime, words: &[String]) -> Result<u8, AllocError> {
     match command(rt.alloc())?.try_get_matches_from(words) {
         Ok(matches) => run_matches(rt, &matches),
+        Err(error) if matches!(error.kind(), ErrorKind::OutOfMemory) => Err(AllocError),
         Err(error) => Ok(print_error(rt, &error)),
     }
 }
 
 /// Reads the arguments of the system and runs them.
 fn run(rt: &HostRuntime) -> Result<u8, AllocError> {
-    let Ok(args) = env::args(rt) else {
-        let line = "ascii_filter: an argument is not valid UTF-8\n";
-        return Ok(refuse(rt, line));
+    let args = match env::args(rt) {
+        Ok(args) => args,
+        Err(error) if matches!(error.kind(), io::ErrorKind::OutOfMemory) => return Err(AllocError),
+        Err(_) => {
+            let line = "ascii_filter: an argument is not valid UTF-8\n";
+            return Ok(refuse(rt, line));
+        }
     };
     let mut words = Vec::new(rt.alloc());
     for word in args {
