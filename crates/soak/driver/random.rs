@@ -47,7 +47,7 @@ impl Random {
 
     /// A number under `n`, which is not 0.
     pub fn below(&mut self, n: usize) -> usize {
-        let Some(path) = &mut self.path else { return (self.next() % n as u64) as usize };
+        let Some(path) = &mut self.path else { return (u128::from(self.next()) * n as u128 >> 64) as usize };
         if self.made == path.len() {
             path.push((n, 0));
         }
