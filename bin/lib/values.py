@@ -54,13 +54,14 @@ def changes(names, kind, it, text, depth=2):
         return [f"{it}.clear();", f"{it}.truncate(1);", f"let _ = {it}.pop();"]
     if name in names.iterators:
         once = f"let _ = {it}.next();"
-        return [once, f"{once} {once}", *[f"let _ = {it}.next_back();"] * (name in names.double_ended)]
+        found = [once, f"{once} {once}", *[f"let _ = {it}.next_back();"] * (name in names.double_ended)]
+    else:
+        found = []
     if not depth:
-        return []
+        return found
     fields = names.fields.get(name, {})
     if kind.startswith("(") and kind != "()":
         fields = dict(enumerate(arguments_of(kind)))
-    found = []
     for field, inside in fields.items():
         if (name, field) not in names.private or re.search(rf"struct {name}\b", text):
             found += changes(names, inside, f"{it}.{field}", text, depth - 1)
