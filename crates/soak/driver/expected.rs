@@ -14,7 +14,6 @@ mod walks;
 mod words;
 
 use crate::random::Random;
-use std::fmt::Write;
 
 /// A question, and the expected answer.
 pub struct Asked {
@@ -245,8 +244,10 @@ fn hex(bytes: &[u8]) -> String {
     if bytes.is_empty() {
         return "-".into();
     }
+    let digit = |half: u8| char::from(b"0123456789abcdef"[usize::from(half)]);
     bytes.iter().fold(String::with_capacity(2 * bytes.len()), |mut out, byte| {
-        write!(out, "{byte:02x}").unwrap();
+        out.push(digit(byte >> 4));
+        out.push(digit(byte & 15));
         out
     })
 }
