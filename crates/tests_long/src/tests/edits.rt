@@ -2,6 +2,7 @@
 
 use super::{assert_same, repeated};
 use ascii::AsciiChar;
+use ascii_run::{AsciiBuf, SmallAsciiString};
 use testing::ascii;
 
 #[test]
@@ -33,4 +34,18 @@ fn numbers_are_appended(rt: HostRuntime) {
     assert_same(&rt, text.len(), 38_890);
     assert!(rt; text.as_ascii_str().ends_with(ascii("99989999")));
     assert_same(&rt, text.as_ascii_str().first(), Some(AsciiChar::_0));
+}
+
+#[test]
+fn full_inline_strings_grow(rt: HostRuntime) {
+    let source = repeated(&rt, "ab", 10_000);
+    let view = source.as_ascii_str();
+    let mut text = SmallAsciiString::from_ascii_str(rt.alloc(), view).expect(&rt, "no memory");
+    text.insert(0, AsciiChar::c).expect(&rt, "no memory");
+    assert_same(&rt, text.len(), 20_001);
+    assert_same(&rt, text.as_ascii_str().first(), Some(AsciiChar::c));
+    let mut text = SmallAsciiString::from_ascii_str(rt.alloc(), view).expect(&rt, "no memory");
+    text.reserve(10).expect(&rt, "no memory");
+    assert!(rt; 20_010 <= text.capacity());
+    assert!(rt; text.as_ascii_str() == view);
 }
