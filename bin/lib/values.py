@@ -1,9 +1,7 @@
 """Changes of a value by its type, for mutants that change what a function takes or what it returns."""
 import re
 
-from tokens import lex, parts
-
-# Other values of a type; `it` stands for the value.
+# Other values of a type, as expressions of a value `it`.
 OTHERS = {
     "&str": ['"x"', '""', '"xy"'], "&[u8]": ['b"x"', 'b""', 'b"xy"'], "char": ["'x'", "'\\n'"], "bool": ["!it"],
     "AsciiChar": ["AsciiChar::a", "AsciiChar::Null", "AsciiChar::DEL"],
