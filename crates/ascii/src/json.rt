@@ -2,6 +2,7 @@
 //! string with all bytes below 128.
 
 ghost use Rattle.std.specs.Prelude.{◌≡◌, [], ◌∷◌, IfOk, MatchResult, Some};
+ghost use Rattle.std.specs.Str.{IsAscii};
 ghost use Rattle.serde_json.specs.Data.{string};
 ghost use Rattle.serde_json.specs.Find.{as_str};
 ghost use Rattle.serde_json.specs.View.{view};
@@ -30,22 +31,24 @@ pub enum JsonError {
 }
 
 impl AsciiStr<'_> {
-    /// Returns the view as a JSON string. Fails only if the allocation fails.
+    /// Returns the view as a JSON string, all of it ASCII. Fails only if the allocation fails.
     ///
     ///     view("a\"b").to_json(alloc)?.to_string(alloc)? // "\"a\\\"b\""
     pub fn to_json(self, alloc: Global) -> Result<Value, AllocError>
-        ensures { IfOk result (λ value. view value ≡ string (text_of self.entry)) }
+        ensures value { IfOk result (λ value. view value ≡ string (text_of self.entry)) }
+        ensures ascii { IsAscii (text_of self.entry) }
     {
         Ok(Value::String(String::from_str(alloc, self.as_str())?))
     }
 }
 
 impl<A: Allocator> AsciiString<A> {
-    /// Returns the text as a JSON string. Fails only if the allocation fails.
+    /// Returns the text as a JSON string, all of it ASCII. Fails only if the allocation fails.
     ///
     ///     view("foo").to_ascii_string(alloc)?.to_json(alloc)?.to_string(alloc)? // "\"foo\""
     pub fn to_json(&self, alloc: Global) -> Result<Value, AllocError>
-        ensures { IfOk result (λ value. view value ≡ string self.now.text) }
+        ensures value { IfOk result (λ value. view value ≡ string self.now.text) }
+        ensures ascii { IsAscii self.now.text }
     {
         self.as_ascii_str().to_json(alloc)
     }
