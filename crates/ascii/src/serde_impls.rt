@@ -100,6 +100,6 @@ impl<'de> Deserialize<'de> for AsciiString {
     ) -> Result<AsciiString, F::Error>
         ensures { IfOk result (λ string. Gives F.gives from.old (text string.text) from.new) }
     {
-        DeserializeOwned::deserialize_owned(alloc, from)
+        AsciiString::deserialize_owned(alloc, from)
     }
 }

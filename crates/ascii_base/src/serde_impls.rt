@@ -54,6 +54,6 @@ impl<'de> Deserialize<'de> for AsciiChar {
     ) -> Result<AsciiChar, F::Error>
         ensures { IfOk result (λ ch. Gives F.gives from.old (character (code_of ch)) from.new) }
     {
-        DeserializeOwned::deserialize_owned(alloc, from)
+        AsciiChar::deserialize_owned(alloc, from)
     }
 }
