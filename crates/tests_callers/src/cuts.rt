@@ -1,11 +1,13 @@
 //! Callers that cut a view: at a prefix, at its last separator, at the end of a class, and into words.
 
-ghost use Rattle.std.specs.Prelude.{◌≡◌, ◌↔◌, ◌⊎◌, ◌∷◌, ◌++◌, [], All, IfOk, IfSome, IsTrue};
-ghost use Rattle.std.specs.Prelude.{codes, length, map};
+ghost use Rattle.std.specs.Prelude.{◌≡◌, ◌↔◌, ◌⊎◌, ◌∷◌, ◌++◌, ℕ, [], All, IfOk, IfSome, IsTrue, List};
+ghost use Rattle.std.specs.Prelude.{Contains, MatchOption, codes, length, map, slice_get};
 ghost use Rattle.ascii.specs.Class.{IsDigit, IsWhitespace};
+ghost use Rattle.ascii.specs.Code.{code_of};
 ghost use Rattle.ascii.specs.Pieces.{OfPieces};
+ghost use Rattle.ascii.specs.Search.{IsPrefix, StartsWith};
 ghost use Rattle.ascii.specs.View.{text_of};
-ghost use Rattle.ascii.specs.Words.{OfWords};
+ghost use Rattle.ascii.specs.Words.{OfWords, YieldsFirstWord};
 ghost use Rattle.tests_callers.specs.Cuts.{EndsWithPiece};
 
 use ascii::classes::Digit;
@@ -14,16 +16,17 @@ use std::alloc::{AllocError, Global};
 
 /// The view without a prefix, or the view itself if it does not start with it.
 pub fn without_prefix<'a>(view: AsciiStr<'a>, prefix: AsciiStr<'_>) -> AsciiStr<'a>
-    ensures { (text_of prefix.entry ++ text_of result ≡ text_of view.entry)
-        ⊎ (text_of result ≡ text_of view.entry) }
+    ensures { IsPrefix (text_of prefix.entry) (text_of view.entry) (text_of result)
+        ⊎ ((text_of result ≡ text_of view.entry)
+        × ¬ (StartsWith (text_of prefix.entry) (text_of view.entry))) }
 {
     view.strip_prefix(prefix).unwrap_or(view)
 }
 
-/// The part of a file name after its last dot: its last piece.
+/// The part of a file name after its last dot: its last piece. `None` if there is no dot.
 pub fn extension<'a>(name: AsciiStr<'a>) -> Option<AsciiStr<'a>>
-    ensures { IfSome result (λ end. OfPieces name.entry AsciiChar.Dot
-        (λ pieces. EndsWithPiece pieces (text_of end))) }
+    ensures { MatchOption result (¬ (Contains (text_of name.entry) (code_of AsciiChar.Dot)))
+        (λ end. OfPieces name.entry AsciiChar.Dot (λ pieces. EndsWithPiece pieces (text_of end))) }
 {
     let (_stem, end) = name.rsplit_once(AsciiChar::Dot)?;
     Some(end)
@@ -33,13 +36,14 @@ pub fn extension<'a>(name: AsciiStr<'a>) -> Option<AsciiStr<'a>>
 pub fn number_and_unit<'a>(view: AsciiStr<'a>) -> (AsciiStr<'a>, AsciiStr<'a>)
     ensures joined { text_of result.0 ++ text_of result.1 ≡ text_of view.entry }
     ensures digits { All IsDigit (text_of result.0) }
+    ensures unit { IfSome (slice_get (text_of result.1) 0) (λ first. ¬ (IsDigit first)) }
 {
     view.span::<Digit>()
 }
 
-/// The first word of a view.
+/// The first word of a view. `None` if it has no word.
 pub fn first_word<'a>(view: AsciiStr<'a>) -> Option<AsciiStr<'a>>
-    ensures { IfSome result (λ word. All (λ code. ¬ (IsWhitespace code)) (text_of word)) }
+    ensures { (rest : List ℕ) × YieldsFirstWord IsWhitespace (text_of view.entry) result rest }
 {
     view.split_whitespace().next()
 }
