@@ -87,7 +87,7 @@ class Operators:
         for make in (
             self.signs, self.literals, self.conditions, self.truths, self.deletions, self.arguments, self.arms,
             self.defaults, self.results, self.words, self.options, self.variants, self.constants, self.variables, self.ranges, self.calls,
-            self.alternatives, self.inputs, self.fields_read, self.outputs, self.repeats,
+            self.alternatives, self.inputs, self.fields_read, self.outputs, self.repeats, self.calls_read, self.returns,
         ):  # fmt: skip
             make()
         return self.made
@@ -134,6 +134,16 @@ class Operators:
         """The index of the first of these signs from `i` on that is in no bracket."""
         while i < len(self.tokens) and self.tokens[i].text not in ends:
             i = self.pairs.get(i, i) + 1 if self.tokens[i].text in OPENING else i + 1
+        return i
+
+    def opens_at(self, i):
+        """The index at which the value opens whose last name, of a field or call, is at `i`; none if that is not plain."""
+        while i and self.before(i).text in (".", "::"):
+            i -= 2
+            while self.tokens[i].text in (")", "]", "?"):
+                i = i - 1 if self.tokens[i].text == "?" else self.pairs[i] - 1
+            if self.tokens[i].kind != "word" or self.tokens[i].text in KEYWORDS - {"self", "Self"}:
+                return None
         return i
 
     def signs(self):
@@ -444,6 +454,16 @@ class Operators:
                 for value in others(self.names, holds[name.text], f"self.{name.text}"):
                     self.add("field", (it.start, name.end, f"({value})"))
 
+    def calls_read(self):
+        """Another value in place of a call, where the functions of its name return one type or two."""
+        for i, it in enumerate(self.tokens[:-1]):
+            kinds = self.names.results.get(it.text, ()) if it.kind == "word" and self.tokens[i + 1].text == "(" else ()
+            first = self.opens_at(i)
+            for kind in sorted(kinds) if first is not None and len(kinds) < 3 else ():
+                a, b = self.span(first, self.pairs[i + 1] + 1)
+                for value in others(self.names, kind, self.text[a:b]):
+                    self.add("part", (a, b, f"({value})"))
+
     def outputs(self):
         """The function as if it returned something else."""
         result = re.sub(r"\bSelf\b(?! ::)", self.function.owner or "Self", self.function.result)
@@ -454,6 +474,19 @@ class Operators:
                     self.around("output", "match", f"{{ {pattern} => {{ {change} {value} }} {other} }}", shown)
                 else:
                     self.around("output", f"let {pattern} =", f"; {change} changed", shown)
+
+    def returns(self):
+        """The function as if it returned something else early."""
+        for i, it in enumerate(self.tokens):
+            end = self.closes_at(i + 1, {";", ",", "}"}) if it.kind == "word" and it.text == "return" else i + 1
+            for kind, pattern, _, _ in outcomes(self.function.result) if i + 1 < end else ():
+                a, b = self.span(i + 1, end)
+                head = pattern[: pattern.index("mut")]
+                last = b - 1 if head else b
+                if self.text[a:b].startswith(head) and (not head or self.pairs[i + 2] == end - 1):
+                    for change in changes(self.names, kind, "changed", self.text):
+                        first = (a + len(head), a + len(head), "{ let mut changed = ")
+                        self.add("return", first, (last, last, f"; {change} changed }}"), shown=f"`{change}` of `{clip(self.text[a:b])}`")
 
     def repeats(self):
         """The body twice, where it changes something that was there before."""

@@ -1,4 +1,6 @@
-"""Tests of the parts of bin/mutants, on a small crate of their own: `python3 bin/lib/test_mutants.py`."""
+"""Tests of the parts of bin/mutants and bin/survivors, on a small crate of their own: `python3 bin/lib/test_mutants.py`."""
+import contextlib
+import io
 import sys
 import tempfile
 import unittest
@@ -6,7 +8,10 @@ from pathlib import Path
 
 sys.dont_write_bytecode = True
 sys.path.insert(0, str(Path(__file__).resolve().parent))
-from mutation import Crate, camel, give_kinds, in_turn  # noqa: E402
+from mutation import Crate, camel, changed, give_kinds, in_turn  # noqa: E402
+from operators import Operators  # noqa: E402
+from planting import narrow  # noqa: E402
+from run import Run  # noqa: E402
 from tokens import Names, functions_of, lex, partners  # noqa: E402
 from values import changes, outcomes  # noqa: E402
 from verdicts import Verdicts  # noqa: E402
@@ -115,6 +120,22 @@ class OfOneCrate(unittest.TestCase):
         self.assertIn(("half", "`changed.clear();` after the body, of Err(changed)"), shown)
         self.assertIn(("double", '`self.text = "x";` after the body'), shown)
 
+    def test_other_values_of_calls(self):
+        text, names = SOURCE + "\nfn side(pairs: &Pairs) -> &str { pairs.first(7)?.shown().trim() }\n", Names()
+        names.read(text)
+        found = [m for m in Operators(functions_of("src/lib.rt", text)[-1], text, names).all() if m.operator == "part"]
+        self.assertEqual(found[0].shown.partition(": ")[2], '`pairs.first(7)?.shown()` -> `("x")`')
+        self.assertEqual(len(found), 3)
+
+    def test_other_values_returned_early(self):
+        text, names = SOURCE + "\nfn early(n: u8) -> Option<u8> { if n < 1 { return Some(n); } return None; }\n", Names()
+        names.read(text)
+        found = [m for m in Operators(functions_of("src/lib.rt", text)[-1], text, names).all() if m.operator == "return"]
+        self.assertEqual([m.shown.partition(": ")[2] for m in found][:1], ["`changed = changed ^ 1;` of `Some(n)`"])
+        self.assertEqual(len(found), 2)
+        f = found[0].function
+        self.assertIn("return Some({ let mut changed = n; changed = changed ^ 1; changed });", changed(text, f, found[0].edits))
+
     def test_the_body_twice(self):
         self.assertEqual([m.function.name for m in self.of("repeat")], ["double"])
 
@@ -170,6 +191,51 @@ class OfOneCrate(unittest.TestCase):
         self.crate.sources["src/lib.rt"] = SOURCE.replace("if a < b", "if b > a")
         self.assertEqual(Verdicts(self.crate, folder).tried(), [])
 
+    def tried(self, kind_of, most):
+        """The functions whose mutants are judged in each batch, if the prover gives these kinds."""
+        batches = []
+
+        def judge(batch, in_place):
+            batches.append(sorted(m.function.name for m in batch if m.operator != "control"))
+            for m in batch:
+                m.kind = kind_of(m)
+
+        self.crate.symbol_of, self.crate.has_proofs, self.crate.judge = (lambda f: f.name), (lambda f: False), judge
+        run = Run(self.crate, Verdicts(self.crate, Path(self.folder.name) / "verdicts"), self.mutants, most)
+        with contextlib.redirect_stdout(io.StringIO()):
+            while run.beside() or run.in_place():
+                pass
+        return batches, run
+
+    def test_as_many_as_wanted_are_judged(self):
+        batches, run = self.tried(lambda m: "open", 2)
+        self.assertEqual(batches, [["half", "half", "smaller", "smaller"], ["double", "shown"], ["double", "shown"]])
+        self.assertEqual(run.verdicts.count().total(), 8)
+        self.assertEqual(len(run.left), len(self.mutants) - 8)
+
+    def test_others_take_the_place_of_those_that_do_not_compile(self):
+        lost = {m.key for m in self.of("relation") + self.of("output")}
+        _, run = self.tried(lambda m: "unread" if m.key in lost else "open", 3)
+        counts = run.verdicts.count()
+        for name in ("smaller", "shown", "double"):
+            mine = [m for m in self.mutants if m.function.name == name]
+            wanted = min(3, len([m for m in mine if m.key not in lost]))
+            self.assertEqual(counts[run.verdicts.hash(mine[0].function)], wanted)
+
+    def test_a_mutant_that_waits_is_tried_again(self):
+        waited = []
+
+        def kind_of(m):
+            if m.function.name == "double" and not waited:
+                waited.append(m)
+                return "waits"
+            return "open"
+
+        _, run = self.tried(kind_of, 3)
+        self.assertTrue(run.verdicts.has(waited[0]))
+        self.assertEqual(run.verdicts.count().total(), 12)
+        self.assertNotIn("waits", {kind for _, kind in run.verdicts.tried()})
+
     def test_public_functions(self):
         self.assertEqual([self.crate.is_public(f) for f in self.crate.functions], [True, True, True, False])
 
@@ -179,6 +245,16 @@ class OfOneCrate(unittest.TestCase):
         first = order[:4]
         self.assertEqual({m.function.name for m in first}, {"smaller", "shown", "double", "half"})
         self.assertEqual([m.key for m in order], [m.key for m in in_turn(self.mutants, 1)])
+
+    def test_only_the_named_tests_are_left(self):
+        tests = "".join(f"#[test]\nfn {name}() {{\n}}\n" for name in ("one", "two"))
+        for file in ("tests.rt", "tests/long.rt", "tests/longer.rt"):
+            path = self.crate.folder / "src" / file
+            path.parent.mkdir(exist_ok=True)
+            path.write_text(tests, encoding="utf-8")
+        narrow(self.crate.folder, ["two", "long", "longer::one"])
+        left = {it.name: it.read_text(encoding="utf-8").count("#[test]") for it in self.crate.folder.glob("src/**/*.rt")}
+        self.assertEqual(left, {"lib.rt": 0, "tests.rt": 1, "long.rt": 2, "longer.rt": 1})
 
     def test_symbols(self):
         self.assertEqual(camel("&'a [u8]", set()), "RefSliceU8")

@@ -2,6 +2,8 @@
 import re
 from dataclasses import dataclass, field
 
+from values import plain
+
 TOKEN = re.compile(
     r"""(?P<space>\s+|//[^\n]*|/\*.*?\*/)
     |(?P<text>b?"(?:[^"\\]|\\.)*"|br?\#*"[^"]*"\#*|r\#*"[^"]*"\#*)
@@ -200,9 +202,12 @@ class Names:
     iterators: set = field(default_factory=set)  # types that iterate
     double_ended: set = field(default_factory=set)  # those that iterate from both ends
     words: set = field(default_factory=set)  # every word
+    results: dict = field(default_factory=dict)  # of the functions of a name: the types that they return
 
     def read(self, text):
         tokens = lex(text)
+        for it in functions_of("", text):
+            self.results.setdefault(it.name, set()).add(plain(re.sub(r"\bSelf\b", it.owner, it.result)))
         self.words |= {it.text for it in tokens if it.kind == "word"}
         self.iterators |= {*re.findall(r"\bIterator for (\w+)", text)}
         self.double_ended |= {*re.findall(r"\bDoubleEndedIterator for (\w+)", text)}
