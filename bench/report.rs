@@ -393,7 +393,7 @@ Over {text} of text: CPU time, user and system together, and memory at the peak.
 
 {programs}
 With `GLIBC_TUNABLES=glibc.malloc.hugetlb=1` in the caller's environment, the C library asks the kernel for huge pages:
-`ascii_show copy` over 64 MiB at lines of 60 then takes 40 ms of CPU time instead of 72 (the minimum of 15 runs each,
+`ascii_show copy` over 64 MiB at lines of 60 then takes 37 ms of CPU time instead of 55 (the minimum of 15 runs each,
 where the kernel gives huge pages on request).
 
 ## Inputs of any length
