@@ -1,11 +1,12 @@
 //! Callers that cut a view: at a prefix, at its last separator, at the end of a class, and into words.
 
-ghost use Rattle.std.specs.Prelude.{◌≡◌, ◌↔◌, ◌⊎◌, ◌∷◌, ◌++◌, ℕ, [], All, IfOk, IfSome, IsTrue, List};
-ghost use Rattle.std.specs.Prelude.{Contains, MatchOption, codes, length, map, slice_get};
+ghost use Rattle.std.specs.Prelude.{◌≡◌, ◌↔◌, ◌⊎◌, ◌∷◌, ℕ, [], Contains, IfOk, IsTrue, List};
+ghost use Rattle.std.specs.Prelude.{MatchOption, codes, length, map};
 ghost use Rattle.ascii.specs.Class.{IsDigit, IsWhitespace};
 ghost use Rattle.ascii.specs.Code.{code_of};
 ghost use Rattle.ascii.specs.Pieces.{OfPieces};
 ghost use Rattle.ascii.specs.Search.{IsPrefix, StartsWith};
+ghost use Rattle.ascii.specs.Trim.{IsSpan};
 ghost use Rattle.ascii.specs.View.{text_of};
 ghost use Rattle.ascii.specs.Words.{OfWords, YieldsFirstWord};
 ghost use Rattle.tests_callers.specs.Cuts.{EndsWithPiece};
@@ -23,7 +24,7 @@ pub fn without_prefix<'a>(view: AsciiStr<'a>, prefix: AsciiStr<'_>) -> AsciiStr<
     view.strip_prefix(prefix).unwrap_or(view)
 }
 
-/// The part of a file name after its last dot: its last piece. `None` if there is no dot.
+/// The text after the last dot of a file name, or `None` if it has no dot.
 pub fn extension<'a>(name: AsciiStr<'a>) -> Option<AsciiStr<'a>>
     ensures { MatchOption result (¬ (Contains (text_of name.entry) (code_of AsciiChar.Dot)))
         (λ end. OfPieces name.entry AsciiChar.Dot (λ pieces. EndsWithPiece pieces (text_of end))) }
@@ -34,14 +35,12 @@ pub fn extension<'a>(name: AsciiStr<'a>) -> Option<AsciiStr<'a>>
 
 /// The digits at the start of a view, and its unit: `("42", "px")` for `42px`.
 pub fn number_and_unit<'a>(view: AsciiStr<'a>) -> (AsciiStr<'a>, AsciiStr<'a>)
-    ensures joined { text_of result.0 ++ text_of result.1 ≡ text_of view.entry }
-    ensures digits { All IsDigit (text_of result.0) }
-    ensures unit { IfSome (slice_get (text_of result.1) 0) (λ first. ¬ (IsDigit first)) }
+    ensures { IsSpan IsDigit (text_of view.entry) (text_of result.0) (text_of result.1) }
 {
     view.span::<Digit>()
 }
 
-/// The first word of a view. `None` if it has no word.
+/// The first word of a view, or `None` if it has no word.
 pub fn first_word<'a>(view: AsciiStr<'a>) -> Option<AsciiStr<'a>>
     ensures { (rest : List ℕ) × YieldsFirstWord IsWhitespace (text_of view.entry) result rest }
 {
