@@ -5,6 +5,8 @@
 //! | in which one allocation fails | `FailNth`, an allocator over another one |
 //! | of the view of a text that is known to be ASCII | `view("ab")` |
 //! | of the view of any other text | `ascii`, which is empty if the text is not ASCII |
+//! | that compares values | `assert_row!(rt; got, want)` |
+//! | of `{:?}` output | `assert_debug!(rt; got, "want")` |
 //!
 //! A test runs a call with `FailNth::new(alloc, n)` for n from 0 until the call succeeds and
 //! `has_failed` returns `false`: each allocation of the call has then failed once.
@@ -14,8 +16,10 @@ ghost use Rattle.std.specs.Prelude.{◌≡◌, ◌+◌, ◌↔◌, ◌⊎◌, Is
 ghost use Rattle.std.specs.declared.option.Option.TheVariants.{None, Some};
 ghost use Rattle.testing.specs.Passed.{inner_of};
 
+mod comparisons;
 mod texts;
 
+pub use comparisons::{Different, DifferentDebug, compare, compare_debug};
 use std::alloc::{AllocError, Allocator};
 use std::cell::Cell;
 use std::fmt;
