@@ -19,14 +19,6 @@ fn assert_same<T: PartialEq + Debug + Drop>(rt: &impl Abort, got: T, want: T) {
     assert_eq!(rt; got, want);
 }
 
-/// Fails the test if `{:?}` of the value is not `want`.
-fn assert_debug(rt: &impl Abort, alloc: Global, value: &impl Debug, want: &str) {
-    match format!(in alloc; "{:?}", value) {
-        Ok(text) => assert_eq!(rt; text.as_str(), want),
-        Err(_) => panic!(rt; "no memory"),
-    }
-}
-
 /// A handler that replies with the text that it is handed.
 #[derive(Drop)]
 struct Echo;

@@ -1,9 +1,9 @@
 //! Bytes as chunks, from either end, against lists written out by hand; and strings of which some
 //! characters are kept, against those of std.
 
-use super::{assert_debug, assert_same};
+use super::assert_same;
 use ascii::{AsciiChar, bytes};
-use testing::ascii;
+use testing::{ascii, assert_debug};
 
 /// A source, and its chunks as `{:?}` prints them.
 static CHUNKS: [(&[u8], &[&str]); 6] = [
@@ -46,9 +46,9 @@ fn chunks_come_in_order(rt: HostRuntime) {
     for &(source, want) in &CHUNKS {
         let mut chunks = bytes::ascii_chunks(source);
         for &text in want {
-            assert_debug(&rt, rt.alloc(), &chunks.next(), text);
+            assert_debug!(rt; chunks.next(), text);
         }
-        assert_debug(&rt, rt.alloc(), &chunks.next(), "None");
+        assert_debug!(rt; chunks.next(), "None");
     }
 }
 
@@ -57,9 +57,9 @@ fn chunks_come_from_the_end(rt: HostRuntime) {
     for &(source, want) in &CHUNKS {
         let mut chunks = bytes::ascii_chunks(source);
         for &text in want.iter().rev() {
-            assert_debug(&rt, rt.alloc(), &chunks.next_back(), text);
+            assert_debug!(rt; chunks.next_back(), text);
         }
-        assert_debug(&rt, rt.alloc(), &chunks.next_back(), "None");
+        assert_debug!(rt; chunks.next_back(), "None");
     }
 }
 

@@ -1,321 +1,237 @@
 //! The examples in the documentation of `ascii_lines`, made by `bin/examples`.
 
-use super::{Echo, assert_debug};
+use super::Echo;
 use ascii_devices::Sink;
 use ascii_lines::{
     Ending, Endings, Handler, Input, LineError, LineReader, LineWriter, Output, WriteError,
     collect_lines, serve,
 };
 use std::convert::AsSlice;
-use testing::view;
+use testing::{assert_debug, view};
 
+// Display for LineError::fmt
 #[test]
-fn line_error_1(rt: HostRuntime) {
+fn fmt_of_line_error(rt: HostRuntime) {
     let alloc = rt.alloc();
-    assert_debug(
-        &rt,
-        alloc,
-        &(
-            // Display for LineError::fmt
-            LineError::NotAscii(7)
-                .to_string(alloc)
-                .expect(&rt, "refused"),
-            LineError::LoneBreak(7)
-                .to_string(alloc)
-                .expect(&rt, "refused"),
-            LineError::TooLong(7)
-                .to_string(alloc)
-                .expect(&rt, "refused"),
+    assert_debug!(
+        rt;
+        (
+            LineError::NotAscii(7).to_string(alloc).expect(&rt, "refused"),
+            LineError::LoneBreak(7).to_string(alloc).expect(&rt, "refused"),
+            LineError::TooLong(7).to_string(alloc).expect(&rt, "refused"),
             LineError::TooFar.to_string(alloc).expect(&rt, "refused"),
-            LineError::Incomplete(7)
-                .to_string(alloc)
-                .expect(&rt, "refused"),
+            LineError::Incomplete(7).to_string(alloc).expect(&rt, "refused"),
             LineError::Read.to_string(alloc).expect(&rt, "refused"),
         ),
-        "(\"the byte at index 7 is not ASCII\", \"the CR or LF at index 7 is not part of a CR LF\", \"the line or part at index 7 is longer than the buffer\", \"the input is longer than 18446744073709551615 bytes\", \"the input ended after 7 bytes of a part\", \"read failed\")",
+        "(\"the byte at index 7 is not ASCII\", \"the CR or LF at index 7 is not part of a CR LF\", \"the line or part at index 7 is longer than the buffer\", \"the input is longer than 18446744073709551615 bytes\", \"the input ended after 7 bytes of a part\", \"read failed\")"
     );
 }
 
+// Display for WriteError::fmt
 #[test]
-fn write_error_1(rt: HostRuntime) {
+fn fmt_of_write_error(rt: HostRuntime) {
     let alloc = rt.alloc();
-    assert_debug(
-        &rt,
-        alloc,
-        &(
-            // Display for WriteError::fmt
-            WriteError::LineBreak(7)
-                .to_string(alloc)
-                .expect(&rt, "refused"),
+    assert_debug!(
+        rt;
+        (
+            WriteError::LineBreak(7).to_string(alloc).expect(&rt, "refused"),
             WriteError::Write.to_string(alloc).expect(&rt, "refused"),
         ),
-        "(\"the character at index 7 of the line is CR or LF\", \"write failed\")",
+        "(\"the character at index 7 of the line is CR or LF\", \"write failed\")"
     );
 }
 
+// LineReader::new
 #[test]
-fn line_reader_1(rt: HostRuntime) {
+fn new_of_line_reader(rt: HostRuntime) {
     let alloc = rt.alloc();
-    // LineReader::new
-    {
-        let mut reader = LineReader::new(alloc, Input::new(b"ab\r\ncd".as_slice()), 64).expect(
-            &rt, "refused",
-        );
-        assert_debug(
-            &rt,
-            alloc,
-            &reader.next_line(),
-            "Ok(Some(ReadLine { start: 0, text: \"ab\", ending: CrLf }))",
-        );
-    }
+    let mut reader = LineReader::new(alloc, Input::new(b"ab\r\ncd".as_slice()), 64).expect(
+        &rt, "refused",
+    );
+    assert_debug!(
+        rt;
+        reader.next_line(),
+        "Ok(Some(ReadLine { start: 0, text: \"ab\", ending: CrLf }))"
+    );
 }
 
+// LineReader::lines_ended_by
 #[test]
-fn line_reader_2(rt: HostRuntime) {
+fn lines_ended_by_of_line_reader(rt: HostRuntime) {
     let alloc = rt.alloc();
-    // LineReader::lines_ended_by
-    {
-        let mut reader = LineReader::new(alloc, Input::new(b"a\nb\r\nc".as_slice()), 64).expect(
-            &rt, "refused",
-        );
-        reader.lines_ended_by(Endings::CrLf);
-        assert_debug(
-            &rt,
-            alloc,
-            &reader.next_line(),
-            "Ok(Some(ReadLine { start: 0, text: \"a\\nb\", ending: CrLf }))",
-        );
-        assert_debug(
-            &rt,
-            alloc,
-            &reader.next_line(),
-            "Ok(Some(ReadLine { start: 5, text: \"c\", ending: Absent }))",
-        );
-        let mut reader = LineReader::new(alloc, Input::new(b"a\r\nb\nc\r\n".as_slice()), 64).expect(
-            &rt, "refused",
-        );
-        reader.lines_ended_by(Endings::CrLfStrict);
-        assert_debug(
-            &rt,
-            alloc,
-            &reader.next_line(),
-            "Ok(Some(ReadLine { start: 0, text: \"a\", ending: CrLf }))",
-        );
-        assert_debug(&rt, alloc, &reader.next_line(), "Err(LoneBreak(4))");
-    }
+    let mut reader = LineReader::new(alloc, Input::new(b"a\nb\r\nc".as_slice()), 64).expect(
+        &rt, "refused",
+    );
+    reader.lines_ended_by(Endings::CrLf);
+    assert_debug!(
+        rt;
+        reader.next_line(),
+        "Ok(Some(ReadLine { start: 0, text: \"a\\nb\", ending: CrLf }))"
+    );
+    assert_debug!(
+        rt;
+        reader.next_line(),
+        "Ok(Some(ReadLine { start: 5, text: \"c\", ending: Absent }))"
+    );
+    let mut reader = LineReader::new(alloc, Input::new(b"a\r\nb\nc\r\n".as_slice()), 64).expect(
+        &rt, "refused",
+    );
+    reader.lines_ended_by(Endings::CrLfStrict);
+    assert_debug!(
+        rt;
+        reader.next_line(),
+        "Ok(Some(ReadLine { start: 0, text: \"a\", ending: CrLf }))"
+    );
+    assert_debug!(rt; reader.next_line(), "Err(LoneBreak(4))");
 }
 
+// LineReader::into_source
 #[test]
-fn line_reader_3(rt: HostRuntime) {
+fn into_source_of_line_reader(rt: HostRuntime) {
     let alloc = rt.alloc();
-    // LineReader::into_source
-    {
-        let reader = LineReader::new(alloc, Input::new(b"ab\n".as_slice()), 64).expect(
-            &rt, "refused",
-        );
-        assert_debug(
-            &rt,
-            alloc,
-            &reader.into_source().into_inner(),
-            "[97, 98, 10]",
-        );
-    }
-    // LineReader::position
-    {
-        let mut reader = LineReader::new(alloc, Input::new(b"ab\r\ncd".as_slice()), 64).expect(
-            &rt, "refused",
-        );
-        assert_debug(&rt, alloc, &reader.position(), "0");
-        let _ = reader.next_line();
-        assert_debug(&rt, alloc, &reader.position(), "4");
-    }
+    let reader = LineReader::new(alloc, Input::new(b"ab\n".as_slice()), 64).expect(&rt, "refused");
+    assert_debug!(rt; reader.into_source().into_inner(), "[97, 98, 10]");
 }
 
+// LineReader::position
 #[test]
-fn line_reader_4(rt: HostRuntime) {
+fn position_of_line_reader(rt: HostRuntime) {
     let alloc = rt.alloc();
-    // LineReader::next_line
-    {
-        let mut reader = LineReader::new(alloc, Input::new(b"\nc".as_slice()), 64).expect(
-            &rt, "refused",
-        );
-        assert_debug(
-            &rt,
-            alloc,
-            &reader.next_line(),
-            "Ok(Some(ReadLine { start: 0, text: \"\", ending: Lf }))",
-        );
-        assert_debug(
-            &rt,
-            alloc,
-            &reader.next_line(),
-            "Ok(Some(ReadLine { start: 1, text: \"c\", ending: Absent }))",
-        );
-        assert_debug(&rt, alloc, &reader.next_line(), "Ok(None)");
-        let mut reader = LineReader::new(alloc, Input::new(b"a\nbcd\n".as_slice()), 3).expect(
-            &rt, "refused",
-        );
-        assert_debug(
-            &rt,
-            alloc,
-            &reader.next_line(),
-            "Ok(Some(ReadLine { start: 0, text: \"a\", ending: Lf }))",
-        );
-        assert_debug(&rt, alloc, &reader.next_line(), "Err(TooLong(2))");
-    }
+    let mut reader = LineReader::new(alloc, Input::new(b"ab\r\ncd".as_slice()), 64).expect(
+        &rt, "refused",
+    );
+    assert_debug!(rt; reader.position(), "0");
+    let _ = reader.next_line();
+    assert_debug!(rt; reader.position(), "4");
 }
 
+// LineReader::next_line
 #[test]
-fn line_reader_5(rt: HostRuntime) {
+fn next_line_of_line_reader(rt: HostRuntime) {
     let alloc = rt.alloc();
-    // LineReader::read_exact_part
-    {
-        let mut reader = LineReader::new(alloc, Input::new(b"$4\na\nbc\nd".as_slice()), 64).expect(
-            &rt, "refused",
-        );
-        assert_debug(
-            &rt,
-            alloc,
-            &reader.next_line(),
-            "Ok(Some(ReadLine { start: 0, text: \"$4\", ending: Lf }))",
-        );
-        assert_debug(
-            &rt,
-            alloc,
-            &reader.read_exact_part(4),
-            "Ok(ReadPart { start: 3, text: \"a\\nbc\" })",
-        );
-        assert_debug(
-            &rt,
-            alloc,
-            &reader.next_line(),
-            "Ok(Some(ReadLine { start: 7, text: \"\", ending: Lf }))",
-        );
-        assert_debug(&rt, alloc, &reader.read_exact_part(2), "Err(Incomplete(1))");
-    }
+    let mut reader = LineReader::new(alloc, Input::new(b"\nc".as_slice()), 64).expect(
+        &rt, "refused",
+    );
+    assert_debug!(
+        rt;
+        reader.next_line(),
+        "Ok(Some(ReadLine { start: 0, text: \"\", ending: Lf }))"
+    );
+    assert_debug!(
+        rt;
+        reader.next_line(),
+        "Ok(Some(ReadLine { start: 1, text: \"c\", ending: Absent }))"
+    );
+    assert_debug!(rt; reader.next_line(), "Ok(None)");
+    let mut reader = LineReader::new(alloc, Input::new(b"a\nbcd\n".as_slice()), 3).expect(
+        &rt, "refused",
+    );
+    assert_debug!(
+        rt;
+        reader.next_line(),
+        "Ok(Some(ReadLine { start: 0, text: \"a\", ending: Lf }))"
+    );
+    assert_debug!(rt; reader.next_line(), "Err(TooLong(2))");
 }
 
+// LineReader::read_exact_part
 #[test]
-fn line_writer_1(rt: HostRuntime) {
+fn read_exact_part_of_line_reader(rt: HostRuntime) {
     let alloc = rt.alloc();
-    // LineWriter::new
-    {
-        let mut writer = LineWriter::new(alloc, Output::new(Vec::new(alloc)), 64).expect(
-            &rt, "refused",
-        );
-        assert_debug(
-            &rt,
-            alloc,
-            &writer.write_line(view("ab"), Ending::CrLf),
-            "Ok(())",
-        );
-        assert_debug(&rt, alloc, &writer.flush(), "Ok(())");
-        assert_debug(
-            &rt,
-            alloc,
-            &writer.into_sink().into_inner(),
-            "[97, 98, 13, 10]",
-        );
-    }
-    // LineWriter::into_sink
-    {
-        let mut writer = LineWriter::new(alloc, Output::new(Vec::new(alloc)), 64).expect(
-            &rt, "refused",
-        );
-        assert_debug(
-            &rt,
-            alloc,
-            &writer.write_line(view("ab"), Ending::Lf),
-            "Ok(())",
-        );
-        assert_debug(&rt, alloc, &writer.into_sink().into_inner(), "[]");
-    }
+    let mut reader = LineReader::new(alloc, Input::new(b"$4\na\nbc\nd".as_slice()), 64).expect(
+        &rt, "refused",
+    );
+    assert_debug!(
+        rt;
+        reader.next_line(),
+        "Ok(Some(ReadLine { start: 0, text: \"$4\", ending: Lf }))"
+    );
+    assert_debug!(rt; reader.read_exact_part(4), "Ok(ReadPart { start: 3, text: \"a\\nbc\" })");
+    assert_debug!(
+        rt;
+        reader.next_line(),
+        "Ok(Some(ReadLine { start: 7, text: \"\", ending: Lf }))"
+    );
+    assert_debug!(rt; reader.read_exact_part(2), "Err(Incomplete(1))");
 }
 
+// LineWriter::new
 #[test]
-fn line_writer_2(rt: HostRuntime) {
+fn new_of_line_writer(rt: HostRuntime) {
     let alloc = rt.alloc();
-    // LineWriter::write_line
-    {
-        let mut writer = LineWriter::new(alloc, Output::new(Vec::new(alloc)), 64).expect(
-            &rt, "refused",
-        );
-        assert_debug(
-            &rt,
-            alloc,
-            &writer.write_line(view("a\nb"), Ending::Lf),
-            "Err(LineBreak(1))",
-        );
-        assert_debug(
-            &rt,
-            alloc,
-            &writer.write_line(view("c"), Ending::Lf),
-            "Ok(())",
-        );
-        assert_debug(&rt, alloc, &writer.flush(), "Ok(())");
-        assert_debug(&rt, alloc, &writer.into_sink().into_inner(), "[99, 10]");
-    }
-    // LineWriter::flush
-    {
-        let mut writer = LineWriter::new(alloc, Output::new(Vec::new(alloc)), 64).expect(
-            &rt, "refused",
-        );
-        assert_debug(&rt, alloc, &writer.flush(), "Ok(())");
-    }
+    let mut writer = LineWriter::new(alloc, Output::new(Vec::new(alloc)), 64).expect(
+        &rt, "refused",
+    );
+    assert_debug!(rt; writer.write_line(view("ab"), Ending::CrLf), "Ok(())");
+    assert_debug!(rt; writer.flush(), "Ok(())");
+    assert_debug!(rt; writer.into_sink().into_inner(), "[97, 98, 13, 10]");
 }
 
+// LineWriter::into_sink
 #[test]
-fn collect_lines_1(rt: HostRuntime) {
+fn into_sink_of_line_writer(rt: HostRuntime) {
     let alloc = rt.alloc();
-    // collect_lines
-    {
-        let mut reader = LineReader::new(alloc, Input::new(b"ab\n\xff".as_slice()), 64).expect(
-            &rt, "refused",
-        );
-        let kept = collect_lines(alloc, &mut reader).expect(&rt, "refused");
-        assert_debug(&rt, alloc, &kept.lines.len(), "1");
-        assert_debug(&rt, alloc, &kept.error, "Some(NotAscii(3))");
-    }
+    let mut writer = LineWriter::new(alloc, Output::new(Vec::new(alloc)), 64).expect(
+        &rt, "refused",
+    );
+    assert_debug!(rt; writer.write_line(view("ab"), Ending::Lf), "Ok(())");
+    assert_debug!(rt; writer.into_sink().into_inner(), "[]");
 }
 
+// LineWriter::write_line
 #[test]
-fn handler_1(rt: HostRuntime) {
+fn write_line_of_line_writer(rt: HostRuntime) {
     let alloc = rt.alloc();
-    // Handler::answer
-    {
-        let mut replies = Vec::new(alloc);
-        assert_debug(
-            &rt,
-            alloc,
-            &Echo.answer(alloc, view("ab"), &mut replies),
-            "Ok(Line)",
-        );
-        assert_debug(&rt, alloc, &replies.len(), "1");
-    }
+    let mut writer = LineWriter::new(alloc, Output::new(Vec::new(alloc)), 64).expect(
+        &rt, "refused",
+    );
+    assert_debug!(rt; writer.write_line(view("a\nb"), Ending::Lf), "Err(LineBreak(1))");
+    assert_debug!(rt; writer.write_line(view("c"), Ending::Lf), "Ok(())");
+    assert_debug!(rt; writer.flush(), "Ok(())");
+    assert_debug!(rt; writer.into_sink().into_inner(), "[99, 10]");
 }
 
+// LineWriter::flush
 #[test]
-fn serve_1(rt: HostRuntime) {
+fn flush_of_line_writer(rt: HostRuntime) {
     let alloc = rt.alloc();
-    // serve
-    {
-        let mut reader = LineReader::new(alloc, Input::new(b"a\r\nb".as_slice()), 64).expect(
-            &rt, "refused",
-        );
-        let mut writer = LineWriter::new(alloc, Output::new(Vec::new(alloc)), 64).expect(
-            &rt, "refused",
-        );
-        assert_debug(
-            &rt,
-            alloc,
-            &serve(alloc, &mut reader, &mut writer, Ending::Lf, &mut Echo),
-            "EndOfInput",
-        );
-        assert_debug(
-            &rt,
-            alloc,
-            &writer.into_sink().into_inner(),
-            "[97, 10, 98, 10]",
-        );
-    }
+    let mut writer = LineWriter::new(alloc, Output::new(Vec::new(alloc)), 64).expect(
+        &rt, "refused",
+    );
+    assert_debug!(rt; writer.flush(), "Ok(())");
+}
+
+// collect_lines
+#[test]
+fn collect_lines_of_ascii_lines(rt: HostRuntime) {
+    let alloc = rt.alloc();
+    let mut reader = LineReader::new(alloc, Input::new(b"ab\n\xff".as_slice()), 64).expect(
+        &rt, "refused",
+    );
+    let kept = collect_lines(alloc, &mut reader).expect(&rt, "refused");
+    assert_debug!(rt; kept.lines.len(), "1");
+    assert_debug!(rt; kept.error, "Some(NotAscii(3))");
+}
+
+// Handler::answer
+#[test]
+fn answer_of_handler(rt: HostRuntime) {
+    let alloc = rt.alloc();
+    let mut replies = Vec::new(alloc);
+    assert_debug!(rt; Echo.answer(alloc, view("ab"), &mut replies), "Ok(Line)");
+    assert_debug!(rt; replies.len(), "1");
+}
+
+// serve
+#[test]
+fn serve_of_ascii_lines(rt: HostRuntime) {
+    let alloc = rt.alloc();
+    let mut reader = LineReader::new(alloc, Input::new(b"a\r\nb".as_slice()), 64).expect(
+        &rt, "refused",
+    );
+    let mut writer = LineWriter::new(alloc, Output::new(Vec::new(alloc)), 64).expect(
+        &rt, "refused",
+    );
+    assert_debug!(rt; serve(alloc, &mut reader, &mut writer, Ending::Lf, &mut Echo), "EndOfInput");
+    assert_debug!(rt; writer.into_sink().into_inner(), "[97, 10, 98, 10]");
 }

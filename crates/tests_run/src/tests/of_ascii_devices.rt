@@ -1,75 +1,78 @@
 //! The examples in the documentation of `ascii_devices`, made by `bin/examples`.
 
-use super::assert_debug;
 use ascii_devices::{DeviceFault, Input, Output, Sink, Source};
 use std::convert::AsSlice;
+use testing::assert_debug;
 
+// Display for DeviceFault::fmt
 #[test]
-fn device_fault_1(rt: HostRuntime) {
+fn fmt_of_device_fault(rt: HostRuntime) {
     let alloc = rt.alloc();
-    // Display for DeviceFault::fmt
-    assert_debug(
-        &rt,
-        alloc,
-        &DeviceFault.to_string(alloc).expect(&rt, "refused"),
-        "\"a device failed\"",
-    );
+    assert_debug!(rt; DeviceFault.to_string(alloc).expect(&rt, "refused"), "\"a device failed\"");
 }
 
+// Source::failures
 #[test]
-fn source_1(rt: HostRuntime) {
-    let alloc = rt.alloc();
-    // Source::failures
-    assert_debug(&rt, alloc, &Input::new(b"ab".as_slice()).failures(), "0");
-    // Source::read
-    {
-        let mut input = Input::new(b"ab".as_slice());
-        let mut buffer = [0; 3];
-        assert_debug(&rt, alloc, &input.read(&mut buffer), "Ok(2)");
-        assert_debug(&rt, alloc, &input.read(&mut buffer), "Ok(0)");
-    }
+fn failures_of_source(rt: HostRuntime) {
+    assert_debug!(rt; Input::new(b"ab".as_slice()).failures(), "0");
 }
 
+// Source::read
 #[test]
-fn sink_1(rt: HostRuntime) {
-    let alloc = rt.alloc();
-    // Sink::failures
-    assert_debug(&rt, alloc, &Output::new(Vec::new(alloc)).failures(), "0");
-    // Sink::write
-    {
-        let mut output = Output::new(Vec::new(alloc));
-        assert_debug(&rt, alloc, &output.write(b"ab"), "Ok(2)");
-        assert_debug(&rt, alloc, &output.into_inner(), "[97, 98]");
-    }
-    // Sink::flush
-    assert_debug(&rt, alloc, &Output::new(Vec::new(alloc)).flush(), "Ok(())");
+fn read_of_source(rt: HostRuntime) {
+    let mut input = Input::new(b"ab".as_slice());
+    let mut buffer = [0; 3];
+    assert_debug!(rt; input.read(&mut buffer), "Ok(2)");
+    assert_debug!(rt; input.read(&mut buffer), "Ok(0)");
 }
 
+// Sink::failures
 #[test]
-fn input_1(rt: HostRuntime) {
+fn failures_of_sink(rt: HostRuntime) {
     let alloc = rt.alloc();
-    assert_debug(
-        &rt,
-        alloc,
-        &(
-            // Input::new
-            Input::new(b"ab".as_slice()).failures(),
-            // Input::into_inner
-            Input::new(b"ab".as_slice()).into_inner(),
-        ),
-        "(0, [97, 98])",
-    );
+    assert_debug!(rt; Output::new(Vec::new(alloc)).failures(), "0");
 }
 
+// Sink::write
 #[test]
-fn output_1(rt: HostRuntime) {
+fn write_of_sink(rt: HostRuntime) {
     let alloc = rt.alloc();
-    // Output::new
-    assert_debug(&rt, alloc, &Output::new(Vec::new(alloc)).failures(), "0");
-    // Output::into_inner
-    {
-        let mut output = Output::new(Vec::new(alloc));
-        assert_debug(&rt, alloc, &output.write(b"ab"), "Ok(2)");
-        assert_debug(&rt, alloc, &output.into_inner(), "[97, 98]");
-    }
+    let mut output = Output::new(Vec::new(alloc));
+    assert_debug!(rt; output.write(b"ab"), "Ok(2)");
+    assert_debug!(rt; output.into_inner(), "[97, 98]");
+}
+
+// Sink::flush
+#[test]
+fn flush_of_sink(rt: HostRuntime) {
+    let alloc = rt.alloc();
+    assert_debug!(rt; Output::new(Vec::new(alloc)).flush(), "Ok(())");
+}
+
+// Input::new
+#[test]
+fn new_of_input(rt: HostRuntime) {
+    assert_debug!(rt; Input::new(b"ab".as_slice()).failures(), "0");
+}
+
+// Input::into_inner
+#[test]
+fn into_inner_of_input(rt: HostRuntime) {
+    assert_debug!(rt; Input::new(b"ab".as_slice()).into_inner(), "[97, 98]");
+}
+
+// Output::new
+#[test]
+fn new_of_output(rt: HostRuntime) {
+    let alloc = rt.alloc();
+    assert_debug!(rt; Output::new(Vec::new(alloc)).failures(), "0");
+}
+
+// Output::into_inner
+#[test]
+fn into_inner_of_output(rt: HostRuntime) {
+    let alloc = rt.alloc();
+    let mut output = Output::new(Vec::new(alloc));
+    assert_debug!(rt; output.write(b"ab"), "Ok(2)");
+    assert_debug!(rt; output.into_inner(), "[97, 98]");
 }

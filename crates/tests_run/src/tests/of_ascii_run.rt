@@ -1,6 +1,5 @@
 //! The examples in the documentation of `ascii_run`, made by `bin/examples`.
 
-use super::assert_debug;
 use ascii::bytes;
 use ascii_run::{
     AsciiBuf, AsciiChar, BoundedFault, BoundedMode, Cmd, EngineFault, Input, Mode, Output,
@@ -10,406 +9,428 @@ use std::alloc::AllocError;
 use std::collections::HashSet;
 use std::convert::AsSlice;
 use std::fmt::Write;
-use testing::view;
+use testing::{assert_debug, view};
 
+// run_both
 #[test]
-fn run_both_1(rt: HostRuntime) {
+fn run_both_of_ascii_run(rt: HostRuntime) {
     let alloc = rt.alloc();
-    // run_both
-    assert_debug(
-        &rt,
-        alloc,
-        &run_both(alloc, view("foo"), &[Cmd::Upper, Cmd::Pop])
-            .expect(&rt, "refused")
-            .small,
-        "\"FO\"",
+    assert_debug!(
+        rt;
+        run_both(alloc, view("foo"), &[Cmd::Upper, Cmd::Pop]).expect(&rt, "refused").small,
+        "\"FO\""
     );
 }
 
+// bounded_engine
 #[test]
-fn bounded_engine_1(rt: HostRuntime) {
+fn bounded_engine_of_ascii_run(rt: HostRuntime) {
     let alloc = rt.alloc();
-    // bounded_engine
-    {
-        let mut output = Output::new(Vec::new(alloc));
-        let mode = BoundedMode::Upper;
-        assert_debug(
-            &rt,
-            alloc,
-            &bounded_engine(
-                alloc,
-                mode,
-                &mut Input::new(b"ab\n".as_slice()),
-                &mut output,
-            ),
-            "Ok(())",
-        );
-        assert_debug(&rt, alloc, &output.into_inner(), "[65, 66, 10]");
-    }
-}
-
-#[test]
-fn ascii_buf_1(rt: HostRuntime) {
-    let alloc = rt.alloc();
-    // AsciiBuf::as_ascii_str
-    assert_debug(
-        &rt,
-        alloc,
-        &AsciiBuf::as_ascii_str(&SmallAsciiString::new(alloc)),
-        "\"\"",
+    let mut output = Output::new(Vec::new(alloc));
+    let mode = BoundedMode::Upper;
+    assert_debug!(
+        rt;
+        bounded_engine(alloc, mode, &mut Input::new(b"ab\n".as_slice()), &mut output),
+        "Ok(())"
     );
-    // AsciiBuf::reserve
-    {
-        let mut text = SmallAsciiString::new(alloc);
-        assert_debug(&rt, alloc, &text.reserve(24), "Ok(())");
-    }
-    // AsciiBuf::shrink_to_fit
-    {
-        let mut text = view("foo").to_ascii_string(alloc).expect(&rt, "refused");
-        assert_debug(&rt, alloc, &AsciiBuf::shrink_to_fit(&mut text), "Ok(())");
-        assert_debug(&rt, alloc, &text, "\"foo\"");
-    }
-    // AsciiBuf::push
-    {
-        let mut text = SmallAsciiString::new(alloc);
-        assert_debug(&rt, alloc, &text.push(AsciiChar::a), "Ok(())");
-        assert_debug(&rt, alloc, &text, "\"a\"");
-    }
+    assert_debug!(rt; output.into_inner(), "[65, 66, 10]");
 }
 
+// AsciiBuf::as_ascii_str
 #[test]
-fn ascii_buf_2(rt: HostRuntime) {
+fn as_ascii_str_of_ascii_buf(rt: HostRuntime) {
     let alloc = rt.alloc();
-    // AsciiBuf::push_str
-    {
-        let mut text = SmallAsciiString::new(alloc);
-        assert_debug(&rt, alloc, &text.push_str(view("foo")), "Ok(())");
-        assert_debug(&rt, alloc, &text, "\"foo\"");
-    }
-    // AsciiBuf::insert
-    {
-        let mut text = SmallAsciiString::from_ascii_str(alloc, view("fo")).expect(&rt, "refused");
-        assert_debug(&rt, alloc, &text.insert(0, AsciiChar::z), "Ok(())");
-        assert_debug(&rt, alloc, &text, "\"zfo\"");
-    }
+    assert_debug!(rt; AsciiBuf::as_ascii_str(&SmallAsciiString::new(alloc)), "\"\"");
 }
 
+// AsciiBuf::reserve
 #[test]
-fn ascii_buf_3(rt: HostRuntime) {
+fn reserve_of_ascii_buf(rt: HostRuntime) {
     let alloc = rt.alloc();
-    // AsciiBuf::insert_str
-    {
-        let mut text = SmallAsciiString::from_ascii_str(alloc, view("fo")).expect(&rt, "refused");
-        assert_debug(&rt, alloc, &text.insert_str(1, view("lo")), "Ok(())");
-        assert_debug(&rt, alloc, &text, "\"floo\"");
-    }
-    // AsciiBuf::remove
-    {
-        let mut text = SmallAsciiString::from_ascii_str(alloc, view("foo")).expect(&rt, "refused");
-        assert_debug(&rt, alloc, &text.remove(0), "'f'");
-        assert_debug(&rt, alloc, &text, "\"oo\"");
-    }
+    let mut text = SmallAsciiString::new(alloc);
+    assert_debug!(rt; text.reserve(24), "Ok(())");
 }
 
+// AsciiBuf::shrink_to_fit
 #[test]
-fn ascii_buf_4(rt: HostRuntime) {
+fn shrink_to_fit_of_ascii_buf(rt: HostRuntime) {
     let alloc = rt.alloc();
-    // AsciiBuf::pop
-    {
-        let mut text = SmallAsciiString::from_ascii_str(alloc, view("fo")).expect(&rt, "refused");
-        assert_debug(&rt, alloc, &text.pop(), "Some('o')");
-        assert_debug(&rt, alloc, &text, "\"f\"");
-    }
-    // AsciiBuf::truncate
-    {
-        let mut text = SmallAsciiString::from_ascii_str(alloc, view("foo")).expect(&rt, "refused");
-        text.truncate(2);
-        assert_debug(&rt, alloc, &text, "\"fo\"");
-    }
+    let mut text = view("foo").to_ascii_string(alloc).expect(&rt, "refused");
+    assert_debug!(rt; AsciiBuf::shrink_to_fit(&mut text), "Ok(())");
+    assert_debug!(rt; text, "\"foo\"");
 }
 
+// AsciiBuf::push
 #[test]
-fn ascii_buf_5(rt: HostRuntime) {
+fn push_of_ascii_buf(rt: HostRuntime) {
     let alloc = rt.alloc();
-    // AsciiBuf::clear
-    {
-        let mut text = SmallAsciiString::from_ascii_str(alloc, view("foo")).expect(&rt, "refused");
-        text.clear();
-        assert_debug(&rt, alloc, &text, "\"\"");
-    }
-    // AsciiBuf::set
-    {
-        let mut text = SmallAsciiString::from_ascii_str(alloc, view("foo")).expect(&rt, "refused");
-        text.set(0, AsciiChar::z);
-        assert_debug(&rt, alloc, &text, "\"zoo\"");
-    }
+    let mut text = SmallAsciiString::new(alloc);
+    assert_debug!(rt; text.push(AsciiChar::a), "Ok(())");
+    assert_debug!(rt; text, "\"a\"");
 }
 
+// AsciiBuf::push_str
 #[test]
-fn ascii_buf_6(rt: HostRuntime) {
+fn push_str_of_ascii_buf(rt: HostRuntime) {
     let alloc = rt.alloc();
-    // AsciiBuf::make_ascii_uppercase
-    {
-        let mut text = SmallAsciiString::from_ascii_str(alloc, view("foo")).expect(&rt, "refused");
-        text.make_ascii_uppercase();
-        assert_debug(&rt, alloc, &text, "\"FOO\"");
-    }
-    // AsciiBuf::make_ascii_lowercase
-    {
-        let mut text = SmallAsciiString::from_ascii_str(alloc, view("FOO")).expect(&rt, "refused");
-        text.make_ascii_lowercase();
-        assert_debug(&rt, alloc, &text, "\"foo\"");
-    }
+    let mut text = SmallAsciiString::new(alloc);
+    assert_debug!(rt; text.push_str(view("foo")), "Ok(())");
+    assert_debug!(rt; text, "\"foo\"");
 }
 
+// AsciiBuf::insert
 #[test]
-fn small_ascii_string_1(rt: HostRuntime) {
+fn insert_of_ascii_buf(rt: HostRuntime) {
     let alloc = rt.alloc();
-    assert_debug(
-        &rt,
-        alloc,
-        &(
-            // SmallAsciiString::new
-            SmallAsciiString::new(alloc).len(),
-            // SmallAsciiString::from_ascii_str
-            SmallAsciiString::from_ascii_str(alloc, view("foo")).expect(&rt, "refused"),
-            // SmallAsciiString::as_ascii_str
-            SmallAsciiString::from_ascii_str(alloc, view("foo"))
-                .expect(&rt, "refused")
-                .as_ascii_str(),
-            // SmallAsciiString::is_inline
-            SmallAsciiString::from_ascii_str(alloc, view("foo"))
-                .expect(&rt, "refused")
-                .is_inline(),
-            // SmallAsciiString::len
-            SmallAsciiString::from_ascii_str(alloc, view("foo"))
-                .expect(&rt, "refused")
-                .len(),
-            // SmallAsciiString::is_empty
-            SmallAsciiString::new(alloc).is_empty(),
-        ),
-        "(0, \"foo\", \"foo\", true, 3, true)",
+    let mut text = SmallAsciiString::from_ascii_str(alloc, view("fo")).expect(&rt, "refused");
+    assert_debug!(rt; text.insert(0, AsciiChar::z), "Ok(())");
+    assert_debug!(rt; text, "\"zfo\"");
+}
+
+// AsciiBuf::insert_str
+#[test]
+fn insert_str_of_ascii_buf(rt: HostRuntime) {
+    let alloc = rt.alloc();
+    let mut text = SmallAsciiString::from_ascii_str(alloc, view("fo")).expect(&rt, "refused");
+    assert_debug!(rt; text.insert_str(1, view("lo")), "Ok(())");
+    assert_debug!(rt; text, "\"floo\"");
+}
+
+// AsciiBuf::remove
+#[test]
+fn remove_of_ascii_buf(rt: HostRuntime) {
+    let alloc = rt.alloc();
+    let mut text = SmallAsciiString::from_ascii_str(alloc, view("foo")).expect(&rt, "refused");
+    assert_debug!(rt; text.remove(0), "'f'");
+    assert_debug!(rt; text, "\"oo\"");
+}
+
+// AsciiBuf::pop
+#[test]
+fn pop_of_ascii_buf(rt: HostRuntime) {
+    let alloc = rt.alloc();
+    let mut text = SmallAsciiString::from_ascii_str(alloc, view("fo")).expect(&rt, "refused");
+    assert_debug!(rt; text.pop(), "Some('o')");
+    assert_debug!(rt; text, "\"f\"");
+}
+
+// AsciiBuf::truncate
+#[test]
+fn truncate_of_ascii_buf(rt: HostRuntime) {
+    let alloc = rt.alloc();
+    let mut text = SmallAsciiString::from_ascii_str(alloc, view("foo")).expect(&rt, "refused");
+    text.truncate(2);
+    assert_debug!(rt; text, "\"fo\"");
+}
+
+// AsciiBuf::clear
+#[test]
+fn clear_of_ascii_buf(rt: HostRuntime) {
+    let alloc = rt.alloc();
+    let mut text = SmallAsciiString::from_ascii_str(alloc, view("foo")).expect(&rt, "refused");
+    text.clear();
+    assert_debug!(rt; text, "\"\"");
+}
+
+// AsciiBuf::set
+#[test]
+fn set_of_ascii_buf(rt: HostRuntime) {
+    let alloc = rt.alloc();
+    let mut text = SmallAsciiString::from_ascii_str(alloc, view("foo")).expect(&rt, "refused");
+    text.set(0, AsciiChar::z);
+    assert_debug!(rt; text, "\"zoo\"");
+}
+
+// AsciiBuf::make_ascii_uppercase
+#[test]
+fn make_ascii_uppercase_of_ascii_buf(rt: HostRuntime) {
+    let alloc = rt.alloc();
+    let mut text = SmallAsciiString::from_ascii_str(alloc, view("foo")).expect(&rt, "refused");
+    text.make_ascii_uppercase();
+    assert_debug!(rt; text, "\"FOO\"");
+}
+
+// AsciiBuf::make_ascii_lowercase
+#[test]
+fn make_ascii_lowercase_of_ascii_buf(rt: HostRuntime) {
+    let alloc = rt.alloc();
+    let mut text = SmallAsciiString::from_ascii_str(alloc, view("FOO")).expect(&rt, "refused");
+    text.make_ascii_lowercase();
+    assert_debug!(rt; text, "\"foo\"");
+}
+
+// SmallAsciiString::new
+#[test]
+fn new_of_small_ascii_string(rt: HostRuntime) {
+    let alloc = rt.alloc();
+    assert_debug!(rt; SmallAsciiString::new(alloc).len(), "0");
+}
+
+// SmallAsciiString::from_ascii_str
+#[test]
+fn from_ascii_str_of_small_ascii_string(rt: HostRuntime) {
+    let alloc = rt.alloc();
+    assert_debug!(
+        rt;
+        SmallAsciiString::from_ascii_str(alloc, view("foo")).expect(&rt, "refused"),
+        "\"foo\""
     );
 }
 
+// SmallAsciiString::as_ascii_str
 #[test]
-fn small_ascii_string_2(rt: HostRuntime) {
+fn as_ascii_str_of_small_ascii_string(rt: HostRuntime) {
     let alloc = rt.alloc();
-    assert_debug(
-        &rt,
-        alloc,
-        &(
-            // SmallAsciiString::capacity
-            SmallAsciiString::new(alloc).capacity(),
-            // SmallAsciiString::into_ascii_string
-            SmallAsciiString::from_ascii_str(alloc, view("foo"))
-                .expect(&rt, "refused")
-                .into_ascii_string()
-                .ok(),
-        ),
-        "(24, Some(\"foo\"))",
-    );
-    // AsciiBuf for SmallAsciiString::shrink_to_fit
-    {
-        let mut text = SmallAsciiString::from_ascii_str(alloc, view("foo")).expect(&rt, "refused");
-        assert_debug(&rt, alloc, &text.shrink_to_fit(), "Ok(())");
-        assert_debug(&rt, alloc, &text.capacity(), "24");
-    }
-    // Clone for SmallAsciiString::clone
-    assert_debug(
-        &rt,
-        alloc,
-        &SmallAsciiString::from_ascii_str(alloc, view("foo"))
-            .expect(&rt, "refused")
-            .clone()
-            .expect(&rt, "refused"),
-        "\"foo\"",
+    assert_debug!(
+        rt;
+        SmallAsciiString::from_ascii_str(alloc, view("foo")).expect(&rt, "refused").as_ascii_str(),
+        "\"foo\""
     );
 }
 
+// SmallAsciiString::is_inline
 #[test]
-fn small_ascii_string_3(rt: HostRuntime) {
+fn is_inline_of_small_ascii_string(rt: HostRuntime) {
     let alloc = rt.alloc();
-    assert_debug(
-        &rt,
-        alloc,
-        &(
-            // PartialEq for SmallAsciiString::eq
-            SmallAsciiString::new(alloc)
-                == SmallAsciiString::from_ascii_str(alloc, view("foo")).expect(&rt, "refused"),
-            // PartialOrd for SmallAsciiString::partial_cmp
-            SmallAsciiString::new(alloc)
-                < SmallAsciiString::from_ascii_str(alloc, view("foo")).expect(&rt, "refused"),
-            // Ord for SmallAsciiString::cmp
-            SmallAsciiString::new(alloc).cmp(&SmallAsciiString::from_ascii_str(
-                alloc,
-                view("foo"),
-            ).expect(&rt, "refused")),
-        ),
-        "(false, true, Less)",
-    );
-    // Hash for SmallAsciiString::hash
-    {
-        let mut seen = HashSet::new(alloc);
-        seen.insert(SmallAsciiString::new(alloc))
-            .expect(&rt, "refused");
-        assert_debug(
-            &rt,
-            alloc,
-            &seen.contains(&SmallAsciiString::new(alloc)),
-            "true",
-        );
-    }
-}
-
-#[test]
-fn small_ascii_string_4(rt: HostRuntime) {
-    let alloc = rt.alloc();
-    assert_debug(
-        &rt,
-        alloc,
-        &(
-            // Display for SmallAsciiString::fmt
-            format!(in alloc;
-                "{}",
-                SmallAsciiString::from_ascii_str(alloc, view("foo")).expect(&rt, "refused")
-            )
-            .expect(&rt, "refused"),
-            // Debug for SmallAsciiString::fmt
-            format!(in alloc;
-                "{:?}",
-                SmallAsciiString::from_ascii_str(alloc, view("foo")).expect(&rt, "refused")
-            )
-            .expect(&rt, "refused"),
-        ),
-        "(\"foo\", \"\\\"foo\\\"\")",
+    assert_debug!(
+        rt;
+        SmallAsciiString::from_ascii_str(alloc, view("foo")).expect(&rt, "refused").is_inline(),
+        "true"
     );
 }
 
+// SmallAsciiString::len
 #[test]
-fn small_ascii_string_5(rt: HostRuntime) {
+fn len_of_small_ascii_string(rt: HostRuntime) {
     let alloc = rt.alloc();
-    // SmallAsciiString::write_char
-    {
-        let mut text = SmallAsciiString::new(alloc);
-        assert_debug(&rt, alloc, &text.write_char('a'), "Ok(())");
-        assert_debug(&rt, alloc, &text.write_char('č'), "Err(Error)");
-        assert_debug(&rt, alloc, &text, "\"a\"");
-    }
-    // Write for SmallAsciiString::write_str
-    {
-        let mut text = SmallAsciiString::new(alloc);
-        assert_debug(&rt, alloc, &write!(text, "foo{}", 7), "Ok(())");
-        assert_debug(&rt, alloc, &text, "\"foo7\"");
-    }
+    assert_debug!(
+        rt;
+        SmallAsciiString::from_ascii_str(alloc, view("foo")).expect(&rt, "refused").len(),
+        "3"
+    );
 }
 
+// SmallAsciiString::is_empty
 #[test]
-fn run_1(rt: HostRuntime) {
+fn is_empty_of_small_ascii_string(rt: HostRuntime) {
     let alloc = rt.alloc();
-    // run
-    {
-        let mut text = view("foo").to_ascii_string(alloc).expect(&rt, "refused");
-        assert_debug(
-            &rt,
-            alloc,
-            &run(alloc, &mut text, &[Cmd::Pop, Cmd::Len]).expect(&rt, "refused"),
-            "[Char(Some('o')), Number(2)]",
-        );
-        assert_debug(&rt, alloc, &text, "\"fo\"");
-    }
+    assert_debug!(rt; SmallAsciiString::new(alloc).is_empty(), "true");
 }
 
+// SmallAsciiString::capacity
 #[test]
-fn plain_run_1(rt: HostRuntime) {
+fn capacity_of_small_ascii_string(rt: HostRuntime) {
     let alloc = rt.alloc();
-    // plain_run
-    {
-        let mut text = view("foo").to_ascii_string(alloc).expect(&rt, "refused");
-        let replies = run(alloc, &mut text, &[Cmd::Len]).expect(&rt, "refused");
-        assert_debug(&rt, alloc, &plain_run(&[Cmd::Len], &replies), "()");
-    }
+    assert_debug!(rt; SmallAsciiString::new(alloc).capacity(), "24");
 }
 
+// SmallAsciiString::into_ascii_string
 #[test]
-fn runs_agree_1(rt: HostRuntime) {
+fn into_ascii_string_of_small_ascii_string(rt: HostRuntime) {
     let alloc = rt.alloc();
-    // runs_agree
-    {
-        let mut text = view("foo").to_ascii_string(alloc).expect(&rt, "refused");
-        let replies = run(alloc, &mut text, &[Cmd::Len]).expect(&rt, "refused");
-        assert_debug(
-            &rt,
-            alloc,
-            &runs_agree(&[Cmd::Len], &replies, &replies),
-            "()",
-        );
-    }
+    assert_debug!(
+        rt;
+        SmallAsciiString::from_ascii_str(alloc, view("foo")).expect(&rt, "refused").into_ascii_string().ok(),
+        "Some(\"foo\")"
+    );
 }
 
+// AsciiBuf for SmallAsciiString::shrink_to_fit
 #[test]
-fn engine_fault_1(rt: HostRuntime) {
+fn shrink_to_fit_of_small_ascii_string(rt: HostRuntime) {
     let alloc = rt.alloc();
-    assert_debug(
-        &rt,
-        alloc,
-        &(
-            // Display for EngineFault::fmt
-            EngineFault::NotAscii(2)
-                .to_string(alloc)
-                .expect(&rt, "refused"),
-            EngineFault::Position(0)
-                .to_string(alloc)
-                .expect(&rt, "refused"),
+    let mut text = SmallAsciiString::from_ascii_str(alloc, view("foo")).expect(&rt, "refused");
+    assert_debug!(rt; text.shrink_to_fit(), "Ok(())");
+    assert_debug!(rt; text.capacity(), "24");
+}
+
+// Clone for SmallAsciiString::clone
+#[test]
+fn clone_of_small_ascii_string(rt: HostRuntime) {
+    let alloc = rt.alloc();
+    assert_debug!(
+        rt;
+        SmallAsciiString::from_ascii_str(alloc, view("foo")).expect(&rt, "refused").clone().expect(&rt, "refused"),
+        "\"foo\""
+    );
+}
+
+// PartialEq for SmallAsciiString::eq
+#[test]
+fn eq_of_small_ascii_string(rt: HostRuntime) {
+    let alloc = rt.alloc();
+    assert_debug!(
+        rt;
+        SmallAsciiString::new(alloc) == SmallAsciiString::from_ascii_str(alloc, view("foo")).expect(&rt, "refused"),
+        "false"
+    );
+}
+
+// PartialOrd for SmallAsciiString::partial_cmp
+#[test]
+fn partial_cmp_of_small_ascii_string(rt: HostRuntime) {
+    let alloc = rt.alloc();
+    assert_debug!(
+        rt;
+        SmallAsciiString::new(alloc) < SmallAsciiString::from_ascii_str(alloc, view("foo")).expect(&rt, "refused"),
+        "true"
+    );
+}
+
+// Ord for SmallAsciiString::cmp
+#[test]
+fn cmp_of_small_ascii_string(rt: HostRuntime) {
+    let alloc = rt.alloc();
+    assert_debug!(
+        rt;
+        SmallAsciiString::new(alloc).cmp(&SmallAsciiString::from_ascii_str(alloc, view("foo")).expect(&rt, "refused")),
+        "Less"
+    );
+}
+
+// Hash for SmallAsciiString::hash
+#[test]
+fn hash_of_small_ascii_string(rt: HostRuntime) {
+    let alloc = rt.alloc();
+    let mut seen = HashSet::new(alloc);
+    seen.insert(SmallAsciiString::new(alloc))
+        .expect(&rt, "refused");
+    assert_debug!(rt; seen.contains(&SmallAsciiString::new(alloc)), "true");
+}
+
+// Display for SmallAsciiString::fmt
+#[test]
+fn display_of_small_ascii_string(rt: HostRuntime) {
+    let alloc = rt.alloc();
+    assert_debug!(
+        rt;
+        format!(in alloc; "{}", SmallAsciiString::from_ascii_str(alloc, view("foo")).expect(&rt, "refused")).expect(&rt, "refused"),
+        "\"foo\""
+    );
+}
+
+// Debug for SmallAsciiString::fmt
+#[test]
+fn debug_of_small_ascii_string(rt: HostRuntime) {
+    let alloc = rt.alloc();
+    assert_debug!(
+        rt;
+        format!(in alloc; "{:?}", SmallAsciiString::from_ascii_str(alloc, view("foo")).expect(&rt, "refused")).expect(&rt, "refused"),
+        "\"\\\"foo\\\"\""
+    );
+}
+
+// SmallAsciiString::write_char
+#[test]
+fn write_char_of_small_ascii_string(rt: HostRuntime) {
+    let alloc = rt.alloc();
+    let mut text = SmallAsciiString::new(alloc);
+    assert_debug!(rt; text.write_char('a'), "Ok(())");
+    assert_debug!(rt; text.write_char('č'), "Err(Error)");
+    assert_debug!(rt; text, "\"a\"");
+}
+
+// Write for SmallAsciiString::write_str
+#[test]
+fn write_str_of_small_ascii_string(rt: HostRuntime) {
+    let alloc = rt.alloc();
+    let mut text = SmallAsciiString::new(alloc);
+    assert_debug!(rt; write!(text, "foo{}", 7), "Ok(())");
+    assert_debug!(rt; text, "\"foo7\"");
+}
+
+// run
+#[test]
+fn run_of_ascii_run(rt: HostRuntime) {
+    let alloc = rt.alloc();
+    let mut text = view("foo").to_ascii_string(alloc).expect(&rt, "refused");
+    assert_debug!(
+        rt;
+        run(alloc, &mut text, &[Cmd::Pop, Cmd::Len]).expect(&rt, "refused"),
+        "[Char(Some('o')), Number(2)]"
+    );
+    assert_debug!(rt; text, "\"fo\"");
+}
+
+// plain_run
+#[test]
+fn plain_run_of_ascii_run(rt: HostRuntime) {
+    let alloc = rt.alloc();
+    let mut text = view("foo").to_ascii_string(alloc).expect(&rt, "refused");
+    let replies = run(alloc, &mut text, &[Cmd::Len]).expect(&rt, "refused");
+    assert_debug!(rt; plain_run(&[Cmd::Len], &replies), "()");
+}
+
+// runs_agree
+#[test]
+fn runs_agree_of_ascii_run(rt: HostRuntime) {
+    let alloc = rt.alloc();
+    let mut text = view("foo").to_ascii_string(alloc).expect(&rt, "refused");
+    let replies = run(alloc, &mut text, &[Cmd::Len]).expect(&rt, "refused");
+    assert_debug!(rt; runs_agree(&[Cmd::Len], &replies, &replies), "()");
+}
+
+// Display for EngineFault::fmt
+#[test]
+fn fmt_of_engine_fault(rt: HostRuntime) {
+    let alloc = rt.alloc();
+    assert_debug!(
+        rt;
+        (
+            EngineFault::NotAscii(2).to_string(alloc).expect(&rt, "refused"),
+            EngineFault::Position(0).to_string(alloc).expect(&rt, "refused"),
             EngineFault::Memory.to_string(alloc).expect(&rt, "refused"),
-            // From<AllocError> for EngineFault::from
-            EngineFault::from(AllocError),
-            // From<AsAsciiStrError> for EngineFault::from
-            bytes::as_ascii_str(b"ab\xc4").map_err(EngineFault::from),
         ),
-        "(\"the byte at index 2 is not ASCII\", \"bad position in command 0\", \"no memory\", Memory, Err(NotAscii(2)))",
+        "(\"the byte at index 2 is not ASCII\", \"bad position in command 0\", \"no memory\")"
     );
 }
 
+// From<AllocError> for EngineFault::from
 #[test]
-fn bounded_fault_1(rt: HostRuntime) {
+fn from_alloc_error_of_engine_fault(rt: HostRuntime) {
+    assert_debug!(rt; EngineFault::from(AllocError), "Memory");
+}
+
+// From<AsAsciiStrError> for EngineFault::from
+#[test]
+fn from_as_ascii_str_error_of_engine_fault(rt: HostRuntime) {
+    assert_debug!(
+        rt;
+        bytes::as_ascii_str(b"ab\xc4").map_err(EngineFault::from),
+        "Err(NotAscii(2))"
+    );
+}
+
+// Display for BoundedFault::fmt
+#[test]
+fn fmt_of_bounded_fault(rt: HostRuntime) {
     let alloc = rt.alloc();
-    assert_debug(
-        &rt,
-        alloc,
-        &(
-            // Display for BoundedFault::fmt
-            BoundedFault::NotAscii(2)
-                .to_string(alloc)
-                .expect(&rt, "refused"),
-            BoundedFault::TooLong
-                .to_string(alloc)
-                .expect(&rt, "refused"),
+    assert_debug!(
+        rt;
+        (
+            BoundedFault::NotAscii(2).to_string(alloc).expect(&rt, "refused"),
+            BoundedFault::TooLong.to_string(alloc).expect(&rt, "refused"),
             BoundedFault::Memory.to_string(alloc).expect(&rt, "refused"),
-            // From<AllocError> for BoundedFault::from
-            BoundedFault::from(AllocError),
         ),
-        "(\"the byte at index 2 is not ASCII\", \"the input is too long\", \"no memory\", Memory)",
+        "(\"the byte at index 2 is not ASCII\", \"the input is too long\", \"no memory\")"
     );
 }
 
+// From<AllocError> for BoundedFault::from
 #[test]
-fn engine_1(rt: HostRuntime) {
+fn from_of_bounded_fault(rt: HostRuntime) {
+    assert_debug!(rt; BoundedFault::from(AllocError), "Memory");
+}
+
+// engine
+#[test]
+fn engine_of_ascii_run(rt: HostRuntime) {
     let alloc = rt.alloc();
-    // engine
-    {
-        let mut output = Output::new(Vec::new(alloc));
-        assert_debug(
-            &rt,
-            alloc,
-            &engine(
-                alloc,
-                Mode::Tac,
-                &mut Input::new(b"x\ny\n".as_slice()),
-                &mut output,
-            ),
-            "Ok(())",
-        );
-        assert_debug(&rt, alloc, &output.into_inner(), "[121, 10, 120, 10]");
-    }
+    let mut output = Output::new(Vec::new(alloc));
+    assert_debug!(
+        rt;
+        engine(alloc, Mode::Tac, &mut Input::new(b"x\ny\n".as_slice()), &mut output),
+        "Ok(())"
+    );
+    assert_debug!(rt; output.into_inner(), "[121, 10, 120, 10]");
 }
