@@ -3,15 +3,10 @@
 mod failing;
 
 use super::*;
-use std::fmt::Debug;
 use std::process::Abort;
+use testing::assert_row;
 
 const USAGE: &str = "usage: ascii_show copy|lines|tac|caret|ends [-s] SCRIPT|edit WORD..|json\n";
-
-/// Fails the test if `got` differs from `want`, and prints both.
-fn assert_same<T: PartialEq + Debug + Drop>(rt: &impl Abort, got: T, want: T) {
-    assert_eq!(rt; got, want);
-}
 
 struct Row {
     words: &'static [&'static str],
@@ -85,9 +80,9 @@ fn compare<R: Abort + AllocGlobal>(rt: &R, rows: &[Row]) {
         let mut output = Vec::new(rt.alloc());
         let mut errors = Vec::new(rt.alloc());
         let status = show(rt.alloc(), row.words, row.input, &mut output, &mut errors);
-        assert_same(rt, output.as_slice(), row.output);
-        assert_same(rt, errors.as_slice(), row.line.as_bytes());
-        assert_same(rt, status, row.status);
+        assert_row!(rt; output.as_slice(), row.output);
+        assert_row!(rt; errors.as_slice(), row.line.as_bytes());
+        assert_row!(rt; status, row.status);
     }
 }
 

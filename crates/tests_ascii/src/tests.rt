@@ -23,11 +23,3 @@ mod upstream_vectors;
 mod upstream_walks;
 mod views;
 mod words_and_trims;
-
-use std::fmt::Debug;
-use std::process::Abort;
-
-/// Fails the test if `got` differs from `want`, and prints both.
-fn assert_same<T: PartialEq + Debug + Drop>(rt: &impl Abort, got: T, want: T) {
-    assert_eq!(rt; got, want);
-}

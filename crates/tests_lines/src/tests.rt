@@ -11,13 +11,6 @@ ghost use Rattle.std.specs.Prelude.{◌≡◌, ◌∷◌, []};
 
 use ascii_lines::{AsciiStr, AsciiString, Handler, Next};
 use std::alloc::{AllocError, Global};
-use std::fmt::Debug;
-use std::process::Abort;
-
-/// Fails the test if `got` differs from `want`, and prints both.
-fn assert_same<T: PartialEq + Debug + Drop>(rt: &impl Abort, got: T, want: T) {
-    assert_eq!(rt; got, want);
-}
 
 /// A handler that replies with the text that it is handed.
 #[derive(Drop)]

@@ -8,14 +8,8 @@ mod recipes;
 mod words;
 
 use ascii::AsciiString;
-use std::fmt::Debug;
 use std::process::Abort;
 use testing::ascii;
-
-/// Fails the test if `got` differs from `want`, and prints both.
-fn assert_same<T: PartialEq + Debug + Drop>(rt: &impl Abort, got: T, want: T) {
-    assert_eq!(rt; got, want);
-}
 
 /// The text of `piece`, `times` times.
 fn repeated<R: Abort + AllocGlobal>(rt: &R, piece: &str, times: usize) -> AsciiString {

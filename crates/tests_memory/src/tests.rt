@@ -11,11 +11,3 @@ mod returns_the_value;
 mod runs_and_modes;
 mod small_string_memory;
 mod string_edits;
-
-use std::fmt::Debug;
-use std::process::Abort;
-
-/// Fails the test if `got` differs from `want`, and prints both.
-fn assert_same<T: PartialEq + Debug + Drop>(rt: &impl Abort, got: T, want: T) {
-    assert_eq!(rt; got, want);
-}

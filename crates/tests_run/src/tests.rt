@@ -21,11 +21,3 @@ mod output_buffer;
 mod pseudo_random;
 mod scripted_devices;
 mod small_string;
-
-use std::fmt::Debug;
-use std::process::Abort;
-
-/// Fails the test if `got` differs from `want`, and prints both.
-fn assert_same<T: PartialEq + Debug + Drop>(rt: &impl Abort, got: T, want: T) {
-    assert_eq!(rt; got, want);
-}

@@ -1,11 +1,11 @@
 //! Devices that fail, and no memory.
 
-use super::assert_same;
 use crate::show;
 use linked_list_allocator::LocalHeap;
 use std::alloc::{AllocError, Global};
 use std::io::{self, ErrorKind};
 use std::process::Abort;
+use testing::assert_row;
 
 /// A reader that gives `abc` and then fails.
 #[derive(Drop)]
@@ -51,15 +51,15 @@ fn failing_devices(rt: HostRuntime) {
     let mut output = Vec::new(alloc);
     let mut errors = Vec::new(alloc);
     let reader = Breaking { given: false };
-    assert_same(&rt, show(alloc, &args, reader, &mut output, &mut errors), 3);
-    assert_same(&rt, output.len(), 0);
-    assert_same(&rt, errors.as_slice(), b"read failed\n");
+    assert_row!(rt; show(alloc, &args, reader, &mut output, &mut errors), 3);
+    assert_row!(rt; output.len(), 0);
+    assert_row!(rt; errors.as_slice(), b"read failed\n");
 
     let mut errors = Vec::new(alloc);
     let writer = Full { taken: false };
     let input: &[u8] = b"abcdef";
-    assert_same(&rt, show(alloc, &args, input, writer, &mut errors), 3);
-    assert_same(&rt, errors.as_slice(), b"write failed\n");
+    assert_row!(rt; show(alloc, &args, input, writer, &mut errors), 3);
+    assert_row!(rt; errors.as_slice(), b"write failed\n");
 }
 
 /// A writer that takes all bytes and fails to flush.
@@ -83,8 +83,8 @@ fn failing_flush(rt: HostRuntime) {
     for args in calls {
         let mut errors = Vec::new(alloc);
         let input: &[u8] = b"abc";
-        assert_same(&rt, show(alloc, args, input, Unflushed, &mut errors), 3);
-        assert_same(&rt, errors.as_slice(), b"write failed\n");
+        assert_row!(rt; show(alloc, args, input, Unflushed, &mut errors), 3);
+        assert_row!(rt; errors.as_slice(), b"write failed\n");
     }
 }
 
@@ -93,8 +93,8 @@ fn unheard<R: Abort + AllocGlobal>(rt: &R, call: &[&str], input: &[u8], status: 
     let alloc = rt.alloc();
     let mut output = Vec::new(alloc);
     let errors = Full { taken: true };
-    assert_same(rt, show(alloc, call, input, &mut output, errors), status);
-    assert_same(rt, output.len(), 0);
+    assert_row!(rt; show(alloc, call, input, &mut output, errors), status);
+    assert_row!(rt; output.len(), 0);
 }
 
 #[test]
@@ -131,9 +131,9 @@ fn told<R: Abort + AllocGlobal>(rt: &R, call: &[&str], status: u8, line: &'stati
     let mut input: &[u8] = b"abc";
     let mut errors = OneLine { wanted: line };
     let got = show(alloc, call, &mut input, Vec::new(alloc), &mut errors);
-    assert_same(rt, got, status);
-    assert_same(rt, errors.wanted.len(), 0);
-    assert_same(rt, input, b"abc".as_slice());
+    assert_row!(rt; got, status);
+    assert_row!(rt; errors.wanted.len(), 0);
+    assert_row!(rt; input, b"abc".as_slice());
 }
 
 #[test]
@@ -155,23 +155,15 @@ fn numbers_of_two_digits(rt: HostRuntime) {
         wanted: b"bad position in word 11\n",
     };
     let input: &[u8] = b"abc";
-    assert_same(
-        &rt,
-        show(alloc, &args, input, Vec::new(alloc), &mut errors),
-        2,
-    );
-    assert_same(&rt, errors.wanted.len(), 0);
+    assert_row!(rt; show(alloc, &args, input, Vec::new(alloc), &mut errors), 2);
+    assert_row!(rt; errors.wanted.len(), 0);
     let args = ["tac"];
     let mut errors = OneLine {
         wanted: b"the byte at index 12 is not ASCII\n",
     };
     let input: &[u8] = b"abcdefghijkl\x80";
-    assert_same(
-        &rt,
-        show(alloc, &args, input, Vec::new(alloc), &mut errors),
-        1,
-    );
-    assert_same(&rt, errors.wanted.len(), 0);
+    assert_row!(rt; show(alloc, &args, input, Vec::new(alloc), &mut errors), 1);
+    assert_row!(rt; errors.wanted.len(), 0);
 }
 
 #[test]
@@ -187,8 +179,8 @@ fn no_memory(rt: HostRuntime) {
         let input = vec![in alloc; b'a'; 1_000].expect(&rt, "refused");
         let mut output = Vec::new(alloc);
         let status = show(&heap, args, input.as_slice(), &mut output, &mut errors);
-        assert_same(&rt, status, 3);
-        assert_same(&rt, output.len(), 0);
-        assert_same(&rt, errors.wanted.len(), 0);
+        assert_row!(rt; status, 3);
+        assert_row!(rt; output.len(), 0);
+        assert_row!(rt; errors.wanted.len(), 0);
     }
 }

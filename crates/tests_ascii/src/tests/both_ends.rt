@@ -1,11 +1,10 @@
 //! Characters, pieces and lines from both ends.
 
-use super::assert_same;
 use ascii::iter::{End, take_end, walk_lines, walk_split};
 use ascii::{AsciiChar, AsciiStr, AsciiString};
 use std::alloc::{AllocError, Global};
 use std::process::Abort;
-use testing::ascii;
+use testing::{ascii, assert_row};
 
 /// The ends that the letters `F` and `B` name.
 pub fn ends(alloc: Global, letters: &str) -> Result<Vec<End>, AllocError> {
@@ -100,7 +99,7 @@ static PIECES: [(&str, AsciiChar, &str, &str); 13] = [
 fn walked_pieces(rt: HostRuntime) {
     for &(source, on, script, want) in &PIECES {
         let answers = pieces_walked(rt.alloc(), source, on, script).expect(&rt, "refused");
-        assert_same(&rt, answers.as_ascii_str().as_str(), want);
+        assert_row!(rt; answers.as_ascii_str().as_str(), want);
     }
 }
 
@@ -126,57 +125,57 @@ static LINES: [(&str, &str, &str); 14] = [
 fn walked_lines(rt: HostRuntime) {
     for &(source, script, want) in &LINES {
         let answers = lines_walked(rt.alloc(), source, script).expect(&rt, "refused");
-        assert_same(&rt, answers.as_ascii_str().as_str(), want);
+        assert_row!(rt; answers.as_ascii_str().as_str(), want);
     }
 }
 
 #[test]
 fn characters_of_views(rt: HostRuntime) {
     let mut chars = ascii("abc").chars();
-    assert_same(&rt, chars.size_hint(), (3, Some(3)));
-    assert_same(&rt, chars.next(), Some(AsciiChar::a));
-    assert_same(&rt, chars.next_back(), Some(AsciiChar::c));
-    assert_same(&rt, chars.as_str().as_str(), "b");
-    assert_same(&rt, chars.len(), 1);
+    assert_row!(rt; chars.size_hint(), (3, Some(3)));
+    assert_row!(rt; chars.next(), Some(AsciiChar::a));
+    assert_row!(rt; chars.next_back(), Some(AsciiChar::c));
+    assert_row!(rt; chars.as_str().as_str(), "b");
+    assert_row!(rt; chars.len(), 1);
     let mut again = chars.clone().expect(&rt, "refused");
-    assert_same(&rt, chars.next_back(), Some(AsciiChar::b));
-    assert_same(&rt, chars.next(), None);
-    assert_same(&rt, chars.next_back(), None);
-    assert_same(&rt, again.next(), Some(AsciiChar::b));
+    assert_row!(rt; chars.next_back(), Some(AsciiChar::b));
+    assert_row!(rt; chars.next(), None);
+    assert_row!(rt; chars.next_back(), None);
+    assert_row!(rt; again.next(), Some(AsciiChar::b));
     let last = ascii("hello world\0").chars().rev().last();
-    assert_same(&rt, last, Some(AsciiChar::h));
+    assert_row!(rt; last, Some(AsciiChar::h));
 }
 
 #[test]
 fn characters_by_for(rt: HostRuntime) {
     let mut chars = ascii("xyz").into_iter();
-    assert_same(&rt, chars.size_hint(), (3, Some(3)));
-    assert_same(&rt, chars.next_back(), Some(AsciiChar::z));
-    assert_same(&rt, chars.next(), Some(AsciiChar::x));
-    assert_same(&rt, chars.as_str().as_str(), "y");
+    assert_row!(rt; chars.size_hint(), (3, Some(3)));
+    assert_row!(rt; chars.next_back(), Some(AsciiChar::z));
+    assert_row!(rt; chars.next(), Some(AsciiChar::x));
+    assert_row!(rt; chars.as_str().as_str(), "y");
     let mut again = chars.clone().expect(&rt, "refused");
-    assert_same(&rt, again.next(), Some(AsciiChar::y));
-    assert_same(&rt, again.next(), None);
-    assert_same(&rt, chars.size_hint(), (1, Some(1)));
+    assert_row!(rt; again.next(), Some(AsciiChar::y));
+    assert_row!(rt; again.next(), None);
+    assert_row!(rt; chars.size_hint(), (1, Some(1)));
     let mut codes = b"hello world\0".iter();
     for ch in ascii("hello world\0") {
-        assert_same(&rt, Some(&ch.as_byte()), codes.next());
+        assert_row!(rt; Some(&ch.as_byte()), codes.next());
     }
-    assert_same(&rt, codes.next(), None);
+    assert_row!(rt; codes.next(), None);
 }
 
 #[test]
 fn pieces_and_lines_left(rt: HostRuntime) {
     let mut pieces = ascii("a-b-c").split(AsciiChar::Minus);
-    assert_same(&rt, pieces.next(), Some(ascii("a")));
+    assert_row!(rt; pieces.next(), Some(ascii("a")));
     let rest = pieces.clone().expect(&rt, "refused");
-    assert_same(&rt, pieces.count(), 2);
-    assert_same(&rt, rest.last(), Some(ascii("c")));
+    assert_row!(rt; pieces.count(), 2);
+    assert_row!(rt; rest.last(), Some(ascii("c")));
     let mut lines = ascii("a\nb\r\nc").lines();
-    assert_same(&rt, lines.next_back(), Some(ascii("c")));
+    assert_row!(rt; lines.next_back(), Some(ascii("c")));
     let rest = lines.clone().expect(&rt, "refused");
-    assert_same(&rt, lines.count(), 2);
-    assert_same(&rt, rest.last(), Some(ascii("b")));
+    assert_row!(rt; lines.count(), 2);
+    assert_row!(rt; rest.last(), Some(ascii("b")));
 }
 
 /// Every script of eight ends.

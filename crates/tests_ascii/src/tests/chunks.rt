@@ -1,9 +1,8 @@
 //! Bytes as chunks, from either end, against lists written out by hand; and strings of which some
 //! characters are kept, against those of std.
 
-use super::assert_same;
 use ascii::{AsciiChar, bytes};
-use testing::{ascii, assert_debug};
+use testing::{ascii, assert_debug, assert_row};
 
 /// A source, and its chunks as `{:?}` prints them.
 static CHUNKS: [(&[u8], &[&str]); 6] = [
@@ -74,6 +73,6 @@ fn kept_characters_are_those_of_a_string(rt: HostRuntime) {
         got.retain(|ch| ch != AsciiChar::Minus);
         let mut want = String::from_str(rt.alloc(), source).expect(&rt, "no memory");
         want.retain(|ch| ch != '-');
-        assert_same(&rt, got.as_ascii_str().as_str(), want.as_str());
+        assert_row!(rt; got.as_ascii_str().as_str(), want.as_str());
     }
 }

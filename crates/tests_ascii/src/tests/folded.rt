@@ -1,10 +1,9 @@
 //! Folded views, compared with std's texts in lower case.
 
-use super::assert_same;
 use std::alloc::Global;
 use std::collections::{BTreeMap, HashMap};
 use std::process::Abort;
-use testing::ascii;
+use testing::{ascii, assert_row};
 
 /// Texts that differ in case, in one code, in length, and in codes next to the letters.
 static TEXTS: [&str; 10] = [
@@ -22,9 +21,9 @@ fn order_is_that_of_lower_texts(rt: HostRuntime) {
             let lower = lower_text(&rt, rt.alloc(), first);
             let other = lower_text(&rt, rt.alloc(), second);
             let (one, two) = (ascii(first).folded(), ascii(second).folded());
-            assert_same(&rt, one == two, lower == other);
-            assert_same(&rt, one.cmp(&two), lower.cmp(&other));
-            assert_same(&rt, one < two, lower < other);
+            assert_row!(rt; one == two, lower == other);
+            assert_row!(rt; one.cmp(&two), lower.cmp(&other));
+            assert_row!(rt; one < two, lower < other);
         }
     }
 }
@@ -40,9 +39,9 @@ fn maps_find_the_name_in_any_case(rt: HostRuntime) {
     in_sorted.expect(&rt, "refused");
     let same = ascii("content-TYPE").folded();
     let other = ascii("content_type").folded();
-    assert_same(&rt, hashed.get(&same).copied(), Some(7));
-    assert_same(&rt, sorted.get(&same).copied(), Some(7));
-    assert_same(&rt, hashed.get(&other).copied(), None);
-    assert_same(&rt, sorted.get(&other).copied(), None);
-    assert_same(&rt, same.as_view().as_str(), "content-TYPE");
+    assert_row!(rt; hashed.get(&same).copied(), Some(7));
+    assert_row!(rt; sorted.get(&same).copied(), Some(7));
+    assert_row!(rt; hashed.get(&other).copied(), None);
+    assert_row!(rt; sorted.get(&other).copied(), None);
+    assert_row!(rt; same.as_view().as_str(), "content-TYPE");
 }

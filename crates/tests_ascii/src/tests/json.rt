@@ -1,10 +1,9 @@
 //! Characters and texts as JSON values.
 
-use super::assert_same;
 use ascii::AsciiChar;
 use ascii::json::{JsonError, char_from_json, char_to_json, str_from_json, string_from_json};
 use serde_json::Value;
-use testing::ascii;
+use testing::{ascii, assert_row};
 
 #[test]
 fn characters(rt: HostRuntime) {
@@ -23,11 +22,7 @@ fn characters(rt: HostRuntime) {
         assert!(rt; char_from_json(&value) == want, "of {source}");
     }
     let value = char_to_json(alloc, AsciiChar::Quotation).expect(&rt, "refused");
-    assert_same(
-        &rt,
-        value.to_string(alloc).expect(&rt, "refused").as_str(),
-        "\"\\\"\"",
-    );
+    assert_row!(rt; value.to_string(alloc).expect(&rt, "refused").as_str(), "\"\\\"\"");
     assert!(rt; char_from_json(&value) == Ok(AsciiChar::Quotation));
 }
 
@@ -37,11 +32,11 @@ fn texts(rt: HostRuntime) {
     for source in ["Francais", "", "a\"b\n", "\u{0}\u{7f}"] {
         let value = ascii(source).to_json(alloc).expect(&rt, "refused");
         match str_from_json(&value) {
-            Ok(view) => assert_same(&rt, view.as_str(), source),
+            Ok(view) => assert_row!(rt; view.as_str(), source),
             Err(_) => assert!(rt; false, "of {source}"),
         }
         match string_from_json(alloc, &value) {
-            Ok(string) => assert_same(&rt, string.as_ascii_str().as_str(), source),
+            Ok(string) => assert_row!(rt; string.as_ascii_str().as_str(), source),
             Err(_) => assert!(rt; false, "of {source}"),
         }
     }
@@ -56,12 +51,12 @@ fn texts(rt: HostRuntime) {
             Err(JsonError::NotText) => None,
             _ => Some(99),
         };
-        assert_same(&rt, found, place);
+        assert_row!(rt; found, place);
         let copied = match string_from_json(alloc, &value) {
             Err(JsonError::NotAscii(e)) => Some(e.valid_up_to()),
             Err(JsonError::NotText) => None,
             _ => Some(99),
         };
-        assert_same(&rt, copied, place);
+        assert_row!(rt; copied, place);
     }
 }

@@ -1,11 +1,11 @@
 //! Each call that takes memory, on texts of 0, 1, 33 and 5,000 bytes: nothing gives up past a length.
 
-use super::assert_same;
 use ascii::iter::{End, walk_lines, walk_split};
 use ascii::json::{char_from_json, char_to_json, string_from_json};
 use ascii::{AsciiChar, AsciiString, BoxedAsciiStr, RcAsciiStr, bytes, text};
 use std::alloc::{AllocError, Global};
 use std::process::Abort;
+use testing::assert_row;
 
 const LENGTHS: [usize; 4] = [0, 1, 33, 5_000];
 
@@ -24,29 +24,21 @@ fn copies(rt: HostRuntime) {
     for length in LENGTHS {
         let string = long(&rt, length);
         let view = string.as_ascii_str();
-        assert_same(&rt, view.len(), length);
+        assert_row!(rt; view.len(), length);
         assert!(rt; view.to_ascii_string(alloc).expect(&rt, "refused") == string);
         assert!(rt; string.clone().expect(&rt, "refused") == string);
         assert!(rt; view.to_ascii_lowercase(alloc).expect(&rt, "refused") == string);
         let upper = view.to_ascii_uppercase(alloc).expect(&rt, "refused");
         assert!(rt; upper.as_ascii_str().eq_ignore_ascii_case(view));
-        assert_same(&rt, upper == string, length == 0);
+        assert_row!(rt; upper == string, length == 0);
         assert!(rt; bytes::to_ascii_string(alloc, view.as_bytes()).is_ok());
         assert!(rt; text::to_ascii_string(alloc, view.as_str()).is_ok());
-        assert_same(
-            &rt,
-            BoxedAsciiStr::from_ascii_str(alloc, view)
+        assert_row!(rt; BoxedAsciiStr::from_ascii_str(alloc, view)
                 .expect(&rt, "refused")
-                .as_ascii_str(),
-            view,
-        );
-        assert_same(
-            &rt,
-            RcAsciiStr::from_ascii_str(alloc, view)
+                .as_ascii_str(), view);
+        assert_row!(rt; RcAsciiStr::from_ascii_str(alloc, view)
                 .expect(&rt, "refused")
-                .as_ascii_str(),
-            view,
-        );
+                .as_ascii_str(), view);
     }
 }
 
@@ -57,7 +49,7 @@ fn collected(rt: HostRuntime) {
         let string = long(&rt, length);
         let view = string.as_ascii_str();
         let chars = view.to_chars(alloc).expect(&rt, "refused");
-        assert_same(&rt, chars.len(), length);
+        assert_row!(rt; chars.len(), length);
         assert!(rt; AsciiString::from_chars(alloc, &chars).expect(&rt, "refused") == string);
         assert!(rt;
             AsciiString::collect_chars(alloc, view.chars()).expect(&rt, "refused") == string
@@ -69,9 +61,9 @@ fn collected(rt: HostRuntime) {
         let mut twice = AsciiString::collect_strs(alloc, view.lines()).expect(&rt, "refused");
         twice.extend_chars(view.chars()).expect(&rt, "refused");
         twice.extend_strs(view.lines()).expect(&rt, "refused");
-        assert_same(&rt, twice.len(), 3 * length);
+        assert_row!(rt; twice.len(), 3 * length);
         let chars = string.into_chars(alloc).expect(&rt, "refused");
-        assert_same(&rt, chars.len(), length);
+        assert_row!(rt; chars.len(), length);
     }
 }
 
@@ -92,15 +84,11 @@ fn walks(rt: HostRuntime) {
         let view = string.as_ascii_str();
         let script = fronts(alloc, length).expect(&rt, "refused");
         let answers = walk_split(alloc, view, AsciiChar::a, &script).expect(&rt, "refused");
-        assert_same(&rt, answers.len(), length);
+        assert_row!(rt; answers.len(), length);
         assert!(rt; answers.iter().all(|answer| answer.is_some()));
-        assert_same(
-            &rt,
-            walk_lines(alloc, view, &script)
+        assert_row!(rt; walk_lines(alloc, view, &script)
                 .expect(&rt, "refused")
-                .len(),
-            length,
-        );
+                .len(), length);
     }
 }
 

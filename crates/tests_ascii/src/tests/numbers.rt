@@ -1,9 +1,8 @@
 //! Numbers that views write, compared with those that std's `parse` reads.
 
-use super::assert_same;
 use ascii::AsciiString;
 use ascii::numbers::NumberError;
-use testing::ascii;
+use testing::{ascii, assert_row};
 
 /// The most and one more of each type, among others.
 static TEXTS: [&str; 14] = [
@@ -27,12 +26,12 @@ static TEXTS: [&str; 14] = [
 fn numbers_are_those_of_parse(rt: HostRuntime) {
     for &source in &TEXTS {
         let view = ascii(source);
-        assert_same(&rt, view.to_number().ok(), source.parse::<u8>().ok());
-        assert_same(&rt, view.to_number().ok(), source.parse::<u16>().ok());
-        assert_same(&rt, view.to_number().ok(), source.parse::<u32>().ok());
-        assert_same(&rt, view.to_number().ok(), source.parse::<u64>().ok());
-        assert_same(&rt, view.to_number().ok(), source.parse::<u128>().ok());
-        assert_same(&rt, view.to_number().ok(), source.parse::<usize>().ok());
+        assert_row!(rt; view.to_number().ok(), source.parse::<u8>().ok());
+        assert_row!(rt; view.to_number().ok(), source.parse::<u16>().ok());
+        assert_row!(rt; view.to_number().ok(), source.parse::<u32>().ok());
+        assert_row!(rt; view.to_number().ok(), source.parse::<u64>().ok());
+        assert_row!(rt; view.to_number().ok(), source.parse::<u128>().ok());
+        assert_row!(rt; view.to_number().ok(), source.parse::<usize>().ok());
     }
 }
 
@@ -52,7 +51,7 @@ static BYTES: [(&str, Result<u8, NumberError>); 9] = [
 #[test]
 fn an_error_has_the_first_fault(rt: HostRuntime) {
     for &(source, want) in &BYTES {
-        assert_same(&rt, ascii(source).to_number::<u8>(), want);
+        assert_row!(rt; ascii(source).to_number::<u8>(), want);
     }
 }
 
@@ -74,7 +73,7 @@ fn the_digits_at_the_start_are_taken(rt: HostRuntime) {
             Ok((number, rest)) => Ok((number, rest.as_str())),
             Err(e) => Err(e),
         };
-        assert_same(&rt, got, want);
+        assert_row!(rt; got, want);
     }
 }
 
@@ -85,9 +84,5 @@ fn digits_are_appended(rt: HostRuntime) {
     string.push_decimal(u64::MAX).expect(&rt, "refused");
     string.push_decimal(-128i8).expect(&rt, "refused");
     string.push_decimal(u128::MAX).expect(&rt, "refused");
-    assert_same(
-        &rt,
-        string.as_ascii_str().as_str(),
-        "018446744073709551615-128340282366920938463463374607431768211455",
-    );
+    assert_row!(rt; string.as_ascii_str().as_str(), "018446744073709551615-128340282366920938463463374607431768211455");
 }

@@ -1,7 +1,6 @@
 //! Texts with another in place of a part, compared with those of std.
 
-use super::assert_same;
-use testing::ascii;
+use testing::{ascii, assert_row};
 
 /// A text, what is replaced in it, and by what.
 static REPLACED: [(&str, &str, &str); 8] = [
@@ -25,7 +24,7 @@ fn replaced_as_in_str(rt: HostRuntime) {
                 .expect(&rt, "refused");
             let want: Result<String, _> = source.replace(rt.alloc(), from, to);
             let want = want.expect(&rt, "refused");
-            assert_same(&rt, got.as_ascii_str().as_str(), want.as_str());
+            assert_row!(rt; got.as_ascii_str().as_str(), want.as_str());
         }
     }
 }
@@ -46,8 +45,8 @@ fn split_off_cuts_at_the_position(rt: HostRuntime) {
             .expect(&rt, "refused");
         if at <= string.len() {
             let tail = string.split_off(at).expect(&rt, "refused");
-            assert_same(&rt, string.as_ascii_str().as_str(), before);
-            assert_same(&rt, tail.as_ascii_str().as_str(), after);
+            assert_row!(rt; string.as_ascii_str().as_str(), before);
+            assert_row!(rt; tail.as_ascii_str().as_str(), after);
         }
     }
 }

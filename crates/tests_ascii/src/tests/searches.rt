@@ -1,8 +1,7 @@
 //! Searches and cuts of views, compared with those of std's `str` over the same text.
 
-use super::assert_same;
 use ascii::{AsciiChar, AsciiStr};
-use testing::ascii;
+use testing::{ascii, assert_row};
 
 /// A text, and a needle.
 static PAIRS: [(&str, &str); 10] = [
@@ -31,10 +30,10 @@ fn texts_in<'a>(parts: Option<(AsciiStr<'a>, AsciiStr<'a>)>) -> Option<(&'a str,
 fn a_text_is_found_as_in_str(rt: HostRuntime) {
     for &(source, needle) in &PAIRS {
         let (view, text) = (ascii(source), ascii(needle));
-        assert_same(&rt, view.find(text), source.find(needle));
-        assert_same(&rt, view.rfind(text), source.rfind(needle));
-        assert_same(&rt, view.contains(text), source.contains(needle));
-        assert_same(&rt, view.eq_text(text), source == needle);
+        assert_row!(rt; view.find(text), source.find(needle));
+        assert_row!(rt; view.rfind(text), source.rfind(needle));
+        assert_row!(rt; view.contains(text), source.contains(needle));
+        assert_row!(rt; view.eq_text(text), source == needle);
     }
 }
 
@@ -42,18 +41,10 @@ fn a_text_is_found_as_in_str(rt: HostRuntime) {
 fn prefixes_and_suffixes_are_those_of_str(rt: HostRuntime) {
     for &(source, needle) in &PAIRS {
         let (view, text) = (ascii(source), ascii(needle));
-        assert_same(&rt, view.starts_with(text), source.starts_with(needle));
-        assert_same(&rt, view.ends_with(text), source.ends_with(needle));
-        assert_same(
-            &rt,
-            text_in(view.strip_prefix(text)),
-            source.strip_prefix(needle),
-        );
-        assert_same(
-            &rt,
-            text_in(view.strip_suffix(text)),
-            source.strip_suffix(needle),
-        );
+        assert_row!(rt; view.starts_with(text), source.starts_with(needle));
+        assert_row!(rt; view.ends_with(text), source.ends_with(needle));
+        assert_row!(rt; text_in(view.strip_prefix(text)), source.strip_prefix(needle));
+        assert_row!(rt; text_in(view.strip_suffix(text)), source.strip_suffix(needle));
     }
 }
 
@@ -61,16 +52,8 @@ fn prefixes_and_suffixes_are_those_of_str(rt: HostRuntime) {
 fn a_view_is_cut_at_a_text_as_in_str(rt: HostRuntime) {
     for &(source, needle) in &PAIRS {
         let (view, text) = (ascii(source), ascii(needle));
-        assert_same(
-            &rt,
-            texts_in(view.split_once_str(text)),
-            source.split_once(needle),
-        );
-        assert_same(
-            &rt,
-            texts_in(view.rsplit_once_str(text)),
-            source.rsplit_once(needle),
-        );
+        assert_row!(rt; texts_in(view.split_once_str(text)), source.split_once(needle));
+        assert_row!(rt; texts_in(view.rsplit_once_str(text)), source.rsplit_once(needle));
     }
 }
 
@@ -99,10 +82,10 @@ static CUTS: [(
 fn a_character_is_found_and_cut_at(rt: HostRuntime) {
     for &(source, first, last, once, at_last) in &CUTS {
         let view = ascii(source);
-        assert_same(&rt, view.position(AsciiChar::Equal), first);
-        assert_same(&rt, view.rposition(AsciiChar::Equal), last);
-        assert_same(&rt, texts_in(view.split_once(AsciiChar::Equal)), once);
-        assert_same(&rt, texts_in(view.rsplit_once(AsciiChar::Equal)), at_last);
+        assert_row!(rt; view.position(AsciiChar::Equal), first);
+        assert_row!(rt; view.rposition(AsciiChar::Equal), last);
+        assert_row!(rt; texts_in(view.split_once(AsciiChar::Equal)), once);
+        assert_row!(rt; texts_in(view.rsplit_once(AsciiChar::Equal)), at_last);
     }
 }
 
@@ -120,16 +103,8 @@ static FOLDED: [(&str, &str, Option<&str>); 6] = [
 fn prefixes_ignore_the_case_of_letters_alone(rt: HostRuntime) {
     for &(source, prefix, want) in &FOLDED {
         let (view, text) = (ascii(source), ascii(prefix));
-        assert_same(
-            &rt,
-            text_in(view.strip_prefix_ignore_ascii_case(text)),
-            want,
-        );
-        assert_same(
-            &rt,
-            view.starts_with_ignore_ascii_case(text),
-            want.is_some(),
-        );
+        assert_row!(rt; text_in(view.strip_prefix_ignore_ascii_case(text)), want);
+        assert_row!(rt; view.starts_with_ignore_ascii_case(text), want.is_some());
     }
 }
 
@@ -147,11 +122,7 @@ static FOLDED_ENDS: [(&str, &str, Option<&str>); 6] = [
 fn suffixes_ignore_the_case_of_letters_alone(rt: HostRuntime) {
     for &(source, suffix, want) in &FOLDED_ENDS {
         let (view, text) = (ascii(source), ascii(suffix));
-        assert_same(
-            &rt,
-            text_in(view.strip_suffix_ignore_ascii_case(text)),
-            want,
-        );
-        assert_same(&rt, view.ends_with_ignore_ascii_case(text), want.is_some());
+        assert_row!(rt; text_in(view.strip_suffix_ignore_ascii_case(text)), want);
+        assert_row!(rt; view.ends_with_ignore_ascii_case(text), want.is_some());
     }
 }

@@ -5,10 +5,9 @@ ghost use Rattle.std.specs.Iterator.{UpTo, item_count};
 ghost use Rattle.std.specs.Iterator.SizeHint.{IsWithinCount};
 ghost use Rattle.std.specs.Slice.Iter.{iter_rest};
 
-use super::assert_same;
 use ascii::{AsciiChar, AsciiStr, AsciiString};
 use std::slice;
-use testing::ascii;
+use testing::{ascii, assert_row};
 
 /// The items of a slice, with a bound from above that is told, but is no less than their number.
 #[derive(Drop)]
@@ -47,12 +46,12 @@ fn all_characters_come(rt: HostRuntime) {
             let mut string = AsciiString::collect_chars(alloc, Loose { items, most }).expect(
                 &rt, "refused",
             );
-            assert_same(&rt, string.as_ascii_str().as_str(), &TEXT[..length]);
+            assert_row!(rt; string.as_ascii_str().as_str(), &TEXT[..length]);
             let items = chars[length..].iter();
             string
                 .extend_chars(Loose { items, most })
                 .expect(&rt, "refused");
-            assert_same(&rt, string.as_ascii_str().as_str(), TEXT);
+            assert_row!(rt; string.as_ascii_str().as_str(), TEXT);
         }
     }
 }
@@ -71,12 +70,12 @@ fn all_views_come(rt: HostRuntime) {
             let mut string = AsciiString::collect_strs(alloc, Loose { items, most }).expect(
                 &rt, "refused",
             );
-            assert_same(&rt, string.as_ascii_str().as_str(), &TEXT[..length]);
+            assert_row!(rt; string.as_ascii_str().as_str(), &TEXT[..length]);
             let items = views[length..].iter();
             string
                 .extend_strs(Loose { items, most })
                 .expect(&rt, "refused");
-            assert_same(&rt, string.as_ascii_str().as_str(), TEXT);
+            assert_row!(rt; string.as_ascii_str().as_str(), TEXT);
         }
     }
 }

@@ -1,13 +1,13 @@
 //! Every text of CR, LF and `a` up to length 6: its pieces and its lines are those that the relation
 //! allows, and every script of eight ends takes them from that list.
 
-use super::assert_same;
 use super::both_ends::scripts;
 use ascii::iter::{
     End, Ending, LineSpan, SplitSpan, walk_line_spans, walk_lines, walk_split, walk_split_spans,
 };
 use ascii::{AsciiChar, AsciiStr, bytes};
 use std::process::Abort;
+use testing::assert_row;
 
 /// Whether these are the lines of a text: no body has LF, an ending is one that may follow its
 /// body, and the bodies and endings in order, each from its start, are the text.
@@ -121,9 +121,9 @@ fn compare_lines<R: Abort + AllocGlobal>(rt: &R, text: &[u8], scripts: &[Vec<End
     let bodies: Vec<AsciiStr<'_>> = bodies.collect(alloc).expect(rt, "refused");
     for script in scripts {
         let spans = walk_line_spans(alloc, view, script).expect(rt, "refused");
-        assert_same(rt, spans, taken(rt, script, &lines));
+        assert_row!(rt; spans, taken(rt, script, &lines));
         let texts = walk_lines(alloc, view, script).expect(rt, "refused");
-        assert_same(rt, texts, taken(rt, script, &bodies));
+        assert_row!(rt; texts, taken(rt, script, &bodies));
     }
 }
 
@@ -138,9 +138,9 @@ fn compare_pieces<R: Abort + AllocGlobal>(rt: &R, text: &[u8], scripts: &[Vec<En
     let bodies: Vec<AsciiStr<'_>> = bodies.collect(alloc).expect(rt, "refused");
     for script in scripts {
         let spans = walk_split_spans(alloc, view, on, script).expect(rt, "refused");
-        assert_same(rt, spans, taken(rt, script, &pieces));
+        assert_row!(rt; spans, taken(rt, script, &pieces));
         let texts = walk_split(alloc, view, on, script).expect(rt, "refused");
-        assert_same(rt, texts, taken(rt, script, &bodies));
+        assert_row!(rt; texts, taken(rt, script, &bodies));
     }
 }
 

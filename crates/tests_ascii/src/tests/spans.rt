@@ -1,11 +1,10 @@
 //! Pieces and lines with their starts, and what is left of them.
 
-use super::assert_same;
 use super::both_ends::ends;
 use ascii::iter::{End, Ending, LineSpan, SplitSpan, take_end, walk_line_spans, walk_split_spans};
 use ascii::{AsciiChar, AsciiStr};
 use std::alloc::{AllocError, Global};
-use testing::ascii;
+use testing::{ascii, assert_row};
 
 /// The answers of a walk over pieces, each as its start, a space, its text and a bar, or `~|`.
 fn shown_pieces(alloc: Global, answers: &[Option<SplitSpan<'_>>]) -> Result<String, AllocError> {
@@ -61,13 +60,9 @@ fn walked_line_spans(rt: HostRuntime) {
     for &(source, script, want) in &LINES {
         let script = ends(rt.alloc(), script).expect(&rt, "refused");
         let answers = walk_line_spans(rt.alloc(), ascii(source), &script).expect(&rt, "refused");
-        assert_same(
-            &rt,
-            shown_lines(rt.alloc(), &answers)
+        assert_row!(rt; shown_lines(rt.alloc(), &answers)
                 .expect(&rt, "refused")
-                .as_str(),
-            want,
-        );
+                .as_str(), want);
     }
 }
 
@@ -91,13 +86,9 @@ fn walked_piece_spans(rt: HostRuntime) {
         let answers = walk_split_spans(rt.alloc(), ascii(source), on, &script).expect(
             &rt, "refused",
         );
-        assert_same(
-            &rt,
-            shown_pieces(rt.alloc(), &answers)
+        assert_row!(rt; shown_pieces(rt.alloc(), &answers)
                 .expect(&rt, "refused")
-                .as_str(),
-            want,
-        );
+                .as_str(), want);
     }
 }
 
@@ -124,12 +115,8 @@ fn rests_of_pieces(rt: HostRuntime) {
             take_end(&mut spans, *end);
             take_end(&mut split, *end);
         }
-        assert_same(
-            &rt,
-            spans.remainder(),
-            want.map(|(start, text)| (start, ascii(text))),
-        );
-        assert_same(&rt, split.remainder(), want.map(|(_, text)| ascii(text)));
+        assert_row!(rt; spans.remainder(), want.map(|(start, text)| (start, ascii(text))));
+        assert_row!(rt; split.remainder(), want.map(|(_, text)| ascii(text)));
     }
 }
 
@@ -151,12 +138,8 @@ fn rests_of_lines(rt: HostRuntime) {
             take_end(&mut spans, *end);
             take_end(&mut lines, *end);
         }
-        assert_same(
-            &rt,
-            spans.remainder(),
-            want.map(|(start, text)| (start, ascii(text))),
-        );
-        assert_same(&rt, lines.remainder(), want.map(|(_, text)| ascii(text)));
+        assert_row!(rt; spans.remainder(), want.map(|(start, text)| (start, ascii(text))));
+        assert_row!(rt; lines.remainder(), want.map(|(_, text)| ascii(text)));
     }
 }
 
@@ -167,13 +150,9 @@ fn offsets(rt: HostRuntime) {
         .map(Some)
         .collect(rt.alloc())
         .expect(&rt, "refused");
-    assert_same(
-        &rt,
-        shown_lines(rt.alloc(), &lines)
+    assert_row!(rt; shown_lines(rt.alloc(), &lines)
             .expect(&rt, "refused")
-            .as_str(),
-        "5 lf bar|9 lf |",
-    );
+            .as_str(), "5 lf bar|9 lf |");
 }
 
 #[test]
@@ -185,16 +164,12 @@ fn pieces_at_the_largest_place(rt: HostRuntime) {
         text: AsciiStr::default(),
     };
     let mut split = view.split_spans_from(AsciiChar::Comma, usize::MAX - 2);
-    assert_same(&rt, split.next_back(), Some(last));
-    assert_same(&rt, split.remainder(), Some((usize::MAX - 2, ascii("a"))));
+    assert_row!(rt; split.next_back(), Some(last));
+    assert_row!(rt; split.remainder(), Some((usize::MAX - 2, ascii("a"))));
     let mut split = view.split_spans_from(AsciiChar::Comma, usize::MAX - 2);
     split.next();
-    assert_same(
-        &rt,
-        split.remainder(),
-        Some((usize::MAX, AsciiStr::default())),
-    );
-    assert_same(&rt, split.next(), Some(last));
+    assert_row!(rt; split.remainder(), Some((usize::MAX, AsciiStr::default())));
+    assert_row!(rt; split.next(), Some(last));
 }
 
 #[test]
@@ -203,11 +178,11 @@ fn lines_at_the_largest_place(rt: HostRuntime) {
     assert!(rt; view.len() <= 3);
     let mut lines = view.line_spans_from(usize::MAX - 3);
     lines.next();
-    assert_same(&rt, lines.remainder(), Some((usize::MAX - 1, ascii("b"))));
+    assert_row!(rt; lines.remainder(), Some((usize::MAX - 1, ascii("b"))));
     lines.next();
-    assert_same(&rt, lines.remainder(), None);
-    assert_same(&rt, lines.next_back(), None);
+    assert_row!(rt; lines.remainder(), None);
+    assert_row!(rt; lines.next_back(), None);
     let none = AsciiStr::default();
     assert!(rt; none.is_empty());
-    assert_same(&rt, none.line_spans_from(usize::MAX).remainder(), None);
+    assert_row!(rt; none.line_spans_from(usize::MAX).remainder(), None);
 }

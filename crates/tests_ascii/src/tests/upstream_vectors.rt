@@ -1,12 +1,11 @@
 //! Vectors that were made with the Rust crate.
 
-use super::assert_same;
 use super::views::outcome;
 use ascii::{AsciiChar, AsciiRange, bytes, text};
 use std::alloc::{AllocError, Global};
 use std::cmp::Ordering;
 use std::process::Abort;
-use testing::ascii;
+use testing::{ascii, assert_row};
 
 // For sources of length 0, 1 and 33 the outcomes of the ranges in the order of `ranges`: `w` for the
 // whole source, `e` for no byte, `f` for the first byte, `r` for an error, which holds the length.
@@ -55,14 +54,14 @@ fn length_of(slice: Result<&str, usize>) -> Result<usize, usize> {
 #[test]
 fn every_form_at_its_edges(rt: HostRuntime) {
     let whole = ascii("@ABCDEFGHIJKLMNOPQRSTUVWXYZ[\\]^_`");
-    assert_same(&rt, whole.len(), 33);
+    assert_row!(rt; whole.len(), 33);
     for &(length, letters) in &OUTCOMES {
         let Ok(view) = whole.slice_ascii(AsciiRange::To(length)) else {
             panic!(rt; "too long");
         };
         let source = view.as_str();
         let all = ranges(rt.alloc(), length).expect(&rt, "refused");
-        assert_same(&rt, all.len(), letters.len());
+        assert_row!(rt; all.len(), letters.len());
         for (range, letter) in all.iter().zip(letters.bytes()) {
             let want = match letter {
                 b'w' => Ok(source),
@@ -70,19 +69,15 @@ fn every_form_at_its_edges(rt: HostRuntime) {
                 b'f' => Ok("@"),
                 _ => Err(length),
             };
-            assert_same(&rt, outcome(view.slice_ascii(*range)), want);
-            assert_same(&rt, outcome(text::slice_ascii(source, *range)), want);
-            assert_same(
-                &rt,
-                outcome(bytes::slice_ascii(source.as_bytes(), *range)),
-                want,
-            );
-            assert_same(&rt, range.fits(length), want.is_ok());
+            assert_row!(rt; outcome(view.slice_ascii(*range)), want);
+            assert_row!(rt; outcome(text::slice_ascii(source, *range)), want);
+            assert_row!(rt; outcome(bytes::slice_ascii(source.as_bytes(), *range)), want);
+            assert_row!(rt; range.fits(length), want.is_ok());
             let mut copy = [0; 33];
             let Some(part) = copy.get_mut(..length) else {
                 panic!(rt; "too long");
             };
-            assert_same(&rt, length_for_writing(part, *range), length_of(want));
+            assert_row!(rt; length_for_writing(part, *range), length_of(want));
         }
     }
 }
@@ -201,9 +196,9 @@ static TRIMS: [(&str, &str, &str, &str, &str, &str); 20] = [
 fn trims(rt: HostRuntime) {
     for &(source, start, end, both, _, _) in &TRIMS {
         let view = ascii(source);
-        assert_same(&rt, view.trim_start().as_str(), start);
-        assert_same(&rt, view.trim_end().as_str(), end);
-        assert_same(&rt, view.trim().as_str(), both);
+        assert_row!(rt; view.trim_start().as_str(), start);
+        assert_row!(rt; view.trim_end().as_str(), end);
+        assert_row!(rt; view.trim().as_str(), both);
     }
 }
 
@@ -211,22 +206,14 @@ fn trims(rt: HostRuntime) {
 fn cases(rt: HostRuntime) {
     for &(source, _, _, _, upper, lower) in &TRIMS {
         let view = ascii(source);
-        assert_same(
-            &rt,
-            view.to_ascii_uppercase(rt.alloc())
+        assert_row!(rt; view.to_ascii_uppercase(rt.alloc())
                 .expect(&rt, "refused")
                 .as_ascii_str()
-                .as_str(),
-            upper,
-        );
-        assert_same(
-            &rt,
-            view.to_ascii_lowercase(rt.alloc())
+                .as_str(), upper);
+        assert_row!(rt; view.to_ascii_lowercase(rt.alloc())
                 .expect(&rt, "refused")
                 .as_ascii_str()
-                .as_str(),
-            lower,
-        );
+                .as_str(), lower);
     }
 }
 
@@ -261,8 +248,8 @@ static COMPARISONS: [(&str, &str, Ordering, bool); 24] = [
 #[test]
 fn comparisons(rt: HostRuntime) {
     for &(one, other, order, is_equal) in &COMPARISONS {
-        assert_same(&rt, ascii(one).cmp(&ascii(other)), order);
-        assert_same(&rt, ascii(one).eq_ignore_ascii_case(ascii(other)), is_equal);
+        assert_row!(rt; ascii(one).cmp(&ascii(other)), order);
+        assert_row!(rt; ascii(one).eq_ignore_ascii_case(ascii(other)), is_equal);
     }
 }
 
@@ -414,7 +401,7 @@ fn debug_of<R: Abort + AllocGlobal>(rt: &R, code: u8) -> (String, String) {
 fn debug_of_each_code(rt: HostRuntime) {
     for (code, want) in (0..128).zip(&DEBUGS) {
         let (view, string) = debug_of(&rt, code);
-        assert_same(&rt, view.as_str(), *want);
-        assert_same(&rt, string.as_str(), *want);
+        assert_row!(rt; view.as_str(), *want);
+        assert_row!(rt; string.as_str(), *want);
     }
 }

@@ -1,8 +1,8 @@
 //! Walks that were made with the Rust crate.
 
-use super::assert_same;
 use super::both_ends::{lines_walked, pieces_walked};
 use ascii::AsciiChar;
+use testing::assert_row;
 
 // A text, ends, and what its split at a comma yields for them: a bar after each, `~` for a `None`.
 static SPLITS: [(&str, &str, &str); 24] = [
@@ -66,7 +66,7 @@ fn walked_pieces(rt: HostRuntime) {
         let answers = pieces_walked(rt.alloc(), source, AsciiChar::Comma, script).expect(
             &rt, "refused",
         );
-        assert_same(&rt, answers.as_ascii_str().as_str(), want);
+        assert_row!(rt; answers.as_ascii_str().as_str(), want);
     }
 }
 
@@ -74,6 +74,6 @@ fn walked_pieces(rt: HostRuntime) {
 fn walked_lines(rt: HostRuntime) {
     for &(source, script, want) in &LINES {
         let answers = lines_walked(rt.alloc(), source, script).expect(&rt, "refused");
-        assert_same(&rt, answers.as_ascii_str().as_str(), want);
+        assert_row!(rt; answers.as_ascii_str().as_str(), want);
     }
 }

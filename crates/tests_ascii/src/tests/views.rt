@@ -1,9 +1,8 @@
 //! Views: slices, reads, trims and comparisons.
 
-use super::assert_same;
 use ascii::{AsAsciiStrError, AsciiChar, AsciiRange, AsciiStr, bytes, text};
 use std::cmp::Ordering;
-use testing::ascii;
+use testing::{ascii, assert_row};
 
 /// The outcome of a slice: its text, or the position of the error.
 pub fn outcome(slice: Result<AsciiStr<'_>, AsAsciiStrError>) -> Result<&str, usize> {
@@ -37,12 +36,8 @@ static SLICES: [(&str, AsciiRange, Result<&str, usize>); 17] = [
 #[test]
 fn slices_of_text(rt: HostRuntime) {
     for &(source, range, want) in &SLICES {
-        assert_same(&rt, outcome(text::slice_ascii(source, range)), want);
-        assert_same(
-            &rt,
-            outcome(bytes::slice_ascii(source.as_bytes(), range)),
-            want,
-        );
+        assert_row!(rt; outcome(text::slice_ascii(source, range)), want);
+        assert_row!(rt; outcome(bytes::slice_ascii(source.as_bytes(), range)), want);
     }
     for (source, want) in [
         ("abčd", Err(2)),
@@ -50,42 +45,22 @@ fn slices_of_text(rt: HostRuntime) {
         ("( ;", Ok("( ;")),
         ("", Ok("")),
     ] {
-        assert_same(&rt, outcome(text::as_ascii_str(source)), want);
-        assert_same(&rt, outcome(text::from_ascii(source)), want);
-        assert_same(&rt, outcome(bytes::as_ascii_str(source.as_bytes())), want);
-        assert_same(&rt, outcome(bytes::from_ascii(source.as_bytes())), want);
+        assert_row!(rt; outcome(text::as_ascii_str(source)), want);
+        assert_row!(rt; outcome(text::from_ascii(source)), want);
+        assert_row!(rt; outcome(bytes::as_ascii_str(source.as_bytes())), want);
+        assert_row!(rt; outcome(bytes::from_ascii(source.as_bytes())), want);
     }
-    assert_same(
-        &rt,
-        outcome(bytes::as_ascii_str([127, 128, 255].as_slice())),
-        Err(1),
-    );
-    assert_same(
-        &rt,
-        outcome(bytes::slice_ascii([0xc4, 0x8d].as_slice(), AsciiRange::Range(1, 1))),
-        Ok(""),
-    );
+    assert_row!(rt; outcome(bytes::as_ascii_str([127, 128, 255].as_slice())), Err(1));
+    assert_row!(rt; outcome(bytes::slice_ascii([0xc4, 0x8d].as_slice(), AsciiRange::Range(1, 1))), Ok(""));
 }
 
 #[test]
 fn a_byte_past_127_behind_32(rt: HostRuntime) {
     let mut source = [b'a'; 33];
     source[32] = 128;
-    assert_same(
-        &rt,
-        outcome(bytes::as_ascii_str(source.as_slice())),
-        Err(32),
-    );
-    assert_same(
-        &rt,
-        outcome(bytes::slice_ascii(source.as_slice(), AsciiRange::From(1))),
-        Err(32),
-    );
-    assert_same(
-        &rt,
-        outcome(bytes::slice_ascii(source.as_slice(), AsciiRange::To(32))),
-        Ok("aaaaaaaaaaaaaaaaaaaaaaaaaaaaaaaa"),
-    );
+    assert_row!(rt; outcome(bytes::as_ascii_str(source.as_slice())), Err(32));
+    assert_row!(rt; outcome(bytes::slice_ascii(source.as_slice(), AsciiRange::From(1))), Err(32));
+    assert_row!(rt; outcome(bytes::slice_ascii(source.as_slice(), AsciiRange::To(32))), Ok("aaaaaaaaaaaaaaaaaaaaaaaaaaaaaaaa"));
 }
 
 #[test]
@@ -98,20 +73,20 @@ fn characters_of_sources(rt: HostRuntime) {
         ("", 0, None),
         ("ab", usize::MAX, None),
     ] {
-        assert_same(&rt, text::get_ascii(source, i), want);
-        assert_same(&rt, bytes::get_ascii(source.as_bytes(), i), want);
+        assert_row!(rt; text::get_ascii(source, i), want);
+        assert_row!(rt; bytes::get_ascii(source.as_bytes(), i), want);
     }
     let view = ascii("abc");
-    assert_same(&rt, view.first(), Some(AsciiChar::a));
-    assert_same(&rt, view.last(), Some(AsciiChar::c));
-    assert_same(&rt, view.get_ascii(1), Some(AsciiChar::b));
-    assert_same(&rt, view.get_ascii(3), None);
-    assert_same(&rt, view.len(), 3);
+    assert_row!(rt; view.first(), Some(AsciiChar::a));
+    assert_row!(rt; view.last(), Some(AsciiChar::c));
+    assert_row!(rt; view.get_ascii(1), Some(AsciiChar::b));
+    assert_row!(rt; view.get_ascii(3), None);
+    assert_row!(rt; view.len(), 3);
     assert!(rt; !view.is_empty());
     let empty = AsciiStr::default();
     assert!(rt; empty.is_empty());
-    assert_same(&rt, empty.first(), None);
-    assert_same(&rt, empty.last(), None);
+    assert_row!(rt; empty.first(), None);
+    assert_row!(rt; empty.last(), None);
 }
 
 /// A range, and that part of `ABCD`.
@@ -132,23 +107,23 @@ static PARTS: [(AsciiRange, &str); 11] = [
 #[test]
 fn parts_of_views(rt: HostRuntime) {
     let view = bytes::as_ascii_str_unchecked(b"ABCD");
-    assert_same(&rt, view, text::as_ascii_str_unchecked("ABCD"));
-    assert_same(&rt, view, bytes::from_ascii_unchecked(b"ABCD"));
-    assert_same(&rt, view, text::from_ascii_unchecked("ABCD"));
-    assert_same(&rt, outcome(view.as_ascii_str()), Ok("ABCD"));
+    assert_row!(rt; view, text::as_ascii_str_unchecked("ABCD"));
+    assert_row!(rt; view, bytes::from_ascii_unchecked(b"ABCD"));
+    assert_row!(rt; view, text::from_ascii_unchecked("ABCD"));
+    assert_row!(rt; outcome(view.as_ascii_str()), Ok("ABCD"));
     for &(range, want) in &PARTS {
         assert!(rt; range.fits(view.len()));
-        assert_same(&rt, view.slice(range).as_str(), want);
-        assert_same(&rt, outcome(view.slice_ascii(range)), Ok(want));
+        assert_row!(rt; view.slice(range).as_str(), want);
+        assert_row!(rt; outcome(view.slice_ascii(range)), Ok(want));
     }
-    assert_same(&rt, outcome(view.slice_ascii(AsciiRange::To(5))), Err(4));
+    assert_row!(rt; outcome(view.slice_ascii(AsciiRange::To(5))), Err(4));
     assert!(rt; 1 < view.len());
-    assert_same(&rt, view.char_at(1).as_char(), 'B');
+    assert_row!(rt; view.char_at(1).as_char(), 'B');
     let lent: &str = view.into();
-    assert_same(&rt, lent, "ABCD");
+    assert_row!(rt; lent, "ABCD");
     let codes: &[u8] = view.into();
-    assert_same(&rt, codes, b"ABCD".as_slice());
-    assert_same(&rt, view.as_bytes(), b"ABCD".as_slice());
+    assert_row!(rt; codes, b"ABCD".as_slice());
+    assert_row!(rt; view.as_bytes(), b"ABCD".as_slice());
 }
 
 /// A text, and it without the white space at its start, at its end, and at both.
@@ -170,9 +145,9 @@ static TRIMS: [(&str, &str, &str, &str); 6] = [
 fn trims(rt: HostRuntime) {
     for &(source, start, end, both) in &TRIMS {
         let view = ascii(source);
-        assert_same(&rt, view.trim_start().as_str(), start);
-        assert_same(&rt, view.trim_end().as_str(), end);
-        assert_same(&rt, view.trim().as_str(), both);
+        assert_row!(rt; view.trim_start().as_str(), start);
+        assert_row!(rt; view.trim_end().as_str(), end);
+        assert_row!(rt; view.trim().as_str(), both);
     }
 }
 
@@ -190,24 +165,20 @@ static PAIRS: [(&str, &str, bool); 7] = [
 #[test]
 fn comparisons(rt: HostRuntime) {
     for &(one, other, want) in &PAIRS {
-        assert_same(&rt, ascii(one).eq_ignore_ascii_case(ascii(other)), want);
-        assert_same(&rt, ascii(other).eq_ignore_ascii_case(ascii(one)), want);
+        assert_row!(rt; ascii(one).eq_ignore_ascii_case(ascii(other)), want);
+        assert_row!(rt; ascii(other).eq_ignore_ascii_case(ascii(one)), want);
     }
     let rising = ["", "Z", "a", "ab", "abc", "b"];
     for (i, one) in rising.iter().enumerate() {
         for (j, other) in rising.iter().enumerate() {
-            assert_same(&rt, ascii(*one).cmp(&ascii(*other)), i.cmp(&j));
-            assert_same(&rt, ascii(*one) == ascii(*other), i == j);
-            assert_same(
-                &rt,
-                ascii(*one).partial_cmp(&ascii(*other)),
-                Some(i.cmp(&j)),
-            );
-            assert_same(&rt, ascii(*one).eq_str(*other), i == j);
-            assert_same(&rt, ascii(*one).eq_bytes(other.as_bytes()), i == j);
+            assert_row!(rt; ascii(*one).cmp(&ascii(*other)), i.cmp(&j));
+            assert_row!(rt; ascii(*one) == ascii(*other), i == j);
+            assert_row!(rt; ascii(*one).partial_cmp(&ascii(*other)), Some(i.cmp(&j)));
+            assert_row!(rt; ascii(*one).eq_str(*other), i == j);
+            assert_row!(rt; ascii(*one).eq_bytes(other.as_bytes()), i == j);
         }
     }
-    assert_same(&rt, ascii("abc").cmp(&ascii("abd")), Ordering::Less);
+    assert_row!(rt; ascii("abc").cmp(&ascii("abd")), Ordering::Less);
     assert!(rt; !ascii("abc").eq_str("abč"));
 }
 
@@ -216,20 +187,12 @@ fn printed_refusals(rt: HostRuntime) {
     let Err(error) = text::as_ascii_str("zoä华") else {
         panic!(rt; "accepted");
     };
-    assert_same(&rt, error.description(), "one or more bytes are not ASCII");
-    assert_same(
-        &rt,
-        format!(in rt.alloc(); "{error}")
+    assert_row!(rt; error.description(), "one or more bytes are not ASCII");
+    assert_row!(rt; format!(in rt.alloc(); "{error}")
             .expect(&rt, "refused")
-            .as_str(),
-        "the byte at index 2 is not ASCII",
-    );
-    assert_same(
-        &rt,
-        format!(in rt.alloc(); "{error:?}")
+            .as_str(), "the byte at index 2 is not ASCII");
+    assert_row!(rt; format!(in rt.alloc(); "{error:?}")
             .expect(&rt, "refused")
-            .as_str(),
-        "AsAsciiStrError(2)",
-    );
+            .as_str(), "AsAsciiStrError(2)");
     assert!(rt; Err(error) == bytes::as_ascii_str("zoä华".as_bytes()));
 }

@@ -1,10 +1,10 @@
 //! Every text of space, vertical tab, `a` and `,` up to length 5: its words, trims, spans and first pieces
 //! are those that std's `str` gives.
 
-use super::assert_same;
 use ascii::classes::{Punctuation, Whitespace};
 use ascii::{AsciiChar, AsciiStr, bytes};
 use std::process::Abort;
+use testing::assert_row;
 
 /// The text of a length over the four characters that a number stands for.
 fn small_text<R: Abort + AllocGlobal>(rt: &R, length: u32, number: u32) -> Vec<u8> {
@@ -31,14 +31,14 @@ fn text_in<'a>(part: Option<AsciiStr<'a>>) -> Option<&'a str> {
 fn compare_whitespace(rt: &impl Abort, view: AsciiStr<'_>) {
     let mut words = view.split_whitespace();
     for want in view.as_str().split_whitespace() {
-        assert_same(rt, text_in(words.next()), Some(want));
+        assert_row!(rt; text_in(words.next()), Some(want));
     }
-    assert_same(rt, text_in(words.next()), None);
+    assert_row!(rt; text_in(words.next()), None);
     let mut words = view.split_whitespace();
     for want in view.as_str().split_whitespace().rev() {
-        assert_same(rt, text_in(words.next_back()), Some(want));
+        assert_row!(rt; text_in(words.next_back()), Some(want));
     }
-    assert_same(rt, text_in(words.next_back()), None);
+    assert_row!(rt; text_in(words.next_back()), None);
 }
 
 /// The words between punctuation are the pieces of `str::split` that are not empty, from either end.
@@ -46,17 +46,17 @@ fn compare_words(rt: &impl Abort, view: AsciiStr<'_>) {
     let mut words = view.words::<Punctuation>();
     for piece in view.as_str().split(',') {
         if !piece.is_empty() {
-            assert_same(rt, text_in(words.next()), Some(piece));
+            assert_row!(rt; text_in(words.next()), Some(piece));
         }
     }
-    assert_same(rt, text_in(words.next()), None);
+    assert_row!(rt; text_in(words.next()), None);
     let mut words = view.words::<Punctuation>();
     for piece in view.as_str().rsplit(',') {
         if !piece.is_empty() {
-            assert_same(rt, text_in(words.next_back()), Some(piece));
+            assert_row!(rt; text_in(words.next_back()), Some(piece));
         }
     }
-    assert_same(rt, text_in(words.next_back()), None);
+    assert_row!(rt; text_in(words.next_back()), None);
 }
 
 /// The trims by a class are those of `str`, and a span is what a trim cuts and what it leaves.
@@ -76,20 +76,20 @@ fn compare_trims(rt: &impl Abort, view: AsciiStr<'_>) {
         source.trim_matches(','),
         source.trim_end_matches(','),
     ];
-    assert_same(rt, trimmed, want);
+    assert_row!(rt; trimmed, want);
     let (front, rest) = view.span::<Punctuation>();
-    assert_same(rt, rest.as_str(), source.trim_start_matches(','));
-    assert_same(rt, source.strip_prefix(front.as_str()), Some(rest.as_str()));
+    assert_row!(rt; rest.as_str(), source.trim_start_matches(','));
+    assert_row!(rt; source.strip_prefix(front.as_str()), Some(rest.as_str()));
 }
 
 /// At most `n` pieces are those of `str::splitn`.
 fn compare_first_pieces(rt: &impl Abort, view: AsciiStr<'_>, n: usize) {
     let mut pieces = view.splitn(n, AsciiChar::Comma);
     for want in view.as_str().splitn(n, ',') {
-        assert_same(rt, text_in(pieces.next()), Some(want));
+        assert_row!(rt; text_in(pieces.next()), Some(want));
     }
-    assert_same(rt, text_in(pieces.next()), None);
-    assert_same(rt, text_in(pieces.next()), None);
+    assert_row!(rt; text_in(pieces.next()), None);
+    assert_row!(rt; text_in(pieces.next()), None);
 }
 
 #[test]

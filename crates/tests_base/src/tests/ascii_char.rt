@@ -1,8 +1,8 @@
-use super::assert_same;
 use ascii_base::ascii_char::{AsciiChar, ToAsciiChar, ToAsciiCharError};
 use ascii_base::free_functions::{caret_decode, caret_encode};
 use std::cmp::Ordering;
 use std::collections::HashSet;
+use testing::assert_row;
 
 // A line for each code, made with the Rust crate ascii 1.1.0: the class tests that hold, as bits in
 // the order of `classes`; the least radix from 2 on in which the code is a digit, or 37; upper case;
@@ -171,44 +171,28 @@ fn every_code(rt: HostRuntime) {
     for code in 0..128u8 {
         let (bits, radix, upper, lower, shown, written, read, debug) = ROWS[code as usize];
         let ch = AsciiChar::new(code as char);
-        assert_same(&rt, ch.as_byte(), code);
-        assert_same(&rt, ch.as_char(), code as char);
-        assert_same(&rt, u8::from(ch), code);
-        assert_same(&rt, char::from(ch), code as char);
-        assert_same(&rt, AsciiChar::from_ascii_unchecked(code), ch);
-        assert_same(&rt, code.to_ascii_char(), Ok(ch));
-        assert_same(&rt, classes(ch), bits);
+        assert_row!(rt; ch.as_byte(), code);
+        assert_row!(rt; ch.as_char(), code as char);
+        assert_row!(rt; u8::from(ch), code);
+        assert_row!(rt; char::from(ch), code as char);
+        assert_row!(rt; AsciiChar::from_ascii_unchecked(code), ch);
+        assert_row!(rt; code.to_ascii_char(), Ok(ch));
+        assert_row!(rt; classes(ch), bits);
         for tried in 2..37u32 {
-            assert_same(&rt, ch.is_digit(tried), tried >= radix);
-            assert_same(&rt, ch.to_digit(tried), ch.as_char().to_digit(tried));
+            assert_row!(rt; ch.is_digit(tried), tried >= radix);
+            assert_row!(rt; ch.to_digit(tried), ch.as_char().to_digit(tried));
         }
-        assert_same(&rt, ch.to_ascii_uppercase().as_byte(), upper);
-        assert_same(&rt, ch.to_ascii_lowercase().as_byte(), lower);
-        assert_same(&rt, ch.as_printable_char() as u32, shown);
-        assert_same(
-            &rt,
-            caret_encode(code).map(|partner| partner.as_byte()),
-            written,
-        );
-        assert_same(
-            &rt,
-            caret_decode(code).map(|control| control.as_byte()),
-            read,
-        );
-        assert_same(
-            &rt,
-            format!(in rt.alloc(); "{ch:?}")
+        assert_row!(rt; ch.to_ascii_uppercase().as_byte(), upper);
+        assert_row!(rt; ch.to_ascii_lowercase().as_byte(), lower);
+        assert_row!(rt; ch.as_printable_char() as u32, shown);
+        assert_row!(rt; caret_encode(code).map(|partner| partner.as_byte()), written);
+        assert_row!(rt; caret_decode(code).map(|control| control.as_byte()), read);
+        assert_row!(rt; format!(in rt.alloc(); "{ch:?}")
                 .expect(&rt, "refused")
-                .as_str(),
-            debug,
-        );
-        assert_same(
-            &rt,
-            format!(in rt.alloc(); "{ch}")
+                .as_str(), debug);
+        assert_row!(rt; format!(in rt.alloc(); "{ch}")
                 .expect(&rt, "refused")
-                .as_bytes(),
-            [code].as_slice(),
-        );
+                .as_bytes(), [code].as_slice());
     }
 }
 
@@ -234,7 +218,7 @@ fn counts(rt: HostRuntime) {
             Ok(ch) => classes(ch) & bits == bits,
             Err(_) => false,
         });
-        assert_same(&rt, held.count(), count);
+        assert_row!(rt; held.count(), count);
     }
 }
 
@@ -257,10 +241,10 @@ fn acceptance(rt: HostRuntime) {
         accepted('λ'),
         accepted('\u{80}'),
     ] {
-        assert_same(&rt, refused, None);
+        assert_row!(rt; refused, None);
     }
-    assert_same(&rt, 127_i8.to_ascii_char(), Ok(AsciiChar::DEL));
-    assert_same(&rt, 0_i8.to_ascii_char_unchecked(), AsciiChar::Null);
+    assert_row!(rt; 127_i8.to_ascii_char(), Ok(AsciiChar::DEL));
+    assert_row!(rt; 0_i8.to_ascii_char_unchecked(), AsciiChar::Null);
     for letter in [
         accepted(AsciiChar::A),
         accepted(65_i8),
@@ -275,7 +259,7 @@ fn acceptance(rt: HostRuntime) {
         Some(65_u32.to_ascii_char_unchecked()),
         Some('A'.to_ascii_char_unchecked()),
     ] {
-        assert_same(&rt, letter, Some(AsciiChar::A));
+        assert_row!(rt; letter, Some(AsciiChar::A));
     }
 }
 
@@ -286,21 +270,13 @@ fn refusal_texts(rt: HostRuntime) {
     };
     let again: ToAsciiCharError = refusal;
     assert!(rt; refusal == again);
-    assert_same(&rt, refusal.description(), "not an ASCII character");
-    assert_same(
-        &rt,
-        format!(in rt.alloc(); "{refusal}")
+    assert_row!(rt; refusal.description(), "not an ASCII character");
+    assert_row!(rt; format!(in rt.alloc(); "{refusal}")
             .expect(&rt, "refused")
-            .as_str(),
-        "not an ASCII character",
-    );
-    assert_same(
-        &rt,
-        format!(in rt.alloc(); "{refusal:?}")
+            .as_str(), "not an ASCII character");
+    assert_row!(rt; format!(in rt.alloc(); "{refusal:?}")
             .expect(&rt, "refused")
-            .as_str(),
-        "not an ASCII character",
-    );
+            .as_str(), "not an ASCII character");
 }
 
 #[test]
@@ -314,8 +290,8 @@ fn digits_in_strange_radixes(rt: HostRuntime) {
         (AsciiChar::Slash, 36, None),
     ] {
         if radix <= 36 {
-            assert_same(&rt, ch.to_digit(radix), want);
-            assert_same(&rt, ch.is_digit(radix), want.is_some());
+            assert_row!(rt; ch.to_digit(radix), want);
+            assert_row!(rt; ch.is_digit(radix), want.is_some());
         }
     }
 }
@@ -349,15 +325,11 @@ fn cases(rt: HostRuntime) {
         let mut changed = (ch, ch);
         changed.0.make_ascii_uppercase();
         changed.1.make_ascii_lowercase();
-        assert_same(&rt, changed, (upper, lower));
-        assert_same(
-            &rt,
-            (ch.to_ascii_uppercase(), ch.to_ascii_lowercase()),
-            (upper, lower),
-        );
+        assert_row!(rt; changed, (upper, lower));
+        assert_row!(rt; (ch.to_ascii_uppercase(), ch.to_ascii_lowercase()), (upper, lower));
     }
     for &(one, other, want) in &PAIRS {
-        assert_same(&rt, one.eq_ignore_ascii_case(&other), want);
+        assert_row!(rt; one.eq_ignore_ascii_case(&other), want);
     }
 }
 
@@ -369,61 +341,33 @@ fn printed(rt: HostRuntime) {
         (AsciiChar::DEL, 0x2421),
         (AsciiChar::Space, 0x20),
     ] {
-        assert_same(&rt, ch.as_printable_char() as u32, shown);
+        assert_row!(rt; ch.as_printable_char() as u32, shown);
     }
-    assert_same(
-        &rt,
-        format!(in rt.alloc(); "{}", AsciiChar::t)
+    assert_row!(rt; format!(in rt.alloc(); "{}", AsciiChar::t)
             .expect(&rt, "refused")
-            .as_str(),
-        "t",
-    );
-    assert_same(
-        &rt,
-        format!(in rt.alloc(); "{:?}", AsciiChar::t)
+            .as_str(), "t");
+    assert_row!(rt; format!(in rt.alloc(); "{:?}", AsciiChar::t)
             .expect(&rt, "refused")
-            .as_str(),
-        "'t'",
-    );
-    assert_same(
-        &rt,
-        format!(in rt.alloc(); "{}", AsciiChar::LineFeed)
+            .as_str(), "'t'");
+    assert_row!(rt; format!(in rt.alloc(); "{}", AsciiChar::LineFeed)
             .expect(&rt, "refused")
-            .as_str(),
-        "\n",
-    );
-    assert_same(
-        &rt,
-        format!(in rt.alloc(); "{:?}", AsciiChar::LineFeed)
+            .as_str(), "\n");
+    assert_row!(rt; format!(in rt.alloc(); "{:?}", AsciiChar::LineFeed)
             .expect(&rt, "refused")
-            .as_str(),
-        "'\\n'",
-    );
-    assert_same(
-        &rt,
-        format!(in rt.alloc(); "[{:>3}]", AsciiChar::t)
+            .as_str(), "'\\n'");
+    assert_row!(rt; format!(in rt.alloc(); "[{:>3}]", AsciiChar::t)
             .expect(&rt, "refused")
-            .as_str(),
-        "[  t]",
-    );
-    assert_same(
-        &rt,
-        format!(in rt.alloc(); "[{:*^4}]", AsciiChar::t)
+            .as_str(), "[  t]");
+    assert_row!(rt; format!(in rt.alloc(); "[{:*^4}]", AsciiChar::t)
             .expect(&rt, "refused")
-            .as_str(),
-        "[*t**]",
-    );
+            .as_str(), "[*t**]");
 }
 
 #[test]
 fn order_and_hash(rt: HostRuntime) {
-    assert_same(&rt, AsciiChar::default(), AsciiChar::Null);
-    assert_same(&rt, AsciiChar::A.cmp(&AsciiChar::a), Ordering::Less);
-    assert_same(
-        &rt,
-        AsciiChar::a.partial_cmp(&AsciiChar::A),
-        Some(Ordering::Greater),
-    );
+    assert_row!(rt; AsciiChar::default(), AsciiChar::Null);
+    assert_row!(rt; AsciiChar::A.cmp(&AsciiChar::a), Ordering::Less);
+    assert_row!(rt; AsciiChar::a.partial_cmp(&AsciiChar::A), Some(Ordering::Greater));
     assert!(rt; AsciiChar::DEL > AsciiChar::Tilde);
     let mut seen = HashSet::new(rt.alloc());
     assert!(rt; seen.insert(AsciiChar::A).expect(&rt, "refused"));

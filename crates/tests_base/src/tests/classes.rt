@@ -1,8 +1,8 @@
-use super::assert_same;
 use ascii_base::classes::{
     Alphabetic, Alphanumeric, Ascii, AsciiWhitespace, Blank, Class, ClassBy, Control, Digit,
     Graphic, Hexdigit, Label, Lowercase, Printable, Punctuation, Token, Uppercase, Whitespace,
 };
+use testing::assert_row;
 
 // Each class beside the test of std, or beside its members as a list.
 
@@ -63,16 +63,8 @@ fn each_byte_by_list(rt: HostRuntime) {
 
 #[test]
 fn marks_of_several_bytes(rt: HostRuntime) {
-    assert_same(&rt, <Digit as ClassBy<4>>::marks(b"42px", 0), 0b1100);
-    assert_same(
-        &rt,
-        <Token as ClassBy<8>>::marks(b"Host: a.example", 2),
-        0b0000_1100,
-    );
-    assert_same(&rt, <Ascii as ClassBy<4>>::marks(b"a\xc4b\xff", 0), 0b1010);
-    assert_same(
-        &rt,
-        <Whitespace as ClassBy<4>>::marks(b"a \t\x85", 0),
-        0b1001,
-    );
+    assert_row!(rt; <Digit as ClassBy<4>>::marks(b"42px", 0), 0b1100);
+    assert_row!(rt; <Token as ClassBy<8>>::marks(b"Host: a.example", 2), 0b0000_1100);
+    assert_row!(rt; <Ascii as ClassBy<4>>::marks(b"a\xc4b\xff", 0), 0b1010);
+    assert_row!(rt; <Whitespace as ClassBy<4>>::marks(b"a \t\x85", 0), 0b1001);
 }

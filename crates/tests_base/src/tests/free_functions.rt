@@ -1,6 +1,6 @@
-use super::assert_same;
 use ascii_base::ascii_char::AsciiChar;
 use ascii_base::free_functions::{caret_decode, caret_encode};
+use testing::assert_row;
 
 #[test]
 fn carets(rt: HostRuntime) {
@@ -12,7 +12,7 @@ fn carets(rt: HostRuntime) {
         (255, None),
     ];
     for (byte, partner) in written {
-        assert_same(&rt, caret_encode(byte), partner);
+        assert_row!(rt; caret_encode(byte), partner);
     }
     let read = [
         (63, Some(AsciiChar::DEL)),
@@ -21,14 +21,14 @@ fn carets(rt: HostRuntime) {
         (96, None),
     ];
     for (byte, control) in read {
-        assert_same(&rt, caret_decode(byte), control);
+        assert_row!(rt; caret_decode(byte), control);
     }
 }
 
 #[test]
 fn counts(rt: HostRuntime) {
     let written = (0..256u32).filter(|code| caret_encode((*code & 0xff) as u8).is_some());
-    assert_same(&rt, written.count(), 33);
+    assert_row!(rt; written.count(), 33);
     let read = (0..256u32).filter(|code| caret_decode((*code & 0xff) as u8).is_some());
-    assert_same(&rt, read.count(), 33);
+    assert_row!(rt; read.count(), 33);
 }

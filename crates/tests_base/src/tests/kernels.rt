@@ -1,24 +1,24 @@
 ghost use Rattle.std.specs.Prelude.{◌+◌, ◌≤◌};
 
-use super::assert_same;
 use ascii_base::classes::{Blank, Digit, Token};
 use ascii_base::kernels;
+use testing::assert_row;
 
 #[test]
 fn cases(rt: HostRuntime) {
     let mut text = [0x60, 0x61, 0x7a, 0x7b, 0xe1];
     kernels::upper_in_place(&mut text);
-    assert_same(&rt, text, [0x60, 0x41, 0x5a, 0x7b, 0xe1]);
+    assert_row!(rt; text, [0x60, 0x41, 0x5a, 0x7b, 0xe1]);
     let mut text = [0x40, 0x41, 0x5a, 0x5b, 0xc1];
     kernels::lower_in_place(&mut text);
-    assert_same(&rt, text, [0x40, 0x61, 0x7a, 0x5b, 0xc1]);
+    assert_row!(rt; text, [0x40, 0x61, 0x7a, 0x5b, 0xc1]);
     for (first, second, want) in [
         ([0xc1, 0x41], [0xe1, 0x41], false),
         ([0x5b, 0x41], [0x7b, 0x41], false),
         ([0x41, 0x7a], [0x61, 0x5a], true),
         ([0x41, 0x5a], [0x61, 0x7f], false),
     ] {
-        assert_same(&rt, kernels::eq_ignore_case(&first, &second), want);
+        assert_row!(rt; kernels::eq_ignore_case(&first, &second), want);
     }
     assert!(rt; !kernels::eq_ignore_case(b"aZ", b"Azz"));
     assert!(rt; kernels::eq_ignore_case(b"", b""));
@@ -35,35 +35,31 @@ fn ends(rt: HostRuntime) {
         (b"\x0ba\x0b", Some(1), Some(1)),
     ];
     for (text, first, last) in texts {
-        assert_same(&rt, kernels::first_not_whitespace(text), first);
-        assert_same(&rt, kernels::last_not_whitespace(text), last);
+        assert_row!(rt; kernels::first_not_whitespace(text), first);
+        assert_row!(rt; kernels::last_not_whitespace(text), last);
     }
 }
 
 #[test]
 fn searches_by_class(rt: HostRuntime) {
-    assert_same(&rt, kernels::first_not::<Digit>(b"42px"), Some(2));
-    assert_same(&rt, kernels::first_not::<Digit>(b"42"), None);
-    assert_same(&rt, kernels::last_not::<Digit>(b"v42"), Some(0));
-    assert_same(&rt, kernels::last_not::<Digit>(b""), None);
-    assert_same(
-        &rt,
-        kernels::first_not::<Token>(b"Content-Type: a"),
-        Some(12),
-    );
+    assert_row!(rt; kernels::first_not::<Digit>(b"42px"), Some(2));
+    assert_row!(rt; kernels::first_not::<Digit>(b"42"), None);
+    assert_row!(rt; kernels::last_not::<Digit>(b"v42"), Some(0));
+    assert_row!(rt; kernels::last_not::<Digit>(b""), None);
+    assert_row!(rt; kernels::first_not::<Token>(b"Content-Type: a"), Some(12));
     let long = b"x-a-name-that-is-longer-than-sixty-four-bytes-so-that-all-steps-are-taken: y";
-    assert_same(&rt, kernels::first_not::<Token>(long), Some(73));
-    assert_same(&rt, kernels::last_not::<Token>(long), Some(74));
+    assert_row!(rt; kernels::first_not::<Token>(long), Some(73));
+    assert_row!(rt; kernels::last_not::<Token>(long), Some(74));
 }
 
 #[test]
 fn others(rt: HostRuntime) {
     let mut text = [0x7f; 64];
-    assert_same(&rt, kernels::first_other(&text), None);
+    assert_row!(rt; kernels::first_other(&text), None);
     text[63] = 0x80;
-    assert_same(&rt, kernels::first_other(&text), Some(63));
+    assert_row!(rt; kernels::first_other(&text), Some(63));
     text[31] = 0x80;
-    assert_same(&rt, kernels::first_other(&text), Some(31));
+    assert_row!(rt; kernels::first_other(&text), Some(31));
 }
 
 // Each kernel at each length and alignment, beside a plain loop: a text of up to 300 bytes that begins

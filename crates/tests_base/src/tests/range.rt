@@ -1,5 +1,5 @@
-use super::assert_same;
 use ascii_base::range::AsciiRange;
+use testing::assert_row;
 
 #[test]
 fn ranges(rt: HostRuntime) {
@@ -19,9 +19,9 @@ fn ranges(rt: HostRuntime) {
         (AsciiRange::ToInclusive(3), 3, false),
         (AsciiRange::ToInclusive(usize::MAX), usize::MAX, false),
     ] {
-        assert_same(&rt, range.fits(len), fits);
+        assert_row!(rt; range.fits(len), fits);
     }
-    assert_same(&rt, AsciiRange::Inclusive(1, 2).start(), 1);
-    assert_same(&rt, AsciiRange::Inclusive(1, 2).end(3), 3);
-    assert_same(&rt, AsciiRange::Full.end(3), 3);
+    assert_row!(rt; AsciiRange::Inclusive(1, 2).start(), 1);
+    assert_row!(rt; AsciiRange::Inclusive(1, 2).end(3), 3);
+    assert_row!(rt; AsciiRange::Full.end(3), 3);
 }

@@ -1,7 +1,7 @@
 //! The callers that edit a part of a source, each once.
 
-use super::assert_same;
 use ascii::AsciiRange;
+use testing::assert_row;
 use tests_callers::in_place::{upper_in, upper_in_one_call};
 
 const SOURCE: [u8; 5] = [0x61, 0xc4, 0x8d, 0x42, 0x62];
@@ -21,13 +21,9 @@ fn a_part_is_raised(rt: HostRuntime) {
         let mut first = SOURCE;
         let mut second = SOURCE;
         let is_done = upper_in(&mut first[..], range).is_ok();
-        assert_same(
-            &rt,
-            upper_in_one_call(&mut second[..], range).is_ok(),
-            is_done,
-        );
-        assert_same(&rt, is_done, edited.is_some());
-        assert_same(&rt, first, edited.unwrap_or(SOURCE));
-        assert_same(&rt, second, first);
+        assert_row!(rt; upper_in_one_call(&mut second[..], range).is_ok(), is_done);
+        assert_row!(rt; is_done, edited.is_some());
+        assert_row!(rt; first, edited.unwrap_or(SOURCE));
+        assert_row!(rt; second, first);
     }
 }

@@ -1,9 +1,8 @@
 //! The callers over either form, each once.
 
-use super::assert_same;
 use ascii::{AsciiChar, AsciiString};
 use ascii_run::{Cmd, Reply, SmallAsciiString};
-use testing::ascii;
+use testing::{ascii, assert_row};
 use tests_callers::both_types::{append, count_replies, header_name, letter, run_over_a_string};
 
 #[test]
@@ -11,12 +10,12 @@ fn names_and_letters(rt: HostRuntime) {
     let mut name = header_name(rt.alloc(), ascii("Content-Type")).expect(&rt, "refused");
     assert!(rt; name.is_inline());
     append(&mut name, ascii("; q=1")).expect(&rt, "refused");
-    assert_same(&rt, name.as_ascii_str().as_str(), "content-type; q=1");
+    assert_row!(rt; name.as_ascii_str().as_str(), "content-type; q=1");
     let mut string = AsciiString::new(rt.alloc());
     append(&mut string, ascii("abc")).expect(&rt, "refused");
-    assert_same(&rt, string.as_ascii_str().as_str(), "abc");
+    assert_row!(rt; string.as_ascii_str().as_str(), "abc");
     let x: SmallAsciiString = letter(rt.alloc(), AsciiChar::x);
-    assert_same(&rt, x.as_ascii_str().as_str(), "x");
+    assert_row!(rt; x.as_ascii_str().as_str(), "x");
 }
 
 #[test]
@@ -24,9 +23,9 @@ fn a_run_over_a_string(rt: HostRuntime) {
     let mut string = AsciiString::new(rt.alloc());
     let cmds = [Cmd::PushStr(ascii("abc")), Cmd::Len];
     let replies = run_over_a_string(rt.alloc(), &mut string, &cmds).expect(&rt, "refused");
-    assert_same(&rt, replies.len(), 2);
+    assert_row!(rt; replies.len(), 2);
     assert!(rt; matches!(replies.as_slice().last(), Some(Reply::Number(3))));
-    assert_same(&rt, string.as_ascii_str().as_str(), "abc");
+    assert_row!(rt; string.as_ascii_str().as_str(), "abc");
     let count = count_replies(rt.alloc(), &mut string, &cmds).expect(&rt, "refused");
-    assert_same(&rt, count, 2);
+    assert_row!(rt; count, 2);
 }

@@ -1,8 +1,7 @@
 //! The callers that cut a view, each once.
 
-use super::assert_same;
 use ascii::AsciiStr;
-use testing::ascii;
+use testing::{ascii, assert_row};
 use tests_callers::cuts::{
     all_words, extension, first_word, is_get, number_and_unit, without_prefix, word_count,
 };
@@ -13,22 +12,18 @@ fn text_in<'a>(part: Option<AsciiStr<'a>>) -> Option<&'a str> {
 
 #[test]
 fn cuts(rt: HostRuntime) {
-    assert_same(
-        &rt,
-        without_prefix(ascii("foobar"), ascii("foo")).as_str(),
-        "bar",
-    );
-    assert_same(&rt, text_in(extension(ascii("a.tar.gz"))), Some("gz"));
+    assert_row!(rt; without_prefix(ascii("foobar"), ascii("foo")).as_str(), "bar");
+    assert_row!(rt; text_in(extension(ascii("a.tar.gz"))), Some("gz"));
     let (number, unit) = number_and_unit(ascii("42px"));
-    assert_same(&rt, (number.as_str(), unit.as_str()), ("42", "px"));
-    assert_same(&rt, is_get(ascii("GET")), true);
+    assert_row!(rt; (number.as_str(), unit.as_str()), ("42", "px"));
+    assert_row!(rt; is_get(ascii("GET")), true);
 }
 
 #[test]
 fn words(rt: HostRuntime) {
     let view = ascii(" one\t two ");
-    assert_same(&rt, text_in(first_word(view)), Some("one"));
-    assert_same(&rt, word_count(view), 2);
+    assert_row!(rt; text_in(first_word(view)), Some("one"));
+    assert_row!(rt; word_count(view), 2);
     let words = all_words(rt.alloc(), view).expect(&rt, "refused");
-    assert_same(&rt, words.len(), 2);
+    assert_row!(rt; words.len(), 2);
 }

@@ -1,8 +1,7 @@
 //! The callers of the iterators and of the calls of a string, each once.
 
-use super::assert_debug;
 use ascii::{AsciiChar, AsciiString};
-use testing::ascii;
+use testing::{ascii, assert_debug};
 use tests_callers::iterators::{
     append_chars, bodies_reversed, copy_chars, in_brackets, in_quotes, line_lengths, piece_count,
     piece_lengths, push_upper, without_line_endings, without_separators,
@@ -16,76 +15,26 @@ use tests_callers::strings::{
 fn counts_and_lengths(rt: HostRuntime) {
     let (alloc, on) = (rt.alloc(), AsciiChar::Semicolon);
     let view = ascii("foo;bar;;a");
-    assert_debug(&rt, rt.alloc(), &piece_count(view, on), "4");
-    assert_debug(
-        &rt,
-        rt.alloc(),
-        &piece_lengths(alloc, view, on),
-        "Ok([3, 3, 0, 1])",
-    );
+    assert_debug!(rt; piece_count(view, on), "4");
+    assert_debug!(rt; piece_lengths(alloc, view, on), "Ok([3, 3, 0, 1])");
     let view = ascii("foo\r\nba\n\nx");
-    assert_debug(
-        &rt,
-        rt.alloc(),
-        &line_lengths(alloc, view),
-        "Ok([3, 2, 0, 1])",
-    );
-    assert_debug(
-        &rt,
-        rt.alloc(),
-        &bodies_reversed(alloc, view),
-        "Ok([\"x\", \"\", \"ba\", \"foo\"])",
-    );
+    assert_debug!(rt; line_lengths(alloc, view), "Ok([3, 2, 0, 1])");
+    assert_debug!(rt; bodies_reversed(alloc, view), "Ok([\"x\", \"\", \"ba\", \"foo\"])");
 }
 
 #[test]
 fn texts(rt: HostRuntime) {
     let alloc = rt.alloc();
     let mut string = AsciiString::new(alloc);
-    assert_debug(
-        &rt,
-        rt.alloc(),
-        &push_upper(&mut string, ascii("aB1")),
-        "Ok(())",
-    );
-    assert_debug(&rt, rt.alloc(), &string, "\"AB1\"");
-    assert_debug(
-        &rt,
-        rt.alloc(),
-        &append_chars(&mut string, ascii("cD")),
-        "Ok(())",
-    );
-    assert_debug(&rt, rt.alloc(), &string, "\"AB1cD\"");
-    assert_debug(
-        &rt,
-        rt.alloc(),
-        &copy_chars(alloc, ascii("aB1")),
-        "Ok(\"aB1\")",
-    );
-    assert_debug(
-        &rt,
-        rt.alloc(),
-        &without_separators(alloc, ascii("a,b,,c"), AsciiChar::Comma),
-        "Ok(\"abc\")",
-    );
-    assert_debug(
-        &rt,
-        rt.alloc(),
-        &without_line_endings(alloc, ascii("foo\r\nba\r\rx\n")),
-        "Ok(\"fooba\\r\\rx\")",
-    );
-    assert_debug(
-        &rt,
-        rt.alloc(),
-        &in_brackets(alloc, ascii("ab")),
-        "Ok(\"[ab]\")",
-    );
-    assert_debug(
-        &rt,
-        rt.alloc(),
-        &in_quotes(alloc, ascii("a\"\t")),
-        "Ok(\"\\\"a\\\\\\\"\\\\t\\\"\")",
-    );
+    assert_debug!(rt; push_upper(&mut string, ascii("aB1")), "Ok(())");
+    assert_debug!(rt; string, "\"AB1\"");
+    assert_debug!(rt; append_chars(&mut string, ascii("cD")), "Ok(())");
+    assert_debug!(rt; string, "\"AB1cD\"");
+    assert_debug!(rt; copy_chars(alloc, ascii("aB1")), "Ok(\"aB1\")");
+    assert_debug!(rt; without_separators(alloc, ascii("a,b,,c"), AsciiChar::Comma), "Ok(\"abc\")");
+    assert_debug!(rt; without_line_endings(alloc, ascii("foo\r\nba\r\rx\n")), "Ok(\"fooba\\r\\rx\")");
+    assert_debug!(rt; in_brackets(alloc, ascii("ab")), "Ok(\"[ab]\")");
+    assert_debug!(rt; in_quotes(alloc, ascii("a\"\t")), "Ok(\"\\\"a\\\\\\\"\\\\t\\\"\")");
 }
 
 #[test]
@@ -93,24 +42,14 @@ fn edits(rt: HostRuntime) {
     let mut string = AsciiString::new(rt.alloc());
     string.push_str(ascii("abcd")).expect(&rt, "refused");
     assert!(rt; 0 < string.len());
-    assert_debug(
-        &rt,
-        rt.alloc(),
-        &replace_last(&mut string, AsciiChar::x),
-        "Ok(())",
-    );
-    assert_debug(&rt, rt.alloc(), &string, "\"abcx\"");
+    assert_debug!(rt; replace_last(&mut string, AsciiChar::x), "Ok(())");
+    assert_debug!(rt; string, "\"abcx\"");
     assert!(rt; 1 < string.len());
-    assert_debug(&rt, rt.alloc(), &move_to_end(&mut string, 1), "Ok(())");
-    assert_debug(&rt, rt.alloc(), &string, "\"acxb\"");
+    assert_debug!(rt; move_to_end(&mut string, 1), "Ok(())");
+    assert_debug!(rt; string, "\"acxb\"");
     assert!(rt; 2 < string.len());
-    assert_debug(
-        &rt,
-        rt.alloc(),
-        &truncate_with_mark(&mut string, 2, AsciiChar::Tilde),
-        "Ok(())",
-    );
-    assert_debug(&rt, rt.alloc(), &string, "\"ac~\"");
+    assert_debug!(rt; truncate_with_mark(&mut string, 2, AsciiChar::Tilde), "Ok(())");
+    assert_debug!(rt; string, "\"ac~\"");
 }
 
 #[test]
@@ -118,25 +57,15 @@ fn written_again(rt: HostRuntime) {
     let mut string = AsciiString::new(rt.alloc());
     string.push_str(ascii("ab")).expect(&rt, "refused");
     assert!(rt; 0 < string.len());
-    assert_debug(
-        &rt,
-        rt.alloc(),
-        &replace_with_char(&mut string, AsciiChar::z),
-        "Ok(())",
-    );
-    assert_debug(&rt, rt.alloc(), &write_nothing(&mut string), "Ok(())");
-    assert_debug(&rt, rt.alloc(), &string, "\"z\"");
+    assert_debug!(rt; replace_with_char(&mut string, AsciiChar::z), "Ok(())");
+    assert_debug!(rt; write_nothing(&mut string), "Ok(())");
+    assert_debug!(rt; string, "\"z\"");
     assert!(rt; spare_room(&string) == string.capacity().saturating_sub(1));
     assert!(rt; string.len() < string.capacity());
-    assert_debug(
-        &rt,
-        rt.alloc(),
-        &into_bytes_with_end(string, 10),
-        "Ok([122, 10])",
-    );
+    assert_debug!(rt; into_bytes_with_end(string, 10), "Ok([122, 10])");
     let mut string = AsciiString::with_capacity(rt.alloc(), 2).expect(&rt, "refused");
     string.push(AsciiChar::a).expect(&rt, "refused");
     assert!(rt; string.len() < string.capacity());
-    assert_debug(&rt, rt.alloc(), &into_string_with_end(string), "Ok(\"a.\")");
-    assert_debug(&rt, rt.alloc(), &blank(), "'\\0'");
+    assert_debug!(rt; into_string_with_end(string), "Ok(\"a.\")");
+    assert_debug!(rt; blank(), "'\\0'");
 }

@@ -1,9 +1,8 @@
 //! Maps of headers by name.
 
-use super::assert_same;
 use cookbook::header_map::HeaderMap;
 use cookbook::headers::read_headers;
-use testing::ascii;
+use testing::{ascii, assert_row};
 
 /// A block with a name twice, in two cases.
 static BLOCK: &str = "Host: a.example\r\nAccept: b\r\nX-Empty:\r\nHOST: c.example";
@@ -25,15 +24,15 @@ fn values(rt: HostRuntime) {
     let headers = read_headers(rt.alloc(), ascii(BLOCK)).expect(&rt, "rejected");
     let map = HeaderMap::from_headers(rt.alloc(), &headers).expect(&rt, "no memory");
     for &(name, value) in &PRESENT {
-        assert_same(&rt, map.get(ascii(name)), Some(ascii(value)));
+        assert_row!(rt; map.get(ascii(name)), Some(ascii(value)));
     }
     for &name in &MISSING {
-        assert_same(&rt, map.get(ascii(name)), None);
+        assert_row!(rt; map.get(ascii(name)), None);
     }
 }
 
 #[test]
 fn no_headers(rt: HostRuntime) {
     let map = HeaderMap::from_headers(rt.alloc(), &[]).expect(&rt, "no memory");
-    assert_same(&rt, map.get(ascii("Host")), None);
+    assert_row!(rt; map.get(ascii("Host")), None);
 }

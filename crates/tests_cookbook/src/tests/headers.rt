@@ -1,10 +1,9 @@
 //! Header lines of messages.
 
-use super::assert_same;
 use cookbook::headers::{
     Header, HeaderBlockError, HeaderError, find_header, read_header, read_headers,
 };
-use testing::ascii;
+use testing::{ascii, assert_row};
 
 /// Lines with a name and a value.
 static GOOD: [(&str, &str, &str); 6] = [
@@ -36,14 +35,14 @@ fn lines(rt: HostRuntime) {
             name: ascii(name),
             value: ascii(value),
         };
-        assert_same(&rt, read_header(ascii(line)), Ok(wanted));
+        assert_row!(rt; read_header(ascii(line)), Ok(wanted));
     }
 }
 
 #[test]
 fn refused_lines(rt: HostRuntime) {
     for &(line, error) in &BAD {
-        assert_same(&rt, read_header(ascii(line)), Err(error));
+        assert_row!(rt; read_header(ascii(line)), Err(error));
     }
 }
 
@@ -51,7 +50,7 @@ fn refused_lines(rt: HostRuntime) {
 fn blocks(rt: HostRuntime) {
     let block = ascii("Host: a\r\nAccept: b\nHOST: c");
     let headers = read_headers(rt.alloc(), block).expect(&rt, "refused");
-    assert_same(&rt, headers.len(), 3);
+    assert_row!(rt; headers.len(), 3);
     let first = Header {
         name: ascii("Host"),
         value: ascii("a"),
@@ -60,9 +59,9 @@ fn blocks(rt: HostRuntime) {
         name: ascii("Accept"),
         value: ascii("b"),
     };
-    assert_same(&rt, find_header(&headers, ascii("hosT")), Some(first));
-    assert_same(&rt, find_header(&headers, ascii("ACCEPT")), Some(second));
-    assert_same(&rt, find_header(&headers, ascii("Hos")), None);
+    assert_row!(rt; find_header(&headers, ascii("hosT")), Some(first));
+    assert_row!(rt; find_header(&headers, ascii("ACCEPT")), Some(second));
+    assert_row!(rt; find_header(&headers, ascii("Hos")), None);
 }
 
 #[test]
@@ -74,7 +73,7 @@ fn refused_blocks(rt: HostRuntime) {
         error,
     };
     let block = ascii("Host: a\r\nAcc: b\nH(st: c\nx");
-    assert_same(&rt, read_headers(rt.alloc(), block).err(), Some(third));
+    assert_row!(rt; read_headers(rt.alloc(), block).err(), Some(third));
     let error = HeaderError::NoColon;
     let second = HeaderBlockError::InLine {
         number: 1,
@@ -82,10 +81,6 @@ fn refused_blocks(rt: HostRuntime) {
         error,
     };
     let block = ascii("Host: a\n\nbody");
-    assert_same(&rt, read_headers(rt.alloc(), block).err(), Some(second));
-    assert_same(
-        &rt,
-        read_headers(rt.alloc(), ascii("")).map(|headers| headers.len()),
-        Ok(0),
-    );
+    assert_row!(rt; read_headers(rt.alloc(), block).err(), Some(second));
+    assert_row!(rt; read_headers(rt.alloc(), ascii("")).map(|headers| headers.len()), Ok(0));
 }

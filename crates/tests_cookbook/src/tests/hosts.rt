@@ -1,10 +1,9 @@
 //! Names of hosts.
 
-use super::assert_same;
 use ascii::{AsciiChar, AsciiString};
 use cookbook::hosts::{HostName, HostNameError, host_order, same_host};
 use std::cmp::Ordering;
-use testing::ascii;
+use testing::{ascii, assert_row};
 
 /// A label of 62 characters.
 const LABEL: &str = "abcdefghijklmnopqrstuvwxyz-0123456789-abcdefghijklmnopqrstuvwx";
@@ -45,18 +44,14 @@ static BAD: [(&str, HostNameError); 15] = [
 fn names(rt: HostRuntime) {
     for &(name, wanted) in &GOOD {
         let host = HostName::parse(rt.alloc(), ascii(name)).expect(&rt, "refused");
-        assert_same(&rt, host.as_ascii_str(), ascii(wanted));
+        assert_row!(rt; host.as_ascii_str(), ascii(wanted));
     }
 }
 
 #[test]
 fn refusals(rt: HostRuntime) {
     for &(name, error) in &BAD {
-        assert_same(
-            &rt,
-            HostName::parse(rt.alloc(), ascii(name)).err(),
-            Some(error),
-        );
+        assert_row!(rt; HostName::parse(rt.alloc(), ascii(name)).err(), Some(error));
     }
 }
 
@@ -67,13 +62,13 @@ fn lengths(rt: HostRuntime) {
     name.push_str(ascii(LABEL)).expect(&rt, "refused");
     name.push(AsciiChar::Z).expect(&rt, "refused");
     // a label of 63 characters, and of 64
-    assert_same(&rt, HostName::parse(alloc, name.as_ascii_str()).err(), None);
+    assert_row!(rt; HostName::parse(alloc, name.as_ascii_str()).err(), None);
     name.push(AsciiChar::Z).expect(&rt, "refused");
     let long = Some(HostNameError::LongLabel(0));
-    assert_same(&rt, HostName::parse(alloc, name.as_ascii_str()).err(), long);
+    assert_row!(rt; HostName::parse(alloc, name.as_ascii_str()).err(), long);
     name.push(AsciiChar::UnderScore).expect(&rt, "refused");
     let long = Some(HostNameError::LongLabel(0));
-    assert_same(&rt, HostName::parse(alloc, name.as_ascii_str()).err(), long);
+    assert_row!(rt; HostName::parse(alloc, name.as_ascii_str()).err(), long);
 }
 
 #[test]
@@ -86,10 +81,10 @@ fn long_names(rt: HostRuntime) {
     }
     // four labels of 62, each with its dot, and one of 1 are 253 characters
     name.push(AsciiChar::Z).expect(&rt, "refused");
-    assert_same(&rt, HostName::parse(alloc, name.as_ascii_str()).err(), None);
+    assert_row!(rt; HostName::parse(alloc, name.as_ascii_str()).err(), None);
     name.push(AsciiChar::Minus).expect(&rt, "refused");
     let long = Some(HostNameError::TooLong);
-    assert_same(&rt, HostName::parse(alloc, name.as_ascii_str()).err(), long);
+    assert_row!(rt; HostName::parse(alloc, name.as_ascii_str()).err(), long);
 }
 
 #[test]
@@ -98,20 +93,12 @@ fn case(rt: HostRuntime) {
     let upper = ascii("WWW.EXAMPLE.ORG");
     let lower = ascii("www.example.org");
     let other = ascii("www.example.net");
-    assert_same(&rt, same_host(alloc, upper, lower), Ok(true));
-    assert_same(&rt, same_host(alloc, upper, other), Ok(false));
-    assert_same(&rt, host_order(alloc, upper, other), Ok(Ordering::Greater));
-    assert_same(&rt, host_order(alloc, other, upper), Ok(Ordering::Less));
-    assert_same(&rt, host_order(alloc, lower, upper), Ok(Ordering::Equal));
+    assert_row!(rt; same_host(alloc, upper, lower), Ok(true));
+    assert_row!(rt; same_host(alloc, upper, other), Ok(false));
+    assert_row!(rt; host_order(alloc, upper, other), Ok(Ordering::Greater));
+    assert_row!(rt; host_order(alloc, other, upper), Ok(Ordering::Less));
+    assert_row!(rt; host_order(alloc, lower, upper), Ok(Ordering::Equal));
     let bad = ascii("a..b");
-    assert_same(
-        &rt,
-        same_host(alloc, lower, bad),
-        Err(HostNameError::EmptyLabel(2)),
-    );
-    assert_same(
-        &rt,
-        host_order(alloc, bad, lower),
-        Err(HostNameError::EmptyLabel(2)),
-    );
+    assert_row!(rt; same_host(alloc, lower, bad), Err(HostNameError::EmptyLabel(2)));
+    assert_row!(rt; host_order(alloc, bad, lower), Err(HostNameError::EmptyLabel(2)));
 }

@@ -1,6 +1,5 @@
-use super::assert_same;
 use cookbook::identifiers::split_identifier;
-use testing::ascii;
+use testing::{ascii, assert_row};
 
 /// A text, the identifier at its start, and the rest.
 static ROWS: [(&str, &str, &str); 4] = [
@@ -18,6 +17,6 @@ static ROWS: [(&str, &str, &str); 4] = [
 fn identifiers_at_the_start(rt: HostRuntime) {
     for &(source, name, rest) in &ROWS {
         let got = split_identifier(ascii(source));
-        assert_same(&rt, (got.0.as_str(), got.1.as_str()), (name, rest));
+        assert_row!(rt; (got.0.as_str(), got.1.as_str()), (name, rest));
     }
 }

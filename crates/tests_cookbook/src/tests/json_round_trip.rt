@@ -1,8 +1,7 @@
 //! The caller that turns a string into a JSON value and back.
 
-use super::assert_debug;
 use cookbook::values::through_json;
-use testing::ascii;
+use testing::{ascii, assert_debug};
 
 #[test]
 fn a_string_comes_back(rt: HostRuntime) {
@@ -13,6 +12,6 @@ fn a_string_comes_back(rt: HostRuntime) {
         ("a\"b\n", "Ok(\"a\\\"b\\n\")"),
     ] {
         let string = ascii(source).to_ascii_string(alloc).expect(&rt, "refused");
-        assert_debug(&rt, rt.alloc(), &through_json(alloc, &string), want);
+        assert_debug!(rt; through_json(alloc, &string), want);
     }
 }

@@ -1,8 +1,7 @@
 //! The last lines of texts with each ending.
 
-use super::assert_same;
 use cookbook::last_lines::{is_open, last_body_end, last_lines, without_last_lines};
-use testing::ascii;
+use testing::{ascii, assert_row};
 
 /// A text, a number of lines, its last lines, and what is before them.
 static ROWS: [(&str, usize, &str, &str); 12] = [
@@ -23,8 +22,8 @@ static ROWS: [(&str, usize, &str, &str); 12] = [
 #[test]
 fn rows(rt: HostRuntime) {
     for &(source, n, last, before) in &ROWS {
-        assert_same(&rt, last_lines(ascii(source), n), ascii(last));
-        assert_same(&rt, without_last_lines(ascii(source), n), ascii(before));
+        assert_row!(rt; last_lines(ascii(source), n), ascii(last));
+        assert_row!(rt; without_last_lines(ascii(source), n), ascii(before));
     }
 }
 
@@ -41,7 +40,7 @@ static ENDS: [(&str, Option<usize>, bool); 6] = [
 #[test]
 fn last_body_ends_before_its_ending(rt: HostRuntime) {
     for &(source, end, open) in &ENDS {
-        assert_same(&rt, last_body_end(ascii(source)), end);
-        assert_same(&rt, is_open(ascii(source)), open);
+        assert_row!(rt; last_body_end(ascii(source)), end);
+        assert_row!(rt; is_open(ascii(source)), open);
     }
 }

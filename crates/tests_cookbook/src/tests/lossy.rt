@@ -1,7 +1,7 @@
 //! Text from bytes that may not be ASCII.
 
-use super::assert_same;
 use cookbook::lossy::copy_lossy;
+use testing::assert_row;
 
 /// Bytes, and the text with a mark for each run of other bytes.
 static COPIES: [(&[u8], &str); 6] = [
@@ -17,6 +17,6 @@ static COPIES: [(&[u8], &str); 6] = [
 fn other_bytes_become_one_mark(rt: HostRuntime) {
     for &(source, want) in &COPIES {
         let got = copy_lossy(rt.alloc(), source).expect(&rt, "no memory");
-        assert_same(&rt, got.as_ascii_str().as_str(), want);
+        assert_row!(rt; got.as_ascii_str().as_str(), want);
     }
 }

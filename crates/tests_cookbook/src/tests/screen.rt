@@ -1,8 +1,7 @@
 //! What screens of some widths show of texts.
 
-use super::assert_same;
 use cookbook::screen::wrap_for_screen;
-use testing::ascii;
+use testing::{ascii, assert_row};
 
 /// A text, a width, the output, and the column after it.
 static ROWS: [(&str, usize, &str, usize); 13] = [
@@ -26,8 +25,8 @@ fn rows(rt: HostRuntime) {
     for &(source, width, text, column) in &ROWS {
         if width >= 2 {
             let shown = wrap_for_screen(rt.alloc(), ascii(source), width).expect(&rt, "refused");
-            assert_same(&rt, shown.text.as_ascii_str(), ascii(text));
-            assert_same(&rt, shown.column, column);
+            assert_row!(rt; shown.text.as_ascii_str(), ascii(text));
+            assert_row!(rt; shown.column, column);
         }
     }
 }

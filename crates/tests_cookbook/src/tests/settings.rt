@@ -1,8 +1,7 @@
 //! Lines of a file of settings.
 
-use super::assert_same;
 use cookbook::settings::{Setting, SettingError, read_setting};
-use testing::ascii;
+use testing::{ascii, assert_row};
 
 /// Lines with a setting, its key and its value.
 static GOOD: [(&str, &str, &str); 7] = [
@@ -35,20 +34,20 @@ fn settings(rt: HostRuntime) {
             key: ascii(key),
             value: ascii(value),
         };
-        assert_same(&rt, read_setting(ascii(line)), Ok(Some(wanted)));
+        assert_row!(rt; read_setting(ascii(line)), Ok(Some(wanted)));
     }
 }
 
 #[test]
 fn blanks(rt: HostRuntime) {
     for &line in &BLANK {
-        assert_same(&rt, read_setting(ascii(line)), Ok(None));
+        assert_row!(rt; read_setting(ascii(line)), Ok(None));
     }
 }
 
 #[test]
 fn refusals(rt: HostRuntime) {
     for &(line, error) in &BAD {
-        assert_same(&rt, read_setting(ascii(line)), Err(error));
+        assert_row!(rt; read_setting(ascii(line)), Err(error));
     }
 }

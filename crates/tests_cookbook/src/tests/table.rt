@@ -1,9 +1,8 @@
 //! Rows of three columns.
 
-use super::assert_same;
 use ascii::AsciiStr;
 use cookbook::table::{RowError, read_row};
-use testing::ascii;
+use testing::{ascii, assert_row};
 
 /// Rows that are rejected, and why.
 static BAD: [(&str, RowError); 9] = [
@@ -22,14 +21,14 @@ static BAD: [(&str, RowError); 9] = [
 fn fields(rt: HostRuntime) {
     let fields = read_row(rt.alloc(), ascii("ab\tc d\te"), 3).expect(&rt, "refused");
     let wanted: [AsciiStr<'_>; 3] = [ascii("ab"), ascii("c d"), ascii("e")];
-    assert_same(&rt, fields.as_slice(), &wanted[..]);
+    assert_row!(rt; fields.as_slice(), &wanted[..]);
 }
 
 #[test]
 fn refusals(rt: HostRuntime) {
     for &(row, error) in &BAD {
-        assert_same(&rt, read_row(rt.alloc(), ascii(row), 3).err(), Some(error));
+        assert_row!(rt; read_row(rt.alloc(), ascii(row), 3).err(), Some(error));
     }
     let none = read_row(rt.alloc(), ascii("ab"), 0).err();
-    assert_same(&rt, none, Some(RowError::TooMany { start: 0 }));
+    assert_row!(rt; none, Some(RowError::TooMany { start: 0 }));
 }

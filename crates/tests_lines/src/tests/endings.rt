@@ -1,10 +1,10 @@
 //! The lines of a reader by each kind of ending, against a reference that takes them from the whole text.
 
-use super::assert_same;
 use super::line_reader::{failing, giving, text_of};
 use ascii_lines::{Ending, Endings, Input, LineError, LineReader, Source};
 use std::alloc::Global;
 use std::process::Abort;
+use testing::assert_row;
 
 /// A line as its start, its body and its ending.
 type Found<'a> = Result<Option<(u64, &'a str, Ending)>, LineError>;
@@ -16,7 +16,7 @@ fn compare<R: Abort, S: Source>(rt: &R, reader: &mut LineReader<S>, want: Found<
         line.text.as_str(),
         line.ending,
     )));
-    assert_same(rt, got, want);
+    assert_row!(rt; got, want);
 }
 
 /// The first line of a text, without and with its ending: up to the first LF or CR LF, or all of it.
@@ -201,11 +201,7 @@ fn parts_and_a_change_of_endings(rt: HostRuntime) {
     reader.lines_ended_by(Endings::CrLfStrict);
     compare(&rt, &mut reader, Ok(Some((0, "3", Ending::CrLf))));
     let part = reader.read_exact_part(3);
-    assert_same(
-        &rt,
-        part.map(|part| (part.start, part.text.as_str())),
-        Ok((3, "\r\nx")),
-    );
+    assert_row!(rt; part.map(|part| (part.start, part.text.as_str())), Ok((3, "\r\nx")));
     compare(&rt, &mut reader, Ok(Some((6, "", Ending::CrLf))));
     reader.lines_ended_by(Endings::Any);
     compare(&rt, &mut reader, Ok(Some((8, "y", Ending::Lf))));

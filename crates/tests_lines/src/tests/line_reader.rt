@@ -1,12 +1,12 @@
 //! A line reader over sources that give little at a call, that fail, and that hold what it rejects.
 
-use super::assert_same;
 use ascii_lines::{
     CollectedLines, Ending, Input, LineError, LineReader, OwnedLine, ReadPart, collect_lines,
 };
 use std::alloc::{AllocError, Global};
 use std::io::{self, ErrorKind};
 use std::process::Abort;
+use testing::assert_row;
 
 /// A reader of bytes that gives at most `step` of them at a call, fails at one call, and counts its calls.
 #[derive(Drop)]
@@ -61,9 +61,9 @@ fn kept(
 fn compare<R: Abort>(rt: &R, line: Option<&OwnedLine>, start: u64, body: &str, ending: Ending) {
     match line {
         Some(line) => {
-            assert_same(rt, line.start, start);
-            assert_same(rt, line.text.as_ascii_str().as_str(), body);
-            assert_same(rt, line.ending, ending);
+            assert_row!(rt; line.start, start);
+            assert_row!(rt; line.text.as_ascii_str().as_str(), body);
+            assert_row!(rt; line.ending, ending);
         }
         None => assert!(rt; false),
     }
@@ -90,18 +90,18 @@ fn joined<R: Abort>(rt: &R, alloc: Global, lines: &[OwnedLine]) -> Result<Vec<u8
     let mut has_ended = false;
     for line in lines {
         let body = line.text.as_ascii_str().as_str().as_bytes();
-        assert_same(rt, line.start, bytes.len() as u64);
-        assert_same(rt, body.contains(&b'\n'), false);
-        assert_same(rt, has_ended, false);
+        assert_row!(rt; line.start, bytes.len() as u64);
+        assert_row!(rt; body.contains(&b'\n'), false);
+        assert_row!(rt; has_ended, false);
         bytes.extend_from_slice(body)?;
         match line.ending {
             Ending::Lf => {
-                assert_same(rt, body.last() == Some(&b'\r'), false);
+                assert_row!(rt; body.last() == Some(&b'\r'), false);
                 bytes.push(b'\n')?;
             }
             Ending::CrLf => bytes.extend_from_slice(b"\r\n")?,
             Ending::Absent => {
-                assert_same(rt, body.is_empty(), false);
+                assert_row!(rt; body.is_empty(), false);
                 has_ended = true;
             }
         }
@@ -117,11 +117,11 @@ fn related<R: Abort>(rt: &R, alloc: Global, text: &[u8], size: usize, most: usiz
     assert!(rt; text.starts_with(&front));
     let rest = &text[front.len()..];
     match kept.error {
-        None => assert_same(rt, rest.len(), 0),
+        None => assert_row!(rt; rest.len(), 0),
         error => {
-            assert_same(rt, error, Some(LineError::TooLong(front.len() as u64)));
+            assert_row!(rt; error, Some(LineError::TooLong(front.len() as u64)));
             assert!(rt; rest.len() > size);
-            assert_same(rt, rest[..size].contains(&b'\n'), false);
+            assert_row!(rt; rest[..size].contains(&b'\n'), false);
         }
     }
 }
@@ -145,11 +145,11 @@ fn all_short_texts(rt: HostRuntime) {
 fn a_cr_in_the_last_place(rt: HostRuntime) {
     let kept = kept(rt.alloc(), giving(b"y\nabc\r\n\rz\r", 100), 6).expect(&rt, "refused");
     let lines = &kept.lines;
-    assert_same(&rt, lines.len(), 3);
+    assert_row!(rt; lines.len(), 3);
     compare(&rt, lines.get(0), 0, "y", Ending::Lf);
     compare(&rt, lines.get(1), 2, "abc", Ending::CrLf);
     compare(&rt, lines.get(2), 7, "\rz\r", Ending::Absent);
-    assert_same(&rt, kept.error, None);
+    assert_row!(rt; kept.error, None);
 }
 
 #[test]
@@ -157,20 +157,20 @@ fn lines_that_just_fit(rt: HostRuntime) {
     for text in [b"abc\r\n".as_slice(), b"abcd\n", b"abcde"] {
         for most in [1, 5] {
             let fits = kept(rt.alloc(), giving(text, most), 5).expect(&rt, "refused");
-            assert_same(&rt, fits.lines.len(), 1);
-            assert_same(&rt, fits.error, None);
+            assert_row!(rt; fits.lines.len(), 1);
+            assert_row!(rt; fits.error, None);
             let less = kept(rt.alloc(), giving(text, most), 4).expect(&rt, "refused");
-            assert_same(&rt, less.lines.len(), 0);
-            assert_same(&rt, less.error, Some(LineError::TooLong(0)));
+            assert_row!(rt; less.lines.len(), 0);
+            assert_row!(rt; less.error, Some(LineError::TooLong(0)));
         }
     }
     let second = kept(rt.alloc(), giving(b"x\nabcdef", 100), 5).expect(&rt, "refused");
-    assert_same(&rt, second.lines.len(), 1);
-    assert_same(&rt, second.error, Some(LineError::TooLong(2)));
+    assert_row!(rt; second.lines.len(), 1);
+    assert_row!(rt; second.error, Some(LineError::TooLong(2)));
     let none = kept(rt.alloc(), giving(b"", 100), 0).expect(&rt, "refused");
-    assert_same(&rt, none.error, None);
+    assert_row!(rt; none.error, None);
     let empty = kept(rt.alloc(), giving(b"\n", 100), 0).expect(&rt, "refused");
-    assert_same(&rt, empty.error, Some(LineError::TooLong(0)));
+    assert_row!(rt; empty.error, Some(LineError::TooLong(0)));
 }
 
 static LINES: &[u8] = b"ab\r\ncd\n\nefg\nh";
@@ -188,8 +188,8 @@ fn a_byte_over_127_at_each_place(rt: HostRuntime) {
             }
             for (size, most) in [(4, 1), (4, 100), (5, 2), (64, 100)] {
                 let kept = kept(rt.alloc(), giving(&text, most), size).expect(&rt, "refused");
-                assert_same(&rt, kept.lines.len(), ended);
-                assert_same(&rt, kept.error, Some(LineError::NotAscii(place as u64)));
+                assert_row!(rt; kept.lines.len(), ended);
+                assert_row!(rt; kept.error, Some(LineError::NotAscii(place as u64)));
             }
         }
     }
@@ -199,12 +199,12 @@ fn a_byte_over_127_at_each_place(rt: HostRuntime) {
 fn a_failure_at_each_call(rt: HostRuntime) {
     for (call, &ended) in ENDED.iter().enumerate() {
         let kept = kept(rt.alloc(), failing(LINES, 1, call as u64), 4).expect(&rt, "refused");
-        assert_same(&rt, kept.lines.len(), ended);
-        assert_same(&rt, kept.error, Some(LineError::Read));
+        assert_row!(rt; kept.lines.len(), ended);
+        assert_row!(rt; kept.error, Some(LineError::Read));
     }
     let last = kept(rt.alloc(), failing(LINES, 1, 13), 4).expect(&rt, "refused");
-    assert_same(&rt, last.lines.len(), 4);
-    assert_same(&rt, last.error, Some(LineError::Read));
+    assert_row!(rt; last.lines.len(), 4);
+    assert_row!(rt; last.error, Some(LineError::Read));
 }
 
 /// The source is called this often before the first answer other than a line, and not once after it.
@@ -216,23 +216,19 @@ fn stays<R: Abort>(
     error: Option<LineError>,
 ) {
     let mut reader = LineReader::new(alloc, source, 3).expect(rt, "refused");
-    assert_same(
-        rt,
-        collect_lines(alloc, &mut reader)
+    assert_row!(rt; collect_lines(alloc, &mut reader)
             .expect(rt, "refused")
-            .error,
-        error,
-    );
+            .error, error);
     for _ in 0..3 {
         match reader.next_line() {
             Ok(line) => {
                 assert!(rt; line.is_none());
-                assert_same(rt, error, None);
+                assert_row!(rt; error, None);
             }
-            Err(again) => assert_same(rt, Some(again), error),
+            Err(again) => assert_row!(rt; Some(again), error),
         }
     }
-    assert_same(rt, reader.into_source().into_inner().calls, calls);
+    assert_row!(rt; reader.into_source().into_inner().calls, calls);
 }
 
 #[test]
@@ -274,24 +270,24 @@ fn one_line_at_a_time(rt: HostRuntime) {
         .flatten()
         .ok_or("a line")
         .expect(&rt, "refused");
-    assert_same(&rt, first.text.as_str(), "GET / ");
-    assert_same(&rt, first.ending, Ending::CrLf);
+    assert_row!(rt; first.text.as_str(), "GET / ");
+    assert_row!(rt; first.ending, Ending::CrLf);
     let second = reader
         .next_line()
         .ok()
         .flatten()
         .ok_or("a line")
         .expect(&rt, "refused");
-    assert_same(&rt, second.start, 8);
-    assert_same(&rt, second.text.len(), 0);
+    assert_row!(rt; second.start, 8);
+    assert_row!(rt; second.text.len(), 0);
     let third = reader
         .next_line()
         .ok()
         .flatten()
         .ok_or("a line")
         .expect(&rt, "refused");
-    assert_same(&rt, third.start, 10);
-    assert_same(&rt, third.ending, Ending::Absent);
+    assert_row!(rt; third.start, 10);
+    assert_row!(rt; third.ending, Ending::Absent);
     assert!(rt; matches!(reader.next_line(), Ok(None)));
 }
 
@@ -307,7 +303,7 @@ fn compare_part<R: Abort>(
     part: Result<ReadPart<'_>, LineError>,
     want: Result<(u64, &str), LineError>,
 ) {
-    assert_same(rt, part.map(|part| (part.start, part.text.as_str())), want);
+    assert_row!(rt; part.map(|part| (part.start, part.text.as_str())), want);
 }
 
 #[test]
@@ -319,11 +315,11 @@ fn parts_and_lines_in_turn(rt: HostRuntime) {
             let line = reader
                 .next_line()
                 .map(|line| line.map(|line| line.text.len()));
-            assert_same(&rt, line, Ok(Some(2)));
+            assert_row!(rt; line, Ok(Some(2)));
             compare_part(&rt, reader.read_exact_part(0), Ok((4, "")));
             compare_part(&rt, reader.read_exact_part(5), Ok((4, "a\nb\rc")));
             let line = reader.next_line().map(|line| line.map(|line| line.ending));
-            assert_same(&rt, line, Ok(Some(Ending::CrLf)));
+            assert_row!(rt; line, Ok(Some(Ending::CrLf)));
             compare_part(&rt, reader.read_exact_part(2), Ok((11, "xy")));
             compare_part(
                 &rt,
@@ -335,7 +331,7 @@ fn parts_and_lines_in_turn(rt: HostRuntime) {
                 reader.read_exact_part(0),
                 Err(LineError::Incomplete(1)),
             );
-            assert_same(&rt, reader.next_line(), Err(LineError::Incomplete(1)));
+            assert_row!(rt; reader.next_line(), Err(LineError::Incomplete(1)));
         }
     }
 }
@@ -358,6 +354,6 @@ fn a_part_with_bad_input(rt: HostRuntime) {
         let mut ended = LineReader::new(alloc, giving(b"ab", most), 4).expect(&rt, "refused");
         assert!(rt; ended.next_line().is_ok());
         compare_part(&rt, ended.read_exact_part(1), Err(LineError::Incomplete(0)));
-        assert_same(&rt, ended.next_line(), Ok(None));
+        assert_row!(rt; ended.next_line(), Ok(None));
     }
 }

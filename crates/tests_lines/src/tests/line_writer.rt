@@ -1,11 +1,10 @@
 //! A line writer over sinks that take little at a call or fail.
 
-use super::assert_same;
 use ascii_lines::{Ending, LineWriter, Output, WriteError};
 use std::alloc::Global;
 use std::io::{self, ErrorKind};
 use std::process::Abort;
-use testing::ascii;
+use testing::{ascii, assert_row};
 
 /// A writer that takes at most `most` bytes at a call, fails at one call, and counts its calls.
 #[derive(Drop)]
@@ -73,7 +72,7 @@ fn write_all(writer: &mut LineWriter<Output<Counted>>) -> Result<(), WriteError>
 fn compare<R: Abort>(rt: &R, writer: LineWriter<Output<Counted>>, taken: &[u8], calls: u64) {
     let sink = writer.into_sink().into_inner();
     assert!(rt; sink.taken.as_slice() == taken);
-    assert_same(rt, sink.calls, calls);
+    assert_row!(rt; sink.calls, calls);
 }
 
 #[test]
@@ -82,7 +81,7 @@ fn all_lines_go_out_through_any_buffer(rt: HostRuntime) {
         for most in [1, 3, 100] {
             let sink = sink(rt.alloc(), most, u64::MAX);
             let mut writer = LineWriter::new(rt.alloc(), sink, size).expect(&rt, "refused");
-            assert_same(&rt, write_all(&mut writer), Ok(()));
+            assert_row!(rt; write_all(&mut writer), Ok(()));
             let sink = writer.into_sink().into_inner();
             assert!(rt; sink.taken.as_slice() == BYTES.as_bytes());
         }
@@ -95,10 +94,10 @@ fn a_failure_at_each_call_leaves_a_prefix(rt: HostRuntime) {
         for fails in 0..18 {
             let sink = sink(rt.alloc(), 1, fails);
             let mut writer = LineWriter::new(rt.alloc(), sink, size).expect(&rt, "refused");
-            assert_same(&rt, write_all(&mut writer), Err(WriteError::Write));
+            assert_row!(rt; write_all(&mut writer), Err(WriteError::Write));
             let again = writer.write_line(ascii("x\n"), Ending::Lf);
-            assert_same(&rt, again, Err(WriteError::Write));
-            assert_same(&rt, writer.flush(), Err(WriteError::Write));
+            assert_row!(rt; again, Err(WriteError::Write));
+            assert_row!(rt; writer.flush(), Err(WriteError::Write));
             let taken = BYTES.as_bytes().get(..fails as usize);
             compare(&rt, writer, taken.unwrap_or_default(), fails + 1);
         }
@@ -109,12 +108,12 @@ fn a_failure_at_each_call_leaves_a_prefix(rt: HostRuntime) {
 fn a_line_break_in_the_body_changes_nothing(rt: HostRuntime) {
     let sink = sink(rt.alloc(), 100, u64::MAX);
     let mut writer = LineWriter::new(rt.alloc(), sink, 4).expect(&rt, "refused");
-    assert_same(&rt, writer.write_line(ascii("ab"), Ending::Lf), Ok(()));
+    assert_row!(rt; writer.write_line(ascii("ab"), Ending::Lf), Ok(()));
     for (body, place) in [("\n", 0), ("a\r", 1), ("abcdefgh\r\n", 8), ("a\nb\r", 1)] {
         let error = writer.write_line(ascii(body), Ending::Absent);
-        assert_same(&rt, error, Err(WriteError::LineBreak(place)));
+        assert_row!(rt; error, Err(WriteError::LineBreak(place)));
     }
-    assert_same(&rt, writer.flush(), Ok(()));
+    assert_row!(rt; writer.flush(), Ok(()));
     compare(&rt, writer, b"ab\n", 2);
 }
 

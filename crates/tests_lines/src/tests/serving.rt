@@ -2,7 +2,6 @@
 
 ghost use Rattle.ascii_lines.specs.Serve.{IsRequest};
 
-use super::assert_same;
 use super::line_writer::{Counted, sink};
 use ascii_lines::{
     AsciiStr, AsciiString, Ending, Handler, Input, LineError, LineReader, LineWriter, Next, Output,
@@ -10,7 +9,7 @@ use ascii_lines::{
 };
 use std::alloc::{AllocError, Global};
 use std::process::Abort;
-use testing::ascii;
+use testing::{ascii, assert_row};
 
 /// A handler of a few words, which counts the texts that it is handed.
 #[derive(Drop)]
@@ -103,7 +102,7 @@ fn served<R: Abort>(
     let mut writer = LineWriter::new(alloc, sink, 5).expect(rt, "refused");
     let mut words = Words { count: 0 };
     let got = serve(alloc, &mut reader, &mut writer, Ending::CrLf, &mut words);
-    assert_same(rt, got, stop);
+    assert_row!(rt; got, stop);
     writer.into_sink()
 }
 
@@ -125,7 +124,7 @@ fn a_sink_that_fails_has_taken_a_prefix(rt: HostRuntime) {
         let stop = Stop::Writer(WriteError::Write);
         let sink = served(&rt, rt.alloc(), b"a\ntwo\nquit\n", sink, stop).into_inner();
         assert!(rt; b"ok\r\none\r\ntwo\r\nbye\r\n".starts_with(&sink.taken));
-        assert_same(&rt, sink.calls, fails + 1);
+        assert_row!(rt; sink.calls, fails + 1);
     }
 }
 

@@ -1,10 +1,10 @@
 //! Callers that allocate: texts of 20,000 characters, and 4,000 pieces, lines and words.
 
-use super::{assert_same, repeated};
+use super::repeated;
 use ascii::{AsciiChar, AsciiStr, AsciiString};
 use std::alloc::AllocError;
 use std::process::Abort;
-use testing::ascii;
+use testing::{ascii, assert_row};
 use tests_callers::both_types::{append, header_name};
 use tests_callers::cuts::all_words;
 use tests_callers::iterators::{
@@ -22,17 +22,17 @@ fn are_all<R: Abort>(
     each: AsciiStr<'_>,
 ) {
     let views = views.expect(rt, "no memory");
-    assert_same(rt, views.len(), count);
+    assert_row!(rt; views.len(), count);
     assert!(rt; views.iter().all(|view| *view == each));
 }
 
 /// The numbers of a list, which has to be there, go up by a step from 0.
 fn go_up<R: Abort>(rt: &R, numbers: Result<Vec<usize>, AllocError>, count: usize, step: usize) {
     let numbers = numbers.expect(rt, "no memory");
-    assert_same(rt, numbers.len(), count);
+    assert_row!(rt; numbers.len(), count);
     let mut want: usize = 0;
     for number in &numbers {
-        assert_same(rt, *number, want);
+        assert_row!(rt; *number, want);
         want = want.wrapping_add(step);
     }
 }
@@ -54,9 +54,9 @@ fn texts_are_copied(rt: HostRuntime) {
     append_chars(&mut string, view).expect(&rt, "no memory");
     assert!(rt; string == twice);
     let shown = in_brackets(alloc, view).expect(&rt, "no memory");
-    assert_same(&rt, shown.len(), 20_002);
+    assert_row!(rt; shown.len(), 20_002);
     let shown = in_quotes(alloc, view).expect(&rt, "no memory");
-    assert_same(&rt, shown.len(), 20_002);
+    assert_row!(rt; shown.len(), 20_002);
 }
 
 #[test]
@@ -73,11 +73,11 @@ fn pieces_are_collected(rt: HostRuntime) {
     );
     go_up(&rt, piece_starts(alloc, view, comma), 4_001, 5);
     let lengths = piece_lengths(alloc, view, comma).expect(&rt, "no memory");
-    assert_same(&rt, lengths.len(), 4_001);
+    assert_row!(rt; lengths.len(), 4_001);
     let fours = lengths.iter().filter(|length| **length == 4).count();
-    assert_same(&rt, fours, 4_000);
+    assert_row!(rt; fours, 4_000);
     let reversed = pieces_reversed(alloc, view, comma).expect(&rt, "no memory");
-    assert_same(&rt, reversed.len(), 4_001);
+    assert_row!(rt; reversed.len(), 4_001);
     let joined = without_separators(alloc, view, comma).expect(&rt, "no memory");
     assert!(rt; joined == repeated(&rt, "abcd", 4_000));
 }
@@ -91,9 +91,9 @@ fn lines_are_listed(rt: HostRuntime) {
     are_all(&rt, bodies_reversed(alloc, view), 4_000, ascii("abc"));
     go_up(&rt, line_starts(alloc, view), 4_000, 5);
     let lengths = line_lengths(alloc, view).expect(&rt, "no memory");
-    assert_same(&rt, lengths.len(), 4_000);
+    assert_row!(rt; lengths.len(), 4_000);
     let threes = lengths.iter().filter(|length| **length == 3).count();
-    assert_same(&rt, threes, 4_000);
+    assert_row!(rt; threes, 4_000);
     let joined: AsciiString = without_line_endings(alloc, view).expect(&rt, "no memory");
     assert!(rt; joined == repeated(&rt, "abc", 4_000));
 }

@@ -1,9 +1,9 @@
 //! Edits that allocate, on strings of 20,000 characters.
 
-use super::{assert_same, repeated};
+use super::repeated;
 use ascii::AsciiChar;
 use ascii_run::{AsciiBuf, SmallAsciiString};
-use testing::ascii;
+use testing::{ascii, assert_row};
 
 #[test]
 fn every_occurrence_is_replaced(rt: HostRuntime) {
@@ -31,9 +31,9 @@ fn numbers_are_appended(rt: HostRuntime) {
         text.push_decimal(n).expect(&rt, "no memory");
     }
     // 10 numbers of one digit, 90 of two, 900 of three, 9,000 of four
-    assert_same(&rt, text.len(), 38_890);
+    assert_row!(rt; text.len(), 38_890);
     assert!(rt; text.as_ascii_str().ends_with(ascii("99989999")));
-    assert_same(&rt, text.as_ascii_str().first(), Some(AsciiChar::_0));
+    assert_row!(rt; text.as_ascii_str().first(), Some(AsciiChar::_0));
 }
 
 #[test]
@@ -42,8 +42,8 @@ fn full_inline_strings_grow(rt: HostRuntime) {
     let view = source.as_ascii_str();
     let mut text = SmallAsciiString::from_ascii_str(rt.alloc(), view).expect(&rt, "no memory");
     text.insert(0, AsciiChar::c).expect(&rt, "no memory");
-    assert_same(&rt, text.len(), 20_001);
-    assert_same(&rt, text.as_ascii_str().first(), Some(AsciiChar::c));
+    assert_row!(rt; text.len(), 20_001);
+    assert_row!(rt; text.as_ascii_str().first(), Some(AsciiChar::c));
     let mut text = SmallAsciiString::from_ascii_str(rt.alloc(), view).expect(&rt, "no memory");
     text.reserve(10).expect(&rt, "no memory");
     assert!(rt; 20_010 <= text.capacity());

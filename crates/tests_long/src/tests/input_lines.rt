@@ -1,8 +1,9 @@
 //! The line reader: 2,000 lines, and lines of 20,000 characters.
 
-use super::{assert_same, repeated};
+use super::repeated;
 use ascii_devices::Input;
 use ascii_lines::{LineReader, collect_lines};
+use testing::assert_row;
 
 #[test]
 fn lines_of_20000_characters(rt: HostRuntime) {
@@ -17,10 +18,10 @@ fn lines_of_20000_characters(rt: HostRuntime) {
             .next_line()
             .expect(&rt, "an error")
             .expect(&rt, "no line");
-        assert_same(&rt, line.start, number * 20_002);
-        assert_same(&rt, line.text.len(), 20_000);
+        assert_row!(rt; line.start, number * 20_002);
+        assert_row!(rt; line.text.len(), 20_000);
     }
-    assert_same(&rt, reader.next_line(), Ok(None));
+    assert_row!(rt; reader.next_line(), Ok(None));
 }
 
 #[test]
@@ -29,6 +30,6 @@ fn lines_are_collected(rt: HostRuntime) {
     let source = Input::new(input.as_ascii_str().as_bytes());
     let mut reader = LineReader::new(rt.alloc(), source, 64).expect(&rt, "no memory");
     let collected = collect_lines(rt.alloc(), &mut reader).expect(&rt, "no memory");
-    assert_same(&rt, collected.lines.len(), 2_000);
-    assert_same(&rt, collected.error, None);
+    assert_row!(rt; collected.lines.len(), 2_000);
+    assert_row!(rt; collected.error, None);
 }

@@ -1,6 +1,6 @@
 //! The recipes: rows of 300 columns, blocks of 2,000 headers, texts of 20,000 characters, host names of 253.
 
-use super::{assert_same, repeated};
+use super::repeated;
 use ascii::{AsciiChar, AsciiString};
 use cookbook::header_map::HeaderMap;
 use cookbook::headers::read_headers;
@@ -10,25 +10,25 @@ use cookbook::screen::wrap_for_screen;
 use cookbook::table::read_row;
 use cookbook::values::through_json;
 use std::cmp::Ordering;
-use testing::ascii;
+use testing::{ascii, assert_row};
 
 #[test]
 fn a_row_of_300_columns(rt: HostRuntime) {
     let mut row = repeated(&rt, "field\t", 299);
     row.push_str(ascii("last")).expect(&rt, "no memory");
     let fields = read_row(rt.alloc(), row.as_ascii_str(), 300).expect(&rt, "no memory");
-    assert_same(&rt, fields.len(), 300);
-    assert_same(&rt, fields.last().copied(), Some(ascii("last")));
+    assert_row!(rt; fields.len(), 300);
+    assert_row!(rt; fields.last().copied(), Some(ascii("last")));
 }
 
 #[test]
 fn a_block_of_2000_headers(rt: HostRuntime) {
     let block = repeated(&rt, "X-Name: some value\r\n", 2_000);
     let headers = read_headers(rt.alloc(), block.as_ascii_str()).expect(&rt, "no memory");
-    assert_same(&rt, headers.len(), 2_000);
+    assert_row!(rt; headers.len(), 2_000);
     for header in &headers {
-        assert_same(&rt, header.name, ascii("X-Name"));
-        assert_same(&rt, header.value, ascii("some value"));
+        assert_row!(rt; header.name, ascii("X-Name"));
+        assert_row!(rt; header.value, ascii("some value"));
     }
 }
 
@@ -45,10 +45,10 @@ fn a_map_of_2000_headers(rt: HostRuntime) {
     let headers = read_headers(rt.alloc(), block.as_ascii_str()).expect(&rt, "no memory");
     let map = HeaderMap::from_headers(rt.alloc(), &headers).expect(&rt, "no memory");
     for header in &headers {
-        assert_same(&rt, map.get(header.name), Some(ascii("some value")));
+        assert_row!(rt; map.get(header.name), Some(ascii("some value")));
     }
-    assert_same(&rt, map.get(ascii("x-1999")), Some(ascii("some value")));
-    assert_same(&rt, map.get(ascii("x-2000")), None);
+    assert_row!(rt; map.get(ascii("x-1999")), Some(ascii("some value")));
+    assert_row!(rt; map.get(ascii("x-2000")), None);
 }
 
 #[test]
@@ -69,10 +69,10 @@ fn copies_of_20000_characters(rt: HostRuntime) {
 fn a_screen_of_20000_characters(rt: HostRuntime) {
     let text = repeated(&rt, "0123456789", 2_000);
     let screen = wrap_for_screen(rt.alloc(), text.as_ascii_str(), 80).expect(&rt, "no memory");
-    assert_same(&rt, screen.text.len(), 20_249);
-    assert_same(&rt, screen.column, 80);
+    assert_row!(rt; screen.text.len(), 20_249);
+    assert_row!(rt; screen.column, 80);
     let lines = screen.text.as_ascii_str().lines().count();
-    assert_same(&rt, lines, 250);
+    assert_row!(rt; lines, 250);
 }
 
 #[test]
@@ -81,11 +81,11 @@ fn host_names_of_253_characters(rt: HostRuntime) {
     let mut name = repeated(&rt, "Some-Label.", 22);
     name.push_str(ascii("Last-Label1")).expect(&rt, "no memory");
     let view = name.as_ascii_str();
-    assert_same(&rt, view.len(), 253);
+    assert_row!(rt; view.len(), 253);
     let host = HostName::parse(alloc, view).expect(&rt, "no memory");
     assert!(rt; host.as_ascii_str().eq_ignore_ascii_case(view));
-    assert_same(&rt, host.as_ascii_str().position(AsciiChar::S), None);
-    assert_same(&rt, same_host(alloc, view, host.as_ascii_str()), Ok(true));
+    assert_row!(rt; host.as_ascii_str().position(AsciiChar::S), None);
+    assert_row!(rt; same_host(alloc, view, host.as_ascii_str()), Ok(true));
     let order = host_order(alloc, view, host.as_ascii_str());
-    assert_same(&rt, order, Ok(Ordering::Equal));
+    assert_row!(rt; order, Ok(Ordering::Equal));
 }

@@ -1,13 +1,12 @@
 //! If no allocation fails, no call gives up past a length. The calls that are not here are in the tests of lengths of
 //! `tests_ascii` and `tests_run`.
 
-use super::assert_same;
 use ascii::iter::{End, walk_line_spans, walk_split_spans};
 use ascii::{AsciiChar, AsciiRange, AsciiStr, AsciiString, CowAsciiStr, bytes};
 use ascii_run::{AsciiBuf, Cmd, Input, Mode, Output, Reply, SmallAsciiString, engine, run_both};
-use std::alloc::Global;
 use std::fmt::Write;
 use std::process::Abort;
+use testing::assert_row;
 
 const LENGTHS: [usize; 4] = [0, 1, 33, 5_000];
 
@@ -22,7 +21,7 @@ fn room<R: Abort + AllocGlobal>(rt: &R, source: AsciiStr<'_>) {
     string.shrink_to_fit().expect(rt, "refused");
     string.reserve_exact(length).expect(rt, "refused");
     assert!(rt; 2 * length <= string.capacity());
-    assert_same(rt, string.as_ascii_str(), source);
+    assert_row!(rt; string.as_ascii_str(), source);
 }
 
 /// Lets a string of the view grow by each of the edits.
@@ -41,7 +40,7 @@ fn grown<R: Abort + AllocGlobal>(rt: &R, source: AsciiStr<'_>) {
         .extend_strs(source.split(AsciiChar::Comma))
         .expect(rt, "refused");
     assert!(rt; length <= 5_000);
-    assert_same(rt, string.len(), 5 * length + 3);
+    assert_row!(rt; string.len(), 5 * length + 3);
 }
 
 /// Turns a string of the view into each of the boxes and back.
@@ -54,16 +53,12 @@ fn turned<R: Abort + AllocGlobal>(rt: &R, source: AsciiStr<'_>) {
         .expect(rt, "refused");
     let string = boxed.into_ascii_string().ok().expect(rt, "refused");
     let shared = string.into_rc_ascii_str(alloc).expect(rt, "refused");
-    assert_same(
-        rt,
-        shared.clone().expect(rt, "refused").as_ascii_str(),
-        source,
-    );
+    assert_row!(rt; shared.clone().expect(rt, "refused").as_ascii_str(), source);
     let owned = CowAsciiStr::from(source)
         .into_owned(alloc)
         .ok()
         .expect(rt, "refused");
-    assert_same(rt, owned.as_ascii_str(), source);
+    assert_row!(rt; owned.as_ascii_str(), source);
 }
 
 /// Walks over the lines and pieces of the view with their starts, and the mode that prints them.
@@ -72,18 +67,14 @@ fn spans<R: Abort + AllocGlobal>(rt: &R, source: AsciiStr<'_>) {
     let script = [End::Front; 100];
     let empty = source.is_empty();
     let lines = walk_line_spans(alloc, source, &script).expect(rt, "refused");
-    assert_same(rt, lines.first().map(|line| line.is_none()), Some(empty));
+    assert_row!(rt; lines.first().map(|line| line.is_none()), Some(empty));
     let pieces = walk_split_spans(alloc, source, AsciiChar::a, &script).expect(rt, "refused");
-    assert_same(rt, pieces.len(), 100);
+    assert_row!(rt; pieces.len(), 100);
     let mut reader = Input::new(source.as_bytes());
     let mut writer = Output::new(Vec::new(alloc));
-    assert_same(
-        rt,
-        engine(alloc, Mode::EndsSpans(&script), &mut reader, &mut writer),
-        Ok(()),
-    );
+    assert_row!(rt; engine(alloc, Mode::EndsSpans(&script), &mut reader, &mut writer), Ok(()));
     let written = writer.into_inner();
-    assert_same(rt, written.starts_with(b"+0 none a"), !empty);
+    assert_row!(rt; written.starts_with(b"+0 none a"), !empty);
 }
 
 /// Lets an inline string of the view grow by each of the edits, and converts it into an `AsciiString`.
@@ -98,12 +89,12 @@ fn small<R: Abort + AllocGlobal>(rt: &R, source: AsciiStr<'_>) {
     string.write_str(source.as_str()).expect(rt, "refused");
     string.write_char('b').expect(rt, "refused");
     let grown = string.len();
-    assert_same(rt, grown, 4 * length + 3);
+    assert_row!(rt; grown, 4 * length + 3);
     string.reserve(length).expect(rt, "refused");
     assert!(rt; grown + length <= string.capacity());
     let copy: SmallAsciiString = string.clone().expect(rt, "refused");
     let owned = copy.into_ascii_string().expect(rt, "refused");
-    assert_same(rt, owned.as_ascii_str(), string.as_ascii_str());
+    assert_row!(rt; owned.as_ascii_str(), string.as_ascii_str());
 }
 
 /// Runs commands over both forms of the view, few with long texts and as many as the view is long.
@@ -119,21 +110,13 @@ fn both<R: Abort + AllocGlobal>(rt: &R, source: AsciiStr<'_>) {
         Cmd::Copy(AsciiRange::Full),
     ];
     let both = run_both(alloc, source, &few).expect(rt, "refused");
-    assert_same(
-        rt,
-        (both.string.len(), both.small.len()),
-        (2 * length + 1, 2 * length + 1),
-    );
+    assert_row!(rt; (both.string.len(), both.small.len()), (2 * length + 1, 2 * length + 1));
     for replies in [&both.replies, &both.small_replies] {
         assert!(rt; !replies.iter().any(|reply| matches!(reply, Reply::NoMemory)));
     }
     let many = vec![in alloc; Cmd::Push(AsciiChar::b); length].expect(rt, "refused");
     let both = run_both(alloc, source, &many).expect(rt, "refused");
-    assert_same(
-        rt,
-        (both.string.len(), both.small.len()),
-        (2 * length, 2 * length),
-    );
+    assert_row!(rt; (both.string.len(), both.small.len()), (2 * length, 2 * length));
 }
 
 #[test]
@@ -141,7 +124,7 @@ fn nothing_is_refused(rt: HostRuntime) {
     for length in LENGTHS {
         let source = vec![in rt.alloc(); b'a'; length].expect(&rt, "refused");
         let view = bytes::as_ascii_str(&source).unwrap_or_default();
-        assert_same(&rt, view.len(), length);
+        assert_row!(rt; view.len(), length);
         room(&rt, view);
         grown(&rt, view);
         turned(&rt, view);

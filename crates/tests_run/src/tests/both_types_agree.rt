@@ -1,11 +1,10 @@
 //! Runs of all kinds of commands over both forms, against each other.
 
-use super::assert_same;
 use super::pseudo_random::Picks;
 use ascii::{AsciiChar, AsciiRange};
 use ascii_run::{Cmd, Reply, run_both};
 use std::alloc::{AllocError, Global};
-use testing::ascii;
+use testing::{ascii, assert_row};
 
 /// A command of the kind of this number. Positions may be past the text.
 fn command(kind: usize, picks: &mut Picks) -> Cmd<'static> {
@@ -68,17 +67,9 @@ fn of_all_kinds(rt: HostRuntime) {
             cmds.push(any_command(&mut picks)).expect(&rt, "refused");
         }
         let both = run_both(alloc, ascii("Some"), &cmds).expect(&rt, "refused");
-        assert_same(
-            &rt,
-            shown(alloc, &both.small_replies)
+        assert_row!(rt; shown(alloc, &both.small_replies)
                 .expect(&rt, "refused")
-                .as_str(),
-            shown(alloc, &both.replies).expect(&rt, "refused").as_str(),
-        );
-        assert_same(
-            &rt,
-            both.small.as_ascii_str().as_str(),
-            both.string.as_ascii_str().as_str(),
-        );
+                .as_str(), shown(alloc, &both.replies).expect(&rt, "refused").as_str());
+        assert_row!(rt; both.small.as_ascii_str().as_str(), both.string.as_ascii_str().as_str());
     }
 }

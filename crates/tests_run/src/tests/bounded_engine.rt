@@ -1,10 +1,10 @@
 //! The bounded engine over memory, over readers that give a few bytes a call, and with each call failing in turn.
 
-use super::assert_same;
 use super::device_steps::{Giving, Step, Taking};
 use ascii_run::{BoundedFault, BoundedMode, Input, Output, Sink, Source, bounded_engine};
 use std::io::ErrorKind;
 use std::process::Abort;
+use testing::assert_row;
 
 /// A mode, what it writes for `INPUT`, and what it writes for the first five bytes before more is read.
 type Row = (BoundedMode, &'static [u8], &'static [u8]);
@@ -49,15 +49,11 @@ fn compare<R: Abort + AllocGlobal>(
         bytes: Vec::new(alloc),
     });
     let got = bounded_engine(alloc, mode, &mut reader, &mut writer);
-    assert_same(&rt, got, want);
+    assert_row!(rt; got, want);
     let counts = (reader.failures(), writer.failures());
     let is = |fault: BoundedFault| u64::from(want == Err(fault));
-    assert_same(
-        &rt,
-        counts,
-        (is(BoundedFault::Read), is(BoundedFault::Write)),
-    );
-    assert_same(&rt, writer.into_inner().bytes.as_slice(), output);
+    assert_row!(rt; counts, (is(BoundedFault::Read), is(BoundedFault::Write)));
+    assert_row!(rt; writer.into_inner().bytes.as_slice(), output);
 }
 
 #[test]
@@ -100,7 +96,7 @@ fn a_failed_write_leaves_a_prefix(rt: HostRuntime) {
             bytes: Vec::new(rt.alloc()),
         });
         let got = bounded_engine(rt.alloc(), mode, &mut Input::new(INPUT), &mut writer);
-        assert_same(&rt, got, Err(BoundedFault::Write));
+        assert_row!(rt; got, Err(BoundedFault::Write));
         assert!(rt; output.starts_with(&writer.into_inner().bytes));
     }
 }
@@ -121,11 +117,11 @@ fn lengths_about_the_chunk(rt: HostRuntime) {
         for (mode, code, more) in modes {
             let mut writer = Output::new(Vec::new(alloc));
             let got = bounded_engine(alloc, mode, &mut Input::new(input.as_slice()), &mut writer);
-            assert_same(&rt, got, Ok(()));
+            assert_row!(rt; got, Ok(()));
             let written = writer.into_inner();
-            assert_same(&rt, written.len(), length + more);
+            assert_row!(rt; written.len(), length + more);
             let same = written.iter().filter(|byte| **byte == code).count();
-            assert_same(&rt, same, length);
+            assert_row!(rt; same, length);
         }
     }
 }

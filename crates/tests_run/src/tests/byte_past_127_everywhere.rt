@@ -1,9 +1,9 @@
 //! A byte above 127 at every position, alone and with a second one after it.
 
-use super::assert_same;
 use ascii::{AsAsciiStrError, AsciiRange, AsciiStr, CopyError, bytes, string, text, vec};
 use ascii_run::{EngineFault, Input, Mode, Output, engine};
 use std::process::Abort;
+use testing::assert_row;
 
 /// Around the widths of the loops over bytes.
 const LENGTHS: [usize; 8] = [0, 1, 31, 32, 33, 63, 64, 65];
@@ -19,14 +19,14 @@ fn position(answer: Result<AsciiStr<'_>, AsAsciiStrError>) -> Option<usize> {
 /// Each way from bytes to a text rejects the source with the position, and accepts what ends before it.
 fn bytes_refused<R: Abort>(rt: &R, source: &[u8], place: usize) {
     let wanted = Some(place);
-    assert_same(rt, position(bytes::as_ascii_str(source)), wanted);
-    assert_same(rt, position(bytes::from_ascii(source)), wanted);
-    assert_same(rt, bytes::get_ascii(source, place), None);
+    assert_row!(rt; position(bytes::as_ascii_str(source)), wanted);
+    assert_row!(rt; position(bytes::from_ascii(source)), wanted);
+    assert_row!(rt; bytes::get_ascii(source, place), None);
     for before in 0..place {
         let front = bytes::slice_ascii(source, AsciiRange::ToInclusive(before));
-        assert_same(rt, position(front), None);
+        assert_row!(rt; position(front), None);
         let whole = bytes::slice_ascii(source, AsciiRange::From(before));
-        assert_same(rt, position(whole), wanted);
+        assert_row!(rt; position(whole), wanted);
     }
 }
 
@@ -37,33 +37,33 @@ fn copies_refused<R: Abort + AllocGlobal>(rt: &R, source: &mut [u8], place: usiz
     let kept = Vec::from_slice(alloc, source).expect(rt, "refused");
     match bytes::to_ascii_string(alloc, source) {
         Err(CopyError::NotAscii(error)) => {
-            assert_same(rt, error.ascii_error().valid_up_to(), place);
+            assert_row!(rt; error.ascii_error().valid_up_to(), place);
         }
         _ => assert!(rt; false),
     }
     match vec::into_ascii_string(Vec::from_slice(alloc, source).expect(rt, "refused")) {
         Err(error) => {
-            assert_same(rt, error.ascii_error().valid_up_to(), place);
-            assert_same(rt, error.into_source().as_slice(), kept.as_slice());
+            assert_row!(rt; error.ascii_error().valid_up_to(), place);
+            assert_row!(rt; error.into_source().as_slice(), kept.as_slice());
         }
         Ok(_) => assert!(rt; false),
     }
     let mut reader = Input::new(kept.as_slice());
     let mut writer = Output::new(Vec::new(alloc));
     let answer = engine(alloc, Mode::Copy, &mut reader, &mut writer);
-    assert_same(rt, answer, Err(EngineFault::NotAscii(place)));
+    assert_row!(rt; answer, Err(EngineFault::NotAscii(place)));
     match bytes::as_mut_ascii_str(source) {
         Ok(_) => assert!(rt; false),
-        Err(error) => assert_same(rt, error.valid_up_to(), place),
+        Err(error) => assert_row!(rt; error.valid_up_to(), place),
     }
-    assert_same(rt, &*source, kept.as_slice());
+    assert_row!(rt; &*source, kept.as_slice());
 }
 
 #[test]
 fn in_bytes(rt: HostRuntime) {
     for length in LENGTHS {
         let mut source = vec![in rt.alloc(); b'a'; length].expect(&rt, "refused");
-        assert_same(&rt, position(bytes::as_ascii_str(&source)), None);
+        assert_row!(rt; position(bytes::as_ascii_str(&source)), None);
         for (byte, other) in [(128, 255), (255, 128)] {
             for place in 0..source.len() {
                 source[place] = byte;
@@ -107,12 +107,12 @@ fn in_text(rt: HostRuntime) {
                         .expect(&rt, "refused");
                 }
                 let wanted = Some(place);
-                assert_same(&rt, position(text::as_ascii_str(&source)), wanted);
-                assert_same(&rt, position(text::from_ascii(&source)), wanted);
+                assert_row!(rt; position(text::as_ascii_str(&source)), wanted);
+                assert_row!(rt; position(text::from_ascii(&source)), wanted);
                 let front = text::slice_ascii(&source, AsciiRange::To(place));
-                assert_same(&rt, position(front), None);
+                assert_row!(rt; position(front), None);
                 match string::into_ascii_string(source) {
-                    Err(error) => assert_same(&rt, error.ascii_error().valid_up_to(), place),
+                    Err(error) => assert_row!(rt; error.ascii_error().valid_up_to(), place),
                     Ok(_) => assert!(rt; false),
                 }
             }

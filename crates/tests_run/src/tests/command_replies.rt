@@ -1,10 +1,10 @@
 //! The replies of commands, and edits that stop.
 
-use super::assert_same;
 use super::engine::ran as ran_in;
 use ascii::{AsciiChar, AsciiRange, AsciiStr, text};
 use ascii_run::{Cmd, EngineFault, Mode, plain_run, run, runs_agree};
 use std::process::Abort;
+use testing::assert_row;
 
 /// The replies to the commands, each followed by `; `, and then the text at the end.
 fn ran<R: Abort + AllocGlobal>(rt: &R, start: &str, cmds: &[Cmd<'_>]) -> String {
@@ -30,7 +30,7 @@ fn view(source: &str) -> AsciiStr<'_> {
 
 #[test]
 fn no_command(rt: HostRuntime) {
-    assert_same(&rt, ran(&rt, "abc", &[]).as_str(), "abc");
+    assert_row!(rt; ran(&rt, "abc", &[]).as_str(), "abc");
 }
 
 /// What each command by position answers over `abc`.
@@ -86,7 +86,7 @@ fn edits_by_position(rt: HostRuntime) {
     for (i, n) in positions.iter().enumerate() {
         for (cmd, want) in by_position(*n).iter().zip(OF_ABC.iter()) {
             let shown = ran(&rt, "abc", &[*cmd]);
-            assert_same(&rt, shown.as_str(), want[i]);
+            assert_row!(rt; shown.as_str(), want[i]);
         }
     }
 }
@@ -108,7 +108,7 @@ fn edits_of_the_empty_text(rt: HostRuntime) {
     for (i, n) in positions.iter().enumerate() {
         for (cmd, want) in by_position(*n).iter().zip(OF_NOTHING.iter()) {
             let shown = ran(&rt, "", &[*cmd]);
-            assert_same(&rt, shown.as_str(), want[i]);
+            assert_row!(rt; shown.as_str(), want[i]);
         }
     }
 }
@@ -160,8 +160,8 @@ fn other_commands(rt: HostRuntime) {
         ),
     ];
     for (cmd, want, want_empty) in rows {
-        assert_same(&rt, ran(&rt, "aBc", &[cmd]).as_str(), want);
-        assert_same(&rt, ran(&rt, "", &[cmd]).as_str(), want_empty);
+        assert_row!(rt; ran(&rt, "aBc", &[cmd]).as_str(), want);
+        assert_row!(rt; ran(&rt, "", &[cmd]).as_str(), want_empty);
     }
 }
 
@@ -195,7 +195,7 @@ static COPIES: [(AsciiRange, &str); 21] = [
 #[test]
 fn copies(rt: HostRuntime) {
     for &(range, want) in &COPIES {
-        assert_same(&rt, ran(&rt, "abc", &[Cmd::Copy(range)]).as_str(), want);
+        assert_row!(rt; ran(&rt, "abc", &[Cmd::Copy(range)]).as_str(), want);
     }
 }
 
@@ -204,16 +204,16 @@ fn edits(rt: HostRuntime) {
     let alloc = rt.alloc();
     let stops = [Cmd::Pop, Cmd::Remove(2), Cmd::Set(9, AsciiChar::x)];
     let (answer, _) = ran_in(alloc, Mode::Edit(&stops), b"abc");
-    assert_same(&rt, answer, Err(EngineFault::Position(1)));
+    assert_row!(rt; answer, Err(EngineFault::Position(1)));
     let wants = [Cmd::Reserve(usize::MAX - 2), Cmd::Remove(2)];
     let (answer, _) = ran_in(alloc, Mode::Edit(&wants), b"ab");
-    assert_same(&rt, answer, Err(EngineFault::Memory));
+    assert_row!(rt; answer, Err(EngineFault::Memory));
     let goes_on = [Cmd::Push(AsciiChar::x), Cmd::Truncate(9), Cmd::Upper];
     let (answer, written) = ran_in(alloc, Mode::Edit(&goes_on), b"ab");
-    assert_same(&rt, answer, Ok(()));
-    assert_same(&rt, written.as_slice(), b"ABX".as_slice());
+    assert_row!(rt; answer, Ok(()));
+    assert_row!(rt; written.as_slice(), b"ABX".as_slice());
     let none: [Cmd<'_>; 0] = [];
     let (answer, written) = ran_in(alloc, Mode::Edit(&none), b"ab");
-    assert_same(&rt, answer, Ok(()));
-    assert_same(&rt, written.as_slice(), b"ab".as_slice());
+    assert_row!(rt; answer, Ok(()));
+    assert_row!(rt; written.as_slice(), b"ab".as_slice());
 }

@@ -1,11 +1,11 @@
 //! One byte a call, with each call failing in turn.
 
-use super::assert_same;
 use super::device_steps::{Giving, KINDS, Step, Taking};
 use ascii::iter::End;
 use ascii::{AsciiStr, text};
 use ascii_run::{Cmd, EngineFault, Input, Mode, Output, Sink, Source, engine};
 use std::process::Abort;
+use testing::assert_row;
 
 const INPUT: &[u8] = b"a\tb\n\nc\r";
 
@@ -56,17 +56,17 @@ fn compare<R: Abort + AllocGlobal>(
         steps: steps.1,
         bytes: Vec::new(alloc),
     });
-    assert_same(&rt, engine(alloc, mode, &mut reader, &mut writer), answer);
+    assert_row!(rt; engine(alloc, mode, &mut reader, &mut writer), answer);
     let faults = (reader.failures(), writer.failures());
     let is = |fault: EngineFault| u64::from(answer == Err(fault));
-    assert_same(&rt, faults, (is(EngineFault::Read), is(EngineFault::Write)));
+    assert_row!(rt; faults, (is(EngineFault::Read), is(EngineFault::Write)));
     assert!(rt; faults.0 < 2 && faults.1 < 2);
-    assert_same(&rt, engine(alloc, mode, &mut reader, &mut writer), Ok(()));
-    assert_same(&rt, (reader.failures(), writer.failures()), faults);
+    assert_row!(rt; engine(alloc, mode, &mut reader, &mut writer), Ok(()));
+    assert_row!(rt; (reader.failures(), writer.failures()), faults);
     let mut all = Vec::from_slice(alloc, output).expect(rt, "refused");
     let rest = written(rt, mode, rest);
     all.extend_from_slice(&rest).expect(rt, "refused");
-    assert_same(&rt, writer.into_inner().bytes, all);
+    assert_row!(rt; writer.into_inner().bytes, all);
 }
 
 /// The modes, and what each writes for the input.

@@ -1,11 +1,10 @@
 //! Lists of edits over both forms, against a table that was made with the Rust crate.
 
-use super::assert_same;
 use super::edit_table::RAN;
 use super::pseudo_random::Picks;
 use ascii_run::{Cmd, Reply, run_both};
 use std::alloc::{AllocError, Global};
-use testing::ascii;
+use testing::{ascii, assert_row};
 
 /// As many edits as the list has, from its number alone. Each position is right.
 fn edits(alloc: Global, number: usize) -> Result<Vec<Cmd<'static>>, AllocError> {
@@ -61,13 +60,13 @@ fn as_the_rust_crate(rt: HostRuntime) {
         shown
             .push_str(both.string.as_ascii_str().as_str())
             .expect(&rt, "refused");
-        assert_same(&rt, shown.as_str(), line);
+        assert_row!(rt; shown.as_str(), line);
         let mut shown = taken(alloc, &both.small_replies).expect(&rt, "refused");
         shown.push(':').expect(&rt, "refused");
         shown
             .push_str(both.small.as_ascii_str().as_str())
             .expect(&rt, "refused");
-        assert_same(&rt, shown.as_str(), line);
+        assert_row!(rt; shown.as_str(), line);
     }
-    assert_same(&rt, number, 200);
+    assert_row!(rt; number, 200);
 }

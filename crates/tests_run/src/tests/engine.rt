@@ -1,11 +1,11 @@
 //! The modes over memory and over devices that fail.
 
-use super::assert_same;
 use ascii::bytes;
 use ascii::iter::End;
 use ascii_run::{EngineFault, Input, Mode, Output, engine};
 use std::alloc::Global;
 use std::process::Abort;
+use testing::assert_row;
 
 /// What a mode answers for an input, and what it puts out.
 pub fn ran(alloc: Global, mode: Mode<'_>, input: &[u8]) -> (Result<(), EngineFault>, Vec<u8>) {
@@ -31,11 +31,11 @@ fn modes_over_memory(rt: HostRuntime) {
     ];
     for (mode, input, output) in rows {
         let (answer, written) = ran(alloc, mode, input);
-        assert_same(&rt, answer, Ok(()));
-        assert_same(&rt, written.as_slice(), output);
+        assert_row!(rt; answer, Ok(()));
+        assert_row!(rt; written.as_slice(), output);
         let (answer, written) = ran(alloc, mode, &[97, 98, 200, 201]);
-        assert_same(&rt, answer, Err(EngineFault::NotAscii(2)));
-        assert_same(&rt, written.len(), 0);
+        assert_row!(rt; answer, Err(EngineFault::NotAscii(2)));
+        assert_row!(rt; written.len(), 0);
     }
 }
 
@@ -65,15 +65,15 @@ fn json_of_every_code(rt: HostRuntime) {
     for code in 0..128u8 {
         let source = [code];
         let (answer, written) = ran(alloc, Mode::Json, &source);
-        assert_same(&rt, answer, Ok(()));
+        assert_row!(rt; answer, Ok(()));
         let wanted = json_text(&rt, code);
-        assert_same(&rt, written.as_slice(), wanted.as_bytes());
+        assert_row!(rt; written.as_slice(), wanted.as_bytes());
         let Ok(view) = bytes::as_ascii_str(&source) else {
             panic!(rt; "no text");
         };
         let value = view.to_json(alloc).expect(&rt, "refused");
         let printed = value.to_string(alloc).expect(&rt, "refused");
-        assert_same(&rt, written.as_slice(), printed.as_bytes());
+        assert_row!(rt; written.as_slice(), printed.as_bytes());
     }
 }
 
@@ -88,9 +88,9 @@ fn json_of_every_code_in_a_long_text(rt: HostRuntime) {
         let mut source = long.clone().expect(&rt, "refused");
         source.push(code).expect(&rt, "refused");
         let (answer, written) = ran(alloc, Mode::Json, &source);
-        assert_same(&rt, answer, Ok(()));
+        assert_row!(rt; answer, Ok(()));
         let wanted = json_text(&rt, code);
-        assert_same(&rt, written.len(), wanted.len() + 5_000);
-        assert_same(&rt, written.get(5_001..), wanted.as_bytes().get(1..));
+        assert_row!(rt; written.len(), wanted.len() + 5_000);
+        assert_row!(rt; written.get(5_001..), wanted.as_bytes().get(1..));
     }
 }

@@ -1,10 +1,9 @@
 //! Runs over both forms whose replies and texts are known from outside.
 
-use super::assert_same;
 use ascii::{AsciiChar, AsciiRange, AsciiString};
 use ascii_run::{AsciiBuf, Cmd, SmallAsciiString, run};
 use std::alloc::{AllocError, Global};
-use testing::ascii;
+use testing::{ascii, assert_row};
 
 /// The replies to the commands, each followed by `; `, and then the text at the end.
 fn ran<B: AsciiBuf>(alloc: Global, buf: &mut B, cmds: &[Cmd<'_>]) -> Result<String, AllocError> {
@@ -139,19 +138,11 @@ fn edited<B: AsciiBuf>(alloc: Global, buf: &mut B) -> Result<String, AllocError>
 fn each_edit_by_the_trait(rt: HostRuntime) {
     let want = "ADEFBCXdaZfbcxy.";
     let mut string = AsciiString::new(rt.alloc());
-    assert_same(
-        &rt,
-        edited(rt.alloc(), &mut string)
+    assert_row!(rt; edited(rt.alloc(), &mut string)
             .expect(&rt, "refused")
-            .as_str(),
-        want,
-    );
+            .as_str(), want);
     let mut small = SmallAsciiString::new(rt.alloc());
-    assert_same(
-        &rt,
-        edited(rt.alloc(), &mut small)
+    assert_row!(rt; edited(rt.alloc(), &mut small)
             .expect(&rt, "refused")
-            .as_str(),
-        want,
-    );
+            .as_str(), want);
 }

@@ -1,12 +1,12 @@
 //! Runs and modes on long inputs: nothing gives up past a length.
 
-use super::assert_same;
 use super::engine::ran;
 use ascii::iter::End;
 use ascii::{AsciiChar, AsciiRange, AsciiString};
 use ascii_run::{Cmd, EngineFault, Input, Mode, Output, Reply, engine, run};
 use std::io;
 use std::process::Abort;
+use testing::assert_row;
 
 const LENGTHS: [usize; 8] = [0, 1, 33, 5_000, 65_535, 65_536, 65_537, 1_000_000];
 
@@ -48,7 +48,7 @@ fn each_mode(rt: HostRuntime) {
         ];
         for (mode, front, back) in rows {
             let (outcome, written) = ran(alloc, mode, &input);
-            assert_same(&rt, outcome, Ok(()));
+            assert_row!(rt; outcome, Ok(()));
             assert!(rt; written == bytes_of(&rt, front, length, back), "{length}");
         }
     }
@@ -102,7 +102,7 @@ fn each_flush(rt: HostRuntime) {
         let mut reader = Input::new(input.as_slice());
         let mut writer = Output::new(Unflushed);
         let answer = engine(rt.alloc(), Mode::Copy, &mut reader, &mut writer);
-        assert_same(&rt, answer, Err(EngineFault::Write));
+        assert_row!(rt; answer, Err(EngineFault::Write));
     }
 }
 
@@ -116,7 +116,7 @@ fn many_commands(rt: HostRuntime) {
     }
     let replies = run(alloc, &mut buf, &cmds).expect(&rt, "refused");
     assert!(rt; replies.iter().all(|reply| matches!(reply, Reply::Done)));
-    assert_same(&rt, replies.len(), 5_000);
+    assert_row!(rt; replies.len(), 5_000);
     let long = buf.clone().expect(&rt, "refused");
     let insert = [
         Cmd::InsertStr(1, long.as_ascii_str()),
@@ -127,11 +127,7 @@ fn many_commands(rt: HostRuntime) {
         [Reply::Done, Reply::Text(copy)] => assert!(rt; *copy == buf),
         _ => assert!(rt; false),
     }
-    assert_same(
-        &rt,
-        buf.as_ascii_str().as_bytes(),
-        bytes_of(&rt, "", 10_000, "").as_slice(),
-    );
+    assert_row!(rt; buf.as_ascii_str().as_bytes(), bytes_of(&rt, "", 10_000, "").as_slice());
 }
 
 #[test]
@@ -142,8 +138,8 @@ fn room_is_made_and_given_back(rt: HostRuntime) {
     assert!(rt; 10_001 <= buf.capacity());
     let replies = run(rt.alloc(), &mut buf, &[Cmd::Shrink]).expect(&rt, "refused");
     assert!(rt; matches!(replies.as_slice(), [Reply::Done]));
-    assert_same(&rt, buf.capacity(), 1);
-    assert_same(&rt, buf.as_ascii_str().as_str(), "x");
+    assert_row!(rt; buf.capacity(), 1);
+    assert_row!(rt; buf.as_ascii_str().as_str(), "x");
 }
 
 /// `json` of a long text of `a` with a character at a position, and its form there.

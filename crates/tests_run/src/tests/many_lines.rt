@@ -1,12 +1,12 @@
 //! Inputs of 300,000 bytes in many lines, and edits of many commands: no mode gives up past a number of either. What a
 //! mode has to write is computed line by line.
 
-use super::assert_same;
 use super::engine::ran;
 use ascii::AsciiChar;
 use ascii::iter::End;
 use ascii_run::{Cmd, EngineFault, Mode};
 use std::process::Abort;
+use testing::assert_row;
 
 /// How many lines of ten bytes the input has.
 const LINES: usize = 30_000;
@@ -34,7 +34,7 @@ fn by_lines<R: Abort + AllocGlobal>(rt: &R, pieces: Pieces, reversed: bool) -> S
 fn writes<R: Abort + AllocGlobal>(rt: &R, mode: Mode<'_>, want: &str) {
     let input = by_lines(rt, INPUT, false);
     let (answer, written) = ran(rt.alloc(), mode, input.as_bytes());
-    assert_same(rt, answer, Ok(()));
+    assert_row!(rt; answer, Ok(()));
     assert!(rt; written.as_slice() == want.as_bytes());
 }
 
@@ -96,7 +96,7 @@ fn edits_of_many_commands(rt: HostRuntime) {
     for count in [1_000, 100_000] {
         let cmds = pushes(&rt, count);
         let (answer, written) = ran(rt.alloc(), Mode::Edit(&cmds), b"");
-        assert_same(&rt, answer, Ok(()));
+        assert_row!(rt; answer, Ok(()));
         let want = vec![in rt.alloc(); b'b'; count].expect(&rt, "refused");
         assert!(rt; written == want, "{count}");
     }
@@ -107,7 +107,7 @@ fn faults_after_many_commands(rt: HostRuntime) {
     for count in [1_000, 100_000] {
         let cmds = pushes_and_remove(&rt, count);
         let (answer, written) = ran(rt.alloc(), Mode::Edit(&cmds), b"");
-        assert_same(&rt, answer, Err(EngineFault::Position(count)));
-        assert_same(&rt, written.len(), 0);
+        assert_row!(rt; answer, Err(EngineFault::Position(count)));
+        assert_row!(rt; written.len(), 0);
     }
 }

@@ -1,10 +1,10 @@
 //! Outputs of about the size of the output buffer, and writers that fail between two of its writes.
 
-use super::assert_same;
 use ascii_run::{EngineFault, Input, Mode, Output, engine};
 use std::alloc::Global;
 use std::io;
 use std::process::Abort;
+use testing::assert_row;
 
 /// A writer that keeps what it takes, counts its calls, and fails at one of them and at all later ones.
 #[derive(Drop)]
@@ -62,8 +62,8 @@ fn outputs_about_the_size_of_the_buffer(rt: HostRuntime) {
             let mut writer = Output::new(Counting::new(rt.alloc(), usize::MAX));
             let answer = engine(rt.alloc(), mode, &mut reader, &mut writer);
             let counting = writer.into_inner();
-            assert_same(&rt, answer, Ok(()));
-            assert_same(&rt, counting.calls, calls);
+            assert_row!(rt; answer, Ok(()));
+            assert_row!(rt; counting.calls, calls);
             assert!(rt; counting.taken == output, "{count}");
         }
     }
@@ -78,8 +78,8 @@ fn writers_that_fail_after_a_full_buffer(rt: HostRuntime) {
         let mut writer = Output::new(Counting::new(rt.alloc(), fails_at));
         let answer = engine(rt.alloc(), Mode::Tac, &mut reader, &mut writer);
         let counting = writer.into_inner();
-        assert_same(&rt, answer, Err(EngineFault::Write));
-        assert_same(&rt, counting.calls, fails_at);
-        assert_same(&rt, counting.taken.len(), taken);
+        assert_row!(rt; answer, Err(EngineFault::Write));
+        assert_row!(rt; counting.calls, fails_at);
+        assert_row!(rt; counting.taken.len(), taken);
     }
 }

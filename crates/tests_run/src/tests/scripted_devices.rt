@@ -1,10 +1,9 @@
 //! The engine over devices that follow a script.
 
-use super::assert_same;
 use ascii_run::{DeviceFault, EngineFault, Input, Mode, Output, Sink, Source, engine};
-use std::alloc::Global;
 use std::io::{self, ErrorKind};
 use std::process::Abort;
+use testing::assert_row;
 
 /// What a scripted device does at one call.
 #[derive(Clone, Copy)]
@@ -87,22 +86,10 @@ fn compare<R: Abort + AllocGlobal>(
         taken: Vec::new(alloc),
         flush,
     });
-    assert_same(
-        &rt,
-        engine(alloc, Mode::Copy, &mut reader, &mut writer),
-        answer,
-    );
-    assert_same(
-        &rt,
-        reader.failures(),
-        u64::from(answer == Err(EngineFault::Read)),
-    );
-    assert_same(
-        &rt,
-        writer.failures(),
-        u64::from(answer == Err(EngineFault::Write)),
-    );
-    assert_same(&rt, writer.into_inner().taken.as_slice(), written);
+    assert_row!(rt; engine(alloc, Mode::Copy, &mut reader, &mut writer), answer);
+    assert_row!(rt; reader.failures(), u64::from(answer == Err(EngineFault::Read)));
+    assert_row!(rt; writer.failures(), u64::from(answer == Err(EngineFault::Write)));
+    assert_row!(rt; writer.into_inner().taken.as_slice(), written);
 }
 
 const WHOLE: &[Turn] = &[Turn::Gives(b"abcdef")];
@@ -168,20 +155,20 @@ fn each_kind_of_error(rt: HostRuntime) {
 fn device_calls(rt: HostRuntime) {
     let mut source = Input::new(b"abcde".as_slice());
     let mut buf = [0u8; 3];
-    assert_same(&rt, source.failures(), 0);
-    assert_same(&rt, source.read(&mut buf), Ok(3));
-    assert_same(&rt, buf.as_slice(), b"abc".as_slice());
-    assert_same(&rt, source.into_inner(), b"de".as_slice());
+    assert_row!(rt; source.failures(), 0);
+    assert_row!(rt; source.read(&mut buf), Ok(3));
+    assert_row!(rt; buf.as_slice(), b"abc".as_slice());
+    assert_row!(rt; source.into_inner(), b"de".as_slice());
 
     let mut sink = Output::new(Taking {
         turns: &[Turn::Takes(2), Turn::Fails(ErrorKind::Other)],
         taken: Vec::new(rt.alloc()),
         flush: None,
     });
-    assert_same(&rt, sink.write(b"xyz"), Ok(2));
-    assert_same(&rt, sink.failures(), 0);
-    assert_same(&rt, sink.write(b"z"), Err(DeviceFault));
-    assert_same(&rt, sink.failures(), 1);
-    assert_same(&rt, sink.flush(), Ok(()));
-    assert_same(&rt, sink.into_inner().taken.as_slice(), b"xy".as_slice());
+    assert_row!(rt; sink.write(b"xyz"), Ok(2));
+    assert_row!(rt; sink.failures(), 0);
+    assert_row!(rt; sink.write(b"z"), Err(DeviceFault));
+    assert_row!(rt; sink.failures(), 1);
+    assert_row!(rt; sink.flush(), Ok(()));
+    assert_row!(rt; sink.into_inner().taken.as_slice(), b"xy".as_slice());
 }

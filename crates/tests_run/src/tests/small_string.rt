@@ -1,12 +1,11 @@
 //! Each call of the form that keeps short texts inline.
 
-use super::assert_same;
 use ascii_run::{AsciiBuf, SmallAsciiString};
 use std::cmp::Ordering;
 use std::collections::HashSet;
 use std::fmt::Write;
 use std::process::Abort;
-use testing::ascii;
+use testing::{ascii, assert_row};
 
 /// The inline form of a text.
 fn small<R: Abort + AllocGlobal>(rt: &R, source: &str) -> SmallAsciiString {
@@ -25,13 +24,9 @@ fn place_of(string: &SmallAsciiString) -> (bool, usize, usize) {
 
 #[test]
 fn where_it_stands(rt: HostRuntime) {
-    assert_same(
-        &rt,
-        place_of(&SmallAsciiString::new(rt.alloc())),
-        (true, 0, 24),
-    );
+    assert_row!(rt; place_of(&SmallAsciiString::new(rt.alloc())), (true, 0, 24));
     let label = small(&rt, "content-security-policy-");
-    assert_same(&rt, place_of(&label), (true, 24, 24));
+    assert_row!(rt; place_of(&label), (true, 24, 24));
     assert!(rt; !label.is_empty());
 }
 
@@ -43,7 +38,7 @@ fn in_an_allocation(rt: HostRuntime) {
     long.truncate(7);
     long.shrink_to_fit().expect(&rt, "refused");
     assert!(rt; !long.is_inline());
-    assert_same(&rt, shown(&long), "content");
+    assert_row!(rt; shown(&long), "content");
 }
 
 #[test]
@@ -51,9 +46,9 @@ fn conversions(rt: HostRuntime) {
     for source in ["", "abc", "abcdefghijklmnopqrstuvwxyz"] {
         let string = small(&rt, source);
         let copy = string.clone().expect(&rt, "refused");
-        assert_same(&rt, shown(&copy), source);
+        assert_row!(rt; shown(&copy), source);
         let owned = string.into_ascii_string().expect(&rt, "refused");
-        assert_same(&rt, owned.as_ascii_str().as_str(), source);
+        assert_row!(rt; owned.as_ascii_str().as_str(), source);
     }
 }
 
@@ -72,7 +67,7 @@ fn compared<R: Abort + AllocGlobal>(rt: &R, first: &str, second: &str) -> (Order
 fn comparisons(rt: HostRuntime) {
     for (i, first) in RISING.iter().enumerate() {
         for (j, second) in RISING.iter().enumerate() {
-            assert_same(&rt, compared(&rt, *first, *second), (i.cmp(&j), i == j));
+            assert_row!(rt; compared(&rt, *first, *second), (i.cmp(&j), i == j));
         }
     }
 }
@@ -83,7 +78,7 @@ fn hashed(rt: HostRuntime) {
     for text in &RISING {
         strings.insert(small(&rt, *text)).expect(&rt, "refused");
     }
-    assert_same(&rt, strings.len(), 7);
+    assert_row!(rt; strings.len(), 7);
     let mut spilled = small(&rt, RISING[5]);
     spilled.truncate(2);
     assert!(rt; strings.contains(&spilled));
@@ -93,21 +88,13 @@ fn hashed(rt: HostRuntime) {
 #[test]
 fn printed(rt: HostRuntime) {
     let string = small(&rt, "abc");
-    assert_same(
-        &rt,
-        format!(in rt.alloc(); "{string:>5}")
+    assert_row!(rt; format!(in rt.alloc(); "{string:>5}")
             .expect(&rt, "refused")
-            .as_str(),
-        "  abc",
-    );
+            .as_str(), "  abc");
     let string = small(&rt, "\0\t'\\\x7f");
-    assert_same(
-        &rt,
-        format!(in rt.alloc(); "{string:?}")
+    assert_row!(rt; format!(in rt.alloc(); "{string:?}")
             .expect(&rt, "refused")
-            .as_str(),
-        "\"\\0\\t'\\\\\\u{7f}\"",
-    );
+            .as_str(), "\"\\0\\t'\\\\\\u{7f}\"");
 }
 
 #[test]
@@ -116,8 +103,8 @@ fn written(rt: HostRuntime) {
     assert!(rt; string.write_str("ab").is_ok());
     assert!(rt; string.write_str("cé").is_err());
     assert!(rt; string.write_char('λ').is_err());
-    assert_same(&rt, shown(&string), "ab");
+    assert_row!(rt; shown(&string), "ab");
     assert!(rt; string.write_char('-').is_ok());
     write!(string, "{} of {:>3}", 1, 20).expect(&rt, "refused");
-    assert_same(&rt, shown(&string), "ab-1 of  20");
+    assert_row!(rt; shown(&string), "ab-1 of  20");
 }

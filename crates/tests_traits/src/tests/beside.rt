@@ -1,6 +1,5 @@
 //! The library together with std and the kit's crates, one combination a test. docs/BESIDE.md quotes them.
 
-use super::assert_same;
 use anyhow::Context;
 use ascii::{AsAsciiStrError, AsciiChar, AsciiStr, AsciiString, bytes, string};
 use bstr::ByteSlice;
@@ -9,6 +8,7 @@ use itertools::Itertools;
 use std::alloc::{AllocError, Global};
 use std::collections::{BTreeMap, HashMap, HashSet};
 use std::io::{BufRead, BufReader};
+use testing::{assert_debug, assert_row};
 use thiserror::Error;
 
 const NAMES: &str = "foo;bar;baz";
@@ -50,8 +50,8 @@ fn header_length(source: &[u8]) -> anyhow::Result<usize> {
 
 #[test]
 fn anyhow_takes_the_errors(rt: HostRuntime) {
-    assert_same(&rt, header_length(b"Host: a").ok(), Some(7));
-    assert_same(&rt, header_length(b"H\xf6st").is_err(), true);
+    assert_row!(rt; header_length(b"Host: a").ok(), Some(7));
+    assert_row!(rt; header_length(b"H\xf6st").is_err(), true);
 }
 
 #[test]
@@ -68,7 +68,7 @@ fn hash_map_with_owned_keys(rt: HostRuntime) {
         .insert(name, 3)
         .map_err(AllocError::from)
         .expect(&rt, "no memory");
-    assert_same(&rt, sizes.get(&key).copied(), Some(3));
+    assert_row!(rt; sizes.get(&key).copied(), Some(3));
 }
 
 #[test]
@@ -78,7 +78,7 @@ fn hash_map_with_borrowed_keys(rt: HostRuntime) {
         .insert(AsciiStr::literal("foo"), 3)
         .map_err(AllocError::from)
         .expect(&rt, "no memory");
-    assert_same(&rt, sizes.get(&AsciiStr::literal("foo")).copied(), Some(3));
+    assert_row!(rt; sizes.get(&AsciiStr::literal("foo")).copied(), Some(3));
 }
 
 #[test]
@@ -87,12 +87,8 @@ fn hash_set_that_ignores_case(rt: HostRuntime) {
     let is_new = seen
         .insert(AsciiStr::literal("Host").folded())
         .expect(&rt, "no memory");
-    assert_same(&rt, is_new, true);
-    assert_same(
-        &rt,
-        seen.contains(&AsciiStr::literal("HOST").folded()),
-        true,
-    );
+    assert_row!(rt; is_new, true);
+    assert_row!(rt; seen.contains(&AsciiStr::literal("HOST").folded()), true);
 }
 
 #[test]
@@ -106,7 +102,7 @@ fn btree_map_in_the_order_of_the_bytes(rt: HostRuntime) {
         .insert(AsciiStr::literal("B"), 1)
         .map_err(AllocError::from)
         .expect(&rt, "no memory");
-    assert_same(&rt, ranks.get(&AsciiStr::literal("b")).copied(), Some(2));
+    assert_row!(rt; ranks.get(&AsciiStr::literal("b")).copied(), Some(2));
 }
 
 #[test]
@@ -116,21 +112,21 @@ fn index_map_in_the_order_of_insertion(rt: HostRuntime) {
         .insert(AsciiStr::literal("foo"), 3)
         .map_err(AllocError::from)
         .expect(&rt, "no memory");
-    assert_same(&rt, sizes.get(&AsciiStr::literal("foo")).copied(), Some(3));
+    assert_row!(rt; sizes.get(&AsciiStr::literal("foo")).copied(), Some(3));
 }
 
 #[test]
 fn itertools_joins_pieces(rt: HostRuntime) {
     let mut pieces = AsciiStr::literal(NAMES).split(AsciiChar::Semicolon);
     let joined = pieces.join(rt.alloc(), ", ").expect(&rt, "no memory");
-    assert_same(&rt, joined.as_str(), "foo, bar, baz");
+    assert_row!(rt; joined.as_str(), "foo, bar, baz");
 }
 
 #[test]
 fn itertools_sorts_pieces(rt: HostRuntime) {
     let pieces = AsciiStr::literal(NAMES).split(AsciiChar::Semicolon);
     let mut sorted = pieces.sorted(rt.alloc()).expect(&rt, "no memory");
-    assert_same(&rt, sorted.next(), Some(AsciiStr::literal("bar")));
+    assert_row!(rt; sorted.next(), Some(AsciiStr::literal("bar")));
 }
 
 #[test]
@@ -140,34 +136,30 @@ fn adapters_of_iterators(rt: HostRuntime) {
         .enumerate()
         .filter(|pair| pair.1.len() > pair.0)
         .count();
-    assert_same(&rt, count, 3);
+    assert_row!(rt; count, 3);
 }
 
 #[test]
 fn bstr_over_the_bytes(rt: HostRuntime) {
     let view = AsciiStr::literal(NAMES);
-    assert_same(&rt, view.as_bytes().find(b"bar"), Some(4));
+    assert_row!(rt; view.as_bytes().find(b"bar"), Some(4));
 }
 
 #[test]
 fn memchr_over_the_bytes(rt: HostRuntime) {
     let view = AsciiStr::literal(NAMES);
-    assert_same(&rt, memchr::memmem::find(view.as_bytes(), b"baz"), Some(8));
+    assert_row!(rt; memchr::memmem::find(view.as_bytes(), b"baz"), Some(8));
 }
 
 #[test]
 fn str_calls_of_std(rt: HostRuntime) {
     let view = AsciiStr::literal(NAMES);
-    assert_same(&rt, view.as_str().split_once(";"), Some(("foo", "bar;baz")));
+    assert_row!(rt; view.as_str().split_once(";"), Some(("foo", "bar;baz")));
 }
 
 #[test]
 fn str_parse_of_std(rt: HostRuntime) {
-    assert_same(
-        &rt,
-        AsciiStr::literal("-80").as_str().parse::<i16>().ok(),
-        Some(-80),
-    );
+    assert_row!(rt; AsciiStr::literal("-80").as_str().parse::<i16>().ok(), Some(-80));
 }
 
 #[test]
@@ -177,7 +169,7 @@ fn format_options(rt: HostRuntime) {
         &rt,
         "no memory",
     );
-    assert_same(&rt, line.as_str(), "[  foobar] [foobar  ] [foo]");
+    assert_row!(rt; line.as_str(), "[  foobar] [foobar  ] [foo]");
 }
 
 /// A key with a mark.
@@ -193,20 +185,15 @@ fn derives_of_std(rt: HostRuntime) {
         key: AsciiStr::literal("foo"),
         mark: AsciiChar::Asterisk,
     };
-    assert_same(&rt, key > MarkedKey::default(), true);
-    super::assert_debug(
-        &rt,
-        rt.alloc(),
-        &key,
-        "MarkedKey { key: \"foo\", mark: '*' }",
-    );
+    assert_row!(rt; key > MarkedKey::default(), true);
+    assert_debug!(rt; key, "MarkedKey { key: \"foo\", mark: '*' }");
 }
 
 #[test]
 fn idna_gives_a_string(rt: HostRuntime) {
     let host = idna::domain_to_ascii(rt.alloc(), "bücher.example").ok();
     let host = host.and_then(|host| string::into_ascii_string(host).ok());
-    assert_same(&rt, host.as_ref().map(|host| host.len()), Some(21));
+    assert_row!(rt; host.as_ref().map(|host| host.len()), Some(21));
 }
 
 #[test]
@@ -218,5 +205,5 @@ fn lines_of_a_reader_of_std(rt: HostRuntime) {
         let line = line.expect(&rt, "read failed");
         length = length.wrapping_add(string::into_ascii_string(line).map_or(0, |line| line.len()));
     }
-    assert_same(&rt, length, 3);
+    assert_row!(rt; length, 3);
 }

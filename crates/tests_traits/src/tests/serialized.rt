@@ -1,11 +1,10 @@
 //! Characters, views and strings in structs that derive the traits of `serde`, through JSON and
 //! TOML, both ways.
 
-use super::assert_same;
 use ascii::{AsciiChar, AsciiStr, AsciiString};
 use serde::{Deserialize, Serialize};
 use std::alloc::{AllocError, Global};
-use testing::ascii;
+use testing::{ascii, assert_row};
 
 /// A host of a settings file.
 #[derive(Debug, Drop, PartialEq, Serialize, Deserialize)]
@@ -43,9 +42,9 @@ fn a_host_through_json(rt: HostRuntime) {
     let alloc = rt.alloc();
     let host = sample_host(alloc).expect(&rt, "no memory");
     let written = serde_json::to_string(alloc, &host).expect(&rt, "refused");
-    assert_same(&rt, written.as_str(), HOST_JSON);
+    assert_row!(rt; written.as_str(), HOST_JSON);
     let read: Result<Host, serde_json::Error> = serde_json::from_str(alloc, HOST_JSON);
-    assert_same(&rt, read.ok(), Some(host));
+    assert_row!(rt; read.ok(), Some(host));
 }
 
 #[test]
@@ -53,9 +52,9 @@ fn a_host_through_toml(rt: HostRuntime) {
     let alloc = rt.alloc();
     let host = sample_host(alloc).expect(&rt, "no memory");
     let written = toml::to_string(alloc, &host).expect(&rt, "refused");
-    assert_same(&rt, written.as_str(), HOST_TOML);
+    assert_row!(rt; written.as_str(), HOST_TOML);
     let read = toml::from_str::<Host>(alloc, HOST_TOML);
-    assert_same(&rt, read.ok(), Some(host));
+    assert_row!(rt; read.ok(), Some(host));
 }
 
 #[test]
@@ -67,9 +66,9 @@ fn a_request_borrows_from_json(rt: HostRuntime) {
     };
     let source = "{\"method\":\"GET\",\"path\":\"/\"}";
     let written = serde_json::to_string(alloc, &request).expect(&rt, "refused");
-    assert_same(&rt, written.as_str(), source);
+    assert_row!(rt; written.as_str(), source);
     let read: Result<Request<'_>, serde_json::Error> = serde_json::from_str(alloc, source);
-    assert_same(&rt, read.ok(), Some(request));
+    assert_row!(rt; read.ok(), Some(request));
 }
 
 /// Fails the test if the JSON text is read as the type, or if the output of the error does not begin

@@ -1,7 +1,6 @@
 //! The traits of std for views and strings, each through a function that is generic over the trait,
 //! and what the errors print.
 
-use super::{assert_debug, assert_same};
 use anyhow::Context;
 use ascii::json::JsonError;
 use ascii::{
@@ -16,7 +15,7 @@ use std::fmt::Debug;
 use std::io::AsBytes;
 use std::path::AsPath;
 use std::process::Abort;
-use testing::ascii;
+use testing::{ascii, assert_debug, assert_row};
 
 fn str_len<T: AsStr>(text: &T) -> usize {
     text.as_str().len()
@@ -40,13 +39,13 @@ fn text_bytes_and_path_have_the_length(rt: HostRuntime) {
     for (source, want) in [("", 0), ("a/b", 3)] {
         let view = ascii(source);
         let string = view.to_ascii_string(alloc).expect(&rt, "no memory");
-        assert_same(&rt, str_len(&view), want);
-        assert_same(&rt, slice_len(&view), want);
-        assert_same(&rt, byte_len(&view), want);
-        assert_same(&rt, path_len(&view), want);
-        assert_same(&rt, str_len(&string), want);
-        assert_same(&rt, slice_len(&string), want);
-        assert_same(&rt, byte_len(&string), want);
+        assert_row!(rt; str_len(&view), want);
+        assert_row!(rt; slice_len(&view), want);
+        assert_row!(rt; byte_len(&view), want);
+        assert_row!(rt; path_len(&view), want);
+        assert_row!(rt; str_len(&string), want);
+        assert_row!(rt; slice_len(&string), want);
+        assert_row!(rt; byte_len(&string), want);
     }
 }
 
@@ -70,12 +69,12 @@ where
 fn sources_convert_if_they_are_ascii(rt: HostRuntime) {
     let alloc = rt.alloc();
     for (source, want) in [("", Some(0)), ("abc", Some(3)), ("abč", None)] {
-        assert_same(&rt, checked_len(source), want);
-        assert_same(&rt, checked_len(source.as_bytes()), want);
+        assert_row!(rt; checked_len(source), want);
+        assert_row!(rt; checked_len(source.as_bytes()), want);
         let string = String::from_str(alloc, source).expect(&rt, "no memory");
-        assert_same(&rt, owned_len(string), want);
+        assert_row!(rt; owned_len(string), want);
         let vector = Vec::from_slice(alloc, source.as_bytes()).expect(&rt, "no memory");
-        assert_same(&rt, owned_len(vector), want);
+        assert_row!(rt; owned_len(vector), want);
     }
 }
 
@@ -165,11 +164,11 @@ fn errors_are_ordered_by_position(rt: HostRuntime) {
     let alloc = rt.alloc();
     let (first, second) = (error_of(b"\xc4"), error_of(b"ab\xc4"));
     assert!(rt; first < second);
-    assert_same(&rt, first.cmp(&second), 0.cmp(&2));
+    assert_row!(rt; first.cmp(&second), 0.cmp(&2));
     let mut counts: HashMap<Option<AsAsciiStrError>, u32> = HashMap::new(alloc);
     assert!(rt; counts.insert(first, 1).is_ok());
-    assert_same(&rt, counts.contains_key(&error_of(b"\xff")), true);
-    assert_same(&rt, counts.contains_key(&second), false);
+    assert_row!(rt; counts.contains_key(&error_of(b"\xff")), true);
+    assert_row!(rt; counts.contains_key(&second), false);
 }
 
 /// Fails the test if two values of a kind of text are not compared and printed as the views are.
@@ -187,10 +186,9 @@ fn compares<T: Ord + Debug + Drop>(
 
 /// Fails the test if `{:?}` prints another text of a value than of a view.
 fn shows_as<T: Debug>(rt: &impl Abort, alloc: Global, value: &T, view: AsciiStr<'_>) {
-    match format!(in alloc; "{view:?}") {
-        Ok(want) => assert_debug(rt, alloc, value, want.as_str()),
-        Err(_) => panic!(rt; "no memory"),
-    }
+    let got = format!(in alloc; "{value:?}").expect(rt, "no memory");
+    let want = format!(in alloc; "{view:?}").expect(rt, "no memory");
+    assert_row!(rt; got.as_str(), want.as_str());
 }
 
 static TEXTS: [&str; 4] = ["", "a\"b", "ab", "b"];
@@ -243,9 +241,9 @@ fn cows_are_keys_borrowed_or_owned(rt: HostRuntime) {
         .expect(&rt, "no memory");
     let mut hashed: HashMap<CowAsciiStr<'_>, u32> = HashMap::new(alloc);
     assert!(rt; hashed.insert(owned.into(), 1).is_ok());
-    assert_same(&rt, hashed.contains_key(&ascii("Host").into()), true);
-    assert_same(&rt, hashed.contains_key(&ascii("host").into()), false);
+    assert_row!(rt; hashed.contains_key(&ascii("Host").into()), true);
+    assert_row!(rt; hashed.contains_key(&ascii("host").into()), false);
     let mut sorted: BTreeMap<CowAsciiStr<'_>, u32> = BTreeMap::new(alloc);
     assert!(rt; sorted.insert(ascii("Host").into(), 1).is_ok());
-    assert_same(&rt, sorted.contains_key(&ascii("Host").into()), true);
+    assert_row!(rt; sorted.contains_key(&ascii("Host").into()), true);
 }
