@@ -1,5 +1,4 @@
-//! Bytes as chunks, from either end, against lists written out by hand; and strings of which some
-//! characters are kept, against those of std.
+//! Bytes as chunks, from either end, against lists written out by hand.
 
 use ascii::{AsciiChar, bytes};
 use testing::{ascii, assert_debug, assert_row};
@@ -59,20 +58,5 @@ fn chunks_come_from_the_end(rt: HostRuntime) {
             assert_debug!(rt; chunks.next_back(), text);
         }
         assert_debug!(rt; chunks.next_back(), "None");
-    }
-}
-
-static TEXTS: [&str; 6] = ["", "-", "abc", "a-b--c", "--a", "a--"];
-
-#[test]
-fn kept_characters_are_those_of_a_string(rt: HostRuntime) {
-    for &source in &TEXTS {
-        let mut got = ascii(source)
-            .to_ascii_string(rt.alloc())
-            .expect(&rt, "no memory");
-        got.retain(|ch| ch != AsciiChar::Minus);
-        let mut want = String::from_str(rt.alloc(), source).expect(&rt, "no memory");
-        want.retain(|ch| ch != '-');
-        assert_row!(rt; got.as_ascii_str().as_str(), want.as_str());
     }
 }
