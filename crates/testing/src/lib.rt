@@ -105,6 +105,3 @@ impl<B: Allocator> fmt::Debug for FailNth<B> {
             .finish()
     }
 }
-
-#[cfg(test)]
-mod tests;

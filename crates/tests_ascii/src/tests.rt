@@ -3,6 +3,7 @@
 //! are taken up again, and items that tell little of how many they are. `bin/examples` writes `of_ascii.rt`, the examples in
 //! the documentation of the calls.
 
+mod beside;
 mod both_ends;
 mod chunks;
 mod clones;
@@ -16,6 +17,7 @@ mod remainders;
 mod replace;
 mod retain;
 mod searches;
+mod serialized;
 mod size_hints;
 mod small_text;
 mod small_texts;
@@ -23,6 +25,7 @@ mod spans;
 mod split_n;
 mod split_off;
 mod strings;
+mod traits;
 mod trims;
 mod upstream_vectors;
 mod upstream_walks;

@@ -1,13 +1,34 @@
-//! Each allocation of a call fails in turn, and what the call then returns and leaves is compared; and if none
-//! fails, no call gives up past a length.
+//! Each allocation of a call fails in turn, and what the call then returns and leaves is compared. If none fails, no
+//! call gives up past a length: `enough_memory` and the modules `long_..` have inputs that nobody would call short, and
+//! what a call has to return is counted or written out by a plain loop.
 
 mod asks_no_memory;
 mod copies_leave_the_source;
 mod each_allocation;
 mod each_free_block;
 mod enough_memory;
+mod fail_nth;
 mod json_values;
+mod long_callers;
+mod long_lines;
+mod long_recipes;
+mod long_searches;
+mod long_strings;
 mod returns_the_value;
 mod runs_and_modes;
 mod small_string_memory;
 mod string_edits;
+
+use ascii::AsciiString;
+use std::process::Abort;
+use testing::ascii;
+
+/// The text of `piece`, `times` times.
+fn repeated<R: Abort + AllocGlobal>(rt: &R, piece: &str, times: usize) -> AsciiString {
+    let piece = ascii(piece);
+    let mut text = AsciiString::new(rt.alloc());
+    for _ in 0..times {
+        text.push_str(piece).expect(rt, "no memory");
+    }
+    text
+}

@@ -1,7 +1,7 @@
 //! One allocation fails, and none before or after it.
 
-use crate::FailNth;
 use ascii::AsciiChar;
+use testing::FailNth;
 
 #[test]
 fn refuses_one(rt: HostRuntime) {

@@ -1,0 +1,7 @@
+//! The callers of `tests_callers`, a file for each of its modules.
+
+mod both_types;
+mod cuts;
+mod in_place;
+mod iterators;
+mod spans;
