@@ -1,4 +1,4 @@
-"""Tests of the parser of sources, over small texts: `python3 bin/lib/test_sources.py`."""
+"""Tests of the parser of sources, over small texts: `python3 tools/reader/test_sources.py`."""
 import sys
 import tempfile
 import unittest

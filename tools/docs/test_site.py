@@ -1,4 +1,4 @@
-"""Tests of a site that bin/site wrote: `python3 bin/lib/test_site.py FOLDER`. The HTML is well formed, each link leads to a
+"""Tests of a site that bin/site wrote: `python3 tools/docs/test_site.py FOLDER`. The HTML is well formed, each link leads to a
 page and an anchor that exist, and each public call and each definition has its place. If Chromium is installed, it opens some
 pages, and follows a search to a call and to a definition. Status 1, and a line for each fault."""
 import re
@@ -10,7 +10,7 @@ from html.parser import HTMLParser
 from pathlib import Path
 
 sys.dont_write_bytecode = True
-sys.path.insert(0, str(Path(__file__).resolve().parent))
+sys.path.insert(0, str(Path(__file__).resolve().parents[1] / "reader"))
 from sources import CRATES, impl_name, read_definitions, read_modules  # noqa: E402
 
 VOID = {"meta", "link", "input", "img", "br", "hr", "col"}

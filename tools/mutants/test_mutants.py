@@ -1,4 +1,4 @@
-"""Tests of the parts of bin/mutants and bin/survivors, on a small crate of their own: `python3 bin/lib/test_mutants.py`."""
+"""Tests of the parts of bin/mutants and bin/survivors, on a small crate of their own: `python3 tools/mutants/test_mutants.py`."""
 import contextlib
 import io
 import sys
@@ -7,7 +7,7 @@ import unittest
 from pathlib import Path
 
 sys.dont_write_bytecode = True
-sys.path.insert(0, str(Path(__file__).resolve().parent))
+sys.path[:0] = [str(Path(__file__).resolve().parents[1] / it) for it in ("mutants", "reader")]
 from mutation import Crate, camel, changed, give_kinds, in_turn  # noqa: E402
 from operators import Operators  # noqa: E402
 from planting import narrow  # noqa: E402
