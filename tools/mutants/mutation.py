@@ -11,7 +11,8 @@ import shutil
 import subprocess
 
 from operators import Operators
-from tokens import Names, angles, functions_of
+from functions import Names, functions_of
+from tokens import angles
 
 # The verdicts. `open`: a goal without a proof by hand is not proved. `answer`: a proof by hand does not prove its goal.
 # `misfit`: only a proof by hand fails that names something the mutant lacks, which says little of the contract. `unread`: it

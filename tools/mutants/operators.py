@@ -2,8 +2,9 @@
 import re
 from dataclasses import dataclass
 
-from tokens import KEYWORDS, OPENING, Function, Token, lex, partners, parts
-from values import changes, others, outcomes, plain
+from functions import Function, plain
+from tokens import KEYWORDS, OPENING, Token, lex, partners, parts
+from values import changes, others, outcomes
 
 
 @dataclass

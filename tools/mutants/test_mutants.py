@@ -12,7 +12,8 @@ from mutation import Crate, camel, changed, give_kinds, in_turn  # noqa: E402
 from operators import Operators  # noqa: E402
 from planting import narrow  # noqa: E402
 from run import Run  # noqa: E402
-from tokens import Names, functions_of, lex, partners  # noqa: E402
+from functions import Names, functions_of
+from tokens import lex, partners  # noqa: E402
 from values import changes, outcomes  # noqa: E402
 from verdicts import Verdicts  # noqa: E402
 

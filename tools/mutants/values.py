@@ -1,6 +1,8 @@
 """Changes of a value by its type, for mutants that change what a function takes or what it returns."""
 import re
 
+from functions import plain
+
 # Other values of a type, as expressions of a value `it`.
 OTHERS = {
     "&str": ['"x"', '""', '"xy"'], "&[u8]": ['b"x"', 'b""', 'b"xy"'], "char": ["'x'", "'\\n'"], "bool": ["!it"],
@@ -10,11 +12,6 @@ OTHERS = {
 }  # fmt: skip
 # Types of which a value can be cut.
 TEXTS = {"AsciiString", "SmallAsciiString", "Vec", "String"}
-
-
-def plain(kind):
-    """A type without lifetimes and spaces."""
-    return re.sub(r"<,*>", "", re.sub(r"'\w+ ?", "", kind).replace(" ", "").replace("<,", "<"))
 
 
 def arguments_of(kind):
