@@ -10,6 +10,7 @@ import re
 import shutil
 import subprocess
 
+from devices import DeviceOperators
 from operators import Operators
 from functions import Names, functions_of
 from tokens import angles
@@ -32,7 +33,7 @@ MOST_SECONDS = 1800
 class Crate:
     """A crate of the copy."""
 
-    def __init__(self, copy, name):
+    def __init__(self, copy, name, settings=None):
         self.folder, self.name = copy / "crates" / name, name
         self.sources = {
             str(it.relative_to(self.folder)): it.read_text(encoding="utf-8")
@@ -40,13 +41,13 @@ class Crate:
             if "tests" not in it.relative_to(self.folder).parts and it.name != "tests.rt"
         }
         self.functions = [f for file, text in self.sources.items() for f in functions_of(file, text)]
-        self.names, self.symbols, self.made = Names(), {}, []
+        self.names, self.symbols, self.made = settings.names() if settings else Names(), {}, []
         for it in copy.glob("crates/*/src/**/*.rt"):
             if not it.relative_to(copy / "crates").parts[0].startswith("tests_"):
                 self.names.read(it.read_text(encoding="utf-8"))
 
     def mutants(self):
-        found = [m for f in self.functions for m in Operators(f, self.sources[f.file], self.names).all()]
+        found = [m for f in self.functions for m in mutants_of(f, self.sources[f.file], self.names)]
         for number, m in enumerate(found):
             m.number = number
         return found
@@ -190,6 +191,14 @@ class Crate:
                     m.kind, m.why = "unread", why[:160]
                     wrong.add(id(m))
         return wrong
+
+
+def mutants_of(function, text, names):
+    """The mutants of a function of a source."""
+    operators = Operators(function, text, names)
+    operators.all()
+    DeviceOperators(operators).all()
+    return operators.made
 
 
 def changed(text, function, edits):

@@ -4,7 +4,7 @@ from dataclasses import dataclass
 
 from functions import Function, plain
 from tokens import KEYWORDS, OPENING, Token, lex, partners, parts
-from values import changes, others, outcomes
+from values import arguments_of, changes, others, outcomes
 
 
 @dataclass
@@ -283,25 +283,28 @@ class Operators:
     def results(self):
         """Another value in place of the body's, or in place of the body; none that gives up, which no contract rejects."""
         body = self.text[self.function.opens : self.function.end]
-        result = re.sub(r"'\w+ ?", "", self.function.result).replace(" ", "")
+        result = plain(self.function.result)
         news = {
             "bool": [f"!({body})"], "char": [f"((({body}) as u8) ^ 1) as char"], "&str": ['"x"', '""'],
             "Ordering": [f"({body}).reverse()", "std::cmp::Ordering::Equal", "std::cmp::Ordering::Less"],
             "Option<Ordering>": ["Some(std::cmp::Ordering::Equal)", "Some(std::cmp::Ordering::Greater)"],
-            "AsciiChar": ["AsciiChar::a", "AsciiChar::DEL", f"AsciiChar::from_ascii_unchecked(({body}).as_byte() ^ 1)"],
-            "Option<AsciiChar>": ["Some(AsciiChar::a)", "Some(AsciiChar::Null)"],
-            "Result<AsciiChar,ToAsciiCharError>": ["Ok(AsciiChar::a)", "Err(ToAsciiCharError(()))", "Ok(AsciiChar::DEL)"],
-            "AsciiStr<>": ['AsciiStr::literal("x")', 'AsciiStr::literal("")', f"({body}).trim_end()"],
-            "Option<AsciiStr<>>": ['Some(AsciiStr::literal("x"))', 'Some(AsciiStr::literal(""))'],
             "fmt::Result": ["Ok(())", "f.write_str(\"x\")", "f.write_char('x')"], "&[u8]": ['b"x"', 'b""'],
         }  # fmt: skip
-        changed = news.get(result, [])
+        changed = news.get(result) or self.own_values(result, body)
         if re.fullmatch(r"[ui](8|16|32|64|128|size)", result):
             changed = [f"({body}) ^ 1"]
         elif re.fullmatch(r"Option<[ui](8|16|32|64|size)>", result):
             changed = ["Some(0)", "Some(1)"]
         for new in changed:
             self.add("result", (self.function.opens, self.function.end, f"{{ {new} }}"))
+
+    def own_values(self, result, body):
+        """Other values of a type of the settings, alone or in an `Option` or a `Result`."""
+        if result in self.names.values:
+            return others(self.names, result, f"({body})")
+        kinds = arguments_of(result) if result.startswith(("Option<", "Result<")) else []
+        wrapped = zip(("Some",) if len(kinds) == 1 else ("Ok", "Err"), kinds)
+        return [f"{wrap}({value})" for wrap, kind in wrapped for value in self.names.values.get(kind, []) if "(it)" not in value]
 
     def words(self):
         for i, it in enumerate(self.tokens):

@@ -1,14 +1,16 @@
-"""Tests of the parts of bin/mutants and bin/survivors, on a small crate of their own: `python3 tools/mutants/test_mutants.py`."""
+"""Tests of the parts of tools/mutants/mutants, on a small crate of their own: `python3 tools/mutants/test_mutants.py`."""
 import contextlib
 import io
 import sys
 import tempfile
 import unittest
+import unittest.mock
 from pathlib import Path
 
 sys.dont_write_bytecode = True
 sys.path[:0] = [str(Path(__file__).resolve().parents[1] / it) for it in ("mutants", "reader")]
-from mutation import Crate, camel, changed, give_kinds, in_turn  # noqa: E402
+from mutation import Crate, camel, changed, give_kinds, in_turn, mutants_of  # noqa: E402
+from one_by_one import functions_at, goals_in, Mutation, mutations_of, round_of, try_crate  # noqa: E402
 from operators import Operators  # noqa: E402
 from planting import narrow  # noqa: E402
 from run import Run  # noqa: E402
@@ -68,7 +70,9 @@ enum Side {
 '''
 
 
-class OfOneCrate(unittest.TestCase):
+class SmallCrate(unittest.TestCase):
+    """A test with a folder that has one crate."""
+
     def setUp(self):
         self.folder = tempfile.TemporaryDirectory()
         copy = Path(self.folder.name)
@@ -80,6 +84,8 @@ class OfOneCrate(unittest.TestCase):
     def tearDown(self):
         self.folder.cleanup()
 
+
+class OfOneCrate(SmallCrate):
     def text(self):
         return (self.crate.folder / "src" / "lib.rt").read_text(encoding="utf-8")
 
@@ -211,7 +217,7 @@ class OfOneCrate(unittest.TestCase):
     def test_as_many_as_wanted_are_judged(self):
         batches, run = self.tried(lambda m: "open", 2)
         self.assertEqual(batches, [["half", "half", "smaller", "smaller"], ["double", "shown"], ["double", "shown"]])
-        self.assertEqual(run.verdicts.count().total(), 8)
+        self.assertEqual(sum(run.verdicts.count().values()), 8)
         self.assertEqual(len(run.left), len(self.mutants) - 8)
 
     def test_others_take_the_place_of_those_that_do_not_compile(self):
@@ -234,7 +240,7 @@ class OfOneCrate(unittest.TestCase):
 
         _, run = self.tried(kind_of, 3)
         self.assertTrue(run.verdicts.has(waited[0]))
-        self.assertEqual(run.verdicts.count().total(), 12)
+        self.assertEqual(sum(run.verdicts.count().values()), 12)
         self.assertNotIn("waits", {kind for _, kind in run.verdicts.tried()})
 
     def test_public_functions(self):
@@ -263,6 +269,113 @@ class OfOneCrate(unittest.TestCase):
             f"small::{it}": "proved" for it in ("smaller", "PairShown::shown", "PairShown::double", "Pair::half")
         }
         self.assertEqual([self.crate.symbol_of(f) for f in self.crate.functions], [*self.crate.symbols])
+
+
+DEVICE = '''
+struct Output {
+    failures: u64,
+}
+
+impl Output {
+    fn send(&mut self, parts: &[u8]) -> Result<u8, Fault> {
+        for part in parts {
+            self.sink.write(part);
+            self.sink.flush();
+        }
+        let first = self.source.read(1);
+        match first {
+            Ok(byte) => Ok(byte),
+            Err(fault) => {
+                self.sink.flush();
+                Err(fault)
+            }
+        }
+    }
+}
+'''
+
+
+class OfDevices(unittest.TestCase):
+    def setUp(self):
+        names = Names()
+        names.read(DEVICE)
+        self.function = functions_of("src/lib.rt", DEVICE)[0]
+        self.mutants = mutants_of(self.function, DEVICE, names)
+
+    def of(self, *operators):
+        made = [changed(DEVICE, self.function, m.edits) for m in self.mutants if m.operator in operators]
+        return [" ".join(text.split()) for text in made]
+
+    def test_calls_of_an_error_path_are_dropped_and_repeated(self):
+        made = self.of("error path", "deletion")
+        self.assertTrue(any("Err(fault) => { Err(fault) }" in it for it in made))
+        self.assertTrue(any("self.sink.flush(); self.sink.flush(); Err(fault)" in it for it in made))
+        self.assertTrue(any("{ let _ = self.sink.write(part); Err(fault) }" in it for it in made))
+        self.assertFalse(any("let _ = self.sink.write(part); Ok(" in it for it in made))
+
+    def test_a_flush_moves_behind_its_loop(self):
+        self.assertEqual(len(self.of("later flush")), 1)
+        self.assertIn("{ self.sink.write(part); } self.sink.flush(); let first", self.of("later flush")[0])
+
+    def test_a_field_is_written_before_an_error(self):
+        self.assertTrue(any("{ self.failures = self.failures ^ 1; Err(fault) }" in it for it in self.of("error field")))
+
+    def test_one_more_read_before_an_answer(self):
+        self.assertEqual(len(self.of("read ahead")), 1)
+        self.assertIn("Ok(byte) => { let _ = self.source.read(1); Ok(byte) }", self.of("read ahead")[0])
+
+
+EDITS = """\
+# first
+file: src/lib.rt
+old: if a < b { a }
+new: if a > b { a }
+# second
+file: src/lib.rt
+old: else { b }
+new: else { a }
+# outside
+file: src/lib.rt
+old:     Left,
+new:     Wrong,
+"""
+
+
+class OneByOne(SmallCrate):
+    def test_edits(self):
+        found = mutations_of(EDITS)
+        self.assertEqual([name for name, _ in found], ["first", "second", "outside"])
+        self.assertEqual(found[1][1], [("src/lib.rt", "else { b }", "else { a }")])
+
+    def test_functions_of_a_change(self):
+        lines = [functions_at(changes, self.crate.folder) for _, changes in mutations_of(EDITS)]
+        self.assertEqual(lines, [[("src/lib.rt", 4, 10, "smaller")], [("src/lib.rt", 4, 10, "smaller")], []])
+        with self.assertRaises(ValueError):
+            functions_at([("src/lib.rt", "nowhere", "")], self.crate.folder)
+
+    def test_rounds_have_one_mutation_of_each_function(self):
+        mutations = [Mutation(name, its, functions_at(its, self.crate.folder)) for name, its in mutations_of(EDITS)]
+        self.assertEqual([it.name for it in round_of(mutations)], ["first", "outside"])
+
+    def test_goals(self):
+        said = "note: src/lib.rt:9:5: not proved (`returns`)\nproofs/smaller/Answers.antt:3:1: error: `low`: it"
+        smaller = [("src/lib.rt", 4, 10, "smaller")]
+        self.assertEqual(goals_in(said, smaller), ["low", "returns"])
+        self.assertEqual(goals_in(said, smaller, outside=True), [])
+
+    def test_what_each_mutation_is_told(self):
+        told = {}
+
+        def check(mutations, _):
+            if any("a > b" in new for it in mutations for _, _, new in it.changes):
+                return "src/lib.rt:9:5: not proved (`returns`)\nlogic=not-proved"
+            return "logic=proved" if mutations[0].name == "second" else "error"
+
+        with unittest.mock.patch("one_by_one.check_with", check):
+            try_crate(self.crate.folder, [EDITS, "# lost\nfile: src/lib.rt\nold: nowhere\nnew: x\n"], "", told.__setitem__)
+        self.assertEqual([told["first"], told["second"]], ["returns", "survives"])
+        self.assertIn("occurs 0 times", told["lost"])
+        self.assertTrue(told["outside"].startswith("cannot be applied"))
 
 
 if __name__ == "__main__":

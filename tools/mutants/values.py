@@ -6,12 +6,8 @@ from functions import plain
 # Other values of a type, as expressions of a value `it`.
 OTHERS = {
     "&str": ['"x"', '""', '"xy"'], "&[u8]": ['b"x"', 'b""', 'b"xy"'], "char": ["'x'", "'\\n'"], "bool": ["!it"],
-    "AsciiChar": ["AsciiChar::a", "AsciiChar::Null", "AsciiChar::DEL"],
-    "AsciiStr": ['AsciiStr::literal("x")', 'AsciiStr::literal("")', "(it).trim_end()"],
     **{f"{sign}{size}": ["it ^ 1", "it / 2"] for sign in "iu" for size in (8, 16, 32, 64, 128, "size")},
 }  # fmt: skip
-# Types of which a value can be cut.
-TEXTS = {"AsciiString", "SmallAsciiString", "Vec", "String"}
 
 
 def arguments_of(kind):
@@ -31,8 +27,9 @@ def others(names, kind, it):
     """Expressions of other values of the type of the expression `it`."""
     kind = plain(kind)
     name = re.match(r"\w*", kind)[0]
-    if kind in OTHERS:
-        return [re.sub(r"\bit\b", lambda _: it, value) for value in OTHERS[kind]]
+    values = names.values.get(kind) or OTHERS.get(kind)
+    if values:
+        return [re.sub(r"\bit\b", lambda _: it, value) for value in values]
     if name == "Option":
         return ["None"]
     return [f"{name}::{variant}" for variant, holds in names.variants.get(name, {}).items() if not holds][:2]
@@ -45,7 +42,7 @@ def changes(names, kind, it, text, depth=2):
     values = others(names, kind, it)
     if values:
         return [f"{it} = {value};" for value in values]
-    if name in TEXTS and not kind.startswith("&["):
+    if name in names.texts and not kind.startswith("&["):
         return [f"{it}.clear();", f"{it}.truncate(1);", f"let _ = {it}.pop();"]
     if name in names.iterators:
         once = f"let _ = {it}.next();"

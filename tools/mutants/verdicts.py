@@ -1,13 +1,11 @@
-"""The verdicts on the mutants that were tried: a file for each crate in `verdicts/`, with a line for each mutant: the hash of
+"""The verdicts on the mutants that were tried: a file for each crate in a folder, with a line for each mutant: the hash of
 its function, that of its change, its operator and its kind, separated by tabs. If the text of a function changes, its lines
 are dropped, so that only its mutants are tried again. So are those of mutants that the operators make no more."""
 import collections
 from hashlib import sha256
-from pathlib import Path
 
 from mutation import JUDGED
 
-FOLDER = Path(__file__).resolve().parent / "verdicts"
 CONTROL = "control"
 
 
@@ -18,7 +16,7 @@ def short(text):
 class Verdicts:
     """What is known of the mutants of a crate."""
 
-    def __init__(self, crate, folder=FOLDER):
+    def __init__(self, crate, folder):
         self.crate, self.file = crate, folder / f"{crate.name}.tsv"
         self.functions = {self.hash(f): f for f in crate.functions}
         lines = self.file.read_text(encoding="utf-8").splitlines() if self.file.exists() else []
@@ -57,6 +55,6 @@ class Verdicts:
 
     def save(self, mutants):
         self.kinds |= {self.name(m): m.kind for m in mutants}
-        self.file.parent.mkdir(exist_ok=True)
+        self.file.parent.mkdir(parents=True, exist_ok=True)
         lines = sorted("\t".join([*name, kind]) + "\n" for name, kind in self.kinds.items())
         self.file.write_text("".join(lines), encoding="utf-8")

@@ -98,6 +98,10 @@ class Names:
     double_ended: set = field(default_factory=set)  # those that iterate from both ends
     words: set = field(default_factory=set)  # every word
     results: dict = field(default_factory=dict)  # of the functions of a name: the types that they return
+    values: dict = field(default_factory=dict)  # of a type: other values, as expressions of a value `it`
+    texts: set = field(default_factory=lambda: {"Vec", "String"})  # types whose values can be cut
+    devices: set = field(default_factory=lambda: {"read", "write", "write_all", "flush"})  # methods that use a device
+    reads: set = field(default_factory=lambda: {"read"})  # those of them that read
 
     def read(self, text):
         self.words |= {it.text for it in lex(text) if it.kind == "word"}

@@ -1,35 +1,26 @@
-#!/usr/bin/env python3
-# usage: bin/survivors [--only NAME] [--list]
-# Shows that a test rejects each mutant that the prover accepts although it changes an answer. These are the lines of
-# tools/mutants/survivors.txt whose reason names a test, or a call of a program in bin/test. Plants each in a copy of the
-# repository, and runs the test, or builds the program and makes the calls: the one that is named has to fail. --only takes
-# the lines that match a regular expression; --list prints them. Starts from the work that `rt check` has kept in each
-# crate's `out/`; JOBS (2) are tried at once. Status 1: one of them is not rejected; 69: no toolchain.
-import argparse
+"""Shows that a test rejects each mutant that the prover accepts although it changes an answer. These are the lines of
+survivors.txt whose reason names a test, as `rejected by CRATE::TEST`, or a call of a program, as `rejected by .., at "NAME"`.
+Plants each in a copy of the repository, and runs the test, or the `calls` of settings.txt: the one that is named has to fail.
+JOBS (2) are tried at once. Status 1: one of them is not rejected."""
 import collections
 import os
 import re
 import shutil
 import signal
 import subprocess
-import sys
 import tempfile
 from concurrent.futures import ThreadPoolExecutor
 from dataclasses import dataclass
 from pathlib import Path
 
-sys.dont_write_bytecode = True
-sys.path[:0] = [str(Path(__file__).resolve().parents[1] / "tools" / it) for it in ("mutants", "reader")]
-from mutation import Crate  # noqa: E402
-from operators import Mutant  # noqa: E402
-from planting import copied, narrow, run_tests  # noqa: E402
-from verdicts import Verdicts  # noqa: E402
+from judge import verdicts_of
+from mutation import Crate
+from operators import Mutant
+from planting import copied, narrow, run_tests
 
-ROOT = Path(__file__).resolve().parent.parent
-LINES = ROOT / "tools" / "mutants" / "survivors.txt"
 # How a reason names a test, or a call.
 TEST = re.compile(r"rejected by (\w+)::([\w:]+)")
-CALL = re.compile(r'rejected by bin/test, at "(.*)"')
+CALL = re.compile(r'rejected by .*, at "(.*)"')
 
 
 @dataclass
@@ -46,16 +37,19 @@ class Survivor:
         return f"{self.crate} {self.mutant.function.file} {self.mutant.function.name}, {self.mutant.shown}: {by}"
 
     def plant(self, copy):
-        Crate(copy, self.crate).write([self.mutant], True)
+        """Writes the sources of the crate with this mutant, and returns the crate."""
+        crate = Crate(copy, self.crate)
+        crate.write([self.mutant], True)
+        return crate
 
 
-def listed(only):
+def listed(settings, only):
     """The survivors whose reason names what rejects them: those that were judged, or all of that name if none was."""
-    lines = [it.split("\t") for it in LINES.read_text(encoding="utf-8").splitlines() if it[:1] not in ("", "#")]
+    lines = [it.split("\t") for it in settings.lines("survivors.txt")]
     reasons = {tuple(line[:4]): line[4] for line in lines if re.search(only, "\t".join(line))}
     found = []
     for name in dict.fromkeys(key[0] for key in reasons):
-        verdicts, named = Verdicts(Crate(ROOT, name)), collections.defaultdict(list)
+        verdicts, named = verdicts_of(settings, name), collections.defaultdict(list)
         for kinds in (("survived",), (None,)):
             left = {key for key in reasons if key not in named}
             for m in verdicts.mutants(kinds):
@@ -74,9 +68,9 @@ def survivor(crate, mutant, reason):
     return Survivor(crate, mutant, test[2], test[1]) if test else None
 
 
-def by_test(survivor, folder):
+def by_test(settings, survivor, folder):
     """Whether the test of a survivor fails with it."""
-    copy = copied(ROOT, folder, False)
+    copy = copied(settings.root, folder, False)
     narrow(copy / "crates" / survivor.tests, [survivor.by])
     survivor.plant(copy)
     ran, failed, said = run_tests(copy / "crates" / survivor.tests)
@@ -84,27 +78,26 @@ def by_test(survivor, folder):
     return told(survivor, bool(failed), "" if ran else said)
 
 
-def by_calls(survivors, folder):
+def by_calls(settings, survivors, folder):
     """How many of the survivors change the call of their program that has to reject them."""
-    copy, count = copied(ROOT, folder, True) if survivors else folder, 0
+    copy, count = copied(settings.root, folder, True) if survivors else folder, 0
     for it in survivors:
-        crate = Crate(copy, it.crate)
-        it.plant(copy)
-        count += told(it, *called(it, copy))
+        crate = it.plant(copy)
+        count += told(it, *called(settings, it, copy))
         crate.write([], True)
     return count
 
 
-def called(survivor, copy):
+def called(settings, survivor, copy):
     """Whether the named call fails, after which no more are made; and what was said, if the program was not built."""
     said = ""
     with subprocess.Popen(
-        ["bin/test", "calls", survivor.crate], cwd=copy, text=True, stdin=subprocess.DEVNULL, stdout=subprocess.PIPE,
+        settings.calls.format(crate=survivor.crate).split(), cwd=copy, text=True, stdin=subprocess.DEVNULL, stdout=subprocess.PIPE,
         stderr=subprocess.STDOUT, errors="replace", start_new_session=True,
     ) as started:  # fmt: skip
         for line in started.stdout:
             said += line
-            if line.startswith(f"bin/test: {survivor.by}: "):
+            if f": {survivor.by}: " in f": {line}":
                 os.killpg(started.pid, signal.SIGTERM)
                 return True, ""
     return False, "" if " passed, " in said else said
@@ -117,32 +110,22 @@ def told(survivor, rejected, said):
     return rejected
 
 
-def main():
-    asks = argparse.ArgumentParser(add_help=False)
-    asks.add_argument("--only", default="")
-    asks.add_argument("--list", action="store_true")
-    asks.add_argument("-h", "--help", action="store_true")
-    given = asks.parse_args()
-    if given.help:
-        print("\n".join(line[2:] for line in Path(__file__).read_text().splitlines()[1:7]))
-        return 0
-    found = listed(given.only)
+def arguments(asks):
+    asks.add_argument("--only", default="", metavar="WORD", help="the lines that match an expression")
+    asks.add_argument("--list", action="store_true", help="print the survivors, and try none")
+
+
+def run(settings, given):
+    found = listed(settings, given.only)
     if given.list:
         print("\n".join(map(str, found)))
         return 0
-    if not shutil.which("rt"):
-        print("bin/survivors: the toolchain's command rt is not on PATH", file=sys.stderr)
-        return 69
     jobs = int(os.environ.get("JOBS", "2"))
     tests, calls = [it for it in found if it.tests], [it for it in found if not it.tests]
     with tempfile.TemporaryDirectory(prefix="survivors-") as scratch, ThreadPoolExecutor(jobs) as pool:
         folder = Path(scratch)
-        asked = [pool.submit(by_test, it, folder / f"test{n}") for n, it in enumerate(tests)]
-        asked += [pool.submit(by_calls, calls[n::jobs], folder / f"calls{n}") for n in range(jobs)]
+        asked = [pool.submit(by_test, settings, it, folder / f"test{n}") for n, it in enumerate(tests)]
+        asked += [pool.submit(by_calls, settings, calls[n::jobs], folder / f"calls{n}") for n in range(jobs)]
         rejected = sum(it.result() for it in asked)
     print(f"{len(found)} survivors, {len(found) - rejected} of them not rejected")
     return 0 if rejected == len(found) else 1
-
-
-if __name__ == "__main__":
-    sys.exit(main())

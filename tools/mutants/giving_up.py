@@ -1,12 +1,7 @@
-#!/usr/bin/env python3
-# usage: bin/giving_up [--only NAME] [--list] [--proofs|--tests]
-# Shows that the tests see a call that gives up at some length although there is memory, which no contract rejects. Writes each
-# body of tools/mutants/giving_up.txt, asks the prover, which has to accept it, and then runs its test, which has to fail.
-# --only takes the bodies whose line matches a regular expression; --list prints them; --proofs and --tests do one half.
-# Works on copies of the repository, starting from the work that `rt check` has kept in each crate's `out/`. Bodies that
-# different tests of one crate reject are tried in one round of tests; JOBS (2) rounds run at once.
-# Status 1: the prover rejects a body, or the tests pass with it; 69: no toolchain; 70: a crate is not proved as it is.
-import argparse
+"""Shows that the tests see a call that gives up at some length although there is memory, which no contract rejects. Writes
+each body of giving_up.txt, asks the prover, which has to accept it, and then runs its test, which has to fail. Bodies that
+different tests of one crate reject are tried in one round of tests; JOBS (2) rounds run at once. Status 1: the prover rejects
+a body, or the tests pass with it."""
 import os
 import re
 import shutil
@@ -16,14 +11,9 @@ from concurrent.futures import ThreadPoolExecutor
 from dataclasses import dataclass
 from pathlib import Path
 
-sys.dont_write_bytecode = True
-sys.path[:0] = [str(Path(__file__).resolve().parents[1] / "tools" / it) for it in ("mutants", "reader")]
-from mutation import Crate  # noqa: E402
-from operators import Mutant  # noqa: E402
-from planting import copied, narrow, run_tests  # noqa: E402
-
-ROOT = Path(__file__).resolve().parent.parent
-LINES = ROOT / "tools" / "mutants" / "giving_up.txt"
+from mutation import Crate
+from operators import Mutant
+from planting import copied, narrow, run_tests
 
 
 @dataclass
@@ -49,12 +39,12 @@ class Body:
         owner, _, name = self.function.rpartition(" ")
         found = [f for f in crate.functions if (f.file, f.name) == (self.file, name) and owned(f, owner)]
         if len(found) != 1:
-            raise SystemExit(f"bin/giving_up: {self.file} has {len(found)} functions {self.function}")
+            raise SystemExit(f"mutants: {self.file} has {len(found)} functions {self.function}")
         f = found[0]
         text = crate.sources[f.file]
         at = f.opens + 1 if self.before == "-" else text.find(self.before, f.opens, f.end)
         if at < 0:
-            raise SystemExit(f"bin/giving_up: {self.file} {self.function} has no `{self.before}`")
+            raise SystemExit(f"mutants: {self.file} {self.function} has no `{self.before}`")
         return Mutant(f, "giving up", [(at, at, f" {self.statement} ")], self.statement, number)
 
 
@@ -63,20 +53,19 @@ def owned(function, owner):
     return not owner or re.search(rf"(\bfor |^impl(<[^{{]*?>)? ){owner}\b", function.block)
 
 
-def listed(only):
-    lines = LINES.read_text(encoding="utf-8").splitlines()
-    return [Body(*line.split("\t")) for line in lines if line and not line.startswith("#") and re.search(only, line)]
+def listed(settings, only):
+    return [Body(*line.split("\t")) for line in settings.lines("giving_up.txt") if re.search(only, line)]
 
 
-def proofs(scratch, bodies):
+def proofs(settings, scratch, bodies):
     """Asks the prover about all bodies, crate by crate. Returns the number of those that it does not accept."""
-    copy, wrong = copied(ROOT, scratch / "proofs", True), 0
+    copy, wrong = copied(settings.root, scratch / "proofs", True), 0
     bodies = [it for it in bodies if "by-hand" not in it.words]
     for name in dict.fromkeys(it.crate for it in bodies):
         crate = Crate(copy, name)
         mutants = [it.mutant(crate, n) for n, it in enumerate(bodies) if it.crate == name]
         if not crate.begin():
-            print(f"bin/giving_up: {name} is not proved as it is", file=sys.stderr)
+            print(f"mutants: {name} is not proved as it is", file=sys.stderr)
             sys.exit(70)
         placed = [m for m in mutants if m.function.in_trait or crate.has_proofs(m.function)]
         crate.judge([m for m in mutants if m not in placed], False)
@@ -102,15 +91,15 @@ def rounds(bodies):
     return made
 
 
-def tests(scratch, bodies):
+def tests(settings, scratch, bodies):
     """Runs the tests with the bodies, round by round. Returns the number of bodies with which their test does not fail."""
     with ThreadPoolExecutor(int(os.environ.get("JOBS", "2"))) as pool:
-        return sum(pool.map(lambda it: tested(scratch / f"tests{it[0]}", it[1]), enumerate(rounds(bodies))))
+        return sum(pool.map(lambda it: tested(settings, scratch / f"tests{it[0]}", it[1]), enumerate(rounds(bodies))))
 
 
-def tested(folder, bodies):
+def tested(settings, folder, bodies):
     """Runs the tests of these bodies, and prints which fail. Returns the number of those that have to fail and do not."""
-    copy = copied(ROOT, folder, False)
+    copy = copied(settings.root, folder, False)
     narrow(copy / "crates" / bodies[0].tests, {it.test.partition("::")[2] for it in bodies})
     for name in {it.crate for it in bodies}:
         crate = Crate(copy, name)
@@ -128,33 +117,22 @@ def tested(folder, bodies):
     return wrong
 
 
-def main():
-    asks = argparse.ArgumentParser(add_help=False)
-    asks.add_argument("--only", default="")
-    asks.add_argument("--list", action="store_true")
-    asks.add_argument("--proofs", action="store_true")
-    asks.add_argument("--tests", action="store_true")
-    asks.add_argument("-h", "--help", action="store_true")
-    given = asks.parse_args()
-    if given.help:
-        print("\n".join(line[2:] for line in Path(__file__).read_text().splitlines()[1:9]))
-        return 0
-    bodies = listed(given.only)
+def arguments(asks):
+    asks.add_argument("--only", default="", metavar="WORD", help="the bodies whose line matches an expression")
+    asks.add_argument("--list", action="store_true", help="print the bodies, and try none")
+    asks.add_argument("--proofs", action="store_true", help="only ask the prover")
+    asks.add_argument("--tests", action="store_true", help="only run the tests")
+
+
+def run(settings, given):
+    bodies, wrong = listed(settings, given.only), 0
     if given.list:
         print("\n".join(f"{it.crate} {it.file} {it.function}, {it.statement}: {it.test}" for it in bodies))
         return 0
-    if not shutil.which("rt"):
-        print("bin/giving_up: the toolchain's command rt is not on PATH", file=sys.stderr)
-        return 69
-    wrong = 0
     with tempfile.TemporaryDirectory(prefix="giving-up-") as scratch:
         if not given.tests:
-            wrong += proofs(Path(scratch), bodies)
+            wrong += proofs(settings, Path(scratch), bodies)
         if not given.proofs:
-            wrong += tests(Path(scratch), bodies)
+            wrong += tests(settings, Path(scratch), bodies)
     print(f"{len(bodies)} bodies, {wrong} of them not accepted by the prover or not rejected by a test")
     return 1 if wrong else 0
-
-
-if __name__ == "__main__":
-    sys.exit(main())

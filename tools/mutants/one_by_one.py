@@ -1,0 +1,153 @@
+"""Tries each mutation of the must-fail edits apart. `rt ci` checks that the prover rejects a file of crates/CRATE/must-fail as
+a whole; this names the goals by which each mutation under a line `# MUTATION` is rejected, in these files and in
+edits/CRATE.edit of the data folder, which `rt ci` does not read. Mutations of different functions are tried in one check, in
+rounds, and those that no round rejects on their own. A mutation survives if the check passes with it. Status
+1: one survives, or cannot be applied, or does not reach the prover."""
+import re
+import subprocess
+import tempfile
+from dataclasses import dataclass
+from pathlib import Path
+
+from functions import functions_of
+from planting import copied
+
+# A goal that is open, by its place, and a proof by hand that fails, by the path of its function.
+OPEN = re.compile(r"^(?:note: )?(?:\./)?(src/\S+\.rt):(\d+):\d+: .*?\(`([^`]+)`\)", re.M)
+FAILED = re.compile(r"^(?:\./)?proofs/(\S+)/\w+\.antt:\d+:\d+: error: `([^`]+)`", re.M)
+
+
+@dataclass
+class Mutation:
+    """A mutation of a crate: its name, its changes (file, old text, new text), and the functions that these are in."""
+    name: str
+    changes: list
+    functions: list  # (file, first line, last line, name)
+
+
+def mutations_of(text):
+    """The mutations of a file of edits, as pairs of a name and changes."""
+    mutations, file, old = [], None, None
+    for line in text.splitlines():
+        if line.startswith("# "):
+            mutations.append((line[2:], []))
+        elif line.startswith("file: "):
+            file = line[6:]
+        elif line.startswith("old: "):
+            old = line[5:]
+        elif line.startswith("new:"):
+            mutations[-1][1].append((file, old, line[4:].removeprefix(" ")))
+    return mutations
+
+
+def functions_at(changes, crate):
+    """The functions that the changes are in. Fails with a reason if a change cannot be applied."""
+    found = []
+    for file, old, _ in changes:
+        text = (crate / file).read_text(encoding="utf-8") if (crate / file).is_file() else ""
+        if text.count(old) != 1:
+            raise ValueError(f"{old!r} occurs {text.count(old)} times in {file}, expected once")
+        place = text.index(old)
+        for it in functions_of(file, text):
+            if it.start <= place < it.end:
+                found.append((file, text.count("\n", 0, it.start) + 1, text.count("\n", 0, it.end) + 1, it.name))
+    return found
+
+
+def round_of(mutations):
+    """The mutations of one round: the first of each function; and one at most that changes none."""
+    chosen, taken = [], set()
+    for it in mutations:
+        if taken.isdisjoint(it.functions or [None]):
+            chosen.append(it)
+            taken.update(it.functions or [None])
+    return chosen
+
+
+def check_with(mutations, crate):
+    """What the check says of the crate with these mutations."""
+    kept = {}
+    for file, old, new in (change for it in mutations for change in it.changes):
+        text = (crate / file).read_text(encoding="utf-8")
+        kept.setdefault(file, text)
+        (crate / file).write_text(text.replace(old, new), encoding="utf-8")
+    said = subprocess.run(["rt", "check"], cwd=crate, stdout=subprocess.PIPE, stderr=subprocess.STDOUT, text=True).stdout
+    for file, text in kept.items():
+        (crate / file).write_text(text, encoding="utf-8")
+    return said
+
+
+def goals_in(said, functions, outside=False):
+    """The goals that a check names in one of the functions, or in none of them."""
+    goals = set()
+    for file, line, goal in OPEN.findall(said):
+        if outside != any(file == its and first <= int(line) <= last for its, first, last, _ in functions):
+            goals.add(goal)
+    for path, goal in FAILED.findall(said):
+        if outside != any(f"/{path}".endswith(f"/{name}") for _, _, _, name in functions):
+            goals.add(goal)
+    return sorted(goals)
+
+
+def verdicts_of(mutations, said):
+    """How a check rejects each mutation, by the goals; an empty text if it names none of a mutation's."""
+    every = [function for it in mutations for function in it.functions]
+    return {id(it): ", ".join(goals_in(said, it.functions or every, outside=not it.functions)) for it in mutations}
+
+
+def try_apart(mutation, crate):
+    """How a check with one mutation rejects it; `survives` if it passes, and why if it does not reach the prover."""
+    said = check_with([mutation], crate)
+    if "logic=not-proved" in said:
+        return verdicts_of([mutation], said)[id(mutation)] or "a goal elsewhere"
+    return "survives" if "logic=proved" in said else f"cannot be applied: {' '.join(said.split()[-30:])}"
+
+
+def try_crate(crate, texts, only, tell):
+    """Tries the mutations of a crate, and tells how each is rejected."""
+    left = []
+    for name, changes in (it for text in texts for it in mutations_of(text) if only in ("", it[0])):
+        try:
+            left.append(Mutation(name, changes, functions_at(changes, crate)))
+        except ValueError as fault:
+            tell(name, f"cannot be applied: {fault}")
+    while left:
+        chosen = round_of(left)
+        said = verdicts_of(chosen, check_with(chosen, crate)) if len(chosen) > 1 else {}
+        # If a function that it calls is changed too, the check does not judge a function's goals: it is tried in a later round.
+        for it in [it for it in chosen if said.get(id(it))] or chosen:
+            tell(it.name, said.get(id(it)) or try_apart(it, crate))
+            left.remove(it)
+
+
+def edits_of(settings, crate):
+    """The texts of the files with mutations of a crate."""
+    files = [*sorted((settings.root / "crates" / crate / "must-fail").glob("*.edit")), settings.data / "edits" / f"{crate}.edit"]
+    return [file.read_text(encoding="utf-8") for file in files if file.is_file()]
+
+
+def arguments(asks):
+    asks.add_argument("crates", nargs="*", metavar="CRATE[/MUTATION]", help="default: every crate that has mutations")
+
+
+def run(settings, given):
+    names = given.crates or [name for name in settings.all_crates() if edits_of(settings, name)]
+    rejected, others = [], []
+    with tempfile.TemporaryDirectory(prefix="one-by-one-") as scratch:
+        copy = copied(settings.root, Path(scratch) / "copy", True)
+        for name in names:
+            crate, _, only = name.partition("/")
+
+            def tell(mutation, how, crate=crate):
+                is_other = how == "survives" or how.startswith("cannot be applied")
+                (others if is_other else rejected).append((mutation, how))
+                print(f"{crate}/{mutation}: {how}", flush=True)
+
+            before = len(rejected) + len(others)
+            try_crate(copy / "crates" / crate, edits_of(settings, crate), only, tell)
+            if only and len(rejected) + len(others) == before:
+                tell(only, "cannot be applied: there is no such mutation")
+    survive = sum(how == "survives" for _, how in others)
+    faults = len(others) - survive
+    print(f"{len(rejected)} rejected, {survive} survive" + (f", {faults} cannot be applied" if faults else ""))
+    return 1 if others else 0
