@@ -25,8 +25,14 @@ fn bytes_refused<R: Abort>(rt: &R, source: &[u8], place: usize) {
     for before in 0..place {
         let front = bytes::slice_ascii(source, AsciiRange::ToInclusive(before));
         assert_row!(rt; position(front), None);
-        let whole = bytes::slice_ascii(source, AsciiRange::From(before));
-        assert_row!(rt; position(whole), wanted);
+    }
+}
+
+/// Each part from before the place to the end is rejected with the place in the source.
+fn later_starts_refused(rt: &impl Abort, source: &[u8], place: usize) {
+    for before in 0..place {
+        let part = bytes::slice_ascii(source, AsciiRange::From(before));
+        assert_row!(rt; position(part), Some(place));
     }
 }
 
@@ -64,10 +70,11 @@ fn in_bytes(rt: HostRuntime) {
     for length in LENGTHS {
         let mut source = vec![in rt.alloc(); b'a'; length].expect(&rt, "refused");
         assert_row!(rt; position(bytes::as_ascii_str(&source)), None);
-        for (byte, other) in [(128, 255), (255, 128)] {
+        for byte in [128, 255] {
             for place in 0..source.len() {
                 source[place] = byte;
                 bytes_refused(&rt, &source, place);
+                later_starts_refused(&rt, &source, place);
                 copies_refused(&rt, &mut source, place);
                 source[place] = b'a';
             }
