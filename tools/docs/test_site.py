@@ -1,4 +1,4 @@
-"""Tests of a site that bin/site wrote: `python3 tools/docs/test_site.py FOLDER`. The HTML is well formed, each link leads to a
+"""Tests of a site that `bin/docs site` wrote: `python3 tools/docs/test_site.py FOLDER`. The HTML is well formed, each link leads to a
 page and an anchor that exist, and each public call and each definition has its place. If Chromium is installed, it opens some
 pages, and follows a search to a call and to a definition. Status 1, and a line for each fault."""
 import re

@@ -1,6 +1,6 @@
 //! Each public call of `ascii` on sources whose outcome is known from outside: worked examples, and tables that were
 //! made with the Rust crate; and its iterators: every script over short texts, the starts of pieces and lines, walks that
-//! are taken up again, and items that tell little of how many they are. `bin/examples` writes `of_ascii.rt`, the examples in
+//! are taken up again, and items that tell little of how many they are. `bin/docs examples` writes `of_ascii.rt`, the examples in
 //! the documentation of the calls.
 
 mod beside;

@@ -1,4 +1,4 @@
-//! Each public call of `ascii_lines` over devices that give or take little at a call, or fail. `bin/examples`
+//! Each public call of `ascii_lines` over devices that give or take little at a call, or fail. `bin/docs examples`
 //! writes `of_ascii_lines.rt`, the examples in the documentation of the calls.
 
 mod endings;

@@ -1,6 +1,6 @@
 //! Runs of commands over both forms of an owned text, and the engine over memory and over devices that fail. The lists of
 //! edits are compared with a table that was made with the Rust crate; a byte above 127 is at every position, and no mode
-//! gives up past a length. `bin/examples` writes `of_ascii_run.rt` and
+//! gives up past a length. `bin/docs examples` writes `of_ascii_run.rt` and
 //! `of_ascii_devices.rt`, the examples in the documentation of the calls.
 
 mod both_types_agree;

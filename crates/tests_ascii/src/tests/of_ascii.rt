@@ -1,4 +1,4 @@
-//! The examples in the documentation of `ascii`, made by `bin/examples`.
+//! The examples in the documentation of `ascii`, made by `bin/docs examples`.
 
 use ascii::classes::{Blank, Digit, Punctuation};
 use ascii::folded::FoldedStr;

@@ -1,4 +1,4 @@
-//! The examples in the documentation of `ascii_base`, made by `bin/examples`.
+//! The examples in the documentation of `ascii_base`, made by `bin/docs examples`.
 
 use ascii_base::ascii_char::{AsciiChar, ToAsciiChar};
 use ascii_base::classes::{Ascii, Class, ClassBy, Digit, Whitespace};

@@ -1,4 +1,4 @@
-//! The examples in the documentation of `ascii_lines`, made by `bin/examples`.
+//! The examples in the documentation of `ascii_lines`, made by `bin/docs examples`.
 
 use super::Echo;
 use ascii_devices::Sink;

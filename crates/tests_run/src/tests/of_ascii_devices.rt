@@ -1,4 +1,4 @@
-//! The examples in the documentation of `ascii_devices`, made by `bin/examples`.
+//! The examples in the documentation of `ascii_devices`, made by `bin/docs examples`.
 
 use ascii_devices::{DeviceFault, Input, Output, Sink, Source};
 use std::convert::AsSlice;

@@ -1,4 +1,4 @@
-//! The examples in the documentation of `ascii_run`, made by `bin/examples`.
+//! The examples in the documentation of `ascii_run`, made by `bin/docs examples`.
 
 use ascii::bytes;
 use ascii_run::{

@@ -1,25 +1,18 @@
-#!/usr/bin/env python3
-# usage: bin/examples [check]
-# Makes tests from the examples in the documentation of the crates that have a page CALLING.md. An example is a
-# paragraph of a doc comment that is indented by four spaces. The comment after `//` in a line is the `{:?}` output of
-# the value before it; the other lines are statements. `alloc` is the allocator, and `view("ab")` is a view of that text.
-# Without an argument the tests are written to src/tests/of_NAME.rt of the test crate that TESTS names, in the layout of
-# `rt fmt`; `check` compares them with the sources, and writes nothing.
-# Both print how many public calls have no example.
-# Status 1, and a line that says why: tests that are out of date, or a call without an example.
+"""Makes tests from the examples in the documentation of the libraries that have a page CALLING.md: one test for each call.
+
+An example is a paragraph of a doc comment that is indented by four spaces. The comment after `//` in a line is the `{:?}`
+output of the value before it; the other lines are statements. `alloc` is the allocator, and `view("ab")` is a view of that
+text. The tests are written to src/tests/of_NAME.rt of the test crate that TESTS names, in the layout of `rt fmt`.
+
+A fault is a file of tests that is out of date, and a call without an example."""
 import re
 import subprocess
-import sys
 import tempfile
-from importlib.machinery import SourceFileLoader
 from pathlib import Path
 
-HERE = Path(__file__).resolve().parent
-sys.dont_write_bytecode = True
-sys.path.insert(0, str(HERE.parent / "tools" / "reader"))
-import sources  # noqa: E402
-
-calling = SourceFileLoader("calling", str(HERE / "calling")).load_module()
+import callers
+import sources
+from made import LIBRARIES, settle
 
 # The test crate that has the examples of a crate.
 TESTS = {
@@ -59,7 +52,7 @@ def examples_in(docs):
 def examples_of(crate, modules):
     """The examples of a crate, as pairs of a name and lines; and the calls that have none."""
     examples, without = [], []
-    for entry in calling.entries_of(crate, modules)[0]:
+    for entry in callers.entries_of(crate, modules)[0]:
         shared = examples_in(entry.docs)
         if shared:
             examples.append((entry.key, shared))
@@ -165,7 +158,7 @@ def imports(found, lines):
 
 def tests_of(crate, found, examples):
     lines = list(tests(crate, examples))
-    head = [f"//! The examples in the documentation of `{crate}`, made by `bin/examples`.", ""]
+    head = [f"//! The examples in the documentation of `{crate}`, made by `bin/docs examples`.", ""]
     uses = [line for name, line in SHARED.items() if any(re.search(rf"\b{name}\(", code) for code in lines)]
     uses += imports(found, lines)
     return "\n".join([*head, *uses, *lines]) + "\n"
@@ -183,29 +176,16 @@ def laid_out(texts):
         return {name: sources.read(crate / "src" / f"{name}.rt") for name in texts}
 
 
-def main(words):
-    if words not in ([], ["check"]):
-        print("usage: bin/examples [check]", file=sys.stderr)
-        return 64
-    missing, status, found, texts = [], 0, dict(OTHERS), {}
-    for crate in calling.PAGES:
+def faults(is_check):
+    """Writes the tests, or compares them with the sources. Returns the faults."""
+    wrong, found, texts = [], dict(OTHERS), {}
+    for crate in LIBRARIES:
         modules = sources.read_modules(crate)
         examples, without = examples_of(crate, modules)
-        missing += without
-        found |= names_of(crate, modules, found)
-        texts[f"of_{crate}"] = tests_of(crate, found, examples)
-    for name, text in laid_out(texts).items():
-        file = sources.CRATES / TESTS[name.removeprefix("of_")] / "src" / "tests" / f"{name}.rt"
-        if not words:
-            file.write_text(text, encoding="utf-8")
-        elif not file.is_file() or sources.read(file) != text:
-            print(f"bin/examples: {file.relative_to(HERE.parent)} is out of date: run bin/examples", file=sys.stderr)
-            status = 1
-    for call in missing:
-        print(f"bin/examples: no example at {call}", file=sys.stderr)
-    print(f"{len(missing)} public calls without an example")
-    return 1 if missing else status
-
-
-if __name__ == "__main__":
-    sys.exit(main(sys.argv[1:]))
+        wrong += [f"no example at {call}" for call in without]
+        found = {**found, **names_of(crate, modules, found)}
+        texts[crate] = tests_of(crate, found, examples)
+    for crate, text in laid_out(texts).items():
+        file = sources.CRATES / TESTS[crate] / "src" / "tests" / f"of_{crate}.rt"
+        wrong += settle(file, text, "examples", is_check)
+    return wrong

@@ -1,38 +1,31 @@
-#!/usr/bin/env python3
-# usage: bin/site FOLDER
-# Writes the documentation as static HTML into FOLDER: the pages of the repository, a page for each module of each library
-# with every public call (its docs, its clauses with each word linked to its definition, what uses it, its source), a page
-# for each file of definitions, and an index with a search over all names. The pages can be read without JavaScript, on a
-# narrow screen, on dark and on light. Nothing is downloaded.
-# Status 64: no FOLDER; 69: Debian's package python3-markdown is missing; 73: FOLDER cannot be written.
+"""Writes the documentation as static HTML into FOLDER: the pages of the repository, a page for each module of each library
+with every public call (its docs, its clauses with each word linked to its definition, what uses it, its source), a page for
+each file of definitions, and an index with a search over all names.
+
+The pages can be read without JavaScript, on a narrow screen, on dark and on light. Nothing is downloaded. Status 69: Debian's
+package python3-markdown is missing; 73: FOLDER cannot be written; 130: interrupted, and FOLDER is as it was."""
 import json
+import os
 import re
+import shutil
+import signal
 import sys
+import tempfile
 from html import escape
 from pathlib import Path
 
-sys.dont_write_bytecode = True
-sys.path.insert(0, str(Path(__file__).resolve().parents[1] / "tools" / "reader"))
-sys.path.append("/usr/lib/python3/dist-packages")
-from sources import (  # noqa: E402
-    CRATES, head_comment, impl_name, read, read_definitions, read_modules, without_braces
-)
+from made import DEFINED, LIBRARIES, PROOFS, TOP
+from sources import CRATES, head_comment, impl_name, read, read_definitions, read_modules, without_braces
 
+sys.path.append("/usr/lib/python3/dist-packages")
 try:
     import markdown
 except ImportError:
-    print("bin/site: the Markdown library is missing: install Debian's package python3-markdown", file=sys.stderr)
-    sys.exit(69)
+    markdown = None
 
-TOP = CRATES.parent
-LIBRARIES = ["ascii", "ascii_lines", "ascii_run", "ascii_devices", "ascii_base"]
-DEFINED = ["ascii_base", "ascii", "ascii_devices", "ascii_run", "ascii_lines", "ascii_show", "ascii_filter", "cookbook",
-           "example_resp", "example_smtp", "ascii_c"]
-# Ghost members whose value is a proof.
-PROOFS = {"laws", "total", "matches_partial_cmp", "matches_eq", "respects_eq", "holds_sure"}
 PAGES = ["README.md", "docs/START.md", "docs/PROTOCOLS.md", "docs/MODEL.md", "docs/PROVED.md", "docs/BESIDE.md",
          "docs/DIFFERENCES.md", "docs/ARCHITECTURE.md", "docs/DECISIONS.md", "docs/PERFORMANCE.md", "CONTRIBUTING.md", "CHANGELOG.md",
-         "bench/README.md", "docs/WORDS.md", *(f"crates/{name}/CALLING.md" for name in LIBRARIES)]
+         "bench/README.md", "tools/mutants/README.md", *(f"crates/{name}/CALLING.md" for name in LIBRARIES)]
 
 STYLE = """\
 :root { color-scheme: light dark; --ink: #1f2933; --soft: #5b6470; --paper: #fff; --panel: #f3f6f9; --link: #2563a8 }
@@ -239,29 +232,41 @@ def docs_html(docs):
     return with_wide_tables(markdown.markdown("\n".join(docs), extensions=["tables", "fenced_code"]))
 
 
-def main(words):
-    if len(words) != 1 or words[0].startswith("-"):
-        print("usage: bin/site FOLDER", file=sys.stderr)
-        return 64
-    folder = Path(words[0])
+def write_all(folder):
+    """Writes the whole site into an empty folder."""
+    site = Site(folder)
+    for crate in DEFINED:
+        for file in sorted((CRATES / crate / "specs").rglob("*.antt")):
+            if file.name != "Lib.antt":
+                site.definitions(crate, file)
+    for crate in LIBRARIES:
+        for path in site.modules[crate]:
+            site.module(crate, path)
+    for page in PAGES:
+        site.page(page)
+    site.index()
+
+
+def run(folder):
+    """Makes the site beside FOLDER, and then moves it there, so that FOLDER never has a part of it."""
+    if not markdown:
+        print("bin/docs: the Markdown library is missing: install Debian's package python3-markdown", file=sys.stderr)
+        return 69
+    scratch = None
     try:
-        folder.mkdir(parents=True, exist_ok=True)
-        site = Site(folder)
-        for crate in DEFINED:
-            for file in sorted((CRATES / crate / "specs").rglob("*.antt")):
-                if file.name != "Lib.antt":
-                    site.definitions(crate, file)
-        for crate in LIBRARIES:
-            for path in site.modules[crate]:
-                site.module(crate, path)
-        for page in PAGES:
-            site.page(page)
-        site.index()
+        folder.parent.mkdir(parents=True, exist_ok=True)
+        scratch = Path(tempfile.mkdtemp(prefix=".site-", dir=folder.parent))
+        write_all(scratch)
+        signal.signal(signal.SIGINT, signal.SIG_IGN)
+        folder.mkdir(exist_ok=True)
+        for file in scratch.iterdir():
+            os.replace(file, folder / file.name)
+    except KeyboardInterrupt:
+        return 130
     except OSError as error:
-        print(f"bin/site: {folder} cannot be written: {error}", file=sys.stderr)
+        print(f"bin/docs: {folder} cannot be written: {error}", file=sys.stderr)
         return 73
+    finally:
+        if scratch:
+            shutil.rmtree(scratch, ignore_errors=True)
     return 0
-
-
-if __name__ == "__main__":
-    sys.exit(main(sys.argv[1:]))

@@ -1,14 +1,8 @@
-#!/usr/bin/env python3
-# usage: bin/pictures [check]
-# Draws the pictures of the pages, as SVG that can be read on dark and on light: docs/pieces.svg (a text with its pieces,
-# their starts and a walk from both ends), docs/layers.svg (the crates), docs/bytes.svg (how bytes pass through the program).
-# Without an argument the pictures are written; `check` compares them with what it would draw, and writes nothing.
-# Status 1, and a line that says which: a picture is out of date.
-import sys
+"""Draws the pictures of the pages, as SVG that can be read on dark and on light: docs/pieces.svg (a text with its pieces,
+their starts and a walk from both ends), docs/layers.svg (the crates), docs/bytes.svg (how bytes pass through the program)."""
 from html import escape
-from pathlib import Path
 
-DOCS = Path(__file__).resolve().parent.parent / "docs"
+from made import TOP, settle
 
 STYLE = """\
 text { font: 14px system-ui, sans-serif; fill: #1f2933 }
@@ -119,20 +113,7 @@ def bytes_through():
     return picture(930, y - 20, "How bytes pass through the program, and a rejected input", parts)
 
 
-def main(words):
-    if words not in ([], ["check"]):
-        print("usage: bin/pictures [check]", file=sys.stderr)
-        return 64
-    status = 0
-    for name, draw in [("pieces", pieces), ("layers", layers), ("bytes", bytes_through)]:
-        file, drawn = DOCS / f"{name}.svg", draw()
-        if not words:
-            file.write_text(drawn, encoding="utf-8")
-        elif not file.is_file() or file.read_text(encoding="utf-8") != drawn:
-            print(f"bin/pictures: docs/{name}.svg is out of date: run bin/pictures", file=sys.stderr)
-            status = 1
-    return status
-
-
-if __name__ == "__main__":
-    sys.exit(main(sys.argv[1:]))
+def faults(is_check):
+    """Draws the pictures, or compares them with what would be drawn. Returns the faults."""
+    drawn = {"pieces": pieces, "layers": layers, "bytes": bytes_through}
+    return [fault for name, draw in drawn.items() for fault in settle(TOP / "docs" / f"{name}.svg", draw(), "pictures", is_check)]

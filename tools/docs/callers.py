@@ -1,33 +1,26 @@
-#!/usr/bin/env python3
-# usage: bin/calling [check]
-# Makes the page CALLING.md of each crate in PAGES: every public item with its contracts, quoted from the crate's src/.
-# The text that is written by hand is in crates/NAME/CALLING.head.md. It is copied, except for the lines that begin with
-# `@`, which are replaced:
-#   @needs             the folders and the lines of crates.txt that a user of the crate needs
-#   @caller FILE NAME  one function of a file under crates/, word for word, and its hand-written proof
-#   @reading           how the quoted contracts are read
-#   @index             the items by type and module, with links to their groups
-#   @others            the names that the crate re-exports from other crates
-#   @calls KEY, KEY..  the items with these keys that no line before took, and the `ghost use` lines that import the
-#                      definitions of their contracts; `*` in a key is any text
-# The key of an item is its path (`bytes::as_ascii_str`), that of a method is `AsciiStr::len`, and that of an impl of a
-# trait `Clone for AsciiString`.
-# It also makes docs/WORDS.md: each definition of specs/ that public clauses may use, with its comment and its file.
-# Without an argument the pages are written; `check` compares them with the sources, and writes nothing.
-# Status 1, and a line that says why: a page is out of date; a public call has neither a clause nor a ghost member that
-# says what it returns, nor a reason below; an item is in no group; a head asks for an item that does not exist.
+"""Makes the page CALLING.md of each library: every public item with its contracts, quoted from the crate's src/.
+
+The text that is written by hand is in crates/NAME/CALLING.head.md. It is copied, except for the lines that begin with `@`,
+which are replaced:
+  @needs             the folders and the lines of crates.txt that a user of the crate needs
+  @caller FILE NAME  one function of a file under crates/, word for word, and its hand-written proof
+  @reading           how the quoted contracts are read
+  @index             the items by type and module, with links to their groups
+  @others            the names that the crate re-exports from other crates
+  @calls KEY, KEY..  the items with these keys that no line before took, and the `ghost use` lines that import the
+                     definitions of their contracts; `*` in a key is any text
+The key of an item is its path (`bytes::as_ascii_str`), that of a method is `AsciiStr::len`, and that of an impl of a trait
+`Clone for AsciiString`.
+
+A fault is a page that is out of date; a public call that has neither a clause nor a ghost member that says what it returns,
+nor a reason below; an item that is in no group; and a head that asks for an item that does not exist."""
 import re
-import sys
 import textwrap
 from dataclasses import dataclass, field, replace
-from pathlib import Path
 
-sys.dont_write_bytecode = True
-sys.path.insert(0, str(Path(__file__).resolve().parents[1] / "tools" / "reader"))
-from sources import (  # noqa: E402
-    CRATES, Wrong, exported, head_comment, impl_name, read, read_definitions, read_items, read_modules, without_braces
-)
-PAGES = ["ascii_base", "ascii", "ascii_devices", "ascii_run", "ascii_lines"]
+from items import Wrong, read_items
+from made import LIBRARIES, PROOFS, settle
+from sources import CRATES, exported, impl_name, read, read_modules, without_braces
 
 # The calls with neither a clause nor a ghost member, and the reason of each.
 SAID_ELSEWHERE = {
@@ -44,9 +37,6 @@ GIVEN_BY = {"as_str": "text", "as_slice": "items", "as_byte_slice": "bytes"}
 
 # The traits that a type may derive: the language gives a derived call its contract, out of the fields.
 DERIVED = {"Clone", "Copy", "Debug", "Drop", "Eq", "Hash", "Ord", "PartialEq", "PartialOrd"}
-
-# Ghost members whose value is a proof, which says nothing of an outcome.
-PROOFS = {"laws", "total", "matches_partial_cmp", "matches_eq", "respects_eq", "holds_sure"}
 
 READING = """\
 The contracts are quoted from `src/`, without bodies. `requires` is what the caller proves, and `ensures` is proved
@@ -353,8 +343,8 @@ def others_lines(others):
         crate, _, rest = path.partition("::")
         crates.setdefault(crate, []).append(rest.rpartition("::")[2])
     for crate in crates:
-        if crate not in PAGES:
-            raise Wrong(f"a name of {crate}, which has no page, is handed on")
+        if crate not in LIBRARIES:
+            raise Wrong(f"a name of {crate}, which has no page, is re-exported")
     return [f"- of [`{crate}`](../{crate}/CALLING.md): {listed(crates[crate])}" for crate in crates]
 
 
@@ -453,54 +443,12 @@ def page(crate):
     return "\n".join(lines) + "\n"
 
 
-# The crates whose definitions docs/WORDS.md has.
-DEFINED = ["ascii_base", "ascii", "ascii_devices", "ascii_run", "ascii_lines", "ascii_show", "ascii_filter", "cookbook",
-           "example_resp", "example_smtp", "ascii_c"]
-
-WORDS_HEAD = """\
-# The words of contracts
-
-Each definition that a public clause may use, with the comment above it. A definition is in the file of `specs/` whose
-heading it is under. [MODEL](MODEL.md) explains the ideas; `bin/calling` makes this page from the sources.
-"""
-
-
-def words_page():
-    """The page of all definitions, by crate and file."""
-    lines = WORDS_HEAD.splitlines()
-    for crate in DEFINED:
-        folder = CRATES / crate / "specs"
-        files = [(file, read_definitions(file)) for file in sorted(folder.rglob("*.antt")) if file.name != "Lib.antt"]
-        lines += ["", f"## `{crate}`"]
-        for file, definitions in files:
-            if definitions and "private" not in head_comment(file):
-                name = file.relative_to(CRATES.parent)
-                lines += ["", f"### [{file.relative_to(folder).with_suffix('')}](../{name})", "", head_comment(file)]
-                lines += ["", "| Word | Meaning |", "|---|---|"]
-                lines += [f"| `{word}` | {comment.replace('|', chr(92) + '|')} |" for word, comment in definitions]
-    return "\n".join(lines) + "\n"
-
-
-def main(words):
-    if words not in ([], ["check"]):
-        print("usage: bin/calling [check]", file=sys.stderr)
-        return 64
-    status = 0
-    for crate in [*PAGES, None]:
-        file = CRATES / crate / "CALLING.md" if crate else CRATES.parent / "docs" / "WORDS.md"
+def faults(is_check):
+    """Writes the pages, or compares them with the sources. Returns the faults."""
+    found = []
+    for crate in LIBRARIES:
         try:
-            text = page(crate) if crate else words_page()
+            found += settle(CRATES / crate / "CALLING.md", page(crate), "callers", is_check)
         except (Wrong, OSError) as wrong:
-            print(f"bin/calling: {crate}: {wrong}", file=sys.stderr)
-            status = 1
-            continue
-        if not words:
-            file.write_text(text, encoding="utf-8")
-        elif not file.is_file() or read(file) != text:
-            print(f"bin/calling: {file.relative_to(CRATES.parent)} is out of date: run bin/calling", file=sys.stderr)
-            status = 1
-    return status
-
-
-if __name__ == "__main__":
-    sys.exit(main(sys.argv[1:]))
+            found.append(f"crates/{crate}/CALLING.md: {wrong}")
+    return found

@@ -1,0 +1,65 @@
+"""Compares the samples of the pages with the sources.
+
+Each block of Rust or antt of README.md, docs/MODEL.md, docs/START.md and docs/PROTOCOLS.md is in a source of a crate word for
+word. A block that begins with `// FILE`, `-- FILE` or `# FILE` is in that file; one of docs/START.md or docs/PROTOCOLS.md, from
+which a reader makes the file, is the whole file. A line of crates.txt that a page quotes is in crates.txt, and the tests that
+docs/BESIDE.md names exist."""
+import re
+
+from made import TOP
+from sources import read
+
+PAGES = ["README.md", "docs/MODEL.md", "docs/START.md", "docs/PROTOCOLS.md"]
+FOLLOWED = PAGES[2:]
+BLOCK = re.compile(r"^```(\w+)\n(.*?)^```$", re.MULTILINE | re.DOTALL)
+
+
+def blocks(page):
+    """The code blocks of a page, as pairs of a language and a text."""
+    return BLOCK.findall((TOP / page).read_text(encoding="utf-8"))
+
+
+def named(text):
+    """The file that a block names in its first line, and the rest; no file where it names none."""
+    first = re.match(r"(?://|#|--) (\S+)\n", text)
+    return (first.group(1), text[first.end():]) if first else (None, text)
+
+
+def bare(text):
+    """The lines of a text without what is before them: spaces, and what makes them a comment."""
+    return "\n".join(re.sub(r"^\s*(///)?\s*", "", line).rstrip() for line in text.splitlines())
+
+
+def is_sample(page, file, code, sources):
+    """Whether a block of a page is in the file that it names, or in any source if it names none."""
+    if file and file not in sources:
+        return False
+    if page in FOLLOWED and file in ("crates.txt", "HANDLES"):
+        return {*code.splitlines()} <= {*sources[file].splitlines()}
+    if page in FOLLOWED and file:
+        return code == sources[file]
+    return any(bare(code) in bare(sources[place]) for place in ([file] if file else sources))
+
+
+def faults():
+    """The samples that differ from the sources."""
+    files = [f for f in TOP.glob("crates/**/*") if f.suffix in (".rt", ".antt") and "out" not in f.parts]
+    sources = {str(file.relative_to(TOP)): read(file) for file in [*sorted(files), TOP / "crates.txt", TOP / "HANDLES"]}
+    wrong = []
+    for page in PAGES:
+        for language, text in blocks(page):
+            file, code = named(text)
+            if (file or language in ("rust", "antt")) and not is_sample(page, file, code, sources):
+                wrong.append(f"{page}: {file or 'no source'} does not have the sample: {code.splitlines()[0]}")
+    tests = "".join(text for name, text in sources.items() if "/tests/" in name)
+    named_tests = re.findall(r"\| `(\w+)` \|$", read(TOP / "docs/BESIDE.md"), re.MULTILINE)
+    wrong += [f"docs/BESIDE.md: no test {name}" for name in named_tests if f"fn {name}(" not in tests]
+    return wrong + quoted_uses(sources["crates.txt"].splitlines())
+
+
+def quoted_uses(uses):
+    """The lines that name what a crate of this repository uses, and that crates.txt does not have."""
+    crates = {line.partition(":")[0] for line in uses}
+    quote = re.compile(r"(?:^ *|`)((\w+):(?: \w+)*)(?:`|$)", re.MULTILINE)
+    return [f"{page}: crates.txt has no line: {line}"
+            for page in PAGES for line, crate in quote.findall(read(TOP / page)) if crate in crates and line not in uses]

@@ -1,0 +1,74 @@
+"""Tests of the parts of bin/docs, over small texts: `python3 tools/docs/test_docs.py`."""
+import subprocess
+import sys
+import unittest
+from pathlib import Path
+
+sys.dont_write_bytecode = True
+TOP = Path(__file__).resolve().parents[2]
+sys.path[:0] = [str(TOP / "tools" / it) for it in ("docs", "reader")]
+from callers import use_lines  # noqa: E402
+from examples import examples_in, names_of_tests, statements  # noqa: E402
+from samples import is_sample, named  # noqa: E402
+
+
+class Examples(unittest.TestCase):
+    def test_a_test_is_named_by_its_call(self):
+        keys = ["AsciiStr::rsplit_once", "bytes::slice_ascii", "Clone for AsciiString", "serve", "AsStr for AsciiStr::as_str"]
+        want = ["rsplit_once_of_ascii_str", "slice_ascii_of_bytes", "clone_of_ascii_string", "serve_of_ascii_lines"]
+        self.assertEqual(names_of_tests("ascii_lines", keys), [*want, "as_str_of_ascii_str"])
+
+    def test_a_trait_stands_for_a_call_whose_name_is_taken(self):
+        keys = ["Display for Text::fmt", "Debug for Text::fmt", "Text::as_str", "AsStr for Text::as_str"]
+        want = ["display_of_text", "debug_of_text", "as_str_of_text", "as_str_as_str_of_text"]
+        self.assertEqual(names_of_tests("ascii", keys), want)
+
+    def test_an_example_is_indented(self):
+        self.assertEqual(examples_in(["Returns it.", "", "    a() // 1", "    b()?"]), ["a() // 1", "b()?"])
+
+    def test_values_are_compared_as_one_tuple(self):
+        self.assertEqual(statements(["a() // 1"]), ['    assert_debug!(rt; a(), "1");'])
+        code = "".join(line.strip() for line in statements(["a() // 1", "b()? // \"x\""]))
+        self.assertEqual(code, 'assert_debug!(rt;(a(),b().expect(&rt, "refused"),),"(1, \\"x\\")");')
+
+    def test_a_value_between_statements_is_compared_at_its_place(self):
+        lines = ["let mut a = b();", "a.next() // 1", "a.next() // 2"]
+        shown = [f'    assert_debug!(rt; a.next(), "{n}");' for n in (1, 2)]
+        self.assertEqual(statements(lines), [lines[0], *shown])
+
+
+class Samples(unittest.TestCase):
+    SOURCES = {"crates/a/src/lib.rt": "/// Adds.\nfn add() {\n    one\n}\n", "crates.txt": "a: b\nc:\n"}
+
+    def test_a_block_may_name_a_file(self):
+        self.assertEqual(named("// crates/a/src/lib.rt\nfn add()"), ("crates/a/src/lib.rt", "fn add()"))
+        self.assertEqual(named("fn add()"), (None, "fn add()"))
+
+    def test_a_block_of_a_page_is_in_a_source(self):
+        for file in (None, "crates/a/src/lib.rt"):
+            self.assertTrue(is_sample("README.md", file, "fn add() {\none\n", self.SOURCES))
+            self.assertFalse(is_sample("README.md", file, "fn sub() {\n", self.SOURCES))
+        self.assertFalse(is_sample("README.md", "crates/none.rt", "fn add() {\n", self.SOURCES))
+
+    def test_a_block_of_a_followed_page_is_a_whole_file(self):
+        page, file = "docs/START.md", "crates/a/src/lib.rt"
+        self.assertTrue(is_sample(page, file, self.SOURCES[file], self.SOURCES))
+        self.assertFalse(is_sample(page, file, "fn add() {\n    one\n}\n", self.SOURCES))
+        self.assertTrue(is_sample(page, "crates.txt", "c:\n", self.SOURCES))
+        self.assertFalse(is_sample(page, "crates.txt", "c: d\n", self.SOURCES))
+
+
+class Commands(unittest.TestCase):
+    def test_uses_are_broken_at_100_columns(self):
+        lines = use_lines("Rattle.a.specs.B", {f"Word{n:02}": f"Word{n:02}" for n in range(20)})
+        self.assertGreater(len(lines), 1)
+        self.assertTrue(all(len(line) <= 100 for line in lines))
+
+    def test_unknown_arguments_are_rejected(self):
+        for words in (["nothing"], ["callers", "x"], ["words", "--check"], ["site"], []):
+            ran = subprocess.run([str(TOP / "bin/docs"), *words], stdout=subprocess.PIPE, stderr=subprocess.PIPE)
+            self.assertEqual((ran.returncode, ran.stdout), (64, b""), words)
+
+
+if __name__ == "__main__":
+    unittest.main()
