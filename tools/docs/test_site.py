@@ -1,6 +1,6 @@
-"""Tests of a site that `bin/docs site` wrote: `python3 tools/docs/test_site.py FOLDER`. The HTML is well formed, each link leads to a
-page and an anchor that exist, and each public call and each definition has its place. If Chromium is installed, it opens some
-pages, and follows a search to a call and to a definition. Status 1, and a line for each fault."""
+"""Tests of a site that `bin/docs site` wrote: `python3 tools/docs/test_site.py FOLDER`. The HTML is well formed, each link
+leads to a page and an anchor that exist, and each public call and each definition has its place. If Chromium is installed, it
+opens some pages, and follows a search to a call and to a definition. Status 1, and a line for each fault; 64: no FOLDER."""
 import re
 import shutil
 import subprocess
@@ -10,7 +10,8 @@ from html.parser import HTMLParser
 from pathlib import Path
 
 sys.dont_write_bytecode = True
-sys.path.insert(0, str(Path(__file__).resolve().parents[1] / "reader"))
+sys.path[:0] = [str(Path(__file__).resolve().parents[1] / it) for it in ("docs", "reader")]
+from made import DEFINED, LIBRARIES  # noqa: E402
 from sources import CRATES, impl_name, read_definitions, read_modules  # noqa: E402
 
 VOID = {"meta", "link", "input", "img", "br", "hr", "col"}
@@ -67,14 +68,14 @@ def missing(folder, pages):
     """The public calls and the definitions that have no place."""
     text = (folder / "names.js").read_text(encoding="utf-8")
     faults = []
-    for crate in ("ascii", "ascii_lines", "ascii_run", "ascii_devices", "ascii_base"):
+    for crate in LIBRARIES:
         for items in read_modules(crate).values():
             for item in items:
                 calls = [i for i in item.inner if i.kind == "fn" and i.public] if item.kind == "impl" else []
                 names = [f"{impl_name(item)[1]}::{call.name}" for call in calls]
                 names += [item.name] if item.public and item.kind in ("fn", "struct", "enum", "trait") else []
                 faults += [f"{crate}: no place for {name}" for name in names if f'"{name}"' not in text]
-    for crate in ("ascii_base", "ascii", "ascii_devices", "ascii_run", "ascii_lines", "cookbook"):
+    for crate in DEFINED:
         for file in sorted((CRATES / crate / "specs").rglob("*.antt")):
             for word, _ in read_definitions(file):
                 if not any(word in page.anchors for name, page in pages.items() if name.startswith(f"words-{crate}-")):
@@ -111,6 +112,12 @@ def browsed(folder):
 
 
 if __name__ == "__main__":
+    if sys.argv[1:] in (["-h"], ["--help"]):
+        print(__doc__)
+        sys.exit(0)
+    if len(sys.argv) != 2 or sys.argv[1].startswith("-"):
+        print("usage: test_site.py FOLDER", file=sys.stderr)
+        sys.exit(64)
     found = faults_of(Path(sys.argv[1]))
     try:
         found += browsed(Path(sys.argv[1]).resolve())

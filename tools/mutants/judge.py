@@ -21,7 +21,7 @@ def try_crate(settings, copy, name, given):
     crate = Crate(copy, name, settings)
     verdicts = Verdicts(crate, settings.data / "verdicts")
     end = time.monotonic() + 60 * given.minutes
-    mutants = [m for m in wanted(crate, given.only) if not verdicts.has(m)]
+    mutants = [m for m in matching(crate, given.only) if not verdicts.has(m)]
     if not crate.begin():
         print(f"mutants: {name} is not proved as it is", file=sys.stderr)
         return False
@@ -36,7 +36,7 @@ def try_crate(settings, copy, name, given):
     return True
 
 
-def wanted(crate, only):
+def matching(crate, only):
     return [m for m in crate.mutants() if re.search(only, f"{m.function.file} {m.function.block} {m.function.name}")]
 
 
@@ -106,7 +106,7 @@ def print_lists(settings, names, given):
     """Prints the mutants, or those that only a proof by hand rejects, and tries none."""
     for name in names:
         if given.list:
-            for m in wanted(Crate(settings.root, name, settings), given.only):
+            for m in matching(Crate(settings.root, name, settings), given.only):
                 print(line_of(name, m))
             continue
         for title, mutants in zip(("public", "private"), by_hand(verdicts_of(settings, name))):
