@@ -213,7 +213,7 @@ def doc_line(item):
 
 def ghost_uses(line):
     """The words that a `ghost use` line brings, each with how it is written in the line."""
-    path, _, names = line.removeprefix("ghost use ").partition(".{")
+    path, _, names = line[len("ghost use ") :].partition(".{")
     if not names:
         path, _, alias = path.partition(" as ")
         return path, [(alias or path.rpartition(".")[2], "")]
@@ -325,7 +325,7 @@ def caller_lines(file, name):
     plain = [i.source for i in items if i.kind == "use" and names & set(re.findall(r"\w+", i.head)[2:])]
     lines = ["```rust", f"// crates/{file}", *ghost, "", *plain, "", caller.source, "```"]
     crate, _, module = file.partition("/src/")
-    proof = CRATES / crate / "proofs" / module.removesuffix(".rt") / name / "Answers.antt"
+    proof = CRATES / crate / "proofs" / re.sub(r"\.rt$", "", module) / name / "Answers.antt"
     if proof.is_file():
         lines += ["", "```antt", f"-- {proof.relative_to(CRATES.parent)}", read(proof).rstrip(), "```"]
     return lines
@@ -407,9 +407,9 @@ def groups_of(head, entries):
     left, groups, heading = list(entries), [], ""
     for line in head:
         if line.startswith("### "):
-            heading = line.removeprefix("### ")
+            heading = line[len("### ") :]
         elif line.startswith("@calls "):
-            groups.append((heading, take(line.removeprefix("@calls ").split(", "), left)))
+            groups.append((heading, take(line[len("@calls ") :].split(", "), left)))
     if left:
         raise Wrong("no group has " + ", ".join(entry.key for entry in left))
     return groups

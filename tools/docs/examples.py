@@ -145,7 +145,7 @@ def names_of(crate, modules, below):
             found[f".{call.name}("] = found[f"::{call.name}("] = f"{crate}::{path}"
         for inner, target in below.items() if item is None else []:
             if target.startswith(f"{path}::"):  # of a module that is re-exported
-                found[inner] = f"{crate}::{name}{target.removeprefix(path)}"
+                found[inner] = f"{crate}::{name}{target[len(path) :]}"
     return found
 
 

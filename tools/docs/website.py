@@ -69,7 +69,7 @@ show();
 
 def html_name(page):
     """The file name that a page of the repository has in the site."""
-    return page.removesuffix(".md").replace("/", "-") + ".html" if page != "README.md" else "README.html"
+    return re.sub(r"\.md$", "", page).replace("/", "-") + ".html" if page != "README.md" else "README.html"
 
 
 def module_name(crate, path):
@@ -122,16 +122,16 @@ class Site:
         if not target:
             return f'{kind}="{anchor or "#"}"'
         path = (TOP / page).parent.joinpath(target).resolve()
-        name = str(path.relative_to(TOP)) if path.is_relative_to(TOP) else ""
+        name = str(path.relative_to(TOP)) if TOP in path.parents else ""
         if name in PAGES:
             return f'{kind}="{html_name(name)}{anchor or ""}"'
         if path.suffix == ".svg" and path.is_file():
             self.write(path.name, read(path))
             return f'{kind}="{path.name}"'
         for crate in DEFINED:
-            if path.suffix == ".antt" and path.is_relative_to(CRATES / crate / "specs"):
+            if path.suffix == ".antt" and CRATES / crate / "specs" in path.parents:
                 return f'{kind}="{definitions_name(crate, path)}"'
-            if path.is_relative_to(CRATES / crate / "src") and crate in LIBRARIES:
+            if CRATES / crate / "src" in path.parents and crate in LIBRARIES:
                 return f'{kind}="{module_name(crate, ())}"'
         return f'title="{escape(name)} in the repository"'
 
@@ -141,7 +141,7 @@ class Site:
         items = self.modules[crate][path]
         name = "::".join((crate, *path))
         file = CRATES / crate / "src" / ("/".join(path or ("lib",)) + ".rt")
-        heads = [line[3:].removeprefix(" ") for line in read(file).splitlines() if line.startswith("//!")]
+        heads = [re.sub(r"^//! ?", "", line) for line in read(file).splitlines() if line.startswith("//!")]
         parts = [f"<h1>{name}</h1>", docs_html(heads)]
         inner = [other for other in self.modules[crate] if other[:-1] == path and other]
         if inner:

@@ -34,7 +34,7 @@ def faults():
     patterns, exceptions = [], []
     for line in read(FOLDER / "words.txt").splitlines():
         if line.startswith("except: "):
-            exceptions.append(line.removeprefix("except: "))
+            exceptions.append(line[len("except: ") :])
         elif not line.startswith("#"):
             pattern, _, better = line.partition("=>")
             patterns.append((re.compile(pattern.strip(), re.IGNORECASE), better.strip()))

@@ -36,7 +36,7 @@ def mutations_of(text):
         elif line.startswith("old: "):
             old = line[5:]
         elif line.startswith("new:"):
-            mutations[-1][1].append((file, old, line[4:].removeprefix(" ")))
+            mutations[-1][1].append((file, old, re.sub(r"^new: ?", "", line)))
     return mutations
 
 

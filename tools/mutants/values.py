@@ -62,7 +62,7 @@ def changes(names, kind, it, text, depth=2):
 
 def outcomes(result):
     """The types of what a function returns: each with the pattern and the value of that outcome, and the arm of the other."""
-    result = plain(result).removeprefix("io::")
+    result = re.sub(r"^io::", "", plain(result))
     if result.startswith("Result<"):
         kinds = arguments_of(result) + ["io::Error"]
         return [

@@ -54,7 +54,7 @@ class Verdicts:
         return [m for m in self.crate.mutants() if self.kinds.get(self.name(m)) in kinds]
 
     def save(self, mutants):
-        self.kinds |= {self.name(m): m.kind for m in mutants}
+        self.kinds.update({self.name(m): m.kind for m in mutants})
         self.file.parent.mkdir(parents=True, exist_ok=True)
         lines = sorted("\t".join([*name, kind]) + "\n" for name, kind in self.kinds.items())
         self.file.write_text("".join(lines), encoding="utf-8")

@@ -40,7 +40,7 @@ def one_line(text):
 
 def doc_text(line):
     """A line of a comment without what begins it; a line of code keeps its indentation."""
-    return line.lstrip("/").rstrip().removeprefix(" ")
+    return re.sub(r"^/* ?", "", line.rstrip())
 
 
 def read_items(text):

@@ -101,15 +101,15 @@ def bare(name):
 
 def impl_name(item):
     """The trait and the type of an impl: `Clone for AsciiString`, or the type alone."""
-    head = item.head.removeprefix("unsafe ")
+    head = re.sub(r"^unsafe ", "", item.head)
     if head.startswith("impl<"):
         head = head[find_generics_end(head, 4):]
     head = re.sub(r"^impl ", "", head).strip().partition(" where ")[0]
     of_trait, _, of_type = head.rpartition(" for ")
     if not of_trait:
         return "", re.sub(r"<.*", "", of_type)
-    of_trait = re.sub(r"<(\w+)<.*>>", r"<\1>", bare(of_trait)).removeprefix("fmt::")
-    return of_trait, re.sub(r"<.*", "", bare(of_type))
+    of_trait = re.sub(r"<(\w+)<.*>>", r"<\1>", bare(of_trait))
+    return re.sub(r"^fmt::", "", of_trait), re.sub(r"<.*", "", bare(of_type))
 
 
 def find_generics_end(text, at):
@@ -137,7 +137,7 @@ def read_definitions(file):
                 break
             comment = []
         elif text.startswith("--"):
-            comment.append(text.removeprefix("--").strip())
+            comment.append(text[len("--") :].strip())
         else:
             match = DEFINITION.match(line)
             is_field = line.startswith("  pub ") and not line.startswith("  pub record")
@@ -153,5 +153,5 @@ def head_comment(file):
     for line in read(file).splitlines():
         if not line.startswith("--"):
             break
-        lines.append(line.removeprefix("--").strip())
+        lines.append(line[len("--") :].strip())
     return " ".join(lines)
