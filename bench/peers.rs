@@ -86,7 +86,7 @@ macro_rules! called {
 }
 
 pub mod ours {
-    //! The exports of crates/bench_calls.
+    //! Exports of crates/exports.
 
     mod exports {
         extern "C" {

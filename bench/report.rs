@@ -352,7 +352,7 @@ fn page(
     format!(
         "# Performance
 
-Written by `bench/run`, from one run. [bench/README.md](../bench/README.md) says how the calls are measured and what each
+Written by `bin/bench`, from one run. [bench/README.md](../bench/README.md) says how the calls are measured and what each
 name means. A number in a comparison is the peer's time divided by ours: above 1, this library is faster.
 
 ![Times as fast as the Rust crate and as std](performance.svg)

@@ -1,0 +1,103 @@
+//! Characters: conversions, tests and case.
+
+ghost use Rattle.std.specs.Prelude.{◌≤◌};
+
+use crate::answer::Answer;
+use ascii::{AsciiChar, ToAsciiChar, caret_decode, caret_encode};
+use std::alloc::Global;
+
+/// For each number: the character of that number as a `u8`, an `i8`, a `u16`, a `u32` and a `char`.
+#[unsafe(no_mangle)]
+pub extern "C" fn ask_characters_of(alloc: Global, numbers: &[i64], room: &mut [u8]) -> usize {
+    let mut answer = Answer::new(alloc);
+    for number in numbers {
+        convert(u8::try_from(*number).ok(), &mut answer);
+        convert(i8::try_from(*number).ok(), &mut answer);
+        convert(u16::try_from(*number).ok(), &mut answer);
+        let number = u32::try_from(*number).ok();
+        convert(number, &mut answer);
+        convert(char::from_u32(number.unwrap_or(u32::MAX)), &mut answer);
+    }
+    answer.finish(room)
+}
+
+fn convert<C: ToAsciiChar + Drop>(number: Option<C>, answer: &mut Answer) {
+    match number {
+        Some(number) => answer.character(number.to_ascii_char().ok()),
+        None => answer.none(),
+    }
+}
+
+/// For each ASCII code: its class tests, its upper case, lower case and printable character, and its value
+/// as a digit.
+#[unsafe(no_mangle)]
+pub extern "C" fn ask_characters(alloc: Global, codes: &[u8], radix: u32, room: &mut [u8]) -> usize
+    requires { radix ≤ 36 }
+{
+    let mut answer = Answer::new(alloc);
+    for code in codes {
+        if let Ok(ch) = AsciiChar::from_ascii(*code) {
+            answer.flags(&letter_tests(ch));
+            answer.flags(&other_tests(ch));
+            answer.character(Some(ch.to_ascii_uppercase()));
+            answer.character(Some(ch.to_ascii_lowercase()));
+            answer.long(u32::from(ch.as_printable_char()) as u64);
+            answer.flag(ch.is_digit(radix));
+            answer.long(ch.to_digit(radix).unwrap_or(radix) as u64);
+        }
+    }
+    answer.finish(room)
+}
+
+fn letter_tests(ch: AsciiChar) -> [bool; 9] {
+    [
+        ch.is_alphabetic(),
+        ch.is_ascii_alphabetic(),
+        ch.is_ascii_digit(),
+        ch.is_alphanumeric(),
+        ch.is_ascii_alphanumeric(),
+        ch.is_lowercase(),
+        ch.is_ascii_lowercase(),
+        ch.is_uppercase(),
+        ch.is_ascii_uppercase(),
+    ]
+}
+
+fn other_tests(ch: AsciiChar) -> [bool; 8] {
+    [
+        ch.is_ascii_blank(),
+        ch.is_whitespace(),
+        ch.is_ascii_whitespace(),
+        ch.is_ascii_control(),
+        ch.is_ascii_graphic(),
+        ch.is_ascii_printable(),
+        ch.is_ascii_punctuation(),
+        ch.is_ascii_hexdigit(),
+    ]
+}
+
+/// For each pair of ASCII codes, one after the other: whether they are equal, ignoring case, and their order.
+#[unsafe(no_mangle)]
+pub extern "C" fn ask_character_pairs(alloc: Global, codes: &[u8], room: &mut [u8]) -> usize {
+    let mut answer = Answer::new(alloc);
+    for pair in codes.chunks(2) {
+        if let [first, second] = pair {
+            if let (Ok(first), Ok(second)) = (first.to_ascii_char(), second.to_ascii_char()) {
+                answer.flag(first.eq_ignore_ascii_case(&second));
+                answer.order(first.cmp(&second));
+            }
+        }
+    }
+    answer.finish(room)
+}
+
+/// For each byte: what it is in caret notation, and what it is read as there.
+#[unsafe(no_mangle)]
+pub extern "C" fn ask_carets(alloc: Global, codes: &[u8], room: &mut [u8]) -> usize {
+    let mut answer = Answer::new(alloc);
+    for code in codes {
+        answer.character(caret_encode(*code));
+        answer.character(caret_decode(*code));
+    }
+    answer.finish(room)
+}

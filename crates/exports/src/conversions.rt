@@ -1,0 +1,159 @@
+//! Texts made out of other values and turned into them.
+
+ghost use Rattle.std.specs.Str.{IsAscii};
+
+use crate::answer::Answer;
+use ascii::{
+    AsciiChar, AsciiStr, AsciiString, CopyError, CowAsciiStr, FromAsciiError, bytes, string, text,
+    vec,
+};
+use ascii_run::{AsciiBuf, SmallAsciiString};
+use std::alloc::{AllocError, Global};
+use std::fmt::{self, Write as _};
+
+/// A copy of bytes and of their `str`, the string that has their `Vec` and that which has their `String`;
+/// each of them the text, or the position of the error.
+#[unsafe(no_mangle)]
+pub extern "C" fn ask_conversions(alloc: Global, source: &[u8], room: &mut [u8]) -> usize {
+    let mut answer = Answer::new(alloc);
+    put_copy(bytes::to_ascii_string(alloc, source), &mut answer);
+    if let Ok(list) = Vec::from_slice(alloc, source) {
+        put(vec::into_ascii_string(list), &mut answer);
+    }
+    if let Ok(source) = str::from_utf8(source) {
+        put_copy(text::to_ascii_string(alloc, source), &mut answer);
+        if let Ok(owned) = String::from_str(alloc, source) {
+            put(string::into_ascii_string(owned), &mut answer);
+        }
+    }
+    answer.finish(room)
+}
+
+fn put_copy<O: Drop>(copy: Result<AsciiString, CopyError<O>>, answer: &mut Answer) {
+    match copy {
+        Ok(string) => answer.text(string.as_ascii_str()),
+        Err(CopyError::NotAscii(error)) => answer.number(error.ascii_error().valid_up_to()),
+        Err(CopyError::Memory(_)) => answer.failed(),
+    }
+}
+
+fn put<O: Drop>(made: Result<AsciiString, FromAsciiError<O>>, answer: &mut Answer) {
+    match made {
+        Ok(string) => answer.text(string.as_ascii_str()),
+        Err(error) => answer.number(error.ascii_error().valid_up_to()),
+    }
+}
+
+/// A text after it was turned into lists of characters and back, and after it was each of the boxes.
+#[unsafe(no_mangle)]
+pub extern "C" fn ask_round_trips(alloc: Global, source: &[u8], room: &mut [u8]) -> usize
+    requires { IsAscii source.now }
+{
+    let view = bytes::as_ascii_str_unchecked(source);
+    let mut answer = Answer::new(alloc);
+    answer.owned(through_chars(alloc, view));
+    answer.owned(through_boxes(alloc, view));
+    if let Ok(string) = view.to_ascii_string(alloc) {
+        answer.owned(string.clone());
+        answer.name(String::from(string).as_str());
+    }
+    answer.finish(room)
+}
+
+fn through_chars(alloc: Global, view: AsciiStr<'_>) -> Result<AsciiString, AllocError> {
+    let chars = view.to_chars(alloc)?;
+    let string = AsciiString::from_chars(alloc, &chars)?;
+    let chars = string.into_chars(alloc).ok().ok_or(AllocError)?;
+    AsciiString::collect_chars(alloc, chars.into_iter())
+}
+
+fn through_boxes(alloc: Global, view: AsciiStr<'_>) -> Result<AsciiString, AllocError> {
+    let string = view.to_ascii_string(alloc)?;
+    let boxed = string.into_boxed_ascii_str().ok().ok_or(AllocError)?;
+    let string = boxed.into_ascii_string().ok().ok_or(AllocError)?;
+    let shared = string.into_rc_ascii_str(alloc).ok().ok_or(AllocError)?;
+    let borrowed = CowAsciiStr::from(shared.as_ascii_str());
+    borrowed.into_owned(alloc).ok().ok_or(AllocError)
+}
+
+/// Whether a piece was written to a text, and the text after that; as a string and as an inline string.
+#[unsafe(no_mangle)]
+pub extern "C" fn ask_written(alloc: Global, source: &[u8], piece: &[u8], room: &mut [u8]) -> usize
+    requires { IsAscii source.now }
+{
+    let view = bytes::as_ascii_str_unchecked(source);
+    let mut answer = Answer::new(alloc);
+    if let Ok(piece) = str::from_utf8(piece) {
+        write(view.to_ascii_string(alloc), piece, &mut answer);
+        write(
+            SmallAsciiString::from_ascii_str(alloc, view),
+            piece,
+            &mut answer,
+        );
+    }
+    answer.finish(room)
+}
+
+fn write<B: AsciiBuf + fmt::Write + Drop>(
+    made: Result<B, AllocError>,
+    piece: &str,
+    answer: &mut Answer,
+) {
+    if let Ok(buf) = made {
+        let mut buf = buf;
+        answer.flag(buf.write_str(piece).is_ok());
+        answer.text(buf.as_ascii_str());
+    }
+}
+
+/// Whether a character was written to a text, by its number, and the text after that.
+#[unsafe(no_mangle)]
+pub extern "C" fn ask_character_written(
+    alloc: Global,
+    number: u32,
+    source: &[u8],
+    room: &mut [u8],
+) -> usize
+    requires { IsAscii source.now }
+{
+    let view = bytes::as_ascii_str_unchecked(source);
+    let mut answer = Answer::new(alloc);
+    if let (Some(ch), Ok(mut string)) = (char::from_u32(number), view.to_ascii_string(alloc)) {
+        answer.flag(string.write_char(ch).is_ok());
+        answer.text(string.as_ascii_str());
+    }
+    answer.finish(room)
+}
+
+/// The pieces at a character collected into one string, and then the lines appended to it.
+#[unsafe(no_mangle)]
+pub extern "C" fn ask_collected(alloc: Global, code: u8, source: &[u8], room: &mut [u8]) -> usize
+    requires { IsAscii source.now }
+{
+    let view = bytes::as_ascii_str_unchecked(source);
+    let mut answer = Answer::new(alloc);
+    if let Ok(on) = AsciiChar::from_ascii(code) {
+        if let Ok(mut string) = AsciiString::collect_strs(alloc, view.split(on)) {
+            answer.text(string.as_ascii_str());
+            answer.flag(string.extend_strs(view.lines()).is_ok());
+            answer.text(string.as_ascii_str());
+        }
+    }
+    answer.finish(room)
+}
+
+/// The two parts of a string that is cut at a position.
+#[unsafe(no_mangle)]
+pub extern "C" fn ask_split_off(alloc: Global, at: usize, source: &[u8], room: &mut [u8]) -> usize
+    requires { IsAscii source.now }
+{
+    let view = bytes::as_ascii_str_unchecked(source);
+    let mut answer = Answer::new(alloc);
+    if let Ok(mut string) = view.to_ascii_string(alloc) {
+        if at <= string.len() {
+            answer.owned(string.split_off(at));
+            answer.text(string.as_ascii_str());
+        }
+    }
+    answer.finish(room)
+}

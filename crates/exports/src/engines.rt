@@ -1,0 +1,95 @@
+//! The modes of both engines, over devices that give and take little or fail.
+
+use crate::answer::Answer;
+use crate::devices::{Device, Given, Taken};
+use ascii::iter::End;
+use ascii_run::{
+    BoundedFault, BoundedMode, EngineFault, Input, Mode, Output, bounded_engine, engine,
+};
+use std::alloc::{AllocError, Global};
+
+/// What `engine` returns, and what it wrote. The number of a mode is its index in the list of `Mode`, without
+/// `Edit`; the script is that of the two modes that have one.
+#[unsafe(no_mangle)]
+pub extern "C" fn ask_engine(
+    alloc: Global,
+    mode: u8,
+    script: &[u8],
+    source: &[u8],
+    reads: &Device,
+    writes: &Device,
+    room: &mut [u8],
+) -> usize {
+    let mut answer = Answer::new(alloc);
+    if let Ok(script) = ends_of(alloc, script) {
+        let mut input = Input::new(Given::new(source, *reads));
+        let mut output = Output::new(Taken::new(alloc, *writes));
+        match engine(alloc, mode_of(mode, &script), &mut input, &mut output) {
+            Ok(()) => answer.name("done"),
+            Err(EngineFault::NotAscii(position)) => answer.fault("ascii", position),
+            Err(EngineFault::Position(position)) => answer.fault("position", position),
+            Err(EngineFault::Memory) => answer.failed(),
+            Err(EngineFault::Read) => answer.name("read"),
+            Err(EngineFault::Write) => answer.name("write"),
+        }
+        answer.bytes(&output.into_inner().bytes);
+    }
+    answer.finish(room)
+}
+
+fn ends_of(alloc: Global, script: &[u8]) -> Result<Vec<End>, AllocError> {
+    let mut ends = Vec::new(alloc);
+    for number in script {
+        ends.push(if *number == 0 { End::Front } else { End::Back })?;
+    }
+    Ok(ends)
+}
+
+fn mode_of<'a>(mode: u8, script: &'a [End]) -> Mode<'a> {
+    match mode {
+        0 => Mode::Copy,
+        1 => Mode::Lines,
+        2 => Mode::Tac,
+        3 => Mode::Caret,
+        4 => Mode::Ends(script),
+        5 => Mode::EndsSpans(script),
+        _ => Mode::Json,
+    }
+}
+
+/// What `bounded_engine` returns, and what it wrote. The number of a mode is its index in the list of
+/// `BoundedMode`.
+#[unsafe(no_mangle)]
+pub extern "C" fn ask_bounded_engine(
+    alloc: Global,
+    mode: u8,
+    source: &[u8],
+    reads: &Device,
+    writes: &Device,
+    room: &mut [u8],
+) -> usize {
+    let mode = match mode {
+        0 => BoundedMode::Copy,
+        1 => BoundedMode::Lines,
+        2 => BoundedMode::Caret,
+        3 => BoundedMode::Json,
+        4 => BoundedMode::Upper,
+        _ => BoundedMode::Lower,
+    };
+    let mut answer = Answer::new(alloc);
+    let mut input = Input::new(Given::new(source, *reads));
+    let mut output = Output::new(Taken::new(alloc, *writes));
+    match bounded_engine(alloc, mode, &mut input, &mut output) {
+        Ok(()) => answer.name("done"),
+        Err(BoundedFault::NotAscii(position)) => {
+            answer.name("ascii");
+            answer.long(position);
+        }
+        Err(BoundedFault::TooLong) => answer.name("long"),
+        Err(BoundedFault::Memory) => answer.failed(),
+        Err(BoundedFault::Read) => answer.name("read"),
+        Err(BoundedFault::Write) => answer.name("write"),
+    }
+    answer.bytes(&output.into_inner().bytes);
+    answer.finish(room)
+}

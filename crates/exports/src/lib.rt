@@ -1,0 +1,24 @@
+//! Calls of the libraries with typed parameters, for two programs in Rust that are linked with them: the benchmark
+//! measures those of `measured`, and the randomized differential test compares the answers of the others, whose names
+//! begin with `ask_`, with those of other implementations.
+//!
+//! Such a call writes its answer into a buffer and returns its length; `answer` says how. It states no more than what
+//! it needs of its caller, because its answers are what is compared.
+#![tactic(auto)]
+
+mod answer;
+pub mod characters;
+pub mod conversions;
+pub mod devices;
+pub mod edits;
+pub mod engines;
+pub mod lines_in_and_out;
+pub mod measured;
+pub mod prints;
+pub mod recipes;
+pub mod searches;
+pub mod slices;
+pub mod steps;
+pub mod texts;
+pub mod walks;
+pub mod words;

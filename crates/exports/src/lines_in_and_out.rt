@@ -1,0 +1,217 @@
+//! Lines that are read, written and answered, over devices that give and take little or fail.
+
+ghost use Rattle.std.specs.Str.{IsAscii};
+
+use crate::answer::Answer;
+use crate::devices::{Device, Given, Taken};
+use crate::steps::Step;
+use crate::walks::ending_name;
+use ascii::iter::Ending;
+use ascii::{AsciiChar, AsciiStr, AsciiString, bytes};
+use ascii_lines::{
+    Endings, Handler, Input, LineError, LineReader, LineWriter, Next, Output, Stop, WriteError,
+    collect_lines, serve,
+};
+use std::alloc::{AllocError, Global};
+
+/// What a reader with a buffer of `size` bytes returns to each step, and its position after it. The kinds are 0
+/// for the next line, 1 to 3 for the endings of `Endings` from now on, and 4 for a part of `at` bytes.
+#[unsafe(no_mangle)]
+pub extern "C" fn ask_reader(
+    alloc: Global,
+    source: &[u8],
+    size: usize,
+    device: &Device,
+    steps: &[Step],
+    room: &mut [u8],
+) -> usize {
+    let mut answer = Answer::new(alloc);
+    if let Ok(mut reader) = LineReader::new(alloc, Input::new(Given::new(source, *device)), size) {
+        for step in steps {
+            read(&mut reader, *step, &mut answer);
+            answer.long(reader.position());
+        }
+    }
+    answer.finish(room)
+}
+
+fn read(reader: &mut LineReader<Input<Given<'_>>>, step: Step, answer: &mut Answer) {
+    match step.kind {
+        0 => put_next_line(reader, answer),
+        1 => reader.lines_ended_by(Endings::Any),
+        2 => reader.lines_ended_by(Endings::CrLf),
+        3 => reader.lines_ended_by(Endings::CrLfStrict),
+        _ => match reader.read_exact_part(step.at) {
+            Ok(part) => {
+                answer.long(part.start);
+                answer.text(part.text);
+            }
+            Err(error) => put_error(error, answer),
+        },
+    }
+}
+
+fn put_next_line(reader: &mut LineReader<Input<Given<'_>>>, answer: &mut Answer) {
+    match reader.next_line() {
+        Ok(Some(line)) => put_line(line.start, line.text, line.ending, answer),
+        Ok(None) => answer.none(),
+        Err(error) => put_error(error, answer),
+    }
+}
+
+fn put_line(start: u64, text: AsciiStr<'_>, ending: Ending, answer: &mut Answer) {
+    answer.long(start);
+    answer.text(text);
+    answer.name(ending_name(ending));
+}
+
+fn put_error(error: LineError, answer: &mut Answer) {
+    match error {
+        LineError::NotAscii(position) => put_error_at("ascii", position, answer),
+        LineError::LoneBreak(position) => put_error_at("lone", position, answer),
+        LineError::TooLong(position) => put_error_at("long", position, answer),
+        LineError::Incomplete(count) => answer.fault("incomplete", count),
+        LineError::TooFar => answer.name("far"),
+        LineError::Read => answer.name("read"),
+    }
+}
+
+fn put_error_at(name: &str, position: u64, answer: &mut Answer) {
+    answer.name(name);
+    answer.long(position);
+}
+
+/// The lines that are collected, and the error or none.
+#[unsafe(no_mangle)]
+pub extern "C" fn ask_collected_lines(
+    alloc: Global,
+    source: &[u8],
+    size: usize,
+    device: &Device,
+    room: &mut [u8],
+) -> usize {
+    let mut answer = Answer::new(alloc);
+    if let Ok(mut reader) = LineReader::new(alloc, Input::new(Given::new(source, *device)), size) {
+        if let Ok(kept) = collect_lines(alloc, &mut reader) {
+            for line in &kept.lines {
+                put_line(
+                    line.start,
+                    line.text.as_ascii_str(),
+                    line.ending,
+                    &mut answer,
+                );
+            }
+            match kept.error {
+                Some(error) => put_error(error, &mut answer),
+                None => answer.none(),
+            }
+        }
+    }
+    answer.finish(room)
+}
+
+/// What a writer with a buffer of `size` bytes returns to each step, and what its sink has taken. The kinds are 0
+/// to 2 for a text with an ending, in the order of `Ending`, and 3 for a flush.
+#[unsafe(no_mangle)]
+pub extern "C" fn ask_writer(
+    alloc: Global,
+    texts: &[u8],
+    size: usize,
+    device: &Device,
+    steps: &[Step],
+    room: &mut [u8],
+) -> usize
+    requires { IsAscii texts.now }
+{
+    let texts = bytes::as_ascii_str_unchecked(texts);
+    let mut answer = Answer::new(alloc);
+    if let Ok(mut writer) = LineWriter::new(alloc, Output::new(Taken::new(alloc, *device)), size) {
+        for step in steps {
+            match write(&mut writer, *step, texts) {
+                Ok(()) => answer.name("done"),
+                Err(error) => put_write_error(error, &mut answer),
+            }
+        }
+        answer.bytes(&writer.into_sink().into_inner().bytes);
+    }
+    answer.finish(room)
+}
+
+fn write(
+    writer: &mut LineWriter<Output<Taken>>,
+    step: Step,
+    texts: AsciiStr<'_>,
+) -> Result<(), WriteError> {
+    let text = step.text(texts);
+    match step.kind {
+        0 => writer.write_line(text, Ending::Lf),
+        1 => writer.write_line(text, Ending::CrLf),
+        2 => writer.write_line(text, Ending::Absent),
+        _ => writer.flush(),
+    }
+}
+
+fn put_write_error(error: WriteError, answer: &mut Answer) {
+    match error {
+        WriteError::LineBreak(position) => answer.fault("break", position),
+        WriteError::Write => answer.name("write"),
+    }
+}
+
+/// Why a conversation stops, and what went out. `Echo` says what is replied.
+#[unsafe(no_mangle)]
+pub extern "C" fn ask_conversation(
+    alloc: Global,
+    source: &[u8],
+    size: usize,
+    reads: &Device,
+    writes: &Device,
+    room: &mut [u8],
+) -> usize {
+    let mut answer = Answer::new(alloc);
+    let reader = LineReader::new(alloc, Input::new(Given::new(source, *reads)), size);
+    let writer = LineWriter::new(alloc, Output::new(Taken::new(alloc, *writes)), size);
+    if let (Ok(mut reader), Ok(mut writer)) = (reader, writer) {
+        let mut echo = Echo { awaits_part: false };
+        match serve(alloc, &mut reader, &mut writer, Ending::CrLf, &mut echo) {
+            Stop::Closed => answer.name("closed"),
+            Stop::EndOfInput => answer.none(),
+            Stop::Reader(error) => put_error(error, &mut answer),
+            Stop::Writer(error) => put_write_error(error, &mut answer),
+            Stop::Memory => answer.failed(),
+        }
+        answer.bytes(&writer.into_sink().into_inner().bytes);
+    }
+    answer.finish(room)
+}
+
+/// A handler. It replies to a line or a part in upper case. After a line that starts with `p` it asks for a
+/// part of three bytes, and after the line `q` it closes.
+#[derive(Drop)]
+struct Echo {
+    awaits_part: bool,
+}
+
+impl Handler for Echo {
+    ghost use Rattle.std.specs.Prelude.{⊤};
+
+    ghost answers = { λ _ _ _ _ _. ⊤ };
+
+    fn answer(
+        &mut self,
+        alloc: Global,
+        text: AsciiStr<'_>,
+        replies: &mut Vec<AsciiString>,
+    ) -> Result<Next, AllocError> {
+        replies.push(text.to_ascii_uppercase(alloc)?)?;
+        let is_part = self.awaits_part;
+        self.awaits_part = !is_part && text.first() == Some(AsciiChar::p);
+        if self.awaits_part {
+            Ok(Next::Part(3))
+        } else if !is_part && text.as_bytes() == b"q".as_slice() {
+            Ok(Next::Close)
+        } else {
+            Ok(Next::Line)
+        }
+    }
+}

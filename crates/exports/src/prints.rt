@@ -1,0 +1,98 @@
+//! Printed texts and characters, and JSON. The number of a form is its index in `print`.
+
+ghost use Rattle.std.specs.Str.{IsAscii};
+
+use crate::answer::Answer;
+use ascii::{AsciiChar, bytes, json};
+use ascii_run::SmallAsciiString;
+use std::alloc::{AllocError, Global};
+use std::fmt;
+
+/// A text in a form: as a view, ignoring case, as a string and as an inline string.
+#[unsafe(no_mangle)]
+pub extern "C" fn ask_printed(alloc: Global, form: u8, source: &[u8], room: &mut [u8]) -> usize
+    requires { IsAscii source.now }
+{
+    let view = bytes::as_ascii_str_unchecked(source);
+    let mut answer = Answer::new(alloc);
+    put(alloc, form, Ok(view), &mut answer);
+    put(alloc, form, Ok(view.folded()), &mut answer);
+    put(alloc, form, view.to_ascii_string(alloc), &mut answer);
+    put(
+        alloc,
+        form,
+        SmallAsciiString::from_ascii_str(alloc, view),
+        &mut answer,
+    );
+    answer.finish(room)
+}
+
+/// Each of some characters in a form.
+#[unsafe(no_mangle)]
+pub extern "C" fn ask_printed_characters(
+    alloc: Global,
+    form: u8,
+    codes: &[u8],
+    room: &mut [u8],
+) -> usize {
+    let mut answer = Answer::new(alloc);
+    for code in codes {
+        put(
+            alloc,
+            form,
+            AsciiChar::from_ascii(*code).map_err(|_| AllocError),
+            &mut answer,
+        );
+    }
+    answer.finish(room)
+}
+
+fn put<T: fmt::Display + fmt::Debug + Drop>(
+    alloc: Global,
+    form: u8,
+    value: Result<T, AllocError>,
+    answer: &mut Answer,
+) {
+    if let Ok(value) = value {
+        if let Ok(text) = print(alloc, form, &value) {
+            answer.name(text.as_str());
+        }
+    }
+}
+
+fn print<T: fmt::Display + fmt::Debug>(
+    alloc: Global,
+    form: u8,
+    value: &T,
+) -> Result<String, AllocError> {
+    match form {
+        0 => format!(in alloc; "{value}"),
+        1 => format!(in alloc; "{value:?}"),
+        2 => format!(in alloc; "{value:7}"),
+        3 => format!(in alloc; "{value:>20}"),
+        4 => format!(in alloc; "{value:<20}"),
+        5 => format!(in alloc; "{value:*^33}"),
+        6 => format!(in alloc; "{value:.5}"),
+        7 => format!(in alloc; "{value:.0}"),
+        8 => format!(in alloc; "{value:10.3}"),
+        9 => format!(in alloc; "{value:->12.40}"),
+        _ => format!(in alloc; "{value:^1}"),
+    }
+}
+
+/// The JSON text of a view, and the string read back from its value.
+#[unsafe(no_mangle)]
+pub extern "C" fn ask_json(alloc: Global, source: &[u8], room: &mut [u8]) -> usize
+    requires { IsAscii source.now }
+{
+    let mut answer = Answer::new(alloc);
+    if let Ok(value) = bytes::as_ascii_str_unchecked(source).to_json(alloc) {
+        if let Ok(text) = format!(in alloc; "{value}") {
+            answer.name(text.as_str());
+        }
+        if let Ok(string) = json::string_from_json(alloc, &value) {
+            answer.text(string.as_ascii_str());
+        }
+    }
+    answer.finish(room)
+}

@@ -1,0 +1,191 @@
+//! What the cookbook reads and shows.
+
+ghost use Rattle.std.specs.Prelude.{◌≤◌};
+ghost use Rattle.std.specs.Str.{IsAscii};
+
+use crate::answer::Answer;
+use ascii::{AsciiStr, bytes};
+use cookbook::header_map::HeaderMap;
+use cookbook::headers::{
+    Header, HeaderBlockError, HeaderError, find_header, read_header, read_headers,
+};
+use cookbook::hosts::{HostName, HostNameError, host_order, same_host};
+use cookbook::last_lines::{is_open, last_body_end, last_lines, without_last_lines};
+use cookbook::lossy::copy_lossy;
+use cookbook::screen::wrap_for_screen;
+use cookbook::settings::{SettingError, read_setting};
+use cookbook::table::{RowError, read_row};
+use std::alloc::Global;
+
+/// A line as a header.
+#[unsafe(no_mangle)]
+pub extern "C" fn ask_header(alloc: Global, source: &[u8], room: &mut [u8]) -> usize
+    requires { IsAscii source.now }
+{
+    let mut answer = Answer::new(alloc);
+    match read_header(bytes::as_ascii_str_unchecked(source)) {
+        Ok(header) => put_header(header, &mut answer),
+        Err(error) => put_header_error(error, &mut answer),
+    }
+    answer.finish(room)
+}
+
+fn put_header(header: Header<'_>, answer: &mut Answer) {
+    answer.text(header.name);
+    answer.text(header.value);
+}
+
+fn put_header_error(error: HeaderError, answer: &mut Answer) {
+    match error {
+        HeaderError::NoColon => answer.name("colon"),
+        HeaderError::NoName => answer.name("name"),
+        HeaderError::NotToken(position) => answer.fault("token", position),
+    }
+}
+
+/// A block as headers, the value of a name in the map of them, and the first header with that name.
+#[unsafe(no_mangle)]
+pub extern "C" fn ask_headers(alloc: Global, name: &[u8], block: &[u8], room: &mut [u8]) -> usize
+    requires name { IsAscii name.now }
+    requires block { IsAscii block.now }
+{
+    let name = bytes::as_ascii_str_unchecked(name);
+    let mut answer = Answer::new(alloc);
+    match read_headers(alloc, bytes::as_ascii_str_unchecked(block)) {
+        Ok(headers) => {
+            for header in &headers {
+                put_header(*header, &mut answer);
+            }
+            if let Ok(map) = HeaderMap::from_headers(alloc, &headers) {
+                answer.part(map.get(name));
+            }
+            let first = find_header(&headers, name);
+            answer.part(first.map(|header| header.value));
+        }
+        Err(
+            HeaderBlockError::InLine {
+                number,
+                start,
+                error,
+            },
+        ) => {
+            answer.fault("line", number);
+            answer.number(start);
+            put_header_error(error, &mut answer);
+        }
+        Err(HeaderBlockError::Memory) => answer.failed(),
+    }
+    answer.finish(room)
+}
+
+/// Two names of hosts: the first one in lower case, whether they are the same host, and their order.
+#[unsafe(no_mangle)]
+pub extern "C" fn ask_hosts(alloc: Global, first: &[u8], second: &[u8], room: &mut [u8]) -> usize
+    requires first { IsAscii first.now }
+    requires second { IsAscii second.now }
+{
+    let first = bytes::as_ascii_str_unchecked(first);
+    let second = bytes::as_ascii_str_unchecked(second);
+    let mut answer = Answer::new(alloc);
+    match HostName::parse(alloc, first) {
+        Ok(host) => answer.text(host.as_ascii_str()),
+        Err(error) => put_host_error(error, &mut answer),
+    }
+    match same_host(alloc, first, second) {
+        Ok(is_same) => answer.flag(is_same),
+        Err(error) => put_host_error(error, &mut answer),
+    }
+    match host_order(alloc, first, second) {
+        Ok(order) => answer.order(order),
+        Err(error) => put_host_error(error, &mut answer),
+    }
+    answer.finish(room)
+}
+
+fn put_host_error(error: HostNameError, answer: &mut Answer) {
+    match error {
+        HostNameError::TooLong => answer.name("long"),
+        HostNameError::EmptyLabel(position) => answer.fault("empty", position),
+        HostNameError::LongLabel(position) => answer.fault("label", position),
+        HostNameError::Character(position) => answer.fault("character", position),
+        HostNameError::Hyphen(position) => answer.fault("hyphen", position),
+        HostNameError::Memory => answer.failed(),
+    }
+}
+
+/// A line as a setting.
+#[unsafe(no_mangle)]
+pub extern "C" fn ask_setting(alloc: Global, source: &[u8], room: &mut [u8]) -> usize
+    requires { IsAscii source.now }
+{
+    let mut answer = Answer::new(alloc);
+    match read_setting(bytes::as_ascii_str_unchecked(source)) {
+        Ok(Some(setting)) => {
+            answer.text(setting.key);
+            answer.text(setting.value);
+        }
+        Ok(None) => answer.none(),
+        Err(SettingError::NoEquals(position)) => answer.fault("equals", position),
+        Err(SettingError::NoKey(position)) => answer.fault("key", position),
+    }
+    answer.finish(room)
+}
+
+/// A line as the fields of a row with a number of columns.
+#[unsafe(no_mangle)]
+pub extern "C" fn ask_row(alloc: Global, columns: usize, source: &[u8], room: &mut [u8]) -> usize
+    requires { IsAscii source.now }
+{
+    let mut answer = Answer::new(alloc);
+    match read_row(alloc, bytes::as_ascii_str_unchecked(source), columns) {
+        Ok(fields) => {
+            for field in &fields {
+                answer.text(*field);
+            }
+        }
+        Err(RowError::Empty { field, start }) => {
+            answer.fault("empty", field);
+            answer.number(start);
+        }
+        Err(RowError::TooFew { found }) => answer.fault("few", found),
+        Err(RowError::TooMany { start }) => answer.fault("many", start),
+        Err(RowError::Memory) => answer.failed(),
+    }
+    answer.finish(room)
+}
+
+/// A text as a screen of some width shows it, and the column after it.
+#[unsafe(no_mangle)]
+pub extern "C" fn ask_screen(alloc: Global, width: usize, source: &[u8], room: &mut [u8]) -> usize
+    requires width { 2 ≤ width }
+    requires ascii { IsAscii source.now }
+{
+    let mut answer = Answer::new(alloc);
+    if let Ok(shown) = wrap_for_screen(alloc, bytes::as_ascii_str_unchecked(source), width) {
+        answer.text(shown.text.as_ascii_str());
+        answer.number(shown.column);
+    }
+    answer.finish(room)
+}
+
+/// Bytes as a text with a mark in place of each run of non-ASCII bytes.
+#[unsafe(no_mangle)]
+pub extern "C" fn ask_lossy(alloc: Global, source: &[u8], room: &mut [u8]) -> usize {
+    let mut answer = Answer::new(alloc);
+    answer.owned(copy_lossy(alloc, source));
+    answer.finish(room)
+}
+
+/// The last `n` lines of a text, the lines before them, the end of the last body, and whether the last line is open.
+#[unsafe(no_mangle)]
+pub extern "C" fn ask_last_lines(alloc: Global, n: usize, source: &[u8], room: &mut [u8]) -> usize
+    requires { IsAscii source.now }
+{
+    let view: AsciiStr<'_> = bytes::as_ascii_str_unchecked(source);
+    let mut answer = Answer::new(alloc);
+    answer.text(last_lines(view, n));
+    answer.text(without_last_lines(view, n));
+    answer.position(last_body_end(view));
+    answer.flag(is_open(view));
+    answer.finish(room)
+}

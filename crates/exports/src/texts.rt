@@ -1,0 +1,170 @@
+//! The kernels, and texts that are changed, compared and hashed.
+
+ghost use Rattle.std.specs.Str.{IsAscii};
+
+use crate::answer::Answer;
+use ascii::{bytes, kernels};
+use ascii_run::SmallAsciiString;
+use std::alloc::{AllocError, Global};
+use std::hash::{DefaultHasher, Hash, Hasher};
+
+/// The position of the first non-ASCII byte, and those of the first and the last one that is not whitespace.
+#[unsafe(no_mangle)]
+pub extern "C" fn ask_kernels(alloc: Global, source: &[u8], room: &mut [u8]) -> usize {
+    let mut answer = Answer::new(alloc);
+    answer.position(kernels::first_other(source));
+    answer.position(kernels::first_not_whitespace(source));
+    answer.position(kernels::last_not_whitespace(source));
+    answer.finish(room)
+}
+
+/// Changes the letters of bytes to upper or to lower case.
+#[unsafe(no_mangle)]
+pub extern "C" fn ask_case_in_place(
+    alloc: Global,
+    to_upper: bool,
+    source: &mut [u8],
+    room: &mut [u8],
+) -> usize {
+    if to_upper {
+        kernels::upper_in_place(source);
+    } else {
+        kernels::lower_in_place(source);
+    }
+    let mut answer = Answer::new(alloc);
+    answer.bytes(source);
+    answer.finish(room)
+}
+
+/// Whether any two lists of bytes are equal, ignoring case.
+#[unsafe(no_mangle)]
+pub extern "C" fn ask_equal_bytes(
+    alloc: Global,
+    first: &[u8],
+    second: &[u8],
+    room: &mut [u8],
+) -> usize {
+    let mut answer = Answer::new(alloc);
+    answer.flag(kernels::eq_ignore_case(first, second));
+    answer.finish(room)
+}
+
+/// A text without the whitespace at both ends, at its start and at its end.
+#[unsafe(no_mangle)]
+pub extern "C" fn ask_trims(alloc: Global, source: &[u8], room: &mut [u8]) -> usize
+    requires { IsAscii source.now }
+{
+    let view = bytes::as_ascii_str_unchecked(source);
+    let mut answer = Answer::new(alloc);
+    answer.text(view.trim());
+    answer.text(view.trim_start());
+    answer.text(view.trim_end());
+    answer.finish(room)
+}
+
+/// Copies of a text in upper and in lower case, and a string that is changed in place to them.
+#[unsafe(no_mangle)]
+pub extern "C" fn ask_cases(alloc: Global, source: &[u8], room: &mut [u8]) -> usize
+    requires { IsAscii source.now }
+{
+    let view = bytes::as_ascii_str_unchecked(source);
+    let mut answer = Answer::new(alloc);
+    answer.owned(view.to_ascii_uppercase(alloc));
+    answer.owned(view.to_ascii_lowercase(alloc));
+    if let Ok(mut string) = view.to_ascii_string(alloc) {
+        string.make_ascii_uppercase();
+        answer.text(string.as_ascii_str());
+        string.make_ascii_lowercase();
+        answer.text(string.as_ascii_str());
+    }
+    answer.finish(room)
+}
+
+/// Whether two texts are equal and which is the lesser one, with case and without.
+#[unsafe(no_mangle)]
+pub extern "C" fn ask_comparisons(
+    alloc: Global,
+    first: &[u8],
+    second: &[u8],
+    room: &mut [u8],
+) -> usize
+    requires first { IsAscii first.now }
+    requires second { IsAscii second.now }
+{
+    let view = bytes::as_ascii_str_unchecked(first);
+    let other = bytes::as_ascii_str_unchecked(second);
+    let mut answer = Answer::new(alloc);
+    answer.flags(&[
+        view == other,
+        view.eq_text(other),
+        view.eq_str(other.as_str()),
+        view.eq_bytes(second),
+        view.eq_ignore_ascii_case(other),
+        view.folded() == other.folded(),
+    ]);
+    answer.order(view.cmp(&other));
+    answer.order(view.folded().cmp(&other.folded()));
+    answer.finish(room)
+}
+
+/// Whether two texts are equal and which is the lesser one, as strings and as inline strings.
+#[unsafe(no_mangle)]
+pub extern "C" fn ask_owned_comparisons(
+    alloc: Global,
+    first: &[u8],
+    second: &[u8],
+    room: &mut [u8],
+) -> usize
+    requires first { IsAscii first.now }
+    requires second { IsAscii second.now }
+{
+    let view = bytes::as_ascii_str_unchecked(first);
+    let other = bytes::as_ascii_str_unchecked(second);
+    let mut answer = Answer::new(alloc);
+    compare(
+        view.to_ascii_string(alloc),
+        other.to_ascii_string(alloc),
+        &mut answer,
+    );
+    let small = SmallAsciiString::from_ascii_str(alloc, view);
+    compare(
+        small,
+        SmallAsciiString::from_ascii_str(alloc, other),
+        &mut answer,
+    );
+    answer.finish(room)
+}
+
+fn compare<T: Ord + Drop>(
+    first: Result<T, AllocError>,
+    second: Result<T, AllocError>,
+    answer: &mut Answer,
+) {
+    if let (Ok(first), Ok(second)) = (first, second) {
+        answer.flag(first == second);
+        answer.order(first.cmp(&second));
+    }
+}
+
+/// The hashes of a text: as a view, ignoring case, as a string and as an inline string; and of its first character.
+#[unsafe(no_mangle)]
+pub extern "C" fn ask_hashes(alloc: Global, source: &[u8], room: &mut [u8]) -> usize
+    requires { IsAscii source.now }
+{
+    let view = bytes::as_ascii_str_unchecked(source);
+    let mut answer = Answer::new(alloc);
+    hash(Ok(view), &mut answer);
+    hash(Ok(view.folded()), &mut answer);
+    hash(view.to_ascii_string(alloc), &mut answer);
+    hash(SmallAsciiString::from_ascii_str(alloc, view), &mut answer);
+    hash(view.first().ok_or(AllocError), &mut answer);
+    answer.finish(room)
+}
+
+fn hash<T: Hash + Drop>(value: Result<T, AllocError>, answer: &mut Answer) {
+    if let Ok(value) = value {
+        let mut hasher = DefaultHasher::new();
+        value.hash(&mut hasher);
+        answer.long(hasher.finish());
+    }
+}

@@ -1,0 +1,152 @@
+//! The kinds of questions.
+
+mod characters;
+mod conversions;
+mod edits;
+mod engines;
+mod lines;
+mod prints;
+mod recipes;
+mod searches;
+mod slices;
+mod texts;
+#[cfg(upstream)]
+mod upstream;
+mod walks;
+mod words;
+
+use crate::asked::Asked;
+use crate::random::Random;
+
+/// Makes a question of a kind, asks it, and says what is expected.
+pub type Ask = fn(&mut Random, &mut Asked);
+
+/// A kind of questions.
+pub struct Kind {
+    pub name: &'static str,
+    /// `None` if the upstream crate is needed and not there.
+    pub ask: Option<Ask>,
+    /// A question of this kind is asked once in this number of turns.
+    pub turns: u32,
+    /// The most small cases that are asked for each length.
+    pub small: u64,
+}
+
+/// The most small cases of most kinds.
+const SMALL: u64 = 20_000;
+
+const fn kind(name: &'static str, ask: Ask) -> Kind {
+    Kind { name, ask: Some(ask), turns: 1, small: SMALL }
+}
+
+/// A kind whose questions take long.
+const fn long(name: &'static str, turns: u32, ask: Ask) -> Kind {
+    Kind { name, ask: Some(ask), turns, small: if turns < 1000 { SMALL } else { 500 } }
+}
+
+/// A kind whose answers come from the upstream crate.
+macro_rules! upstream {
+    ($name:literal, $turns:literal, $ask:path) => {
+        Kind {
+            name: $name,
+            #[cfg(upstream)]
+            ask: Some($ask),
+            #[cfg(not(upstream))]
+            ask: None,
+            turns: $turns,
+            small: SMALL,
+        }
+    };
+}
+
+pub static KINDS: &[Kind] = &[
+    kind("characters of numbers", characters::of_numbers),
+    long("characters", 4, characters::tests),
+    kind("pairs of characters", characters::pairs),
+    kind("caret notation", characters::carets),
+    long("classes, their runs and words", 2, words::class),
+    kind("slices", slices::parts),
+    kind("mutable slices", slices::part_mut),
+    kind("positions", slices::position),
+    kind("kernels", texts::kernels),
+    kind("kernels that change case", texts::case_in_place),
+    kind("kernels that compare", texts::equal_bytes),
+    // Every length up to 300, and every position in it.
+    Kind { name: "kernels at the end of a page", ask: Some(texts::at_page_end), turns: 64, small: 301 * 302 / 2 },
+    kind("trimmed texts", texts::trims),
+    kind("upper and lower case", texts::cases),
+    kind("compared texts", texts::comparisons),
+    kind("compared strings", texts::owned_comparisons),
+    kind("hashes", texts::hashes),
+    kind("texts found", searches::text),
+    long("texts found, ignoring case", 2, searches::folded),
+    kind("characters found", searches::character),
+    kind("at most n pieces", searches::splitn),
+    kind("replaced texts", searches::replace),
+    kind("pieces", walks::split),
+    kind("pieces with starts", walks::split_spans),
+    kind("lines", walks::lines),
+    kind("lines with starts", walks::line_spans),
+    kind("characters by scripts", walks::chars),
+    kind("characters of a view", walks::chars_of_view),
+    kind("words", walks::words),
+    kind("chunks", walks::chunks),
+    kind("numbers read", words::numbers),
+    kind("numbers appended", words::decimals),
+    kind("characters kept", words::retain),
+    kind("conversions", conversions::all),
+    kind("round trips", conversions::round_trips),
+    kind("pieces written", conversions::written),
+    kind("characters written", conversions::character_written),
+    kind("collected texts", conversions::collected),
+    kind("strings cut in two", conversions::split_off),
+    kind("printed texts", prints::texts),
+    kind("printed characters", prints::characters),
+    kind("JSON texts", prints::json),
+    long("edits", 4, edits::string),
+    long("edits of inline strings", 4, edits::small),
+    long("capacities", 2, edits::capacities),
+    long("capacities of inline strings", 4, edits::small_capacities),
+    kind("lines of a reader", lines::reader),
+    kind("steps of a reader", lines::steps),
+    kind("a reader that fails", lines::failing_reader),
+    kind("collected lines", lines::collected),
+    kind("written lines", lines::written),
+    kind("a writer that fails", lines::failing_writer),
+    kind("conversations", lines::conversations),
+    long("lines of long inputs", 8192, lines::long_inputs),
+    kind("modes of the engine", engines::engine),
+    long("modes of the bounded engine", 8, engines::bounded),
+    long("engines that fail", 8, engines::failing),
+    long("the engine over long inputs", 16_384, engines::long_inputs),
+    long("the bounded engine over long inputs", 65_536, engines::long_bounded),
+    kind("headers", recipes::header),
+    long("blocks of headers", 8, recipes::block),
+    kind("host names", recipes::hosts),
+    kind("settings", recipes::setting),
+    kind("rows", recipes::row),
+    long("texts on a screen", 4, recipes::screen),
+    kind("texts with marks", recipes::lossy),
+    kind("last lines", recipes::last_lines),
+    upstream!("upstream: slices", 1, upstream::slices),
+    upstream!("upstream: mutable slices", 1, upstream::slice_mut),
+    upstream!("upstream: positions", 1, upstream::position),
+    upstream!("upstream: characters of numbers", 1, upstream::of_numbers),
+    upstream!("upstream: characters", 2, upstream::characters),
+    upstream!("upstream: caret notation", 1, upstream::carets),
+    upstream!("upstream: trimmed texts, cases", 1, upstream::texts),
+    upstream!("upstream: compared texts", 1, upstream::comparisons),
+    upstream!("upstream: pieces", 1, upstream::split),
+    upstream!("upstream: lines", 1, upstream::lines),
+    upstream!("upstream: characters by scripts", 1, upstream::chars),
+    upstream!("upstream: conversions", 1, upstream::conversions),
+    upstream!("upstream: pieces written", 1, upstream::written),
+    upstream!("upstream: printed texts", 2, upstream::printed),
+    upstream!("upstream: printed characters", 2, upstream::printed_characters),
+    upstream!("upstream: edits", 4, upstream::edits),
+];
+
+/// A text of codes under 128.
+fn string(text: Vec<u8>) -> String {
+    String::from_utf8(text).expect("codes under 128")
+}

@@ -1,0 +1,80 @@
+//! Texts made out of other values and turned into them, by std.
+
+use super::slices::{non_ascii, source};
+use crate::asked::{Answer, Asked};
+use crate::calls;
+use crate::random::Random;
+
+/// The text, or the position of the error.
+fn conversion(source: &[u8], want: &mut Answer) {
+    match non_ascii(source) {
+        Some(at) => want.number(at),
+        None => want.text(source),
+    }
+}
+
+pub fn all(random: &mut Random, asked: &mut Asked) {
+    let source = source(random);
+    calls::ask_conversions(asked, &source);
+    let times = if std::str::from_utf8(&source).is_ok() { 4 } else { 2 };
+    (0..times).for_each(|_| conversion(&source, &mut asked.want));
+}
+
+pub fn round_trips(random: &mut Random, asked: &mut Asked) {
+    let text = random.text();
+    calls::ask_round_trips(asked, &text);
+    (0..4).for_each(|_| asked.want.text(&text));
+}
+
+/// Whether a piece is appended, and the text after that, some times.
+fn appended(mut text: Vec<u8>, piece: &[u8], times: usize, want: &mut Answer) {
+    let is_ascii = piece.is_ascii();
+    if is_ascii {
+        text.extend(piece);
+    }
+    for _ in 0..times {
+        want.flag(is_ascii);
+        want.text(&text);
+    }
+}
+
+pub fn written(random: &mut Random, asked: &mut Asked) {
+    let (text, piece) = (random.text(), random.unicode());
+    calls::ask_written(asked, &text, &piece);
+    appended(text, &piece, 2, &mut asked.want);
+}
+
+/// A character of ASCII or of a length of 1 to 4 bytes.
+pub fn any_character(random: &mut Random) -> char {
+    let most = *random.pick(&[128, 256, 0x2000, 0x11_0000]);
+    let near = *random.pick(&[126, 127, 128, 129]);
+    let number = if random.below(4) == 0 { near } else { random.below(most) as u32 };
+    char::from_u32(number).unwrap_or('x')
+}
+
+pub fn character_written(random: &mut Random, asked: &mut Asked) {
+    let (text, ch) = (random.text(), any_character(random));
+    calls::ask_character_written(asked, ch as u32, &text);
+    appended(text, ch.to_string().as_bytes(), 1, &mut asked.want);
+}
+
+pub fn collected(random: &mut Random, asked: &mut Asked) {
+    let text = random.text();
+    let code = random.code_of(&text);
+    calls::ask_collected(asked, code, &text);
+    let mut string: Vec<u8> = text.iter().copied().filter(|other| *other != code).collect();
+    asked.want.text(&string);
+    asked.want.flag(true);
+    string.extend(super::walks::lines_of(&text).iter().flat_map(|line| &text[line.start..line.end]));
+    asked.want.text(string);
+}
+
+pub fn split_off(random: &mut Random, asked: &mut Asked) {
+    let text = random.text();
+    let at = random.place(text.len());
+    calls::ask_split_off(asked, at, &text);
+    if at <= text.len() {
+        asked.want.text(&text[at..]);
+        asked.want.text(&text[..at]);
+    }
+}

@@ -1,0 +1,175 @@
+//! The modes of both engines, by plain loops.
+
+use super::lines::{long_source, slow};
+use super::prints::{json_codes, quoted};
+use super::slices::non_ascii;
+use super::walks::{ending, lines_of, take};
+use crate::asked::{items_of, Answer, Asked, Item};
+use crate::calls::{self, Device, WHOLE};
+use crate::random::Random;
+
+fn caret(bytes: &[u8]) -> Vec<u8> {
+    let mut out = Vec::new();
+    for byte in bytes {
+        match byte {
+            b'\n' | 32..=126 => out.push(*byte),
+            127 => out.extend(b"^?"),
+            _ => out.extend([b'^', byte + 64]),
+        }
+    }
+    out
+}
+
+/// The bodies of the lines, each with LF.
+fn bodies(text: &[u8], is_backward: bool) -> Vec<u8> {
+    let mut lines: Vec<_> = lines_of(text).into();
+    if is_backward {
+        lines.reverse();
+    }
+    lines.iter().flat_map(|line| [&text[line.start..line.end], b"\n"].concat()).collect()
+}
+
+fn ends(text: &[u8], script: &[u8], with_starts: bool) -> Vec<u8> {
+    let mut lines = lines_of(text);
+    let mut out = Vec::new();
+    for number in script {
+        match take(&mut lines, *number) {
+            Some(line) => {
+                out.push(b'+');
+                if with_starts {
+                    out.extend(format!("{} {} ", line.start, ending(line)).bytes());
+                }
+                out.extend(&text[line.start..line.end]);
+            }
+            None => out.push(b'-'),
+        }
+        out.push(b'\n');
+    }
+    out
+}
+
+/// The output of a mode of the engine, by its number, over a text.
+fn output(mode: usize, text: &[u8], script: &[u8]) -> Vec<u8> {
+    match mode {
+        0 => text.to_vec(),
+        1 => bodies(text, false),
+        2 => bodies(text, true),
+        3 => caret(text),
+        4 => ends(text, script, false),
+        5 => ends(text, script, true),
+        _ => quoted(text),
+    }
+}
+
+/// What the engine is expected to return, and to write.
+fn expect(mode: usize, source: &[u8], script: &[u8], want: &mut Answer) {
+    match non_ascii(source) {
+        Some(at) => {
+            want.fault("ascii", at);
+            want.text("");
+        }
+        None => {
+            want.text("done");
+            want.text(output(mode, source, script));
+        }
+    }
+}
+
+pub fn engine(random: &mut Random, asked: &mut Asked) {
+    let (mode, source, script) = (random.below(7), random.bytes(), random.script(2));
+    let (reads, writes) = (slow(random), slow(random));
+    calls::ask_engine(asked, mode as u8, &script, &source, &reads, &writes);
+    expect(mode, &source, &script, &mut asked.want);
+}
+
+/// What a mode of the bounded engine has written when it comes to a non-ASCII byte, or to the end.
+fn bounded_output(mode: usize, text: &[u8], is_whole: bool) -> Vec<u8> {
+    match mode {
+        0 => text.to_vec(),
+        2 => caret(text),
+        3 if is_whole => quoted(text),
+        3 => [b"\"".as_slice(), &json_codes(text)].concat(),
+        4 => text.to_ascii_uppercase(),
+        5 => text.to_ascii_lowercase(),
+        _ => {
+            let mut out = bodies(text, false);
+            let is_open = text.last().is_some_and(|last| *last != b'\n');
+            if !is_whole && is_open {
+                // An open line may still get its LF, and its last CR waits.
+                out.pop();
+                if text.ends_with(b"\r") {
+                    out.pop();
+                }
+            }
+            out
+        }
+    }
+}
+
+fn expect_bounded(mode: usize, source: &[u8], want: &mut Answer) {
+    match non_ascii(source) {
+        Some(at) => {
+            want.fault("ascii", at);
+            want.text(bounded_output(mode, &source[..at], false));
+        }
+        None => {
+            want.text("done");
+            want.text(bounded_output(mode, source, true));
+        }
+    }
+}
+
+pub fn bounded(random: &mut Random, asked: &mut Asked) {
+    let (mode, source) = (random.below(6), random.bytes());
+    let (reads, writes) = (slow(random), slow(random));
+    calls::ask_bounded_engine(asked, mode as u8, &source, &reads, &writes);
+    expect_bounded(mode, &source, &mut asked.want);
+}
+
+/// Devices of which one fails: the answer is its error and a prefix of the output, which is empty if `engine` could
+/// not read. If the call that fails is never made, all is as if none failed.
+pub fn failing(random: &mut Random, asked: &mut Asked) {
+    let (is_bounded, source) = (random.below(2) == 0, random.text());
+    let mode = random.below(if is_bounded { 6 } else { 7 });
+    let is_read = random.below(2) == 0;
+    let device = Device { most: 1 + random.below(8), fails: random.below(source.len() + 4) as u64 };
+    let (reads, writes) = if is_read { (device, WHOLE) } else { (WHOLE, device) };
+    if is_bounded {
+        calls::ask_bounded_engine(asked, mode as u8, &source, &reads, &writes);
+        expect_bounded(mode, &source, &mut asked.want);
+    } else {
+        calls::ask_engine(asked, mode as u8, &[0, 1, 1], &source, &reads, &writes);
+        expect(mode, &source, &[0, 1, 1], &mut asked.want);
+    }
+    let whole = items_of(&asked.want.bytes);
+    let (Some(Item::Text(all)), Some(Item::Text(out))) = (whole.last(), items_of(asked.got()).pop()) else { return };
+    // The number of the call that reads the end, or of the flush at the end, if each call before moves `most` bytes.
+    let calls = if is_read { source.len() } else { all.len() }.div_ceil(device.most) as u64;
+    // The bounded engine flushes more than once.
+    if device.fails > calls && !(is_bounded && !is_read && asked.differs()) {
+        return;
+    }
+    let may_write = if is_read && !is_bounded { out.is_empty() } else { all.starts_with(&out) };
+    asked.want = Answer::default();
+    asked.want.text(if is_read { "read" } else { "write" });
+    asked.want.text(if may_write { &out } else { &b"another prefix"[..] });
+}
+
+pub fn long_inputs(random: &mut Random, asked: &mut Asked) {
+    let (mode, source, script) = (random.below(7), long_source(random), random.script(2));
+    let (reads, writes) = long_devices(random);
+    calls::ask_engine(asked, mode as u8, &script, &source, &reads, &writes);
+    expect(mode, &source, &script, &mut asked.want);
+}
+
+pub fn long_bounded(random: &mut Random, asked: &mut Asked) {
+    let (mode, source) = (random.below(6), long_source(random));
+    let (reads, writes) = long_devices(random);
+    calls::ask_bounded_engine(asked, mode as u8, &source, &reads, &writes);
+    expect_bounded(mode, &source, &mut asked.want);
+}
+
+fn long_devices(random: &mut Random) -> (Device, Device) {
+    let device = |random: &mut Random| Device { most: *random.pick(&[4093, 65_536, usize::MAX]), ..WHOLE };
+    (device(random), device(random))
+}

@@ -1,0 +1,72 @@
+//! Printed texts and characters, by std, and JSON by a plain loop.
+
+use super::characters::codes;
+use super::string;
+use crate::asked::{Answer, Asked};
+use crate::calls;
+use crate::random::Random;
+use std::fmt::{Debug, Display};
+
+/// The number of forms.
+pub const FORMS: usize = 11;
+
+/// A value in one of the forms of `print` in `crates/exports/src/prints.rt`.
+pub fn printed<T: Display + Debug + ?Sized>(form: usize, value: &T) -> String {
+    match form {
+        0 => format!("{value}"),
+        1 => format!("{value:?}"),
+        2 => format!("{value:7}"),
+        3 => format!("{value:>20}"),
+        4 => format!("{value:<20}"),
+        5 => format!("{value:*^33}"),
+        6 => format!("{value:.5}"),
+        7 => format!("{value:.0}"),
+        8 => format!("{value:10.3}"),
+        9 => format!("{value:->12.40}"),
+        _ => format!("{value:^1}"),
+    }
+}
+
+pub fn texts(random: &mut Random, asked: &mut Asked) {
+    let (form, text) = (random.below(FORMS), random.text());
+    calls::ask_printed(asked, form as u8, &text);
+    let printed = printed(form, string(text).as_str());
+    (0..4).for_each(|_| asked.want.text(&printed));
+}
+
+pub fn characters(random: &mut Random, asked: &mut Asked) {
+    let (form, codes) = (random.below(FORMS), codes(random, 128));
+    calls::ask_printed_characters(asked, form as u8, &codes);
+    codes.iter().for_each(|code| asked.want.text(printed(form, &(*code as char))));
+}
+
+/// The codes of a JSON string, without its quotes.
+pub fn json_codes(bytes: &[u8]) -> Vec<u8> {
+    let mut out = Vec::new();
+    for byte in bytes {
+        match byte {
+            b'"' => out.extend(b"\\\""),
+            b'\\' => out.extend(b"\\\\"),
+            8 => out.extend(b"\\b"),
+            9 => out.extend(b"\\t"),
+            10 => out.extend(b"\\n"),
+            12 => out.extend(b"\\f"),
+            13 => out.extend(b"\\r"),
+            0..=31 => out.extend(format!("\\u{byte:04x}").bytes()),
+            _ => out.push(*byte),
+        }
+    }
+    out
+}
+
+pub fn quoted(bytes: &[u8]) -> Vec<u8> {
+    [b"\"".as_slice(), &json_codes(bytes), b"\""].concat()
+}
+
+pub fn json(random: &mut Random, asked: &mut Asked) {
+    let text = random.text();
+    calls::ask_json(asked, &text);
+    let want: &mut Answer = &mut asked.want;
+    want.text(quoted(&text));
+    want.text(&text);
+}

@@ -1,0 +1,92 @@
+//! Parts of bytes, texts and views, by std's `get`.
+
+use crate::asked::Asked;
+use crate::calls;
+use crate::random::Random;
+
+/// The bounds of a range in one of the six forms, if it fits.
+pub fn bounds(form: usize, a: usize, b: usize, length: usize) -> Option<(usize, usize)> {
+    let (start, end) = match form {
+        0 => (0, length),
+        1 => (a, length),
+        2 => (0, b),
+        3 => (a, b),
+        4 => (a, b.checked_add(1)?),
+        _ => (0, b.checked_add(1)?),
+    };
+    (start <= end && end <= length).then_some((start, end))
+}
+
+pub fn non_ascii(bytes: &[u8]) -> Option<usize> {
+    bytes.iter().position(|byte| !byte.is_ascii())
+}
+
+pub fn source(random: &mut Random) -> Vec<u8> {
+    if random.below(3) == 0 {
+        random.unicode()
+    } else {
+        random.bytes()
+    }
+}
+
+pub fn parts(random: &mut Random, asked: &mut Asked) {
+    let (form, source) = (random.below(6), source(random));
+    let (a, b) = random.places(source.len());
+    calls::ask_slices(asked, form as u8, a, b, &source);
+    let bounds = bounds(form, a, b, source.len());
+    // As bytes, as a `str`, as a view, and as a view that is known to have the part.
+    let ascii = source.is_ascii();
+    let times = 1 + usize::from(std::str::from_utf8(&source).is_ok()) + usize::from(ascii);
+    for _ in 0..times + usize::from(ascii && bounds.is_some()) {
+        match bounds {
+            None => asked.want.number(source.len()),
+            Some((start, end)) => match non_ascii(&source[start..end]) {
+                Some(at) => asked.want.number(start + at),
+                None => asked.want.text(&source[start..end]),
+            },
+        }
+    }
+}
+
+pub fn part_mut(random: &mut Random, asked: &mut Asked) {
+    let (form, mut source) = (random.below(6), random.bytes());
+    let (a, b) = random.places(source.len());
+    let code = random.code_of(b"");
+    let mut want = source.clone();
+    calls::ask_slice_mut(asked, form as u8, a, b, code, &mut source);
+    match bounds(form, a, b, want.len()) {
+        None => asked.want.number(want.len()),
+        Some((start, end)) => match non_ascii(&want[start..end]) {
+            Some(at) => asked.want.number(start + at),
+            None => {
+                let part = &mut want[start..end];
+                part.make_ascii_uppercase();
+                if let Some(first) = part.first_mut() {
+                    *first = code;
+                }
+                asked.want.text(part);
+            }
+        },
+    }
+    asked.compare(&source, &want);
+}
+
+pub fn position(random: &mut Random, asked: &mut Asked) {
+    let source = source(random);
+    let at = random.place(source.len());
+    calls::ask_position(asked, at, &source);
+    let code = |byte: Option<&u8>| byte.filter(|byte| byte.is_ascii()).map(|byte| usize::from(*byte));
+    let want = &mut asked.want;
+    want.position(code(source.get(at)));
+    if std::str::from_utf8(&source).is_ok() {
+        want.position(code(source.get(at)));
+    }
+    if source.is_ascii() {
+        want.position(code(source.get(at)));
+        want.position(code(source.first()));
+        want.position(code(source.last()));
+        if at < source.len() {
+            want.position(code(source.get(at)));
+        }
+    }
+}

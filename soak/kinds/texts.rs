@@ -1,0 +1,162 @@
+//! The kernels, and texts that are changed, compared and hashed, by std.
+
+use super::characters::is_white;
+use super::slices::non_ascii;
+use crate::asked::{Answer, Asked};
+use crate::calls;
+use crate::random::Random;
+use std::cell::OnceCell;
+use std::hash::{DefaultHasher, Hash, Hasher};
+use std::ptr::null_mut;
+
+extern "C" {
+    fn mmap(at: *mut u8, length: usize, protection: i32, flags: i32, file: i32, offset: i64) -> *mut u8;
+    fn mprotect(at: *mut u8, length: usize, protection: i32) -> i32;
+}
+
+const PAGE: usize = 4096;
+
+fn kernel_answers(source: &[u8], want: &mut Answer) {
+    want.position(non_ascii(source));
+    want.position(source.iter().position(|byte| !is_white(*byte)));
+    want.position(source.iter().rposition(|byte| !is_white(*byte)));
+}
+
+/// Bytes, of which many are whitespace.
+fn blanks(random: &mut Random) -> Vec<u8> {
+    let mut source = random.bytes();
+    if random.below(2) == 0 {
+        let most = random.place(source.len());
+        source.iter_mut().take(most).for_each(|byte| *byte = b' ');
+    }
+    source
+}
+
+pub fn kernels(random: &mut Random, asked: &mut Asked) {
+    let source = blanks(random);
+    calls::ask_kernels(asked, &source);
+    kernel_answers(&source, &mut asked.want);
+}
+
+pub fn case_in_place(random: &mut Random, asked: &mut Asked) {
+    let (to_upper, mut source) = (random.below(2) == 0, random.bytes());
+    let want = if to_upper { source.to_ascii_uppercase() } else { source.to_ascii_lowercase() };
+    calls::ask_case_in_place(asked, to_upper, &mut source);
+    asked.want.text(want);
+}
+
+pub fn equal_bytes(random: &mut Random, asked: &mut Asked) {
+    let first = random.bytes();
+    let second = random.other(&first);
+    calls::ask_equal_bytes(asked, &first, &second);
+    asked.want.flag(first.eq_ignore_ascii_case(&second));
+}
+
+/// The end of a page after which memory may not be read or written.
+fn page_end() -> *mut u8 {
+    thread_local!(static END: OnceCell<*mut u8> = const { OnceCell::new() });
+    END.with(|end| {
+        *end.get_or_init(|| {
+            let both = unsafe { mmap(null_mut(), 2 * PAGE, 3, 0x22, -1, 0) };
+            assert!(both as isize != -1, "two pages of memory");
+            let end = unsafe { both.add(PAGE) };
+            let status = unsafe { mprotect(end, PAGE, 0) };
+            assert_eq!(status, 0, "a page that may not be read");
+            end
+        })
+    })
+}
+
+/// Each kernel over bytes that end where the memory after them may not be read or written, of a length up to 300,
+/// with a non-ASCII byte at a position or none.
+pub fn at_page_end(random: &mut Random, asked: &mut Asked) {
+    let length = if random.is_small() { random.below(301) } else { random.length() };
+    let mut want: Vec<u8> = (0..length).map(|at| b" aZ{\n9"[at % 6]).collect();
+    if let Some(byte) = want.get_mut(random.below(length + 1)) {
+        *byte = 0xe1;
+    }
+    let bytes = unsafe { std::slice::from_raw_parts_mut(page_end().sub(length), length) };
+    bytes.copy_from_slice(&want);
+    calls::ask_kernels(asked, bytes);
+    kernel_answers(&want, &mut asked.want);
+    for class in 0..17 {
+        calls::ask_class(asked, class, bytes, &[0, 1]);
+        super::words::class_answers(class, &want, &[0, 1], &mut asked.want);
+    }
+    calls::ask_equal_bytes(asked, bytes, &want);
+    asked.want.flag(true);
+    calls::ask_case_in_place(asked, true, bytes);
+    want.make_ascii_uppercase();
+    asked.want.text(&want);
+    calls::ask_case_in_place(asked, false, bytes);
+    want.make_ascii_lowercase();
+    asked.want.text(&want);
+}
+
+pub fn trims(random: &mut Random, asked: &mut Asked) {
+    let mut text = random.text();
+    if random.below(2) == 0 {
+        text.splice(0..0, vec![b' '; random.count(40)]);
+        text.resize(text.len() + random.count(40), b'\t');
+    }
+    calls::ask_trims(asked, &text);
+    let white = |c: char| is_white(c as u8);
+    let text = super::string(text);
+    asked.want.text(text.trim_matches(white));
+    asked.want.text(text.trim_start_matches(white));
+    asked.want.text(text.trim_end_matches(white));
+}
+
+pub fn cases(random: &mut Random, asked: &mut Asked) {
+    let text = random.text();
+    calls::ask_cases(asked, &text);
+    for _ in 0..2 {
+        asked.want.text(text.to_ascii_uppercase());
+        asked.want.text(text.to_ascii_lowercase());
+    }
+}
+
+/// Two texts, of which the second is often like the first.
+pub fn pair(random: &mut Random) -> (Vec<u8>, Vec<u8>) {
+    let first = random.text();
+    let second = random.other(&first);
+    (first, second)
+}
+
+pub fn comparisons(random: &mut Random, asked: &mut Asked) {
+    let (first, second) = pair(random);
+    calls::ask_comparisons(asked, &first, &second);
+    let (low, lower) = (first.to_ascii_lowercase(), second.to_ascii_lowercase());
+    (0..4).for_each(|_| asked.want.flag(first == second));
+    (0..2).for_each(|_| asked.want.flag(low == lower));
+    asked.want.order(first.cmp(&second));
+    asked.want.order(low.cmp(&lower));
+}
+
+pub fn owned_comparisons(random: &mut Random, asked: &mut Asked) {
+    let (first, second) = pair(random);
+    calls::ask_owned_comparisons(asked, &first, &second);
+    for _ in 0..2 {
+        asked.want.flag(first == second);
+        asked.want.order(first.cmp(&second));
+    }
+}
+
+fn hash_of(value: impl Hash) -> usize {
+    let mut hasher = DefaultHasher::new();
+    value.hash(&mut hasher);
+    hasher.finish() as usize
+}
+
+/// A view is hashed as its list of codes, a folded view as that list in lower case, a string as a `str`, and a character
+/// as its code.
+pub fn hashes(random: &mut Random, asked: &mut Asked) {
+    let text = random.text();
+    calls::ask_hashes(asked, &text);
+    let hash = hash_of(super::string(text.clone()).as_str());
+    asked.want.number(hash_of(&text));
+    asked.want.number(hash_of(text.to_ascii_lowercase()));
+    asked.want.number(hash);
+    asked.want.number(hash);
+    text.first().iter().for_each(|code| asked.want.number(hash_of(code)));
+}

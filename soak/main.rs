@@ -1,0 +1,188 @@
+//! Compares the answers of the static library crates/exports, which is linked into this program, with those of std, of
+//! plain loops, and, if it was compiled with `--cfg upstream`, of the upstream crate `ascii` 1.1.0.
+//!
+//!     soak SECONDS SEED THREADS [planted]
+//!
+//! It first asks small cases of each kind of question: all of them up to the length at which there are not too many, and
+//! the first ones of longer texts. Then it asks at random for that time; the seed decides those questions. With `planted`
+//! it asks each kind while the library is passed wrong arguments, until an answer differs. `bin/soak` says what is
+//! printed. The status is 1 if an answer differs or this program panics, or if a planted answer is not seen, and 2 for bad
+//! arguments.
+
+mod asked;
+mod calls;
+mod kinds;
+mod random;
+
+use asked::Asked;
+use kinds::{Ask, Kind, KINDS};
+use random::Random;
+use std::panic::{catch_unwind, AssertUnwindSafe};
+use std::process::ExitCode;
+use std::sync::atomic::{AtomicU64, Ordering};
+use std::time::{Duration, Instant};
+
+/// Questions of each kind between two looks at the clock.
+const TURNS: u32 = 64;
+
+/// Differences that are printed whole.
+const SHOWN: u64 = 20;
+
+/// The most questions of a kind with a wrong argument.
+const PLANTED: u64 = 20_000;
+
+/// How many answers differ.
+static DIFFER: AtomicU64 = AtomicU64::new(0);
+
+/// The kinds that are asked.
+fn kinds() -> impl Iterator<Item = (usize, &'static Kind, Ask)> {
+    KINDS.iter().enumerate().filter_map(|(at, kind)| kind.ask.map(|ask| (at, kind, ask)))
+}
+
+/// Counts a difference, and prints the first ones.
+fn differ(what: &str) {
+    if DIFFER.fetch_add(1, Ordering::Relaxed) < SHOWN {
+        println!("{what}");
+    }
+}
+
+/// Asks a question of a kind, and returns whether the answer differs. A panic is a difference: its text is returned.
+fn asks(ask: Ask, random: &mut Random, asked: &mut Asked) -> Result<bool, String> {
+    asked.clear();
+    let outcome = catch_unwind(AssertUnwindSafe(|| ask(random, asked)));
+    outcome.map(|()| asked.differs()).map_err(|panic| {
+        let text = panic.downcast_ref::<String>().map(String::as_str);
+        text.or_else(|| panic.downcast_ref::<&str>().copied()).unwrap_or("").into()
+    })
+}
+
+/// Asks a question of a kind. If its answer differs, asks it again to show it.
+fn ask(kind: &Kind, ask: Ask, random: &mut Random, asked: &mut Asked) {
+    let mark = random.mark();
+    match asks(ask, random, asked) {
+        Ok(false) => return,
+        outcome if DIFFER.load(Ordering::Relaxed) < SHOWN => {
+            asked.calls = Some(Vec::new());
+            random.back(mark);
+            let _ = asks(ask, random, asked);
+            let panic = outcome.err().map(|text| format!("\n  the driver panicked: {text}")).unwrap_or_default();
+            differ(&format!("{}: {}{panic}", kind.name, asked.report()));
+            asked.calls = None;
+        }
+        _ => differ(""),
+    }
+}
+
+/// The first small cases of a kind with texts up to 6, 5 .. codes, until all of a length were asked. Returns how many.
+fn small_cases(kind: &Kind, make: Ask, asked: &mut Asked) -> u64 {
+    let mut count = 0;
+    for longest in (0..=6).rev() {
+        let mut random = Random::small(longest);
+        for _ in 0..kind.small {
+            ask(kind, make, &mut random, asked);
+            count += 1;
+            if !random.advance() {
+                return count;
+            }
+        }
+    }
+    count
+}
+
+/// The small cases of the kinds that are a thread's.
+fn small_share(share: usize, threads: usize) -> Vec<u64> {
+    let (mut asked, mut counts) = (Asked::new(), vec![0; KINDS.len()]);
+    for (at, kind, make) in kinds().skip(share).step_by(threads) {
+        counts[at] = small_cases(kind, make, &mut asked);
+    }
+    counts
+}
+
+/// Questions at random until the time is over.
+fn random_share(seed: u64, time: Duration) -> Vec<u64> {
+    let (mut asked, mut counts) = (Asked::new(), vec![0; KINDS.len()]);
+    let (begin, mut random) = (Instant::now(), Random::new(seed));
+    while begin.elapsed() < time {
+        for (at, kind, make) in kinds() {
+            let turns =
+                TURNS / kind.turns + u32::from(random.below(kind.turns as usize) < (TURNS % kind.turns) as usize);
+            (0..turns).for_each(|_| ask(kind, make, &mut random, &mut asked));
+            counts[at] += u64::from(turns);
+        }
+    }
+    counts
+}
+
+/// Runs a share on each thread, and adds up what they count.
+fn on_threads(threads: usize, share: impl Fn(usize) -> Vec<u64> + Sync) -> Vec<u64> {
+    let mut all = vec![0; KINDS.len()];
+    std::thread::scope(|scope| {
+        let share = &share;
+        let running: Vec<_> = (0..threads).map(|number| scope.spawn(move || share(number))).collect();
+        for thread in running {
+            let counts = thread.join().unwrap_or_else(|_| {
+                differ("a thread of the driver panicked");
+                Vec::new()
+            });
+            all.iter_mut().zip(counts).for_each(|(sum, count)| *sum += count);
+        }
+    });
+    all
+}
+
+/// Asks each kind with wrong arguments, and returns whether each has seen one.
+fn planted(seed: u64) -> bool {
+    let mut asked = Asked::new();
+    asked.is_planted = true;
+    let (mut seen, mut all) = (0, 0);
+    for (_, kind, make) in kinds() {
+        let mut random = Random::new(seed);
+        let number = (1..=PLANTED).find(|_| asks(make, &mut random, &mut asked) != Ok(false));
+        match number {
+            Some(number) => println!("{number:>10} questions until a wrong answer is seen: {}", kind.name),
+            None => println!("{:>10} wrong answer is seen: {}", "no", kind.name),
+        }
+        seen += u32::from(number.is_some());
+        all += 1;
+    }
+    println!("{seen} of {all} planted answers seen");
+    seen == all
+}
+
+/// Prints how many kinds have no question.
+fn print_left_out() {
+    let left_out = KINDS.len() - kinds().count();
+    if left_out > 0 {
+        println!("{left_out} kinds left out for want of the upstream crate");
+    }
+}
+
+fn main() -> ExitCode {
+    let words: Vec<String> = std::env::args().skip(1).collect();
+    let numbers: Vec<u64> = words.iter().filter_map(|word| word.parse().ok()).collect();
+    let (&[seconds, seed, threads], is_planted) = (&numbers[..], words.len() == 4 && words[3] == "planted") else {
+        eprintln!("usage: soak SECONDS SEED THREADS [planted]");
+        return ExitCode::from(2);
+    };
+    // A position outside the text makes the upstream crate panic, which is an answer here.
+    std::panic::set_hook(Box::new(|_| ()));
+    if is_planted {
+        let all_seen = planted(seed);
+        print_left_out();
+        return ExitCode::from(u8::from(!all_seen));
+    }
+    let (threads, time) = (threads.max(1) as usize, Duration::from_secs(seconds));
+    let begin = Instant::now();
+    let small = on_threads(threads, |share| small_share(share, threads));
+    let random = on_threads(threads, |share| random_share(seed.wrapping_add(share as u64), time));
+    let took = begin.elapsed().as_secs_f64();
+    for (at, kind, _) in kinds() {
+        println!("{:>10} small {:>12} at random: {}", small[at], random[at], kind.name);
+    }
+    let all: u64 = small.iter().chain(&random).sum();
+    println!("{:.1} million answers a second on {threads} threads", all as f64 / took / 1e6);
+    let differ = DIFFER.load(Ordering::Relaxed);
+    println!("{all} answers of {} kinds, seed {seed}: {differ} differ", kinds().count());
+    print_left_out();
+    ExitCode::from(u8::from(differ > 0))
+}
