@@ -1,0 +1,160 @@
+"""Calls of the built programs, as data: what each writes, its status, and its line on standard error."""
+import os
+import subprocess
+import unittest
+from collections import namedtuple
+from pathlib import Path
+from typing import NamedTuple
+
+import memory_limits
+
+TOP = Path(__file__).resolve().parents[2]
+USAGE = b"usage: ascii_show copy|lines|tac|caret|ends [-s] SCRIPT|edit WORD..|json\n"
+# Of a line on standard error: any text.
+ANY = b"(any)"
+# The files that calls of ascii_filter name.
+FILES = {"text": b"x\r\ny", "other": b"ab\310c", "empty": b"", "long": b"a" * 1_000_000}
+
+
+class Call(NamedTuple):
+    """A call. `given` is its input, or None if it is closed; `to` says where its output goes if it is not read here."""
+
+    name: str
+    arguments: list
+    given: bytes
+    status: int
+    output: bytes = b""
+    line: bytes = b""
+    to: str = ""  # "full", a device that is full, or "closed", a pipe that nobody reads
+
+
+Answer = namedtuple("Answer", "status output line")
+
+
+def said(text):
+    """The line of ascii_filter on standard error."""
+    return f"ascii_filter: {text}\n".encode()
+
+
+def long_word(length):
+    """A call whose argument is around a length at which the program allocates a longer buffer for it."""
+    word = "x" * (length - 1)
+    output = f"{word}abc{word}".encode()
+    words = [f"i0:{word[2:]}", "i0:xx", f"p{word}"]
+    return Call(f"edit of a word of {length} characters", ["edit", *words], b"abc", 0, output)
+
+
+SHOW = [
+    Call("copy", ["copy"], b"abc", 0, b"abc"),
+    Call("copy of nothing", ["copy"], b"", 0),
+    Call("lines, from the start", ["lines"], b"x\r\ny", 0, b"x\ny\n"),
+    Call("tac, from the end", ["tac"], b"x\r\ny", 0, b"y\nx\n"),
+    Call("caret", ["caret"], b"a\tb\177\r\n", 0, b"a^Ib^?^M\n"),
+    Call("ends", ["ends", "FBB"], b"x\r\ny", 0, b"+x\n+y\n-\n"),
+    Call("ends with starts and endings", ["ends", "-s", "FBB"], b"x\r\ny", 0, b"+0 crlf x\n+3 none y\n-\n"),
+    Call("json", ["json"], b'a"b\n', 0, b'"a\\"b\\n"'),
+    Call("edit without a word", ["edit"], b"abc", 0, b"abc"),
+    Call("edit of one word", ["edit", "u"], b"abc", 0, b"ABC"),
+    Call("edit of three words", ["edit", "i1:def", "r0", "u"], b"abc", 0, b"DEFBC"),
+    *map(long_word, (255, 256, 257, 512, 513, 100000)),
+    Call("a byte above 127", ["copy"], b"ab\310", 1, b"", b"the byte at index 2 is not ASCII\n"),
+    Call("an index of two digits", ["tac"], b"abcdefghijkl\200", 1, b"", b"the byte at index 12 is not ASCII\n"),
+    Call("no word", [], b"abc", 2, b"", USAGE),
+    Call("an unknown mode", ["cat"], b"abc", 2, b"", USAGE),
+    Call("a word too many", ["copy", "x"], b"abc", 2, b"", USAGE),
+    Call("ends without a script", ["ends"], b"abc", 2, b"", USAGE),
+    Call("ends with two scripts", ["ends", "F", "B"], b"abc", 2, b"", USAGE),
+    Call("ends -s without a script", ["ends", "-s"], b"abc", 2, b"", USAGE),
+    Call("a bad script after -s", ["ends", "-s", "FXB"], b"abc", 2, b"", b"bad word 2\n"),
+    Call("a bad script", ["ends", "FXB"], b"abc", 2, b"", b"bad word 1\n"),
+    Call("a bad word", ["edit", "u", "rx"], b"abc", 2, b"", b"bad word 2\n"),
+    Call("a bad word before a byte above 127", ["edit", "x"], b"\310", 2, b"", b"bad word 1\n"),
+    Call("a bad position", ["edit", "o", "r2"], b"abc", 2, b"", b"bad position in word 2\n"),
+    Call("a bad position in word 11", ["edit", *"uuuuuuuuuu", "r9"], b"abc", 2, b"", b"bad position in word 11\n"),
+    Call("arguments that are not valid UTF-8", [b"copy\310"], b"abc", 2, b"", USAGE),
+    Call("an input that is closed", ["copy"], None, 3, b"", b"read failed\n"),
+    Call("an output that is full", ["copy"], b"abc", 3, b"", b"write failed\n", "full"),
+]
+
+NOT_ASCII = [said(f"{name}: the byte at index 2 is not ASCII") for name in ("(standard input)", "other")]
+MISSING = said("none: No such file or directory (os error 2)")
+FOLDER = said("folder: Is a directory (os error 21)")
+FULL = said("(standard output): No space left on device (os error 28)")
+OPTIONS = said("--count, --max and --quiet are options of check")
+FILTER = [
+    Call("copy", ["copy"], b"abc", 0, b"abc"),
+    Call("copy of nothing", ["copy"], b"", 0),
+    Call("lines", ["lines"], b"x\r\ny", 0, b"x\ny\n"),
+    Call("caret", ["caret"], b"a\tb\177\r\n", 0, b"a^Ib^?^M\n"),
+    Call("json", ["json"], b'a"b\n', 0, b'"a\\"b\\n"'),
+    Call("upper", ["upper"], b"aBc1", 0, b"ABC1"),
+    Call("lower", ["lower"], b"aBc1", 0, b"abc1"),
+    Call("a byte above 127", ["copy"], b"ab\310c", 1, b"ab", NOT_ASCII[0]),
+    Call("files", ["upper", "text", "-", "empty", "text"], b"abc", 0, b"X\r\nYABCX\r\nY"),
+    Call("a file that is not ASCII", ["lines", "other", "text"], b"", 1, b"abx\ny\n", NOT_ASCII[1]),
+    Call("a file that is missing", ["lines", "none", "text"], b"", 3, b"x\ny\n", MISSING),
+    Call("a folder", ["copy", "folder", "text"], b"", 3, b"x\r\ny", FOLDER),
+    Call("two inputs as json", ["json", "text", "text"], b"", 2, b"", b"ascii_filter: json takes one input\n"),
+    Call("check", ["check"], b"ab\304c\nxx\n\377y", 1,
+         b"(standard input):1:3: byte 0xC4\n(standard input):3:1: byte 0xFF\n"),
+    Call("check of ASCII", ["check"], b"a\nb", 0),
+    Call("check of files", ["check", "text", "other"], b"", 1, b"other:1:3: byte 0xC8\n"),
+    Call("check --count", ["check", "--count", "text", "other"], b"", 1, b"text:0\nother:1\n"),
+    Call("check --max", ["check", "--max", "1"], b"\200\201\n\202", 1, b"(standard input):1:1: byte 0x80\n"),
+    Call("check --quiet", ["check", "--quiet"], b"\200\201", 1),
+    Call("an option of check", ["copy", "--quiet"], b"", 2, b"", OPTIONS),
+    Call("arguments that are not valid UTF-8", [b"copy\310"], b"", 2, b"", said("an argument is not valid UTF-8")),
+    Call("the version", ["--version"], b"", 0, f"ascii_filter {(TOP / 'VERSION').read_text()}".encode()),
+    Call("check of a folder", ["check", "folder"], b"", 3, b"", FOLDER),
+    Call("no mode", [], b"", 2, b"", ANY),
+    Call("an unknown mode", ["tac"], b"", 2, b"", ANY),
+    Call("check of no byte", ["check", "--max", "0"], b"", 2, b"", ANY),
+    Call("a pipe that closes early", ["copy", "long"], b"", 0, b"", b"", "closed"),
+    Call("an output that is full", ["copy", "text", "none"], b"", 3, b"", FULL, "full"),
+]
+CALLS = {"ascii_show": SHOW, "ascii_filter": FILTER}
+
+
+def answer_of(program, call, folder):
+    """Makes a call in a folder that has the files."""
+    command = [program, *call.arguments]
+    if call.given is None:
+        command = ["sh", "-c", 'exec "$0" "$@" <&-', *command]
+    output = subprocess.PIPE
+    if call.to == "full":
+        output = os.open("/dev/full", os.O_WRONLY)
+    elif call.to == "closed":
+        reads, output = os.pipe()
+        os.close(reads)
+    streams = {"input": call.given or b"", "stdout": output, "stderr": subprocess.PIPE}
+    try:
+        ran = subprocess.run(command, cwd=folder, timeout=60, **streams)
+    finally:
+        if call.to:
+            os.close(output)
+    line = ANY if call.line == ANY and ran.stderr else ran.stderr
+    return Answer(ran.returncode, ran.stdout or b"", line)
+
+
+class CallOfProgram(unittest.TestCase):
+    """One call. Its name is that of the call, so that it can be run alone."""
+
+    maxDiff = None
+
+    def __init__(self, crate, call, folder):
+        super().__init__()
+        self.crate, self.call, self.folder = crate, call, folder
+
+    def runTest(self):
+        program = str(TOP / "crates" / self.crate / "out" / self.crate)
+        got = answer_of(program, self.call, self.folder)
+        self.assertEqual(got, Answer(self.call.status, self.call.output, self.call.line))
+
+
+def suite(crate, names, folder):
+    """The calls of a program, or those of them that are named; `folder` is an empty folder for the files."""
+    for name, text in FILES.items():
+        (Path(folder) / name).write_bytes(text)
+    (Path(folder) / "folder").mkdir()
+    calls = [CallOfProgram(crate, call, folder) for call in CALLS[crate]] + memory_limits.tests(crate)
+    return unittest.TestSuite(it for it in calls if not names or it.call.name in names)
