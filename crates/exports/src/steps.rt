@@ -6,13 +6,15 @@ use ascii::{AsciiRange, AsciiStr};
 #[repr(C)]
 #[derive(Clone, Copy)]
 pub struct Step {
+    /// What is done.
     pub kind: u8,
     /// The code of a character, or the form of a range.
     pub code: u8,
     /// A position or a number.
     pub at: usize,
-    /// The bounds of a range, or those of the step's text in the texts of all steps.
+    /// The start of a range, or of the step's text in the texts of all steps.
     pub start: usize,
+    /// The end of that range or text.
     pub end: usize,
 }
 
