@@ -154,7 +154,7 @@ fn memchr_over_the_bytes(rt: HostRuntime) {
 #[test]
 fn str_calls_of_std(rt: HostRuntime) {
     let view = AsciiStr::literal(NAMES);
-    assert_row!(rt; view.as_str().split_once(";"), Some(("foo", "bar;baz")));
+    assert_eq!(rt; view.as_str().split_once(";"), Some(("foo", "bar;baz")));
 }
 
 #[test]

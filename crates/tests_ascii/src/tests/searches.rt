@@ -52,8 +52,14 @@ fn prefixes_and_suffixes_are_those_of_str(rt: HostRuntime) {
 fn a_view_is_cut_at_a_text_as_in_str(rt: HostRuntime) {
     for &(source, needle) in &PAIRS {
         let (view, text) = (ascii(source), ascii(needle));
-        assert_row!(rt; texts_in(view.split_once_str(text)), source.split_once(needle));
-        assert_row!(rt; texts_in(view.rsplit_once_str(text)), source.rsplit_once(needle));
+        assert_eq!(rt;
+            texts_in(view.split_once_str(text)),
+            source.split_once(needle)
+        );
+        assert_eq!(rt;
+            texts_in(view.rsplit_once_str(text)),
+            source.rsplit_once(needle)
+        );
     }
 }
 
@@ -84,8 +90,8 @@ fn a_character_is_found_and_cut_at(rt: HostRuntime) {
         let view = ascii(source);
         assert_row!(rt; view.position(AsciiChar::Equal), first);
         assert_row!(rt; view.rposition(AsciiChar::Equal), last);
-        assert_row!(rt; texts_in(view.split_once(AsciiChar::Equal)), once);
-        assert_row!(rt; texts_in(view.rsplit_once(AsciiChar::Equal)), at_last);
+        assert_eq!(rt; texts_in(view.split_once(AsciiChar::Equal)), once);
+        assert_eq!(rt; texts_in(view.rsplit_once(AsciiChar::Equal)), at_last);
     }
 }
 

@@ -21,7 +21,7 @@ static BAD: [(&str, RowError); 9] = [
 fn fields(rt: HostRuntime) {
     let fields = read_row(rt.alloc(), ascii("ab\tc d\te"), 3).expect(&rt, "refused");
     let wanted: [AsciiStr<'_>; 3] = [ascii("ab"), ascii("c d"), ascii("e")];
-    assert_row!(rt; fields.as_slice(), &wanted[..]);
+    assert_eq!(rt; fields.as_slice(), &wanted[..]);
 }
 
 #[test]
