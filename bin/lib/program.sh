@@ -3,7 +3,7 @@
 # A build counts if it was made from these sources with this toolchain. If there is none, the call is answered by the
 # unproved program (try_program.py).
 set -eu
-{ : >&2; } 2>/dev/null || exec 2>/dev/null
+(exec 3>&2) || exec 2>/dev/null
 here=$(cd "$(dirname "$(readlink -f "$0")")/.." && pwd)
 crate=$here/crates/$name
 program=$crate/out/$name

@@ -10,10 +10,8 @@ import memory_limits
 
 TOP = Path(__file__).resolve().parents[2]
 USAGE = b"usage: ascii_show copy|lines|tac|caret|ends [-s] SCRIPT|edit WORD..|json\n"
-# Of a line on standard error: any text.
-ANY = b"(any)"
-# The files that calls of ascii_filter name.
-FILES = {"text": b"x\r\ny", "other": b"ab\310c", "empty": b"", "long": b"a" * 1_000_000}
+ANY = b"(any)"  # of a line on standard error
+FILES = {"text": b"x\r\ny", "other": b"ab\310c", "empty": b"", "long": b"a" * 1_000_000}  # those that calls name
 
 
 class Call(NamedTuple):
@@ -81,6 +79,7 @@ MISSING = said("none: No such file or directory (os error 2)")
 FOLDER = said("folder: Is a directory (os error 21)")
 FULL = said("(standard output): No space left on device (os error 28)")
 OPTIONS = said("--count, --max and --quiet are options of check")
+HELP = subprocess.run([TOP / "bin/ascii_filter", "--help"], capture_output=True).stdout
 FILTER = [
     Call("copy", ["copy"], b"abc", 0, b"abc"),
     Call("copy of nothing", ["copy"], b"", 0),
@@ -105,6 +104,7 @@ FILTER = [
     Call("an option of check", ["copy", "--quiet"], b"", 2, b"", OPTIONS),
     Call("arguments that are not valid UTF-8", [b"copy\310"], b"", 2, b"", said("an argument is not valid UTF-8")),
     Call("the version", ["--version"], b"", 0, f"ascii_filter {(TOP / 'VERSION').read_text()}".encode()),
+    Call("the help, as the wrapper has it", ["--help"], b"", 0, HELP),
     Call("check of a folder", ["check", "folder"], b"", 3, b"", FOLDER),
     Call("no mode", [], b"", 2, b"", ANY),
     Call("an unknown mode", ["tac"], b"", 2, b"", ANY),
