@@ -45,7 +45,7 @@ build() {
   mv "$scratch/mark" "$mark"
 }
 
-# Builds if there is no build. Another build of this checkout is waited for.
+# Builds if there is no build, after any other build of this checkout has ended.
 build_once() {
   mkdir -p "$crate/out" 2>/dev/null && : 2>/dev/null >>"$crate/out/made.lock" ||
     { say "the program has to be built, and $crate/out cannot be written"; exit 73; }

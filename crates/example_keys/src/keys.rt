@@ -8,7 +8,8 @@ use ascii::{AsciiChar, AsciiStr};
 
 /// Returns what comes before the first `=` of a line, or the whole line if it has none.
 pub fn key_of(line: AsciiStr<'_>) -> AsciiStr<'_>
-    ensures { OfPieces line.entry AsciiChar.Equal (λ pieces. slice_get pieces 0 ≡ Some (text_of result)) }
+    ensures { OfPieces line.entry AsciiChar.Equal
+        (λ pieces. slice_get pieces 0 ≡ Some (text_of result)) }
 {
     line.split(AsciiChar::Equal).next().unwrap_or_default()
 }
