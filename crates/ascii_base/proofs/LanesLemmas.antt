@@ -36,12 +36,12 @@ chosen test here other lanes n long e =
 -- says of each byte
 module _ (Is : ℕ → Type 0) (test : ℕ → Bool) (outside : (x : ℕ) → test x ≡ true → ¬ (Is x))
     (within : (x : ℕ) → test x ≡ false → Is x)
-    (f : ℕ → ℕ) (all : agree_below (λ x. top 7 (f x)) test 256 ≡ true) where
-  pub marks_of : (bytes : List ℕ) (at n : ℕ) → at + n ≤ length bytes → n ≤ 64
+    (f : ℕ → ℕ) (all : (x : ℕ) → x < 256 → top 7 (f x) ≡ test x) where
+  pub marks_by : (bytes : List ℕ) (at n : ℕ) → at + n ≤ length bytes → n ≤ 64
       → ((k : ℕ) → Fits w8 (get_or bytes k 0))
       → (z : List ℕ) → z ≡ map f (chunk at n bytes)
       → Marks Is bytes at n (mask_l (map (top 7) z) % 2 ^ 64)
-  marks_of bytes at n room few fits z e = record {
+  marks_by bytes at n room few fits z e = record {
     set = λ k is. elim (cases_lt k n) [
       | inl l ↦ elim (cases_Bool (test (get_or bytes (at + k) 0))) [
         | inl t ↦ (l, outside _ t)
@@ -75,11 +75,21 @@ module _ (Is : ℕ → Type 0) (test : ℕ → Bool) (outside : (x : ℕ) → te
           let here = get_or-map (λ x. top 7 (f x)) (chunk at n bytes) k 0 false inside
           ∙ ap (λ x. top 7 (f x)) (get_or-chunk at n bytes k 0 l) in
           any k ∙ ap (λ b. cond b 1 0) (here
-          ∙ agree_below_at (λ x. top 7 (f x)) test 256 (get_or bytes (at + k) 0) all
-          (fits (at + k)).fits)
+          ∙ all (get_or bytes (at + k) 0) (fits (at + k)).fits)
 
       past : (k : ℕ) → n ≤ k → bit_at (mask_l (map (top 7) z) % 2 ^ 64) k ≡ 0
       past k g = any k ∙ ap (λ b. cond b 1 0) (get_or_past ms k false (omega (arith, long)))
+
+-- the same, where the test is compared byte by byte by computing it
+pub marks_of : (Is : ℕ → Type 0) (test : ℕ → Bool) → ((x : ℕ) → test x ≡ true → ¬ (Is x))
+    → ((x : ℕ) → test x ≡ false → Is x)
+    → (f : ℕ → ℕ) → agree_below (λ x. top 7 (f x)) test 256 ≡ true
+    → (bytes : List ℕ) (at n : ℕ) → at + n ≤ length bytes → n ≤ 64
+    → ((k : ℕ) → Fits w8 (get_or bytes k 0))
+    → (z : List ℕ) → z ≡ map f (chunk at n bytes)
+    → Marks Is bytes at n (mask_l (map (top 7) z) % 2 ^ 64)
+marks_of Is test outside within f all = marks_by Is test outside within f
+    (λ x less. agree_below_at (λ x. top 7 (f x)) test 256 x all less)
 
 -- the bit at k of a number from 2 ^ k up to its double
 pub highest_bit : (m k : ℕ) → 2 ^ k ≤ m → m < 2 * 2 ^ k → bit_at m k ≡ 1

@@ -1,3 +1,5 @@
 mod CaseLemmas
 mod Examples
 pub mod LanesLemmas
+pub mod RangesLemmas
+pub mod TokenLemmas

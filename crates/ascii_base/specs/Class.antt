@@ -1,8 +1,13 @@
 -- The classes of characters, as sets of codes.
 use Rattle.std.specs.Prelude.{◌⊎◌, ℕ, ◌≡◌, ◌-◌, ◌<◌, Option, Some, None, IsSomeAnd, if◌then◌else◌}
-use Rattle.std.specs.Prelude.{nat_le, ◌&&◌, codes}
+use Rattle.std.specs.Prelude.{nat_le, ◌&&◌, ◌||◌, codes, List, [], ◌∷◌, Bool, false}
 use Rattle.std.specs.List.{Contains}
-use Rattle.std.specs.Int.{IsInRange}
+use Rattle.std.specs.Int.{IsInRange, is_in_range}
+
+-- whether a code is in one of the ranges, each given by its first and its last code
+abbrev pub in_ranges : List (ℕ × ℕ) → ℕ → Bool
+in_ranges [] n = false
+in_ranges (r ∷ rs) n = is_in_range r.0 r.1 n || in_ranges rs n
 
 -- `A` to `Z`
 abbrev pub IsUppercase : ℕ → Type 0

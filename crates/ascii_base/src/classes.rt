@@ -1,30 +1,50 @@
 //! Classes of bytes, which the searches of `kernels` are for.
 //!
 //! A class is a type that has no values in use: `Class` says which bytes are in it, and `ClassBy`
-//! tests several bytes at once. For a class of your own, write the test of one byte; `ClassBy` has a
-//! default:
+//! tests several bytes at once. A class of your own is a constant, the ranges of its bytes; both tests
+//! come from them:
+//!
+//!     const VOWELS: [(u8, u8); 5] = [(b'a', b'a'), (b'e', b'e'), (b'i', b'i'), (b'o', b'o'), (b'u', b'u')];
 //!
 //!     struct Vowel;
 //!
-//!     impl Class for Vowel {
-//!         ghost is = { IsVowel };
+//!     impl Ranges for Vowel {
+//!         ghost set = { IsVowel };
+//!         ghost list = { VOWELS };
+//!         ghost matches = { λ n. Prim.search rules };
 //!
-//!         fn has(byte: u8) -> bool {
-//!             matches!(byte, b'a' | b'e' | b'i' | b'o' | b'u')
+//!         fn ranges() -> &'static [(u8, u8)] {
+//!             &VOWELS
 //!         }
 //!     }
 //!
-//!     impl<const N: usize> ClassBy<N> for Vowel {}
+//! A contract sees a class `C` as the set of codes `C.is`, here `IsVowel`. A class whose bytes are
+//! computed gives its own test of one byte, in place of ranges:
 //!
-//! A contract sees a class `C` as the set of codes `C.is`.
+//!     impl Class for Even {
+//!         ghost is = { λ n. n % 2 ≡ 0 };
+//!
+//!         fn has(byte: u8) -> bool {
+//!             byte % 2 == 0
+//!         }
+//!     }
+//!
+//!     impl<const N: usize> ClassBy<N> for Even {}
 
-ghost use Rattle.std.specs.Prelude.{ℕ, ◌≡◌, ◌<◌, ◌≤◌, ◌+◌, ◌↔◌, IsTrue, codes, length};
+ghost use Rattle.std.specs.Prelude.{ℕ, ◌≡◌, ◌<◌, ◌≤◌, ◌+◌, ◌↔◌, IsTrue, List, codes, length};
 ghost use Rattle.std.specs.List.{Contains};
+ghost use Rattle.std.specs.Bool.{Decides};
+ghost use Rattle.std.proofs.Common.{rules};
 ghost use Rattle.ascii_base.specs.Class.{IsAlphabetic, IsAlphanumeric, IsAsciiWhitespace, IsBlank};
 ghost use Rattle.ascii_base.specs.Class.{IsControl, IsDigit, IsGraphic, IsHexdigit, IsLabelCode};
 ghost use Rattle.ascii_base.specs.Class.{IsLowercase, IsPrintable, IsPunctuation, IsTokenCode};
-ghost use Rattle.ascii_base.specs.Class.{IsUppercase, IsWhitespace};
+ghost use Rattle.ascii_base.specs.Class.{IsUppercase, IsWhitespace, in_ranges};
 ghost use Rattle.ascii_base.specs.Lanes.{Marks};
+ghost use Rattle.ascii_base.specs.declared.classes.TheConstants.{WHITESPACE, UPPERCASE, LOWERCASE};
+ghost use Rattle.ascii_base.specs.declared.classes.TheConstants.{ALPHABETIC, DIGIT, ALPHANUMERIC};
+ghost use Rattle.ascii_base.specs.declared.classes.TheConstants.{HEXDIGIT, BLANK, ASCII_WHITESPACE};
+ghost use Rattle.ascii_base.specs.declared.classes.TheConstants.{CONTROL, GRAPHIC, PRINTABLE};
+ghost use Rattle.ascii_base.specs.declared.classes.TheConstants.{PUNCTUATION, TOKEN, LABEL};
 
 use std::simd::prelude::*;
 
@@ -80,6 +100,53 @@ fn marks_one_by_one<C: Class, const N: usize>(bytes: &[u8], at: usize) -> u64
     marked
 }
 
+/// A class of bytes that is a few ranges. Up to a dozen, the compiled tests have no loop over them.
+pub trait Ranges {
+    // The bytes of the class.
+    ghost set: { ℕ → Type 0 };
+
+    // The first and the last byte of each range.
+    ghost list: { List (ℕ × ℕ) };
+
+    /// Returns the first and the last byte of each range.
+    ///
+    ///     Alphabetic::ranges() // [(65, 90), (97, 122)]
+    fn ranges() -> &'static [(u8, u8)]
+        ensures { result.now ≡ list };
+
+    // The ranges are those of the class.
+    ghost matches: { (n : ℕ) → Decides (in_ranges list n) (set n) };
+}
+
+impl<R: Ranges> Class for R {
+    ghost is = { R.set };
+
+    #[inline(always)]
+    fn has(byte: u8) -> bool {
+        let mut is_in = false;
+        for (low, high) in R::ranges() {
+            is_in |= (*low <= byte) & (byte <= *high);
+        }
+        is_in
+    }
+}
+
+impl<R: Ranges, const N: usize> ClassBy<N> for R {
+    #[inline(always)]
+    fn marks(bytes: &[u8], at: usize) -> u64
+        requires lanes { N ≤ 64 }
+        requires room { at + N ≤ length bytes.now }
+        ensures { Marks R.set bytes.now at N result }
+    {
+        let lanes = Simd::<u8, N>::from_slice(&bytes[at..]);
+        let mut is_in = Mask::<i8, N>::splat(false);
+        for (low, high) in R::ranges() {
+            is_in |= lanes.simd_ge(Simd::splat(*low)) & lanes.simd_le(Simd::splat(*high));
+        }
+        (!is_in).to_bitmask()
+    }
+}
+
 /// The ASCII bytes: 0 to 127.
 pub struct Ascii;
 
@@ -108,196 +175,256 @@ impl<const N: usize> ClassBy<N> for Ascii {
 /// Space, tab, line feed, vertical tab, form feed and carriage return.
 pub struct Whitespace;
 
-impl Class for Whitespace {
-    ghost is = { IsWhitespace };
+const WHITESPACE: [(u8, u8); 2] = [(b'\t', b'\r'), (b' ', b' ')];
 
-    #[inline(always)]
-    fn has(byte: u8) -> bool {
-        matches!(byte, b' ' | b'\t' | b'\n' | 0x0b | 0x0c | b'\r')
-    }
-}
+impl Ranges for Whitespace {
+    ghost set = { IsWhitespace };
 
-impl<const N: usize> ClassBy<N> for Whitespace {
-    ///     <Whitespace as ClassBy<4>>::marks(b"a \tb", 0) // 9
-    #[inline(always)]
-    fn marks(bytes: &[u8], at: usize) -> u64
-        requires lanes { N ≤ 64 }
-        requires room { at + N ≤ length bytes.now }
-        ensures { Marks IsWhitespace bytes.now at N result }
-    {
-        let lanes = Simd::<u8, N>::from_slice(&bytes[at..]);
-        let from_tab = lanes - Simd::splat(b'\t');
-        (from_tab.simd_ge(Simd::splat(5)) & lanes.simd_ne(Simd::splat(b' '))).to_bitmask()
+    ghost list = { WHITESPACE };
+
+    ghost matches = { λ n. Prim.search rules };
+
+    fn ranges() -> &'static [(u8, u8)] {
+        &WHITESPACE
     }
 }
 
 /// The letters `A` to `Z`.
 pub struct Uppercase;
 
-impl Class for Uppercase {
-    ghost is = { IsUppercase };
+const UPPERCASE: [(u8, u8); 1] = [(b'A', b'Z')];
 
-    #[inline(always)]
-    fn has(byte: u8) -> bool {
-        byte.wrapping_sub(b'A') < 26
+impl Ranges for Uppercase {
+    ghost set = { IsUppercase };
+
+    ghost list = { UPPERCASE };
+
+    ghost matches = { λ n. Prim.search rules };
+
+    fn ranges() -> &'static [(u8, u8)] {
+        &UPPERCASE
     }
 }
-
-impl<const N: usize> ClassBy<N> for Uppercase {}
 
 /// The letters `a` to `z`.
 pub struct Lowercase;
 
-impl Class for Lowercase {
-    ghost is = { IsLowercase };
+const LOWERCASE: [(u8, u8); 1] = [(b'a', b'z')];
 
-    #[inline(always)]
-    fn has(byte: u8) -> bool {
-        byte.wrapping_sub(b'a') < 26
+impl Ranges for Lowercase {
+    ghost set = { IsLowercase };
+
+    ghost list = { LOWERCASE };
+
+    ghost matches = { λ n. Prim.search rules };
+
+    fn ranges() -> &'static [(u8, u8)] {
+        &LOWERCASE
     }
 }
-
-impl<const N: usize> ClassBy<N> for Lowercase {}
 
 /// The letters, `A` to `Z` and `a` to `z`.
 pub struct Alphabetic;
 
-impl Class for Alphabetic {
-    ghost is = { IsAlphabetic };
+const ALPHABETIC: [(u8, u8); 2] = [(b'A', b'Z'), (b'a', b'z')];
 
-    #[inline(always)]
-    fn has(byte: u8) -> bool {
-        Uppercase::has(byte) | Lowercase::has(byte)
+impl Ranges for Alphabetic {
+    ghost set = { IsAlphabetic };
+
+    ghost list = { ALPHABETIC };
+
+    ghost matches = { λ n. Prim.search rules };
+
+    fn ranges() -> &'static [(u8, u8)] {
+        &ALPHABETIC
     }
 }
-
-impl<const N: usize> ClassBy<N> for Alphabetic {}
 
 /// The digits `0` to `9`.
 pub struct Digit;
 
-impl Class for Digit {
-    ghost is = { IsDigit };
+const DIGIT: [(u8, u8); 1] = [(b'0', b'9')];
 
-    #[inline(always)]
-    fn has(byte: u8) -> bool {
-        byte.wrapping_sub(b'0') < 10
+impl Ranges for Digit {
+    ghost set = { IsDigit };
+
+    ghost list = { DIGIT };
+
+    ghost matches = { λ n. Prim.search rules };
+
+    fn ranges() -> &'static [(u8, u8)] {
+        &DIGIT
     }
 }
-
-impl<const N: usize> ClassBy<N> for Digit {}
 
 /// The letters and digits.
 pub struct Alphanumeric;
 
-impl Class for Alphanumeric {
-    ghost is = { IsAlphanumeric };
+const ALPHANUMERIC: [(u8, u8); 3] = [(b'0', b'9'), (b'A', b'Z'), (b'a', b'z')];
 
-    #[inline(always)]
-    fn has(byte: u8) -> bool {
-        Alphabetic::has(byte) | Digit::has(byte)
+impl Ranges for Alphanumeric {
+    ghost set = { IsAlphanumeric };
+
+    ghost list = { ALPHANUMERIC };
+
+    ghost matches = { λ n. Prim.search rules };
+
+    fn ranges() -> &'static [(u8, u8)] {
+        &ALPHANUMERIC
     }
 }
-
-impl<const N: usize> ClassBy<N> for Alphanumeric {}
 
 /// The hexadecimal digits: `0` to `9`, `A` to `F` and `a` to `f`.
 pub struct Hexdigit;
 
-impl Class for Hexdigit {
-    ghost is = { IsHexdigit };
+const HEXDIGIT: [(u8, u8); 3] = [(b'0', b'9'), (b'A', b'F'), (b'a', b'f')];
 
-    #[inline(always)]
-    fn has(byte: u8) -> bool {
-        Digit::has(byte) | (byte.wrapping_sub(b'A') < 6) | (byte.wrapping_sub(b'a') < 6)
+impl Ranges for Hexdigit {
+    ghost set = { IsHexdigit };
+
+    ghost list = { HEXDIGIT };
+
+    ghost matches = { λ n. Prim.search rules };
+
+    fn ranges() -> &'static [(u8, u8)] {
+        &HEXDIGIT
     }
 }
-
-impl<const N: usize> ClassBy<N> for Hexdigit {}
 
 /// Space and tab.
 pub struct Blank;
 
-impl Class for Blank {
-    ghost is = { IsBlank };
+const BLANK: [(u8, u8); 2] = [(b'\t', b'\t'), (b' ', b' ')];
 
-    #[inline(always)]
-    fn has(byte: u8) -> bool {
-        (byte == b' ') | (byte == b'\t')
+impl Ranges for Blank {
+    ghost set = { IsBlank };
+
+    ghost list = { BLANK };
+
+    ghost matches = { λ n. Prim.search rules };
+
+    fn ranges() -> &'static [(u8, u8)] {
+        &BLANK
     }
 }
-
-impl<const N: usize> ClassBy<N> for Blank {}
 
 /// Space, tab, line feed, form feed and carriage return, but not vertical tab.
 pub struct AsciiWhitespace;
 
-impl Class for AsciiWhitespace {
-    ghost is = { IsAsciiWhitespace };
+const ASCII_WHITESPACE: [(u8, u8); 5] = [
+    (b'\t', b'\t'),
+    (b'\n', b'\n'),
+    (12, 12),
+    (b'\r', b'\r'),
+    (b' ', b' '),
+];
 
-    #[inline(always)]
-    fn has(byte: u8) -> bool {
-        Blank::has(byte) | (byte == b'\n') | (byte == b'\r') | (byte == 0x0c)
+impl Ranges for AsciiWhitespace {
+    ghost set = { IsAsciiWhitespace };
+
+    ghost list = { ASCII_WHITESPACE };
+
+    ghost matches = { λ n. Prim.search rules };
+
+    fn ranges() -> &'static [(u8, u8)] {
+        &ASCII_WHITESPACE
     }
 }
-
-impl<const N: usize> ClassBy<N> for AsciiWhitespace {}
 
 /// The control characters: 0 to 31, and delete.
 pub struct Control;
 
-impl Class for Control {
-    ghost is = { IsControl };
+const CONTROL: [(u8, u8); 2] = [(0, 31), (127, 127)];
 
-    #[inline(always)]
-    fn has(byte: u8) -> bool {
-        (byte < b' ') | (byte == 127)
+impl Ranges for Control {
+    ghost set = { IsControl };
+
+    ghost list = { CONTROL };
+
+    ghost matches = { λ n. Prim.search rules };
+
+    fn ranges() -> &'static [(u8, u8)] {
+        &CONTROL
     }
 }
-
-impl<const N: usize> ClassBy<N> for Control {}
 
 /// The visible (graphic) characters: `!` to `~`.
 pub struct Graphic;
 
-impl Class for Graphic {
-    ghost is = { IsGraphic };
+const GRAPHIC: [(u8, u8); 1] = [(b'!', b'~')];
 
-    #[inline(always)]
-    fn has(byte: u8) -> bool {
-        byte.wrapping_sub(b' ' + 1) < 94
+impl Ranges for Graphic {
+    ghost set = { IsGraphic };
+
+    ghost list = { GRAPHIC };
+
+    ghost matches = { λ n. Prim.search rules };
+
+    fn ranges() -> &'static [(u8, u8)] {
+        &GRAPHIC
     }
 }
-
-impl<const N: usize> ClassBy<N> for Graphic {}
 
 /// The visible (graphic) characters and space.
 pub struct Printable;
 
-impl Class for Printable {
-    ghost is = { IsPrintable };
+const PRINTABLE: [(u8, u8); 1] = [(b' ', b'~')];
 
-    #[inline(always)]
-    fn has(byte: u8) -> bool {
-        byte.wrapping_sub(b' ') < 95
+impl Ranges for Printable {
+    ghost set = { IsPrintable };
+
+    ghost list = { PRINTABLE };
+
+    ghost matches = { λ n. Prim.search rules };
+
+    fn ranges() -> &'static [(u8, u8)] {
+        &PRINTABLE
     }
 }
-
-impl<const N: usize> ClassBy<N> for Printable {}
 
 /// The visible (graphic) characters that are neither letters nor digits.
 pub struct Punctuation;
 
-impl Class for Punctuation {
-    ghost is = { IsPunctuation };
+const PUNCTUATION: [(u8, u8); 4] = [(b'!', b'/'), (b':', b'@'), (b'[', b'`'), (b'{', b'~')];
 
-    #[inline(always)]
-    fn has(byte: u8) -> bool {
-        Graphic::has(byte) & !Alphanumeric::has(byte)
+impl Ranges for Punctuation {
+    ghost set = { IsPunctuation };
+
+    ghost list = { PUNCTUATION };
+
+    ghost matches = { λ n. Prim.search rules };
+
+    fn ranges() -> &'static [(u8, u8)] {
+        &PUNCTUATION
     }
 }
 
-impl<const N: usize> ClassBy<N> for Punctuation {}
+/// The ranges of `Token`.
+struct TokenRanges;
+
+const TOKEN: [(u8, u8); 9] = [
+    (b'!', b'!'),
+    (b'#', b'\''),
+    (b'*', b'+'),
+    (b'-', b'.'),
+    (b'0', b'9'),
+    (b'A', b'Z'),
+    (b'^', b'z'),
+    (b'|', b'|'),
+    (b'~', b'~'),
+];
+
+impl Ranges for TokenRanges {
+    ghost set = { λ n. IsTrue (in_ranges TOKEN n) };
+
+    ghost list = { TOKEN };
+
+    ghost matches = { λ _. (λ is. is, λ is. is) };
+
+    fn ranges() -> &'static [(u8, u8)] {
+        &TOKEN
+    }
+}
 
 /// The characters of a token, such as the name of a header: letters, digits and fifteen marks.
 pub struct Token;
@@ -312,7 +439,12 @@ impl Class for Token {
     }
 }
 
-impl<const N: usize> ClassBy<N> for Token {}
+impl<const N: usize> ClassBy<N> for Token {
+    #[inline(always)]
+    fn marks(bytes: &[u8], at: usize) -> u64 {
+        <TokenRanges as ClassBy<N>>::marks(bytes, at)
+    }
+}
 
 /// Whether the byte is one of the marks of a token.
 #[inline]
@@ -325,13 +457,16 @@ fn is_token_mark(byte: u8) -> bool
 /// The characters of a label of a host name: letters, digits and `-`.
 pub struct Label;
 
-impl Class for Label {
-    ghost is = { IsLabelCode };
+const LABEL: [(u8, u8); 4] = [(b'0', b'9'), (b'A', b'Z'), (b'a', b'z'), (b'-', b'-')];
 
-    #[inline(always)]
-    fn has(byte: u8) -> bool {
-        Alphanumeric::has(byte) | (byte == b'-')
+impl Ranges for Label {
+    ghost set = { IsLabelCode };
+
+    ghost list = { LABEL };
+
+    ghost matches = { λ n. Prim.search rules };
+
+    fn ranges() -> &'static [(u8, u8)] {
+        &LABEL
     }
 }
-
-impl<const N: usize> ClassBy<N> for Label {}

@@ -10,7 +10,8 @@
 //!
 //! None of them allocates. A search goes through the bytes 32 at a time and ends with one step of 32
 //! over the end, which may test bytes again. Up to 64 bytes take two overlapping steps of 32, 16, 8 or
-//! 4 bytes, and fewer than 4 bytes go one by one. The maps and the comparison take the same steps.
+//! 4 bytes, and fewer than 4 bytes go one by one. The maps and the comparison take the same steps. A
+//! search for what is not in a class tests 16 bytes before that: most runs end there.
 //!
 //! A contract sees the bytes as a list of numbers, and a position as an index in it, from 0.
 
@@ -28,9 +29,8 @@ use crate::images::{ImageBy, Lower, Upper};
 use crate::lanes::{ASCII_BLOCK, LANES, WIDE, eq_lanes, is_ascii_block};
 use std::simd::prelude::*;
 
-/// How many bytes at an end of a text are tested one by one first: few texts have more whitespace
-/// there.
-const SCALAR_PREFIX: usize = 8;
+/// How many bytes at an end are tested first: most runs are shorter.
+const HALF: usize = 16;
 
 /// Returns the position of the first byte that is not in the class, or `None` if all bytes are in it.
 ///
@@ -40,7 +40,13 @@ pub fn first_not<C: Searched>(bytes: &[u8]) -> Option<usize>
     ensures { MatchOption result (All C.is bytes.now)
         (IsFirstNot C.is bytes.now 0 (length bytes.now)) }
 {
-    first_from::<C>(bytes, 0)
+    if bytes.len() < HALF {
+        return first_in_short::<C>(bytes, 0);
+    }
+    match first_in::<C, HALF>(bytes, 0) {
+        None => first_from::<C>(bytes, HALF),
+        found => found,
+    }
 }
 
 /// Returns the position of the last byte that is not in the class, or `None` if all bytes are in it.
@@ -50,7 +56,14 @@ pub fn first_not<C: Searched>(bytes: &[u8]) -> Option<usize>
 pub fn last_not<C: Searched>(bytes: &[u8]) -> Option<usize>
     ensures { MatchOption result (All C.is bytes.now) (IsLastNot C.is bytes.now) }
 {
-    last_before::<C>(bytes, bytes.len())
+    let end = bytes.len();
+    if end < HALF {
+        return last_in_short::<C>(bytes, end);
+    }
+    match last_in::<C, HALF>(bytes, end - HALF) {
+        None => last_before::<C>(bytes, end - HALF),
+        found => found,
+    }
 }
 
 /// Returns the position of the first non-ASCII byte, or `None` if all bytes are ASCII.
@@ -135,11 +148,7 @@ pub fn first_not_whitespace(bytes: &[u8]) -> Option<usize>
     ensures { MatchOption result (All IsWhitespace bytes.now)
         (IsFirstNot IsWhitespace bytes.now 0 (length bytes.now)) }
 {
-    let near = bytes.len().min(SCALAR_PREFIX);
-    match first_one_by_one::<Whitespace>(bytes, 0, near) {
-        None => first_from::<Whitespace>(bytes, near),
-        found => found,
-    }
+    first_not::<Whitespace>(bytes)
 }
 
 /// Returns the position of the last byte that is not whitespace, or `None` if every byte is
@@ -149,11 +158,7 @@ pub fn first_not_whitespace(bytes: &[u8]) -> Option<usize>
 pub fn last_not_whitespace(bytes: &[u8]) -> Option<usize>
     ensures { MatchOption result (All IsWhitespace bytes.now) (IsLastNot IsWhitespace bytes.now) }
 {
-    let end = bytes.len().saturating_sub(SCALAR_PREFIX);
-    match last_one_by_one::<Whitespace>(bytes, end, bytes.len()) {
-        None => last_before::<Whitespace>(bytes, end),
-        found => found,
-    }
+    last_not::<Whitespace>(bytes)
 }
 
 /// The first byte that is not in the class, if those before `from` are.

@@ -1,26 +1,30 @@
 //! A class of a caller's own, and a search for it: identifiers of letters, digits and `_`.
 
-ghost use Rattle.std.specs.Prelude.{◌≡◌};
+ghost use Rattle.std.proofs.Common.{rules};
 ghost use Rattle.ascii.specs.Trim.{IsSpan};
 ghost use Rattle.ascii.specs.View.{text_of};
 ghost use Rattle.cookbook.specs.Identifiers.{IsIdentifierCode};
+ghost use Rattle.cookbook.specs.declared.identifiers.TheConstants.{IDENTIFIER};
 
 use ascii::AsciiStr;
-use ascii::classes::{Alphanumeric, Class, ClassBy};
+use ascii::classes::Ranges;
 
 /// The characters of an identifier: letters, digits and `_`.
 pub struct Identifier;
 
-impl Class for Identifier {
-    ghost is = { IsIdentifierCode };
+const IDENTIFIER: [(u8, u8); 4] = [(b'0', b'9'), (b'A', b'Z'), (b'a', b'z'), (b'_', b'_')];
 
-    #[inline]
-    fn has(byte: u8) -> bool {
-        Alphanumeric::has(byte) | (byte == b'_')
+impl Ranges for Identifier {
+    ghost set = { IsIdentifierCode };
+
+    ghost list = { IDENTIFIER };
+
+    ghost matches = { λ n. Prim.search rules };
+
+    fn ranges() -> &'static [(u8, u8)] {
+        &IDENTIFIER
     }
 }
-
-impl<const N: usize> ClassBy<N> for Identifier {}
 
 /// Returns the characters at the start of a text that an identifier can contain, and the rest of the text:
 /// `("a_max", " = 3")` for `a_max = 3`.
