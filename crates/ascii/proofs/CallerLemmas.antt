@@ -159,7 +159,7 @@ chars_road : (iter all : List ℕ) → iter ≡ all
     → YieldsList (YieldsFirstBy code_of (λ chars. chars)) code_of iter all
 chars_road iter all is = YieldsList-from_first code_of _ all is
 
-split_road : (split : Remaining (List ℕ)) → YieldsList
+split_road : (split : Remaining ℕ (List ℕ)) → YieldsList
     (YieldsFirstAnd text_of (λ s. s.items) StepsPiece)
     text_of split split.items
 split_road split = road_from_first_and _ _ _ split.items refl
@@ -191,7 +191,7 @@ collects_chars iter text collects =
     (chars_road iter iter refl) ∙ singles iter)
 
 -- on `Ok`, extending from a split appends the pieces that remain
-pub extends_split : (split : Remaining (List ℕ)) (old new : StringState)
+pub extends_split : (split : Remaining ℕ (List ℕ)) (old new : StringState)
     (result : Result (Unit {0}) AllocError)
     → Extends (YieldsFirstAnd text_of (λ s. s.items) StepsPiece)
     text_of split old new result
@@ -200,7 +200,7 @@ extends_split split old new result extends =
     all_from_extends (λ piece. piece) old new result extends (split_road split)
 
 -- collecting a split gives the pieces that remain, joined without a separator
-pub collects_split : (split : Remaining (List ℕ)) (text : List ℕ)
+pub collects_split : (split : Remaining ℕ (List ℕ)) (text : List ℕ)
     → Collects (YieldsFirstAnd text_of (λ s. s.items) StepsPiece)
     text_of split text
     → text ≡ flat_map (λ piece. piece) split.items

@@ -13,8 +13,7 @@ use Rattle.ascii.specs.Chunks.{ChunksOf, HasOneListOfChunks, IsByteOf, IsFirstCh
 use Rattle.ascii.specs.Chunks.{IsRun, LoopsBackOverChunks, LoopsOverChunks, Run}
 use Rattle.ascii.specs.Chunks.{YieldsFirstChunk, YieldsLastChunk, chunk_in}
 use Rattle.ascii.specs.Spans.{WithStart}
-use Rattle.ascii.proofs.WordLemmas.{end_kept, last_code, last_of_all, one_span}
-use Rattle.ascii.proofs.WordSpanLemmas.{same_span}
+use Rattle.ascii.proofs.RunLemmas.{end_kept, last_code, last_of_all, one_span, same_span}
 
 -- ---- the two kinds of bytes
 

@@ -1,3 +1,5 @@
+pub mod ByClassLemmas
+pub mod ByTextLemmas
 pub mod CallerLemmas
 pub mod ChunkLemmas
 pub mod CutLemmas
@@ -15,6 +17,7 @@ pub mod PiecesLemmas
 pub mod ReplaceLemmas
 pub mod RestsLemmas
 pub mod RetainLemmas
+pub mod RunLemmas
 pub mod SearchLemmas
 pub mod SliceLemmas
 pub mod SpansLemmas
@@ -22,8 +25,6 @@ pub mod StepsLemmas
 pub mod TextLemmas
 pub mod TrimLemmas
 pub mod UpToLemmas
-pub mod WordLemmas
-pub mod WordSpanLemmas
 pub mod WritingViewLemmas
 pub use Rattle.ascii_base.proofs.LanesLemmas
 pub use Rattle.ascii_base.proofs.range

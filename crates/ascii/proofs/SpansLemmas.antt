@@ -1,5 +1,5 @@
 -- The pieces and the lines of a text with their starts, and how they break at either end.
-use Rattle.std.proofs.Common.{◌≡◌, ◌≢◌, ℕ, suc, ◌+◌, ◌≤◌, List, [], ◌∷◌, ◌++◌, length, append-nil}
+use Rattle.std.proofs.Common.{◌≡◌, ◌≢◌, ℕ, suc, ◌+◌, ◌^◌, ◌<◌, ◌≤◌, List, [], ◌∷◌, ◌++◌, length, append-nil}
 use Rattle.std.proofs.Common.{refl, sym, ap, ◌∙◌, subst, arith, length-append}
 use Rattle.std.specs.List.{Contains, flat_map, join_with_byte}
 use Rattle.std.proofs.lemmas.List.Splits.{join_with_byte-slice_split}
@@ -11,7 +11,7 @@ use Rattle.ascii.specs.Found.{line_spans, lines_of, part_in, piece_spans, pieces
 use Rattle.ascii.specs.Found.{terminated_line}
 use Rattle.ascii.specs.Lines.{Line, LinesOf, line_text}
 use Rattle.ascii.specs.Pieces.{Pieces}
-use Rattle.ascii.specs.Spans.{LineSpansOf, PieceSpans, WithStart, items_of, line_size, piece_size}
+use Rattle.ascii.specs.Spans.{IteratesPieceSpans, LineSpansOf, PieceSpans, WithStart, items_of, line_size, piece_size}
 use Rattle.ascii.specs.Spans.{with_starts}
 use Rattle.ascii.specs.View.{text_of}
 use Rattle.ascii.proofs.LinesLemmas.{LinesOf-lines_of, LinesOf-only, length-lines_of}
@@ -48,7 +48,7 @@ items-with_starts size start [] = refl
 items-with_starts size start (item ∷ items) =
     ap (λ others. item ∷ others) (items-with_starts size (start + size item) items)
 
-length-with_starts : {A : Type 0} (size : A → ℕ) (start : ℕ) (items : List A)
+pub length-with_starts : {A : Type 0} (size : A → ℕ) (start : ℕ) (items : List A)
     → length (with_starts size start items) ≡ length items
 length-with_starts size start [] = refl
 length-with_starts size start (item ∷ items) =
@@ -129,6 +129,16 @@ module _ (on : ℕ) (part : WithStart (List ℕ)) where
         length-with_starts piece_size part.start (pieces_of on part.item),
         length-pieces_of on part.item,
       )
+
+  -- an iterator that has yet to yield them
+  pub piece_spans_iterated : length (piece_spans on part) < 2 ^ 64
+      → IteratesPieceSpans part.start part.item on (record { on = on; items = piece_spans on part })
+  piece_spans_iterated fits = record {
+    spans = piece_spans_found;
+    only = piece_spans_only;
+    separator = refl;
+    fits = fits;
+  }
 
 -- ---- lines
 

@@ -1,6 +1,9 @@
+pub mod ByClass
+pub mod ByText
 pub mod Chunks
 pub mod ConversionError
 pub mod Cow
+pub mod Cuts
 pub mod Extend
 pub mod First
 pub mod Folded
@@ -20,7 +23,6 @@ pub mod StringState
 pub mod Trim
 pub mod View
 pub mod Walks
-pub mod WordSpans
 pub mod Words
 pub mod WritingView
 pub use Rattle.ascii_base.specs.Bytes
@@ -31,6 +33,7 @@ pub use Rattle.ascii_base.specs.Code
 pub use Rattle.ascii_base.specs.Lanes
 pub use Rattle.ascii_base.specs.Printable
 pub use Rattle.ascii_base.specs.Range
+pub use Rattle.ascii_base.specs.Tests
 pub use Rattle.ascii_base.specs.ToAscii
 pub use Rattle.ascii_base.specs.declared.ascii_char.AsciiChar
 pub use Rattle.ascii_base.specs.declared.range.AsciiRange

@@ -57,7 +57,7 @@ OfLineSpans view Holds =
 -- the split has yet to yield the pieces of `text` at `on`, laid end to end from `start`, the only
 -- list that they are, of a length that fits a `usize`
 pub record IteratesPieceSpans (start : ℕ) (text : List ℕ) (on : ℕ)
-    (split : Remaining (WithStart (List ℕ))) : Type 0 where
+    (split : Remaining ℕ (WithStart (List ℕ))) : Type 0 where
   pub spans : PieceSpans start text on split.items
   pub only : IsUnique (PieceSpans start text on) split.items
   pub separator : split.on ≡ on
@@ -87,7 +87,7 @@ EndFits start view = start + length (text_of view) ≤ 2 ^ 64 - 1
 -- `None` if no pieces remain; otherwise a start and a view whose pieces, from that start, are the
 -- remaining ones
 abbrev pub IsRemainderOfPieceSpans
-    : Remaining (WithStart (List ℕ)) → Option (ℕ × AsciiStr) → Type 0
+    : Remaining ℕ (WithStart (List ℕ)) → Option (ℕ × AsciiStr) → Type 0
 IsRemainderOfPieceSpans split result = MatchOption result (split.items ≡ [])
     (λ tail. PieceSpans tail.0 (text_of tail.1) split.on split.items)
 

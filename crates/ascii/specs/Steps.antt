@@ -1,5 +1,5 @@
 -- Iterator steps that also say how the rest of the state changes.
-use Rattle.std.specs.Prelude.{◌≡◌, ℕ, ◌-◌, List, IfSome, Option, drop, length, take}
+use Rattle.std.specs.Prelude.{◌≡◌, ℕ, ◌-◌, ◌^◌, ◌<◌, List, IfSome, Option, drop, length, take}
 use Rattle.std.specs.List.{Contains}
 use Rattle.std.specs.Iterator.{YieldsFirstBy, YieldsLastBy}
 use Rattle.std.specs.Iterator.Runs.{EveryRun, ItemsMapTo, ItemsMapToReversed}
@@ -11,17 +11,31 @@ use Rattle.ascii.specs.Pieces.{Remaining}
 use Rattle.ascii.specs.Spans.{EndFits, WithStart, line_in, piece_in}
 use Rattle.ascii.specs.View.{text_of}
 
+-- the iterator cuts where it did, and the item is one as `Is` says
+abbrev pub StepsText : {C A : Type 0} → (C → List ℕ → Type 0) → Remaining C A → Option AsciiStr
+    → Remaining C A → Type 0
+StepsText Is old result new = (new.on ≡ old.on) × IfSome result (λ text. Is old.on (text_of text))
+
+-- the iterator cuts where it did, and the item is one as `Is` says and ends at a position that fits
+-- a `usize`
+abbrev pub StepsSpan : {C A : Type 0} → (C → List ℕ → Type 0) → Remaining C A → Option SplitSpan
+    → Remaining C A → Type 0
+StepsSpan Is old result new = (new.on ≡ old.on)
+    × IfSome result (λ span. Is old.on (text_of span.text) × EndFits span.start span.text)
+
+-- a piece does not contain the separator
+abbrev pub IsFree : ℕ → List ℕ → Type 0
+IsFree on piece = ¬ (Contains piece on)
+
 -- the separator is unchanged, and the piece does not contain it
-abbrev pub StepsPiece : Remaining (List ℕ) → Option AsciiStr → Remaining (List ℕ) → Type 0
-StepsPiece old result new =
-    (new.on ≡ old.on) × IfSome result (λ piece. ¬ (Contains (text_of piece) old.on))
+abbrev pub StepsPiece : Remaining ℕ (List ℕ) → Option AsciiStr → Remaining ℕ (List ℕ) → Type 0
+StepsPiece = StepsText IsFree
 
 -- the separator is unchanged, and the piece does not contain it and ends at a position that fits a
 -- `usize`
-abbrev pub StepsPieceSpan : Remaining (WithStart (List ℕ)) → Option SplitSpan
-    → Remaining (WithStart (List ℕ)) → Type 0
-StepsPieceSpan old result new = (new.on ≡ old.on)
-    × IfSome result (λ span. ¬ (Contains (text_of span.text) old.on) × EndFits span.start span.text)
+abbrev pub StepsPieceSpan : Remaining ℕ (WithStart (List ℕ)) → Option SplitSpan
+    → Remaining ℕ (WithStart (List ℕ)) → Type 0
+StepsPieceSpan = StepsSpan IsFree
 
 -- the new list is the old one without its first item
 abbrev pub DropsFirst : {A B : Type 0} → List A → Option B → List A → Type 0
@@ -61,18 +75,41 @@ module _ {S A B : Type 0} (view : A → B) (items : S → List B)
   abbrev pub LoopsInReverse : Type 0
   LoopsInReverse = EveryRun YieldsLastAnd (λ p. ItemsMapToReversed p view (items p.from))
 
+-- the iterator has yet to yield `items`, of a length that fits a `usize`
+pub record Iterates {C A : Type 0} (items : List A) (iterator : Remaining C A) : Type 0 where
+  pub are : iterator.items ≡ items
+  pub fits : length iterator.items < 2 ^ 64
+
+module _ {C A : Type 0} (iterator : Remaining C A) (Is : C → List ℕ → Type 0) where
+  -- loops and chains over the items of a text see them in order, and from the back in reverse
+  abbrev pub LoopsOverItems : Type 0
+  LoopsOverItems = LoopsInOrder text_of (λ (left : Remaining C (List ℕ)). left.items) (StepsText Is)
+
+  abbrev pub LoopsBackOverItems : Type 0
+  LoopsBackOverItems =
+      LoopsInReverse text_of (λ (left : Remaining C (List ℕ)). left.items) (StepsText Is)
+
+  -- the same for the items with their starts
+  abbrev pub LoopsOverSpans : Type 0
+  LoopsOverSpans = LoopsInOrder piece_in (λ (left : Remaining C (WithStart (List ℕ))). left.items)
+      (StepsSpan Is)
+
+  abbrev pub LoopsBackOverSpans : Type 0
+  LoopsBackOverSpans =
+      LoopsInReverse piece_in (λ (left : Remaining C (WithStart (List ℕ))). left.items) (StepsSpan Is)
+
 -- The laws of loops. A call that makes an iterator ensures two of them, for the proof of a loop or
 -- a chain over that iterator: one for steps from the front, one for steps from the back. They are
 -- laws for a caller's proof, not promises about the call's result.
 
 -- loops over a `Split` see the pieces in order
 abbrev pub LoopsOverPieces : Type 0
-LoopsOverPieces = LoopsInOrder text_of (λ (split : Remaining (List ℕ)). split.items) StepsPiece
+LoopsOverPieces = LoopsInOrder text_of (λ (split : Remaining ℕ (List ℕ)). split.items) StepsPiece
 
 -- loops over a reversed `Split` see the pieces in reverse
 abbrev pub LoopsBackOverPieces : Type 0
 LoopsBackOverPieces =
-    LoopsInReverse text_of (λ (split : Remaining (List ℕ)). split.items) StepsPiece
+    LoopsInReverse text_of (λ (split : Remaining ℕ (List ℕ)). split.items) StepsPiece
 
 -- loops over a `SplitN` see the pieces in order
 abbrev pub LoopsOverTexts : Type 0

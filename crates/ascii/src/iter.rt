@@ -19,21 +19,23 @@
 //! The iterators hold only views: they do not allocate, and a clone never fails. A contract sees an iterator as the
 //! list of items that it has yet to yield.
 
+mod by_class;
+mod by_text;
 mod chars;
 mod cursor;
+mod items;
 mod lines;
 mod spans;
 mod split;
 mod split_n;
 mod walks;
-mod word_spans;
-mod words;
 
+pub use by_class::{AtClass, AtRuns, AtWords, Runs, SplitBy, SplitSpansBy, WordSpans, Words};
+pub use by_text::{AtText, SplitSpansStr, SplitStr};
 pub use chars::{Chars, CharsRef};
+pub use items::{Cut, CutBack, Items, Spans};
 pub use lines::{LineSpans, Lines};
 pub use spans::{Ending, LineSpan, SplitSpan};
-pub use split::{Split, SplitSpans};
+pub use split::{AtChar, Split, SplitSpans};
 pub use split_n::SplitN;
 pub use walks::{End, take_end, walk_line_spans, walk_lines, walk_split, walk_split_spans};
-pub use word_spans::WordSpans;
-pub use words::Words;

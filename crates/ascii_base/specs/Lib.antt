@@ -6,4 +6,5 @@ pub mod Code
 pub mod Lanes
 pub mod Printable
 pub mod Range
+pub mod Tests
 pub mod ToAscii

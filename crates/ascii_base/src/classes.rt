@@ -23,15 +23,18 @@
 //!
 //!     impl Class for Even {
 //!         ghost is = { λ n. n % 2 ≡ 0 };
+//!         ghost test = { λ n. eqb (n % 2) 0 };
 //!
 //!         fn has(byte: u8) -> bool {
 //!             byte % 2 == 0
 //!         }
+//!
+//!         ghost decides = { λ n. Decides-eqb (n % 2) 0 };
 //!     }
 //!
 //!     impl<const N: usize> ClassBy<N> for Even {}
 
-ghost use Rattle.std.specs.Prelude.{ℕ, ◌≡◌, ◌<◌, ◌≤◌, ◌+◌, ◌↔◌, IsTrue, List, codes, length};
+ghost use Rattle.std.specs.Prelude.{ℕ, Bool, ◌≡◌, ◌<◌, ◌≤◌, ◌+◌, ◌↔◌, IsTrue, List, codes, length};
 ghost use Rattle.std.specs.List.{Contains};
 ghost use Rattle.std.specs.Bool.{Decides};
 ghost use Rattle.std.proofs.Common.{rules};
@@ -40,6 +43,7 @@ ghost use Rattle.ascii_base.specs.Class.{IsControl, IsDigit, IsGraphic, IsHexdig
 ghost use Rattle.ascii_base.specs.Class.{IsLowercase, IsPrintable, IsPunctuation, IsTokenCode};
 ghost use Rattle.ascii_base.specs.Class.{IsUppercase, IsWhitespace, in_ranges};
 ghost use Rattle.ascii_base.specs.Lanes.{Marks};
+ghost use Rattle.ascii_base.specs.Tests.{is_ascii, is_ascii-decides, is_token, is_token-decides};
 ghost use Rattle.ascii_base.specs.declared.classes.TheConstants.{WHITESPACE, UPPERCASE, LOWERCASE};
 ghost use Rattle.ascii_base.specs.declared.classes.TheConstants.{ALPHABETIC, DIGIT, ALPHANUMERIC};
 ghost use Rattle.ascii_base.specs.declared.classes.TheConstants.{HEXDIGIT, BLANK, ASCII_WHITESPACE};
@@ -53,11 +57,17 @@ pub trait Class {
     // The bytes of the class.
     ghost is: { ℕ → Type 0 };
 
+    // Whether a byte is in the class.
+    ghost test: { ℕ → Bool };
+
     /// Returns `true` if the byte is in the class.
     ///
     ///     Digit::has(b'7') // true
     fn has(byte: u8) -> bool
         ensures { IsTrue result ↔ is byte };
+
+    // The test is that of the class.
+    ghost decides: { (byte : ℕ) → Decides (test byte) (is byte) };
 }
 
 /// A class with a test of `N` bytes at once.
@@ -121,6 +131,8 @@ pub trait Ranges {
 impl<R: Ranges> Class for R {
     ghost is = { R.set };
 
+    ghost test = { in_ranges R.list };
+
     #[inline(always)]
     fn has(byte: u8) -> bool {
         let mut is_in = false;
@@ -129,6 +141,8 @@ impl<R: Ranges> Class for R {
         }
         is_in
     }
+
+    ghost decides = { R.matches };
 }
 
 impl<R: Ranges, const N: usize> ClassBy<N> for R {
@@ -153,10 +167,14 @@ pub struct Ascii;
 impl Class for Ascii {
     ghost is = { λ byte. byte < 128 };
 
+    ghost test = { is_ascii };
+
     #[inline(always)]
     fn has(byte: u8) -> bool {
         byte < 128
     }
+
+    ghost decides = { is_ascii-decides };
 }
 
 impl<const N: usize> ClassBy<N> for Ascii {
@@ -432,11 +450,15 @@ pub struct Token;
 impl Class for Token {
     ghost is = { IsTokenCode };
 
+    ghost test = { is_token };
+
     #[inline(always)]
     #[tactic(auto, unfolding(crate::specs::Class::IsTokenCode))]
     fn has(byte: u8) -> bool {
         Alphanumeric::has(byte) || is_token_mark(byte)
     }
+
+    ghost decides = { is_token-decides };
 }
 
 impl<const N: usize> ClassBy<N> for Token {

@@ -2,13 +2,14 @@
 
 ghost use Rattle.std.specs.Prelude.{◌≡◌, ◌↔◌, ◌⊎◌, ◌∷◌, ℕ, [], Contains, IfOk, IsTrue, List};
 ghost use Rattle.std.specs.Prelude.{MatchOption, codes, length, map};
-ghost use Rattle.ascii.specs.Class.{IsDigit, IsWhitespace};
+ghost use Rattle.ascii.specs.Class.{IsDigit};
 ghost use Rattle.ascii.specs.Code.{code_of};
 ghost use Rattle.ascii.specs.Pieces.{OfPieces};
 ghost use Rattle.ascii.specs.Search.{IsPrefix, StartsWith};
 ghost use Rattle.ascii.specs.Trim.{IsSpan};
 ghost use Rattle.ascii.specs.View.{text_of};
-ghost use Rattle.ascii.specs.Words.{OfWords, YieldsFirstWord};
+ghost use Rattle.ascii.specs.ByClass.{words_by};
+ghost use Rattle.ascii.specs.Tests.{is_whitespace};
 ghost use Rattle.tests_callers.specs.Cuts.{EndsWithPiece};
 
 use ascii::classes::Digit;
@@ -42,14 +43,16 @@ pub fn number_and_unit<'a>(view: AsciiStr<'a>) -> (AsciiStr<'a>, AsciiStr<'a>)
 
 /// The first word of a view, or `None` if it has no word.
 pub fn first_word<'a>(view: AsciiStr<'a>) -> Option<AsciiStr<'a>>
-    ensures { (rest : List ℕ) × YieldsFirstWord IsWhitespace (text_of view.entry) result rest }
+    ensures { MatchOption result (words_by is_whitespace (text_of view.entry) ≡ [])
+        (λ word. (others : List (List ℕ))
+            × (words_by is_whitespace (text_of view.entry) ≡ text_of word ∷ others)) }
 {
     view.split_whitespace().next()
 }
 
 /// The number of words of a view.
 pub fn word_count(view: AsciiStr<'_>) -> usize
-    ensures { OfWords IsWhitespace view.entry (λ words. result ≡ length words) }
+    ensures { result ≡ length (words_by is_whitespace (text_of view.entry)) }
 {
     view.split_whitespace().count()
 }
@@ -57,7 +60,7 @@ pub fn word_count(view: AsciiStr<'_>) -> usize
 /// The words of a view, in order.
 pub fn all_words<'a>(alloc: Global, view: AsciiStr<'a>) -> Result<Vec<AsciiStr<'a>>, AllocError>
     ensures { IfOk result (λ views.
-        OfWords IsWhitespace view.entry (λ words. map text_of views.items ≡ words)) }
+        map text_of views.items ≡ words_by is_whitespace (text_of view.entry)) }
 {
     view.split_whitespace().collect(alloc)
 }

@@ -11,7 +11,7 @@ use memchr::{memchr, memrchr};
 
 /// A part of a text, and where it starts.
 #[derive(Clone, Copy)]
-pub(crate) struct Cursor<'a> {
+pub struct Cursor<'a> {
     pub(crate) start: usize,
     pub(crate) view: AsciiStr<'a>,
     ghost fits: { start + length view.bytes.now < 2 ^ 64 } by { Prim.hlevel props },

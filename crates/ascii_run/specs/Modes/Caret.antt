@@ -1,4 +1,9 @@
 -- The mode `Caret`: each code as it is shown.
+use Rattle.std.specs.Prelude.{◌&&◌, ◌||◌, Bool, not}
+use Rattle.std.specs.Bool.{Decides}
+use Rattle.std.proofs.Common.{eqb, leb}
+use Rattle.std.proofs.lemmas.Bool.{leb-true, le-leb}
+use Rattle.std.proofs.lemmas.Bool.Decides.{Decides-and, Decides-eqb, Decides-not, Decides-or}
 use Rattle.std.specs.Prelude.{◌≡◌, ◌≢◌, ℕ, ◌+◌, ◌≤◌, ◌⊎◌, List, [], ◌∷◌, ◌++◌}
 use Rattle.std.specs.Prelude.{if◌then◌else◌, nat_lt, ◌==◌, codes}
 
@@ -13,3 +18,12 @@ caret_text n =
 -- `caret` shows the code as itself: it is LF, or at least 32 and not 127
 abbrev pub IsShown : ℕ → Type 0
 IsShown n = (n ≡ 10) ⊎ ((32 ≤ n) × (n ≢ 127))
+
+-- the test of these codes, and that it decides them
+abbrev pub is_shown : ℕ → Bool
+is_shown n = eqb n 10 || leb 32 n && not (eqb n 127)
+
+pub is_shown-decides : (n : ℕ) → Decides (is_shown n) (IsShown n)
+is_shown-decides n = Decides-or (eqb n 10) (leb 32 n && not (eqb n 127)) (Decides-eqb n 10)
+    (Decides-and (leb 32 n) (not (eqb n 127)) (leb-true 32 n, le-leb 32 n)
+    (Decides-not (eqb n 127) (Decides-eqb n 127)))

@@ -1,4 +1,9 @@
 -- The mode `Json`: a double quote, the characters of the text one by one, a double quote.
+use Rattle.std.specs.Prelude.{◌&&◌, Bool, not}
+use Rattle.std.specs.Bool.{Decides}
+use Rattle.std.proofs.Common.{eqb, leb}
+use Rattle.std.proofs.lemmas.Bool.{leb-true, le-leb}
+use Rattle.std.proofs.lemmas.Bool.Decides.{Decides-and, Decides-eqb, Decides-like, Decides-not}
 use Rattle.std.specs.Prelude.{◌≡◌, ◌≢◌, ◌≤◌, ◌<◌, length, get_or, ℕ, ◌/◌, ◌%◌, List, [], ◌∷◌, ◌++◌}
 use Rattle.std.specs.Prelude.{if◌then◌else◌, ◌==◌, nat_lt, codes}
 use Rattle.std.specs.Char.{digit_char}
@@ -33,3 +38,13 @@ abbrev pub AreEscapes : ℕ → List (List ℕ) → Type 0
 AreEscapes n texts =
     (length texts ≡ n)
     × ((code : ℕ) → code < n → get_or texts code [] ≡ json_text (code ∷ []))
+
+-- the test of these codes, and that it decides them
+abbrev pub is_unescaped : ℕ → Bool
+is_unescaped n = leb 32 n && (not (eqb n 34) && not (eqb n 92))
+
+pub is_unescaped-decides : (n : ℕ) → Decides (is_unescaped n) (IsUnescaped n)
+is_unescaped-decides n = Decides-like (is_unescaped n) (λ h. (h.0, h.1.0, h.1.1))
+    (λ h. (h.0, (h.1, h.2))) (Decides-and (leb 32 n) (not (eqb n 34) && not (eqb n 92))
+    (leb-true 32 n, le-leb 32 n) (Decides-and (not (eqb n 34)) (not (eqb n 92))
+    (Decides-not (eqb n 34) (Decides-eqb n 34)) (Decides-not (eqb n 92) (Decides-eqb n 92))))

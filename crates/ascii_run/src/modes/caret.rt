@@ -5,6 +5,7 @@ ghost use Rattle.std.specs.List.{flat_map};
 ghost use Rattle.ascii.specs.Lanes.{Marks};
 ghost use Rattle.ascii.specs.View.{text_of};
 ghost use Rattle.ascii_run.specs.OutputState.{AppendsTo, MayFail, output_state};
+ghost use Rattle.ascii_run.specs.Modes.Caret.{is_shown, is_shown-decides};
 ghost use Rattle.ascii_run.specs.Modes.Caret.{IsShown, caret_text};
 
 use crate::output_buffer::OutputBuffer;
@@ -21,10 +22,14 @@ struct CaretPassThrough;
 impl Class for CaretPassThrough {
     ghost is = { IsShown };
 
+    ghost test = { is_shown };
+
     #[inline(always)]
     fn has(code: u8) -> bool {
         code == b'\n' || code >= 32 && code != 127
     }
+
+    ghost decides = { is_shown-decides };
 }
 
 impl<const N: usize> ClassBy<N> for CaretPassThrough {

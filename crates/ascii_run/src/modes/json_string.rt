@@ -4,6 +4,7 @@ ghost use Rattle.std.specs.Prelude.{◌≡◌, ◌<◌, ◌≤◌, ◌+◌, [], 
 ghost use Rattle.std.specs.List.{flat_map};
 ghost use Rattle.ascii.specs.Lanes.{Marks};
 ghost use Rattle.ascii.specs.View.{text_of};
+ghost use Rattle.ascii_run.specs.Modes.Json.{is_unescaped, is_unescaped-decides};
 ghost use Rattle.ascii_run.specs.Modes.Json.{AreEscapes, IsUnescaped, json_code, json_text};
 ghost use Rattle.ascii_run.specs.OutputState.{MayFail, AppendsTo, output_state};
 
@@ -22,10 +23,14 @@ struct JsonPassThrough;
 impl Class for JsonPassThrough {
     ghost is = { IsUnescaped };
 
+    ghost test = { is_unescaped };
+
     #[inline(always)]
     fn has(code: u8) -> bool {
         code >= 32 && code != b'"' && code != b'\\'
     }
+
+    ghost decides = { is_unescaped-decides };
 }
 
 impl<const N: usize> ClassBy<N> for JsonPassThrough {

@@ -11,6 +11,6 @@ returns c = if_ok c.collect_strs.result c.collect_strs.ensures (λ string given.
   c.split.result.items,
   c.split.ensures.iterates.pieces,
   given.2 ∙ pieces_from_drains (λ piece. piece) given.0 given.1
-      (road_from_first_and text_of (λ (split : Remaining (List ℕ)). split.items) StepsPiece
+      (road_from_first_and text_of (λ (split : Remaining ℕ (List ℕ)). split.items) StepsPiece
       c.split.result.items refl),
 ))

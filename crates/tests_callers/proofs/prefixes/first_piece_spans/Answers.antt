@@ -14,6 +14,6 @@ returns c = if_ok c.collect.result c.collect.ensures.ran (λ given ran. (
   c.split_spans.ensures.iterates.spans,
   ap (map piece_in) ran.2.0 ∙ taken c.args.n c.take.result ran.0
       (YieldsList-at c.take.ensures.source
-      (road_from_first_and piece_in (λ (split : Remaining (WithStart (List ℕ))). split.items)
+      (road_from_first_and piece_in (λ (split : Remaining ℕ (WithStart (List ℕ))). split.items)
       StepsPieceSpan c.split_spans.result.items refl)) c.take.ensures.count ran.1,
 ))

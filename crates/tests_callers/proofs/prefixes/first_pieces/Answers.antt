@@ -14,6 +14,6 @@ returns c = if_ok c.collect.result c.collect.ensures.ran (λ given ran. (
   c.split.ensures.iterates.pieces,
   ap (map text_of) ran.2.0 ∙ taken c.args.n c.take.result ran.0
       (YieldsList-at c.take.ensures.source
-      (road_from_first_and text_of (λ (split : Remaining (List ℕ)). split.items) StepsPiece
+      (road_from_first_and text_of (λ (split : Remaining ℕ (List ℕ)). split.items) StepsPiece
       c.split.result.items refl)) c.take.ensures.count ran.1,
 ))

@@ -1,0 +1,156 @@
+-- How the pieces of a text at another text break at the front.
+use Rattle.std.proofs.Common.{◌≡◌, ◌≢◌, ℕ, zero, suc, ◌+◌, ◌<◌, ◌≤◌, true, false, List, [], ◌∷◌}
+use Rattle.std.proofs.Common.{length, take, drop, refl, sym, ap, subst, ◌∙◌, arith, inl, inr}
+use Rattle.std.proofs.Common.{get_or, None, Some}
+use Rattle.std.specs.List.{onto_first}
+use Rattle.std.proofs.lemmas.Bool.{cases_Bool, cond_both, cond-true, cond-false}
+use Rattle.std.proofs.lemmas.Grind.{common_steps}
+use Rattle.std.proofs.lemmas.List.{get_or-take, length-take-le}
+use Rattle.memchr.specs.Find.{FindsNeedle, OccursAt, occurs_at}
+use Rattle.memchr.proofs.lemmas.MatchLemmas.{OccursAt-from_part, OccursAt-part, OccursAt-true}
+use Rattle.memchr.proofs.lemmas.MatchLemmas.{occurs_at-true}
+use Rattle.ascii.specs.ByText.{IsFreeOf, piece_spans_at, pieces_after, pieces_at}
+use Rattle.ascii.specs.Spans.{WithStart, with_starts}
+use Rattle.ascii.proofs.SpansLemmas.{length-with_starts}
+
+module _ (c : ℕ) (t needle : List ℕ) (k : ℕ) where
+  later : OccursAt (c ∷ t) needle (suc k) → OccursAt t needle k
+  later occurs = let fits = occurs.fits in
+      OccursAt-from_part t needle k (omega (arith, fits)) (OccursAt-part (c ∷ t) needle (suc k) occurs)
+
+  sooner : OccursAt t needle k → OccursAt (c ∷ t) needle (suc k)
+  sooner occurs = let fits = occurs.fits in
+      OccursAt-from_part (c ∷ t) needle (suc k) (omega (arith, fits)) (OccursAt-part t needle k occurs)
+
+module _ (first : ℕ) (others : List ℕ) where
+  abbrev needle : List ℕ
+  needle = first ∷ others
+
+  after_skip : (skip : ℕ) (t : List ℕ)
+      → pieces_after first others skip t ≡ pieces_after first others 0 (drop skip t)
+  after_skip zero t = refl
+  after_skip (suc skip) [] = refl
+  after_skip (suc skip) (c ∷ t) = after_skip skip t
+
+  not_here : (t : List ℕ) → ¬ (OccursAt t needle 0) → occurs_at t needle 0 ≡ false
+  not_here t nowhere = elim (cases_Bool (occurs_at t needle 0)) [
+    | inl is ↦ absurd (nowhere (OccursAt-true t needle 0 is))
+    | inr out ↦ out
+  ]
+
+  -- the first piece is before the first occurrence
+  pieces_found : (t : List ℕ) (k : ℕ) → OccursAt t needle k
+      → ((j : ℕ) → j < k → ¬ (OccursAt t needle j))
+      → pieces_after first others 0 t
+      ≡ take k t ∷ pieces_after first others 0 (drop (k + length needle) t)
+  pieces_found [] k occurs none = absurd (let fits = occurs.fits in omega (arith, fits))
+  pieces_found (c ∷ t) zero occurs none =
+      let after : suc (length others) ≡ 0 + length needle = omega arith in
+      cond-true _ _ _ (occurs_at-true (c ∷ t) needle 0 occurs)
+      ∙ (ap (λ ps. [] ∷ ps) (after_skip (length others) t)
+      ∙ ap (λ n. [] ∷ pieces_after first others 0 (drop n (c ∷ t))) after)
+  pieces_found (c ∷ t) (suc k) occurs none =
+      let after : suc (k + length needle) ≡ suc k + length needle = omega arith in
+      cond-false _ _ _ (not_here (c ∷ t) (none 0 (omega arith)))
+      ∙ (ap (onto_first c) (pieces_found t k (later c t needle k occurs)
+      (λ j below also. none (suc j) (omega arith) (sooner c t needle j also)))
+      ∙ ap (λ n. (c ∷ take k t) ∷ pieces_after first others 0 (drop n (c ∷ t))) after)
+
+  -- a text in which it does not occur is its one piece
+  pieces_absent : (t : List ℕ) → ((j : ℕ) → ¬ (OccursAt t needle j))
+      → pieces_after first others 0 t ≡ t ∷ []
+  pieces_absent [] none = refl
+  pieces_absent (c ∷ t) none = cond-false _ _ _ (not_here (c ∷ t) (none 0))
+      ∙ ap (onto_first c) (pieces_absent t (λ j also. none (suc j) (sooner c t needle j also)))
+
+  -- there is at least one, and at most one more than the codes of the text
+  length-onto_first : (x : ℕ) (ps : List (List ℕ)) → 0 < length ps
+      → length (onto_first x ps) ≡ length ps
+  length-onto_first x [] some = absurd (omega (arith, some))
+  length-onto_first x (p ∷ ps) some = refl
+
+  pieces_many : (skip : ℕ) (t : List ℕ) → (0 < length (pieces_after first others skip t))
+      × (length (pieces_after first others skip t) ≤ length t + 1)
+  pieces_many skip [] = (omega arith, omega arith)
+  pieces_many (suc skip) (c ∷ t) =
+      let many = pieces_many skip t in (many.0, omega (arith, many.1))
+  pieces_many zero (c ∷ t) = cond_both (occurs_at (c ∷ t) needle 0) _ _
+      (λ ps. (0 < length ps) × (length ps ≤ length (c ∷ t) + 1))
+      (λ is. let many = pieces_many (length others) t in (omega arith, omega (arith, many.1)))
+      (λ is. let many = pieces_many zero t in
+          let same = length-onto_first c (pieces_after first others zero t) many.0 in
+          (omega (arith, many.0, same), omega (arith, many.1, same)))
+
+pub piece_spans_at_fit : (start : ℕ) (needle t : List ℕ)
+    → length (piece_spans_at needle (record { start = start; item = t })) ≤ length t + 1
+piece_spans_at_fit start [] t = omega arith
+piece_spans_at_fit start (n ∷ ns) t = omega (
+  arith,
+  length-with_starts (λ piece. length piece + length (n ∷ ns)) start (pieces_after n ns 0 t),
+  (pieces_many n ns 0 t).1,
+)
+
+-- found nowhere
+nowhere : (t needle : List ℕ) → FindsNeedle t needle 0 None → (j : ℕ) → ¬ (OccursAt t needle j)
+nowhere t needle finds j occurs = let fits = occurs.fits in
+    finds j (omega arith) (omega (arith, fits)) occurs
+
+module _ (start : ℕ) (t needle : List ℕ) where
+  pub piece_spans_at_first : (k : ℕ) → needle ≢ [] → FindsNeedle t needle 0 (Some k)
+      → piece_spans_at needle (record { start = start; item = t })
+      ≡ record { start = start; item = take k t }
+      ∷ piece_spans_at needle
+      (record { start = start + (k + length needle); item = drop (k + length needle) t })
+  piece_spans_at_first k some finds = go needle some finds
+    where
+      go : (needle : List ℕ) → needle ≢ [] → FindsNeedle t needle 0 (Some k)
+          → piece_spans_at needle (record { start = start; item = t })
+          ≡ record { start = start; item = take k t }
+          ∷ piece_spans_at needle
+          (record { start = start + (k + length needle); item = drop (k + length needle) t })
+      go [] some finds = absurd (some refl)
+      go (n ∷ ns) some finds =
+          let fits = finds.1.fits in
+          let size : length (take k t) ≡ k = length-take-le k t (omega (arith, fits)) in
+          ap (with_starts (λ piece. length piece + length (n ∷ ns)) start)
+          (pieces_found n ns t k finds.1 (λ j below. finds.0.before j (omega arith) below))
+          ∙ ap (λ m. record { start = start; item = take k t }
+          ∷ with_starts (λ piece. length piece + length (n ∷ ns)) (start + (m + length (n ∷ ns)))
+          (pieces_after n ns 0 (drop (k + length (n ∷ ns)) t))) size
+
+  pub piece_spans_at_none : FindsNeedle t needle 0 None
+      → piece_spans_at needle (record { start = start; item = t })
+      ≡ record { start = start; item = t } ∷ []
+  piece_spans_at_none finds = go needle finds
+    where
+      go : (needle : List ℕ) → FindsNeedle t needle 0 None
+          → piece_spans_at needle (record { start = start; item = t })
+          ≡ record { start = start; item = t } ∷ []
+      go [] finds = refl
+      go (n ∷ ns) finds = ap (with_starts (λ piece. length piece + length (n ∷ ns)) start)
+          (pieces_absent n ns t (nowhere t (n ∷ ns) finds))
+
+  pub piece_spans_at_empty : needle ≡ []
+      → piece_spans_at needle (record { start = start; item = t })
+      ≡ record { start = start; item = t } ∷ []
+  piece_spans_at_empty none = subst (λ n. piece_spans_at n (record { start = start; item = t })
+      ≡ record { start = start; item = t } ∷ []) (sym none) refl
+
+  pub free_before : (k : ℕ) → FindsNeedle t needle 0 (Some k) → IsFreeOf needle (take k t)
+  free_before k finds some j occurs =
+      let fits = finds.1.fits in
+      let inside = occurs.fits in
+      let size : length (take k t) ≡ k = length-take-le k t (omega (arith, fits)) in
+      let long : 0 < length needle = some_long needle some in
+      finds.0.before j (omega arith) (omega (arith, inside, size, long)) (record {
+        fits = omega (arith, inside, size, fits);
+        reads = λ i below. sym (get_or-take k t (j + i) 0 (omega (arith, inside, size)))
+            ∙ occurs.reads i below;
+      })
+    where
+      some_long : (xs : List ℕ) → xs ≢ [] → 0 < length xs
+      some_long [] some = absurd (some refl)
+      some_long (x ∷ xs) some = omega arith
+
+  pub free_nowhere : FindsNeedle t needle 0 None → IsFreeOf needle t
+  free_nowhere finds some = nowhere t needle finds

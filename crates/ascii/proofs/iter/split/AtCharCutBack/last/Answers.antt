@@ -1,0 +1,12 @@
+use Rattle.std.proofs.Common.{refl}
+use Rattle.ascii.specs.Found.{part_in}
+use Rattle.ascii.proofs.SpansLemmas.{piece_spans_last, piece_spans_free}
+use Rattle.ascii.proofs.iter.split.AtCharCutBack.last.Goals as goal
+
+pub returns-in-Some-clause-last : goal.returns-in-Some-clause-last
+returns-in-Some-clause-last c = piece_spans_last c.args.self (part_in c.args.part) _ _ _ c.self.view_is
+    c.in-Some.ensures c.piece.ensures.piece
+
+pub returns-in-None-clause-last : goal.returns-in-None-clause-last
+returns-in-None-clause-last c = piece_spans_free c.args.self (part_in c.args.part) _ _ c.self.view_is
+    c.in-None.ensures c.piece-in-None.ensures.piece

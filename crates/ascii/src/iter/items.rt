@@ -1,0 +1,192 @@
+//! The items of a text, cut from both ends: one iterator for each way to cut.
+//!
+//! A way to cut is a `Cut`. A contract sees an iterator as where it cuts, and the list of items that it
+//! has yet to yield.
+
+ghost use Rattle.std.specs.Prelude.{⊤, ◌≡◌, ℕ, List, IfSome};
+ghost use Rattle.std.specs.Iterator.{item_count};
+ghost use Rattle.ascii.specs.Cuts.{CutsFirst, CutsLast, IsCut, IsRestOf};
+ghost use Rattle.ascii.specs.Spans.{EndFits, WithStart, piece_in};
+ghost use Rattle.ascii.specs.Steps.{StepsSpan, StepsText, YieldsFirstAnd, YieldsLastAnd};
+ghost use Rattle.ascii.specs.View.{text_of};
+
+use crate::ascii_str::AsciiStr;
+use crate::iter::cursor::Cursor;
+use crate::iter::spans::SplitSpan;
+use std::alloc::AllocError;
+use std::iter::FusedIterator;
+use std::marker::Model;
+
+/// A way to cut a text into items.
+pub trait Cut: Copy {
+    // the items of a part of a text, in order, each with its start
+    ghost items: { Self → WithStart (List ℕ) → List (WithStart (List ℕ)) };
+
+    // what each item is
+    ghost is_item: { Self → List ℕ → Type 0 };
+
+    /// Returns the first item and what is left, or `None` if there is no item.
+    fn first<'a>(self, part: Cursor<'a>) -> Option<(SplitSpan<'a>, Option<Cursor<'a>>)>
+        ensures first { CutsFirst (items self) part.entry result }
+        ensures item { IsCut (is_item self) result };
+}
+
+/// A way to cut a text into items from both ends.
+pub trait CutBack: Cut {
+    /// Returns the last item and what is left, or `None` if there is no item.
+    fn last<'a>(self, part: Cursor<'a>) -> Option<(SplitSpan<'a>, Option<Cursor<'a>>)>
+        ensures last { CutsLast (Self.items self) part.entry result }
+        ensures item { IsCut (Self.is_item self) result };
+}
+
+/// An iterator over the items of a text, each with its start, from both ends.
+pub struct Spans<'a, C: Cut> {
+    // What is left to cut, or `None` if no items are left.
+    pub(crate) rest: Option<Cursor<'a>>,
+    pub(crate) on: C,
+}
+
+impl<'a, C: Cut> Model for Spans<'a, C> {
+    ghost use Rattle.std.specs.Prelude.{List, ℕ};
+    ghost use Rattle.std.specs.Option.{option_map};
+    ghost use Rattle.ascii.specs.Cuts.{left_of};
+    ghost use Rattle.ascii.specs.Found.{part_in};
+    ghost use Rattle.ascii.specs.Pieces.{Remaining};
+    ghost use Rattle.ascii.specs.Spans.{WithStart};
+
+    ghost Value = { Remaining C (WithStart (List ℕ)) };
+
+    ghost view = { λ spans. record {
+      on = spans.on;
+      items = left_of (C.items spans.on) (option_map part_in spans.rest);
+    } };
+}
+
+impl<'a, C: Cut + Drop> Drop for Spans<'a, C> {
+    fn drop(self) {
+        let Spans { rest: _, on } = self;
+        drop(on);
+    }
+}
+
+impl<'a, C: Cut> Clone for Spans<'a, C> {
+    ghost is_clone = { λ spans copy. copy ≡ spans };
+
+    ghost is_infallible = { λ _. ⊤ };
+
+    /// Returns an iterator with the same remaining items. Always returns `Ok`, and does not allocate.
+    fn clone(&self) -> Result<Self, AllocError> {
+        Ok(Spans {
+            rest: self.rest,
+            on: self.on,
+        })
+    }
+}
+
+impl<'a, C: Cut> Iterator for Spans<'a, C> {
+    type Item = SplitSpan<'a>;
+
+    ghost next_gives = { YieldsFirstAnd piece_in (λ left. left.items) (StepsSpan C.is_item) };
+
+    ghost remaining = { item_count (λ left. left.items) };
+
+    /// Returns the next item with its start, or `None` if there are none left; it then keeps
+    /// returning `None`.
+    #[inline(always)]
+    fn next(&mut self) -> Option<SplitSpan<'a>> {
+        let (first, others) = self.on.first(self.rest?)?;
+        self.rest = others;
+        Some(first)
+    }
+}
+
+impl<'a, C: CutBack> DoubleEndedIterator for Spans<'a, C> {
+    ghost next_back_gives = { YieldsLastAnd piece_in (λ left. left.items) (StepsSpan C.is_item) };
+
+    /// Returns the last of the remaining items with its start, or `None` if there are none left; it
+    /// then keeps returning `None`.
+    #[inline(always)]
+    fn next_back(&mut self) -> Option<SplitSpan<'a>> {
+        let (last, others) = self.on.last(self.rest?)?;
+        self.rest = others;
+        Some(last)
+    }
+}
+
+impl<'a, C: Cut> FusedIterator for Spans<'a, C> {}
+
+impl<'a, C: Cut> Spans<'a, C> {
+    /// Returns the part of the text whose items remain, with its start, or `None` if there are none
+    /// left. The iterator is unchanged.
+    pub fn rest(&self) -> Option<(usize, AsciiStr<'a>)>
+        ensures rest { IsRestOf C.items self.now result }
+        ensures fits { IfSome result (λ tail. EndFits tail.0 tail.1) }
+    {
+        let rest = self.rest?;
+        Some((rest.start, rest.view))
+    }
+}
+
+/// An iterator over the items of a text, from both ends.
+pub struct Items<'a, C: Cut> {
+    pub(crate) spans: Spans<'a, C>,
+}
+
+impl<'a, C: Cut> Model for Items<'a, C> {
+    ghost use Rattle.std.specs.Prelude.{List, ℕ};
+    ghost use Rattle.ascii.specs.Pieces.{Remaining};
+    ghost use Rattle.ascii.specs.Spans.{items_of};
+
+    ghost Value = { Remaining C (List ℕ) };
+
+    ghost view = { λ items. record { on = items.spans.on; items = items_of items.spans.items } };
+}
+
+impl<'a, C: Cut + Drop> Drop for Items<'a, C> {
+    fn drop(self) {
+        let Items { spans } = self;
+        drop(spans);
+    }
+}
+
+impl<'a, C: Cut> Clone for Items<'a, C> {
+    ghost is_clone = { λ items copy. copy ≡ items };
+
+    ghost is_infallible = { λ _. ⊤ };
+
+    /// Returns an iterator with the same remaining items. Always returns `Ok`, and does not allocate.
+    fn clone(&self) -> Result<Self, AllocError> {
+        Ok(Items {
+            spans: self.spans.clone()?,
+        })
+    }
+}
+
+impl<'a, C: Cut> Iterator for Items<'a, C> {
+    type Item = AsciiStr<'a>;
+
+    ghost next_gives = { YieldsFirstAnd text_of (λ left. left.items) (StepsText C.is_item) };
+
+    ghost remaining = { item_count (λ left. left.items) };
+
+    /// Returns the next item, or `None` if there are none left; it then keeps returning `None`.
+    #[inline(always)]
+    fn next(&mut self) -> Option<AsciiStr<'a>> {
+        let span = self.spans.next()?;
+        Some(span.text)
+    }
+}
+
+impl<'a, C: CutBack> DoubleEndedIterator for Items<'a, C> {
+    ghost next_back_gives = { YieldsLastAnd text_of (λ left. left.items) (StepsText C.is_item) };
+
+    /// Returns the last of the remaining items, or `None` if there are none left; it then keeps
+    /// returning `None`.
+    #[inline(always)]
+    fn next_back(&mut self) -> Option<AsciiStr<'a>> {
+        let span = self.spans.next_back()?;
+        Some(span.text)
+    }
+}
+
+impl<'a, C: Cut> FusedIterator for Items<'a, C> {}
