@@ -3,16 +3,25 @@ use Rattle.std.proofs.Common.{◌≡◌, ℕ, ◌+◌, ◌-◌, ◌*◌, ◌%◌
 use Rattle.std.proofs.Common.{cond, List, [], ◌∷◌, map, length, get_or, replicate, Fits, w8}
 use Rattle.std.proofs.Common.{w64, ◌≢◌}
 use Rattle.std.proofs.Common.{bit_or, refl, sym, ap, ◌∙◌, subst, arith, inl, inr}
+use Rattle.std.proofs.Common.{MatchOption, None, Option, Some}
+use Rattle.std.specs.Bool.{Decides}
 use Rattle.std.specs.Int.{bit_at}
+use Rattle.std.specs.Int.Bits.{bit_xor}
+use Rattle.std.specs.List.{All}
+use Rattle.std.proofs.Math.Nat.{mod-eq_of_lt}
+use Rattle.std.proofs.Math.Pow.{pow-lt}
 use Rattle.std.proofs.lemmas.Bool.{agree_below, agree_below_at, cases_lt, cases_eq, cases_Bool}
+use Rattle.std.proofs.lemmas.Bool.Decides.{not_from_Decides}
 use Rattle.std.proofs.lemmas.List.{length-map, get_or-map, get_or_past}
+use Rattle.std.proofs.lemmas.List.Elements.{All-from_get_or}
 use Rattle.std.proofs.lemmas.Nat.{le_or_l, le_or_r}
+use Rattle.std.proofs.lemmas.Nat.Bits.{bit_at-lt, bit_at_ones, bit_at_ones_above, bit_at_xor}
 use Rattle.std.proofs.lemmas.Nat.Bits.{bit_at-zero, bit_at_cat_high, bit_at_set_same}
 use Rattle.std.proofs.lemmas.Nat.Bits.{bit_at_set_other}
 use Rattle.std.proofs.lemmas.Simd.{map-map, mask_l-mod, bit_mask_l, length-chunk, get_or-chunk}
 use lib.Lanes.{mask_l, top, sel_l, chunk}
-use Rattle.ascii_base.specs.Bytes.{IsFirstNot, IsLastNot}
-use Rattle.ascii_base.specs.Lanes.{Marks, AllBefore, AllFrom}
+use Rattle.ascii_base.specs.Bytes.{IsFirstNot, IsFirstOf, IsLastNot, IsLastOf}
+use Rattle.ascii_base.specs.Lanes.{AllBefore, AllFrom, FindsFirstNot, FindsLastNot, Marks}
 
 pub itself : (lanes : List ℕ) → lanes ≡ map (λ x. x) lanes
 itself [] = refl
@@ -163,6 +172,68 @@ module _ (Is : ℕ → Type 0) (bytes : List ℕ) (at n mask : ℕ) (marks : Mar
         greatest =
             λ j from to. from_more (suc k) (λ i l. clear i (omega arith)) after j (omega arith) to;
       }
+
+-- the marks of the other side are the other lanes
+pub marks_other : (Is : ℕ → Type 0) (bytes : List ℕ) (at n mask : ℕ) → n < 64
+    → Marks Is bytes at n mask
+    → Marks (λ byte. ¬ (Is byte)) bytes at n (bit_xor mask (1 * 2 ^ n % 2 ^ 64 - 1))
+marks_other Is bytes at n mask few marks = record {
+  set = λ k is. elim (cases_lt k n) [
+    | inl l ↦ (
+      l,
+      λ out. out (marks.clear k (omega (arith, is, low k l, bit_at-lt mask k)) l),
+    )
+    | inr g ↦
+        let old = marks.set k (omega (arith, is, high k g, bit_at-lt mask k)) in
+        let short : k < n = old.0 in
+        absurd (omega arith)
+  ];
+  clear = λ k is l. (marks.set k (omega (arith, is, low k l, bit_at-lt mask k))).1;
+}
+  where
+    ones : 1 * 2 ^ n % 2 ^ 64 - 1 ≡ 2 ^ n - 1
+    ones = let small : 1 * 2 ^ n < 2 ^ 64 = omega (arith, pow-lt {i = n} {j = 64} few) in
+        ap (λ m. m - 1) (mod-eq_of_lt small ∙ omega arith)
+
+    low : (k : ℕ) → k < n
+        → bit_at (bit_xor mask (1 * 2 ^ n % 2 ^ 64 - 1)) k ≡ (bit_at mask k + 1) % 2
+    low k l = ap (λ m. bit_at (bit_xor mask m) k) ones ∙ (bit_at_xor mask (2 ^ n - 1) k
+        ∙ ap (λ b. (bit_at mask k + b) % 2) (bit_at_ones n k l))
+
+    high : (k : ℕ) → n ≤ k
+        → bit_at (bit_xor mask (1 * 2 ^ n % 2 ^ 64 - 1)) k ≡ (bit_at mask k + 0) % 2
+    high k g = ap (λ m. bit_at (bit_xor mask m) k) ones ∙ (bit_at_xor mask (2 ^ n - 1) k
+        ∙ ap (λ b. (bit_at mask k + b) % 2) (bit_at_ones_above n k g))
+
+-- what is not outside a class is in it
+module _ (Is : ℕ → Type 0) (test : ℕ → Bool) (decides : (n : ℕ) → Decides (test n) (Is n)) where
+  not_outside : (n : ℕ) → ¬ (¬ (Is n)) → Is n
+  not_outside n out = elim (cases_Bool (test n)) [
+    | inl in_it ↦ (decides n).0 in_it
+    | inr other ↦ absurd (out (not_from_Decides (test n) (decides n) other))
+  ]
+
+  pub first_of_found : (bytes : List ℕ) (found : Option ℕ)
+      → FindsFirstNot (λ byte. ¬ (Is byte)) bytes (length bytes) found
+      → MatchOption found (All (λ byte. ¬ (Is byte)) bytes) (IsFirstOf Is bytes 0 (length bytes))
+  first_of_found bytes None all = All-from_get_or (λ byte. ¬ (Is byte)) bytes 0 all
+  first_of_found bytes (Some i) found = record {
+    at_least = found.at_least;
+    inside = found.inside;
+    one = not_outside _ found.other;
+    least = found.least;
+  }
+
+  pub last_of_found : (bytes : List ℕ) (found : Option ℕ)
+      → FindsLastNot (λ byte. ¬ (Is byte)) bytes 0 found
+      → MatchOption found (All (λ byte. ¬ (Is byte)) bytes) (IsLastOf Is bytes)
+  last_of_found bytes None all = All-from_get_or (λ byte. ¬ (Is byte)) bytes 0
+      (λ k l. all k (omega arith) l)
+  last_of_found bytes (Some i) found = record {
+    inside = found.inside;
+    one = not_outside _ found.other;
+    greatest = found.greatest;
+  }
 
 -- one byte more that is not in the class sets its bit, and one in the class leaves it clear
 module _ (Is : ℕ → Type 0) (bytes : List ℕ) (at k mask : ℕ) where

@@ -2,7 +2,8 @@
 //!
 //! | To find or change | Call |
 //! |---|---|
-//! | the first or the last byte that is not in a class, for any class of `classes` | `first_not`, `last_not` |
+//! | the first or the last byte that is in a class, for any class of `classes` | `first_of`, `last_of` |
+//! | the first or the last byte that is not in a class | `first_not`, `last_not` |
 //! | the first non-ASCII byte | `first_other` |
 //! | the first or the last byte that is not whitespace | `first_not_whitespace`, `last_not_whitespace` |
 //! | the case of letters, in place | `upper_in_place`, `lower_in_place` |
@@ -11,17 +12,18 @@
 //! None of them allocates. A search goes through the bytes 32 at a time and ends with one step of 32
 //! over the end, which may test bytes again. Up to 64 bytes take two overlapping steps of 32, 16, 8 or
 //! 4 bytes, and fewer than 4 bytes go one by one. The maps and the comparison take the same steps. A
-//! search for what is not in a class tests 16 bytes before that: most runs end there.
+//! search by a class tests 16 bytes before that: most runs end there.
 //!
 //! A contract sees the bytes as a list of numbers, and a position as an index in it, from 0.
 
 ghost use Rattle.std.specs.Prelude.{◌≡◌, ◌≢◌, ◌↔◌, ◌+◌, ◌<◌, ◌≤◌, IsTrue, length, map};
 ghost use Rattle.std.specs.Prelude.{All, MatchOption};
 ghost use Rattle.std.specs.Str.{IsAscii};
-ghost use Rattle.ascii_base.specs.Bytes.{FirstOther, IsFirstNot, IsLastNot};
+ghost use Rattle.ascii_base.specs.Bytes.{FirstOther, IsFirstNot, IsFirstOf, IsLastNot, IsLastOf};
+ghost use Rattle.ascii_base.specs.Bytes.{IsOnSide};
 ghost use Rattle.ascii_base.specs.Case.{upper_image, lower_image};
 ghost use Rattle.ascii_base.specs.Class.{IsWhitespace};
-ghost use Rattle.ascii_base.specs.Lanes.{AllBefore, AllFrom, FindsFirstNot, FindsLastNot};
+ghost use Rattle.ascii_base.specs.Lanes.{AllBefore, AllFrom, FindsFirstNot, FindsLastNot, Marks};
 ghost use Rattle.ascii_base.specs.Lanes.{SameBefore};
 
 use crate::classes::{Ascii, Class, ClassBy, Searched, Whitespace};
@@ -40,13 +42,7 @@ pub fn first_not<C: Searched>(bytes: &[u8]) -> Option<usize>
     ensures { MatchOption result (All C.is bytes.now)
         (IsFirstNot C.is bytes.now 0 (length bytes.now)) }
 {
-    if bytes.len() < HALF {
-        return first_in_short::<C>(bytes, 0);
-    }
-    match first_in::<C, HALF>(bytes, 0) {
-        None => first_from::<C>(bytes, HALF),
-        found => found,
-    }
+    first_past::<C, true>(bytes)
 }
 
 /// Returns the position of the last byte that is not in the class, or `None` if all bytes are in it.
@@ -56,14 +52,29 @@ pub fn first_not<C: Searched>(bytes: &[u8]) -> Option<usize>
 pub fn last_not<C: Searched>(bytes: &[u8]) -> Option<usize>
     ensures { MatchOption result (All C.is bytes.now) (IsLastNot C.is bytes.now) }
 {
-    let end = bytes.len();
-    if end < HALF {
-        return last_in_short::<C>(bytes, end);
-    }
-    match last_in::<C, HALF>(bytes, end - HALF) {
-        None => last_before::<C>(bytes, end - HALF),
-        found => found,
-    }
+    last_past::<C, true>(bytes)
+}
+
+/// Returns the position of the first byte that is in the class, or `None` if no byte is in it.
+///
+///     first_of::<Digit>(b"px42") // Some(2)
+///     first_of::<Digit>(b"px") // None
+pub fn first_of<C: Searched>(bytes: &[u8]) -> Option<usize>
+    ensures { MatchOption result (All (λ byte. ¬ (C.is byte)) bytes.now)
+        (IsFirstOf C.is bytes.now 0 (length bytes.now)) }
+{
+    first_past::<C, false>(bytes)
+}
+
+/// Returns the position of the last byte that is in the class, or `None` if no byte is in it.
+///
+///     last_of::<Digit>(b"42px") // Some(1)
+///     last_of::<Digit>(b"px") // None
+pub fn last_of<C: Searched>(bytes: &[u8]) -> Option<usize>
+    ensures { MatchOption result (All (λ byte. ¬ (C.is byte)) bytes.now)
+        (IsLastOf C.is bytes.now) }
+{
+    last_past::<C, false>(bytes)
 }
 
 /// Returns the position of the first non-ASCII byte, or `None` if all bytes are ASCII.
@@ -80,12 +91,12 @@ pub fn first_other(bytes: &[u8]) -> Option<usize>
         } else if bytes.len() >= 4 {
             first_non_ascii_overlapping::<4>(bytes)
         } else {
-            first_one_by_one::<Ascii>(bytes, 0, bytes.len())
+            first_one_by_one::<Ascii, true>(bytes, 0, bytes.len())
         }
     } else if bytes.len() <= WIDE {
         first_non_ascii_overlapping::<LANES>(bytes)
     } else if bytes.len() < ASCII_BLOCK {
-        first_from::<Ascii>(bytes, 0)
+        first_from::<Ascii, true>(bytes, 0)
     } else {
         first_non_ascii_long(bytes)
     }
@@ -161,75 +172,98 @@ pub fn last_not_whitespace(bytes: &[u8]) -> Option<usize>
     last_not::<Whitespace>(bytes)
 }
 
-/// The first byte that is not in the class, if those before `from` are.
+// The searches below are for the end of a side of a class: its bytes if `INSIDE` is true, and the
+// bytes that are not in it if `INSIDE` is false.
+
+/// The first byte that is not on the side.
 #[inline(always)]
-fn first_from<C: Searched>(bytes: &[u8], from: usize) -> Option<usize>
+fn first_past<C: Searched, const INSIDE: bool>(bytes: &[u8]) -> Option<usize>
+    ensures { FindsFirstNot (IsOnSide C.is INSIDE) bytes.now (length bytes.now) result }
+{
+    if bytes.len() < HALF {
+        return first_in_short::<C, INSIDE>(bytes, 0);
+    }
+    match first_in::<C, HALF, INSIDE>(bytes, 0) {
+        None => first_from::<C, INSIDE>(bytes, HALF),
+        found => found,
+    }
+}
+
+/// The first byte that is not on the side, if those before `from` are.
+#[inline(always)]
+fn first_from<C: Searched, const INSIDE: bool>(bytes: &[u8], from: usize) -> Option<usize>
     requires inside { from ≤ length bytes.now }
-    requires before { AllBefore C.is bytes.now from }
-    ensures { FindsFirstNot C.is bytes.now (length bytes.now) result }
+    requires before { AllBefore (IsOnSide C.is INSIDE) bytes.now from }
+    ensures { FindsFirstNot (IsOnSide C.is INSIDE) bytes.now (length bytes.now) result }
 {
     if bytes.len() <= WIDE {
-        return first_in_short::<C>(bytes, from);
+        return first_in_short::<C, INSIDE>(bytes, from);
     }
     let last = bytes.len() - LANES;
     let mut at = from;
     while at < last {
-        let found = first_in::<C, LANES>(bytes, at);
+        let found = first_in::<C, LANES, INSIDE>(bytes, at);
         if found.is_some() {
             return found;
         }
         at += LANES;
     }
-    first_in::<C, LANES>(bytes, last)
+    first_in::<C, LANES, INSIDE>(bytes, last)
 }
 
-/// The first byte that is not in the class, with at most 64 bytes from `at` on.
+/// The first byte that is not on the side, with at most 64 bytes from `at` on.
 #[inline(always)]
-fn first_in_short<C: Searched>(bytes: &[u8], at: usize) -> Option<usize>
+fn first_in_short<C: Searched, const INSIDE: bool>(bytes: &[u8], at: usize) -> Option<usize>
     requires inside { at ≤ length bytes.now }
     requires short { length bytes.now ≤ at + WIDE }
-    requires before { AllBefore C.is bytes.now at }
-    ensures { FindsFirstNot C.is bytes.now (length bytes.now) result }
+    requires before { AllBefore (IsOnSide C.is INSIDE) bytes.now at }
+    ensures { FindsFirstNot (IsOnSide C.is INSIDE) bytes.now (length bytes.now) result }
 {
     let left = bytes.len() - at;
     if left >= LANES {
-        first_in_two::<C, LANES>(bytes, at)
+        first_in_two::<C, LANES, INSIDE>(bytes, at)
     } else if left >= 16 {
-        first_in_two::<C, 16>(bytes, at)
+        first_in_two::<C, 16, INSIDE>(bytes, at)
     } else if left >= 8 {
-        first_in_two::<C, 8>(bytes, at)
+        first_in_two::<C, 8, INSIDE>(bytes, at)
     } else if left >= 4 {
-        first_in_two::<C, 4>(bytes, at)
+        first_in_two::<C, 4, INSIDE>(bytes, at)
     } else {
-        first_one_by_one::<C>(bytes, at, bytes.len())
+        first_one_by_one::<C, INSIDE>(bytes, at, bytes.len())
     }
 }
 
-/// The first byte that is not in the class, with at least `N` and at most twice as many bytes from
-/// `at` on: the first `N` of them and the last `N`, under one test if all are in the class.
+/// The first byte that is not on the side, with at least `N` and at most twice as many bytes from
+/// `at` on: the first `N` of them and the last `N`, under one test if all are on the side.
 #[inline(always)]
-fn first_in_two<C: ClassBy<N>, const N: usize>(bytes: &[u8], at: usize) -> Option<usize>
-    requires lanes { N ≤ 64 }
+fn first_in_two<C: ClassBy<N>, const N: usize, const INSIDE: bool>(
+    bytes: &[u8],
+    at: usize,
+) -> Option<usize>
+    requires lanes { N < 64 }
     requires room { at + N ≤ length bytes.now }
     requires short { length bytes.now ≤ at + N + N }
-    requires before { AllBefore C.is bytes.now at }
-    ensures { FindsFirstNot C.is bytes.now (length bytes.now) result }
+    requires before { AllBefore (IsOnSide C.is INSIDE) bytes.now at }
+    ensures { FindsFirstNot (IsOnSide C.is INSIDE) bytes.now (length bytes.now) result }
 {
-    match first_in::<C, N>(bytes, at) {
-        None => first_in::<C, N>(bytes, bytes.len() - N),
+    match first_in::<C, N, INSIDE>(bytes, at) {
+        None => first_in::<C, N, INSIDE>(bytes, bytes.len() - N),
         found => found,
     }
 }
 
-/// The first byte that is not in the class among the `N` from `at` on.
+/// The first byte that is not on the side among the `N` from `at` on.
 #[inline(always)]
-fn first_in<C: ClassBy<N>, const N: usize>(bytes: &[u8], at: usize) -> Option<usize>
-    requires lanes { N ≤ 64 }
+fn first_in<C: ClassBy<N>, const N: usize, const INSIDE: bool>(
+    bytes: &[u8],
+    at: usize,
+) -> Option<usize>
+    requires lanes { N < 64 }
     requires room { at + N ≤ length bytes.now }
-    requires before { AllBefore C.is bytes.now at }
-    ensures { FindsFirstNot C.is bytes.now (at + N) result }
+    requires before { AllBefore (IsOnSide C.is INSIDE) bytes.now at }
+    ensures { FindsFirstNot (IsOnSide C.is INSIDE) bytes.now (at + N) result }
 {
-    let marked = C::marks(bytes, at);
+    let marked = marks_past::<C, N, INSIDE>(bytes, at);
     if marked == 0 {
         None
     } else {
@@ -237,15 +271,19 @@ fn first_in<C: ClassBy<N>, const N: usize>(bytes: &[u8], at: usize) -> Option<us
     }
 }
 
-/// The first byte that is not in the class from `from` up to `to`, byte by byte.
+/// The first byte that is not on the side from `from` up to `to`, byte by byte.
 #[inline(always)]
-fn first_one_by_one<C: Class>(bytes: &[u8], from: usize, to: usize) -> Option<usize>
+fn first_one_by_one<C: Class, const INSIDE: bool>(
+    bytes: &[u8],
+    from: usize,
+    to: usize,
+) -> Option<usize>
     requires inside { to ≤ length bytes.now }
-    requires before { AllBefore C.is bytes.now from }
-    ensures { FindsFirstNot C.is bytes.now to result }
+    requires before { AllBefore (IsOnSide C.is INSIDE) bytes.now from }
+    ensures { FindsFirstNot (IsOnSide C.is INSIDE) bytes.now to result }
 {
     for at in from..to {
-        if !C::has(bytes[at]) {
+        if C::has(bytes[at]) != INSIDE {
             return Some(at);
         }
     }
@@ -256,7 +294,7 @@ fn first_one_by_one<C: Class>(bytes: &[u8], from: usize, to: usize) -> Option<us
 /// `N` take one test if there is none.
 #[inline(always)]
 fn first_non_ascii_overlapping<const N: usize>(bytes: &[u8]) -> Option<usize>
-    requires lanes { N ≤ 64 }
+    requires lanes { N < 64 }
     requires room { N ≤ length bytes.now }
     requires short { length bytes.now ≤ N + N }
     ensures { FindsFirstNot (λ byte. byte < 128) bytes.now (length bytes.now) result }
@@ -265,7 +303,7 @@ fn first_non_ascii_overlapping<const N: usize>(bytes: &[u8]) -> Option<usize>
     if <Ascii as ClassBy<N>>::marks(bytes, 0) | <Ascii as ClassBy<N>>::marks(bytes, last) == 0 {
         return None;
     }
-    first_in_two::<Ascii, N>(bytes, 0)
+    first_in_two::<Ascii, N, true>(bytes, 0)
 }
 
 /// The first non-ASCII byte of at least 128: 128 at a time while they are ASCII, and the last 128.
@@ -282,77 +320,98 @@ fn first_non_ascii_long(bytes: &[u8]) -> Option<usize>
     if at >= last && is_ascii_block(bytes, last) {
         return None;
     }
-    first_from::<Ascii>(bytes, at)
+    first_from::<Ascii, true>(bytes, at)
 }
 
-/// The last byte that is not in the class, if those from `to` on are.
+/// The last byte that is not on the side.
 #[inline(always)]
-fn last_before<C: Searched>(bytes: &[u8], to: usize) -> Option<usize>
+fn last_past<C: Searched, const INSIDE: bool>(bytes: &[u8]) -> Option<usize>
+    ensures { FindsLastNot (IsOnSide C.is INSIDE) bytes.now 0 result }
+{
+    let end = bytes.len();
+    if end < HALF {
+        return last_in_short::<C, INSIDE>(bytes, end);
+    }
+    match last_in::<C, HALF, INSIDE>(bytes, end - HALF) {
+        None => last_before::<C, INSIDE>(bytes, end - HALF),
+        found => found,
+    }
+}
+
+/// The last byte that is not on the side, if those from `to` on are.
+#[inline(always)]
+fn last_before<C: Searched, const INSIDE: bool>(bytes: &[u8], to: usize) -> Option<usize>
     requires inside { to ≤ length bytes.now }
-    requires after { AllFrom C.is bytes.now to }
-    ensures { FindsLastNot C.is bytes.now 0 result }
+    requires after { AllFrom (IsOnSide C.is INSIDE) bytes.now to }
+    ensures { FindsLastNot (IsOnSide C.is INSIDE) bytes.now 0 result }
 {
     if bytes.len() <= WIDE {
-        return last_in_short::<C>(bytes, to);
+        return last_in_short::<C, INSIDE>(bytes, to);
     }
     let mut end = to;
     while end > LANES {
-        let found = last_in::<C, LANES>(bytes, end - LANES);
+        let found = last_in::<C, LANES, INSIDE>(bytes, end - LANES);
         if found.is_some() {
             return found;
         }
         end -= LANES;
     }
-    last_in::<C, LANES>(bytes, 0)
+    last_in::<C, LANES, INSIDE>(bytes, 0)
 }
 
-/// The last byte that is not in the class, with at most 64 bytes before `end`.
+/// The last byte that is not on the side, with at most 64 bytes before `end`.
 #[inline(always)]
-fn last_in_short<C: Searched>(bytes: &[u8], end: usize) -> Option<usize>
+fn last_in_short<C: Searched, const INSIDE: bool>(bytes: &[u8], end: usize) -> Option<usize>
     requires inside { end ≤ length bytes.now }
     requires short { end ≤ WIDE }
-    requires after { AllFrom C.is bytes.now end }
-    ensures { FindsLastNot C.is bytes.now 0 result }
+    requires after { AllFrom (IsOnSide C.is INSIDE) bytes.now end }
+    ensures { FindsLastNot (IsOnSide C.is INSIDE) bytes.now 0 result }
 {
     if end >= LANES {
-        last_in_two::<C, LANES>(bytes, end)
+        last_in_two::<C, LANES, INSIDE>(bytes, end)
     } else if end >= 16 {
-        last_in_two::<C, 16>(bytes, end)
+        last_in_two::<C, 16, INSIDE>(bytes, end)
     } else if end >= 8 {
-        last_in_two::<C, 8>(bytes, end)
+        last_in_two::<C, 8, INSIDE>(bytes, end)
     } else if end >= 4 {
-        last_in_two::<C, 4>(bytes, end)
+        last_in_two::<C, 4, INSIDE>(bytes, end)
     } else {
-        last_one_by_one::<C>(bytes, 0, end)
+        last_one_by_one::<C, INSIDE>(bytes, 0, end)
     }
 }
 
-/// The last byte that is not in the class, with at least `N` and at most twice as many bytes before
+/// The last byte that is not on the side, with at least `N` and at most twice as many bytes before
 /// `end`.
 #[inline(always)]
-fn last_in_two<C: ClassBy<N>, const N: usize>(bytes: &[u8], end: usize) -> Option<usize>
-    requires lanes { N ≤ 64 }
+fn last_in_two<C: ClassBy<N>, const N: usize, const INSIDE: bool>(
+    bytes: &[u8],
+    end: usize,
+) -> Option<usize>
+    requires lanes { N < 64 }
     requires room { N ≤ end }
     requires short { end ≤ N + N }
     requires inside { end ≤ length bytes.now }
-    requires after { AllFrom C.is bytes.now end }
-    ensures { FindsLastNot C.is bytes.now 0 result }
+    requires after { AllFrom (IsOnSide C.is INSIDE) bytes.now end }
+    ensures { FindsLastNot (IsOnSide C.is INSIDE) bytes.now 0 result }
 {
-    match last_in::<C, N>(bytes, end - N) {
-        None => last_in::<C, N>(bytes, 0),
+    match last_in::<C, N, INSIDE>(bytes, end - N) {
+        None => last_in::<C, N, INSIDE>(bytes, 0),
         found => found,
     }
 }
 
-/// The last byte that is not in the class among the `N` from `at` on.
+/// The last byte that is not on the side among the `N` from `at` on.
 #[inline(always)]
-fn last_in<C: ClassBy<N>, const N: usize>(bytes: &[u8], at: usize) -> Option<usize>
-    requires lanes { N ≤ 64 }
+fn last_in<C: ClassBy<N>, const N: usize, const INSIDE: bool>(
+    bytes: &[u8],
+    at: usize,
+) -> Option<usize>
+    requires lanes { N < 64 }
     requires room { at + N ≤ length bytes.now }
-    requires after { AllFrom C.is bytes.now (at + N) }
-    ensures { FindsLastNot C.is bytes.now at result }
+    requires after { AllFrom (IsOnSide C.is INSIDE) bytes.now (at + N) }
+    ensures { FindsLastNot (IsOnSide C.is INSIDE) bytes.now at result }
 {
-    let marked = C::marks(bytes, at);
+    let marked = marks_past::<C, N, INSIDE>(bytes, at);
     if marked == 0 {
         None
     } else {
@@ -360,19 +419,38 @@ fn last_in<C: ClassBy<N>, const N: usize>(bytes: &[u8], at: usize) -> Option<usi
     }
 }
 
-/// The last byte that is not in the class from `from` up to `to`, byte by byte.
+/// The last byte that is not on the side from `from` up to `to`, byte by byte.
 #[inline(always)]
-fn last_one_by_one<C: Class>(bytes: &[u8], from: usize, to: usize) -> Option<usize>
+fn last_one_by_one<C: Class, const INSIDE: bool>(
+    bytes: &[u8],
+    from: usize,
+    to: usize,
+) -> Option<usize>
     requires inside { to ≤ length bytes.now }
-    requires after { AllFrom C.is bytes.now to }
-    ensures { FindsLastNot C.is bytes.now from result }
+    requires after { AllFrom (IsOnSide C.is INSIDE) bytes.now to }
+    ensures { FindsLastNot (IsOnSide C.is INSIDE) bytes.now from result }
 {
     for at in (from..to).rev() {
-        if !C::has(bytes[at]) {
+        if C::has(bytes[at]) != INSIDE {
             return Some(at);
         }
     }
     None
+}
+
+/// Marks the bytes that are not on the side among the `N` from `at` on.
+#[inline(always)]
+fn marks_past<C: ClassBy<N>, const N: usize, const INSIDE: bool>(bytes: &[u8], at: usize) -> u64
+    requires lanes { N < 64 }
+    requires room { at + N ≤ length bytes.now }
+    ensures { Marks (IsOnSide C.is INSIDE) bytes.now at N result }
+{
+    let outside = C::marks(bytes, at);
+    if INSIDE {
+        outside
+    } else {
+        outside ^ ((1 << N) - 1)
+    }
 }
 
 /// Changes each byte to its image: by steps, or one by one if there are fewer than four.

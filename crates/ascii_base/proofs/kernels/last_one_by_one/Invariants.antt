@@ -1,6 +1,8 @@
+use Rattle.std.proofs.Common.{eqb, not}
+use Rattle.ascii_base.specs.Bytes.{IsOnSide}
 use Rattle.ascii_base.specs.Lanes.{AllFrom}
 use Rattle.ascii_base.proofs.kernels.last_one_by_one.Given as goal
 
--- the bytes from `at` on are in the class
+-- the bytes from `at` on are on the side
 abbrev pub invariant-loop-at : goal.invariant-loop-at
-invariant-loop-at g l = AllFrom g.C.Class.is l.bytes l.at
+invariant-loop-at g l = AllFrom (IsOnSide g.C.Class.is (not (eqb g.row.INSIDE 0))) l.bytes l.at
