@@ -1,7 +1,7 @@
 -- How the pieces of a text at a class, and its words, break at either end.
 use Rattle.std.proofs.Common.{◌≡◌, ◌≢◌, ℕ, ◌+◌, ◌-◌, ◌<◌, ◌≤◌, zero, suc, Bool, true, false, List, [], ◌∷◌, ◌++◌}
 use Rattle.std.proofs.Common.{length, take, drop, get_or, refl, sym, ap, subst, ◌∙◌, arith, append-nil}
-use Rattle.std.proofs.Common.{add-zero, append_assoc, length-append, inl, inr, map}
+use Rattle.std.proofs.Common.{append_assoc, inl, inr}
 use Rattle.std.specs.Bool.{Decides}
 use Rattle.std.specs.List.{All, filter, onto_first, slice_get, slice_split}
 use Rattle.std.specs.Option.{IfSome}
@@ -16,11 +16,11 @@ use Rattle.std.proofs.lemmas.List.Elements.{filter-append}
 use Rattle.std.proofs.lemmas.List.Splits.{length-slice_split, slice_split_none}
 use Rattle.std.proofs.lemmas.List.Sums.{count_by-le-length, length-filter}
 use Rattle.ascii.specs.ByClass.{IsOutside, has_some, piece_spans_by, word_spans_by, words_by}
-use Rattle.ascii.specs.Runs.{EndsRun, StartsRun}
+use Rattle.ascii_base.specs.Runs.{EndsRun, StartsRun}
 use Rattle.ascii.specs.Spans.{WithStart, items_of, piece_size, with_starts}
 use Rattle.ascii.specs.Words.{IsWord, Words}
 use Rattle.ascii.proofs.PiecesLemmas.{slice_split-joint, slice_split-some}
-use Rattle.ascii.proofs.SpansLemmas.{items-with_starts, length-with_starts, room}
+use Rattle.ascii.proofs.SpansLemmas.{length-with_starts, room}
 
 -- ---- items one after the other
 
@@ -129,7 +129,7 @@ module _ (test : ℕ → Bool) where
       ∙ words_one start word some free
   words_first start word (c ∷ rest) some free begins =
       let tail : word_spans_by test (record { start = start + length word; item = c ∷ rest })
-          ≡ word_spans_by test (record { start = start + length word + 1; item = rest }) =
+      ≡ word_spans_by test (record { start = start + length word + 1; item = rest }) =
       words_joint (start + length word) [] c rest begins in
       let same : start + (length word + 1) ≡ start + length word + 1 = omega arith in
       words_joint start word c rest begins
@@ -321,7 +321,7 @@ module _ (Is : ℕ → Type 0) (test : ℕ → Bool) (decides : (n : ℕ) → De
 
   -- a run outside the class after a gap is a word
   is_word_of : (word : List ℕ) → word ≢ [] → All (λ c. test c ≡ false) word → IsWord Is word
-  is_word_of word some free = record { some = some; free = outside word free; }
+  is_word_of word some free = record { some = some; free = outside word free }
 
   module _ (start : ℕ) (t : List ℕ) (k m : ℕ) (more : k ≢ length t) (gap : EndsRun Is true t 0 k)
       (run : EndsRun Is false (drop k t) 0 m) where

@@ -1,13 +1,18 @@
 -- Runs of codes at the ends of a text.
-use Rattle.std.proofs.Common.{◌≡◌, ◌≢◌, ℕ, ◌-◌, ◌<◌, Bool, true, false, not, List, [], ◌∷◌, ◌++◌}
+use Rattle.std.proofs.Common.{◌≡◌, ◌≢◌, ℕ, ◌-◌, ◌<◌, Bool, true, false, not, List, []}
+use Rattle.std.proofs.Common.{◌∷◌, ◌++◌}
 use Rattle.std.proofs.Common.{length, get_or, refl, sym, ap, subst, ◌∙◌, arith, inl, inr}
 use Rattle.std.specs.Option.{IfSome}
 use Rattle.std.specs.List.{All, slice_get}
+use Rattle.std.specs.Bool.{Decides}
 use Rattle.std.proofs.lemmas.Bool.{cases_lt}
+use Rattle.std.proofs.lemmas.Bool.Decides.{Decides-not}
 use Rattle.std.proofs.lemmas.Grind.{common_steps}
 use Rattle.std.proofs.lemmas.List.Elements.{All-get_or, All-head, All-tail}
 use Rattle.std.proofs.lemmas.Option.{slice_get-get_or, slice_get_past}
-use Rattle.ascii.specs.Runs.{EndsRun, IsOnSide, StartsRun}
+use Rattle.ascii_base.specs.Bytes.{IsOnSide}
+use Rattle.ascii.specs.ByClass.{side_test}
+use Rattle.ascii_base.specs.Runs.{EndsRun, StartsRun}
 use Rattle.ascii.specs.Spans.{WithStart}
 
 -- the code at a position, if there is one
@@ -69,26 +74,52 @@ pub same_span : (a b : WithStart (List ℕ)) → a.start ≡ b.start → a.item 
 same_span a b starts items = ap (λ n. record { start = n; item = a.item }) starts
     ∙ ap (λ t. record { start = b.start; item = t }) items
 
--- ---- the runs of a class are those outside its complement
+-- ---- a run on a side of a class, as a run of that side and as one outside the other side
 module _ (Is : ℕ → Type 0) where
-  other_side : (inside : Bool) (code : ℕ) → IsOnSide Is (not inside) code
-      → IsOnSide (λ c. ¬ (Is c)) inside code
-  other_side true code out = out
-  other_side false code is = λ out. out is
+  not_both : (side : Bool) (code : ℕ) → IsOnSide Is (not side) code → ¬ (IsOnSide Is side code)
+  not_both true code out = out
+  not_both false code is = λ out. out is
 
-  pub ends_run_of_not : (inside : Bool) (text : List ℕ) (from end : ℕ)
-      → EndsRun Is (not inside) text from end → EndsRun (λ c. ¬ (Is c)) inside text from end
-  ends_run_of_not inside text from end run = record {
+  not_other : (side : Bool) (code : ℕ) → IsOnSide Is side code → ¬ (IsOnSide Is (not side) code)
+  not_other true code is = λ out. out is
+  not_other false code out = out
+
+  pub ends_gap : (side : Bool) (text : List ℕ) (from end : ℕ)
+      → EndsRun Is side text from end → EndsRun (IsOnSide Is side) true text from end
+  ends_gap side text from end run = record {
     low = run.low;
     high = run.high;
-    run = λ k from_on before. other_side inside _ (run.run k from_on before);
-    stop = λ within. other_side (not inside) _ (run.stop within);
+    run = run.run;
+    stop = λ within. not_both side _ (run.stop within);
   }
 
-  pub starts_run_of_not : (inside : Bool) (text : List ℕ) (to start : ℕ)
-      → StartsRun Is (not inside) text to start → StartsRun (λ c. ¬ (Is c)) inside text to start
-  starts_run_of_not inside text to start run = record {
+  pub ends_word : (side : Bool) (text : List ℕ) (from end : ℕ)
+      → EndsRun Is side text from end → EndsRun (IsOnSide Is (not side)) false text from end
+  ends_word side text from end run = record {
+    low = run.low;
     high = run.high;
-    run = λ k from_on before. other_side inside _ (run.run k from_on before);
-    stop = λ within. other_side (not inside) _ (run.stop within);
+    run = λ k from_on before. not_other side _ (run.run k from_on before);
+    stop = run.stop;
   }
+
+  pub starts_gap : (side : Bool) (text : List ℕ) (to start : ℕ)
+      → StartsRun Is side text to start → StartsRun (IsOnSide Is side) true text to start
+  starts_gap side text to start run = record {
+    high = run.high;
+    run = run.run;
+    stop = λ within. not_both side _ (run.stop within);
+  }
+
+  pub starts_word : (side : Bool) (text : List ℕ) (to start : ℕ)
+      → StartsRun Is side text to start → StartsRun (IsOnSide Is (not side)) false text to start
+  starts_word side text to start run = record {
+    high = run.high;
+    run = λ k from_on before. not_other side _ (run.run k from_on before);
+    stop = run.stop;
+  }
+
+  -- the test of a side decides it
+  pub side_decides : (test : ℕ → Bool) → ((n : ℕ) → Decides (test n) (Is n)) → (side : Bool) (n : ℕ)
+      → Decides (side_test test side n) (IsOnSide Is side n)
+  side_decides test decides true n = decides n
+  side_decides test decides false n = Decides-not (test n) (decides n)

@@ -1,5 +1,5 @@
 -- The pieces of a text at the codes of a class, and its words: the pieces that are not empty.
-use Rattle.std.specs.Prelude.{ℕ, Bool, true, false, List, [], ◌∷◌, All}
+use Rattle.std.specs.Prelude.{ℕ, Bool, true, false, not, List, [], ◌∷◌, All}
 use Rattle.std.specs.List.{filter, slice_split}
 use Rattle.ascii.specs.Spans.{WithStart, piece_size, with_starts}
 
@@ -27,3 +27,9 @@ words_by test text = filter has_some (slice_split test text)
 -- the words of a part with their starts: the pieces that are not empty
 abbrev pub word_spans_by : (ℕ → Bool) → WithStart (List ℕ) → List (WithStart (List ℕ))
 word_spans_by test part = filter (λ span. has_some span.item) (piece_spans_by test part)
+
+-- whether a code is on one side of a class: the test of the class if `inside` is true, and the
+-- opposite if `inside` is false
+abbrev pub side_test : (ℕ → Bool) → Bool → ℕ → Bool
+side_test test true = test
+side_test test false = λ code. not (test code)

@@ -6,7 +6,7 @@ use Rattle.std.specs.Iterator.Runs.{EveryRun}
 use Rattle.ascii.specs.declared.chunks.AsciiChunk.{AsciiChunk}
 use Rattle.ascii.specs.declared.chunks.ByteRun.{ByteRun}
 use Rattle.ascii.specs.declared.chunks.ByteRun.TheVariants.{Ascii, Other}
-use Rattle.ascii.specs.Runs.{IsOnSide}
+use Rattle.ascii_base.specs.Bytes.{IsOnSide}
 use Rattle.ascii.specs.Spans.{WithStart}
 use Rattle.ascii.specs.View.{text_of}
 

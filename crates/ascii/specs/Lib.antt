@@ -14,7 +14,6 @@ pub mod Numbers
 pub mod Pieces
 pub mod Replace
 pub mod Retain
-pub mod Runs
 pub mod Search
 pub mod Slice
 pub mod Spans

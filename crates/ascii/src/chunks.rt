@@ -12,13 +12,12 @@ ghost use Rattle.std.specs.Prelude.{⊤, ◌≡◌, ◌+◌, ◌<◌, All, lengt
 ghost use Rattle.std.specs.Iterator.{item_count};
 ghost use Rattle.ascii.specs.Chunks.{HasOneListOfChunks, IsByteOf, LoopsBackOverChunks, LoopsOverChunks};
 ghost use Rattle.ascii.specs.Chunks.{run_in};
-ghost use Rattle.ascii.specs.Runs.{EndsRun, StartsRun};
+ghost use Rattle.ascii_base.specs.Runs.{EndsRun, StartsRun};
 
 use crate::ascii_str::AsciiStr;
 use crate::bytes;
-use crate::runs::{run_end, run_start};
 use ascii_base::classes::Ascii;
-use ascii_base::kernels;
+use ascii_base::kernels::{self, run_end, run_start};
 use std::alloc::AllocError;
 use std::iter::FusedIterator;
 use std::marker::Model;

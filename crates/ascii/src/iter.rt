@@ -4,7 +4,9 @@
 //! |---|---|---|
 //! | characters | `view.chars()` | |
 //! | pieces between separators | `view.split(on)`, `view.splitn(n, on)` | `view.split_spans(on)` |
+//! | pieces at the characters of a class | `view.split_by::<C>()` | `view.split_spans_by::<C>()` |
 //! | words: the longest runs outside a class | `view.split_whitespace()`, `view.words::<C>()` | `view.word_spans::<C>()` |
+//! | the longest runs of characters of a class | `view.runs::<C>()` | `view.run_spans::<C>()` |
 //! | lines | `view.lines()` | `view.line_spans()`, also with how each line ends |
 //!
 //! Take from either end, in any order; `remainder` returns what is left as a view, which can be iterated again:
@@ -30,7 +32,9 @@ mod split;
 mod split_n;
 mod walks;
 
-pub use by_class::{AtClass, AtRuns, AtWords, Runs, SplitBy, SplitSpansBy, WordSpans, Words};
+pub use by_class::{
+    AtClass, AtRuns, AtWords, RunSpans, Runs, SplitBy, SplitSpansBy, WordSpans, Words,
+};
 pub use by_text::{AtText, SplitSpansStr, SplitStr};
 pub use chars::{Chars, CharsRef};
 pub use items::{Cut, CutBack, Items, Spans};

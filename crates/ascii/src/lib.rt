@@ -47,7 +47,6 @@ pub mod json;
 pub mod numbers;
 mod replace;
 mod retain;
-mod runs;
 mod search;
 mod serde_impls;
 mod splits;

@@ -1,4 +1,5 @@
 mod CaseLemmas
+mod EndsLemmas
 mod Examples
 pub mod LanesLemmas
 pub mod RangesLemmas

@@ -6,5 +6,6 @@ pub mod Code
 pub mod Lanes
 pub mod Printable
 pub mod Range
+pub mod Runs
 pub mod Tests
 pub mod ToAscii

@@ -4,6 +4,7 @@
 //! |---|---|
 //! | the first or the last byte that is in a class, for any class of `classes` | `first_of`, `last_of` |
 //! | the first or the last byte that is not in a class | `first_not`, `last_not` |
+//! | the end of a short run of bytes in a class or outside it, from its start or its end | `run_end`, `run_start` |
 //! | the first non-ASCII byte | `first_other` |
 //! | the first or the last byte that is not whitespace | `first_not_whitespace`, `last_not_whitespace` |
 //! | the case of letters, in place | `upper_in_place`, `lower_in_place` |
@@ -16,7 +17,7 @@
 //!
 //! A contract sees the bytes as a list of numbers, and a position as an index in it, from 0.
 
-ghost use Rattle.std.specs.Prelude.{◌≡◌, ◌≢◌, ◌↔◌, ◌+◌, ◌<◌, ◌≤◌, IsTrue, length, map};
+ghost use Rattle.std.specs.Prelude.{◌≡◌, ◌≢◌, ◌↔◌, ◌+◌, ◌-◌, ◌<◌, ◌≤◌, IsTrue, length, map};
 ghost use Rattle.std.specs.Prelude.{All, MatchOption};
 ghost use Rattle.std.specs.Str.{IsAscii};
 ghost use Rattle.ascii_base.specs.Bytes.{FirstOther, IsFirstNot, IsFirstOf, IsLastNot, IsLastOf};
@@ -25,6 +26,7 @@ ghost use Rattle.ascii_base.specs.Case.{upper_image, lower_image};
 ghost use Rattle.ascii_base.specs.Class.{IsWhitespace};
 ghost use Rattle.ascii_base.specs.Lanes.{AllBefore, AllFrom, FindsFirstNot, FindsLastNot, Marks};
 ghost use Rattle.ascii_base.specs.Lanes.{SameBefore};
+ghost use Rattle.ascii_base.specs.Runs.{EndsRun, StartsRun};
 
 use crate::classes::{Ascii, Class, ClassBy, Searched, Whitespace};
 use crate::images::{ImageBy, Lower, Upper};
@@ -33,6 +35,10 @@ use std::simd::prelude::*;
 
 /// How many bytes at an end are tested first: most runs are shorter.
 const HALF: usize = 16;
+
+/// How many bytes of a run are tested one by one before that: a gap between two words is mostly one
+/// byte long, so the branches are predicted.
+const FEW: usize = 2;
 
 /// Returns the position of the first byte that is not in the class, or `None` if all bytes are in it.
 ///
@@ -75,6 +81,48 @@ pub fn last_of<C: Searched>(bytes: &[u8]) -> Option<usize>
         (IsLastOf C.is bytes.now) }
 {
     last_past::<C, false>(bytes)
+}
+
+/// Returns the position after the run that starts at `from`: of bytes in the class if `inside` is
+/// true, and of bytes that are not in it if `inside` is false. If there is no such byte at `from`,
+/// that is `from`.
+///
+/// Condition: `from` is at most the length. The first bytes of the run are tested inline.
+///
+///     run_end::<Digit>(b"v42px", 1, true) // 3
+///     run_end::<Digit>(b"v42px", 3, false) // 5
+#[inline(always)]
+pub fn run_end<C: Searched>(bytes: &[u8], from: usize, inside: bool) -> usize
+    requires { from ≤ length bytes.now }
+    ensures { EndsRun C.is inside bytes.now from result }
+{
+    let rest = &bytes[from..];
+    if inside {
+        from + near_end::<C, true>(rest)
+    } else {
+        from + near_end::<C, false>(rest)
+    }
+}
+
+/// Returns the position at which the run before `to` starts: of bytes in the class if `inside` is
+/// true, and of bytes that are not in it if `inside` is false. If there is no such byte before `to`,
+/// that is `to`.
+///
+/// Condition: `to` is at most the length. The last bytes of the run are tested inline.
+///
+///     run_start::<Digit>(b"v42px", 3, true) // 1
+///     run_start::<Digit>(b"v42px", 5, false) // 3
+#[inline(always)]
+pub fn run_start<C: Searched>(bytes: &[u8], to: usize, inside: bool) -> usize
+    requires { to ≤ length bytes.now }
+    ensures { StartsRun C.is inside bytes.now to result }
+{
+    let rest = &bytes[..to];
+    if inside {
+        near_start::<C, true>(rest)
+    } else {
+        near_start::<C, false>(rest)
+    }
 }
 
 /// Returns the position of the first non-ASCII byte, or `None` if all bytes are ASCII.
@@ -323,6 +371,39 @@ fn first_non_ascii_long(bytes: &[u8]) -> Option<usize>
     first_from::<Ascii, true>(bytes, at)
 }
 
+/// The number of bytes on the side at the start.
+#[inline(always)]
+fn near_end<C: Searched, const INSIDE: bool>(bytes: &[u8]) -> usize
+    ensures { EndsRun C.is INSIDE bytes.now 0 result }
+{
+    if bytes.len() < HALF {
+        return match first_one_by_one::<C, INSIDE>(bytes, 0, bytes.len()) {
+            Some(at) => at,
+            None => bytes.len(),
+        };
+    }
+    if let Some(at) = first_one_by_one::<C, INSIDE>(bytes, 0, FEW) {
+        return at;
+    }
+    match first_in::<C, HALF, INSIDE>(bytes, 0) {
+        Some(at) => at,
+        None => far_end::<C, INSIDE>(bytes),
+    }
+}
+
+/// The number of bytes on the side at the start, if the first 16 are.
+#[inline(never)]
+fn far_end<C: Searched, const INSIDE: bool>(bytes: &[u8]) -> usize
+    requires long { HALF ≤ length bytes.now }
+    requires before { AllBefore (IsOnSide C.is INSIDE) bytes.now HALF }
+    ensures { EndsRun C.is INSIDE bytes.now 0 result }
+{
+    match first_from::<C, INSIDE>(bytes, HALF) {
+        Some(at) => at,
+        None => bytes.len(),
+    }
+}
+
 /// The last byte that is not on the side.
 #[inline(always)]
 fn last_past<C: Searched, const INSIDE: bool>(bytes: &[u8]) -> Option<usize>
@@ -426,16 +507,52 @@ fn last_one_by_one<C: Class, const INSIDE: bool>(
     from: usize,
     to: usize,
 ) -> Option<usize>
+    requires order { from ≤ to }
     requires inside { to ≤ length bytes.now }
     requires after { AllFrom (IsOnSide C.is INSIDE) bytes.now to }
     ensures { FindsLastNot (IsOnSide C.is INSIDE) bytes.now from result }
 {
-    for at in (from..to).rev() {
+    for after in 0..to - from {
+        let at = to - 1 - after;
         if C::has(bytes[at]) != INSIDE {
             return Some(at);
         }
     }
     None
+}
+
+/// Where the bytes on the side at the end start.
+#[inline(always)]
+fn near_start<C: Searched, const INSIDE: bool>(bytes: &[u8]) -> usize
+    ensures { StartsRun C.is INSIDE bytes.now (length bytes.now) result }
+{
+    let end = bytes.len();
+    if end < HALF {
+        return match last_one_by_one::<C, INSIDE>(bytes, 0, end) {
+            Some(at) => at + 1,
+            None => 0,
+        };
+    }
+    if let Some(at) = last_one_by_one::<C, INSIDE>(bytes, end - FEW, end) {
+        return at + 1;
+    }
+    match last_in::<C, HALF, INSIDE>(bytes, end - HALF) {
+        Some(at) => at + 1,
+        None => far_start::<C, INSIDE>(bytes),
+    }
+}
+
+/// Where the bytes on the side at the end start, if the last 16 are on it.
+#[inline(never)]
+fn far_start<C: Searched, const INSIDE: bool>(bytes: &[u8]) -> usize
+    requires long { HALF ≤ length bytes.now }
+    requires after { AllFrom (IsOnSide C.is INSIDE) bytes.now (length bytes.now - HALF) }
+    ensures { StartsRun C.is INSIDE bytes.now (length bytes.now) result }
+{
+    match last_before::<C, INSIDE>(bytes, bytes.len() - HALF) {
+        Some(at) => at + 1,
+        None => 0,
+    }
 }
 
 /// Marks the bytes that are not on the side among the `N` from `at` on.

@@ -1,4 +1,5 @@
-//! The pieces of a view at the characters of a class, and its words: the pieces that are not empty.
+//! The pieces of a view at the characters of a class, its words, which are the pieces that are not
+//! empty, and its runs of characters of a class.
 
 ghost use Rattle.std.specs.Prelude.{◌≡◌};
 ghost use Rattle.std.specs.List.{slice_split};
@@ -15,8 +16,8 @@ use crate::ascii_str::AsciiStr;
 use crate::iter::cursor::Cursor;
 use crate::iter::items::{Cut, CutBack, Items, Spans};
 use crate::iter::spans::SplitSpan;
-use crate::runs::{run_end, run_start};
-use ascii_base::classes::{Class, Whitespace};
+use ascii_base::classes::{Searched, Whitespace};
+use ascii_base::kernels::{run_end, run_start};
 use std::marker::PhantomData;
 
 /// The cut at each character of a class.
@@ -26,7 +27,7 @@ pub struct AtClass<C> {
     class: PhantomData<C>,
 }
 
-impl<C: Class> Cut for AtClass<C> {
+impl<C: Searched> Cut for AtClass<C> {
     ghost items = { λ _. piece_spans_by C.test };
 
     ghost is_item = { λ _. IsOutside C.is };
@@ -42,7 +43,7 @@ impl<C: Class> Cut for AtClass<C> {
     }
 }
 
-impl<C: Class> CutBack for AtClass<C> {
+impl<C: Searched> CutBack for AtClass<C> {
     #[inline(always)]
     fn last<'a>(self, part: Cursor<'a>) -> Option<(SplitSpan<'a>, Option<Cursor<'a>>)> {
         let bytes = part.view.bytes;
@@ -54,97 +55,84 @@ impl<C: Class> CutBack for AtClass<C> {
     }
 }
 
-/// The cut into words: the longest runs of characters outside a class.
+/// The cut into runs: the longest runs of characters of a class if `INSIDE` is true, and of characters
+/// outside it, its words, if `INSIDE` is false.
 #[derive(Drop)]
 #[derive_where(Clone, Copy)]
-pub struct AtWords<C> {
+pub struct AtRuns<C, const INSIDE: bool> {
     class: PhantomData<C>,
 }
 
-impl<C: Class> Cut for AtWords<C> {
-    ghost items = { λ _. word_spans_by C.test };
-
-    ghost is_item = { λ _. IsWord C.is };
-
-    #[inline(always)]
-    fn first<'a>(self, part: Cursor<'a>) -> Option<(SplitSpan<'a>, Option<Cursor<'a>>)> {
-        let bytes = part.view.bytes;
-        let start = run_end::<C>(bytes, 0, true);
-        if start == bytes.len() {
-            return None;
-        }
-        let end = run_end::<C>(bytes, start, false);
-        Some((part.to(end).from(start).piece(), Some(part.from(end))))
-    }
-}
-
-impl<C: Class> CutBack for AtWords<C> {
-    #[inline(always)]
-    fn last<'a>(self, part: Cursor<'a>) -> Option<(SplitSpan<'a>, Option<Cursor<'a>>)> {
-        let end = run_start::<C>(part.view.bytes, part.view.bytes.len(), true);
-        if end == 0 {
-            return None;
-        }
-        let rest = part.to(end);
-        let start = run_start::<C>(rest.view.bytes, rest.view.bytes.len(), false);
-        Some((rest.from(start).piece(), Some(rest.to(start))))
-    }
-}
-
-/// The cut into runs: the longest runs of characters of a class.
-#[derive(Drop)]
-#[derive_where(Clone, Copy)]
-pub struct AtRuns<C> {
-    class: PhantomData<C>,
-}
-
-impl<C: Class> Cut for AtRuns<C> {
+impl<C: Searched, const INSIDE: bool> Cut for AtRuns<C, INSIDE> {
     ghost use Rattle.std.specs.Prelude.{not};
+    ghost use Rattle.ascii_base.specs.Bytes.{IsOnSide};
+    ghost use Rattle.ascii.specs.ByClass.{side_test};
 
-    ghost items = { λ _. word_spans_by (λ code. not (C.test code)) };
+    ghost items = { λ _. word_spans_by (side_test C.test (not INSIDE)) };
 
-    ghost is_item = { λ _. IsWord (λ code. ¬ (C.is code)) };
+    ghost is_item = { λ _. IsWord (IsOnSide C.is (not INSIDE)) };
 
     #[inline(always)]
     fn first<'a>(self, part: Cursor<'a>) -> Option<(SplitSpan<'a>, Option<Cursor<'a>>)> {
         let bytes = part.view.bytes;
-        let start = run_end::<C>(bytes, 0, false);
+        let start = run_end::<C>(bytes, 0, !INSIDE);
         if start == bytes.len() {
             return None;
         }
-        let end = run_end::<C>(bytes, start, true);
+        let end = run_end::<C>(bytes, start, INSIDE);
         Some((part.to(end).from(start).piece(), Some(part.from(end))))
     }
 }
 
-impl<C: Class> CutBack for AtRuns<C> {
+impl<C: Searched, const INSIDE: bool> CutBack for AtRuns<C, INSIDE> {
     #[inline(always)]
     fn last<'a>(self, part: Cursor<'a>) -> Option<(SplitSpan<'a>, Option<Cursor<'a>>)> {
-        let end = run_start::<C>(part.view.bytes, part.view.bytes.len(), false);
+        let end = run_start::<C>(part.view.bytes, part.view.bytes.len(), !INSIDE);
         if end == 0 {
             return None;
         }
         let rest = part.to(end);
-        let start = run_start::<C>(rest.view.bytes, rest.view.bytes.len(), true);
+        let start = run_start::<C>(rest.view.bytes, rest.view.bytes.len(), INSIDE);
         Some((rest.from(start).piece(), Some(rest.to(start))))
     }
 }
+
+/// The cut into words: the longest runs of characters outside a class.
+pub type AtWords<C> = AtRuns<C, false>;
 
 /// An iterator over the pieces of a view between characters of a class, from both ends.
 pub type SplitBy<'a, C> = Items<'a, AtClass<C>>;
 
-/// An iterator over those pieces with their starts, from both ends.
+/// An iterator over the pieces of a view between characters of a class, each with its start, from
+/// both ends.
 pub type SplitSpansBy<'a, C> = Spans<'a, AtClass<C>>;
 
 /// An iterator over the words of a view, from both ends.
 pub type Words<'a, C> = Items<'a, AtWords<C>>;
 
-/// An iterator over the words of a view with their start positions, from both ends.
+/// An iterator over the words of a view, each with its start, from both ends.
 pub type WordSpans<'a, C> = Spans<'a, AtWords<C>>;
 
+/// An iterator over the runs of characters of a class, from both ends.
+pub type Runs<'a, C> = Items<'a, AtRuns<C, true>>;
+
+/// An iterator over the runs of characters of a class, each with its start, from both ends.
+pub type RunSpans<'a, C> = Spans<'a, AtRuns<C, true>>;
+
 impl<'a> AsciiStr<'a> {
-    /// Returns an iterator over the pieces of the view at each character of the class, from both ends.
-    pub fn split_by<C: Class>(self) -> SplitBy<'a, C>
+    ghost use Rattle.std.specs.Prelude.{not};
+
+    /// Returns an iterator over the pieces of the view at each character of the class, from both
+    /// ends. There is at least one piece, and none contains a character of the class. A character of
+    /// the class at an end of the view makes an empty piece there, and so do two in a row between
+    /// them.
+    ///
+    /// Constant time; a full walk searches the view once. Does not allocate.
+    ///
+    ///     let mut pieces = view("a b\tc").split_by::<Blank>();
+    ///     pieces.next() // Some("a")
+    ///     pieces.next_back() // Some("c")
+    pub fn split_by<C: Searched>(self) -> SplitBy<'a, C>
         ensures iterates { Iterates (slice_split C.test (text_of self.entry)) result }
         ensures loops { LoopsOverItems result (λ _. IsOutside C.is) }
         ensures loops_back { LoopsBackOverItems result (λ _. IsOutside C.is) }
@@ -154,9 +142,14 @@ impl<'a> AsciiStr<'a> {
         }
     }
 
-    /// Returns an iterator over the pieces of the view at each character of the class, each with its
-    /// start, from both ends.
-    pub fn split_spans_by<C: Class>(self) -> SplitSpansBy<'a, C>
+    /// Returns an iterator over the pieces of the view at each character of the class, from both
+    /// ends, each with the position in the view at which it starts.
+    ///
+    /// Constant time; a full walk searches the view once. Does not allocate.
+    ///
+    ///     let mut spans = view("a b\tc").split_spans_by::<Blank>();
+    ///     spans.next_back() // Some(SplitSpan { start: 4, text: "c" })
+    pub fn split_spans_by<C: Searched>(self) -> SplitSpansBy<'a, C>
         ensures iterates { Iterates (piece_spans_by C.test (whole (text_of self.entry))) result }
         ensures loops { LoopsOverSpans result (λ _. IsOutside C.is) }
         ensures loops_back { LoopsBackOverSpans result (λ _. IsOutside C.is) }
@@ -170,9 +163,15 @@ impl<'a> AsciiStr<'a> {
         }
     }
 
-    /// Returns an iterator over the words of the view: the longest runs of characters that are not in
-    /// the class. There are no empty words. Does not allocate.
-    pub fn words<C: Class>(self) -> Words<'a, C>
+    /// Returns an iterator over the words of the view, from both ends: the longest runs of characters
+    /// that are not in the class. There are no empty words.
+    ///
+    /// Constant time; a full walk searches the view once. Does not allocate.
+    ///
+    ///     let mut words = view(" to be  or not").words::<Blank>();
+    ///     words.next() // Some("to")
+    ///     words.next_back() // Some("not")
+    pub fn words<C: Searched>(self) -> Words<'a, C>
         ensures iterates { Iterates (words_by C.test (text_of self.entry)) result }
         ensures loops { LoopsOverItems result (λ _. IsWord C.is) }
         ensures loops_back { LoopsBackOverItems result (λ _. IsWord C.is) }
@@ -182,7 +181,14 @@ impl<'a> AsciiStr<'a> {
         }
     }
 
-    /// Returns an iterator over the words of the view between whitespace.
+    /// Returns an iterator over the words of the view between whitespace, from both ends. There are
+    /// no empty words.
+    ///
+    /// Constant time; a full walk searches the view once. Does not allocate.
+    ///
+    ///     let mut words = view(" to be\n or not").split_whitespace();
+    ///     words.next() // Some("to")
+    ///     words.next() // Some("be")
     pub fn split_whitespace(self) -> Words<'a, Whitespace>
         ensures iterates { Iterates (words_by is_whitespace (text_of self.entry)) result }
         ensures loops { LoopsOverItems result (λ _. IsWord IsWhitespace) }
@@ -191,8 +197,15 @@ impl<'a> AsciiStr<'a> {
         self.words::<Whitespace>()
     }
 
-    /// Returns an iterator over the words of the view, each with its start position in the view.
-    pub fn word_spans<C: Class>(self) -> WordSpans<'a, C>
+    /// Returns an iterator over the words of the view, from both ends, each with the position in the
+    /// view at which it starts. The words are the longest runs of characters that are not in the
+    /// class.
+    ///
+    /// Constant time; a full walk searches the view once. Does not allocate.
+    ///
+    ///     let mut spans = view(" to be").word_spans::<Blank>();
+    ///     spans.next() // Some(SplitSpan { start: 1, text: "to" })
+    pub fn word_spans<C: Searched>(self) -> WordSpans<'a, C>
         ensures iterates { Iterates (word_spans_by C.test (whole (text_of self.entry))) result }
         ensures loops { LoopsOverSpans result (λ _. IsWord C.is) }
         ensures loops_back { LoopsBackOverSpans result (λ _. IsWord C.is) }
@@ -202,12 +215,52 @@ impl<'a> AsciiStr<'a> {
                 start: 0,
                 view: self,
             }),
-            on: AtWords { class: PhantomData },
+            on: AtRuns { class: PhantomData },
+        }
+    }
+
+    /// Returns an iterator over the longest runs of characters of the class in the view, from both
+    /// ends. There are no empty runs.
+    ///
+    /// Constant time; a full walk searches the view once. Does not allocate.
+    ///
+    ///     let mut runs = view("v1.20").runs::<Digit>();
+    ///     runs.next() // Some("1")
+    ///     runs.next() // Some("20")
+    pub fn runs<C: Searched>(self) -> Runs<'a, C>
+        ensures iterates { Iterates (words_by (λ code. not (C.test code)) (text_of self.entry)) result }
+        ensures loops { LoopsOverItems result (λ _. IsWord (λ code. ¬ (C.is code))) }
+        ensures loops_back { LoopsBackOverItems result (λ _. IsWord (λ code. ¬ (C.is code))) }
+    {
+        Items {
+            spans: self.run_spans::<C>(),
+        }
+    }
+
+    /// Returns an iterator over the longest runs of characters of the class in the view, from both
+    /// ends, each with the position in the view at which it starts.
+    ///
+    /// Constant time; a full walk searches the view once. Does not allocate.
+    ///
+    ///     let mut spans = view("v1.20").run_spans::<Digit>();
+    ///     spans.next_back() // Some(SplitSpan { start: 3, text: "20" })
+    pub fn run_spans<C: Searched>(self) -> RunSpans<'a, C>
+        ensures iterates { Iterates
+            (word_spans_by (λ code. not (C.test code)) (whole (text_of self.entry))) result }
+        ensures loops { LoopsOverSpans result (λ _. IsWord (λ code. ¬ (C.is code))) }
+        ensures loops_back { LoopsBackOverSpans result (λ _. IsWord (λ code. ¬ (C.is code))) }
+    {
+        Spans {
+            rest: Some(Cursor {
+                start: 0,
+                view: self,
+            }),
+            on: AtRuns { class: PhantomData },
         }
     }
 }
 
-impl<'a, C: Class> Items<'a, AtWords<C>> {
+impl<'a, C: Searched> Items<'a, AtWords<C>> {
     /// Returns the part of the view whose words remain.
     ///
     ///     let mut words = view("a b c").split_whitespace();
@@ -224,43 +277,14 @@ impl<'a, C: Class> Items<'a, AtWords<C>> {
     }
 }
 
-/// An iterator over the runs of characters of a class, from both ends.
-pub type Runs<'a, C> = Items<'a, AtRuns<C>>;
-
-impl<'a> AsciiStr<'a> {
-    ghost use Rattle.std.specs.Prelude.{not};
-
-    /// Returns an iterator over the longest runs of characters of the class, from both ends.
-    pub fn runs<C: Class>(self) -> Runs<'a, C>
-        ensures iterates
-            { Iterates (words_by (λ code. not (C.test code)) (text_of self.entry)) result }
-        ensures loops { LoopsOverItems result (λ _. IsWord (λ code. ¬ (C.is code))) }
-        ensures loops_back { LoopsBackOverItems result (λ _. IsWord (λ code. ¬ (C.is code))) }
-    {
-        Items {
-            spans: self.run_spans::<C>(),
-        }
-    }
-
-    /// Returns an iterator over those runs, each with its start position in the view.
-    fn run_spans<C: Class>(self) -> Spans<'a, AtRuns<C>>
-        ensures iterates { Iterates
-            (word_spans_by (λ code. not (C.test code)) (whole (text_of self.entry))) result }
-    {
-        Spans {
-            rest: Some(Cursor {
-                start: 0,
-                view: self,
-            }),
-            on: AtRuns { class: PhantomData },
-        }
-    }
-}
-
-impl<'a, C: Class> Items<'a, AtRuns<C>> {
+impl<'a, C: Searched> Items<'a, AtRuns<C, true>> {
     ghost use Rattle.std.specs.Prelude.{not};
 
     /// Returns the part of the view whose runs remain.
+    ///
+    ///     let mut runs = view("v1.20").runs::<Digit>();
+    ///     runs.next() // Some("1")
+    ///     runs.as_str() // ".20"
     #[inline]
     pub fn as_str(&self) -> AsciiStr<'a>
         ensures { words_by (λ code. not (C.test code)) (text_of result) ≡ self.now.items }

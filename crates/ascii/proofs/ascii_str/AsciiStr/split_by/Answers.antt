@@ -1,7 +1,6 @@
 use Rattle.std.proofs.Common.{arith, ap, ◌∙◌}
 use Rattle.std.proofs.lemmas.List.{length-map}
 use Rattle.ascii.specs.Spans.{items_of, piece_size}
-use Rattle.ascii.specs.View.{text_of}
 use Rattle.ascii.proofs.SpansLemmas.{items-with_starts}
 use Rattle.ascii.proofs.StepsLemmas.{runs_in_order, runs_in_reverse}
 use Rattle.ascii.proofs.ascii_str.AsciiStr.split_by.Goals as goal

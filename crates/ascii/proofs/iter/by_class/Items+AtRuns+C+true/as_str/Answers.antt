@@ -2,7 +2,7 @@ use Rattle.std.proofs.Common.{ap, not, sym, ◌∙◌}
 use Rattle.ascii.specs.Spans.{items_of}
 use Rattle.ascii.specs.View.{text_of}
 use Rattle.ascii.proofs.ByClassLemmas.{words_of_spans}
-use Rattle.ascii.proofs.iter.by_class.Items+AtRuns+C.as_str.Goals as goal
+use Rattle.ascii.proofs.iter.by_class.Items+AtRuns+C+true.as_str.Goals as goal
 
 pub returns : goal.returns
 returns g c =

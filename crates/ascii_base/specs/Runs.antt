@@ -1,11 +1,6 @@
--- The ends of a run of codes of a class or outside it, cited by private functions only.
-use Rattle.std.specs.Prelude.{ℕ, ◌-◌, ◌<◌, ◌≤◌, Bool, true, false, not, List, length}
-use Rattle.std.specs.Prelude.{slice_index}
-
--- `code` is in the class if the test is true, and outside it if the test is false
-abbrev pub IsOnSide : (ℕ → Type 0) → Bool → ℕ → Type 0
-IsOnSide Is true code = Is code
-IsOnSide Is false code = ¬ (Is code)
+-- The ends of a run of codes of a class or outside it.
+use Rattle.std.specs.Prelude.{ℕ, ◌-◌, ◌<◌, ◌≤◌, Bool, not, List, length, slice_index}
+use Rattle.ascii_base.specs.Bytes.{IsOnSide}
 
 -- the codes of `text` from position `from` up to `end` are on one side of the class `Is`, and the
 -- code at `end`, if there is one, is on the other
