@@ -1,7 +1,10 @@
 -- The pieces of a text at the codes of a class, and its words: the pieces that are not empty.
-use Rattle.std.specs.Prelude.{ℕ, Bool, true, false, not, List, [], ◌∷◌, All}
+use Rattle.std.specs.Prelude.{◌≡◌, ℕ, Bool, true, false, not, List, [], ◌∷◌, All, MatchOption, Option}
 use Rattle.std.specs.List.{filter, slice_split}
+use Rattle.ascii.specs.declared.ascii_str.AsciiStr.{AsciiStr}
+use Rattle.ascii.specs.Pieces.{Remaining}
 use Rattle.ascii.specs.Spans.{WithStart, piece_size, with_starts}
+use Rattle.ascii.specs.View.{text_of}
 
 -- a whole text, which starts at 0
 abbrev pub whole : List ℕ → WithStart (List ℕ)
@@ -33,3 +36,16 @@ word_spans_by test part = filter (λ span. has_some span.item) (piece_spans_by t
 abbrev pub side_test : (ℕ → Bool) → Bool → ℕ → Bool
 side_test test true = test
 side_test test false = λ code. not (test code)
+
+-- `None` if no items remain; otherwise a view whose items are the remaining ones
+abbrev pub IsRemainder : {C : Type 0} → (List ℕ → List (List ℕ)) → Remaining C (List ℕ)
+    → Option AsciiStr → Type 0
+IsRemainder items left result =
+    MatchOption result (left.items ≡ []) (λ view. items (text_of view) ≡ left.items)
+
+-- `None` if no items remain; otherwise a start and a view whose items, from that start, are the
+-- remaining ones
+abbrev pub IsSpanRemainder : {C : Type 0} → (WithStart (List ℕ) → List (WithStart (List ℕ)))
+    → Remaining C (WithStart (List ℕ)) → Option (ℕ × AsciiStr) → Type 0
+IsSpanRemainder items left result = MatchOption result (left.items ≡ [])
+    (λ tail. items (record { start = tail.0; item = text_of tail.1 }) ≡ left.items)

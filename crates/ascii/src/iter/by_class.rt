@@ -1,12 +1,13 @@
 //! The pieces of a view at the characters of a class, its words, which are the pieces that are not
 //! empty, and its runs of characters of a class.
 
-ghost use Rattle.std.specs.Prelude.{◌≡◌};
+ghost use Rattle.std.specs.Prelude.{◌≡◌, IfSome};
 ghost use Rattle.std.specs.List.{slice_split};
 ghost use Rattle.ascii_base.specs.Class.{IsWhitespace};
 ghost use Rattle.ascii_base.specs.Tests.{is_whitespace};
-ghost use Rattle.ascii.specs.ByClass.{IsOutside, piece_spans_by, whole};
-ghost use Rattle.ascii.specs.ByClass.{word_spans_by, words_by};
+ghost use Rattle.ascii.specs.ByClass.{IsOutside, IsRemainder, IsSpanRemainder, piece_spans_by};
+ghost use Rattle.ascii.specs.ByClass.{whole, word_spans_by, words_by};
+ghost use Rattle.ascii.specs.Spans.{EndFits};
 ghost use Rattle.ascii.specs.Steps.{Iterates, LoopsBackOverItems, LoopsBackOverSpans};
 ghost use Rattle.ascii.specs.Steps.{LoopsOverItems, LoopsOverSpans};
 ghost use Rattle.ascii.specs.View.{text_of};
@@ -132,6 +133,7 @@ impl<'a> AsciiStr<'a> {
     ///     let mut pieces = view("a b\tc").split_by::<Blank>();
     ///     pieces.next() // Some("a")
     ///     pieces.next_back() // Some("c")
+    ///     pieces.remainder() // Some("b")
     pub fn split_by<C: Searched>(self) -> SplitBy<'a, C>
         ensures iterates { Iterates (slice_split C.test (text_of self.entry)) result }
         ensures loops { LoopsOverItems result (λ _. IsOutside C.is) }
@@ -260,8 +262,66 @@ impl<'a> AsciiStr<'a> {
     }
 }
 
+impl<'a, C: Searched> Spans<'a, AtClass<C>> {
+    /// Returns the part of the view whose pieces remain, with its start, or `None` if there are none
+    /// left. The iterator is unchanged. Constant time.
+    ///
+    ///     let mut spans = view("a b\tc").split_spans_by::<Blank>();
+    ///     spans.next() // Some(SplitSpan { start: 0, text: "a" })
+    ///     spans.remainder() // Some((2, "b\tc"))
+    pub fn remainder(&self) -> Option<(usize, AsciiStr<'a>)>
+        ensures remainder { IsSpanRemainder (piece_spans_by C.test) self.now result }
+        ensures fits { IfSome result (λ tail. EndFits tail.0 tail.1) }
+    {
+        self.rest()
+    }
+}
+
+impl<'a, C: Searched> Items<'a, AtClass<C>> {
+    /// Returns the part of the view whose pieces remain, or `None` if there are none left. The
+    /// iterator is unchanged. Constant time.
+    ///
+    ///     let mut pieces = view("a b\tc").split_by::<Blank>();
+    ///     pieces.next() // Some("a")
+    ///     pieces.remainder() // Some("b\tc")
+    pub fn remainder(&self) -> Option<AsciiStr<'a>>
+        ensures { IsRemainder (slice_split C.test) self.now result }
+    {
+        let (_, view) = self.spans.rest()?;
+        Some(view)
+    }
+}
+
+impl<'a, C: Searched> Spans<'a, AtWords<C>> {
+    /// Returns the part of the view whose words remain, with its start. Returns `None` only if there are
+    /// none left. The iterator is unchanged. Constant time.
+    ///
+    ///     let mut spans = view("to be").word_spans::<Blank>();
+    ///     spans.next() // Some(SplitSpan { start: 0, text: "to" })
+    ///     spans.remainder() // Some((2, " be"))
+    pub fn remainder(&self) -> Option<(usize, AsciiStr<'a>)>
+        ensures remainder { IsSpanRemainder (word_spans_by C.test) self.now result }
+        ensures fits { IfSome result (λ tail. EndFits tail.0 tail.1) }
+    {
+        self.rest()
+    }
+}
+
 impl<'a, C: Searched> Items<'a, AtWords<C>> {
-    /// Returns the part of the view whose words remain.
+    /// Returns the part of the view whose words remain. Returns `None` only if there are none left. The
+    /// iterator is unchanged. Constant time.
+    ///
+    ///     let mut words = view("to be").split_whitespace();
+    ///     words.next() // Some("to")
+    ///     words.remainder() // Some(" be")
+    pub fn remainder(&self) -> Option<AsciiStr<'a>>
+        ensures { IsRemainder (words_by C.test) self.now result }
+    {
+        let (_, view) = self.spans.rest()?;
+        Some(view)
+    }
+
+    /// Returns the part of the view whose words remain, or the empty view if `remainder` is `None`.
     ///
     ///     let mut words = view("a b c").split_whitespace();
     ///     words.next() // Some("a")
@@ -270,17 +330,47 @@ impl<'a, C: Searched> Items<'a, AtWords<C>> {
     pub fn as_str(&self) -> AsciiStr<'a>
         ensures { words_by C.test (text_of result) ≡ self.now.items }
     {
-        let Some(tail) = self.spans.rest() else {
-            return AsciiStr { bytes: &[] };
-        };
-        tail.1
+        match self.remainder() {
+            Some(view) => view,
+            None => AsciiStr { bytes: &[] },
+        }
+    }
+}
+
+impl<'a, C: Searched> Spans<'a, AtRuns<C, true>> {
+    ghost use Rattle.std.specs.Prelude.{not};
+
+    /// Returns the part of the view whose runs remain, with its start. Returns `None` only if there are
+    /// none left. The iterator is unchanged. Constant time.
+    ///
+    ///     let mut spans = view("v1.20").run_spans::<Digit>();
+    ///     spans.next() // Some(SplitSpan { start: 1, text: "1" })
+    ///     spans.remainder() // Some((2, ".20"))
+    pub fn remainder(&self) -> Option<(usize, AsciiStr<'a>)>
+        ensures remainder { IsSpanRemainder (word_spans_by (λ code. not (C.test code))) self.now result }
+        ensures fits { IfSome result (λ tail. EndFits tail.0 tail.1) }
+    {
+        self.rest()
     }
 }
 
 impl<'a, C: Searched> Items<'a, AtRuns<C, true>> {
     ghost use Rattle.std.specs.Prelude.{not};
 
-    /// Returns the part of the view whose runs remain.
+    /// Returns the part of the view whose runs remain. Returns `None` only if there are none left. The
+    /// iterator is unchanged. Constant time.
+    ///
+    ///     let mut runs = view("v1.20").runs::<Digit>();
+    ///     runs.next() // Some("1")
+    ///     runs.remainder() // Some(".20")
+    pub fn remainder(&self) -> Option<AsciiStr<'a>>
+        ensures { IsRemainder (words_by (λ code. not (C.test code))) self.now result }
+    {
+        let (_, view) = self.spans.rest()?;
+        Some(view)
+    }
+
+    /// Returns the part of the view whose runs remain, or the empty view if `remainder` is `None`.
     ///
     ///     let mut runs = view("v1.20").runs::<Digit>();
     ///     runs.next() // Some("1")
@@ -289,9 +379,9 @@ impl<'a, C: Searched> Items<'a, AtRuns<C, true>> {
     pub fn as_str(&self) -> AsciiStr<'a>
         ensures { words_by (λ code. not (C.test code)) (text_of result) ≡ self.now.items }
     {
-        let Some(tail) = self.spans.rest() else {
-            return AsciiStr { bytes: &[] };
-        };
-        tail.1
+        match self.remainder() {
+            Some(view) => view,
+            None => AsciiStr { bytes: &[] },
+        }
     }
 }
