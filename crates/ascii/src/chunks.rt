@@ -12,7 +12,7 @@ ghost use Rattle.std.specs.Prelude.{⊤, ◌≡◌, ◌+◌, ◌<◌, All, lengt
 ghost use Rattle.std.specs.Iterator.{item_count};
 ghost use Rattle.ascii.specs.Chunks.{HasOneListOfChunks, IsByteOf, LoopsBackOverChunks, LoopsOverChunks};
 ghost use Rattle.ascii.specs.Chunks.{run_in};
-ghost use Rattle.ascii_base.specs.Runs.{EndsRun, StartsRun};
+ghost use Rattle.ascii_base.specs.Runs.{EndsRun};
 
 use crate::ascii_str::AsciiStr;
 use crate::bytes;
@@ -116,7 +116,7 @@ impl<'a> DoubleEndedIterator for AsciiChunks<'a> {
     fn next_back(&mut self) -> Option<AsciiChunk<'a>> {
         let bytes = self.rest;
         let ascii = *bytes.last()? < 128;
-        let at = last_run_start(bytes, ascii);
+        let at = run_start::<Ascii>(bytes, bytes.len(), ascii);
         self.rest = &bytes[..at];
         Some(AsciiChunk {
             start: self.start + at,
@@ -138,20 +138,6 @@ fn first_run_end(bytes: &[u8], ascii: bool) -> usize
         }
     } else {
         run_end::<Ascii>(bytes, 0, false)
-    }
-}
-
-/// Returns the position at which the run at the end starts: of ASCII bytes, or of other bytes.
-fn last_run_start(bytes: &[u8], ascii: bool) -> usize
-    ensures { StartsRun (λ byte. byte < 128) ascii bytes.now (length bytes.now) result }
-{
-    if ascii {
-        match kernels::last_not::<Ascii>(bytes) {
-            Some(at) => at + 1,
-            None => 0,
-        }
-    } else {
-        run_start::<Ascii>(bytes, bytes.len(), false)
     }
 }
 
