@@ -13,7 +13,8 @@
 //! None of them allocates. A search goes through the bytes 32 at a time and ends with one step of 32
 //! over the end, which may test bytes again. Up to 64 bytes take two overlapping steps of 32, 16, 8 or
 //! 4 bytes, and fewer than 4 bytes go one by one. The maps and the comparison take the same steps. A
-//! search by a class tests 16 bytes before that: most runs end there.
+//! search by a class tests 16 bytes before that: most runs end there. `run_end` and `run_start` test
+//! those 16 inline, and the nearest bytes one by one.
 //!
 //! A contract sees the bytes as a list of numbers, and a position as an index in it, from 0.
 
@@ -36,8 +37,8 @@ use std::simd::prelude::*;
 /// How many bytes at an end are tested first: most runs are shorter.
 const HALF: usize = 16;
 
-/// How many bytes of a run are tested one by one before that: a gap between two words is mostly one
-/// byte long, so the branches are predicted.
+/// How many bytes of a run are tested one by one before that: the gap between two words is mostly one
+/// byte.
 const FEW: usize = 2;
 
 /// Returns the position of the first byte that is not in the class, or `None` if all bytes are in it.
@@ -83,11 +84,12 @@ pub fn last_of<C: Searched>(bytes: &[u8]) -> Option<usize>
     last_past::<C, false>(bytes)
 }
 
-/// Returns the position after the run that starts at `from`: of bytes in the class if `inside` is
-/// true, and of bytes that are not in it if `inside` is false. If there is no such byte at `from`,
-/// that is `from`.
+/// Returns the position after the run that starts at `from`, or `from` if the run is empty. The run is
+/// of bytes in the class if `inside` is true, and of bytes that are not in it if `inside` is false.
 ///
-/// Condition: `from` is at most the length. The first bytes of the run are tested inline.
+/// Condition: `from` is at most the length.
+///
+/// For short runs, such as words and the gaps between them: a search for more than 16 bytes is a call.
 ///
 ///     run_end::<Digit>(b"v42px", 1, true) // 3
 ///     run_end::<Digit>(b"v42px", 3, false) // 5
@@ -104,11 +106,12 @@ pub fn run_end<C: Searched>(bytes: &[u8], from: usize, inside: bool) -> usize
     }
 }
 
-/// Returns the position at which the run before `to` starts: of bytes in the class if `inside` is
-/// true, and of bytes that are not in it if `inside` is false. If there is no such byte before `to`,
-/// that is `to`.
+/// Returns the position at which the run that ends at `to` starts, or `to` if the run is empty. The run
+/// is of bytes in the class if `inside` is true, and of bytes that are not in it if `inside` is false.
 ///
-/// Condition: `to` is at most the length. The last bytes of the run are tested inline.
+/// Condition: `to` is at most the length.
+///
+/// For short runs, such as words and the gaps between them: a search for more than 16 bytes is a call.
 ///
 ///     run_start::<Digit>(b"v42px", 3, true) // 1
 ///     run_start::<Digit>(b"v42px", 5, false) // 3
@@ -220,8 +223,8 @@ pub fn last_not_whitespace(bytes: &[u8]) -> Option<usize>
     last_not::<Whitespace>(bytes)
 }
 
-// The searches below are for the end of a side of a class: its bytes if `INSIDE` is true, and the
-// bytes that are not in it if `INSIDE` is false.
+// The searches below pass over one side of a class: its bytes if `INSIDE` is true, and the bytes that
+// are not in it if `INSIDE` is false.
 
 /// The first byte that is not on the side.
 #[inline(always)]
@@ -391,7 +394,7 @@ fn near_end<C: Searched, const INSIDE: bool>(bytes: &[u8]) -> usize
     }
 }
 
-/// The number of bytes on the side at the start, if the first 16 are.
+/// The number of bytes on the side at the start, if the first 16 are on it.
 #[inline(never)]
 fn far_end<C: Searched, const INSIDE: bool>(bytes: &[u8]) -> usize
     requires long { HALF ≤ length bytes.now }
@@ -521,7 +524,7 @@ fn last_one_by_one<C: Class, const INSIDE: bool>(
     None
 }
 
-/// Where the bytes on the side at the end start.
+/// The position at which the bytes on the side at the end start.
 #[inline(always)]
 fn near_start<C: Searched, const INSIDE: bool>(bytes: &[u8]) -> usize
     ensures { StartsRun C.is INSIDE bytes.now (length bytes.now) result }
@@ -542,7 +545,7 @@ fn near_start<C: Searched, const INSIDE: bool>(bytes: &[u8]) -> usize
     }
 }
 
-/// Where the bytes on the side at the end start, if the last 16 are on it.
+/// The position at which the bytes on the side at the end start, if the last 16 are on it.
 #[inline(never)]
 fn far_start<C: Searched, const INSIDE: bool>(bytes: &[u8]) -> usize
     requires long { HALF ≤ length bytes.now }
