@@ -1,17 +1,17 @@
 -- How the pieces of a text at another text break at the front.
-use Rattle.std.proofs.Common.{◌≡◌, ◌≢◌, ℕ, zero, suc, ◌+◌, ◌<◌, ◌≤◌, true, false, List, [], ◌∷◌}
+use Rattle.std.proofs.Common.{◌≡◌, ◌≢◌, ℕ, zero, suc, ◌+◌, ◌<◌, ◌≤◌, false, List, [], ◌∷◌}
 use Rattle.std.proofs.Common.{length, take, drop, refl, sym, ap, subst, ◌∙◌, arith, inl, inr}
-use Rattle.std.proofs.Common.{get_or, None, Some}
+use Rattle.std.proofs.Common.{None, Some}
 use Rattle.std.specs.List.{onto_first}
 use Rattle.std.proofs.lemmas.Bool.{cases_Bool, cond_both, cond-true, cond-false}
-use Rattle.std.proofs.lemmas.Grind.{common_steps}
-use Rattle.std.proofs.lemmas.List.{get_or-take, length-take-le}
+use Rattle.std.proofs.lemmas.List.{get_or-take, length-map, length-take-le}
 use Rattle.memchr.specs.Find.{FindsNeedle, OccursAt, occurs_at}
 use Rattle.memchr.proofs.lemmas.MatchLemmas.{OccursAt-from_part, OccursAt-part, OccursAt-true}
 use Rattle.memchr.proofs.lemmas.MatchLemmas.{occurs_at-true}
-use Rattle.ascii.specs.ByText.{IsFreeOf, piece_spans_at, pieces_after, pieces_at}
-use Rattle.ascii.specs.Spans.{WithStart, with_starts}
-use Rattle.ascii.proofs.SpansLemmas.{length-with_starts}
+use Rattle.ascii.specs.ByText.{IsFreeOf, match_spans_at, match_spans_between, matches_at}
+use Rattle.ascii.specs.ByText.{matches_between, piece_spans_at, pieces_after, pieces_at}
+use Rattle.ascii.specs.Spans.{WithStart, after_piece, items_of, with_starts}
+use Rattle.ascii.proofs.SpansLemmas.{items-with_starts, length-with_starts}
 
 module _ (c : ℕ) (t needle : List ℕ) (k : ℕ) where
   later : OccursAt (c ∷ t) needle (suc k) → OccursAt t needle k
@@ -78,15 +78,15 @@ module _ (first : ℕ) (others : List ℕ) where
       (λ ps. (0 < length ps) × (length ps ≤ length (c ∷ t) + 1))
       (λ is. let many = pieces_many (length others) t in (omega arith, omega (arith, many.1)))
       (λ is. let many = pieces_many zero t in
-          let same = length-onto_first c (pieces_after first others zero t) many.0 in
-          (omega (arith, many.0, same), omega (arith, many.1, same)))
+      let same = length-onto_first c (pieces_after first others zero t) many.0 in
+      (omega (arith, many.0, same), omega (arith, many.1, same)))
 
 pub piece_spans_at_fit : (start : ℕ) (needle t : List ℕ)
     → length (piece_spans_at needle (record { start = start; item = t })) ≤ length t + 1
 piece_spans_at_fit start [] t = omega arith
 piece_spans_at_fit start (n ∷ ns) t = omega (
   arith,
-  length-with_starts (λ piece. length piece + length (n ∷ ns)) start (pieces_after n ns 0 t),
+  length-with_starts (after_piece (length (n ∷ ns))) start (pieces_after n ns 0 t),
   (pieces_many n ns 0 t).1,
 )
 
@@ -112,10 +112,10 @@ module _ (start : ℕ) (t needle : List ℕ) where
       go (n ∷ ns) some finds =
           let fits = finds.1.fits in
           let size : length (take k t) ≡ k = length-take-le k t (omega (arith, fits)) in
-          ap (with_starts (λ piece. length piece + length (n ∷ ns)) start)
+          ap (with_starts (after_piece (length (n ∷ ns))) start)
           (pieces_found n ns t k finds.1 (λ j below. finds.0.before j (omega arith) below))
           ∙ ap (λ m. record { start = start; item = take k t }
-          ∷ with_starts (λ piece. length piece + length (n ∷ ns)) (start + (m + length (n ∷ ns)))
+          ∷ with_starts (after_piece (length (n ∷ ns))) (start + (m + length (n ∷ ns)))
           (pieces_after n ns 0 (drop (k + length (n ∷ ns)) t))) size
 
   pub piece_spans_at_none : FindsNeedle t needle 0 None
@@ -127,7 +127,7 @@ module _ (start : ℕ) (t needle : List ℕ) where
           → piece_spans_at needle (record { start = start; item = t })
           ≡ record { start = start; item = t } ∷ []
       go [] finds = refl
-      go (n ∷ ns) finds = ap (with_starts (λ piece. length piece + length (n ∷ ns)) start)
+      go (n ∷ ns) finds = ap (with_starts (after_piece (length (n ∷ ns))) start)
           (pieces_absent n ns t (nowhere t (n ∷ ns) finds))
 
   pub piece_spans_at_empty : needle ≡ []
@@ -154,3 +154,95 @@ module _ (start : ℕ) (t needle : List ℕ) where
 
   pub free_nowhere : FindsNeedle t needle 0 None → IsFreeOf needle t
   free_nowhere finds some = nowhere t needle finds
+
+-- ---- the occurrences: one between each two pieces
+
+-- there is at least one piece
+piece_spans_at_some : (start : ℕ) (needle t : List ℕ)
+    → 0 < length (piece_spans_at needle (record { start = start; item = t }))
+piece_spans_at_some start [] t = omega arith
+piece_spans_at_some start (n ∷ ns) t = omega (
+  arith,
+  length-with_starts (after_piece (length (n ∷ ns))) start (pieces_after n ns 0 t),
+  (pieces_many n ns 0 t).0,
+)
+
+-- the first of them comes after the first piece
+between_first : (needle : List ℕ) (piece : WithStart (List ℕ)) (pieces : List (WithStart (List ℕ)))
+    → 0 < length pieces → match_spans_between needle (piece ∷ pieces)
+    ≡ record { start = piece.start + length piece.item; item = needle }
+    ∷ match_spans_between needle pieces
+between_first needle piece [] some = absurd (omega (arith, some))
+between_first needle piece (next ∷ pieces) some = refl
+
+between_items : (n : List ℕ) (pieces : List (WithStart (List ℕ)))
+    → items_of (match_spans_between n pieces) ≡ matches_between n (items_of pieces)
+between_items n [] = refl
+between_items n (piece ∷ []) = refl
+between_items n (piece ∷ next ∷ pieces) =
+    ap (λ others. n ∷ others) (between_items n (next ∷ pieces))
+
+between_count : (needle : List ℕ) (pieces : List (WithStart (List ℕ)))
+    → length (match_spans_between needle pieces) ≤ length pieces
+between_count needle [] = omega arith
+between_count needle (piece ∷ []) = omega arith
+between_count needle (piece ∷ next ∷ pieces) = omega (arith, between_count needle (next ∷ pieces))
+
+module _ (start : ℕ) (needle t : List ℕ) where
+  pub matches_of_spans :
+      items_of (match_spans_at needle (record { start = start; item = t })) ≡ matches_at needle t
+  matches_of_spans = between_items needle (piece_spans_at needle (record { start = start; item = t }))
+      ∙ ap (matches_between needle)
+      (items-with_starts (after_piece (length needle)) start (pieces_at needle t))
+
+  pub match_spans_fit :
+      length (match_spans_at needle (record { start = start; item = t })) ≤ length t + 1
+  match_spans_fit = omega (
+    arith,
+    between_count needle (piece_spans_at needle (record { start = start; item = t })),
+    piece_spans_at_fit start needle t,
+  )
+
+  pub pieces_of_spans_at :
+      items_of (piece_spans_at needle (record { start = start; item = t })) ≡ pieces_at needle t
+  pieces_of_spans_at = items-with_starts (after_piece (length needle)) start (pieces_at needle t)
+
+  pub match_spans_at_first : (k : ℕ) → needle ≢ [] → FindsNeedle t needle 0 (Some k)
+      → match_spans_at needle (record { start = start; item = t })
+      ≡ record { start = start + k; item = needle } ∷ match_spans_at needle
+      (record { start = start + (k + length needle); item = drop (k + length needle) t })
+  match_spans_at_first k some finds =
+      let fits = finds.1.fits in
+      let size : length (take k t) ≡ k = length-take-le k t (omega (arith, fits)) in
+      let others : List (WithStart (List ℕ)) = piece_spans_at needle
+      (record { start = start + (k + length needle); item = drop (k + length needle) t }) in
+      ap (match_spans_between needle) (piece_spans_at_first start t needle k some finds)
+      ∙ (between_first needle (record { start = start; item = take k t }) others
+      (piece_spans_at_some (start + (k + length needle)) needle (drop (k + length needle) t))
+      ∙ ap (λ m. record { start = start + m; item = needle } ∷ match_spans_between needle others)
+      size)
+
+  pub match_spans_at_none : FindsNeedle t needle 0 None
+      → match_spans_at needle (record { start = start; item = t }) ≡ []
+  match_spans_at_none finds =
+      ap (match_spans_between needle) (piece_spans_at_none start t needle finds)
+
+  pub match_spans_at_empty : needle ≡ []
+      → match_spans_at needle (record { start = start; item = t }) ≡ []
+  match_spans_at_empty none =
+      ap (match_spans_between needle) (piece_spans_at_empty start t needle none)
+
+pub pieces_at_fit : (needle t : List ℕ) → length (pieces_at needle t) ≤ length t + 1
+pieces_at_fit needle t = omega (
+  arith,
+  length-with_starts (after_piece (length needle)) 0 (pieces_at needle t),
+  piece_spans_at_fit 0 needle t,
+)
+
+pub matches_at_fit : (needle t : List ℕ) → length (matches_at needle t) ≤ length t + 1
+matches_at_fit needle t = omega (
+  arith,
+  ap length (matches_of_spans 0 needle t),
+  length-map (match_spans_at needle (record { start = 0; item = t })) (λ span. span.item),
+  match_spans_fit 0 needle t,
+)

@@ -2,7 +2,7 @@
 -- caller as `#[tactic(auto, using(ascii::proofs::CallerLemmas::last_of_pieces))]`.
 use Rattle.std.proofs.Common.{◌≡◌, ◌≢◌, ℕ, ◌+◌, ◌≤◌, List, [], ◌∷◌, ◌++◌, length, append-nil, refl}
 use Rattle.std.proofs.Common.{arith, append_assoc, ap, ◌∙◌, Result, IsOk, OnOk, ◌-◌, ◌<◌, Option}
-use Rattle.std.proofs.Common.{Some, get_or, length-append, map, sym, subst, Bool, true, false, cond}
+use Rattle.std.proofs.Common.{None, Some, get_or, length-append, map, sym, subst, Bool, true, false, cond}
 use Rattle.std.specs.Iterator.{YieldsFirstBy}
 use Rattle.std.specs.Fn.{Called, Mut}
 use Rattle.std.specs.List.{All, Contains, filter, flat_map, join_with_byte, slice_get}
@@ -15,11 +15,14 @@ use Rattle.std.proofs.lemmas.List.Elements.{All-cons, All-nil, All-get_or, All-h
 use Rattle.std.proofs.lemmas.List.Elements.{filter_from_retain}
 use Rattle.ascii_base.specs.Code.{code_of, code_text}
 use Rattle.ascii_base.specs.declared.ascii_char.AsciiChar.{AsciiChar}
+use Rattle.ascii.specs.declared.ascii_str.AsciiStr.{AsciiStr}
 use Rattle.ascii.specs.Chunks.{ChunksOf, Run}
+use Rattle.ascii.specs.Cuts.{IsRestOf}
 use Rattle.ascii.specs.Extend.{Collects, Extends}
 use Rattle.ascii.specs.Lines.{Line, LinesOf, bodies, line_text}
 use Rattle.ascii.specs.Pieces.{Pieces, Remaining}
-use Rattle.ascii.specs.Spans.{LineSpansOf, PieceSpans, WithStart, items_of, line_size, piece_size}
+use Rattle.ascii.specs.Spans.{IsRemainderOfPieceSpans, LineSpansOf, PieceSpans, WithStart}
+use Rattle.ascii.specs.Spans.{items_of, line_size, piece_size}
 use Rattle.ascii.specs.Retain.{RetainsChars}
 use Rattle.ascii.specs.Spans.{with_starts}
 use Rattle.ascii.specs.Steps.{DropsFirst, StepsPiece, YieldsFirstAnd}
@@ -29,7 +32,7 @@ use Rattle.ascii.proofs.ExtendLemmas.{all_from_extends, ok_from_extends, pieces_
 use Rattle.ascii.proofs.ExtendLemmas.{singles}
 use Rattle.ascii.proofs.PiecesLemmas.{HasNo-from_absent, Pieces-only, Pieces-pieces_of}
 use Rattle.ascii.proofs.PiecesLemmas.{pieces_of-free, pieces_of-split_at_last}
-use Rattle.ascii.proofs.SpansLemmas.{room, room-lines, room-pieces, with_starts-last}
+use Rattle.ascii.proofs.SpansLemmas.{piece_spans_found, room, room-lines, room-pieces, with_starts-last}
 use Rattle.ascii.proofs.StepsLemmas.{road_from_first_and}
 use Rattle.std.specs.Option.{IfSome, IsSomeAnd}
 use Rattle.std.proofs.Math.Seq.{get_or-append_seam, take-append_seam}
@@ -37,7 +40,7 @@ use Rattle.std.proofs.lemmas.Bool.Decides.{nat_tests}
 use Rattle.std.proofs.lemmas.Option.{slice_get-get_or}
 use Rattle.ascii_base.specs.Case.{lower_image, upper_image}
 use Rattle.ascii.specs.First.{IsFirstAt}
-use Rattle.ascii.specs.Found.{pieces_of}
+use Rattle.ascii.specs.Found.{piece_spans, pieces_of}
 use Rattle.ascii.specs.Search.{IsCutAtLast}
 use Rattle.ascii.specs.Trim.{IsSpan, Trims, TrimsEnd}
 
@@ -118,6 +121,17 @@ last_of_line_spans start text front last spans whole left =
       ),
       last_of_lines text front last.item items (rw map_push at whole.lines) left.lines,
     )
+
+-- ---- what remains of a split with starts
+
+-- the pieces of the remainder, from its start, are the remaining ones
+pub remainder_of_piece_spans : (left : Remaining ℕ (WithStart (List ℕ)))
+    (result : Option (ℕ × AsciiStr)) → IsRestOf piece_spans left result
+    → IsRemainderOfPieceSpans left result
+remainder_of_piece_spans left None none = none
+remainder_of_piece_spans left (Some tail) is =
+    subst (PieceSpans tail.0 (text_of tail.1) left.on) is
+    (piece_spans_found left.on (record { start = tail.0; item = text_of tail.1 }))
 
 -- ---- where spans lie
 

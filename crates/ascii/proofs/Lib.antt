@@ -4,6 +4,7 @@ pub mod CallerLemmas
 pub mod ChunkLemmas
 pub mod CutLemmas
 pub mod DebugLemmas
+pub mod EndedLemmas
 pub mod EndsLemmas
 mod Examples
 pub mod ExtendLemmas
@@ -14,6 +15,7 @@ pub mod ListLemmas
 pub mod NumbersLemmas
 pub mod OrderLemmas
 pub mod PiecesLemmas
+pub mod PlacedLemmas
 pub mod ReplaceLemmas
 pub mod RestsLemmas
 pub mod RetainLemmas

@@ -13,7 +13,7 @@ use Rattle.std.proofs.lemmas.Option.{get_or_from_slice_get, slice_get-get_or}
 use Rattle.std.proofs.lemmas.Grind.{common_steps}
 use Rattle.ascii.specs.declared.iter.spans.Ending.{Ending}
 use Rattle.ascii.specs.declared.iter.spans.Ending.TheVariants.{Lf, CrLf, Absent}
-use Rattle.ascii.specs.Found.{HasNo, HasWholeLines, terminated_line, ends_in_cr, lines_of}
+use Rattle.ascii.specs.Found.{HasNo, IsEndedBy, terminated_line, ends_in_cr, lines_of}
 use Rattle.ascii.specs.Found.{lines_of_pieces, pieces_of}
 use Rattle.ascii.specs.Lines.{EndsInCr, Line, LinesOf, MayFollow, ending_text, line_text}
 use Rattle.ascii.proofs.ListLemmas.{append-some, front_is}
@@ -49,7 +49,7 @@ lines_of-split_at_first t a b is free =
     ∙ lines_of_pieces-append (a ∷ []) (pieces_of 10 b) (slice_split-some _ b)
 
 -- whole lines, and what comes after them
-lines_of-behind : (a b : List ℕ) → HasWholeLines a → lines_of (a ++ b) ≡ lines_of a ++ lines_of b
+lines_of-behind : (a b : List ℕ) → IsEndedBy 10 a → lines_of (a ++ b) ≡ lines_of a ++ lines_of b
 lines_of-behind a b (inl none) = rw none
 lines_of-behind a b (inr some) =
     rw (some.1, append_assoc, lines_of-joint some.0 b, lines_of-joint some.0 [], append-nil)
@@ -199,20 +199,20 @@ LinesOf-only t lines held = sym (lines_of-joined lines held.bodies held.endings 
 -- ---- the lines at either end
 
 -- the last line of a text that ends in LF comes after the LF before it
-pub lines_of-last_ended : (t a b : List ℕ) → t ≡ a ++ b → HasWholeLines a → HasNo 10 b
+pub lines_of-last_ended : (t a b : List ℕ) → t ≡ a ++ b → IsEndedBy 10 a → HasNo 10 b
     → lines_of (t ++ 10 ∷ []) ≡ lines_of a ++ terminated_line b ∷ []
 lines_of-last_ended t a b is whole free = rw (is, append_assoc) (
     lines_of-behind a (b ++ 10 ∷ []) whole
     ∙ ap (λ ls. lines_of a ++ ls) (lines_of-split_at_first _ b [] refl free))
 
 -- the last line of a text that does not
-pub lines_of-last_open : (t a b : List ℕ) → t ≡ a ++ b → HasWholeLines a → HasNo 10 b → b ≢ []
+pub lines_of-last_open : (t a b : List ℕ) → t ≡ a ++ b → IsEndedBy 10 a → HasNo 10 b → b ≢ []
     → lines_of t ≡ lines_of a ++ record { body = b; ending = Absent } ∷ []
 lines_of-last_open t a b is whole free some =
     rw (is, lines_of-behind a b whole, lines_of-open b free some)
 
 -- a text that ends in another code has no whole lines
-pub not_whole : (front : List ℕ) (code : ℕ) → code ≢ 10 → ¬ (HasWholeLines (front ++ code ∷ []))
+pub not_whole : (front : List ℕ) (code : ℕ) → code ≢ 10 → ¬ (IsEndedBy 10 (front ++ code ∷ []))
 not_whole front code other (inl none) = append-some front (code ∷ []) (λ is. cc) none
 not_whole front code other (inr some) = other (same_from_push front some.0 code 10 some.1).1
 

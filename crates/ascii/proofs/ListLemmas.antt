@@ -1,7 +1,8 @@
 -- Facts on lists alone.
 use Rattle.std.proofs.Common.{◌≡◌, ◌≢◌, ℕ, ◌+◌, ◌-◌, ◌<◌, ◌≤◌, List, [], ◌∷◌, ◌++◌, length, get_or}
-use Rattle.std.proofs.Common.{take, arith}
+use Rattle.std.proofs.Common.{take, arith, map, reverse, refl, sym, ap, ◌∙◌}
 use Rattle.std.proofs.lemmas.Grind.{common_steps}
+use Rattle.std.proofs.lemmas.List.{map_push, reverse-append}
 use Rattle.std.specs.List.{AllZip, slice_range}
 
 -- a byte of `&bytes[s..e]` is the byte of the source s positions later
@@ -18,6 +19,12 @@ length-slice_range bytes s e a b = grind (arith, common_steps)
 pub append-some : {X : Type 0} (xs ys : List X) → ys ≢ [] → xs ++ ys ≢ []
 append-some [] ys some = some
 append-some (x ∷ xs) ys some = λ none. cc
+
+-- what becomes of the items in reverse
+pub map-reverse : {A B : Type 0} (f : A → B) (xs : List A) → map f (reverse xs) ≡ reverse (map f xs)
+map-reverse f [] = refl
+map-reverse f (x ∷ xs) = ap (map f) (reverse-append (x ∷ []) xs) ∙ rw map_push
+    (ap (λ ys. ys ++ f x ∷ []) (map-reverse f xs) ∙ sym (reverse-append (f x ∷ []) (map f xs)))
 
 -- all but the last of two items and more
 pub front_is : {X : Type 0} (x y : X) (xs : List X)

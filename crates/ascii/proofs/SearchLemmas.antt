@@ -7,7 +7,7 @@ use Rattle.std.proofs.lemmas.List.{get_or-drop, get_or-take, length-take-le, tak
 use Rattle.std.proofs.lemmas.Grind.{common_steps}
 use Rattle.std.proofs.lemmas.List.Elements.{All-from_get_or}
 use Rattle.memchr.specs.Find.{IsFirstByte, IsLastByte, Nowhere, Passes, is_byte}
-use Rattle.ascii.specs.Found.{HasNo, HasWholeLines}
+use Rattle.ascii.specs.Found.{HasNo, IsEndedBy}
 
 module _ (on : ℕ) (codes : List ℕ) where
   pub free_of_last : IsLastByte (is_byte on) codes None → HasNo on codes
@@ -26,11 +26,11 @@ module _ (on : ℕ) (codes : List ℕ) where
         (h.0.after (place + 1 + k) (omega arith) (omega (arith, length-drop (place + 1) codes))))),
   )
 
--- the text up to an LF has whole lines
-pub whole_at : (codes : List ℕ) (place : ℕ) → place < length codes
-    → Passes (is_byte 10) codes place → HasWholeLines (take (place + 1) codes)
-whole_at codes place inside here =
-    inr (take place codes, let feed = eqb-true _ _ here in grind (arith, common_steps))
+-- the text up to and with an `on` ends in it
+pub ended_at : (on : ℕ) (codes : List ℕ) (place : ℕ) → place < length codes
+    → Passes (is_byte on) codes place → IsEndedBy on (take (place + 1) codes)
+ended_at on codes place inside here =
+    inr (take place codes, let is_on = eqb-true _ _ here in grind (arith, common_steps))
 
 -- a search of the first n codes, and then of those after them, is a search of all of them
 module _ (test : ℕ → Bool) (codes : List ℕ) (n : ℕ) (room : n ≤ length codes) where

@@ -1,11 +1,11 @@
 -- The pieces and the lines of a text with their starts, and how they break at either end.
 use Rattle.std.proofs.Common.{◌≡◌, ◌≢◌, ℕ, suc, ◌+◌, ◌^◌, ◌<◌, ◌≤◌, List, [], ◌∷◌, ◌++◌, length, append-nil}
-use Rattle.std.proofs.Common.{refl, sym, ap, ◌∙◌, subst, arith, length-append}
+use Rattle.std.proofs.Common.{reverse, refl, sym, ap, ◌∙◌, subst, arith, length-append}
 use Rattle.std.specs.List.{Contains, flat_map, join_with_byte}
 use Rattle.std.proofs.lemmas.List.Splits.{join_with_byte-slice_split}
 use Rattle.ascii.specs.declared.iter.cursor.Cursor.{Cursor}
 use Rattle.ascii.specs.declared.iter.spans.Ending.TheVariants.{Absent}
-use Rattle.ascii.specs.Found.{HasNo, HasWholeLines, IsSplitAfterLastLf, IsSplitAtFirst}
+use Rattle.ascii.specs.Found.{HasNo, IsEndedBy, IsSplitAfterLast, IsSplitAtFirst}
 use Rattle.ascii.specs.Found.{IsSplitAtLast}
 use Rattle.ascii.specs.Found.{line_spans, lines_of, part_in, piece_spans, pieces_of}
 use Rattle.ascii.specs.Found.{terminated_line}
@@ -14,6 +14,7 @@ use Rattle.ascii.specs.Pieces.{Pieces}
 use Rattle.ascii.specs.Spans.{IteratesPieceSpans, LineSpansOf, PieceSpans, WithStart, items_of, line_size, piece_size}
 use Rattle.ascii.specs.Spans.{with_starts}
 use Rattle.ascii.specs.View.{text_of}
+use Rattle.ascii.proofs.ListLemmas.{map-reverse}
 use Rattle.ascii.proofs.LinesLemmas.{LinesOf-lines_of, LinesOf-only, length-lines_of}
 use Rattle.ascii.proofs.LinesLemmas.{line_text-ended, lines_of-split_at_first, lines_of-last_ended}
 use Rattle.ascii.proofs.LinesLemmas.{lines_of-last_open, lines_of-open, lines_of-some, not_whole}
@@ -140,6 +141,14 @@ module _ (on : ℕ) (part : WithStart (List ℕ)) where
     fits = fits;
   }
 
+-- the pieces in reverse, without their starts
+pub reversed_pieces : (on start : ℕ) (t : List ℕ)
+    → items_of (reverse (piece_spans on (record { start = start; item = t })))
+    ≡ reverse (pieces_of on t)
+reversed_pieces on start t =
+    map-reverse (λ span. span.item) (piece_spans on (record { start = start; item = t }))
+    ∙ ap reverse (items-with_starts piece_size start (pieces_of on t))
+
 -- ---- lines
 
 -- lines take the room of the text
@@ -198,7 +207,7 @@ module _ (part : WithStart (List ℕ)) where
   -- the last line of a text that ends in LF, which is cut in front of that
   pub line_spans_last_ended : (front : Cursor) (cut : Cursor × Cursor) (last : WithStart Line)
       → part.item ≡ text_of front.view ++ 10 ∷ [] → front.start ≡ part.start
-      → IsSplitAfterLastLf (part_in front) cut
+      → IsSplitAfterLast 10 (part_in front) cut
       → last ≡ record { start = cut.1.start; item = terminated_line (text_of cut.1.view) }
       → line_spans part ≡ line_spans (part_in cut.0) ++ last ∷ []
   line_spans_last_ended front cut last ends starts is last_is = rw last_is
@@ -209,7 +218,7 @@ module _ (part : WithStart (List ℕ)) where
   -- the last line of a text that does not
   pub line_spans_last_open : (front : List ℕ) (code : ℕ) (cut : Cursor × Cursor)
       (last : WithStart Line) → part.item ≡ front ++ code ∷ [] → code ≢ 10
-      → IsSplitAfterLastLf part cut
+      → IsSplitAfterLast 10 part cut
       → last ≡ record {
         start = cut.1.start;
         item =
@@ -219,7 +228,7 @@ module _ (part : WithStart (List ℕ)) where
   line_spans_last_open front code cut last ends other is last_is =
       let a = text_of cut.0.view in
       let some : text_of cut.1.view ≢ [] = λ none. not_whole front code other
-      (subst HasWholeLines (sym (append-nil a) ∙ (ap (λ b. a ++ b) (sym none)
+      (subst (IsEndedBy 10) (sym (append-nil a) ∙ (ap (λ b. a ++ b) (sym none)
       ∙ (sym is.text ∙ ends))) is.whole) in
       rw last_is (line_spans_behind cut (record { body = text_of cut.1.view; ending = Absent })
       is.before is.behind

@@ -36,16 +36,3 @@ word_spans_by test part = filter (λ span. has_some span.item) (piece_spans_by t
 abbrev pub side_test : (ℕ → Bool) → Bool → ℕ → Bool
 side_test test true = test
 side_test test false = λ code. not (test code)
-
--- `None` if no items remain; otherwise a view whose items are the remaining ones
-abbrev pub IsRemainder : {C : Type 0} → (List ℕ → List (List ℕ)) → Remaining C (List ℕ)
-    → Option AsciiStr → Type 0
-IsRemainder items left result =
-    MatchOption result (left.items ≡ []) (λ view. items (text_of view) ≡ left.items)
-
--- `None` if no items remain; otherwise a start and a view whose items, from that start, are the
--- remaining ones
-abbrev pub IsSpanRemainder : {C : Type 0} → (WithStart (List ℕ) → List (WithStart (List ℕ)))
-    → Remaining C (WithStart (List ℕ)) → Option (ℕ × AsciiStr) → Type 0
-IsSpanRemainder items left result = MatchOption result (left.items ≡ [])
-    (λ tail. items (record { start = tail.0; item = text_of tail.1 }) ≡ left.items)

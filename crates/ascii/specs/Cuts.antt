@@ -41,3 +41,9 @@ abbrev pub IsRestOf : {C : Type 0} → (C → WithStart (List ℕ) → List (Wit
     → Remaining C (WithStart (List ℕ)) → Option (ℕ × AsciiStr) → Type 0
 IsRestOf items left result = MatchOption result (left.items ≡ [])
     (λ tail. items left.on (record { start = tail.0; item = text_of tail.1 }) ≡ left.items)
+
+-- `None` only if no items remain; otherwise a view whose items, by `list`, are the remaining ones
+abbrev pub IsRemainder : {C : Type 0} → (List ℕ → List (List ℕ)) → Remaining C (List ℕ)
+    → Option AsciiStr → Type 0
+IsRemainder list left result =
+    MatchOption result (left.items ≡ []) (λ view. list (text_of view) ≡ left.items)

@@ -91,17 +91,18 @@ IsSplitAtFirst on part cut = IsSplitAt on part cut × HasNo on (text_of cut.0.vi
 abbrev pub IsSplitAtLast : ℕ → WithStart (List ℕ) → Cursor × Cursor → Type 0
 IsSplitAtLast on part cut = IsSplitAt on part cut × HasNo on (text_of cut.1.view)
 
--- the text is empty or ends in LF
-abbrev pub HasWholeLines : List ℕ → Type 0
-HasWholeLines text = (text ≡ []) ⊎ ((line : List ℕ) × (text ≡ line ++ 10 ∷ []))
+-- the text is empty or ends in `on`
+abbrev pub IsEndedBy : ℕ → List ℕ → Type 0
+IsEndedBy on text = (text ≡ []) ⊎ ((front : List ℕ) × (text ≡ front ++ on ∷ []))
 
--- the cut of a part after its last LF, or at its start if it has none
-pub record IsSplitAfterLastLf (part : WithStart (List ℕ)) (cut : Cursor × Cursor) : Type 0 where
-  pub text : part.item ≡ text_of cut.0.view ++ text_of cut.1.view
-  pub before : cut.0.start ≡ part.start
-  pub behind : cut.1.start ≡ part.start + length (text_of cut.0.view)
-  pub whole : HasWholeLines (text_of cut.0.view)
-  pub free : HasNo 10 (text_of cut.1.view)
+-- the cut of a part after its last `on`, or at its start if it has none
+pub record IsSplitAfterLast (on : ℕ) (part : WithStart (List ℕ)) (cut : Cursor × Cursor) : Type 0
+  where
+    pub text : part.item ≡ text_of cut.0.view ++ text_of cut.1.view
+    pub before : cut.0.start ≡ part.start
+    pub behind : cut.1.start ≡ part.start + length (text_of cut.0.view)
+    pub whole : IsEndedBy on (text_of cut.0.view)
+    pub free : HasNo on (text_of cut.1.view)
 
 -- ---- walks
 

@@ -4,6 +4,7 @@ pub mod Chunks
 pub mod ConversionError
 pub mod Cow
 pub mod Cuts
+pub mod Ended
 pub mod Extend
 pub mod First
 pub mod Folded
@@ -12,6 +13,7 @@ pub mod Json
 pub mod Lines
 pub mod Numbers
 pub mod Pieces
+pub mod Placed
 pub mod Replace
 pub mod Retain
 pub mod Search

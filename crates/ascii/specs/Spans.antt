@@ -25,6 +25,10 @@ with_starts size start (item ∷ items) =
 abbrev pub piece_size : List ℕ → ℕ
 piece_size piece = length piece + 1
 
+-- the size of a piece and of what follows it up to the next one
+abbrev pub after_piece : ℕ → List ℕ → ℕ
+after_piece between piece = length piece + between
+
 -- the size of a line: the length of its body and its ending
 abbrev pub line_size : Line → ℕ
 line_size line = length (line_text line)

@@ -1,7 +1,6 @@
 -- The words of a text: its longest runs of codes outside a class.
-use Rattle.std.specs.Prelude.{◌≡◌, ◌≢◌, ℕ, ◌-◌, List, [], ◌∷◌, ◌++◌, All, IfSome, MatchOption}
-use Rattle.std.specs.Prelude.{Option, length, map, reverse, slice_get, true}
-use Rattle.std.specs.Iterator.Runs.{EveryRun}
+use Rattle.std.specs.Prelude.{◌≡◌, ◌≢◌, ℕ, List, [], ◌∷◌, ◌++◌, All, IfSome}
+use Rattle.std.specs.Prelude.{slice_get}
 use Rattle.ascii.specs.declared.ascii_str.AsciiStr.{AsciiStr}
 use Rattle.ascii.specs.View.{text_of}
 

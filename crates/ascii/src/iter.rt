@@ -21,10 +21,12 @@
 //! The iterators hold only views: they do not allocate, and a clone never fails. A contract sees an iterator as the
 //! list of items that it has yet to yield.
 
+mod backwards;
 mod by_class;
 mod by_text;
 mod chars;
 mod cursor;
+mod ended;
 mod items;
 mod lines;
 mod spans;
@@ -32,11 +34,15 @@ mod split;
 mod split_n;
 mod walks;
 
+pub use backwards::{Backwards, RSplit, RSplitSpans};
 pub use by_class::{
     AtClass, AtRuns, AtWords, RunSpans, Runs, SplitBy, SplitSpansBy, WordSpans, Words,
 };
-pub use by_text::{AtText, SplitSpansStr, SplitStr};
+pub use by_text::{AtMatches, AtText, MatchSpans, Matches, SplitSpansStr, SplitStr};
 pub use chars::{Chars, CharsRef};
+pub use ended::{
+    AtEnd, AtTerminator, SplitInclusive, SplitInclusiveSpans, SplitTerminator, SplitTerminatorSpans,
+};
 pub use items::{Cut, CutBack, Items, Spans};
 pub use lines::{LineSpans, Lines};
 pub use spans::{Ending, LineSpan, SplitSpan};

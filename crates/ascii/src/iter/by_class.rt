@@ -1,13 +1,13 @@
 //! The pieces of a view at the characters of a class, its words, which are the pieces that are not
 //! empty, and its runs of characters of a class.
 
-ghost use Rattle.std.specs.Prelude.{◌≡◌, IfSome};
+ghost use Rattle.std.specs.Prelude.{◌≡◌};
 ghost use Rattle.std.specs.List.{slice_split};
 ghost use Rattle.ascii_base.specs.Class.{IsWhitespace};
 ghost use Rattle.ascii_base.specs.Tests.{is_whitespace};
-ghost use Rattle.ascii.specs.ByClass.{IsOutside, IsRemainder, IsSpanRemainder, piece_spans_by};
-ghost use Rattle.ascii.specs.ByClass.{whole, word_spans_by, words_by};
-ghost use Rattle.ascii.specs.Spans.{EndFits};
+ghost use Rattle.ascii.specs.ByClass.{IsOutside, piece_spans_by, whole, word_spans_by, words_by};
+ghost use Rattle.ascii.specs.Cuts.{IsRemainder};
+ghost use Rattle.ascii.specs.Placed.{ArePlaced};
 ghost use Rattle.ascii.specs.Steps.{Iterates, LoopsBackOverItems, LoopsBackOverSpans};
 ghost use Rattle.ascii.specs.Steps.{LoopsOverItems, LoopsOverSpans};
 ghost use Rattle.ascii.specs.View.{text_of};
@@ -139,9 +139,7 @@ impl<'a> AsciiStr<'a> {
         ensures loops { LoopsOverItems result (λ _. IsOutside C.is) }
         ensures loops_back { LoopsBackOverItems result (λ _. IsOutside C.is) }
     {
-        Items {
-            spans: self.split_spans_by::<C>(),
-        }
+        self.items_at(AtClass { class: PhantomData })
     }
 
     /// Returns an iterator over the pieces of the view at each character of the class, from both
@@ -153,16 +151,11 @@ impl<'a> AsciiStr<'a> {
     ///     spans.next_back() // Some(SplitSpan { start: 4, text: "c" })
     pub fn split_spans_by<C: Searched>(self) -> SplitSpansBy<'a, C>
         ensures iterates { Iterates (piece_spans_by C.test (whole (text_of self.entry))) result }
+        ensures placed { ArePlaced 0 (text_of self.entry) result.items }
         ensures loops { LoopsOverSpans result (λ _. IsOutside C.is) }
         ensures loops_back { LoopsBackOverSpans result (λ _. IsOutside C.is) }
     {
-        Spans {
-            rest: Some(Cursor {
-                start: 0,
-                view: self,
-            }),
-            on: AtClass { class: PhantomData },
-        }
+        self.spans_at(AtClass { class: PhantomData }, 0)
     }
 
     /// Returns an iterator over the words of the view, from both ends: the longest runs of characters
@@ -178,9 +171,7 @@ impl<'a> AsciiStr<'a> {
         ensures loops { LoopsOverItems result (λ _. IsWord C.is) }
         ensures loops_back { LoopsBackOverItems result (λ _. IsWord C.is) }
     {
-        Items {
-            spans: self.word_spans::<C>(),
-        }
+        self.items_at(AtRuns { class: PhantomData })
     }
 
     /// Returns an iterator over the words of the view between whitespace, from both ends. There are
@@ -209,16 +200,11 @@ impl<'a> AsciiStr<'a> {
     ///     spans.next() // Some(SplitSpan { start: 1, text: "to" })
     pub fn word_spans<C: Searched>(self) -> WordSpans<'a, C>
         ensures iterates { Iterates (word_spans_by C.test (whole (text_of self.entry))) result }
+        ensures placed { ArePlaced 0 (text_of self.entry) result.items }
         ensures loops { LoopsOverSpans result (λ _. IsWord C.is) }
         ensures loops_back { LoopsBackOverSpans result (λ _. IsWord C.is) }
     {
-        Spans {
-            rest: Some(Cursor {
-                start: 0,
-                view: self,
-            }),
-            on: AtRuns { class: PhantomData },
-        }
+        self.spans_at(AtRuns { class: PhantomData }, 0)
     }
 
     /// Returns an iterator over the longest runs of characters of the class in the view, from both
@@ -234,9 +220,7 @@ impl<'a> AsciiStr<'a> {
         ensures loops { LoopsOverItems result (λ _. IsWord (λ code. ¬ (C.is code))) }
         ensures loops_back { LoopsBackOverItems result (λ _. IsWord (λ code. ¬ (C.is code))) }
     {
-        Items {
-            spans: self.run_spans::<C>(),
-        }
+        self.items_at(AtRuns { class: PhantomData })
     }
 
     /// Returns an iterator over the longest runs of characters of the class in the view, from both
@@ -249,31 +233,11 @@ impl<'a> AsciiStr<'a> {
     pub fn run_spans<C: Searched>(self) -> RunSpans<'a, C>
         ensures iterates { Iterates
             (word_spans_by (λ code. not (C.test code)) (whole (text_of self.entry))) result }
+        ensures placed { ArePlaced 0 (text_of self.entry) result.items }
         ensures loops { LoopsOverSpans result (λ _. IsWord (λ code. ¬ (C.is code))) }
         ensures loops_back { LoopsBackOverSpans result (λ _. IsWord (λ code. ¬ (C.is code))) }
     {
-        Spans {
-            rest: Some(Cursor {
-                start: 0,
-                view: self,
-            }),
-            on: AtRuns { class: PhantomData },
-        }
-    }
-}
-
-impl<'a, C: Searched> Spans<'a, AtClass<C>> {
-    /// Returns the part of the view whose pieces remain, with its start, or `None` if there are none
-    /// left. The iterator is unchanged. Constant time.
-    ///
-    ///     let mut spans = view("a b\tc").split_spans_by::<Blank>();
-    ///     spans.next() // Some(SplitSpan { start: 0, text: "a" })
-    ///     spans.remainder() // Some((2, "b\tc"))
-    pub fn remainder(&self) -> Option<(usize, AsciiStr<'a>)>
-        ensures remainder { IsSpanRemainder (piece_spans_by C.test) self.now result }
-        ensures fits { IfSome result (λ tail. EndFits tail.0 tail.1) }
-    {
-        self.rest()
+        self.spans_at(AtRuns { class: PhantomData }, 0)
     }
 }
 
@@ -287,23 +251,8 @@ impl<'a, C: Searched> Items<'a, AtClass<C>> {
     pub fn remainder(&self) -> Option<AsciiStr<'a>>
         ensures { IsRemainder (slice_split C.test) self.now result }
     {
-        let (_, view) = self.spans.rest()?;
+        let (_, view) = self.spans.remainder()?;
         Some(view)
-    }
-}
-
-impl<'a, C: Searched> Spans<'a, AtWords<C>> {
-    /// Returns the part of the view whose words remain, with its start. Returns `None` only if there are
-    /// none left. The iterator is unchanged. Constant time.
-    ///
-    ///     let mut spans = view("to be").word_spans::<Blank>();
-    ///     spans.next() // Some(SplitSpan { start: 0, text: "to" })
-    ///     spans.remainder() // Some((2, " be"))
-    pub fn remainder(&self) -> Option<(usize, AsciiStr<'a>)>
-        ensures remainder { IsSpanRemainder (word_spans_by C.test) self.now result }
-        ensures fits { IfSome result (λ tail. EndFits tail.0 tail.1) }
-    {
-        self.rest()
     }
 }
 
@@ -317,7 +266,7 @@ impl<'a, C: Searched> Items<'a, AtWords<C>> {
     pub fn remainder(&self) -> Option<AsciiStr<'a>>
         ensures { IsRemainder (words_by C.test) self.now result }
     {
-        let (_, view) = self.spans.rest()?;
+        let (_, view) = self.spans.remainder()?;
         Some(view)
     }
 
@@ -330,27 +279,7 @@ impl<'a, C: Searched> Items<'a, AtWords<C>> {
     pub fn as_str(&self) -> AsciiStr<'a>
         ensures { words_by C.test (text_of result) ≡ self.now.items }
     {
-        match self.remainder() {
-            Some(view) => view,
-            None => AsciiStr { bytes: &[] },
-        }
-    }
-}
-
-impl<'a, C: Searched> Spans<'a, AtRuns<C, true>> {
-    ghost use Rattle.std.specs.Prelude.{not};
-
-    /// Returns the part of the view whose runs remain, with its start. Returns `None` only if there are
-    /// none left. The iterator is unchanged. Constant time.
-    ///
-    ///     let mut spans = view("v1.20").run_spans::<Digit>();
-    ///     spans.next() // Some(SplitSpan { start: 1, text: "1" })
-    ///     spans.remainder() // Some((2, ".20"))
-    pub fn remainder(&self) -> Option<(usize, AsciiStr<'a>)>
-        ensures remainder { IsSpanRemainder (word_spans_by (λ code. not (C.test code))) self.now result }
-        ensures fits { IfSome result (λ tail. EndFits tail.0 tail.1) }
-    {
-        self.rest()
+        self.remainder().unwrap_or_default()
     }
 }
 
@@ -366,7 +295,7 @@ impl<'a, C: Searched> Items<'a, AtRuns<C, true>> {
     pub fn remainder(&self) -> Option<AsciiStr<'a>>
         ensures { IsRemainder (words_by (λ code. not (C.test code))) self.now result }
     {
-        let (_, view) = self.spans.rest()?;
+        let (_, view) = self.spans.remainder()?;
         Some(view)
     }
 
@@ -379,9 +308,6 @@ impl<'a, C: Searched> Items<'a, AtRuns<C, true>> {
     pub fn as_str(&self) -> AsciiStr<'a>
         ensures { words_by (λ code. not (C.test code)) (text_of result) ≡ self.now.items }
     {
-        match self.remainder() {
-            Some(view) => view,
-            None => AsciiStr { bytes: &[] },
-        }
+        self.remainder().unwrap_or_default()
     }
 }

@@ -1,8 +1,13 @@
-//! The pieces of a view at each occurrence of a text, from the front.
+//! The pieces of a view at each occurrence of a text, and the occurrences, from the front.
+//!
+//! The occurrences are found from the left, each after the end of the one before. An empty text occurs
+//! nowhere here: the view is its only piece, and there are no matches.
 
 ghost use Rattle.std.specs.Prelude.{◌≡◌};
 ghost use Rattle.ascii.specs.ByClass.{whole};
-ghost use Rattle.ascii.specs.ByText.{IsFreeOf, piece_spans_at, pieces_at};
+ghost use Rattle.ascii.specs.ByText.{IsFreeOf, match_spans_at, matches_at, piece_spans_at, pieces_at};
+ghost use Rattle.ascii.specs.Cuts.{IsRemainder};
+ghost use Rattle.ascii.specs.Placed.{ArePlaced};
 ghost use Rattle.ascii.specs.Steps.{Iterates, LoopsOverItems, LoopsOverSpans};
 ghost use Rattle.ascii.specs.View.{text_of};
 
@@ -14,7 +19,8 @@ use crate::iter::spans::SplitSpan;
 /// The cut at each occurrence of a text.
 #[derive(Clone, Copy, Drop)]
 pub struct AtText<'n> {
-    needle: AsciiStr<'n>,
+    /// The text at which to cut.
+    pub needle: AsciiStr<'n>,
 }
 
 impl<'n> Cut for AtText<'n> {
@@ -28,44 +34,140 @@ impl<'n> Cut for AtText<'n> {
             return Some((part.piece(), None));
         }
         match part.view.find(self.needle) {
-            Some(at) => Some((
-                part.to(at).piece(),
-                Some(part.from(at + self.needle.len())),
-            )),
+            Some(at) => Some((part.to(at).piece(), Some(part.from(at + self.needle.len())))),
             None => Some((part.piece(), None)),
         }
     }
 }
 
-/// An iterator over the pieces of a view at each occurrence of a text.
+/// The cut into the occurrences of a text.
+#[derive(Clone, Copy, Drop)]
+pub struct AtMatches<'n> {
+    /// The text that occurs.
+    pub needle: AsciiStr<'n>,
+}
+
+impl<'n> Cut for AtMatches<'n> {
+    ghost items = { λ at. match_spans_at (text_of at.needle) };
+
+    ghost is_item = { λ at item. item ≡ text_of at.needle };
+
+    #[inline(always)]
+    fn first<'a>(self, part: Cursor<'a>) -> Option<(SplitSpan<'a>, Option<Cursor<'a>>)> {
+        if self.needle.is_empty() {
+            return None;
+        }
+        let at = part.view.find(self.needle)?;
+        let found = part.from(at).to(self.needle.len());
+        Some((found.piece(), Some(part.from(at + self.needle.len()))))
+    }
+}
+
+/// An iterator over the pieces of a view at each occurrence of a text, from the front.
 pub type SplitStr<'a, 'n> = Items<'a, AtText<'n>>;
 
-/// An iterator over those pieces with their starts.
+/// An iterator over the pieces of a view at each occurrence of a text, with their starts, from the front.
 pub type SplitSpansStr<'a, 'n> = Spans<'a, AtText<'n>>;
 
+/// An iterator over the occurrences of a text in a view, from the front.
+pub type Matches<'a, 'n> = Items<'a, AtMatches<'n>>;
+
+/// An iterator over the occurrences of a text in a view, with their starts, from the front.
+pub type MatchSpans<'a, 'n> = Spans<'a, AtMatches<'n>>;
+
 impl<'a> AsciiStr<'a> {
-    /// Returns an iterator over the pieces of the view at each occurrence of `needle`.
+    /// Returns an iterator over the pieces of the view at each occurrence of `needle`, from the front.
+    /// There is at least one piece, and `needle` does not occur in any. If `needle` is empty, the view
+    /// is the only piece.
+    ///
+    /// Constant time; a full walk searches the view once. Does not allocate.
+    ///
+    ///     let mut pieces = view("one, two, three").split_str(view(", "));
+    ///     pieces.next() // Some("one")
+    ///     pieces.remainder() // Some("two, three")
+    ///     view("aaa").split_str(view("aa")).count() // 2
     pub fn split_str<'n>(self, needle: AsciiStr<'n>) -> SplitStr<'a, 'n>
         ensures iterates { Iterates (pieces_at (text_of needle.entry) (text_of self.entry)) result }
         ensures loops { LoopsOverItems result (λ at. IsFreeOf (text_of at.needle)) }
     {
-        Items {
-            spans: self.split_spans_str(needle),
-        }
+        self.items_at(AtText { needle })
     }
 
-    /// Returns an iterator over those pieces, each with its start.
+    /// Returns an iterator over the pieces of the view at each occurrence of `needle`, from the front,
+    /// each with the position in the view at which it starts. If `needle` is empty, the view is the
+    /// only piece.
+    ///
+    /// Constant time; a full walk searches the view once. Does not allocate.
+    ///
+    ///     let mut spans = view("one, two").split_spans_str(view(", "));
+    ///     spans.next() // Some(SplitSpan { start: 0, text: "one" })
+    ///     spans.next() // Some(SplitSpan { start: 5, text: "two" })
     pub fn split_spans_str<'n>(self, needle: AsciiStr<'n>) -> SplitSpansStr<'a, 'n>
-        ensures iterates
-            { Iterates (piece_spans_at (text_of needle.entry) (whole (text_of self.entry))) result }
+        ensures iterates { Iterates (piece_spans_at (text_of needle.entry) (whole (text_of self.entry))) result }
+        ensures placed { ArePlaced 0 (text_of self.entry) result.items }
         ensures loops { LoopsOverSpans result (λ at. IsFreeOf (text_of at.needle)) }
     {
-        Spans {
-            rest: Some(Cursor {
-                start: 0,
-                view: self,
-            }),
-            on: AtText { needle },
-        }
+        self.spans_at(AtText { needle }, 0)
+    }
+
+    /// Returns an iterator over the occurrences of `needle` in the view, from the front. Each is a part
+    /// of the view. There are none if `needle` is empty.
+    ///
+    /// Constant time; a full walk searches the view once. Does not allocate.
+    ///
+    ///     view("banana").matches(view("an")).count() // 2
+    ///     view("aaa").matches(view("aa")).count() // 1
+    pub fn matches<'n>(self, needle: AsciiStr<'n>) -> Matches<'a, 'n>
+        ensures iterates { Iterates (matches_at (text_of needle.entry) (text_of self.entry)) result }
+        ensures loops { LoopsOverItems result (λ at item. item ≡ text_of at.needle) }
+    {
+        self.items_at(AtMatches { needle })
+    }
+
+    /// Returns an iterator over the occurrences of `needle` in the view, from the front, each with the
+    /// position in the view at which it starts. There are none if `needle` is empty.
+    ///
+    /// Constant time; a full walk searches the view once. Does not allocate.
+    ///
+    ///     let mut spans = view("banana").match_spans(view("an"));
+    ///     spans.next() // Some(SplitSpan { start: 1, text: "an" })
+    ///     spans.next() // Some(SplitSpan { start: 3, text: "an" })
+    ///     spans.next() // None
+    pub fn match_spans<'n>(self, needle: AsciiStr<'n>) -> MatchSpans<'a, 'n>
+        ensures iterates { Iterates (match_spans_at (text_of needle.entry) (whole (text_of self.entry))) result }
+        ensures placed { ArePlaced 0 (text_of self.entry) result.items }
+        ensures loops { LoopsOverSpans result (λ at item. item ≡ text_of at.needle) }
+    {
+        self.spans_at(AtMatches { needle }, 0)
+    }
+}
+
+impl<'a, 'n> Items<'a, AtText<'n>> {
+    /// Returns the part of the view whose pieces remain, or `None` if there are none left. The iterator
+    /// is unchanged. Constant time.
+    ///
+    ///     let mut pieces = view("one, two, three").split_str(view(", "));
+    ///     pieces.next() // Some("one")
+    ///     pieces.remainder() // Some("two, three")
+    pub fn remainder(&self) -> Option<AsciiStr<'a>>
+        ensures { IsRemainder (pieces_at (text_of self.now.on.needle)) self.now result }
+    {
+        let (_, view) = self.spans.remainder()?;
+        Some(view)
+    }
+}
+
+impl<'a, 'n> Items<'a, AtMatches<'n>> {
+    /// Returns the part of the view whose occurrences remain: what follows the last one that was
+    /// yielded. There may be no occurrence in it. The iterator is unchanged. Constant time.
+    ///
+    ///     let mut matches = view("banana").matches(view("an"));
+    ///     matches.next() // Some("an")
+    ///     matches.remainder() // Some("ana")
+    pub fn remainder(&self) -> Option<AsciiStr<'a>>
+        ensures { IsRemainder (matches_at (text_of self.now.on.needle)) self.now result }
+    {
+        let (_, view) = self.spans.remainder()?;
+        Some(view)
     }
 }

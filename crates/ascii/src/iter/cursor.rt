@@ -48,7 +48,7 @@ fn find_first(on: u8, bytes: &[u8]) -> Option<usize>
 }
 
 impl<'a> Cursor<'a> {
-    ghost use Rattle.ascii.specs.Found.{HasNo, IsSplitAfterLastLf, IsSplitAtFirst};
+    ghost use Rattle.ascii.specs.Found.{HasNo, IsSplitAfterLast, IsSplitAtFirst};
     ghost use Rattle.ascii.specs.Found.{IsSplitAtLast, part_in};
     ghost use Rattle.ascii.specs.View.{text_of};
 
@@ -102,12 +102,12 @@ impl<'a> Cursor<'a> {
         Some((self.to(place), self.from(place + 1)))
     }
 
-    /// The text up to the last LF, and the text after it.
+    /// The text up to and with the last byte that is `on`, and the text after it.
     #[inline(always)]
-    pub(crate) fn split_after_last_lf(self) -> (Cursor<'a>, Cursor<'a>)
-        ensures { IsSplitAfterLastLf (part_in self.entry) result }
+    pub(crate) fn split_after_last(self, on: u8) -> (Cursor<'a>, Cursor<'a>)
+        ensures { IsSplitAfterLast on (part_in self.entry) result }
     {
-        match memrchr(b'\n', self.view.bytes) {
+        match memrchr(on, self.view.bytes) {
             Some(place) => (self.to(place + 1), self.from(place + 1)),
             None => (self.to(0), self),
         }

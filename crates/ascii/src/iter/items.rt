@@ -1,13 +1,20 @@
-//! The items of a text, cut from both ends: one iterator for each way to cut.
+//! The items of a text, cut off its ends: `Spans` and `Items` are the iterators over them, for every way to
+//! cut a text.
 //!
-//! A way to cut is a `Cut`. A contract sees an iterator as where it cuts, and the list of items that it
-//! has yet to yield.
+//! A way to cut is a `Cut`: it says what the items of a text are, and cuts off the first one. If it can also
+//! cut off the last one, it is a `CutBack`, and its iterators are double-ended. `Spans` yields the items with
+//! their starts, `Items` without them.
+//!
+//! A contract sees an iterator as where it cuts, `on`, and the list of items that it has yet to yield, `items`.
 
-ghost use Rattle.std.specs.Prelude.{⊤, ◌≡◌, ℕ, List, IfSome};
+ghost use Rattle.std.specs.Prelude.{⊤, ◌≡◌, ◌+◌, ◌≤◌, ℕ, List, IfSome, length};
 ghost use Rattle.std.specs.Iterator.{item_count};
+ghost use Rattle.ascii.specs.ByClass.{whole};
 ghost use Rattle.ascii.specs.Cuts.{CutsFirst, CutsLast, IsCut, IsRestOf};
-ghost use Rattle.ascii.specs.Spans.{EndFits, WithStart, piece_in};
-ghost use Rattle.ascii.specs.Steps.{StepsSpan, StepsText, YieldsFirstAnd, YieldsLastAnd};
+ghost use Rattle.ascii.specs.Spans.{EndFits, WithStart, items_of, piece_in};
+ghost use Rattle.ascii.specs.Steps.{LoopsBackOverItems, LoopsBackOverSpans, LoopsOverItems};
+ghost use Rattle.ascii.specs.Steps.{LoopsOverSpans, StepsSpan, StepsText, YieldsFirstAnd};
+ghost use Rattle.ascii.specs.Steps.{YieldsLastAnd};
 ghost use Rattle.ascii.specs.View.{text_of};
 
 use crate::ascii_str::AsciiStr;
@@ -117,9 +124,13 @@ impl<'a, C: Cut> FusedIterator for Spans<'a, C> {}
 
 impl<'a, C: Cut> Spans<'a, C> {
     /// Returns the part of the text whose items remain, with its start, or `None` if there are none
-    /// left. The iterator is unchanged.
-    pub fn rest(&self) -> Option<(usize, AsciiStr<'a>)>
-        ensures rest { IsRestOf C.items self.now result }
+    /// left. The iterator is unchanged. Constant time.
+    ///
+    ///     let mut spans = view("foo;bar").split_spans(AsciiChar::Semicolon);
+    ///     spans.next() // Some(SplitSpan { start: 0, text: "foo" })
+    ///     spans.remainder() // Some((4, "bar"))
+    pub fn remainder(&self) -> Option<(usize, AsciiStr<'a>)>
+        ensures remainder { IsRestOf C.items self.now result }
         ensures fits { IfSome result (λ tail. EndFits tail.0 tail.1) }
     {
         let rest = self.rest?;
@@ -190,3 +201,37 @@ impl<'a, C: CutBack> DoubleEndedIterator for Items<'a, C> {
 }
 
 impl<'a, C: Cut> FusedIterator for Items<'a, C> {}
+
+impl<'a> AsciiStr<'a> {
+    /// An iterator over the items of the view, each with its start, counted from `offset`.
+    #[inline(always)]
+    pub(crate) fn spans_at<C: Cut>(self, on: C, offset: usize) -> Spans<'a, C>
+        requires { offset + length (text_of self) ≤ usize.MAX }
+        ensures on { result.on ≡ on }
+        ensures items { result.items
+            ≡ C.items on (record { start = offset; item = text_of self.entry }) }
+        ensures loops { LoopsOverSpans result C.is_item }
+        ensures loops_back { LoopsBackOverSpans result C.is_item }
+    {
+        Spans {
+            rest: Some(Cursor {
+                start: offset,
+                view: self,
+            }),
+            on,
+        }
+    }
+
+    /// An iterator over the items of the view.
+    #[inline(always)]
+    pub(crate) fn items_at<C: Cut>(self, on: C) -> Items<'a, C>
+        ensures on { result.on ≡ on }
+        ensures items { result.items ≡ items_of (C.items on (whole (text_of self.entry))) }
+        ensures loops { LoopsOverItems result C.is_item }
+        ensures loops_back { LoopsBackOverItems result C.is_item }
+    {
+        Items {
+            spans: self.spans_at(on, 0),
+        }
+    }
+}

@@ -4,6 +4,7 @@ ghost use Rattle.std.specs.Prelude.{⊤, ◌≡◌, ◌+◌, ◌≤◌, ◌∷�
 ghost use Rattle.std.specs.Iterator.{item_count};
 ghost use Rattle.ascii.specs.Found.{terminated_line, line_spans, part_in};
 ghost use Rattle.ascii.specs.Lines.{IsRemainderOfLines, IteratesLines, bodies};
+ghost use Rattle.ascii.specs.Placed.{ArePlacedLines};
 ghost use Rattle.ascii.specs.Spans.{EndFits, IsRemainderOfLineSpans, IteratesLineSpans, line_in};
 ghost use Rattle.ascii.specs.Steps.{DropsFirst, DropsFirstSpan, DropsLast, DropsLastSpan};
 ghost use Rattle.ascii.specs.Steps.{LoopsBackOverLineSpans, LoopsBackOverLines, LoopsOverLineSpans};
@@ -83,10 +84,10 @@ impl<'a> Cursor<'a> {
     {
         let (last, front) = self.view.bytes.split_last()?;
         if *last == b'\n' {
-            let (others, line) = self.to(front.len()).split_after_last_lf();
+            let (others, line) = self.to(front.len()).split_after_last(b'\n');
             Some((line.terminated_line(), others))
         } else {
-            let (others, line) = self.split_after_last_lf();
+            let (others, line) = self.split_after_last(b'\n');
             Some((line.unterminated_line(), others))
         }
     }
@@ -294,6 +295,7 @@ impl<'a> AsciiStr<'a> {
     ///     spans.next() // Some(LineSpan { start: 3, text: "y", ending: Absent })
     pub fn line_spans(self) -> LineSpans<'a>
         ensures iterates { IteratesLineSpans 0 (text_of self.entry) result }
+        ensures placed { ArePlacedLines 0 (text_of self.entry) result }
         ensures loops { LoopsOverLineSpans }
         ensures loops_back { LoopsBackOverLineSpans }
     {
@@ -309,6 +311,7 @@ impl<'a> AsciiStr<'a> {
     pub fn line_spans_from(self, offset: usize) -> LineSpans<'a>
         requires { offset + length (text_of self) ≤ usize.MAX }
         ensures iterates { IteratesLineSpans offset (text_of self.entry) result }
+        ensures placed { ArePlacedLines offset (text_of self.entry) result }
         ensures loops { LoopsOverLineSpans }
         ensures loops_back { LoopsBackOverLineSpans }
     {

@@ -1,10 +1,11 @@
 //! The pieces of a view between separators, with and without their starts.
 
-ghost use Rattle.std.specs.Prelude.{◌≡◌, ◌+◌, ◌≤◌, IfSome, length};
+ghost use Rattle.std.specs.Prelude.{◌≡◌, ◌+◌, ◌≤◌, length};
 ghost use Rattle.ascii_base.specs.Code.{code_of};
 ghost use Rattle.ascii.specs.Found.{part_in, piece_spans};
 ghost use Rattle.ascii.specs.Pieces.{IsRemainderOfPieces, IteratesPieces};
-ghost use Rattle.ascii.specs.Spans.{EndFits, IsRemainderOfPieceSpans, IteratesPieceSpans, piece_in};
+ghost use Rattle.ascii.specs.Placed.{ArePlaced};
+ghost use Rattle.ascii.specs.Spans.{EndFits, IteratesPieceSpans, piece_in};
 ghost use Rattle.ascii.specs.Steps.{IsFree, LoopsBackOverPieceSpans, LoopsBackOverPieces};
 ghost use Rattle.ascii.specs.Steps.{LoopsOverPieceSpans, LoopsOverPieces};
 ghost use Rattle.ascii.specs.View.{text_of};
@@ -30,6 +31,16 @@ impl Model for AtChar {
     ghost view = { λ at. at.code };
 
     ghost inverse = { λ code. record { code = code } };
+}
+
+impl AtChar {
+    /// Returns the cut at each `on`.
+    #[inline(always)]
+    pub(crate) fn new(on: AsciiChar) -> AtChar
+        ensures { result ≡ code_of on }
+    {
+        AtChar { code: on.as_byte() }
+    }
 }
 
 impl Cut for AtChar {
@@ -75,22 +86,6 @@ pub type SplitSpans<'a> = Spans<'a, AtChar>;
 
 /// An iterator over the pieces of a view between separators, from both ends.
 pub type Split<'a> = Items<'a, AtChar>;
-
-impl<'a> Spans<'a, AtChar> {
-    /// Returns the remaining pieces joined by the separator, with the start of the first one, or
-    /// `None` if there are none left. The iterator is unchanged. Constant time.
-    ///
-    ///     let mut spans = view("foo;bar").split_spans(AsciiChar::Semicolon);
-    ///     spans.next() // Some(SplitSpan { start: 0, text: "foo" })
-    ///     spans.remainder() // Some((4, "bar"))
-    pub fn remainder(&self) -> Option<(usize, AsciiStr<'a>)>
-        ensures remainder { IsRemainderOfPieceSpans self.now result }
-        ensures fits { IfSome result (λ tail. EndFits tail.0 tail.1) }
-    {
-        let rest = self.rest?;
-        Some((rest.start, rest.view))
-    }
-}
 
 impl<'a> Items<'a, AtChar> {
     /// Returns the remaining pieces joined by the separator, or `None` if there are none left. The
@@ -138,6 +133,7 @@ impl<'a> AsciiStr<'a> {
     ///     spans.next_back() // Some(SplitSpan { start: 4, text: "bar" })
     pub fn split_spans(self, on: AsciiChar) -> SplitSpans<'a>
         ensures iterates { IteratesPieceSpans 0 (text_of self.entry) (code_of on) result }
+        ensures placed { ArePlaced 0 (text_of self.entry) result.items }
         ensures loops { LoopsOverPieceSpans }
         ensures loops_back { LoopsBackOverPieceSpans }
     {
@@ -154,6 +150,7 @@ impl<'a> AsciiStr<'a> {
     pub fn split_spans_from(self, on: AsciiChar, offset: usize) -> SplitSpans<'a>
         requires { offset + length (text_of self) ≤ usize.MAX }
         ensures iterates { IteratesPieceSpans offset (text_of self.entry) (code_of on) result }
+        ensures placed { ArePlaced offset (text_of self.entry) result.items }
         ensures loops { LoopsOverPieceSpans }
         ensures loops_back { LoopsBackOverPieceSpans }
     {
@@ -162,7 +159,7 @@ impl<'a> AsciiStr<'a> {
                 start: offset,
                 view: self,
             }),
-            on: AtChar { code: on.as_byte() },
+            on: AtChar::new(on),
         }
     }
 }

@@ -8,4 +8,4 @@ pub returns : goal.returns
 returns g c =
     let found = c.in_ok-view in
     sym (words_of_spans g.C.Class.test found.field-0-0 (text_of found.view))
-    ∙ (ap items_of found.ensures.rest ∙ ap (λ left. left.items) c.self.view_is)
+    ∙ (ap items_of found.ensures.remainder ∙ ap (λ left. left.items) c.self.view_is)

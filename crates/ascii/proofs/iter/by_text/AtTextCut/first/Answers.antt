@@ -1,4 +1,4 @@
-use Rattle.std.proofs.Common.{ap, subst, sym, ◌∙◌, rules, false}
+use Rattle.std.proofs.Common.{ap, subst, sym, ◌∙◌}
 use Rattle.std.proofs.lemmas.Bool.{false≢true}
 use Rattle.ascii.specs.ByText.{IsFreeOf}
 use Rattle.ascii.specs.View.{text_of}
@@ -6,8 +6,14 @@ use Rattle.ascii.proofs.ByTextLemmas.{free_before, free_nowhere, piece_spans_at_
 use Rattle.ascii.proofs.iter.by_text.AtTextCut.first.Goals as goal
 
 pub returns-in-Some-clause-first : goal.returns-in-Some-clause-first
-returns-in-Some-clause-first c = rw (c.piece-in-Some.ensures.piece, c.to.ensures.start,
-    c.to.ensures.text, c.from.ensures.start, c.from.ensures.text, c.len.ensures)
+returns-in-Some-clause-first c = rw (
+  c.piece-in-Some.ensures.piece,
+  c.to.ensures.start,
+  c.to.ensures.text,
+  c.from.ensures.start,
+  c.from.ensures.text,
+  c.len.ensures,
+)
     (piece_spans_at_first c.args.part.start (text_of c.args.part.view) (text_of c.args.self.needle)
     c.in-Some.at (λ none. false≢true (c.if-is_empty.ensures.1 none)) c.in-Some.ensures)
 

@@ -1,4 +1,3 @@
-use Rattle.std.proofs.Common.{refl}
 use Rattle.ascii.specs.Found.{part_in}
 use Rattle.ascii.proofs.SpansLemmas.{piece_spans_first, piece_spans_free}
 use Rattle.ascii.proofs.iter.split.AtCharCut.first.Goals as goal

@@ -1,8 +1,8 @@
 use Rattle.std.proofs.Common.{◌+◌, inl, length, arith, ap}
 use Rattle.std.proofs.lemmas.List.{take-append-drop, length-take}
 use Rattle.ascii.specs.View.{text_of}
-use Rattle.ascii.proofs.SearchLemmas.{cut_at_last, free_of_last, whole_at}
-use Rattle.ascii.proofs.iter.cursor.Cursor.split_after_last_lf.Goals as goal
+use Rattle.ascii.proofs.SearchLemmas.{cut_at_last, free_of_last, ended_at}
+use Rattle.ascii.proofs.iter.cursor.Cursor.split_after_last.Goals as goal
 
 pub returns-in-Some : goal.returns-in-Some
 returns-in-Some c =
@@ -18,8 +18,8 @@ returns-in-Some c =
         ap length c.to.ensures.text,
         length-take (place + 1) text,
       );
-      whole = rw c.to.ensures.text (whole_at text place found.0.high found.1);
-      free = rw c.from.ensures.text (cut_at_last 10 text place found).1;
+      whole = rw c.to.ensures.text (ended_at c.args.on text place found.0.high found.1);
+      free = rw c.from.ensures.text (cut_at_last c.args.on text place found).1;
     }
 
 pub returns-in-None : goal.returns-in-None
@@ -28,5 +28,5 @@ returns-in-None c = record {
   before = c.to-in-None.ensures.start;
   behind = omega (arith, ap length c.to-in-None.ensures.text);
   whole = inl c.to-in-None.ensures.text;
-  free = free_of_last 10 (text_of c.args.self.view) c.in-None.ensures;
+  free = free_of_last c.args.on (text_of c.args.self.view) c.in-None.ensures;
 }

@@ -1,0 +1,106 @@
+//! The items of a view in reverse, from both ends.
+
+ghost use Rattle.std.specs.Prelude.{reverse};
+ghost use Rattle.ascii_base.specs.Code.{code_of};
+ghost use Rattle.ascii.specs.ByClass.{whole};
+ghost use Rattle.ascii.specs.Cuts.{IsRemainder};
+ghost use Rattle.ascii.specs.Found.{piece_spans, pieces_of};
+ghost use Rattle.ascii.specs.Placed.{ArePlaced};
+ghost use Rattle.ascii.specs.Steps.{IsFree, Iterates, LoopsBackOverItems, LoopsBackOverSpans};
+ghost use Rattle.ascii.specs.Steps.{LoopsOverItems, LoopsOverSpans};
+ghost use Rattle.ascii.specs.View.{text_of};
+
+use crate::ascii_str::AsciiStr;
+use crate::iter::cursor::Cursor;
+use crate::iter::items::{Cut, CutBack, Items, Spans};
+use crate::iter::spans::SplitSpan;
+use crate::iter::split::AtChar;
+use ascii_base::ascii_char::AsciiChar;
+
+/// A cut from the other end: its items are those of the cut, in reverse.
+#[derive(Clone, Copy, Drop)]
+pub struct Backwards<C> {
+    /// The cut whose items they are.
+    pub cut: C,
+}
+
+impl<C: CutBack> Cut for Backwards<C> {
+    ghost items = { λ back part. reverse (C.items back.cut part) };
+
+    ghost is_item = { λ back. C.is_item back.cut };
+
+    #[inline(always)]
+    fn first<'a>(self, part: Cursor<'a>) -> Option<(SplitSpan<'a>, Option<Cursor<'a>>)> {
+        self.cut.last(part)
+    }
+}
+
+impl<C: CutBack> CutBack for Backwards<C> {
+    #[inline(always)]
+    fn last<'a>(self, part: Cursor<'a>) -> Option<(SplitSpan<'a>, Option<Cursor<'a>>)> {
+        self.cut.first(part)
+    }
+}
+
+/// An iterator over the pieces of a view between separators, the last piece first, from both ends.
+pub type RSplit<'a> = Items<'a, Backwards<AtChar>>;
+
+/// An iterator over the pieces of a view between separators with their starts, the last piece first,
+/// from both ends.
+pub type RSplitSpans<'a> = Spans<'a, Backwards<AtChar>>;
+
+impl<'a> AsciiStr<'a> {
+    /// Returns an iterator over the pieces of the view at each `on`, the last piece first, from both
+    /// ends.
+    ///
+    /// Constant time; a full walk searches the view once. Does not allocate.
+    ///
+    ///     let mut pieces = view("a.b.c").rsplit(AsciiChar::Dot);
+    ///     pieces.next() // Some("c")
+    ///     pieces.remainder() // Some("a.b")
+    pub fn rsplit(self, on: AsciiChar) -> RSplit<'a>
+        ensures iterates { Iterates (reverse (pieces_of (code_of on) (text_of self.entry))) result }
+        ensures loops { LoopsOverItems result (λ back. IsFree back.cut) }
+        ensures loops_back { LoopsBackOverItems result (λ back. IsFree back.cut) }
+    {
+        self.items_at(Backwards {
+            cut: AtChar::new(on),
+        })
+    }
+
+    /// Returns an iterator over the pieces of the view at each `on`, the last piece first, from both
+    /// ends, each with the position in the view at which it starts.
+    ///
+    /// Constant time; a full walk searches the view once. Does not allocate.
+    ///
+    ///     let mut spans = view("a.b.c").rsplit_spans(AsciiChar::Dot);
+    ///     spans.next() // Some(SplitSpan { start: 4, text: "c" })
+    pub fn rsplit_spans(self, on: AsciiChar) -> RSplitSpans<'a>
+        ensures iterates { Iterates (reverse (piece_spans (code_of on) (whole (text_of self.entry)))) result }
+        ensures placed { ArePlaced 0 (text_of self.entry) result.items }
+        ensures loops { LoopsOverSpans result (λ back. IsFree back.cut) }
+        ensures loops_back { LoopsBackOverSpans result (λ back. IsFree back.cut) }
+    {
+        self.spans_at(
+            Backwards {
+                cut: AtChar::new(on),
+            },
+            0,
+        )
+    }
+}
+
+impl<'a> Items<'a, Backwards<AtChar>> {
+    /// Returns the part of the view whose pieces remain, or `None` if there are none left. The iterator
+    /// is unchanged. Constant time.
+    ///
+    ///     let mut pieces = view("a.b.c").rsplit(AsciiChar::Dot);
+    ///     pieces.next() // Some("c")
+    ///     pieces.remainder() // Some("a.b")
+    pub fn remainder(&self) -> Option<AsciiStr<'a>>
+        ensures { IsRemainder (λ text. reverse (pieces_of self.now.on.cut text)) self.now result }
+    {
+        let (_, view) = self.spans.remainder()?;
+        Some(view)
+    }
+}

@@ -1,0 +1,208 @@
+//! The pieces of a view that a separator ends: without the empty piece after a last separator, and
+//! with their separators.
+
+ghost use Rattle.std.specs.Prelude.{◌++◌, ◌∷◌, []};
+ghost use Rattle.ascii_base.specs.Code.{code_of};
+ghost use Rattle.ascii.specs.ByClass.{whole};
+ghost use Rattle.ascii.specs.Cuts.{IsRemainder};
+ghost use Rattle.ascii.specs.Ended.{EndsAtMost, inclusive, inclusive_spans, terminated};
+ghost use Rattle.ascii.specs.Ended.{terminated_spans};
+ghost use Rattle.ascii.specs.Placed.{ArePlaced};
+ghost use Rattle.ascii.specs.Steps.{IsFree, Iterates, LoopsBackOverItems, LoopsBackOverSpans};
+ghost use Rattle.ascii.specs.Steps.{LoopsOverItems, LoopsOverSpans};
+ghost use Rattle.ascii.specs.View.{text_of};
+
+use crate::ascii_str::AsciiStr;
+use crate::iter::cursor::Cursor;
+use crate::iter::items::{Cut, CutBack, Items, Spans};
+use crate::iter::spans::SplitSpan;
+use ascii_base::ascii_char::AsciiChar;
+
+/// The cut at each one character, without the empty piece after a last one.
+#[derive(Clone, Copy, Drop)]
+pub struct AtTerminator {
+    /// The character that ends a piece.
+    pub on: AsciiChar,
+}
+
+impl Cut for AtTerminator {
+    ghost items = { λ at. terminated_spans (code_of at.on) };
+
+    ghost is_item = { λ at. IsFree (code_of at.on) };
+
+    #[inline(always)]
+    fn first<'a>(self, part: Cursor<'a>) -> Option<(SplitSpan<'a>, Option<Cursor<'a>>)> {
+        if part.view.is_empty() {
+            return None;
+        }
+        match part.split_at_first(self.on.as_byte()) {
+            Some((piece, others)) => Some((piece.piece(), Some(others))),
+            None => Some((part.piece(), None)),
+        }
+    }
+}
+
+impl CutBack for AtTerminator {
+    #[inline(always)]
+    fn last<'a>(self, part: Cursor<'a>) -> Option<(SplitSpan<'a>, Option<Cursor<'a>>)> {
+        let on = self.on.as_byte();
+        let (last, front) = part.view.bytes.split_last()?;
+        if *last == on {
+            let (others, piece) = part.to(front.len()).split_after_last(on);
+            Some((piece.piece(), Some(others)))
+        } else {
+            let (others, piece) = part.split_after_last(on);
+            Some((piece.piece(), Some(others)))
+        }
+    }
+}
+
+/// The cut after each one character, which each piece but the last one has as its last.
+#[derive(Clone, Copy, Drop)]
+pub struct AtEnd {
+    /// The character that ends a piece.
+    pub on: AsciiChar,
+}
+
+impl Cut for AtEnd {
+    ghost items = { λ at. inclusive_spans (code_of at.on) };
+
+    ghost is_item = { λ at. EndsAtMost (code_of at.on) };
+
+    #[inline(always)]
+    fn first<'a>(self, part: Cursor<'a>) -> Option<(SplitSpan<'a>, Option<Cursor<'a>>)> {
+        if part.view.is_empty() {
+            return None;
+        }
+        match part.split_at_first(self.on.as_byte()) {
+            Some((piece, others)) => { Some((part.to(piece.view.len() + 1).piece(), Some(others))) }
+            None => Some((part.piece(), None)),
+        }
+    }
+}
+
+impl CutBack for AtEnd {
+    #[inline(always)]
+    fn last<'a>(self, part: Cursor<'a>) -> Option<(SplitSpan<'a>, Option<Cursor<'a>>)> {
+        let (_last, front) = part.view.bytes.split_last()?;
+        let (others, _piece) = part.to(front.len()).split_after_last(self.on.as_byte());
+        Some((part.from(others.view.len()).piece(), Some(others)))
+    }
+}
+
+/// An iterator over the pieces of a view that a character ends, from both ends.
+pub type SplitTerminator<'a> = Items<'a, AtTerminator>;
+
+/// An iterator over the pieces of a view that a character ends, with their starts, from both ends.
+pub type SplitTerminatorSpans<'a> = Spans<'a, AtTerminator>;
+
+/// An iterator over the pieces of a view with the separators that end them, from both ends.
+pub type SplitInclusive<'a> = Items<'a, AtEnd>;
+
+/// An iterator over the pieces of a view with the separators that end them, each with its start, from
+/// both ends.
+pub type SplitInclusiveSpans<'a> = Spans<'a, AtEnd>;
+
+impl<'a> AsciiStr<'a> {
+    /// Returns an iterator over the pieces of the view that `on` ends, from both ends: like `split`,
+    /// but without the last piece if it is empty.
+    ///
+    /// Constant time; a full walk searches the view once. Does not allocate.
+    ///
+    ///     let mut pieces = view("a;b;").split_terminator(AsciiChar::Semicolon);
+    ///     pieces.next_back() // Some("b")
+    ///     pieces.next_back() // Some("a")
+    ///     pieces.next_back() // None
+    ///     view("a;;").split_terminator(AsciiChar::Semicolon).count() // 2
+    ///     view("").split_terminator(AsciiChar::Semicolon).count() // 0
+    pub fn split_terminator(self, on: AsciiChar) -> SplitTerminator<'a>
+        ensures iterates { Iterates (terminated (code_of on) (text_of self.entry)) result }
+        ensures loops { LoopsOverItems result (λ at. IsFree (code_of at.on)) }
+        ensures loops_back { LoopsBackOverItems result (λ at. IsFree (code_of at.on)) }
+    {
+        self.items_at(AtTerminator { on })
+    }
+
+    /// Returns an iterator over the pieces of the view that `on` ends, like `split_terminator`, each
+    /// with the position in the view at which it starts.
+    ///
+    /// Constant time; a full walk searches the view once. Does not allocate.
+    ///
+    ///     let mut spans = view("a;b;").split_terminator_spans(AsciiChar::Semicolon);
+    ///     spans.next_back() // Some(SplitSpan { start: 2, text: "b" })
+    ///     spans.remainder() // Some((0, "a;"))
+    pub fn split_terminator_spans(self, on: AsciiChar) -> SplitTerminatorSpans<'a>
+        ensures iterates { Iterates (terminated_spans (code_of on) (whole (text_of self.entry))) result }
+        ensures placed { ArePlaced 0 (text_of self.entry) result.items }
+        ensures loops { LoopsOverSpans result (λ at. IsFree (code_of at.on)) }
+        ensures loops_back { LoopsBackOverSpans result (λ at. IsFree (code_of at.on)) }
+    {
+        self.spans_at(AtTerminator { on }, 0)
+    }
+
+    /// Returns an iterator over the pieces of the view at each `on`, from both ends, each with the `on`
+    /// that ends it. A last piece without one is yielded unless it is empty. Joined, the pieces are the
+    /// view.
+    ///
+    /// Constant time; a full walk searches the view once. Does not allocate.
+    ///
+    ///     let mut pieces = view("a;b;c").split_inclusive(AsciiChar::Semicolon);
+    ///     pieces.next() // Some("a;")
+    ///     pieces.next_back() // Some("c")
+    ///     pieces.next_back() // Some("b;")
+    ///     pieces.next() // None
+    pub fn split_inclusive(self, on: AsciiChar) -> SplitInclusive<'a>
+        ensures iterates { Iterates (inclusive (code_of on) (text_of self.entry)) result }
+        ensures loops { LoopsOverItems result (λ at. EndsAtMost (code_of at.on)) }
+        ensures loops_back { LoopsBackOverItems result (λ at. EndsAtMost (code_of at.on)) }
+    {
+        self.items_at(AtEnd { on })
+    }
+
+    /// Returns an iterator over the pieces of the view at each `on`, like `split_inclusive`, each with
+    /// the position in the view at which it starts.
+    ///
+    /// Constant time; a full walk searches the view once. Does not allocate.
+    ///
+    ///     let mut spans = view("a;b;").split_inclusive_spans(AsciiChar::Semicolon);
+    ///     spans.next_back() // Some(SplitSpan { start: 2, text: "b;" })
+    ///     spans.remainder() // Some((0, "a;"))
+    pub fn split_inclusive_spans(self, on: AsciiChar) -> SplitInclusiveSpans<'a>
+        ensures iterates { Iterates (inclusive_spans (code_of on) (whole (text_of self.entry))) result }
+        ensures placed { ArePlaced 0 (text_of self.entry) result.items }
+        ensures loops { LoopsOverSpans result (λ at. EndsAtMost (code_of at.on)) }
+        ensures loops_back { LoopsBackOverSpans result (λ at. EndsAtMost (code_of at.on)) }
+    {
+        self.spans_at(AtEnd { on }, 0)
+    }
+}
+
+impl<'a> Items<'a, AtTerminator> {
+    /// Returns the part of the view whose pieces remain, or `None` if there are none left. The iterator
+    /// is unchanged. Constant time.
+    ///
+    ///     let mut pieces = view("a;b;").split_terminator(AsciiChar::Semicolon);
+    ///     pieces.next_back() // Some("b")
+    ///     pieces.remainder() // Some("a;")
+    pub fn remainder(&self) -> Option<AsciiStr<'a>>
+        ensures { IsRemainder (terminated (code_of self.now.on.on)) self.now result }
+    {
+        let (_, view) = self.spans.remainder()?;
+        Some(view)
+    }
+}
+
+impl<'a> Items<'a, AtEnd> {
+    /// Returns the part of the view whose pieces remain, or `None` if there are none left. The iterator
+    /// is unchanged. Constant time.
+    ///
+    ///     let mut pieces = view("a;b;").split_inclusive(AsciiChar::Semicolon);
+    ///     pieces.next() // Some("a;")
+    ///     pieces.remainder() // Some("b;")
+    pub fn remainder(&self) -> Option<AsciiStr<'a>>
+        ensures { IsRemainder (inclusive (code_of self.now.on.on)) self.now result }
+    {
+        let (_, view) = self.spans.remainder()?;
+        Some(view)
+    }
+}
