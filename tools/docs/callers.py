@@ -71,8 +71,7 @@ def entries_of(crate, modules):
         elif id(item) not in paths or len(path) < len(paths[id(item)]):
             paths[id(item)] = path
     items = [item for path in modules for item in modules[path]]
-    types = {item.name for item in items if item.kind in ("struct", "enum", "trait")}
-    hidden = types - {item.name for item in items if id(item) in paths}
+    hidden = hidden_types(modules)
     own_traits = {item.name for item in items if item.kind == "trait"}
     entries = []
     for item in items:
@@ -81,6 +80,13 @@ def entries_of(crate, modules):
         elif item.kind == "impl":
             entries += entries_of_impl(item, hidden, own_traits)
     return entries, others
+
+
+def hidden_types(modules):
+    """The names of the types and traits of a crate that another crate cannot name."""
+    named = {item.name for _, item in exported(modules) if item}
+    items = (item for path in modules for item in modules[path])
+    return {item.name for item in items if item.kind in ("struct", "enum", "trait")} - named
 
 
 def entry_of_named(path, item, items):
@@ -139,7 +145,7 @@ def names_private(member, item):
 def entries_of_impl(item, hidden, own_traits):
     """The calls of an impl block: those of a type one by one, those of a trait together."""
     of_trait, of_type = impl_name(item)
-    if hidden & set(re.findall(r"\w+", f"{of_trait} {of_type}")) or of_trait == "Model":
+    if hidden & set(re.findall(r"\w+", f"{of_trait} {of_type}")) or of_trait in ("Model", "Drop"):
         return []
     if not of_trait:
         calls = [(f"{of_type}::{i.name}", i) for i in item.inner if i.public]
@@ -147,7 +153,7 @@ def entries_of_impl(item, hidden, own_traits):
             raise Wrong(f"a public item of {of_type} that no page quotes, as it is no call")
         return [Entry(path, function_lines(i, path), [i], calls_of(path, [i]), i.docs) for path, i in calls]
     key = f"{of_trait} for {of_type}"
-    if of_trait in own_traits:  # the trait's own entry says each call that has no clause here
+    if re.sub(r"<.*", "", of_trait) in own_traits:  # the trait's own entry says each call that has no clause here
         inner = [i for i in item.inner if i.kind != "fn" or i.clauses]
     else:
         inner = item.inner

@@ -52,11 +52,14 @@ def examples_in(docs):
 def examples_of(crate, modules):
     """The examples of a crate, as pairs of a name and lines; and the calls that have none."""
     examples, without = [], []
+    hidden = callers.hidden_types(modules)
     for entry in callers.entries_of(crate, modules)[0]:
         shared = examples_in(entry.docs)
         if shared:
             examples.append((entry.key, shared))
         for call in (item for item in entry.quoted if item.kind == "fn"):
+            if hidden & set(re.findall(r"\w+", call.head)):
+                continue  # it takes what only the crate itself can make
             key = entry.key if entry.key.endswith(f"::{call.name}") else f"{entry.key}::{call.name}"
             own = examples_in(call.docs) if call.docs is not entry.docs else []
             if own:

@@ -27,6 +27,7 @@ class Item:
     inner: list = field(default_factory=list)
     source: str = ""
     words: list = field(default_factory=list)  # the ghost uses in scope
+    alias: str = ""  # of an impl: the public name of its type, if a `type` gives it one
     begins: int = 0  # where its attributes begin, or the item if it has none
     at: int = 0  # where its kind is
     opens: int = -1  # where the brace of its block or body opens; -1 without one

@@ -28,7 +28,17 @@ def read_modules(crate):
         modules[path] = read_items(read(file))
         give_words(modules[path], [])
         waiting += [path + (item.name,) for item in reversed(modules[path]) if item.kind == "mod"]
+    give_aliases([item for items in modules.values() for item in items])
     return modules
+
+
+def give_aliases(items):
+    """Tells each impl of a type that has a public name of its own, as `type Split<'a> = Items<'a, AtChar>`, that name."""
+    heads = (item.head.partition(" = ") for item in items if item.kind == "type" and item.public)
+    names = {bare(of_type): bare(re.sub(r"^pub type ", "", name)) for name, _, of_type in heads}
+    for item in items:
+        if item.kind == "impl":
+            item.alias = names.get(bare(of_trait_and_type(item)[1]), "")
 
 
 def give_words(items, outer):
@@ -44,7 +54,7 @@ def used_paths(item):
     front, _, names = re.sub(r"^pub use ", "", item.head).partition("{")
     if "*" in item.head or " as " in item.head or "{" in names:
         raise Wrong(f"a form of `use` that is not read: {item.head}")
-    names = names.rstrip("} ").split(",") if names else [""]
+    names = names.rstrip("} ,").split(",") if names else [""]
     return [tuple(p for p in (front + name.strip()).split("::") if p) for name in names]
 
 
@@ -99,17 +109,21 @@ def bare(name):
     return re.sub(r"'\w+ ", "", re.sub(r"<'\w+(, )?", "<", name)).replace("<>", "").strip()
 
 
-def impl_name(item):
-    """The trait and the type of an impl: `Clone for AsciiString`, or the type alone."""
+def of_trait_and_type(item):
+    """The trait of an impl, or none, and its type, as they are written."""
     head = re.sub(r"^unsafe ", "", item.head)
     if head.startswith("impl<"):
         head = head[find_generics_end(head, 4):]
-    head = re.sub(r"^impl ", "", head).strip().partition(" where ")[0]
-    of_trait, _, of_type = head.rpartition(" for ")
-    if not of_trait:
-        return "", re.sub(r"<.*", "", of_type)
+    of_trait, _, of_type = re.sub(r"^impl ", "", head).strip().partition(" where ")[0].rpartition(" for ")
+    return of_trait, of_type
+
+
+def impl_name(item):
+    """The trait and the type of an impl: `Clone for AsciiString`, or the type alone, by its public alias if it has one."""
+    of_trait, of_type = of_trait_and_type(item)
+    of_type = re.sub(r"<.*", "", item.alias or bare(of_type))
     of_trait = re.sub(r"<(\w+)<.*>>", r"<\1>", bare(of_trait))
-    return re.sub(r"^fmt::", "", of_trait), re.sub(r"<.*", "", bare(of_type))
+    return re.sub(r"^fmt::", "", of_trait), of_type
 
 
 def find_generics_end(text, at):

@@ -2,7 +2,7 @@
 -- caller as `#[tactic(auto, using(ascii::proofs::CallerLemmas::last_of_pieces))]`.
 use Rattle.std.proofs.Common.{◌≡◌, ◌≢◌, ℕ, ◌+◌, ◌≤◌, List, [], ◌∷◌, ◌++◌, length, append-nil, refl}
 use Rattle.std.proofs.Common.{arith, append_assoc, ap, ◌∙◌, Result, IsOk, OnOk, ◌-◌, ◌<◌, Option}
-use Rattle.std.proofs.Common.{None, Some, get_or, length-append, map, sym, subst, Bool, true, false, cond}
+use Rattle.std.proofs.Common.{Some, get_or, length-append, map, sym, subst, Bool, true, false, cond}
 use Rattle.std.specs.Iterator.{YieldsFirstBy}
 use Rattle.std.specs.Fn.{Called, Mut}
 use Rattle.std.specs.List.{All, Contains, filter, flat_map, join_with_byte, slice_get}
@@ -15,13 +15,11 @@ use Rattle.std.proofs.lemmas.List.Elements.{All-cons, All-nil, All-get_or, All-h
 use Rattle.std.proofs.lemmas.List.Elements.{filter_from_retain}
 use Rattle.ascii_base.specs.Code.{code_of, code_text}
 use Rattle.ascii_base.specs.declared.ascii_char.AsciiChar.{AsciiChar}
-use Rattle.ascii.specs.declared.ascii_str.AsciiStr.{AsciiStr}
 use Rattle.ascii.specs.Chunks.{ChunksOf, Run}
-use Rattle.ascii.specs.Cuts.{IsRestOf}
 use Rattle.ascii.specs.Extend.{Collects, Extends}
 use Rattle.ascii.specs.Lines.{Line, LinesOf, bodies, line_text}
 use Rattle.ascii.specs.Pieces.{Pieces, Remaining}
-use Rattle.ascii.specs.Spans.{IsRemainderOfPieceSpans, LineSpansOf, PieceSpans, WithStart}
+use Rattle.ascii.specs.Spans.{LineSpansOf, PieceSpans, WithStart}
 use Rattle.ascii.specs.Spans.{items_of, line_size, piece_size}
 use Rattle.ascii.specs.Retain.{RetainsChars}
 use Rattle.ascii.specs.Spans.{with_starts}
@@ -124,14 +122,12 @@ last_of_line_spans start text front last spans whole left =
 
 -- ---- what remains of a split with starts
 
--- the pieces of the remainder, from its start, are the remaining ones
-pub remainder_of_piece_spans : (left : Remaining ℕ (WithStart (List ℕ)))
-    (result : Option (ℕ × AsciiStr)) → IsRestOf piece_spans left result
-    → IsRemainderOfPieceSpans left result
-remainder_of_piece_spans left None none = none
-remainder_of_piece_spans left (Some tail) is =
-    subst (PieceSpans tail.0 (text_of tail.1) left.on) is
-    (piece_spans_found left.on (record { start = tail.0; item = text_of tail.1 }))
+-- the pieces that are found in a text, from its start, are its pieces
+pub rest_of_piece_spans : (on start : ℕ) (text : List ℕ) (spans : List (WithStart (List ℕ)))
+    → piece_spans on (record { start = start; item = text }) ≡ spans
+    → PieceSpans start text on spans
+rest_of_piece_spans on start text spans is = subst (PieceSpans start text on) is
+    (piece_spans_found on (record { start = start; item = text }))
 
 -- ---- where spans lie
 

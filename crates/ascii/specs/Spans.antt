@@ -88,13 +88,6 @@ line_in span =
 abbrev pub EndFits : ℕ → AsciiStr → Type 0
 EndFits start view = start + length (text_of view) ≤ 2 ^ 64 - 1
 
--- `None` if no pieces remain; otherwise a start and a view whose pieces, from that start, are the
--- remaining ones
-abbrev pub IsRemainderOfPieceSpans
-    : Remaining ℕ (WithStart (List ℕ)) → Option (ℕ × AsciiStr) → Type 0
-IsRemainderOfPieceSpans split result = MatchOption result (split.items ≡ [])
-    (λ tail. PieceSpans tail.0 (text_of tail.1) split.on split.items)
-
 -- `None` if no lines remain; otherwise a start and a view whose lines, from that start, are the
 -- remaining ones
 abbrev pub IsRemainderOfLineSpans : List (WithStart Line) → Option (ℕ × AsciiStr) → Type 0

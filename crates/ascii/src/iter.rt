@@ -1,13 +1,19 @@
-//! Iterators over the characters, the pieces, the words and the lines of a view, from both ends.
+//! Iterators over the characters, the pieces, the words and the lines of a view.
 //!
-//! | Items | Made by | With their starts |
-//! |---|---|---|
-//! | characters | `view.chars()` | |
-//! | pieces between separators | `view.split(on)`, `view.splitn(n, on)` | `view.split_spans(on)` |
-//! | pieces at the characters of a class | `view.split_by::<C>()` | `view.split_spans_by::<C>()` |
-//! | words: the longest runs outside a class | `view.split_whitespace()`, `view.words::<C>()` | `view.word_spans::<C>()` |
-//! | the longest runs of characters of a class | `view.runs::<C>()` | `view.run_spans::<C>()` |
-//! | lines | `view.lines()` | `view.line_spans()`, also with how each line ends |
+//! | Items | Made by | With their starts | Double-ended |
+//! |---|---|---|---|
+//! | characters | `chars()` | | yes |
+//! | pieces between separators | `split(on)` | `split_spans(on)` | yes |
+//! | .. the last one first | `rsplit(on)` | `rsplit_spans(on)` | yes |
+//! | .. at most `n` | `splitn(n, on)` | | no |
+//! | .. without an empty last one | `split_terminator(on)` | `split_terminator_spans(on)` | yes |
+//! | .. with their separators | `split_inclusive(on)` | `split_inclusive_spans(on)` | yes |
+//! | pieces at the characters of a class | `split_by::<C>()` | `split_spans_by::<C>()` | yes |
+//! | pieces at each occurrence of a text | `split_str(needle)` | `split_spans_str(needle)` | no |
+//! | these occurrences | `matches(needle)` | `match_spans(needle)` | no |
+//! | words: the longest runs outside a class | `words::<C>()`, `split_whitespace()` | `word_spans::<C>()` | yes |
+//! | runs: the longest runs of a class | `runs::<C>()` | `run_spans::<C>()` | yes |
+//! | lines | `lines()` | `line_spans()`, also with their endings | yes |
 //!
 //! Take from either end, in any order; `remainder` returns what is left as a view, which can be iterated again:
 //!
@@ -19,7 +25,7 @@
 //! `line_spans_from(offset)` count positions from the start of that one.
 //!
 //! The iterators hold only views: they do not allocate, and a clone never fails. A contract sees an iterator as the
-//! list of items that it has yet to yield.
+//! list of items that it has yet to yield, beside where it cuts.
 
 mod backwards;
 mod by_class;

@@ -146,6 +146,7 @@ impl<R: Ranges> Class for R {
 }
 
 impl<R: Ranges, const N: usize> ClassBy<N> for R {
+    ///     <Alphabetic as ClassBy<4>>::marks(b"a1b2", 0) // 10
     #[inline(always)]
     fn marks(bytes: &[u8], at: usize) -> u64
         requires lanes { N ≤ 64 }

@@ -13,6 +13,7 @@ mod long_texts;
 mod mutable_views;
 mod numbers;
 mod of_ascii;
+mod pieces;
 mod remainders;
 mod replace;
 mod retain;

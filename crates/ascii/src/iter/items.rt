@@ -46,7 +46,10 @@ pub trait CutBack: Cut {
         ensures item { IsCut (Self.is_item self) result };
 }
 
-/// An iterator over the items of a text, each with its start, from both ends.
+/// An iterator over the items of a view, each with its start. It is double-ended if the way to cut,
+/// `C`, has a back.
+///
+/// `SplitSpans`, `WordSpans` and the other types of this module over items with starts are names of it.
 pub struct Spans<'a, C: Cut> {
     // What is left to cut, or `None` if no items are left.
     pub(crate) rest: Option<Cursor<'a>>,
@@ -81,7 +84,10 @@ impl<'a, C: Cut> Clone for Spans<'a, C> {
 
     ghost is_infallible = { λ _. ⊤ };
 
-    /// Returns an iterator with the same remaining items. Always returns `Ok`, and does not allocate.
+    /// Returns an iterator with the same remaining items and starts. Always returns `Ok`, and does not
+    /// allocate.
+    ///
+    ///     view("a,b").split_spans(AsciiChar::Comma).clone()?.remainder() // Some((0, "a,b"))
     fn clone(&self) -> Result<Self, AllocError> {
         Ok(Spans {
             rest: self.rest,
@@ -99,6 +105,8 @@ impl<'a, C: Cut> Iterator for Spans<'a, C> {
 
     /// Returns the next item with its start, or `None` if there are none left; it then keeps
     /// returning `None`.
+    ///
+    ///     view("a,b").split_spans(AsciiChar::Comma).next() // Some(SplitSpan { start: 0, text: "a" })
     #[inline(always)]
     fn next(&mut self) -> Option<SplitSpan<'a>> {
         let (first, others) = self.on.first(self.rest?)?;
@@ -112,6 +120,8 @@ impl<'a, C: CutBack> DoubleEndedIterator for Spans<'a, C> {
 
     /// Returns the last of the remaining items with its start, or `None` if there are none left; it
     /// then keeps returning `None`.
+    ///
+    ///     view("a,b").split_spans(AsciiChar::Comma).next_back() // Some(SplitSpan { start: 2, text: "b" })
     #[inline(always)]
     fn next_back(&mut self) -> Option<SplitSpan<'a>> {
         let (last, others) = self.on.last(self.rest?)?;
@@ -138,7 +148,9 @@ impl<'a, C: Cut> Spans<'a, C> {
     }
 }
 
-/// An iterator over the items of a text, from both ends.
+/// An iterator over the items of a view. It is double-ended if the way to cut, `C`, has a back.
+///
+/// `Split`, `Words` and the other types of this module over items without starts are names of it.
 pub struct Items<'a, C: Cut> {
     pub(crate) spans: Spans<'a, C>,
 }
@@ -166,6 +178,8 @@ impl<'a, C: Cut> Clone for Items<'a, C> {
     ghost is_infallible = { λ _. ⊤ };
 
     /// Returns an iterator with the same remaining items. Always returns `Ok`, and does not allocate.
+    ///
+    ///     view("a,b").split(AsciiChar::Comma).clone()?.remainder() // Some("a,b")
     fn clone(&self) -> Result<Self, AllocError> {
         Ok(Items {
             spans: self.spans.clone()?,
@@ -181,6 +195,8 @@ impl<'a, C: Cut> Iterator for Items<'a, C> {
     ghost remaining = { item_count (λ left. left.items) };
 
     /// Returns the next item, or `None` if there are none left; it then keeps returning `None`.
+    ///
+    ///     view("a,b").split(AsciiChar::Comma).next() // Some("a")
     #[inline(always)]
     fn next(&mut self) -> Option<AsciiStr<'a>> {
         let span = self.spans.next()?;
@@ -193,6 +209,8 @@ impl<'a, C: CutBack> DoubleEndedIterator for Items<'a, C> {
 
     /// Returns the last of the remaining items, or `None` if there are none left; it then keeps
     /// returning `None`.
+    ///
+    ///     view("a,b").split(AsciiChar::Comma).next_back() // Some("b")
     #[inline(always)]
     fn next_back(&mut self) -> Option<AsciiStr<'a>> {
         let span = self.spans.next_back()?;

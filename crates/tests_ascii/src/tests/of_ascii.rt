@@ -1,8 +1,10 @@
 //! The examples in the documentation of `ascii`, made by `bin/docs examples`.
 
-use ascii::classes::{Blank, Digit, Punctuation};
+use ascii::classes::{Blank, Digit, Ranges};
 use ascii::folded::FoldedStr;
-use ascii::iter::{End, take_end, walk_line_spans, walk_lines, walk_split, walk_split_spans};
+use ascii::iter::{
+    Cut, CutBack, End, take_end, walk_line_spans, walk_lines, walk_split, walk_split_spans,
+};
 use ascii::json::{JsonError, char_from_json, char_to_json, str_from_json, string_from_json};
 use ascii::numbers::{Number, NumberError};
 use ascii::{
@@ -1451,6 +1453,178 @@ fn debug_of_from_ascii_error(rt: HostRuntime) {
     );
 }
 
+// AsciiStr::rsplit
+#[test]
+fn rsplit_of_ascii_str(rt: HostRuntime) {
+    let mut pieces = view("a.b.c").rsplit(AsciiChar::Dot);
+    assert_debug!(rt; pieces.next(), "Some(\"c\")");
+    assert_debug!(rt; pieces.remainder(), "Some(\"a.b\")");
+}
+
+// AsciiStr::rsplit_spans
+#[test]
+fn rsplit_spans_of_ascii_str(rt: HostRuntime) {
+    let mut spans = view("a.b.c").rsplit_spans(AsciiChar::Dot);
+    assert_debug!(rt; spans.next(), "Some(SplitSpan { start: 4, text: \"c\" })");
+}
+
+// RSplit::remainder
+#[test]
+fn remainder_of_rsplit(rt: HostRuntime) {
+    let mut pieces = view("a.b.c").rsplit(AsciiChar::Dot);
+    assert_debug!(rt; pieces.next(), "Some(\"c\")");
+    assert_debug!(rt; pieces.remainder(), "Some(\"a.b\")");
+}
+
+// AsciiStr::split_by
+#[test]
+fn split_by_of_ascii_str(rt: HostRuntime) {
+    let mut pieces = view("a b\tc").split_by::<Blank>();
+    assert_debug!(rt; pieces.next(), "Some(\"a\")");
+    assert_debug!(rt; pieces.next_back(), "Some(\"c\")");
+    assert_debug!(rt; pieces.remainder(), "Some(\"b\")");
+}
+
+// AsciiStr::split_spans_by
+#[test]
+fn split_spans_by_of_ascii_str(rt: HostRuntime) {
+    let mut spans = view("a b\tc").split_spans_by::<Blank>();
+    assert_debug!(rt; spans.next_back(), "Some(SplitSpan { start: 4, text: \"c\" })");
+}
+
+// AsciiStr::words
+#[test]
+fn words_of_ascii_str(rt: HostRuntime) {
+    let mut words = view(" to be  or not").words::<Blank>();
+    assert_debug!(rt; words.next(), "Some(\"to\")");
+    assert_debug!(rt; words.next_back(), "Some(\"not\")");
+}
+
+// AsciiStr::split_whitespace
+#[test]
+fn split_whitespace_of_ascii_str(rt: HostRuntime) {
+    let mut words = view(" to be\n or not").split_whitespace();
+    assert_debug!(rt; words.next(), "Some(\"to\")");
+    assert_debug!(rt; words.next(), "Some(\"be\")");
+}
+
+// AsciiStr::word_spans
+#[test]
+fn word_spans_of_ascii_str(rt: HostRuntime) {
+    let mut spans = view(" to be").word_spans::<Blank>();
+    assert_debug!(rt; spans.next(), "Some(SplitSpan { start: 1, text: \"to\" })");
+}
+
+// AsciiStr::runs
+#[test]
+fn runs_of_ascii_str(rt: HostRuntime) {
+    let mut runs = view("v1.20").runs::<Digit>();
+    assert_debug!(rt; runs.next(), "Some(\"1\")");
+    assert_debug!(rt; runs.next(), "Some(\"20\")");
+}
+
+// AsciiStr::run_spans
+#[test]
+fn run_spans_of_ascii_str(rt: HostRuntime) {
+    let mut spans = view("v1.20").run_spans::<Digit>();
+    assert_debug!(rt; spans.next_back(), "Some(SplitSpan { start: 3, text: \"20\" })");
+}
+
+// SplitBy::remainder
+#[test]
+fn remainder_of_split_by(rt: HostRuntime) {
+    let mut pieces = view("a b\tc").split_by::<Blank>();
+    assert_debug!(rt; pieces.next(), "Some(\"a\")");
+    assert_debug!(rt; pieces.remainder(), "Some(\"b\\tc\")");
+}
+
+// Words::remainder
+#[test]
+fn remainder_of_words(rt: HostRuntime) {
+    let mut words = view("to be").split_whitespace();
+    assert_debug!(rt; words.next(), "Some(\"to\")");
+    assert_debug!(rt; words.remainder(), "Some(\" be\")");
+}
+
+// Words::as_str
+#[test]
+fn as_str_of_words(rt: HostRuntime) {
+    let mut words = view("a b c").split_whitespace();
+    assert_debug!(rt; words.next(), "Some(\"a\")");
+    assert_debug!(rt; words.as_str(), "\" b c\"");
+}
+
+// Runs::remainder
+#[test]
+fn remainder_of_runs(rt: HostRuntime) {
+    let mut runs = view("v1.20").runs::<Digit>();
+    assert_debug!(rt; runs.next(), "Some(\"1\")");
+    assert_debug!(rt; runs.remainder(), "Some(\".20\")");
+}
+
+// Runs::as_str
+#[test]
+fn as_str_of_runs(rt: HostRuntime) {
+    let mut runs = view("v1.20").runs::<Digit>();
+    assert_debug!(rt; runs.next(), "Some(\"1\")");
+    assert_debug!(rt; runs.as_str(), "\".20\"");
+}
+
+// AsciiStr::split_str
+#[test]
+fn split_str_of_ascii_str(rt: HostRuntime) {
+    let mut pieces = view("one, two, three").split_str(view(", "));
+    assert_debug!(rt; pieces.next(), "Some(\"one\")");
+    assert_debug!(rt; pieces.remainder(), "Some(\"two, three\")");
+    assert_debug!(rt; view("aaa").split_str(view("aa")).count(), "2");
+}
+
+// AsciiStr::split_spans_str
+#[test]
+fn split_spans_str_of_ascii_str(rt: HostRuntime) {
+    let mut spans = view("one, two").split_spans_str(view(", "));
+    assert_debug!(rt; spans.next(), "Some(SplitSpan { start: 0, text: \"one\" })");
+    assert_debug!(rt; spans.next(), "Some(SplitSpan { start: 5, text: \"two\" })");
+}
+
+// AsciiStr::matches
+#[test]
+fn matches_of_ascii_str(rt: HostRuntime) {
+    assert_debug!(
+        rt;
+        (
+            view("banana").matches(view("an")).count(),
+            view("aaa").matches(view("aa")).count(),
+        ),
+        "(2, 1)"
+    );
+}
+
+// AsciiStr::match_spans
+#[test]
+fn match_spans_of_ascii_str(rt: HostRuntime) {
+    let mut spans = view("banana").match_spans(view("an"));
+    assert_debug!(rt; spans.next(), "Some(SplitSpan { start: 1, text: \"an\" })");
+    assert_debug!(rt; spans.next(), "Some(SplitSpan { start: 3, text: \"an\" })");
+    assert_debug!(rt; spans.next(), "None");
+}
+
+// SplitStr::remainder
+#[test]
+fn remainder_of_split_str(rt: HostRuntime) {
+    let mut pieces = view("one, two, three").split_str(view(", "));
+    assert_debug!(rt; pieces.next(), "Some(\"one\")");
+    assert_debug!(rt; pieces.remainder(), "Some(\"two, three\")");
+}
+
+// Matches::remainder
+#[test]
+fn remainder_of_matches(rt: HostRuntime) {
+    let mut matches = view("banana").matches(view("an"));
+    assert_debug!(rt; matches.next(), "Some(\"an\")");
+    assert_debug!(rt; matches.remainder(), "Some(\"ana\")");
+}
+
 // Chars::as_str
 #[test]
 fn as_str_of_chars(rt: HostRuntime) {
@@ -1538,6 +1712,119 @@ fn chars_of_ascii_str(rt: HostRuntime) {
     let mut chars = view("foo").chars();
     assert_debug!(rt; chars.next(), "Some('f')");
     assert_debug!(rt; chars.next_back(), "Some('o')");
+}
+
+// AsciiStr::split_terminator
+#[test]
+fn split_terminator_of_ascii_str(rt: HostRuntime) {
+    let mut pieces = view("a;b;").split_terminator(AsciiChar::Semicolon);
+    assert_debug!(rt; pieces.next_back(), "Some(\"b\")");
+    assert_debug!(rt; pieces.next_back(), "Some(\"a\")");
+    assert_debug!(rt; pieces.next_back(), "None");
+    assert_debug!(rt; view("a;;").split_terminator(AsciiChar::Semicolon).count(), "2");
+    assert_debug!(rt; view("").split_terminator(AsciiChar::Semicolon).count(), "0");
+}
+
+// AsciiStr::split_terminator_spans
+#[test]
+fn split_terminator_spans_of_ascii_str(rt: HostRuntime) {
+    let mut spans = view("a;b;").split_terminator_spans(AsciiChar::Semicolon);
+    assert_debug!(rt; spans.next_back(), "Some(SplitSpan { start: 2, text: \"b\" })");
+    assert_debug!(rt; spans.remainder(), "Some((0, \"a;\"))");
+}
+
+// AsciiStr::split_inclusive
+#[test]
+fn split_inclusive_of_ascii_str(rt: HostRuntime) {
+    let mut pieces = view("a;b;c").split_inclusive(AsciiChar::Semicolon);
+    assert_debug!(rt; pieces.next(), "Some(\"a;\")");
+    assert_debug!(rt; pieces.next_back(), "Some(\"c\")");
+    assert_debug!(rt; pieces.next_back(), "Some(\"b;\")");
+    assert_debug!(rt; pieces.next(), "None");
+}
+
+// AsciiStr::split_inclusive_spans
+#[test]
+fn split_inclusive_spans_of_ascii_str(rt: HostRuntime) {
+    let mut spans = view("a;b;").split_inclusive_spans(AsciiChar::Semicolon);
+    assert_debug!(rt; spans.next_back(), "Some(SplitSpan { start: 2, text: \"b;\" })");
+    assert_debug!(rt; spans.remainder(), "Some((0, \"a;\"))");
+}
+
+// SplitTerminator::remainder
+#[test]
+fn remainder_of_split_terminator(rt: HostRuntime) {
+    let mut pieces = view("a;b;").split_terminator(AsciiChar::Semicolon);
+    assert_debug!(rt; pieces.next_back(), "Some(\"b\")");
+    assert_debug!(rt; pieces.remainder(), "Some(\"a;\")");
+}
+
+// SplitInclusive::remainder
+#[test]
+fn remainder_of_split_inclusive(rt: HostRuntime) {
+    let mut pieces = view("a;b;").split_inclusive(AsciiChar::Semicolon);
+    assert_debug!(rt; pieces.next(), "Some(\"a;\")");
+    assert_debug!(rt; pieces.remainder(), "Some(\"b;\")");
+}
+
+// Clone for Spans::clone
+#[test]
+fn clone_of_spans(rt: HostRuntime) {
+    assert_debug!(
+        rt;
+        view("a,b").split_spans(AsciiChar::Comma).clone().expect(&rt, "refused").remainder(),
+        "Some((0, \"a,b\"))"
+    );
+}
+
+// Iterator for Spans::next
+#[test]
+fn next_of_spans(rt: HostRuntime) {
+    assert_debug!(
+        rt;
+        view("a,b").split_spans(AsciiChar::Comma).next(),
+        "Some(SplitSpan { start: 0, text: \"a\" })"
+    );
+}
+
+// DoubleEndedIterator for Spans::next_back
+#[test]
+fn next_back_of_spans(rt: HostRuntime) {
+    assert_debug!(
+        rt;
+        view("a,b").split_spans(AsciiChar::Comma).next_back(),
+        "Some(SplitSpan { start: 2, text: \"b\" })"
+    );
+}
+
+// Spans::remainder
+#[test]
+fn remainder_of_spans(rt: HostRuntime) {
+    let mut spans = view("foo;bar").split_spans(AsciiChar::Semicolon);
+    assert_debug!(rt; spans.next(), "Some(SplitSpan { start: 0, text: \"foo\" })");
+    assert_debug!(rt; spans.remainder(), "Some((4, \"bar\"))");
+}
+
+// Clone for Items::clone
+#[test]
+fn clone_of_items(rt: HostRuntime) {
+    assert_debug!(
+        rt;
+        view("a,b").split(AsciiChar::Comma).clone().expect(&rt, "refused").remainder(),
+        "Some(\"a,b\")"
+    );
+}
+
+// Iterator for Items::next
+#[test]
+fn next_of_items(rt: HostRuntime) {
+    assert_debug!(rt; view("a,b").split(AsciiChar::Comma).next(), "Some(\"a\")");
+}
+
+// DoubleEndedIterator for Items::next_back
+#[test]
+fn next_back_of_items(rt: HostRuntime) {
+    assert_debug!(rt; view("a,b").split(AsciiChar::Comma).next_back(), "Some(\"b\")");
 }
 
 // Clone for LineSpans::clone
@@ -1634,65 +1921,6 @@ fn line_spans_from_of_ascii_str(rt: HostRuntime) {
         view("x\r\ny").line_spans_from(10).next_back(),
         "Some(LineSpan { start: 13, text: \"y\", ending: Absent })"
     );
-}
-
-// Clone for SplitSpans::clone
-#[test]
-fn clone_of_split_spans(rt: HostRuntime) {
-    assert_debug!(
-        rt;
-        view("foo;bar").split_spans(AsciiChar::Semicolon).clone().expect(&rt, "refused").remainder(),
-        "Some((0, \"foo;bar\"))"
-    );
-}
-
-// Iterator for SplitSpans::next
-#[test]
-fn next_of_split_spans(rt: HostRuntime) {
-    assert_debug!(
-        rt;
-        view(";foo").split_spans(AsciiChar::Semicolon).next(),
-        "Some(SplitSpan { start: 0, text: \"\" })"
-    );
-}
-
-// DoubleEndedIterator for SplitSpans::next_back
-#[test]
-fn next_back_of_split_spans(rt: HostRuntime) {
-    assert_debug!(
-        rt;
-        view(";foo").split_spans(AsciiChar::Semicolon).next_back(),
-        "Some(SplitSpan { start: 1, text: \"foo\" })"
-    );
-}
-
-// SplitSpans::remainder
-#[test]
-fn remainder_of_split_spans(rt: HostRuntime) {
-    let mut spans = view("foo;bar").split_spans(AsciiChar::Semicolon);
-    assert_debug!(rt; spans.next(), "Some(SplitSpan { start: 0, text: \"foo\" })");
-    assert_debug!(rt; spans.remainder(), "Some((4, \"bar\"))");
-}
-
-// Clone for Split::clone
-#[test]
-fn clone_of_split(rt: HostRuntime) {
-    let mut pieces = view("foo;bar").split(AsciiChar::Semicolon);
-    let copy = pieces.clone().expect(&rt, "refused");
-    assert_debug!(rt; pieces.next(), "Some(\"foo\")");
-    assert_debug!(rt; copy.remainder(), "Some(\"foo;bar\")");
-}
-
-// Iterator for Split::next
-#[test]
-fn next_of_split(rt: HostRuntime) {
-    assert_debug!(rt; view(";foo").split(AsciiChar::Semicolon).next(), "Some(\"\")");
-}
-
-// DoubleEndedIterator for Split::next_back
-#[test]
-fn next_back_of_split(rt: HostRuntime) {
-    assert_debug!(rt; view(";foo").split(AsciiChar::Semicolon).next_back(), "Some(\"foo\")");
 }
 
 // Split::remainder
@@ -1799,92 +2027,6 @@ fn walk_line_spans_of_iter(rt: HostRuntime) {
         walk_line_spans(alloc, view("a\nb"), &[End::Front]).expect(&rt, "refused"),
         "[Some(LineSpan { start: 0, text: \"a\", ending: Lf })]"
     );
-}
-
-// Clone for WordSpans::clone
-#[test]
-fn clone_of_word_spans(rt: HostRuntime) {
-    let mut spans = view(" a b").word_spans::<Blank>();
-    let mut copy = spans.clone().expect(&rt, "refused");
-    assert_debug!(rt; spans.next(), "Some(SplitSpan { start: 1, text: \"a\" })");
-    assert_debug!(rt; copy.next(), "Some(SplitSpan { start: 1, text: \"a\" })");
-}
-
-// Iterator for WordSpans::next
-#[test]
-fn next_of_word_spans(rt: HostRuntime) {
-    assert_debug!(
-        rt;
-        view(" a b").word_spans::<Blank>().next(),
-        "Some(SplitSpan { start: 1, text: \"a\" })"
-    );
-}
-
-// DoubleEndedIterator for WordSpans::next_back
-#[test]
-fn next_back_of_word_spans(rt: HostRuntime) {
-    assert_debug!(
-        rt;
-        view("a b ").word_spans::<Blank>().next_back(),
-        "Some(SplitSpan { start: 2, text: \"b\" })"
-    );
-}
-
-// AsciiStr::word_spans
-#[test]
-fn word_spans_of_ascii_str(rt: HostRuntime) {
-    let mut spans = view(" ab c").word_spans::<Blank>();
-    assert_debug!(rt; spans.next(), "Some(SplitSpan { start: 1, text: \"ab\" })");
-    assert_debug!(rt; spans.next_back(), "Some(SplitSpan { start: 4, text: \"c\" })");
-    assert_debug!(rt; spans.next(), "None");
-}
-
-// Words::as_str
-#[test]
-fn as_str_of_words(rt: HostRuntime) {
-    let mut words = view("a b c").split_whitespace();
-    assert_debug!(rt; words.next(), "Some(\"a\")");
-    assert_debug!(rt; words.as_str(), "\" b c\"");
-}
-
-// Clone for Words::clone
-#[test]
-fn clone_of_words(rt: HostRuntime) {
-    let mut words = view("a b").split_whitespace();
-    let mut copy = words.clone().expect(&rt, "refused");
-    assert_debug!(rt; words.next(), "Some(\"a\")");
-    assert_debug!(rt; copy.next(), "Some(\"a\")");
-}
-
-// Iterator for Words::next
-#[test]
-fn next_of_words(rt: HostRuntime) {
-    assert_debug!(rt; view("  a b").split_whitespace().next(), "Some(\"a\")");
-}
-
-// DoubleEndedIterator for Words::next_back
-#[test]
-fn next_back_of_words(rt: HostRuntime) {
-    assert_debug!(rt; view("a b  ").split_whitespace().next_back(), "Some(\"b\")");
-}
-
-// AsciiStr::words
-#[test]
-fn words_of_ascii_str(rt: HostRuntime) {
-    let mut words = view("a, b,,c").words::<Punctuation>();
-    assert_debug!(rt; words.next(), "Some(\"a\")");
-    assert_debug!(rt; words.next_back(), "Some(\"c\")");
-    assert_debug!(rt; words.next(), "Some(\" b\")");
-    assert_debug!(rt; words.next(), "None");
-}
-
-// AsciiStr::split_whitespace
-#[test]
-fn split_whitespace_of_ascii_str(rt: HostRuntime) {
-    let mut words = view(" a \t b\n").split_whitespace();
-    assert_debug!(rt; words.next(), "Some(\"a\")");
-    assert_debug!(rt; words.next(), "Some(\"b\")");
-    assert_debug!(rt; words.next(), "None");
 }
 
 // AsciiStr::to_json

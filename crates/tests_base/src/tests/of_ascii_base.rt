@@ -1,11 +1,11 @@
 //! The examples in the documentation of `ascii_base`, made by `bin/docs examples`.
 
 use ascii_base::ascii_char::{AsciiChar, ToAsciiChar};
-use ascii_base::classes::{Ascii, Class, ClassBy, Digit, Whitespace};
+use ascii_base::classes::{Alphabetic, Ascii, Class, ClassBy, Digit, Ranges};
 use ascii_base::free_functions::{caret_decode, caret_encode};
 use ascii_base::kernels::{
-    eq_ignore_case, first_not, first_not_whitespace, first_other, last_not, last_not_whitespace,
-    lower_in_place, upper_in_place,
+    eq_ignore_case, first_not, first_not_whitespace, first_of, first_other, last_not,
+    last_not_whitespace, last_of, lower_in_place, run_end, run_start, upper_in_place,
 };
 use ascii_base::range::AsciiRange;
 use serde_json::Value;
@@ -349,16 +349,22 @@ fn marks_of_class_by(rt: HostRuntime) {
     assert_debug!(rt; <Digit as ClassBy<4>>::marks(b"42px", 0), "12");
 }
 
+// classes::Ranges::ranges
+#[test]
+fn ranges_of_ranges(rt: HostRuntime) {
+    assert_debug!(rt; Alphabetic::ranges(), "[(65, 90), (97, 122)]");
+}
+
+// ClassBy<N> for R::marks
+#[test]
+fn marks_of_r(rt: HostRuntime) {
+    assert_debug!(rt; <Alphabetic as ClassBy<4>>::marks(b"a1b2", 0), "10");
+}
+
 // ClassBy<N> for Ascii::marks
 #[test]
 fn marks_of_ascii(rt: HostRuntime) {
     assert_debug!(rt; <Ascii as ClassBy<4>>::marks(b"a\xc4b\xff", 0), "10");
-}
-
-// ClassBy<N> for Whitespace::marks
-#[test]
-fn marks_of_whitespace(rt: HostRuntime) {
-    assert_debug!(rt; <Whitespace as ClassBy<4>>::marks(b"a \tb", 0), "9");
 }
 
 // free_functions::caret_encode
@@ -403,6 +409,58 @@ fn last_not_of_kernels(rt: HostRuntime) {
             last_not::<Digit>(b"42"),
         ),
         "(Some(0), None)"
+    );
+}
+
+// kernels::first_of
+#[test]
+fn first_of_of_kernels(rt: HostRuntime) {
+    assert_debug!(
+        rt;
+        (
+            first_of::<Digit>(b"px42"),
+            first_of::<Digit>(b"px"),
+        ),
+        "(Some(2), None)"
+    );
+}
+
+// kernels::last_of
+#[test]
+fn last_of_of_kernels(rt: HostRuntime) {
+    assert_debug!(
+        rt;
+        (
+            last_of::<Digit>(b"42px"),
+            last_of::<Digit>(b"px"),
+        ),
+        "(Some(1), None)"
+    );
+}
+
+// kernels::run_end
+#[test]
+fn run_end_of_kernels(rt: HostRuntime) {
+    assert_debug!(
+        rt;
+        (
+            run_end::<Digit>(b"v42px", 1, true),
+            run_end::<Digit>(b"v42px", 3, false),
+        ),
+        "(3, 5)"
+    );
+}
+
+// kernels::run_start
+#[test]
+fn run_start_of_kernels(rt: HostRuntime) {
+    assert_debug!(
+        rt;
+        (
+            run_start::<Digit>(b"v42px", 3, true),
+            run_start::<Digit>(b"v42px", 5, false),
+        ),
+        "(1, 3)"
     );
 }
 
