@@ -108,6 +108,8 @@ calls! {
     fn ask_chars(source: &[u8], script: &[u8]);
     fn ask_chars_of_view(source: &[u8], script: &[u8]);
     fn ask_words(source: &[u8], script: &[u8]);
+    fn ask_pieces(form: u8, code: u8, source: &[u8], script: &[u8]);
+    fn ask_pieces_at(source: &[u8], needle: &[u8]);
     fn ask_chunks(source: &[u8], script: &[u8]);
     fn ask_class(class: u8, source: &[u8], script: &[u8]);
     fn ask_numbers(source: &[u8]);

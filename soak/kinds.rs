@@ -85,6 +85,8 @@ pub static KINDS: &[Kind] = &[
     kind("replaced texts", searches::replace),
     kind("pieces", walks::split),
     kind("pieces with starts", walks::split_spans),
+    kind("pieces in other forms", walks::pieces_by_form),
+    kind("pieces at a text", walks::pieces_at),
     kind("lines", walks::lines),
     kind("lines with starts", walks::line_spans),
     kind("characters by scripts", walks::chars),

@@ -16,9 +16,14 @@ pub struct Item {
 
 /// The pieces, each up to the next separator.
 pub fn pieces(text: &[u8], on: u8) -> VecDeque<Item> {
+    pieces_by(text, |byte| byte == on)
+}
+
+/// The pieces, each up to the next byte of a class.
+pub fn pieces_by(text: &[u8], is_in: impl Fn(u8) -> bool) -> VecDeque<Item> {
     let mut items = VecDeque::new();
     let mut start = 0;
-    for piece in text.split(|byte| *byte == on) {
+    for piece in text.split(|byte| is_in(*byte)) {
         let end = start + piece.len();
         items.push_back(Item { start, end, whole_end: end });
         start = end + 1;
@@ -40,15 +45,8 @@ pub fn lines_of(text: &[u8]) -> VecDeque<Item> {
 
 /// The words: the longest runs that are not in a class.
 pub fn words_of(text: &[u8], is_in: impl Fn(u8) -> bool) -> VecDeque<Item> {
-    let mut items = VecDeque::new();
-    let mut start = 0;
-    for word in text.split(|byte| is_in(*byte)) {
-        let end = start + word.len();
-        if start < end {
-            items.push_back(Item { start, end, whole_end: end });
-        }
-        start = end + 1;
-    }
+    let mut items = pieces_by(text, is_in);
+    items.retain(|item| item.start < item.end);
     items
 }
 
@@ -104,6 +102,59 @@ pub fn split(random: &mut Random, asked: &mut Asked) {
     let code = random.code_of(&text);
     calls::ask_split(asked, code, &text, &script);
     with_remainders(&text, pieces(&text, code), &script, &mut asked.want);
+}
+
+/// The pieces at a character by a form that `ask_pieces` has.
+pub fn pieces_by_form(random: &mut Random, asked: &mut Asked) {
+    let (text, script) = (random.text(), random.script(4));
+    let (code, form) = (random.code_of(&text), random.below(3) as u8);
+    calls::ask_pieces(asked, form, code, &text, &script);
+    let mut items = match form {
+        0 => pieces(&text, code).into_iter().rev().collect(),
+        1 => {
+            let mut items = pieces(&text, code);
+            if items.back().is_some_and(|item| item.start == item.end) {
+                items.pop_back();
+            }
+            items
+        }
+        _ => {
+            let mut start = 0;
+            let pieces = text.split_inclusive(|byte| *byte == code).map(|piece| {
+                start += piece.len();
+                Item { start: start - piece.len(), end: start, whole_end: start }
+            });
+            pieces.collect()
+        }
+    };
+    for number in &script {
+        let item = take(&mut items, *number);
+        span(0, item.map(|item| (item.start, &text[item.start..item.end])), &mut asked.want);
+    }
+}
+
+/// The pieces at a text, and where it occurs. An empty text occurs nowhere.
+pub fn pieces_at(random: &mut Random, asked: &mut Asked) {
+    let text = random.text();
+    let needle = random.needle(&text);
+    calls::ask_pieces_at(asked, &text, &needle);
+    let (source, needle) = (as_str(&text), as_str(&needle));
+    let mut found: Vec<usize> = source.match_indices(needle).map(|(at, _)| at).collect();
+    if needle.is_empty() {
+        found.clear();
+    }
+    let mut start = 0;
+    for at in found.iter().chain([&text.len()]) {
+        span(0, Some((start, &text[start..*at])), &mut asked.want);
+        start = at + needle.len();
+    }
+    for at in found {
+        span(0, Some((at, needle.as_bytes())), &mut asked.want);
+    }
+}
+
+fn as_str(text: &[u8]) -> &str {
+    std::str::from_utf8(text).expect("texts are ASCII")
 }
 
 pub fn lines(random: &mut Random, asked: &mut Asked) {
@@ -176,17 +227,16 @@ pub fn chars_of_view(random: &mut Random, asked: &mut Asked) {
     }
 }
 
-/// The words by a script, each with what remains: after a word or before a word that was taken, and nothing after the
-/// last one.
+/// The words by a script, each with what remains: after a word or before a word that was taken.
 pub fn words_and_rests<'a>(text: &'a [u8], mut items: VecDeque<Item>, script: &[u8]) -> Vec<(Option<Item>, &'a [u8])> {
     let (mut from, mut to) = (0, text.len());
     let mut words = Vec::new();
     for number in script {
+        let first = items.front().copied();
         let word = take(&mut items, *number);
-        match (word, number) {
+        match (word.or(first), number) {
             (Some(word), 0 | 2) => from = word.end,
             (Some(word), 1) => to = word.start,
-            (None, 0..=2) => (from, to) = (0, 0),
             _ => (),
         }
         words.push((word, &text[from..to]));

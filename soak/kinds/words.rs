@@ -1,7 +1,7 @@
 //! Classes, numbers, and characters that are kept, by std or by plain loops.
 
 use super::characters::is_white;
-use super::walks::{span, words_and_rests, words_of};
+use super::walks::{pieces_by, span, take, words_and_rests, words_of};
 use crate::asked::{Answer, Asked};
 use crate::calls;
 use crate::random::Random;
@@ -58,6 +58,8 @@ pub fn class_answers(class: u8, source: &[u8], script: &[u8], want: &mut Answer)
     let last = source.iter().rposition(|byte| !is_in(*byte));
     want.position(first);
     want.position(last);
+    want.position(source.iter().position(|byte| is_in(*byte)));
+    want.position(source.iter().rposition(|byte| is_in(*byte)));
     if !source.is_ascii() {
         return;
     }
@@ -68,11 +70,17 @@ pub fn class_answers(class: u8, source: &[u8], script: &[u8], want: &mut Answer)
     want.text(&source[start.min(end)..end]);
     want.text(&source[start..]);
     want.text(&source[..end]);
-    for (word, rest) in words_and_rests(source, words_of(source, is_in), script) {
+    let (mut runs, mut pieces) = (words_of(source, |byte| !is_in(byte)), pieces_by(source, is_in));
+    let words = words_and_rests(source, words_of(source, is_in), script);
+    for ((word, rest), number) in words.into_iter().zip(script) {
         let word = word.map(|word| (word.start, &source[word.start..word.end]));
         want.part(word.map(|word| word.1));
         want.text(rest);
         span(0, word, want);
+        for items in [&mut runs, &mut pieces] {
+            let item = take(items, *number);
+            span(0, item.map(|item| (item.start, &source[item.start..item.end])), want);
+        }
     }
 }
 

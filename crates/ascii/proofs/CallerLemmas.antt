@@ -39,7 +39,7 @@ use Rattle.std.proofs.lemmas.Option.{slice_get-get_or}
 use Rattle.ascii_base.specs.Case.{lower_image, upper_image}
 use Rattle.ascii.specs.First.{IsFirstAt}
 use Rattle.ascii.specs.Found.{piece_spans, pieces_of}
-use Rattle.ascii.specs.Search.{IsCutAtLast}
+use Rattle.ascii.specs.Search.{IsCut}
 use Rattle.ascii.specs.Trim.{IsSpan, Trims, TrimsEnd}
 
 -- ---- one item more at the back
@@ -65,12 +65,13 @@ one_piece on text pieces whole absent =
     Pieces-only text on pieces whole ∙ pieces_of-free on text (HasNo-from_absent on text absent)
 
 -- the text after the last separator is the last piece
-pub pieces_from_last_cut : (on : ℕ) (text before last : List ℕ) → IsCutAtLast on text before last
+pub pieces_from_last_cut : (on : ℕ) (text before last : List ℕ)
+    → IsCut (λ left right. ¬ (Contains right on)) (on ∷ []) text before last
     → (pieces : List (List ℕ)) × Pieces text on (pieces ++ last ∷ [])
 pieces_from_last_cut on text before last cut = (
   pieces_of on before,
   subst (Pieces text on) (pieces_of-split_at_last on text before last (sym cut.joined)
-      (HasNo-from_absent on last cut.last)) (Pieces-pieces_of text on),
+      (HasNo-from_absent on last cut.sides)) (Pieces-pieces_of text on),
 )
 
 -- the text of the other lines and the last line, with its ending, are the text

@@ -7,9 +7,9 @@ use native.Mathlib.Numerals.{unary_clauses}
 use Rattle.std.specs.List.{slice_range}
 use Rattle.std.proofs.lemmas.List.{length-take-le, take-append-drop, take_rest}
 use Rattle.std.proofs.Math.Seq.{drop-append_seam, take-append_seam}
-use Rattle.memchr.specs.Find.{FindsLastNeedle, FindsNeedle, OccursAt}
+use Rattle.memchr.specs.Find.{FindsLastNeedle, FindsNeedle, Nowhere, OccursAt}
 use Rattle.memchr.proofs.lemmas.MatchLemmas.{OccursAt-split}
-use Rattle.ascii.specs.Search.{ContainsText, EndsWith, IsCutAtLastText, IsCutAtText, StartsWith}
+use Rattle.ascii.specs.Search.{ContainsText, EndsWith, IsCut, StartsWith}
 
 -- the start of a text that begins with `prefix`
 pub prefix_reads : (prefix text : List ℕ) → StartsWith prefix text
@@ -74,11 +74,12 @@ not_found text needle finds occurs =
 
 -- the cut at the needle that a search finds first
 pub cut_at_first_text : (text needle : List ℕ) (k : ℕ) → FindsNeedle text needle 0 (Some k)
-    → IsCutAtText needle text (slice_range text 0 k)
+    → IsCut (λ before after. Nowhere (OccursAt text needle) 0 (length before)) needle text
+    (slice_range text 0 k)
     (slice_range text (k + length needle) (length text))
 cut_at_first_text text needle k finds = record {
   joined = around text needle k finds.1;
-  first = rw (long_to text k (let fits = finds.1.fits in omega (arith, fits))) finds.0.before;
+  sides = rw (long_to text k (let fits = finds.1.fits in omega (arith, fits))) finds.0.before;
 }
 
 -- a text in which a search from the end finds no needle does not contain it
@@ -89,9 +90,10 @@ not_found_last text needle finds occurs = finds occurs.0 (omega arith)
 
 -- the cut at the needle that a search finds last
 pub cut_at_last_text : (text needle : List ℕ) (k : ℕ) → FindsLastNeedle text needle (Some k)
-    → IsCutAtLastText needle text (slice_range text 0 k)
+    → IsCut (λ before after. Nowhere (OccursAt text needle) (length before + 1) (length text + 1))
+    needle text (slice_range text 0 k)
     (slice_range text (k + length needle) (length text))
 cut_at_last_text text needle k finds = record {
   joined = around text needle k finds.1;
-  last = rw (long_to text k (let fits = finds.1.fits in omega (arith, fits))) finds.0.after;
+  sides = rw (long_to text k (let fits = finds.1.fits in omega (arith, fits))) finds.0.after;
 }

@@ -1,8 +1,8 @@
 -- A text that begins with, ends with or contains another, and what is left of it.
-use Rattle.std.specs.Prelude.{◌≡◌, ℕ, ◌+◌, List, ◌∷◌, ◌++◌, MatchOption, Option, length, map}
+use Rattle.std.specs.Prelude.{◌≡◌, ℕ, List, [], ◌∷◌, ◌++◌, MatchOption, Option, map}
 use Rattle.std.specs.List.{Contains}
 use Rattle.ascii_base.specs.Case.{lower_image}
-use Rattle.memchr.specs.Find.{Nowhere, OccursAt}
+use Rattle.memchr.specs.Find.{OccursAt}
 use Rattle.ascii.specs.declared.ascii_str.AsciiStr.{AsciiStr}
 use Rattle.ascii.specs.View.{text_of}
 
@@ -26,15 +26,9 @@ StartsWith prefix text = (rest : List ℕ) × IsPrefix prefix text rest
 abbrev pub EndsWith : List ℕ → List ℕ → Type 0
 EndsWith suffix text = (rest : List ℕ) × IsSuffix suffix text rest
 
--- `None` if `text` does not begin with `prefix`; otherwise a view of what follows the prefix
-abbrev pub StripsPrefix : List ℕ → List ℕ → Option AsciiStr → Type 0
-StripsPrefix prefix text result = MatchOption result (¬ (StartsWith prefix text))
-    (λ rest. IsPrefix prefix text (text_of rest))
-
--- `None` if `text` does not end with `suffix`; otherwise a view of what comes before the suffix
-abbrev pub StripsSuffix : List ℕ → List ℕ → Option AsciiStr → Type 0
-StripsSuffix suffix text result = MatchOption result (¬ (EndsWith suffix text))
-    (λ rest. IsSuffix suffix text (text_of rest))
+-- `None` if `Has` is not true; otherwise a view of the rest, of which `IsRest` is true
+abbrev pub Strips : Type 0 → (List ℕ → Type 0) → Option AsciiStr → Type 0
+Strips Has IsRest result = MatchOption result (¬ Has) (λ rest. IsRest (text_of rest))
 
 -- `text` begins with `prefix` when the case of letters is ignored
 abbrev pub StartsFolded : List ℕ → List ℕ → Type 0
@@ -46,12 +40,6 @@ pub record IsFoldedPrefix (prefix text rest : List ℕ) : Type 0 where
   pub joined : start ++ rest ≡ text
   pub folded : map lower_image start ≡ map lower_image prefix
 
--- `None` if `text` does not begin with `prefix` when the case of letters is ignored; otherwise a
--- view of what follows it
-abbrev pub StripsFolded : List ℕ → List ℕ → Option AsciiStr → Type 0
-StripsFolded prefix text result = MatchOption result (¬ (StartsFolded prefix text))
-    (λ rest. IsFoldedPrefix prefix text (text_of rest))
-
 -- `text` ends with `suffix` when the case of letters is ignored
 abbrev pub EndsFolded : List ℕ → List ℕ → Type 0
 EndsFolded suffix text = EndsWith (map lower_image suffix) (map lower_image text)
@@ -62,50 +50,18 @@ pub record IsFoldedSuffix (suffix text rest : List ℕ) : Type 0 where
   pub joined : rest ++ end ≡ text
   pub folded : map lower_image end ≡ map lower_image suffix
 
--- `None` if `text` does not end with `suffix` when the case of letters is ignored; otherwise a view
--- of what comes before it
-abbrev pub StripsFoldedSuffix : List ℕ → List ℕ → Option AsciiStr → Type 0
-StripsFoldedSuffix suffix text result = MatchOption result (¬ (EndsFolded suffix text))
-    (λ rest. IsFoldedSuffix suffix text (text_of rest))
+-- `text` is `before`, `between` and `after`, and `Is` is true of the two sides
+pub record IsCut (Is : List ℕ → List ℕ → Type 0) (between text before after : List ℕ) : Type 0
+  where
+    pub joined : before ++ (between ++ after) ≡ text
+    pub sides : Is before after
 
--- `text` is `before`, the code `on` and `after`, and `before` does not contain `on`
-pub record IsCutAt (on : ℕ) (text before after : List ℕ) : Type 0 where
-  pub joined : before ++ on ∷ after ≡ text
-  pub first : ¬ (Contains before on)
+-- `None` if `Has` is not true; otherwise the two sides of a cut
+abbrev pub SplitsOnce : Type 0 → (List ℕ → List ℕ → Type 0) → List ℕ → List ℕ
+    → Option (AsciiStr × AsciiStr) → Type 0
+SplitsOnce Has Is between text result = MatchOption result (¬ Has)
+    (λ sides. IsCut Is between text (text_of sides.0) (text_of sides.1))
 
--- `None` if `text` does not contain `on`; otherwise the texts before and after its first `on`
-abbrev pub SplitsOnce : ℕ → List ℕ → Option (AsciiStr × AsciiStr) → Type 0
-SplitsOnce on text result = MatchOption result (¬ (Contains text on))
-    (λ sides. IsCutAt on text (text_of sides.0) (text_of sides.1))
-
--- `text` is `before`, the code `on` and `after`, and `after` does not contain `on`
-pub record IsCutAtLast (on : ℕ) (text before after : List ℕ) : Type 0 where
-  pub joined : before ++ on ∷ after ≡ text
-  pub last : ¬ (Contains after on)
-
--- `None` if `text` does not contain `on`; otherwise the texts before and after its last `on`
-abbrev pub SplitsOnceAtLast : ℕ → List ℕ → Option (AsciiStr × AsciiStr) → Type 0
-SplitsOnceAtLast on text result = MatchOption result (¬ (Contains text on))
-    (λ sides. IsCutAtLast on text (text_of sides.0) (text_of sides.1))
-
--- `text` is `before`, `needle` and `after`, and no `needle` in `text` starts before this one
-pub record IsCutAtText (needle text before after : List ℕ) : Type 0 where
-  pub joined : before ++ (needle ++ after) ≡ text
-  pub first : Nowhere (OccursAt text needle) 0 (length before)
-
--- `None` if `text` does not contain `needle`; otherwise the texts before and after its first
--- `needle`
-abbrev pub SplitsOnceAtText : List ℕ → List ℕ → Option (AsciiStr × AsciiStr) → Type 0
-SplitsOnceAtText needle text result = MatchOption result (¬ (ContainsText needle text))
-    (λ sides. IsCutAtText needle text (text_of sides.0) (text_of sides.1))
-
--- `text` is `before`, `needle` and `after`, and no `needle` in `text` starts after this one starts
-pub record IsCutAtLastText (needle text before after : List ℕ) : Type 0 where
-  pub joined : before ++ (needle ++ after) ≡ text
-  pub last : Nowhere (OccursAt text needle) (length before + 1) (length text + 1)
-
--- `None` if `text` does not contain `needle`; otherwise the texts before and after its last
--- `needle`
-abbrev pub SplitsOnceAtLastText : List ℕ → List ℕ → Option (AsciiStr × AsciiStr) → Type 0
-SplitsOnceAtLastText needle text result = MatchOption result (¬ (ContainsText needle text))
-    (λ sides. IsCutAtLastText needle text (text_of sides.0) (text_of sides.1))
+-- the cut of `text` at its first `on`: `before` does not contain it
+abbrev pub IsCutAt : ℕ → List ℕ → List ℕ → List ℕ → Type 0
+IsCutAt on = IsCut (λ before after. ¬ (Contains before on)) (on ∷ [])

@@ -2,7 +2,8 @@
 //! allocates.
 
 ghost use Rattle.std.specs.Prelude.{◌↔◌, IsTrue};
-ghost use Rattle.ascii.specs.Search.{EndsFolded, StartsFolded, StripsFolded, StripsFoldedSuffix};
+ghost use Rattle.ascii.specs.Search.{EndsFolded, IsFoldedPrefix, IsFoldedSuffix, StartsFolded};
+ghost use Rattle.ascii.specs.Search.{Strips};
 ghost use Rattle.ascii.specs.View.{text_of};
 
 use crate::ascii_str::AsciiStr;
@@ -28,7 +29,8 @@ impl<'a> AsciiStr<'a> {
     ///     view("Host: a").strip_prefix_ignore_ascii_case(view("a")) // None
     #[tactic(auto, using(crate::proofs::FoldLemmas::folded_reads, crate::proofs::FoldLemmas::folded_fits, crate::proofs::FoldLemmas::folded_rest))]
     pub fn strip_prefix_ignore_ascii_case(self, prefix: AsciiStr<'_>) -> Option<AsciiStr<'a>>
-        ensures { StripsFolded (text_of prefix.entry) (text_of self.entry) result }
+        ensures { Strips (StartsFolded (text_of prefix.entry) (text_of self.entry))
+            (IsFoldedPrefix (text_of prefix.entry) (text_of self.entry)) result }
     {
         let n = prefix.len();
         if n <= self.len() && self.slice(AsciiRange::To(n)).eq_ignore_ascii_case(prefix) {
@@ -57,7 +59,8 @@ impl<'a> AsciiStr<'a> {
     ///     view("a.HTML").strip_suffix_ignore_ascii_case(view("a")) // None
     #[tactic(auto, using(crate::proofs::FoldLemmas::folded_suffix_reads, crate::proofs::FoldLemmas::folded_suffix_fits, crate::proofs::FoldLemmas::folded_front))]
     pub fn strip_suffix_ignore_ascii_case(self, suffix: AsciiStr<'_>) -> Option<AsciiStr<'a>>
-        ensures { StripsFoldedSuffix (text_of suffix.entry) (text_of self.entry) result }
+        ensures { Strips (EndsFolded (text_of suffix.entry) (text_of self.entry))
+            (IsFoldedSuffix (text_of suffix.entry) (text_of self.entry)) result }
     {
         let n = suffix.len();
         if self.len() < n {

@@ -5,7 +5,7 @@ ghost use Rattle.std.specs.Prelude.{◌≡◌, ◌↔◌, IsTrue};
 ghost use Rattle.memchr.specs.Find.{FindsLastNeedle, FindsNeedle, IsFirstByte, IsLastByte};
 ghost use Rattle.memchr.specs.Find.{is_byte};
 ghost use Rattle.ascii_base.specs.Code.{code_of};
-ghost use Rattle.ascii.specs.Search.{ContainsText, EndsWith, StartsWith, StripsPrefix, StripsSuffix};
+ghost use Rattle.ascii.specs.Search.{ContainsText, EndsWith, IsPrefix, IsSuffix, StartsWith, Strips};
 ghost use Rattle.ascii.specs.View.{text_of};
 
 use crate::ascii_str::AsciiStr;
@@ -107,7 +107,8 @@ impl<'a> AsciiStr<'a> {
     ///     view("foobar").strip_prefix(view("bar")) // None
     #[tactic(auto, using(crate::proofs::CutLemmas::prefix_reads, crate::proofs::CutLemmas::joined_at))]
     pub fn strip_prefix(self, prefix: AsciiStr<'_>) -> Option<AsciiStr<'a>>
-        ensures { StripsPrefix (text_of prefix.entry) (text_of self.entry) result }
+        ensures { Strips (StartsWith (text_of prefix.entry) (text_of self.entry))
+            (IsPrefix (text_of prefix.entry) (text_of self.entry)) result }
     {
         let n = prefix.len();
         if n <= self.len() && self.slice(AsciiRange::To(n)).eq_text(prefix) {
@@ -124,7 +125,8 @@ impl<'a> AsciiStr<'a> {
     ///     view("foobar").strip_suffix(view("foo")) // None
     #[tactic(auto, using(crate::proofs::CutLemmas::suffix_reads, crate::proofs::CutLemmas::suffix_fits, crate::proofs::CutLemmas::joined_at))]
     pub fn strip_suffix(self, suffix: AsciiStr<'_>) -> Option<AsciiStr<'a>>
-        ensures { StripsSuffix (text_of suffix.entry) (text_of self.entry) result }
+        ensures { Strips (EndsWith (text_of suffix.entry) (text_of self.entry))
+            (IsSuffix (text_of suffix.entry) (text_of self.entry)) result }
     {
         let n = suffix.len();
         if self.len() < n {

@@ -1,8 +1,10 @@
 //! Cutting a view in two at a character or a text. No call of this module allocates.
 
+ghost use Rattle.std.specs.Prelude.{◌+◌, ◌∷◌, [], length};
+ghost use Rattle.std.specs.List.{Contains};
 ghost use Rattle.ascii_base.specs.Code.{code_of};
-ghost use Rattle.ascii.specs.Search.{SplitsOnce, SplitsOnceAtLast, SplitsOnceAtLastText};
-ghost use Rattle.ascii.specs.Search.{SplitsOnceAtText};
+ghost use Rattle.memchr.specs.Find.{Nowhere, OccursAt};
+ghost use Rattle.ascii.specs.Search.{ContainsText, SplitsOnce};
 ghost use Rattle.ascii.specs.View.{text_of};
 
 use crate::ascii_str::AsciiStr;
@@ -16,7 +18,9 @@ impl<'a> AsciiStr<'a> {
     ///     view("a=b=c").split_once(AsciiChar::Equal) // Some(("a", "b=c"))
     ///     view("abc").split_once(AsciiChar::Equal) // None
     pub fn split_once(self, on: AsciiChar) -> Option<(AsciiStr<'a>, AsciiStr<'a>)>
-        ensures { SplitsOnce (code_of on) (text_of self.entry) result }
+        ensures { SplitsOnce (Contains (text_of self.entry) (code_of on))
+            (λ before after. ¬ (Contains before (code_of on))) (code_of on ∷ [])
+            (text_of self.entry) result }
     {
         let mut pieces = self.split(on);
         let before = pieces.next()?;
@@ -31,7 +35,9 @@ impl<'a> AsciiStr<'a> {
     ///     view("abc").rsplit_once(AsciiChar::Equal) // None
     #[tactic(auto, using(crate::proofs::CallerLemmas::join_with_last))]
     pub fn rsplit_once(self, on: AsciiChar) -> Option<(AsciiStr<'a>, AsciiStr<'a>)>
-        ensures { SplitsOnceAtLast (code_of on) (text_of self.entry) result }
+        ensures { SplitsOnce (Contains (text_of self.entry) (code_of on))
+            (λ before after. ¬ (Contains after (code_of on))) (code_of on ∷ [])
+            (text_of self.entry) result }
     {
         let mut pieces = self.split(on);
         let after = pieces.next_back()?;
@@ -46,7 +52,9 @@ impl<'a> AsciiStr<'a> {
     ///     view("a:b").split_once_str(view(": ")) // None
     #[tactic(auto, using(crate::proofs::CutLemmas::not_found))]
     pub fn split_once_str(self, needle: AsciiStr<'_>) -> Option<(AsciiStr<'a>, AsciiStr<'a>)>
-        ensures { SplitsOnceAtText (text_of needle.entry) (text_of self.entry) result }
+        ensures { SplitsOnce (ContainsText (text_of needle.entry) (text_of self.entry))
+            (λ before after. Nowhere (OccursAt (text_of self.entry) (text_of needle.entry))
+            0 (length before)) (text_of needle.entry) (text_of self.entry) result }
     {
         let start = self.find(needle)?;
         let end = start + needle.len();
@@ -63,7 +71,10 @@ impl<'a> AsciiStr<'a> {
     ///     view("a:b").rsplit_once_str(view(": ")) // None
     #[tactic(auto, using(crate::proofs::CutLemmas::not_found_last))]
     pub fn rsplit_once_str(self, needle: AsciiStr<'_>) -> Option<(AsciiStr<'a>, AsciiStr<'a>)>
-        ensures { SplitsOnceAtLastText (text_of needle.entry) (text_of self.entry) result }
+        ensures { SplitsOnce (ContainsText (text_of needle.entry) (text_of self.entry))
+            (λ before after. Nowhere (OccursAt (text_of self.entry) (text_of needle.entry))
+            (length before + 1) (length (text_of self.entry) + 1)) (text_of needle.entry)
+            (text_of self.entry) result }
     {
         let start = self.rfind(needle)?;
         let end = start + needle.len();

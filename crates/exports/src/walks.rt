@@ -85,6 +85,67 @@ pub extern "C" fn ask_split_spans(
     answer.finish(room)
 }
 
+/// The pieces at a character with their starts. Form 0 has the last one first, form 1 has no empty last one,
+/// and any other number has them with their separators.
+#[unsafe(no_mangle)]
+pub extern "C" fn ask_pieces(
+    alloc: Global,
+    form: u8,
+    code: u8,
+    source: &[u8],
+    script: &[u8],
+    room: &mut [u8],
+) -> usize
+    requires { IsAscii source.now }
+{
+    let mut answer = Answer::new(alloc);
+    if let Ok(on) = AsciiChar::from_ascii(code) {
+        let view = bytes::as_ascii_str_unchecked(source);
+        match form {
+            0 => put_spans(view.rsplit_spans(on), script, &mut answer),
+            1 => put_spans(view.split_terminator_spans(on), script, &mut answer),
+            _ => put_spans(view.split_inclusive_spans(on), script, &mut answer),
+        }
+    }
+    answer.finish(room)
+}
+
+fn put_spans<'a, I: DoubleEndedIterator<Item = SplitSpan<'a>> + Clone + Drop>(
+    items: I,
+    script: &[u8],
+    answer: &mut Answer,
+)
+    requires can { (s : I) → I.can_next s × I.can_next_back s }
+{
+    let mut items = items;
+    for number in script {
+        answer.span(start_and_text(step(&mut items, *number)));
+    }
+}
+
+/// The pieces at a text with their starts, and the occurrences of that text.
+#[unsafe(no_mangle)]
+pub extern "C" fn ask_pieces_at(
+    alloc: Global,
+    source: &[u8],
+    needle: &[u8],
+    room: &mut [u8],
+) -> usize
+    requires source { IsAscii source.now }
+    requires needle { IsAscii needle.now }
+{
+    let mut answer = Answer::new(alloc);
+    let view = bytes::as_ascii_str_unchecked(source);
+    let needle = bytes::as_ascii_str_unchecked(needle);
+    for piece in view.split_spans_str(needle) {
+        answer.span(Some((piece.start, piece.text)));
+    }
+    for found in view.match_spans(needle) {
+        answer.span(Some((found.start, found.text)));
+    }
+    answer.finish(room)
+}
+
 /// The start and the text of a piece or a word.
 pub(crate) fn start_and_text<'a>(span: Option<SplitSpan<'a>>) -> Option<(usize, AsciiStr<'a>)> {
     match span {

@@ -16,8 +16,8 @@ use std::alloc::Global;
 
 /// The number of a class is its index in the list of `ask_class`.
 ///
-/// Which of the bytes are in the class, the first and the last one that is not; and of a text its run at
-/// the start, the text without the class at its ends, and its words by a script.
+/// Which of the bytes are in the class, the first and the last one that is not and that is; and of a text
+/// its run at the start, the text without the class at its ends, and its words, runs and pieces by a script.
 #[unsafe(no_mangle)]
 pub extern "C" fn ask_class(
     alloc: Global,
@@ -55,6 +55,8 @@ fn search<C: Searched>(source: &[u8], script: &[u8], answer: &mut Answer) {
     }
     answer.position(kernels::first_not::<C>(source));
     answer.position(kernels::last_not::<C>(source));
+    answer.position(kernels::first_of::<C>(source));
+    answer.position(kernels::last_of::<C>(source));
     if let Ok(view) = bytes::as_ascii_str(source) {
         let (run, rest) = view.span::<C>();
         answer.text(run);
@@ -69,10 +71,14 @@ fn search<C: Searched>(source: &[u8], script: &[u8], answer: &mut Answer) {
 fn walk_words<C: Searched>(view: AsciiStr<'_>, script: &[u8], answer: &mut Answer) {
     let mut words = view.words::<C>();
     let mut spans = view.word_spans::<C>();
+    let mut runs = view.run_spans::<C>();
+    let mut pieces = view.split_spans_by::<C>();
     for number in script {
         answer.part(step(&mut words, *number));
         answer.text(words.as_str());
         answer.span(start_and_text(step(&mut spans, *number)));
+        answer.span(start_and_text(step(&mut runs, *number)));
+        answer.span(start_and_text(step(&mut pieces, *number)));
     }
 }
 
