@@ -2,9 +2,19 @@
 
 mod failing;
 
+ghost use Rattle.std.specs.Prelude.{IsTrue};
+
 use super::*;
+use std::fmt::Debug;
 use std::process::Abort;
 use testing::assert_row;
+
+/// Fails the test if `got` differs from `want`.
+fn assert_same<T: PartialEq + Debug + Drop>(rt: &impl Abort, got: T, want: T, source: &'static str)
+    ensures { IsTrue (T.eq got want) }
+{
+    testing::compare(got, want, source).expect(rt, "got differs from want")
+}
 
 const USAGE: &str = "usage: ascii_show copy|lines|tac|caret|ends [-s] SCRIPT|edit WORD..|json\n";
 

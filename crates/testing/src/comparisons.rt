@@ -7,19 +7,23 @@ use std::fmt;
 use std::fmt::Debug;
 
 /// Fails the test if `got` differs from `want`, and prints both, and the source of `got`.
+///
+/// The crate of the test has the function `tests::assert_same`, which takes the error of `compare`.
 #[macro_export]
 macro_rules! assert_row {
     ($rt:expr; $got:expr, $want:expr) => {
-        $crate::compare($got, $want, stringify!($got)).expect(&$rt, "got differs from want")
+        crate::tests::assert_same(&$rt, $got, $want, stringify!($got))
     };
 }
 
 /// Fails the test if the `{:?}` output of `got` is not `want`, and prints both.
+///
+/// The crate of the test has the function `tests::assert_shows`, which takes the error of
+/// `compare_debug`.
 #[macro_export]
 macro_rules! assert_debug {
     ($rt:expr; $got:expr, $want:expr) => {
-        $crate::compare_debug($rt.alloc(), &$got, $want)
-            .expect(&$rt, "the output of {:?} differs")
+        crate::tests::assert_shows(&$rt, $rt.alloc(), &$got, $want)
     };
 }
 

@@ -7,10 +7,24 @@ mod line_writer;
 mod of_ascii_lines;
 mod serving;
 
-ghost use Rattle.std.specs.Prelude.{◌≡◌, ◌∷◌, []};
+ghost use Rattle.std.specs.Prelude.{◌≡◌, ◌∷◌, [], IsTrue};
 
 use ascii_lines::{AsciiStr, AsciiString, Handler, Next};
 use std::alloc::{AllocError, Global};
+use std::fmt::Debug;
+use std::process::Abort;
+
+/// Fails the test if `got` differs from `want`.
+fn assert_same<T: PartialEq + Debug + Drop>(rt: &impl Abort, got: T, want: T, source: &'static str)
+    ensures { IsTrue (T.eq got want) }
+{
+    testing::compare(got, want, source).expect(rt, "got differs from want")
+}
+
+/// Fails the test if the `{:?}` output of `got` is not `want`.
+fn assert_shows<T: Debug>(rt: &impl Abort, alloc: Global, got: &T, want: &str) {
+    testing::compare_debug(alloc, got, want).expect(rt, "the output of {:?} differs")
+}
 
 /// A handler that replies with the text that it is handed.
 #[derive(Drop)]

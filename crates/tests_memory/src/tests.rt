@@ -19,9 +19,19 @@ mod runs_and_modes;
 mod small_string_memory;
 mod string_edits;
 
+ghost use Rattle.std.specs.Prelude.{IsTrue};
+
 use ascii::AsciiString;
+use std::fmt::Debug;
 use std::process::Abort;
 use testing::ascii;
+
+/// Fails the test if `got` differs from `want`.
+fn assert_same<T: PartialEq + Debug + Drop>(rt: &impl Abort, got: T, want: T, source: &'static str)
+    ensures { IsTrue (T.eq got want) }
+{
+    testing::compare(got, want, source).expect(rt, "got differs from want")
+}
 
 /// The text of `piece`, `times` times.
 fn repeated<R: Abort + AllocGlobal>(rt: &R, piece: &str, times: usize) -> AsciiString {
