@@ -24,7 +24,24 @@ TESTS = {
 }
 
 # What the tests share.
-SHARED = {"assert_debug!": "use testing::assert_debug;", "view": "use testing::view;"}
+SHARED = {
+    "assert_debug!": "use testing::assert_debug;",
+    "boxed": "use super::boxed;",
+    "owned": "use super::owned;",
+    "shared": "use super::shared;",
+    "small": "use super::small;",
+    "view": "use testing::view;",
+}
+
+# What many examples begin with, and the function of the test crate that does it: an `expect` at each takes half a second
+# to be proved.
+LITERAL = r'view\(("(?:\\.|[^"\\])*")\)'
+BEGINNINGS = {
+    rf"{LITERAL}\.to_ascii_string\(alloc\)\?": r"owned(&rt, \1)",
+    rf"BoxedAsciiStr::from_ascii_str\(alloc, {LITERAL}\)\?": r"boxed(&rt, \1)",
+    rf"RcAsciiStr::from_ascii_str\(alloc, {LITERAL}\)\?": r"shared(&rt, \1)",
+    rf"SmallAsciiString::from_ascii_str\(alloc, {LITERAL}\)\?": r"small(&rt, \1)",
+}
 
 # What else an example may name.
 OTHERS = {
@@ -133,6 +150,8 @@ def escaped(text):
 
 def expecting(line):
     """A line of code, with `expect` for `?`: it takes less to be proved, since no way out is left."""
+    for beginning, call in BEGINNINGS.items():
+        line = re.sub(beginning, call, line)
     parts = re.split(r'("(?:\\.|[^"\\])*")', line)
     parts[::2] = [part.replace("?", '.expect(&rt, "refused")') for part in parts[::2]]
     return "".join(parts)

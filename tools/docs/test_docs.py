@@ -31,6 +31,14 @@ class Examples(unittest.TestCase):
         code = "".join(line.strip() for line in statements(["a() // 1", "b()? // \"x\""]))
         self.assertEqual(code, 'assert_debug!(rt;(a(),b().expect(&rt, "refused"),),"(1, \\"x\\")");')
 
+    def test_a_string_is_made_by_a_function_of_the_test_crate(self):
+        code = 'view("fo").to_ascii_string(alloc)?.pop() // Some(\'o\')'
+        self.assertEqual(statements([code]), ["""    assert_debug!(rt; owned(&rt, "fo").pop(), "Some('o')");"""])
+        code = 'view("fo").to_ascii_string(alloc) // Ok("fo")'
+        self.assertEqual(
+            statements([code]), ["""    assert_debug!(rt; view("fo").to_ascii_string(alloc), "Ok(\\"fo\\")");"""]
+        )
+
     def test_a_value_between_statements_is_compared_at_its_place(self):
         lines = ["let mut a = b();", "a.next() // 1", "a.next() // 2"]
         shown = [f'    assert_debug!(rt; a.next(), "{n}");' for n in (1, 2)]

@@ -22,11 +22,15 @@ mod pseudo_random;
 mod scripted_devices;
 mod small_string;
 
-ghost use Rattle.std.specs.Prelude.{IsTrue};
+ghost use Rattle.std.specs.Prelude.{◌≡◌, IsTrue};
+ghost use Rattle.std.specs.Str.{IsAscii};
 
+use ascii::AsciiString;
+use ascii_run::SmallAsciiString;
 use std::alloc::Global;
 use std::fmt::Debug;
 use std::process::Abort;
+use testing::view;
 
 /// Fails the test if `got` differs from `want`.
 fn assert_same<T: PartialEq + Debug + Drop>(rt: &impl Abort, got: T, want: T, source: &'static str)
@@ -38,4 +42,22 @@ fn assert_same<T: PartialEq + Debug + Drop>(rt: &impl Abort, got: T, want: T, so
 /// Fails the test if the `{:?}` output of `got` is not `want`.
 fn assert_shows<T: Debug>(rt: &impl Abort, alloc: Global, got: &T, want: &str) {
     testing::compare_debug(alloc, got, want).expect(rt, "the output of {:?} differs")
+}
+
+/// The string of an ASCII text.
+fn owned<R: Abort + AllocGlobal>(rt: &R, source: &str) -> AsciiString
+    requires { IsAscii source.now }
+    ensures { result.text ≡ source.now }
+{
+    view(source)
+        .to_ascii_string(rt.alloc())
+        .expect(rt, "no memory")
+}
+
+/// The inline string of an ASCII text.
+fn small<R: Abort + AllocGlobal>(rt: &R, source: &str) -> SmallAsciiString
+    requires { IsAscii source.now }
+    ensures { result.text ≡ source.now }
+{
+    SmallAsciiString::from_ascii_str(rt.alloc(), view(source)).expect(rt, "no memory")
 }

@@ -1,5 +1,6 @@
 //! The examples in the documentation of `ascii`, made by `bin/docs examples`.
 
+use super::{boxed, owned, shared};
 use ascii::classes::{Blank, Digit, Ranges};
 use ascii::folded::FoldedStr;
 use ascii::iter::{
@@ -8,8 +9,8 @@ use ascii::iter::{
 use ascii::json::{JsonError, char_from_json, char_to_json, str_from_json, string_from_json};
 use ascii::numbers::{Number, NumberError};
 use ascii::{
-    AsAsciiStrError, AsciiChar, AsciiRange, AsciiStr, AsciiString, BoxedAsciiStr, CowAsciiStr,
-    RcAsciiStr, bytes, string, text, vec,
+    AsAsciiStrError, AsciiChar, AsciiRange, AsciiStr, AsciiString, CowAsciiStr, bytes, string,
+    text, vec,
 };
 use serde_json::Value;
 use std::alloc::Global;
@@ -272,12 +273,7 @@ fn from_ascii_unchecked_of_ascii_string(rt: HostRuntime) {
 // AsciiString::as_ascii_str
 #[test]
 fn as_ascii_str_of_ascii_string(rt: HostRuntime) {
-    let alloc = rt.alloc();
-    assert_debug!(
-        rt;
-        view("foo").to_ascii_string(alloc).expect(&rt, "refused").as_ascii_str(),
-        "\"foo\""
-    );
+    assert_debug!(rt; owned(&rt, "foo").as_ascii_str(), "\"foo\"");
 }
 
 // AsciiString::capacity
@@ -290,8 +286,7 @@ fn capacity_of_ascii_string(rt: HostRuntime) {
 // AsciiString::reserve
 #[test]
 fn reserve_of_ascii_string(rt: HostRuntime) {
-    let alloc = rt.alloc();
-    let mut text = view("foo").to_ascii_string(alloc).expect(&rt, "refused");
+    let mut text = owned(&rt, "foo");
     assert_debug!(rt; text.reserve(10), "Ok(())");
     assert_debug!(rt; text.capacity() >= 13, "true");
 }
@@ -299,8 +294,7 @@ fn reserve_of_ascii_string(rt: HostRuntime) {
 // AsciiString::reserve_exact
 #[test]
 fn reserve_exact_of_ascii_string(rt: HostRuntime) {
-    let alloc = rt.alloc();
-    let mut text = view("foo").to_ascii_string(alloc).expect(&rt, "refused");
+    let mut text = owned(&rt, "foo");
     assert_debug!(rt; text.reserve_exact(10), "Ok(())");
     assert_debug!(rt; text.capacity() >= 13, "true");
 }
@@ -317,8 +311,7 @@ fn shrink_to_fit_of_ascii_string(rt: HostRuntime) {
 // AsciiString::push
 #[test]
 fn push_of_ascii_string(rt: HostRuntime) {
-    let alloc = rt.alloc();
-    let mut text = view("fo").to_ascii_string(alloc).expect(&rt, "refused");
+    let mut text = owned(&rt, "fo");
     assert_debug!(rt; text.push(AsciiChar::o), "Ok(())");
     assert_debug!(rt; text, "\"foo\"");
 }
@@ -326,8 +319,7 @@ fn push_of_ascii_string(rt: HostRuntime) {
 // AsciiString::push_str
 #[test]
 fn push_str_of_ascii_string(rt: HostRuntime) {
-    let alloc = rt.alloc();
-    let mut text = view("foo").to_ascii_string(alloc).expect(&rt, "refused");
+    let mut text = owned(&rt, "foo");
     assert_debug!(rt; text.push_str(view("bar")), "Ok(())");
     assert_debug!(rt; text, "\"foobar\"");
 }
@@ -335,8 +327,7 @@ fn push_str_of_ascii_string(rt: HostRuntime) {
 // AsciiString::push_decimal
 #[test]
 fn push_decimal_of_ascii_string(rt: HostRuntime) {
-    let alloc = rt.alloc();
-    let mut text = view("n = ").to_ascii_string(alloc).expect(&rt, "refused");
+    let mut text = owned(&rt, "n = ");
     assert_debug!(rt; text.push_decimal(42u64), "Ok(())");
     assert_debug!(rt; text, "\"n = 42\"");
 }
@@ -344,8 +335,7 @@ fn push_decimal_of_ascii_string(rt: HostRuntime) {
 // AsciiString::insert
 #[test]
 fn insert_of_ascii_string(rt: HostRuntime) {
-    let alloc = rt.alloc();
-    let mut text = view("fo").to_ascii_string(alloc).expect(&rt, "refused");
+    let mut text = owned(&rt, "fo");
     assert_debug!(rt; text.insert(0, AsciiChar::z), "Ok(())");
     assert_debug!(rt; text, "\"zfo\"");
 }
@@ -353,8 +343,7 @@ fn insert_of_ascii_string(rt: HostRuntime) {
 // AsciiString::insert_str
 #[test]
 fn insert_str_of_ascii_string(rt: HostRuntime) {
-    let alloc = rt.alloc();
-    let mut text = view("fo").to_ascii_string(alloc).expect(&rt, "refused");
+    let mut text = owned(&rt, "fo");
     assert_debug!(rt; text.insert_str(1, view("lo")), "Ok(())");
     assert_debug!(rt; text, "\"floo\"");
 }
@@ -362,8 +351,7 @@ fn insert_str_of_ascii_string(rt: HostRuntime) {
 // AsciiString::remove
 #[test]
 fn remove_of_ascii_string(rt: HostRuntime) {
-    let alloc = rt.alloc();
-    let mut text = view("foo").to_ascii_string(alloc).expect(&rt, "refused");
+    let mut text = owned(&rt, "foo");
     assert_debug!(rt; text.remove(0), "'f'");
     assert_debug!(rt; text, "\"oo\"");
 }
@@ -371,8 +359,7 @@ fn remove_of_ascii_string(rt: HostRuntime) {
 // AsciiString::pop
 #[test]
 fn pop_of_ascii_string(rt: HostRuntime) {
-    let alloc = rt.alloc();
-    let mut text = view("fo").to_ascii_string(alloc).expect(&rt, "refused");
+    let mut text = owned(&rt, "fo");
     assert_debug!(rt; text.pop(), "Some('o')");
     assert_debug!(rt; text, "\"f\"");
 }
@@ -380,8 +367,7 @@ fn pop_of_ascii_string(rt: HostRuntime) {
 // AsciiString::truncate
 #[test]
 fn truncate_of_ascii_string(rt: HostRuntime) {
-    let alloc = rt.alloc();
-    let mut text = view("foo").to_ascii_string(alloc).expect(&rt, "refused");
+    let mut text = owned(&rt, "foo");
     text.truncate(2);
     assert_debug!(rt; text, "\"fo\"");
 }
@@ -389,8 +375,7 @@ fn truncate_of_ascii_string(rt: HostRuntime) {
 // AsciiString::split_off
 #[test]
 fn split_off_of_ascii_string(rt: HostRuntime) {
-    let alloc = rt.alloc();
-    let mut text = view("foobar").to_ascii_string(alloc).expect(&rt, "refused");
+    let mut text = owned(&rt, "foobar");
     assert_debug!(rt; text.split_off(3), "Ok(\"bar\")");
     assert_debug!(rt; text, "\"foo\"");
 }
@@ -398,8 +383,7 @@ fn split_off_of_ascii_string(rt: HostRuntime) {
 // AsciiString::clear
 #[test]
 fn clear_of_ascii_string(rt: HostRuntime) {
-    let alloc = rt.alloc();
-    let mut text = view("foo").to_ascii_string(alloc).expect(&rt, "refused");
+    let mut text = owned(&rt, "foo");
     text.clear();
     assert_debug!(rt; text, "\"\"");
 }
@@ -407,8 +391,7 @@ fn clear_of_ascii_string(rt: HostRuntime) {
 // AsciiString::set
 #[test]
 fn set_of_ascii_string(rt: HostRuntime) {
-    let alloc = rt.alloc();
-    let mut text = view("foo").to_ascii_string(alloc).expect(&rt, "refused");
+    let mut text = owned(&rt, "foo");
     text.set(0, AsciiChar::z);
     assert_debug!(rt; text, "\"zoo\"");
 }
@@ -416,8 +399,7 @@ fn set_of_ascii_string(rt: HostRuntime) {
 // AsciiString::make_ascii_uppercase
 #[test]
 fn make_ascii_uppercase_of_ascii_string(rt: HostRuntime) {
-    let alloc = rt.alloc();
-    let mut text = view("foo").to_ascii_string(alloc).expect(&rt, "refused");
+    let mut text = owned(&rt, "foo");
     text.make_ascii_uppercase();
     assert_debug!(rt; text, "\"FOO\"");
 }
@@ -425,8 +407,7 @@ fn make_ascii_uppercase_of_ascii_string(rt: HostRuntime) {
 // AsciiString::make_ascii_lowercase
 #[test]
 fn make_ascii_lowercase_of_ascii_string(rt: HostRuntime) {
-    let alloc = rt.alloc();
-    let mut text = view("FOO").to_ascii_string(alloc).expect(&rt, "refused");
+    let mut text = owned(&rt, "FOO");
     text.make_ascii_lowercase();
     assert_debug!(rt; text, "\"foo\"");
 }
@@ -434,63 +415,37 @@ fn make_ascii_lowercase_of_ascii_string(rt: HostRuntime) {
 // AsciiString::len
 #[test]
 fn len_of_ascii_string(rt: HostRuntime) {
-    let alloc = rt.alloc();
-    assert_debug!(rt; view("foo").to_ascii_string(alloc).expect(&rt, "refused").len(), "3");
+    assert_debug!(rt; owned(&rt, "foo").len(), "3");
 }
 
 // AsciiString::is_empty
 #[test]
 fn is_empty_of_ascii_string(rt: HostRuntime) {
-    let alloc = rt.alloc();
-    assert_debug!(
-        rt;
-        view("foo").to_ascii_string(alloc).expect(&rt, "refused").is_empty(),
-        "false"
-    );
+    assert_debug!(rt; owned(&rt, "foo").is_empty(), "false");
 }
 
 // Clone for AsciiString::clone
 #[test]
 fn clone_of_ascii_string(rt: HostRuntime) {
-    let alloc = rt.alloc();
-    assert_debug!(
-        rt;
-        view("foo").to_ascii_string(alloc).expect(&rt, "refused").clone().expect(&rt, "refused"),
-        "\"foo\""
-    );
+    assert_debug!(rt; owned(&rt, "foo").clone().expect(&rt, "refused"), "\"foo\"");
 }
 
 // PartialEq for AsciiString::eq
 #[test]
 fn eq_of_ascii_string(rt: HostRuntime) {
-    let alloc = rt.alloc();
-    assert_debug!(
-        rt;
-        view("foo").to_ascii_string(alloc).expect(&rt, "refused") == view("foo").to_ascii_string(alloc).expect(&rt, "refused"),
-        "true"
-    );
+    assert_debug!(rt; owned(&rt, "foo") == owned(&rt, "foo"), "true");
 }
 
 // PartialOrd for AsciiString::partial_cmp
 #[test]
 fn partial_cmp_of_ascii_string(rt: HostRuntime) {
-    let alloc = rt.alloc();
-    assert_debug!(
-        rt;
-        view("foo").to_ascii_string(alloc).expect(&rt, "refused") < view("fop").to_ascii_string(alloc).expect(&rt, "refused"),
-        "true"
-    );
+    assert_debug!(rt; owned(&rt, "foo") < owned(&rt, "fop"), "true");
 }
 
 // Ord for AsciiString::cmp
 #[test]
 fn cmp_of_ascii_string(rt: HostRuntime) {
-    let alloc = rt.alloc();
-    assert_debug!(
-        rt;
-        view("foo").to_ascii_string(alloc).expect(&rt, "refused").cmp(&view("fo").to_ascii_string(alloc).expect(&rt, "refused")),
-        "Greater"
-    );
+    assert_debug!(rt; owned(&rt, "foo").cmp(&owned(&rt, "fo")), "Greater");
 }
 
 // Hash for AsciiString::hash
@@ -498,24 +453,15 @@ fn cmp_of_ascii_string(rt: HostRuntime) {
 fn hash_of_ascii_string(rt: HostRuntime) {
     let alloc = rt.alloc();
     let mut seen = HashSet::new(alloc);
-    seen.insert(view("foo").to_ascii_string(alloc).expect(&rt, "refused"))
-        .expect(&rt, "refused");
-    assert_debug!(
-        rt;
-        seen.contains(&view("foo").to_ascii_string(alloc).expect(&rt, "refused")),
-        "true"
-    );
+    seen.insert(owned(&rt, "foo")).expect(&rt, "refused");
+    assert_debug!(rt; seen.contains(&owned(&rt, "foo")), "true");
 }
 
 // Display for AsciiString::fmt
 #[test]
 fn display_of_ascii_string(rt: HostRuntime) {
     let alloc = rt.alloc();
-    assert_debug!(
-        rt;
-        format!(in alloc; "{}", view("foo").to_ascii_string(alloc).expect(&rt, "refused")).expect(&rt, "refused"),
-        "\"foo\""
-    );
+    assert_debug!(rt; format!(in alloc; "{}", owned(&rt, "foo")).expect(&rt, "refused"), "\"foo\"");
 }
 
 // Debug for AsciiString::fmt
@@ -524,7 +470,7 @@ fn debug_of_ascii_string(rt: HostRuntime) {
     let alloc = rt.alloc();
     assert_debug!(
         rt;
-        format!(in alloc; "{:?}", view("foo").to_ascii_string(alloc).expect(&rt, "refused")).expect(&rt, "refused"),
+        format!(in alloc; "{:?}", owned(&rt, "foo")).expect(&rt, "refused"),
         "\"\\\"foo\\\"\""
     );
 }
@@ -532,8 +478,7 @@ fn debug_of_ascii_string(rt: HostRuntime) {
 // AsciiString::write_char
 #[test]
 fn write_char_of_ascii_string(rt: HostRuntime) {
-    let alloc = rt.alloc();
-    let mut text = view("foo").to_ascii_string(alloc).expect(&rt, "refused");
+    let mut text = owned(&rt, "foo");
     assert_debug!(rt; text.write_char('d'), "Ok(())");
     assert_debug!(rt; text.write_char('č'), "Err(Error)");
     assert_debug!(rt; text, "\"food\"");
@@ -542,8 +487,7 @@ fn write_char_of_ascii_string(rt: HostRuntime) {
 // Write for AsciiString::write_str
 #[test]
 fn write_str_of_ascii_string(rt: HostRuntime) {
-    let alloc = rt.alloc();
-    let mut text = view("foo").to_ascii_string(alloc).expect(&rt, "refused");
+    let mut text = owned(&rt, "foo");
     assert_debug!(rt; write!(text, "{}", 7), "Ok(())");
     assert_debug!(rt; text, "\"foo7\"");
 }
@@ -551,122 +495,68 @@ fn write_str_of_ascii_string(rt: HostRuntime) {
 // From<AsciiString> for Vec::from
 #[test]
 fn from_of_vec(rt: HostRuntime) {
-    let alloc = rt.alloc();
-    assert_debug!(
-        rt;
-        Vec::from(view("foo").to_ascii_string(alloc).expect(&rt, "refused")),
-        "[102, 111, 111]"
-    );
+    assert_debug!(rt; Vec::from(owned(&rt, "foo")), "[102, 111, 111]");
 }
 
 // From<AsciiString> for String::from
 #[test]
 fn from_of_string(rt: HostRuntime) {
-    let alloc = rt.alloc();
-    assert_debug!(
-        rt;
-        String::from(view("foo").to_ascii_string(alloc).expect(&rt, "refused")),
-        "\"foo\""
-    );
+    assert_debug!(rt; String::from(owned(&rt, "foo")), "\"foo\"");
 }
 
 // BoxedAsciiStr::from_ascii_str
 #[test]
 fn from_ascii_str_of_boxed_ascii_str(rt: HostRuntime) {
-    let alloc = rt.alloc();
-    assert_debug!(
-        rt;
-        BoxedAsciiStr::from_ascii_str(alloc, view("foo")).expect(&rt, "refused").as_ascii_str(),
-        "\"foo\""
-    );
+    assert_debug!(rt; boxed(&rt, "foo").as_ascii_str(), "\"foo\"");
 }
 
 // BoxedAsciiStr::as_ascii_str
 #[test]
 fn as_ascii_str_of_boxed_ascii_str(rt: HostRuntime) {
-    let alloc = rt.alloc();
-    assert_debug!(
-        rt;
-        BoxedAsciiStr::from_ascii_str(alloc, view("foo")).expect(&rt, "refused").as_ascii_str().len(),
-        "3"
-    );
+    assert_debug!(rt; boxed(&rt, "foo").as_ascii_str().len(), "3");
 }
 
 // BoxedAsciiStr::into_ascii_string
 #[test]
 fn into_ascii_string_of_boxed_ascii_str(rt: HostRuntime) {
-    let alloc = rt.alloc();
-    assert_debug!(
-        rt;
-        BoxedAsciiStr::from_ascii_str(alloc, view("foo")).expect(&rt, "refused").into_ascii_string().ok(),
-        "Some(\"foo\")"
-    );
+    assert_debug!(rt; boxed(&rt, "foo").into_ascii_string().ok(), "Some(\"foo\")");
 }
 
 // BoxedAsciiStr::into_boxed_str
 #[test]
 fn into_boxed_str_of_boxed_ascii_str(rt: HostRuntime) {
-    let alloc = rt.alloc();
-    assert_debug!(
-        rt;
-        BoxedAsciiStr::from_ascii_str(alloc, view("foo")).expect(&rt, "refused").into_boxed_str(),
-        "\"foo\""
-    );
+    assert_debug!(rt; boxed(&rt, "foo").into_boxed_str(), "\"foo\"");
 }
 
 // RcAsciiStr::from_ascii_str
 #[test]
 fn from_ascii_str_of_rc_ascii_str(rt: HostRuntime) {
-    let alloc = rt.alloc();
-    assert_debug!(
-        rt;
-        RcAsciiStr::from_ascii_str(alloc, view("foo")).expect(&rt, "refused").as_ascii_str(),
-        "\"foo\""
-    );
+    assert_debug!(rt; shared(&rt, "foo").as_ascii_str(), "\"foo\"");
 }
 
 // RcAsciiStr::as_ascii_str
 #[test]
 fn as_ascii_str_of_rc_ascii_str(rt: HostRuntime) {
-    let alloc = rt.alloc();
-    assert_debug!(
-        rt;
-        RcAsciiStr::from_ascii_str(alloc, view("foo")).expect(&rt, "refused").as_ascii_str().len(),
-        "3"
-    );
+    assert_debug!(rt; shared(&rt, "foo").as_ascii_str().len(), "3");
 }
 
 // Clone for RcAsciiStr::clone
 #[test]
 fn clone_of_rc_ascii_str(rt: HostRuntime) {
-    let alloc = rt.alloc();
-    assert_debug!(
-        rt;
-        RcAsciiStr::from_ascii_str(alloc, view("foo")).expect(&rt, "refused").clone().expect(&rt, "refused").as_ascii_str(),
-        "\"foo\""
-    );
+    assert_debug!(rt; shared(&rt, "foo").clone().expect(&rt, "refused").as_ascii_str(), "\"foo\"");
 }
 
 // AsciiString::into_boxed_ascii_str
 #[test]
 fn into_boxed_ascii_str_of_ascii_string(rt: HostRuntime) {
-    let alloc = rt.alloc();
-    assert_debug!(
-        rt;
-        view("foo").to_ascii_string(alloc).expect(&rt, "refused").into_boxed_ascii_str().is_ok(),
-        "true"
-    );
+    assert_debug!(rt; owned(&rt, "foo").into_boxed_ascii_str().is_ok(), "true");
 }
 
 // AsciiString::into_rc_ascii_str
 #[test]
 fn into_rc_ascii_str_of_ascii_string(rt: HostRuntime) {
     let alloc = rt.alloc();
-    assert_debug!(
-        rt;
-        view("foo").to_ascii_string(alloc).expect(&rt, "refused").into_rc_ascii_str(alloc).is_ok(),
-        "true"
-    );
+    assert_debug!(rt; owned(&rt, "foo").into_rc_ascii_str(alloc).is_ok(), "true");
 }
 
 // CowAsciiStr::as_ascii_str
@@ -694,45 +584,26 @@ fn from_ascii_str_of_cow_ascii_str(rt: HostRuntime) {
 // From<AsciiString> for CowAsciiStr::from
 #[test]
 fn from_ascii_string_of_cow_ascii_str(rt: HostRuntime) {
-    let alloc = rt.alloc();
-    let cow: CowAsciiStr = view("foo")
-        .to_ascii_string(alloc)
-        .expect(&rt, "refused")
-        .into();
+    let cow: CowAsciiStr = owned(&rt, "foo").into();
     assert_debug!(rt; cow.as_ascii_str(), "\"foo\"");
 }
 
 // PartialEq for BoxedAsciiStr::eq
 #[test]
 fn eq_of_boxed_ascii_str(rt: HostRuntime) {
-    let alloc = rt.alloc();
-    assert_debug!(
-        rt;
-        BoxedAsciiStr::from_ascii_str(alloc, view("foo")).expect(&rt, "refused") == BoxedAsciiStr::from_ascii_str(alloc, view("foo")).expect(&rt, "refused"),
-        "true"
-    );
+    assert_debug!(rt; boxed(&rt, "foo") == boxed(&rt, "foo"), "true");
 }
 
 // PartialOrd for BoxedAsciiStr::partial_cmp
 #[test]
 fn partial_cmp_of_boxed_ascii_str(rt: HostRuntime) {
-    let alloc = rt.alloc();
-    assert_debug!(
-        rt;
-        BoxedAsciiStr::from_ascii_str(alloc, view("foo")).expect(&rt, "refused") < BoxedAsciiStr::from_ascii_str(alloc, view("fop")).expect(&rt, "refused"),
-        "true"
-    );
+    assert_debug!(rt; boxed(&rt, "foo") < boxed(&rt, "fop"), "true");
 }
 
 // Ord for BoxedAsciiStr::cmp
 #[test]
 fn cmp_of_boxed_ascii_str(rt: HostRuntime) {
-    let alloc = rt.alloc();
-    assert_debug!(
-        rt;
-        BoxedAsciiStr::from_ascii_str(alloc, view("foo")).expect(&rt, "refused").cmp(&BoxedAsciiStr::from_ascii_str(alloc, view("fo")).expect(&rt, "refused")),
-        "Greater"
-    );
+    assert_debug!(rt; boxed(&rt, "foo").cmp(&boxed(&rt, "fo")), "Greater");
 }
 
 // Hash for BoxedAsciiStr::hash
@@ -740,46 +611,26 @@ fn cmp_of_boxed_ascii_str(rt: HostRuntime) {
 fn hash_of_boxed_ascii_str(rt: HostRuntime) {
     let alloc = rt.alloc();
     let mut seen = HashSet::new(alloc);
-    seen.insert(BoxedAsciiStr::from_ascii_str(alloc, view("foo")).expect(&rt, "refused"))
-        .expect(&rt, "refused");
-    assert_debug!(
-        rt;
-        seen.contains(&BoxedAsciiStr::from_ascii_str(alloc, view("foo")).expect(&rt, "refused")),
-        "true"
-    );
+    seen.insert(boxed(&rt, "foo")).expect(&rt, "refused");
+    assert_debug!(rt; seen.contains(&boxed(&rt, "foo")), "true");
 }
 
 // PartialEq for RcAsciiStr::eq
 #[test]
 fn eq_of_rc_ascii_str(rt: HostRuntime) {
-    let alloc = rt.alloc();
-    assert_debug!(
-        rt;
-        RcAsciiStr::from_ascii_str(alloc, view("foo")).expect(&rt, "refused") == RcAsciiStr::from_ascii_str(alloc, view("foo")).expect(&rt, "refused"),
-        "true"
-    );
+    assert_debug!(rt; shared(&rt, "foo") == shared(&rt, "foo"), "true");
 }
 
 // PartialOrd for RcAsciiStr::partial_cmp
 #[test]
 fn partial_cmp_of_rc_ascii_str(rt: HostRuntime) {
-    let alloc = rt.alloc();
-    assert_debug!(
-        rt;
-        RcAsciiStr::from_ascii_str(alloc, view("foo")).expect(&rt, "refused") < RcAsciiStr::from_ascii_str(alloc, view("fop")).expect(&rt, "refused"),
-        "true"
-    );
+    assert_debug!(rt; shared(&rt, "foo") < shared(&rt, "fop"), "true");
 }
 
 // Ord for RcAsciiStr::cmp
 #[test]
 fn cmp_of_rc_ascii_str(rt: HostRuntime) {
-    let alloc = rt.alloc();
-    assert_debug!(
-        rt;
-        RcAsciiStr::from_ascii_str(alloc, view("foo")).expect(&rt, "refused").cmp(&RcAsciiStr::from_ascii_str(alloc, view("fo")).expect(&rt, "refused")),
-        "Greater"
-    );
+    assert_debug!(rt; shared(&rt, "foo").cmp(&shared(&rt, "fo")), "Greater");
 }
 
 // Hash for RcAsciiStr::hash
@@ -787,13 +638,8 @@ fn cmp_of_rc_ascii_str(rt: HostRuntime) {
 fn hash_of_rc_ascii_str(rt: HostRuntime) {
     let alloc = rt.alloc();
     let mut seen = HashSet::new(alloc);
-    seen.insert(RcAsciiStr::from_ascii_str(alloc, view("foo")).expect(&rt, "refused"))
-        .expect(&rt, "refused");
-    assert_debug!(
-        rt;
-        seen.contains(&RcAsciiStr::from_ascii_str(alloc, view("foo")).expect(&rt, "refused")),
-        "true"
-    );
+    seen.insert(shared(&rt, "foo")).expect(&rt, "refused");
+    assert_debug!(rt; seen.contains(&shared(&rt, "foo")), "true");
 }
 
 // PartialEq for CowAsciiStr::eq
@@ -842,7 +688,7 @@ fn display_of_boxed_ascii_str(rt: HostRuntime) {
     let alloc = rt.alloc();
     assert_debug!(
         rt;
-        format!(in alloc; "{}", BoxedAsciiStr::from_ascii_str(alloc, view("a\"b")).expect(&rt, "refused")).expect(&rt, "refused"),
+        format!(in alloc; "{}", boxed(&rt, "a\"b")).expect(&rt, "refused"),
         "\"a\\\"b\""
     );
 }
@@ -853,7 +699,7 @@ fn debug_of_boxed_ascii_str(rt: HostRuntime) {
     let alloc = rt.alloc();
     assert_debug!(
         rt;
-        format!(in alloc; "{:?}", BoxedAsciiStr::from_ascii_str(alloc, view("foo")).expect(&rt, "refused")).expect(&rt, "refused"),
+        format!(in alloc; "{:?}", boxed(&rt, "foo")).expect(&rt, "refused"),
         "\"\\\"foo\\\"\""
     );
 }
@@ -864,7 +710,7 @@ fn display_of_rc_ascii_str(rt: HostRuntime) {
     let alloc = rt.alloc();
     assert_debug!(
         rt;
-        format!(in alloc; "{}", RcAsciiStr::from_ascii_str(alloc, view("a\"b")).expect(&rt, "refused")).expect(&rt, "refused"),
+        format!(in alloc; "{}", shared(&rt, "a\"b")).expect(&rt, "refused"),
         "\"a\\\"b\""
     );
 }
@@ -875,7 +721,7 @@ fn debug_of_rc_ascii_str(rt: HostRuntime) {
     let alloc = rt.alloc();
     assert_debug!(
         rt;
-        format!(in alloc; "{:?}", RcAsciiStr::from_ascii_str(alloc, view("foo")).expect(&rt, "refused")).expect(&rt, "refused"),
+        format!(in alloc; "{:?}", shared(&rt, "foo")).expect(&rt, "refused"),
         "\"\\\"foo\\\"\""
     );
 }
@@ -1045,8 +891,7 @@ fn ascii_chunks_of_bytes(rt: HostRuntime) {
 // AsciiString::extend_chars
 #[test]
 fn extend_chars_of_ascii_string(rt: HostRuntime) {
-    let alloc = rt.alloc();
-    let mut text = view("foo").to_ascii_string(alloc).expect(&rt, "refused");
+    let mut text = owned(&rt, "foo");
     assert_debug!(rt; text.extend_chars(view("bar").chars()), "Ok(())");
     assert_debug!(rt; text, "\"foobar\"");
 }
@@ -1054,8 +899,7 @@ fn extend_chars_of_ascii_string(rt: HostRuntime) {
 // AsciiString::extend_strs
 #[test]
 fn extend_strs_of_ascii_string(rt: HostRuntime) {
-    let alloc = rt.alloc();
-    let mut text = view("a").to_ascii_string(alloc).expect(&rt, "refused");
+    let mut text = owned(&rt, "a");
     assert_debug!(rt; text.extend_strs(view("b,c").split(AsciiChar::Comma)), "Ok(())");
     assert_debug!(rt; text, "\"abc\"");
 }
@@ -1109,34 +953,19 @@ fn path_text_of_ascii_str(rt: HostRuntime) {
 // AsStr for AsciiString::as_str
 #[test]
 fn as_str_of_ascii_string(rt: HostRuntime) {
-    let alloc = rt.alloc();
-    assert_debug!(
-        rt;
-        AsStr::as_str(&view("foo").to_ascii_string(alloc).expect(&rt, "refused")),
-        "\"foo\""
-    );
+    assert_debug!(rt; AsStr::as_str(&owned(&rt, "foo")), "\"foo\"");
 }
 
 // AsSlice<u8> for AsciiString::as_slice
 #[test]
 fn as_slice_of_ascii_string(rt: HostRuntime) {
-    let alloc = rt.alloc();
-    assert_debug!(
-        rt;
-        view("foo").to_ascii_string(alloc).expect(&rt, "refused").as_slice(),
-        "[102, 111, 111]"
-    );
+    assert_debug!(rt; owned(&rt, "foo").as_slice(), "[102, 111, 111]");
 }
 
 // AsBytes for AsciiString::as_byte_slice
 #[test]
 fn as_byte_slice_of_ascii_string(rt: HostRuntime) {
-    let alloc = rt.alloc();
-    assert_debug!(
-        rt;
-        view("foo").to_ascii_string(alloc).expect(&rt, "refused").as_byte_slice(),
-        "[102, 111, 111]"
-    );
+    assert_debug!(rt; owned(&rt, "foo").as_byte_slice(), "[102, 111, 111]");
 }
 
 // TryFrom<&[u8]> for AsciiStr::try_from
@@ -1190,8 +1019,7 @@ fn try_from_string_of_ascii_string(rt: HostRuntime) {
 // AsciiStr::to_ascii_string
 #[test]
 fn to_ascii_string_of_ascii_str(rt: HostRuntime) {
-    let alloc = rt.alloc();
-    assert_debug!(rt; view("foo").to_ascii_string(alloc).expect(&rt, "refused"), "\"foo\"");
+    assert_debug!(rt; owned(&rt, "foo"), "\"foo\"");
 }
 
 // AsciiStr::to_ascii_uppercase
@@ -1237,11 +1065,7 @@ fn from_chars_of_ascii_string(rt: HostRuntime) {
 #[test]
 fn into_chars_of_ascii_string(rt: HostRuntime) {
     let alloc = rt.alloc();
-    assert_debug!(
-        rt;
-        view("ab").to_ascii_string(alloc).expect(&rt, "refused").into_chars(alloc),
-        "Ok(['a', 'b'])"
-    );
+    assert_debug!(rt; owned(&rt, "ab").into_chars(alloc), "Ok(['a', 'b'])");
 }
 
 // Display for CopyError::fmt
@@ -2046,7 +1870,7 @@ fn to_json_of_ascii_string(rt: HostRuntime) {
     let alloc = rt.alloc();
     assert_debug!(
         rt;
-        view("foo").to_ascii_string(alloc).expect(&rt, "refused").to_json(alloc).expect(&rt, "refused").to_string(alloc).expect(&rt, "refused"),
+        owned(&rt, "foo").to_json(alloc).expect(&rt, "refused").to_string(alloc).expect(&rt, "refused"),
         "\"\\\"foo\\\"\""
     );
 }
@@ -2161,8 +1985,7 @@ fn replace_of_ascii_str(rt: HostRuntime) {
 // AsciiString::retain
 #[test]
 fn retain_of_ascii_string(rt: HostRuntime) {
-    let alloc = rt.alloc();
-    let mut text = view("a-b-c").to_ascii_string(alloc).expect(&rt, "refused");
+    let mut text = owned(&rt, "a-b-c");
     text.retain(|ch| ch != AsciiChar::Minus);
     assert_debug!(rt; text, "\"abc\"");
 }
@@ -2314,7 +2137,7 @@ fn serialize_of_ascii_string(rt: HostRuntime) {
     let alloc = rt.alloc();
     assert_debug!(
         rt;
-        serde_json::to_string(alloc, &view("foo").to_ascii_string(alloc).expect(&rt, "refused")).expect(&rt, "refused"),
+        serde_json::to_string(alloc, &owned(&rt, "foo")).expect(&rt, "refused"),
         "\"\\\"foo\\\"\""
     );
 }

@@ -1,5 +1,6 @@
 //! The examples in the documentation of `ascii_run`, made by `bin/docs examples`.
 
+use super::{owned, small};
 use ascii::bytes;
 use ascii_run::{
     AsciiBuf, AsciiChar, BoundedFault, BoundedMode, Cmd, EngineFault, Input, Mode, Output,
@@ -54,8 +55,7 @@ fn reserve_of_ascii_buf(rt: HostRuntime) {
 // AsciiBuf::shrink_to_fit
 #[test]
 fn shrink_to_fit_of_ascii_buf(rt: HostRuntime) {
-    let alloc = rt.alloc();
-    let mut text = view("foo").to_ascii_string(alloc).expect(&rt, "refused");
+    let mut text = owned(&rt, "foo");
     assert_debug!(rt; AsciiBuf::shrink_to_fit(&mut text), "Ok(())");
     assert_debug!(rt; text, "\"foo\"");
 }
@@ -81,8 +81,7 @@ fn push_str_of_ascii_buf(rt: HostRuntime) {
 // AsciiBuf::insert
 #[test]
 fn insert_of_ascii_buf(rt: HostRuntime) {
-    let alloc = rt.alloc();
-    let mut text = SmallAsciiString::from_ascii_str(alloc, view("fo")).expect(&rt, "refused");
+    let mut text = small(&rt, "fo");
     assert_debug!(rt; text.insert(0, AsciiChar::z), "Ok(())");
     assert_debug!(rt; text, "\"zfo\"");
 }
@@ -90,8 +89,7 @@ fn insert_of_ascii_buf(rt: HostRuntime) {
 // AsciiBuf::insert_str
 #[test]
 fn insert_str_of_ascii_buf(rt: HostRuntime) {
-    let alloc = rt.alloc();
-    let mut text = SmallAsciiString::from_ascii_str(alloc, view("fo")).expect(&rt, "refused");
+    let mut text = small(&rt, "fo");
     assert_debug!(rt; text.insert_str(1, view("lo")), "Ok(())");
     assert_debug!(rt; text, "\"floo\"");
 }
@@ -99,8 +97,7 @@ fn insert_str_of_ascii_buf(rt: HostRuntime) {
 // AsciiBuf::remove
 #[test]
 fn remove_of_ascii_buf(rt: HostRuntime) {
-    let alloc = rt.alloc();
-    let mut text = SmallAsciiString::from_ascii_str(alloc, view("foo")).expect(&rt, "refused");
+    let mut text = small(&rt, "foo");
     assert_debug!(rt; text.remove(0), "'f'");
     assert_debug!(rt; text, "\"oo\"");
 }
@@ -108,8 +105,7 @@ fn remove_of_ascii_buf(rt: HostRuntime) {
 // AsciiBuf::pop
 #[test]
 fn pop_of_ascii_buf(rt: HostRuntime) {
-    let alloc = rt.alloc();
-    let mut text = SmallAsciiString::from_ascii_str(alloc, view("fo")).expect(&rt, "refused");
+    let mut text = small(&rt, "fo");
     assert_debug!(rt; text.pop(), "Some('o')");
     assert_debug!(rt; text, "\"f\"");
 }
@@ -117,8 +113,7 @@ fn pop_of_ascii_buf(rt: HostRuntime) {
 // AsciiBuf::truncate
 #[test]
 fn truncate_of_ascii_buf(rt: HostRuntime) {
-    let alloc = rt.alloc();
-    let mut text = SmallAsciiString::from_ascii_str(alloc, view("foo")).expect(&rt, "refused");
+    let mut text = small(&rt, "foo");
     text.truncate(2);
     assert_debug!(rt; text, "\"fo\"");
 }
@@ -126,8 +121,7 @@ fn truncate_of_ascii_buf(rt: HostRuntime) {
 // AsciiBuf::clear
 #[test]
 fn clear_of_ascii_buf(rt: HostRuntime) {
-    let alloc = rt.alloc();
-    let mut text = SmallAsciiString::from_ascii_str(alloc, view("foo")).expect(&rt, "refused");
+    let mut text = small(&rt, "foo");
     text.clear();
     assert_debug!(rt; text, "\"\"");
 }
@@ -135,8 +129,7 @@ fn clear_of_ascii_buf(rt: HostRuntime) {
 // AsciiBuf::set
 #[test]
 fn set_of_ascii_buf(rt: HostRuntime) {
-    let alloc = rt.alloc();
-    let mut text = SmallAsciiString::from_ascii_str(alloc, view("foo")).expect(&rt, "refused");
+    let mut text = small(&rt, "foo");
     text.set(0, AsciiChar::z);
     assert_debug!(rt; text, "\"zoo\"");
 }
@@ -144,8 +137,7 @@ fn set_of_ascii_buf(rt: HostRuntime) {
 // AsciiBuf::make_ascii_uppercase
 #[test]
 fn make_ascii_uppercase_of_ascii_buf(rt: HostRuntime) {
-    let alloc = rt.alloc();
-    let mut text = SmallAsciiString::from_ascii_str(alloc, view("foo")).expect(&rt, "refused");
+    let mut text = small(&rt, "foo");
     text.make_ascii_uppercase();
     assert_debug!(rt; text, "\"FOO\"");
 }
@@ -153,8 +145,7 @@ fn make_ascii_uppercase_of_ascii_buf(rt: HostRuntime) {
 // AsciiBuf::make_ascii_lowercase
 #[test]
 fn make_ascii_lowercase_of_ascii_buf(rt: HostRuntime) {
-    let alloc = rt.alloc();
-    let mut text = SmallAsciiString::from_ascii_str(alloc, view("FOO")).expect(&rt, "refused");
+    let mut text = small(&rt, "FOO");
     text.make_ascii_lowercase();
     assert_debug!(rt; text, "\"foo\"");
 }
@@ -169,45 +160,25 @@ fn new_of_small_ascii_string(rt: HostRuntime) {
 // SmallAsciiString::from_ascii_str
 #[test]
 fn from_ascii_str_of_small_ascii_string(rt: HostRuntime) {
-    let alloc = rt.alloc();
-    assert_debug!(
-        rt;
-        SmallAsciiString::from_ascii_str(alloc, view("foo")).expect(&rt, "refused"),
-        "\"foo\""
-    );
+    assert_debug!(rt; small(&rt, "foo"), "\"foo\"");
 }
 
 // SmallAsciiString::as_ascii_str
 #[test]
 fn as_ascii_str_of_small_ascii_string(rt: HostRuntime) {
-    let alloc = rt.alloc();
-    assert_debug!(
-        rt;
-        SmallAsciiString::from_ascii_str(alloc, view("foo")).expect(&rt, "refused").as_ascii_str(),
-        "\"foo\""
-    );
+    assert_debug!(rt; small(&rt, "foo").as_ascii_str(), "\"foo\"");
 }
 
 // SmallAsciiString::is_inline
 #[test]
 fn is_inline_of_small_ascii_string(rt: HostRuntime) {
-    let alloc = rt.alloc();
-    assert_debug!(
-        rt;
-        SmallAsciiString::from_ascii_str(alloc, view("foo")).expect(&rt, "refused").is_inline(),
-        "true"
-    );
+    assert_debug!(rt; small(&rt, "foo").is_inline(), "true");
 }
 
 // SmallAsciiString::len
 #[test]
 fn len_of_small_ascii_string(rt: HostRuntime) {
-    let alloc = rt.alloc();
-    assert_debug!(
-        rt;
-        SmallAsciiString::from_ascii_str(alloc, view("foo")).expect(&rt, "refused").len(),
-        "3"
-    );
+    assert_debug!(rt; small(&rt, "foo").len(), "3");
 }
 
 // SmallAsciiString::is_empty
@@ -227,19 +198,13 @@ fn capacity_of_small_ascii_string(rt: HostRuntime) {
 // SmallAsciiString::into_ascii_string
 #[test]
 fn into_ascii_string_of_small_ascii_string(rt: HostRuntime) {
-    let alloc = rt.alloc();
-    assert_debug!(
-        rt;
-        SmallAsciiString::from_ascii_str(alloc, view("foo")).expect(&rt, "refused").into_ascii_string().ok(),
-        "Some(\"foo\")"
-    );
+    assert_debug!(rt; small(&rt, "foo").into_ascii_string().ok(), "Some(\"foo\")");
 }
 
 // AsciiBuf for SmallAsciiString::shrink_to_fit
 #[test]
 fn shrink_to_fit_of_small_ascii_string(rt: HostRuntime) {
-    let alloc = rt.alloc();
-    let mut text = SmallAsciiString::from_ascii_str(alloc, view("foo")).expect(&rt, "refused");
+    let mut text = small(&rt, "foo");
     assert_debug!(rt; text.shrink_to_fit(), "Ok(())");
     assert_debug!(rt; text.capacity(), "24");
 }
@@ -247,45 +212,28 @@ fn shrink_to_fit_of_small_ascii_string(rt: HostRuntime) {
 // Clone for SmallAsciiString::clone
 #[test]
 fn clone_of_small_ascii_string(rt: HostRuntime) {
-    let alloc = rt.alloc();
-    assert_debug!(
-        rt;
-        SmallAsciiString::from_ascii_str(alloc, view("foo")).expect(&rt, "refused").clone().expect(&rt, "refused"),
-        "\"foo\""
-    );
+    assert_debug!(rt; small(&rt, "foo").clone().expect(&rt, "refused"), "\"foo\"");
 }
 
 // PartialEq for SmallAsciiString::eq
 #[test]
 fn eq_of_small_ascii_string(rt: HostRuntime) {
     let alloc = rt.alloc();
-    assert_debug!(
-        rt;
-        SmallAsciiString::new(alloc) == SmallAsciiString::from_ascii_str(alloc, view("foo")).expect(&rt, "refused"),
-        "false"
-    );
+    assert_debug!(rt; SmallAsciiString::new(alloc) == small(&rt, "foo"), "false");
 }
 
 // PartialOrd for SmallAsciiString::partial_cmp
 #[test]
 fn partial_cmp_of_small_ascii_string(rt: HostRuntime) {
     let alloc = rt.alloc();
-    assert_debug!(
-        rt;
-        SmallAsciiString::new(alloc) < SmallAsciiString::from_ascii_str(alloc, view("foo")).expect(&rt, "refused"),
-        "true"
-    );
+    assert_debug!(rt; SmallAsciiString::new(alloc) < small(&rt, "foo"), "true");
 }
 
 // Ord for SmallAsciiString::cmp
 #[test]
 fn cmp_of_small_ascii_string(rt: HostRuntime) {
     let alloc = rt.alloc();
-    assert_debug!(
-        rt;
-        SmallAsciiString::new(alloc).cmp(&SmallAsciiString::from_ascii_str(alloc, view("foo")).expect(&rt, "refused")),
-        "Less"
-    );
+    assert_debug!(rt; SmallAsciiString::new(alloc).cmp(&small(&rt, "foo")), "Less");
 }
 
 // Hash for SmallAsciiString::hash
@@ -302,11 +250,7 @@ fn hash_of_small_ascii_string(rt: HostRuntime) {
 #[test]
 fn display_of_small_ascii_string(rt: HostRuntime) {
     let alloc = rt.alloc();
-    assert_debug!(
-        rt;
-        format!(in alloc; "{}", SmallAsciiString::from_ascii_str(alloc, view("foo")).expect(&rt, "refused")).expect(&rt, "refused"),
-        "\"foo\""
-    );
+    assert_debug!(rt; format!(in alloc; "{}", small(&rt, "foo")).expect(&rt, "refused"), "\"foo\"");
 }
 
 // Debug for SmallAsciiString::fmt
@@ -315,7 +259,7 @@ fn debug_of_small_ascii_string(rt: HostRuntime) {
     let alloc = rt.alloc();
     assert_debug!(
         rt;
-        format!(in alloc; "{:?}", SmallAsciiString::from_ascii_str(alloc, view("foo")).expect(&rt, "refused")).expect(&rt, "refused"),
+        format!(in alloc; "{:?}", small(&rt, "foo")).expect(&rt, "refused"),
         "\"\\\"foo\\\"\""
     );
 }
@@ -343,7 +287,7 @@ fn write_str_of_small_ascii_string(rt: HostRuntime) {
 #[test]
 fn run_of_ascii_run(rt: HostRuntime) {
     let alloc = rt.alloc();
-    let mut text = view("foo").to_ascii_string(alloc).expect(&rt, "refused");
+    let mut text = owned(&rt, "foo");
     assert_debug!(
         rt;
         run(alloc, &mut text, &[Cmd::Pop, Cmd::Len]).expect(&rt, "refused"),
@@ -356,7 +300,7 @@ fn run_of_ascii_run(rt: HostRuntime) {
 #[test]
 fn plain_run_of_ascii_run(rt: HostRuntime) {
     let alloc = rt.alloc();
-    let mut text = view("foo").to_ascii_string(alloc).expect(&rt, "refused");
+    let mut text = owned(&rt, "foo");
     let replies = run(alloc, &mut text, &[Cmd::Len]).expect(&rt, "refused");
     assert_debug!(rt; plain_run(&[Cmd::Len], &replies), "()");
 }
@@ -365,7 +309,7 @@ fn plain_run_of_ascii_run(rt: HostRuntime) {
 #[test]
 fn runs_agree_of_ascii_run(rt: HostRuntime) {
     let alloc = rt.alloc();
-    let mut text = view("foo").to_ascii_string(alloc).expect(&rt, "refused");
+    let mut text = owned(&rt, "foo");
     let replies = run(alloc, &mut text, &[Cmd::Len]).expect(&rt, "refused");
     assert_debug!(rt; runs_agree(&[Cmd::Len], &replies, &replies), "()");
 }
