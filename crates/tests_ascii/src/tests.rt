@@ -3,7 +3,6 @@
 //! are taken up again, and items that tell little of how many they are. `bin/docs examples` writes `of_ascii.rt`, the examples in
 //! the documentation of the calls.
 
-mod beside;
 mod both_ends;
 mod chunks;
 mod clones;
@@ -18,7 +17,6 @@ mod remainders;
 mod replace;
 mod retain;
 mod searches;
-mod serialized;
 mod size_hints;
 mod small_text;
 mod small_texts;

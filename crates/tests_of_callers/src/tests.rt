@@ -1,6 +1,7 @@
 //! Each public call of the cookbook, a file for each of its modules, and of `tests_callers`, on texts that are written out
-//! by hand.
+//! by hand; and `ascii` together with std and the toolchain's crates (`beside`, `serialized`).
 
+mod beside;
 mod callers;
 mod errors;
 mod header_map;
@@ -11,6 +12,7 @@ mod json_round_trip;
 mod last_lines;
 mod lossy;
 mod screen;
+mod serialized;
 mod settings;
 mod table;
 

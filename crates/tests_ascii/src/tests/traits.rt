@@ -1,7 +1,6 @@
 //! The traits of std for views and strings, each through a function that is generic over the trait,
 //! and what the errors print.
 
-use anyhow::Context;
 use ascii::json::JsonError;
 use ascii::{
     AsAsciiStrError, AsciiStr, AsciiString, BoxedAsciiStr, CopyError, CowAsciiStr, FromAsciiError,
@@ -127,31 +126,6 @@ fn json_errors_print_why(rt: HostRuntime) {
         "the byte at index 2 is not ASCII",
     );
     prints(&rt, alloc, JsonError::Memory, "no memory");
-}
-
-/// The length of a source that is read as a header.
-fn header_len(source: &[u8]) -> anyhow::Result<usize> {
-    Ok(
-        bytes::as_ascii_str(source)
-            .context("reading the header")?
-            .len(),
-    )
-}
-
-#[test]
-fn errors_convert_by_a_question_mark(rt: HostRuntime) {
-    let alloc = rt.alloc();
-    match header_len(b"ab\xc4") {
-        Ok(_) => panic!(rt; "accepted"),
-        Err(error) => match format!(in alloc; "{error:#}") {
-            Ok(line) => assert_eq!(rt;
-                line.as_str(),
-                "reading the header: the byte at index 2 is not ASCII"
-            ),
-            Err(_) => panic!(rt; "no memory"),
-        },
-    }
-    assert!(rt; header_len(b"ab").is_ok());
 }
 
 /// The error of a source, which is not ASCII.

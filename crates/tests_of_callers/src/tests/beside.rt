@@ -55,6 +55,22 @@ fn anyhow_takes_the_errors(rt: HostRuntime) {
 }
 
 #[test]
+fn errors_convert_by_a_question_mark(rt: HostRuntime) {
+    let alloc = rt.alloc();
+    match header_length(b"ab\xc4") {
+        Ok(_) => panic!(rt; "accepted"),
+        Err(error) => match format!(in alloc; "{error:#}") {
+            Ok(line) => assert_eq!(rt;
+                line.as_str(),
+                "reading the header: the byte at index 2 is not ASCII"
+            ),
+            Err(_) => panic!(rt; "no memory"),
+        },
+    }
+    assert!(rt; header_length(b"ab").is_ok());
+}
+
+#[test]
 fn hash_map_with_owned_keys(rt: HostRuntime) {
     let alloc = rt.alloc();
     let mut sizes: HashMap<AsciiString, u32> = HashMap::new(alloc);
