@@ -39,7 +39,7 @@ fn written<R: Abort + AllocGlobal>(rt: &R, mode: Mode<'_>, input: &[u8]) -> Vec<
 
 /// Runs a mode over devices that follow steps, twice, and compares the first answer, the counts and what had
 /// gone out. The second run answers by what the devices then tell: no step is left, so it puts out what the
-/// mode has for the rest of the input.
+/// mode has for the rest of the input, which is `rest`.
 fn compare<R: Abort + AllocGlobal>(
     rt: &R,
     (mode, input): (Mode<'_>, &[u8]),
@@ -64,8 +64,7 @@ fn compare<R: Abort + AllocGlobal>(
     assert_row!(rt; engine(alloc, mode, &mut reader, &mut writer), Ok(()));
     assert_row!(rt; (reader.failures(), writer.failures()), faults);
     let mut all = Vec::from_slice(alloc, output).expect(rt, "refused");
-    let rest = written(rt, mode, rest);
-    all.extend_from_slice(&rest).expect(rt, "refused");
+    all.extend_from_slice(rest).expect(rt, "refused");
     assert_row!(rt; writer.into_inner().bytes, all);
 }
 
@@ -91,9 +90,16 @@ fn one_byte_a_call(rt: HostRuntime) {
     let cmds = [Cmd::InsertStr(0, view("xy")), Cmd::Upper];
     let bytes = [Step::Moves(1); 40];
     for (mode, output) in modes(&cmds) {
-        compare(&rt, (mode, INPUT), (&bytes, &[]), Ok(()), (output, b""));
-        compare(&rt, (mode, INPUT), (&[], &bytes), Ok(()), (output, b""));
-        compare(&rt, (mode, INPUT), (&bytes, &bytes), Ok(()), (output, b""));
+        let rest = written(&rt, mode, b"");
+        compare(&rt, (mode, INPUT), (&bytes, &[]), Ok(()), (output, &rest));
+        compare(&rt, (mode, INPUT), (&[], &bytes), Ok(()), (output, &rest));
+        compare(
+            &rt,
+            (mode, INPUT),
+            (&bytes, &bytes),
+            Ok(()),
+            (output, &rest),
+        );
     }
 }
 
@@ -103,15 +109,10 @@ fn each_read_fails(rt: HostRuntime) {
     let read = Err(EngineFault::Read);
     for (mode, _) in modes(&cmds) {
         for before in 0..INPUT.len() + 1 {
+            let rest = written(&rt, mode, &INPUT[before..]);
             for kind in KINDS {
                 let reads = steps(&rt, before, Step::Fails(kind));
-                compare(
-                    &rt,
-                    (mode, INPUT),
-                    (&reads, &[]),
-                    read,
-                    (b"", &INPUT[before..]),
-                );
+                compare(&rt, (mode, INPUT), (&reads, &[]), read, (b"", &rest));
             }
         }
     }
@@ -123,27 +124,18 @@ fn each_write_fails(rt: HostRuntime) {
     let write = Err(EngineFault::Write);
     for (mode, output) in modes(&cmds) {
         assert!(rt; output.len() < 40);
+        let rest = written(&rt, mode, b"");
         for before in 0..output.len() + 1 {
+            let out = (&output[..before], rest.as_slice());
             for kind in KINDS {
                 let writes = steps(&rt, before, Step::Fails(kind));
-                compare(
-                    &rt,
-                    (mode, INPUT),
-                    (&[], &writes),
-                    write,
-                    (&output[..before], b""),
-                );
+                compare(&rt, (mode, INPUT), (&[], &writes), write, out);
             }
         }
         for before in 0..output.len() {
+            let out = (&output[..before], rest.as_slice());
             let writes = steps(&rt, before, Step::Moves(0));
-            compare(
-                &rt,
-                (mode, INPUT),
-                (&[], &writes),
-                write,
-                (&output[..before], b""),
-            );
+            compare(&rt, (mode, INPUT), (&[], &writes), write, out);
         }
     }
 }
@@ -153,12 +145,13 @@ fn a_read_of_nothing_is_the_end(rt: HostRuntime) {
     for before in 0..INPUT.len() + 1 {
         let reads = steps(&rt, before, Step::Moves(0));
         let (now, later) = INPUT.split_at(before);
+        let rest = written(&rt, Mode::Copy, later);
         compare(
             &rt,
             (Mode::Copy, INPUT),
             (&reads, &[]),
             Ok(()),
-            (now, later),
+            (now, &rest),
         );
     }
 }
@@ -175,10 +168,11 @@ fn far_behind_the_first_call(rt: HostRuntime) {
         let out = before.saturating_mul(3_000);
         for mode in [Mode::Copy, Mode::Caret] {
             let (now, later) = input.split_at(out.min(input.len()));
+            let (rest, none) = (written(&rt, mode, later), written(&rt, mode, b""));
             let read = Err(EngineFault::Read);
-            compare(&rt, (mode, &input), (&fails, &[]), read, (b"", later));
+            compare(&rt, (mode, &input), (&fails, &[]), read, (b"", &rest));
             let write = Err(EngineFault::Write);
-            compare(&rt, (mode, &input), (&[], &fails), write, (now, b""));
+            compare(&rt, (mode, &input), (&[], &fails), write, (now, &none));
         }
     }
 }
