@@ -1,4 +1,4 @@
--- The tests of the classes whose bytes are not given by ranges, and that each decides its class.
+-- The tests of some classes by name, and that those which are not ranges decide their class.
 use Rattle.std.specs.Prelude.{◌≡◌, ℕ, zero, suc, ◌<◌, ◌||◌, ◌⊎◌, Bool, false, List, [], ◌∷◌, codes}
 use Rattle.std.proofs.Common.{arith, eqb, inl, inr, rules}
 use lib.Dec.{ltb}
@@ -11,6 +11,10 @@ use Rattle.ascii_base.specs.Class.{IsAlphanumeric, IsTokenCode, in_ranges}
 -- the test of the class `Whitespace`
 abbrev pub is_whitespace : ℕ → Bool
 is_whitespace n = in_ranges ((9, 13) ∷ (32, 32) ∷ []) n
+
+-- the test of the class `Blank`
+abbrev pub is_blank : ℕ → Bool
+is_blank n = in_ranges ((9, 9) ∷ (32, 32) ∷ []) n
 
 abbrev pub is_ascii : ℕ → Bool
 is_ascii n = ltb n 128

@@ -10,6 +10,8 @@ use Rattle.std.specs.Map.{update}
 use Rattle.std.specs.Prelude.{◌/◌, ◌%◌, ◌==◌, MatchResult, codes, decimal, is_some}
 use Rattle.std.specs.Prelude.{not, slice_index}
 use Rattle.std.specs.Str.{bytes_eq}
+use Rattle.ascii.specs.ByClass.{words_by}
+use Rattle.ascii.specs.Tests.{is_blank}
 use Rattle.ascii.specs.Lines.{Line}
 use Rattle.ascii.specs.Spans.{WithStart}
 use Rattle.ascii.specs.View.{text_of}
@@ -234,7 +236,7 @@ module _ (held : Contents) (answer : Answer) (plain : IsPlain held) where
       → IsPlainAnswer answer
   opens_plain line (Known count) opens = continues_plain count [] opens
   opens_plain line Bad opens = rejects_plain rejection.BadLength opens
-  opens_plain line Absent opens = carries_plain opens.0 opens.2
+  opens_plain line Absent opens = carries_plain (words_by is_blank line) opens
 
   word_plain : (count : ℕ) (words : List (List ℕ)) (size : Length)
       → AwaitsWord held count words size answer → IsPlainAnswer answer

@@ -1,9 +1,9 @@
 -- What a session answers to each line and each word: a request is a line of words, or an array.
 use Rattle.std.specs.Prelude.{◌≡◌, ◌≢◌, ◌<◌, ◌≤◌, ℕ, List, [], ◌∷◌, ◌++◌, codes, length}
-use Rattle.ascii.specs.Class.{IsBlank}
+use Rattle.ascii.specs.ByClass.{words_by}
 use Rattle.ascii.specs.Numbers.{WritesNumber}
 use Rattle.ascii.specs.Search.{IsPrefix, StartsWith}
-use Rattle.ascii.specs.Words.{Words}
+use Rattle.ascii.specs.Tests.{is_blank}
 use Rattle.ascii_lines.specs.declared.serving.Next.TheVariants as next
 use Rattle.example_resp.specs.Session.{Answer, Awaits, CarriesOut, Rejects, State}
 use Rattle.example_resp.specs.Store.{Contents}
@@ -42,8 +42,7 @@ pub record Continues (held : Contents) (count : ℕ) (words : List (List ℕ)) (
 abbrev pub Opens : Contents → List ℕ → Length → Answer → Type 0
 Opens held line (Known count) answer = Continues held count [] answer
 Opens held line Bad answer = Rejects held BadLength answer
-Opens held line Absent answer =
-    (words : List (List ℕ)) × Words IsBlank line words × CarriesOut held words answer
+Opens held line Absent answer = CarriesOut held (words_by is_blank line) answer
 
 -- after the line with the length of a word, in an array of `count` words of which `words` have been
 -- read: a word of that length is awaited; if it is empty, the line that ends it

@@ -1,9 +1,9 @@
 //! A session with one client: the lines and words that it sends, and the replies.
 
 ghost use Rattle.std.specs.Prelude.{◌≡◌, [], IfOk};
-ghost use Rattle.ascii.specs.Class.{IsBlank};
+ghost use Rattle.ascii.specs.ByClass.{words_by};
+ghost use Rattle.ascii.specs.Tests.{is_blank};
 ghost use Rattle.ascii.specs.View.{text_of};
-ghost use Rattle.ascii.specs.Words.{Words};
 ghost use Rattle.ascii_lines.specs.Serve.{IsRequest, reply_texts};
 ghost use Rattle.example_resp.specs.Requests.{IsLength};
 
@@ -266,7 +266,7 @@ fn read_length(line: AsciiStr<'_>, mark: AsciiStr<'_>, most: usize) -> Length
 
 /// Returns the words of a line, which have blanks between them.
 fn words_of(alloc: Global, line: AsciiStr<'_>) -> Result<Vec<AsciiString>, AllocError>
-    ensures { IfOk result (λ words. Words IsBlank (text_of line.entry) (reply_texts words.items)) }
+    ensures { IfOk result (λ words. reply_texts words.items ≡ words_by is_blank (text_of line.entry)) }
 {
     let mut words = Vec::new(alloc);
     for word in line.words::<Blank>() {

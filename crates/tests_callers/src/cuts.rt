@@ -45,7 +45,7 @@ pub fn number_and_unit<'a>(view: AsciiStr<'a>) -> (AsciiStr<'a>, AsciiStr<'a>)
 pub fn first_word<'a>(view: AsciiStr<'a>) -> Option<AsciiStr<'a>>
     ensures { MatchOption result (words_by is_whitespace (text_of view.entry) ≡ [])
         (λ word. (others : List (List ℕ))
-            × (words_by is_whitespace (text_of view.entry) ≡ text_of word ∷ others)) }
+        × (words_by is_whitespace (text_of view.entry) ≡ text_of word ∷ others)) }
 {
     view.split_whitespace().next()
 }

@@ -1,7 +1,6 @@
 use Rattle.std.proofs.Common.{codes}
 use Rattle.std.proofs.lemmas.Result.{IfOk-weaker}
 use Rattle.ascii.specs.View.{text_of}
-use Rattle.ascii_lines.specs.Serve.{reply_texts}
 use Rattle.example_resp.specs.Requests.{IsLength, most_words}
 use Rattle.example_resp.specs.declared.session.Length.TheVariants.{Absent}
 use Rattle.example_resp.proofs.session.Session.answer_request.Goals as goal
@@ -10,7 +9,7 @@ pub returns-in_ok-self-in-Absent-clause-answers : goal.returns-in_ok-self-in-Abs
 returns-in_ok-self-in-Absent-clause-answers c =
     let absent : IsLength (codes "*") most_words (text_of c.args.line) Absent =
     rw c.literal.ensures at c.in-Absent.ensures in
-    let words = reply_texts c.in_ok-self-in-Absent.field-0.items in
+    let words_are = c.in_ok-self-in-Absent.ensures in
     IfOk-weaker c.carry_out.result _ _
-    (λ next carried. (Absent, absent, (words, c.in_ok-self-in-Absent.ensures, carried)))
+    (λ next carried. (Absent, absent, rw words_are at carried))
     c.carry_out.ensures.answers
