@@ -108,6 +108,31 @@ fn searches_at_each_length_and_alignment(rt: HostRuntime) {
 }
 
 #[test]
+fn searches_for_a_class_at_each_length_and_alignment(rt: HostRuntime) {
+    let mut buffer = [b'-'; ROOM];
+    for start in 0..PLACES {
+        for length in 0..LONGEST + 1 {
+            write_marked(&mut buffer, start, length, [b'x', b' ']);
+            let text = &buffer[start..start + length];
+            let first = text.iter().position(|byte| *byte == b' ');
+            let last = text.iter().rposition(|byte| *byte == b' ');
+            let found = [
+                kernels::first_of::<Blank>(text),
+                kernels::last_of::<Blank>(text),
+            ];
+            assert!(rt; found == [first, last], "{length} from {start}");
+            let run = [
+                kernels::run_end::<Blank>(text, 0, false),
+                kernels::run_start::<Blank>(text, length, false),
+            ];
+            let end = first.unwrap_or(length);
+            let begin = last.map_or(0, |at| at + 1);
+            assert!(rt; run == [end, begin], "{length} from {start}");
+        }
+    }
+}
+
+#[test]
 fn comparisons_at_each_length_and_alignment(rt: HostRuntime) {
     let mut upper = [b'-'; ROOM];
     let mut lower = [b'-'; ROOM];
