@@ -6,9 +6,9 @@
 //!
 //!     const VOWELS: [(u8, u8); 5] = [(b'a', b'a'), (b'e', b'e'), (b'i', b'i'), (b'o', b'o'), (b'u', b'u')];
 //!
-//!     struct Vowel;
+//!     struct VowelRanges;
 //!
-//!     impl Ranges for Vowel {
+//!     impl Ranges for VowelRanges {
 //!         ghost set = { IsVowel };
 //!         ghost list = { VOWELS };
 //!         ghost matches = { λ n. Prim.search rules };
@@ -17,6 +17,8 @@
 //!             &VOWELS
 //!         }
 //!     }
+//!
+//!     type Vowel = ByRanges<VowelRanges>;
 //!
 //! A contract sees a class `C` as the set of codes `C.is`, here `IsVowel`. A class whose bytes are
 //! computed gives its own test of one byte, in place of ranges:
@@ -50,6 +52,7 @@ ghost use Rattle.ascii_base.specs.declared.classes.TheConstants.{HEXDIGIT, BLANK
 ghost use Rattle.ascii_base.specs.declared.classes.TheConstants.{CONTROL, GRAPHIC, PRINTABLE};
 ghost use Rattle.ascii_base.specs.declared.classes.TheConstants.{PUNCTUATION, TOKEN, LABEL};
 
+use std::marker::PhantomData;
 use std::simd::prelude::*;
 
 /// A class of bytes.
@@ -110,7 +113,8 @@ fn marks_one_by_one<C: Class, const N: usize>(bytes: &[u8], at: usize) -> u64
     marked
 }
 
-/// A class of bytes that is a few ranges. Up to a dozen, the compiled tests have no loop over them.
+/// The ranges of a class, which is `ByRanges` of them. Up to a dozen, the compiled tests have no loop over
+/// them.
 pub trait Ranges {
     // The bytes of the class.
     ghost set: { ℕ → Type 0 };
@@ -120,7 +124,7 @@ pub trait Ranges {
 
     /// Returns the first and the last byte of each range.
     ///
-    ///     Alphabetic::ranges() // [(65, 90), (97, 122)]
+    ///     AlphabeticRanges::ranges() // [(65, 90), (97, 122)]
     fn ranges() -> &'static [(u8, u8)]
         ensures { result.now ≡ list };
 
@@ -128,7 +132,12 @@ pub trait Ranges {
     ghost matches: { (n : ℕ) → Decides (in_ranges list n) (set n) };
 }
 
-impl<R: Ranges> Class for R {
+/// The class of the bytes in the ranges `R`.
+pub struct ByRanges<R> {
+    ranges: PhantomData<R>,
+}
+
+impl<R: Ranges> Class for ByRanges<R> {
     ghost is = { R.set };
 
     ghost test = { in_ranges R.list };
@@ -145,7 +154,7 @@ impl<R: Ranges> Class for R {
     ghost decides = { R.matches };
 }
 
-impl<R: Ranges, const N: usize> ClassBy<N> for R {
+impl<R: Ranges, const N: usize> ClassBy<N> for ByRanges<R> {
     ///     <Alphabetic as ClassBy<4>>::marks(b"a1b2", 0) // 10
     #[inline(always)]
     fn marks(bytes: &[u8], at: usize) -> u64
@@ -191,12 +200,12 @@ impl<const N: usize> ClassBy<N> for Ascii {
     }
 }
 
-/// Space, tab, line feed, vertical tab, form feed and carriage return.
-pub struct Whitespace;
+/// The ranges of `Whitespace`.
+pub struct WhitespaceRanges;
 
 const WHITESPACE: [(u8, u8); 2] = [(b'\t', b'\r'), (b' ', b' ')];
 
-impl Ranges for Whitespace {
+impl Ranges for WhitespaceRanges {
     ghost set = { IsWhitespace };
 
     ghost list = { WHITESPACE };
@@ -208,12 +217,15 @@ impl Ranges for Whitespace {
     }
 }
 
-/// The letters `A` to `Z`.
-pub struct Uppercase;
+/// Space, tab, line feed, vertical tab, form feed and carriage return.
+pub type Whitespace = ByRanges<WhitespaceRanges>;
+
+/// The ranges of `Uppercase`.
+pub struct UppercaseRanges;
 
 const UPPERCASE: [(u8, u8); 1] = [(b'A', b'Z')];
 
-impl Ranges for Uppercase {
+impl Ranges for UppercaseRanges {
     ghost set = { IsUppercase };
 
     ghost list = { UPPERCASE };
@@ -225,12 +237,15 @@ impl Ranges for Uppercase {
     }
 }
 
-/// The letters `a` to `z`.
-pub struct Lowercase;
+/// The letters `A` to `Z`.
+pub type Uppercase = ByRanges<UppercaseRanges>;
+
+/// The ranges of `Lowercase`.
+pub struct LowercaseRanges;
 
 const LOWERCASE: [(u8, u8); 1] = [(b'a', b'z')];
 
-impl Ranges for Lowercase {
+impl Ranges for LowercaseRanges {
     ghost set = { IsLowercase };
 
     ghost list = { LOWERCASE };
@@ -242,12 +257,15 @@ impl Ranges for Lowercase {
     }
 }
 
-/// The letters, `A` to `Z` and `a` to `z`.
-pub struct Alphabetic;
+/// The letters `a` to `z`.
+pub type Lowercase = ByRanges<LowercaseRanges>;
+
+/// The ranges of `Alphabetic`.
+pub struct AlphabeticRanges;
 
 const ALPHABETIC: [(u8, u8); 2] = [(b'A', b'Z'), (b'a', b'z')];
 
-impl Ranges for Alphabetic {
+impl Ranges for AlphabeticRanges {
     ghost set = { IsAlphabetic };
 
     ghost list = { ALPHABETIC };
@@ -259,12 +277,15 @@ impl Ranges for Alphabetic {
     }
 }
 
-/// The digits `0` to `9`.
-pub struct Digit;
+/// The letters, `A` to `Z` and `a` to `z`.
+pub type Alphabetic = ByRanges<AlphabeticRanges>;
+
+/// The ranges of `Digit`.
+pub struct DigitRanges;
 
 const DIGIT: [(u8, u8); 1] = [(b'0', b'9')];
 
-impl Ranges for Digit {
+impl Ranges for DigitRanges {
     ghost set = { IsDigit };
 
     ghost list = { DIGIT };
@@ -276,12 +297,15 @@ impl Ranges for Digit {
     }
 }
 
-/// The letters and digits.
-pub struct Alphanumeric;
+/// The digits `0` to `9`.
+pub type Digit = ByRanges<DigitRanges>;
+
+/// The ranges of `Alphanumeric`.
+pub struct AlphanumericRanges;
 
 const ALPHANUMERIC: [(u8, u8); 3] = [(b'0', b'9'), (b'A', b'Z'), (b'a', b'z')];
 
-impl Ranges for Alphanumeric {
+impl Ranges for AlphanumericRanges {
     ghost set = { IsAlphanumeric };
 
     ghost list = { ALPHANUMERIC };
@@ -293,12 +317,15 @@ impl Ranges for Alphanumeric {
     }
 }
 
-/// The hexadecimal digits: `0` to `9`, `A` to `F` and `a` to `f`.
-pub struct Hexdigit;
+/// The letters and digits.
+pub type Alphanumeric = ByRanges<AlphanumericRanges>;
+
+/// The ranges of `Hexdigit`.
+pub struct HexdigitRanges;
 
 const HEXDIGIT: [(u8, u8); 3] = [(b'0', b'9'), (b'A', b'F'), (b'a', b'f')];
 
-impl Ranges for Hexdigit {
+impl Ranges for HexdigitRanges {
     ghost set = { IsHexdigit };
 
     ghost list = { HEXDIGIT };
@@ -310,12 +337,15 @@ impl Ranges for Hexdigit {
     }
 }
 
-/// Space and tab.
-pub struct Blank;
+/// The hexadecimal digits: `0` to `9`, `A` to `F` and `a` to `f`.
+pub type Hexdigit = ByRanges<HexdigitRanges>;
+
+/// The ranges of `Blank`.
+pub struct BlankRanges;
 
 const BLANK: [(u8, u8); 2] = [(b'\t', b'\t'), (b' ', b' ')];
 
-impl Ranges for Blank {
+impl Ranges for BlankRanges {
     ghost set = { IsBlank };
 
     ghost list = { BLANK };
@@ -327,8 +357,11 @@ impl Ranges for Blank {
     }
 }
 
-/// Space, tab, line feed, form feed and carriage return, but not vertical tab.
-pub struct AsciiWhitespace;
+/// Space and tab.
+pub type Blank = ByRanges<BlankRanges>;
+
+/// The ranges of `AsciiWhitespace`.
+pub struct AsciiWhitespaceRanges;
 
 const ASCII_WHITESPACE: [(u8, u8); 5] = [
     (b'\t', b'\t'),
@@ -338,7 +371,7 @@ const ASCII_WHITESPACE: [(u8, u8); 5] = [
     (b' ', b' '),
 ];
 
-impl Ranges for AsciiWhitespace {
+impl Ranges for AsciiWhitespaceRanges {
     ghost set = { IsAsciiWhitespace };
 
     ghost list = { ASCII_WHITESPACE };
@@ -350,12 +383,15 @@ impl Ranges for AsciiWhitespace {
     }
 }
 
-/// The control characters: 0 to 31, and delete.
-pub struct Control;
+/// Space, tab, line feed, form feed and carriage return, but not vertical tab.
+pub type AsciiWhitespace = ByRanges<AsciiWhitespaceRanges>;
+
+/// The ranges of `Control`.
+pub struct ControlRanges;
 
 const CONTROL: [(u8, u8); 2] = [(0, 31), (127, 127)];
 
-impl Ranges for Control {
+impl Ranges for ControlRanges {
     ghost set = { IsControl };
 
     ghost list = { CONTROL };
@@ -367,12 +403,15 @@ impl Ranges for Control {
     }
 }
 
-/// The visible (graphic) characters: `!` to `~`.
-pub struct Graphic;
+/// The control characters: 0 to 31, and delete.
+pub type Control = ByRanges<ControlRanges>;
+
+/// The ranges of `Graphic`.
+pub struct GraphicRanges;
 
 const GRAPHIC: [(u8, u8); 1] = [(b'!', b'~')];
 
-impl Ranges for Graphic {
+impl Ranges for GraphicRanges {
     ghost set = { IsGraphic };
 
     ghost list = { GRAPHIC };
@@ -384,12 +423,15 @@ impl Ranges for Graphic {
     }
 }
 
-/// The visible (graphic) characters and space.
-pub struct Printable;
+/// The visible (graphic) characters: `!` to `~`.
+pub type Graphic = ByRanges<GraphicRanges>;
+
+/// The ranges of `Printable`.
+pub struct PrintableRanges;
 
 const PRINTABLE: [(u8, u8); 1] = [(b' ', b'~')];
 
-impl Ranges for Printable {
+impl Ranges for PrintableRanges {
     ghost set = { IsPrintable };
 
     ghost list = { PRINTABLE };
@@ -401,12 +443,15 @@ impl Ranges for Printable {
     }
 }
 
-/// The visible (graphic) characters that are neither letters nor digits.
-pub struct Punctuation;
+/// The visible (graphic) characters and space.
+pub type Printable = ByRanges<PrintableRanges>;
+
+/// The ranges of `Punctuation`.
+pub struct PunctuationRanges;
 
 const PUNCTUATION: [(u8, u8); 4] = [(b'!', b'/'), (b':', b'@'), (b'[', b'`'), (b'{', b'~')];
 
-impl Ranges for Punctuation {
+impl Ranges for PunctuationRanges {
     ghost set = { IsPunctuation };
 
     ghost list = { PUNCTUATION };
@@ -417,6 +462,9 @@ impl Ranges for Punctuation {
         &PUNCTUATION
     }
 }
+
+/// The visible (graphic) characters that are neither letters nor digits.
+pub type Punctuation = ByRanges<PunctuationRanges>;
 
 /// The ranges of `Token`.
 struct TokenRanges;
@@ -465,7 +513,7 @@ impl Class for Token {
 impl<const N: usize> ClassBy<N> for Token {
     #[inline(always)]
     fn marks(bytes: &[u8], at: usize) -> u64 {
-        <TokenRanges as ClassBy<N>>::marks(bytes, at)
+        <ByRanges<TokenRanges> as ClassBy<N>>::marks(bytes, at)
     }
 }
 
@@ -477,12 +525,12 @@ fn is_token_mark(byte: u8) -> bool
     b"!#$%&'*+-.^_`|~".contains(&byte)
 }
 
-/// The characters of a label of a host name: letters, digits and `-`.
-pub struct Label;
+/// The ranges of `Label`.
+pub struct LabelRanges;
 
 const LABEL: [(u8, u8); 4] = [(b'0', b'9'), (b'A', b'Z'), (b'a', b'z'), (b'-', b'-')];
 
-impl Ranges for Label {
+impl Ranges for LabelRanges {
     ghost set = { IsLabelCode };
 
     ghost list = { LABEL };
@@ -493,3 +541,6 @@ impl Ranges for Label {
         &LABEL
     }
 }
+
+/// The characters of a label of a host name: letters, digits and `-`.
+pub type Label = ByRanges<LabelRanges>;

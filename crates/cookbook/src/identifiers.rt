@@ -7,14 +7,14 @@ ghost use Rattle.cookbook.specs.Identifiers.{IsIdentifierCode};
 ghost use Rattle.cookbook.specs.declared.identifiers.TheConstants.{IDENTIFIER};
 
 use ascii::AsciiStr;
-use ascii::classes::Ranges;
+use ascii::classes::{ByRanges, Ranges};
 
-/// The characters of an identifier: letters, digits and `_`.
-pub struct Identifier;
+/// The ranges of `Identifier`.
+pub struct IdentifierRanges;
 
 const IDENTIFIER: [(u8, u8); 4] = [(b'0', b'9'), (b'A', b'Z'), (b'a', b'z'), (b'_', b'_')];
 
-impl Ranges for Identifier {
+impl Ranges for IdentifierRanges {
     ghost set = { IsIdentifierCode };
 
     ghost list = { IDENTIFIER };
@@ -25,6 +25,9 @@ impl Ranges for Identifier {
         &IDENTIFIER
     }
 }
+
+/// The characters of an identifier: letters, digits and `_`.
+pub type Identifier = ByRanges<IdentifierRanges>;
 
 /// Returns the characters at the start of a text that an identifier can contain, and the rest of the text:
 /// `("a_max", " = 3")` for `a_max = 3`.

@@ -1,7 +1,7 @@
 //! The examples in the documentation of `ascii_base`, made by `bin/docs examples`.
 
 use ascii_base::ascii_char::{AsciiChar, ToAsciiChar};
-use ascii_base::classes::{Alphabetic, Ascii, Class, ClassBy, Digit, Ranges};
+use ascii_base::classes::{Alphabetic, AlphabeticRanges, Ascii, Class, ClassBy, Digit, Ranges};
 use ascii_base::free_functions::{caret_decode, caret_encode};
 use ascii_base::kernels::{
     eq_ignore_case, first_not, first_not_whitespace, first_of, first_other, last_not,
@@ -352,12 +352,12 @@ fn marks_of_class_by(rt: HostRuntime) {
 // classes::Ranges::ranges
 #[test]
 fn ranges_of_ranges(rt: HostRuntime) {
-    assert_debug!(rt; Alphabetic::ranges(), "[(65, 90), (97, 122)]");
+    assert_debug!(rt; AlphabeticRanges::ranges(), "[(65, 90), (97, 122)]");
 }
 
-// ClassBy<N> for R::marks
+// ClassBy<N> for ByRanges::marks
 #[test]
-fn marks_of_r(rt: HostRuntime) {
+fn marks_of_by_ranges(rt: HostRuntime) {
     assert_debug!(rt; <Alphabetic as ClassBy<4>>::marks(b"a1b2", 0), "10");
 }
 

@@ -1,7 +1,7 @@
 use Rattle.std.proofs.Common.{◌≡◌, take, map, cond}
 use lib.Lanes.{chunk}
 use Rattle.ascii_base.specs.Class.{in_ranges}
-use Rattle.ascii_base.proofs.classes.AnyClassBy.marks.Given as goal
+use Rattle.ascii_base.proofs.classes.ByRangesClassBy.marks.Given as goal
 
 -- the lanes that are in one of the ranges so far
 abbrev pub invariant-loop-low : goal.invariant-loop-low

@@ -5,7 +5,7 @@ use lib.Lanes.{chunk}
 use Rattle.ascii_base.specs.Class.{in_ranges}
 use Rattle.ascii_base.proofs.LanesLemmas.{marks_by}
 use Rattle.ascii_base.proofs.RangesLemmas.{masks_more, flipped, is_out, is_within}
-use Rattle.ascii_base.proofs.classes.AnyClassBy.marks.Goals as goal
+use Rattle.ascii_base.proofs.classes.ByRangesClassBy.marks.Goals as goal
 
 pub loop-low-init : goal.loop-low-init
 loop-low-init g c =

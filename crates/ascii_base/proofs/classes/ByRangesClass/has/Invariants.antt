@@ -1,6 +1,6 @@
 use Rattle.std.proofs.Common.{◌≡◌, take}
 use Rattle.ascii_base.specs.Class.{in_ranges}
-use Rattle.ascii_base.proofs.classes.AnyClass.has.Given as goal
+use Rattle.ascii_base.proofs.classes.ByRangesClass.has.Given as goal
 
 -- whether the byte is in one of the ranges so far
 abbrev pub invariant-loop-low : goal.invariant-loop-low

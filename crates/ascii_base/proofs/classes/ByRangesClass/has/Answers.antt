@@ -2,7 +2,7 @@ use Rattle.std.proofs.Common.{ap, sym, ◌∙◌, get_or, leb, ◌&&◌, ◌||�
 use Rattle.std.proofs.lemmas.List.{take_all}
 use Rattle.ascii_base.specs.Class.{in_ranges}
 use Rattle.ascii_base.proofs.RangesLemmas.{in_ranges_more}
-use Rattle.ascii_base.proofs.classes.AnyClass.has.Goals as goal
+use Rattle.ascii_base.proofs.classes.ByRangesClass.has.Goals as goal
 
 pub loop-low-preserved : goal.loop-low-preserved
 loop-low-preserved g c =
