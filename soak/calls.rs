@@ -1,4 +1,4 @@
-//! The calls of the static library crates/exports. A slice is passed as a pointer and a length, and each call writes
+//! The calls of crates/exports. A slice is passed as a pointer and a length, and each call writes
 //! its answer into a buffer.
 
 use crate::asked::{passed, passed_mut, Asked, Shown};

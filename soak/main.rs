@@ -1,4 +1,4 @@
-//! Compares the answers of the static library crates/exports, which is linked into this program, with those of std, of
+//! Compares the answers of crates/exports, which is linked into this program, with those of std, of
 //! plain loops, and, if it was compiled with `--cfg upstream`, of the upstream crate `ascii` 1.1.0.
 //!
 //!     soak SECONDS SEED THREADS [planted]

@@ -7,8 +7,7 @@ use ascii::{AsciiChar, ToAsciiChar, caret_decode, caret_encode};
 use std::alloc::Global;
 
 /// For each number: the character of that number as a `u8`, an `i8`, a `u16`, a `u32` and a `char`.
-#[unsafe(no_mangle)]
-pub extern "C" fn ask_characters_of(alloc: Global, numbers: &[i64], room: &mut [u8]) -> usize {
+pub fn ask_characters_of(alloc: Global, numbers: &[i64], room: &mut [u8]) -> usize {
     let mut answer = Answer::new(alloc);
     for number in numbers {
         convert(u8::try_from(*number).ok(), &mut answer);
@@ -30,8 +29,7 @@ fn convert<C: ToAsciiChar + Drop>(number: Option<C>, answer: &mut Answer) {
 
 /// For each ASCII code: its class tests, its upper case, lower case and printable character, and its value
 /// as a digit.
-#[unsafe(no_mangle)]
-pub extern "C" fn ask_characters(alloc: Global, codes: &[u8], radix: u32, room: &mut [u8]) -> usize
+pub fn ask_characters(alloc: Global, codes: &[u8], radix: u32, room: &mut [u8]) -> usize
     requires { radix ≤ 36 }
 {
     let mut answer = Answer::new(alloc);
@@ -77,8 +75,7 @@ fn other_tests(ch: AsciiChar) -> [bool; 8] {
 }
 
 /// For each pair of ASCII codes, one after the other: whether they are equal, ignoring case, and their order.
-#[unsafe(no_mangle)]
-pub extern "C" fn ask_character_pairs(alloc: Global, codes: &[u8], room: &mut [u8]) -> usize {
+pub fn ask_character_pairs(alloc: Global, codes: &[u8], room: &mut [u8]) -> usize {
     let mut answer = Answer::new(alloc);
     for pair in codes.chunks(2) {
         if let [first, second] = pair {
@@ -92,8 +89,7 @@ pub extern "C" fn ask_character_pairs(alloc: Global, codes: &[u8], room: &mut [u
 }
 
 /// For each byte: what it is in caret notation, and what it is read as there.
-#[unsafe(no_mangle)]
-pub extern "C" fn ask_carets(alloc: Global, codes: &[u8], room: &mut [u8]) -> usize {
+pub fn ask_carets(alloc: Global, codes: &[u8], room: &mut [u8]) -> usize {
     let mut answer = Answer::new(alloc);
     for code in codes {
         answer.character(caret_encode(*code));

@@ -13,8 +13,7 @@ use std::fmt::{self, Write as _};
 
 /// A copy of bytes and of their `str`, the string that has their `Vec` and that which has their `String`;
 /// each of them the text, or the position of the error.
-#[unsafe(no_mangle)]
-pub extern "C" fn ask_conversions(alloc: Global, source: &[u8], room: &mut [u8]) -> usize {
+pub fn ask_conversions(alloc: Global, source: &[u8], room: &mut [u8]) -> usize {
     let mut answer = Answer::new(alloc);
     put_copy(bytes::to_ascii_string(alloc, source), &mut answer);
     if let Ok(list) = Vec::from_slice(alloc, source) {
@@ -45,8 +44,7 @@ fn put<O: Drop>(made: Result<AsciiString, FromAsciiError<O>>, answer: &mut Answe
 }
 
 /// A text after it was turned into lists of characters and back, and after it was each of the boxes.
-#[unsafe(no_mangle)]
-pub extern "C" fn ask_round_trips(alloc: Global, source: &[u8], room: &mut [u8]) -> usize
+pub fn ask_round_trips(alloc: Global, source: &[u8], room: &mut [u8]) -> usize
     requires { IsAscii source.now }
 {
     let view = bytes::as_ascii_str_unchecked(source);
@@ -77,8 +75,7 @@ fn through_boxes(alloc: Global, view: AsciiStr<'_>) -> Result<AsciiString, Alloc
 }
 
 /// Whether a piece was written to a text, and the text after that; as a string and as an inline string.
-#[unsafe(no_mangle)]
-pub extern "C" fn ask_written(alloc: Global, source: &[u8], piece: &[u8], room: &mut [u8]) -> usize
+pub fn ask_written(alloc: Global, source: &[u8], piece: &[u8], room: &mut [u8]) -> usize
     requires { IsAscii source.now }
 {
     let view = bytes::as_ascii_str_unchecked(source);
@@ -107,13 +104,7 @@ fn write<B: AsciiBuf + fmt::Write + Drop>(
 }
 
 /// Whether a character was written to a text, by its number, and the text after that.
-#[unsafe(no_mangle)]
-pub extern "C" fn ask_character_written(
-    alloc: Global,
-    number: u32,
-    source: &[u8],
-    room: &mut [u8],
-) -> usize
+pub fn ask_character_written(alloc: Global, number: u32, source: &[u8], room: &mut [u8]) -> usize
     requires { IsAscii source.now }
 {
     let view = bytes::as_ascii_str_unchecked(source);
@@ -126,8 +117,7 @@ pub extern "C" fn ask_character_written(
 }
 
 /// The pieces at a character collected into one string, and then the lines appended to it.
-#[unsafe(no_mangle)]
-pub extern "C" fn ask_collected(alloc: Global, code: u8, source: &[u8], room: &mut [u8]) -> usize
+pub fn ask_collected(alloc: Global, code: u8, source: &[u8], room: &mut [u8]) -> usize
     requires { IsAscii source.now }
 {
     let view = bytes::as_ascii_str_unchecked(source);
@@ -143,8 +133,7 @@ pub extern "C" fn ask_collected(alloc: Global, code: u8, source: &[u8], room: &m
 }
 
 /// The two parts of a string that is cut at a position.
-#[unsafe(no_mangle)]
-pub extern "C" fn ask_split_off(alloc: Global, at: usize, source: &[u8], room: &mut [u8]) -> usize
+pub fn ask_split_off(alloc: Global, at: usize, source: &[u8], room: &mut [u8]) -> usize
     requires { IsAscii source.now }
 {
     let view = bytes::as_ascii_str_unchecked(source);

@@ -11,8 +11,7 @@ use std::alloc::{AllocError, Global};
 
 /// The replies to commands, and the text after them, of a string or an inline string. The kind of a step is the
 /// index of its command in the list of `Cmd`.
-#[unsafe(no_mangle)]
-pub extern "C" fn ask_edits(
+pub fn ask_edits(
     alloc: Global,
     is_small: bool,
     source: &[u8],
@@ -106,8 +105,7 @@ fn put_reply(reply: &Reply, answer: &mut Answer) {
 
 /// The capacity of an empty string that was created with room for `capacity` bytes; then for each command its
 /// reply and the capacity. A step of the kind 19 reserves exactly.
-#[unsafe(no_mangle)]
-pub extern "C" fn ask_capacities(
+pub fn ask_capacities(
     alloc: Global,
     capacity: usize,
     texts: &[u8],
@@ -157,8 +155,7 @@ fn follow<B: AsciiBuf>(
 }
 
 /// Whether an inline string is inline and its capacity; then for each command its reply, and those again.
-#[unsafe(no_mangle)]
-pub extern "C" fn ask_small_capacities(
+pub fn ask_small_capacities(
     alloc: Global,
     source: &[u8],
     texts: &[u8],

@@ -10,8 +10,7 @@ use std::alloc::{AllocError, Global};
 
 /// What `engine` returns, and what it wrote. The number of a mode is its index in the list of `Mode`, without
 /// `Edit`; the script is that of the two modes that have one.
-#[unsafe(no_mangle)]
-pub extern "C" fn ask_engine(
+pub fn ask_engine(
     alloc: Global,
     mode: u8,
     script: &[u8],
@@ -59,8 +58,7 @@ fn mode_of<'a>(mode: u8, script: &'a [End]) -> Mode<'a> {
 
 /// What `bounded_engine` returns, and what it wrote. The number of a mode is its index in the list of
 /// `BoundedMode`.
-#[unsafe(no_mangle)]
-pub extern "C" fn ask_bounded_engine(
+pub fn ask_bounded_engine(
     alloc: Global,
     mode: u8,
     source: &[u8],

@@ -1,6 +1,6 @@
-//! Calls of the libraries with typed parameters, for two programs in Rust that are linked with them: the benchmark
-//! measures those of `measured`, and the randomized differential test compares the answers of the others, whose names
-//! begin with `ask_`, with those of other implementations.
+//! Calls of the libraries with typed parameters, which `bin/lib/static_library` exports to two programs in Rust: the
+//! benchmark measures those of `measured`, and the randomized differential test compares the answers of the others,
+//! whose names begin with `ask_`, with those of other implementations.
 //!
 //! Such a call writes its answer into a buffer and returns its length; `answer` says how. It states no more than what
 //! it needs of its caller, because its answers are what is compared.

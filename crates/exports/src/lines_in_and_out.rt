@@ -16,8 +16,7 @@ use std::alloc::{AllocError, Global};
 
 /// What a reader with a buffer of `size` bytes returns to each step, and its position after it. The kinds are 0
 /// for the next line, 1 to 3 for the endings of `Endings` from now on, and 4 for a part of `at` bytes.
-#[unsafe(no_mangle)]
-pub extern "C" fn ask_reader(
+pub fn ask_reader(
     alloc: Global,
     source: &[u8],
     size: usize,
@@ -82,8 +81,7 @@ fn put_error_at(name: &str, position: u64, answer: &mut Answer) {
 }
 
 /// The lines that are collected, and the error or none.
-#[unsafe(no_mangle)]
-pub extern "C" fn ask_collected_lines(
+pub fn ask_collected_lines(
     alloc: Global,
     source: &[u8],
     size: usize,
@@ -112,8 +110,7 @@ pub extern "C" fn ask_collected_lines(
 
 /// What a writer with a buffer of `size` bytes returns to each step, and what its sink has taken. The kinds are 0
 /// to 2 for a text with an ending, in the order of `Ending`, and 3 for a flush.
-#[unsafe(no_mangle)]
-pub extern "C" fn ask_writer(
+pub fn ask_writer(
     alloc: Global,
     texts: &[u8],
     size: usize,
@@ -159,8 +156,7 @@ fn put_write_error(error: WriteError, answer: &mut Answer) {
 }
 
 /// Why a conversation stops, and what went out. `Echo` says what is replied.
-#[unsafe(no_mangle)]
-pub extern "C" fn ask_conversation(
+pub fn ask_conversation(
     alloc: Global,
     source: &[u8],
     size: usize,

@@ -14,16 +14,14 @@ use std::alloc::{AllocError, Global};
 use std::io;
 
 /// Whether all bytes are ASCII.
-#[unsafe(no_mangle)]
-pub extern "C" fn bench_accept(source: &[u8]) -> bool
+pub fn bench_accept(source: &[u8]) -> bool
     ensures { IsTrue result ↔ IsAscii source.now }
 {
     bytes::as_ascii_str(source).is_ok()
 }
 
 /// Changes the letters of a text to upper case.
-#[unsafe(no_mangle)]
-pub extern "C" fn bench_upper(source: &mut [u8])
+pub fn bench_upper(source: &mut [u8])
     requires { IsAscii source.old }
     ensures { source.new ≡ map upper_image source.old }
 {
@@ -31,8 +29,7 @@ pub extern "C" fn bench_upper(source: &mut [u8])
 }
 
 /// Whether two texts are equal when the case of letters is ignored.
-#[unsafe(no_mangle)]
-pub extern "C" fn bench_equal(first: &[u8], second: &[u8]) -> bool
+pub fn bench_equal(first: &[u8], second: &[u8]) -> bool
     requires first { IsAscii first.now }
     requires second { IsAscii second.now }
     ensures { IsTrue result ↔ (map lower_image first.now ≡ map lower_image second.now) }
@@ -41,8 +38,7 @@ pub extern "C" fn bench_equal(first: &[u8], second: &[u8]) -> bool
 }
 
 /// The length of a text without the whitespace at its ends.
-#[unsafe(no_mangle)]
-pub extern "C" fn bench_trim(source: &[u8]) -> usize
+pub fn bench_trim(source: &[u8]) -> usize
     requires { IsAscii source.now }
     ensures { (trimmed : List ℕ) × Trims IsWhitespace source.now trimmed
         × (result ≡ length trimmed) }
@@ -51,8 +47,7 @@ pub extern "C" fn bench_trim(source: &[u8]) -> usize
 }
 
 /// The lengths of the lines of a text, mixed in the order in which they are met.
-#[unsafe(no_mangle)]
-pub extern "C" fn bench_lines(source: &[u8], from_back: bool) -> usize
+pub fn bench_lines(source: &[u8], from_back: bool) -> usize
     requires { IsAscii source.now }
 {
     let view = bytes::as_ascii_str_unchecked(source);
@@ -71,8 +66,7 @@ pub extern "C" fn bench_lines(source: &[u8], from_back: bool) -> usize
 
 /// The lengths of the lines of an input, mixed in their order, read through a buffer of 64 KiB; 0 if a
 /// line is rejected or an allocation fails.
-#[unsafe(no_mangle)]
-pub extern "C" fn bench_read_lines(alloc: Global, source: &[u8]) -> usize {
+pub fn bench_read_lines(alloc: Global, source: &[u8]) -> usize {
     let Ok(reader) = LineReader::new(alloc, Input::new(source), 65_536) else {
         return 0;
     };
@@ -90,8 +84,7 @@ pub extern "C" fn bench_read_lines(alloc: Global, source: &[u8]) -> usize {
 
 /// The lengths of the lines of an input, mixed in their order, each written again through a buffer of
 /// 64 KiB to an output that drops it; 0 if a line is rejected or an allocation fails.
-#[unsafe(no_mangle)]
-pub extern "C" fn bench_echo_lines(alloc: Global, source: &[u8]) -> usize {
+pub fn bench_echo_lines(alloc: Global, source: &[u8]) -> usize {
     let Ok(reader) = LineReader::new(alloc, Input::new(source), 65_536) else {
         return 0;
     };
@@ -116,8 +109,7 @@ pub extern "C" fn bench_echo_lines(alloc: Global, source: &[u8]) -> usize {
 }
 
 /// The lengths of the pieces of a text between commas, mixed in their order.
-#[unsafe(no_mangle)]
-pub extern "C" fn bench_split(source: &[u8]) -> usize
+pub fn bench_split(source: &[u8]) -> usize
     requires { IsAscii source.now }
 {
     let mut sum: usize = 0;
@@ -128,8 +120,7 @@ pub extern "C" fn bench_split(source: &[u8]) -> usize
 }
 
 /// The position of the first `needle` in a text, or the length of the text if there is none.
-#[unsafe(no_mangle)]
-pub extern "C" fn bench_find(source: &[u8], needle: &[u8]) -> usize
+pub fn bench_find(source: &[u8], needle: &[u8]) -> usize
     requires source { IsAscii source.now }
     requires needle { IsAscii needle.now }
 {
@@ -139,8 +130,7 @@ pub extern "C" fn bench_find(source: &[u8], needle: &[u8]) -> usize
 }
 
 /// The position of the first percent sign in a text, or the length of the text if there is none.
-#[unsafe(no_mangle)]
-pub extern "C" fn bench_position(source: &[u8]) -> usize
+pub fn bench_position(source: &[u8]) -> usize
     requires { IsAscii source.now }
 {
     bytes::as_ascii_str_unchecked(source)
@@ -149,8 +139,7 @@ pub extern "C" fn bench_position(source: &[u8]) -> usize
 }
 
 /// The lengths of the two sides of the first colon of a text, mixed, or 0 if there is none.
-#[unsafe(no_mangle)]
-pub extern "C" fn bench_split_once(source: &[u8]) -> usize
+pub fn bench_split_once(source: &[u8]) -> usize
     requires { IsAscii source.now }
 {
     match bytes::as_ascii_str_unchecked(source).split_once(AsciiChar::Colon) {
@@ -160,8 +149,7 @@ pub extern "C" fn bench_split_once(source: &[u8]) -> usize
 }
 
 /// The lengths of the words of a text, mixed in their order.
-#[unsafe(no_mangle)]
-pub extern "C" fn bench_words(source: &[u8]) -> usize
+pub fn bench_words(source: &[u8]) -> usize
     requires { IsAscii source.now }
 {
     let mut sum: usize = 0;
@@ -172,8 +160,7 @@ pub extern "C" fn bench_words(source: &[u8]) -> usize
 }
 
 /// The number that the digits of a text write, or 0 if they write none.
-#[unsafe(no_mangle)]
-pub extern "C" fn bench_number(source: &[u8]) -> usize
+pub fn bench_number(source: &[u8]) -> usize
     requires { IsAscii source.now }
 {
     bytes::as_ascii_str_unchecked(source)
@@ -182,8 +169,7 @@ pub extern "C" fn bench_number(source: &[u8]) -> usize
 }
 
 /// Whether two texts are equal as `FoldedStr`s.
-#[unsafe(no_mangle)]
-pub extern "C" fn bench_folded(first: &[u8], second: &[u8]) -> bool
+pub fn bench_folded(first: &[u8], second: &[u8]) -> bool
     requires first { IsAscii first.now }
     requires second { IsAscii second.now }
 {
@@ -191,8 +177,7 @@ pub extern "C" fn bench_folded(first: &[u8], second: &[u8]) -> bool
 }
 
 /// The sum of the codes of a text.
-#[unsafe(no_mangle)]
-pub extern "C" fn bench_chars(source: &[u8]) -> usize
+pub fn bench_chars(source: &[u8]) -> usize
     requires { IsAscii source.now }
 {
     let mut sum: usize = 0;
@@ -203,8 +188,7 @@ pub extern "C" fn bench_chars(source: &[u8]) -> usize
 }
 
 /// A text made of the characters of another, in upper case: its mark, or 0 if the allocation fails.
-#[unsafe(no_mangle)]
-pub extern "C" fn bench_collect(alloc: Global, source: &[u8]) -> usize
+pub fn bench_collect(alloc: Global, source: &[u8]) -> usize
     requires { IsAscii source.now }
 {
     let chars = bytes::as_ascii_str_unchecked(source).chars();
@@ -216,8 +200,7 @@ pub extern "C" fn bench_collect(alloc: Global, source: &[u8]) -> usize
 
 /// A text to which the characters of another are pushed one by one, on the heap or inline while it is
 /// short: its mark, or 0 if the allocation fails.
-#[unsafe(no_mangle)]
-pub extern "C" fn bench_push(alloc: Global, source: &[u8], inline: bool) -> usize
+pub fn bench_push(alloc: Global, source: &[u8], inline: bool) -> usize
     requires { IsAscii source.now }
 {
     let view = bytes::as_ascii_str_unchecked(source);
@@ -230,8 +213,7 @@ pub extern "C" fn bench_push(alloc: Global, source: &[u8], inline: bool) -> usiz
 
 /// A copy of a text, created and dropped, on the heap or inline while it is short: its mark, or 0 if the
 /// allocation fails.
-#[unsafe(no_mangle)]
-pub extern "C" fn bench_build(alloc: Global, source: &[u8], inline: bool) -> usize
+pub fn bench_build(alloc: Global, source: &[u8], inline: bool) -> usize
     requires { IsAscii source.now }
 {
     let view = bytes::as_ascii_str_unchecked(source);
@@ -245,8 +227,7 @@ pub extern "C" fn bench_build(alloc: Global, source: &[u8], inline: bool) -> usi
 
 /// Copies in lower case of the pieces of a text between commas, each created and dropped in turn, on the
 /// heap or inline while it is short: their marks, mixed, with 0 if an allocation fails.
-#[unsafe(no_mangle)]
-pub extern "C" fn bench_names(alloc: Global, source: &[u8], inline: bool) -> usize
+pub fn bench_names(alloc: Global, source: &[u8], inline: bool) -> usize
     requires { IsAscii source.now }
 {
     let pieces = bytes::as_ascii_str_unchecked(source).split(AsciiChar::Comma);

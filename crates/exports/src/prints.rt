@@ -9,8 +9,7 @@ use std::alloc::{AllocError, Global};
 use std::fmt;
 
 /// A text in a form: as a view, ignoring case, as a string and as an inline string.
-#[unsafe(no_mangle)]
-pub extern "C" fn ask_printed(alloc: Global, form: u8, source: &[u8], room: &mut [u8]) -> usize
+pub fn ask_printed(alloc: Global, form: u8, source: &[u8], room: &mut [u8]) -> usize
     requires { IsAscii source.now }
 {
     let view = bytes::as_ascii_str_unchecked(source);
@@ -28,13 +27,7 @@ pub extern "C" fn ask_printed(alloc: Global, form: u8, source: &[u8], room: &mut
 }
 
 /// Each of some characters in a form.
-#[unsafe(no_mangle)]
-pub extern "C" fn ask_printed_characters(
-    alloc: Global,
-    form: u8,
-    codes: &[u8],
-    room: &mut [u8],
-) -> usize {
+pub fn ask_printed_characters(alloc: Global, form: u8, codes: &[u8], room: &mut [u8]) -> usize {
     let mut answer = Answer::new(alloc);
     for code in codes {
         put(
@@ -81,8 +74,7 @@ fn print<T: fmt::Display + fmt::Debug>(
 }
 
 /// The JSON text of a view, and the string read back from its value.
-#[unsafe(no_mangle)]
-pub extern "C" fn ask_json(alloc: Global, source: &[u8], room: &mut [u8]) -> usize
+pub fn ask_json(alloc: Global, source: &[u8], room: &mut [u8]) -> usize
     requires { IsAscii source.now }
 {
     let mut answer = Answer::new(alloc);

@@ -18,8 +18,7 @@ use cookbook::table::{RowError, read_row};
 use std::alloc::Global;
 
 /// A line as a header.
-#[unsafe(no_mangle)]
-pub extern "C" fn ask_header(alloc: Global, source: &[u8], room: &mut [u8]) -> usize
+pub fn ask_header(alloc: Global, source: &[u8], room: &mut [u8]) -> usize
     requires { IsAscii source.now }
 {
     let mut answer = Answer::new(alloc);
@@ -44,8 +43,7 @@ fn put_header_error(error: HeaderError, answer: &mut Answer) {
 }
 
 /// A block as headers, the value of a name in the map of them, and the first header with that name.
-#[unsafe(no_mangle)]
-pub extern "C" fn ask_headers(alloc: Global, name: &[u8], block: &[u8], room: &mut [u8]) -> usize
+pub fn ask_headers(alloc: Global, name: &[u8], block: &[u8], room: &mut [u8]) -> usize
     requires name { IsAscii name.now }
     requires block { IsAscii block.now }
 {
@@ -79,8 +77,7 @@ pub extern "C" fn ask_headers(alloc: Global, name: &[u8], block: &[u8], room: &m
 }
 
 /// Two names of hosts: the first one in lower case, whether they are the same host, and their order.
-#[unsafe(no_mangle)]
-pub extern "C" fn ask_hosts(alloc: Global, first: &[u8], second: &[u8], room: &mut [u8]) -> usize
+pub fn ask_hosts(alloc: Global, first: &[u8], second: &[u8], room: &mut [u8]) -> usize
     requires first { IsAscii first.now }
     requires second { IsAscii second.now }
 {
@@ -114,8 +111,7 @@ fn put_host_error(error: HostNameError, answer: &mut Answer) {
 }
 
 /// A line as a setting.
-#[unsafe(no_mangle)]
-pub extern "C" fn ask_setting(alloc: Global, source: &[u8], room: &mut [u8]) -> usize
+pub fn ask_setting(alloc: Global, source: &[u8], room: &mut [u8]) -> usize
     requires { IsAscii source.now }
 {
     let mut answer = Answer::new(alloc);
@@ -132,8 +128,7 @@ pub extern "C" fn ask_setting(alloc: Global, source: &[u8], room: &mut [u8]) -> 
 }
 
 /// A line as the fields of a row with a number of columns.
-#[unsafe(no_mangle)]
-pub extern "C" fn ask_row(alloc: Global, columns: usize, source: &[u8], room: &mut [u8]) -> usize
+pub fn ask_row(alloc: Global, columns: usize, source: &[u8], room: &mut [u8]) -> usize
     requires { IsAscii source.now }
 {
     let mut answer = Answer::new(alloc);
@@ -155,8 +150,7 @@ pub extern "C" fn ask_row(alloc: Global, columns: usize, source: &[u8], room: &m
 }
 
 /// A text as a screen of some width shows it, and the column after it.
-#[unsafe(no_mangle)]
-pub extern "C" fn ask_screen(alloc: Global, width: usize, source: &[u8], room: &mut [u8]) -> usize
+pub fn ask_screen(alloc: Global, width: usize, source: &[u8], room: &mut [u8]) -> usize
     requires width { 2 ≤ width }
     requires ascii { IsAscii source.now }
 {
@@ -169,16 +163,14 @@ pub extern "C" fn ask_screen(alloc: Global, width: usize, source: &[u8], room: &
 }
 
 /// Bytes as a text with a mark in place of each run of non-ASCII bytes.
-#[unsafe(no_mangle)]
-pub extern "C" fn ask_lossy(alloc: Global, source: &[u8], room: &mut [u8]) -> usize {
+pub fn ask_lossy(alloc: Global, source: &[u8], room: &mut [u8]) -> usize {
     let mut answer = Answer::new(alloc);
     answer.owned(copy_lossy(alloc, source));
     answer.finish(room)
 }
 
 /// The last `n` lines of a text, the lines before them, the end of the last body, and whether the last line is open.
-#[unsafe(no_mangle)]
-pub extern "C" fn ask_last_lines(alloc: Global, n: usize, source: &[u8], room: &mut [u8]) -> usize
+pub fn ask_last_lines(alloc: Global, n: usize, source: &[u8], room: &mut [u8]) -> usize
     requires { IsAscii source.now }
 {
     let view: AsciiStr<'_> = bytes::as_ascii_str_unchecked(source);

@@ -8,8 +8,7 @@ use std::alloc::Global;
 
 /// The first and the last position of a needle, and the two sides of both; whether the text contains it, starts with it
 /// and ends with it, the last two also ignoring case; and the text without it at the start and at the end.
-#[unsafe(no_mangle)]
-pub extern "C" fn ask_find(alloc: Global, source: &[u8], needle: &[u8], room: &mut [u8]) -> usize
+pub fn ask_find(alloc: Global, source: &[u8], needle: &[u8], room: &mut [u8]) -> usize
     requires source { IsAscii source.now }
     requires needle { IsAscii needle.now }
 {
@@ -35,13 +34,7 @@ pub extern "C" fn ask_find(alloc: Global, source: &[u8], needle: &[u8], room: &m
 }
 
 /// The first and the last position of a character, and the two sides of each.
-#[unsafe(no_mangle)]
-pub extern "C" fn ask_find_character(
-    alloc: Global,
-    code: u8,
-    source: &[u8],
-    room: &mut [u8],
-) -> usize
+pub fn ask_find_character(alloc: Global, code: u8, source: &[u8], room: &mut [u8]) -> usize
     requires { IsAscii source.now }
 {
     let view = bytes::as_ascii_str_unchecked(source);
@@ -56,14 +49,7 @@ pub extern "C" fn ask_find_character(
 }
 
 /// At most `n` pieces at a character.
-#[unsafe(no_mangle)]
-pub extern "C" fn ask_splitn(
-    alloc: Global,
-    n: usize,
-    code: u8,
-    source: &[u8],
-    room: &mut [u8],
-) -> usize
+pub fn ask_splitn(alloc: Global, n: usize, code: u8, source: &[u8], room: &mut [u8]) -> usize
     requires { IsAscii source.now }
 {
     let view = bytes::as_ascii_str_unchecked(source);
@@ -77,14 +63,7 @@ pub extern "C" fn ask_splitn(
 }
 
 /// A text with another one in place of each occurrence of a needle that is not empty.
-#[unsafe(no_mangle)]
-pub extern "C" fn ask_replace(
-    alloc: Global,
-    source: &[u8],
-    needle: &[u8],
-    to: &[u8],
-    room: &mut [u8],
-) -> usize
+pub fn ask_replace(alloc: Global, source: &[u8], needle: &[u8], to: &[u8], room: &mut [u8]) -> usize
     requires source { IsAscii source.now }
     requires needle { IsAscii needle.now }
     requires to { IsAscii to.now }

@@ -17,8 +17,7 @@ pub(crate) fn range_of(form: u8, start: usize, end: usize) -> AsciiRange {
 }
 
 /// The part of a source in a range: as bytes, as a `str` if it is UTF-8, and as a view if it is ASCII.
-#[unsafe(no_mangle)]
-pub extern "C" fn ask_slices(
+pub fn ask_slices(
     alloc: Global,
     form: u8,
     start: usize,
@@ -43,8 +42,7 @@ pub extern "C" fn ask_slices(
 
 /// Changes the part of a source in a range to upper case, and sets its first character; and returns
 /// that part.
-#[unsafe(no_mangle)]
-pub extern "C" fn ask_slice_mut(
+pub fn ask_slice_mut(
     alloc: Global,
     form: u8,
     start: usize,
@@ -71,8 +69,7 @@ pub extern "C" fn ask_slice_mut(
 
 /// The character at a position: of bytes, of a `str` if they are UTF-8, and of a view if they are ASCII,
 /// with its first and last character.
-#[unsafe(no_mangle)]
-pub extern "C" fn ask_position(alloc: Global, at: usize, source: &[u8], room: &mut [u8]) -> usize {
+pub fn ask_position(alloc: Global, at: usize, source: &[u8], room: &mut [u8]) -> usize {
     let mut answer = Answer::new(alloc);
     answer.character(bytes::get_ascii(source, at));
     if let Ok(source) = str::from_utf8(source) {

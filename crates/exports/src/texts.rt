@@ -9,8 +9,7 @@ use std::alloc::{AllocError, Global};
 use std::hash::{DefaultHasher, Hash, Hasher};
 
 /// The position of the first non-ASCII byte, and those of the first and the last one that is not whitespace.
-#[unsafe(no_mangle)]
-pub extern "C" fn ask_kernels(alloc: Global, source: &[u8], room: &mut [u8]) -> usize {
+pub fn ask_kernels(alloc: Global, source: &[u8], room: &mut [u8]) -> usize {
     let mut answer = Answer::new(alloc);
     answer.position(kernels::first_other(source));
     answer.position(kernels::first_not_whitespace(source));
@@ -19,8 +18,7 @@ pub extern "C" fn ask_kernels(alloc: Global, source: &[u8], room: &mut [u8]) -> 
 }
 
 /// Changes the letters of bytes to upper or to lower case.
-#[unsafe(no_mangle)]
-pub extern "C" fn ask_case_in_place(
+pub fn ask_case_in_place(
     alloc: Global,
     to_upper: bool,
     source: &mut [u8],
@@ -37,21 +35,14 @@ pub extern "C" fn ask_case_in_place(
 }
 
 /// Whether any two lists of bytes are equal, ignoring case.
-#[unsafe(no_mangle)]
-pub extern "C" fn ask_equal_bytes(
-    alloc: Global,
-    first: &[u8],
-    second: &[u8],
-    room: &mut [u8],
-) -> usize {
+pub fn ask_equal_bytes(alloc: Global, first: &[u8], second: &[u8], room: &mut [u8]) -> usize {
     let mut answer = Answer::new(alloc);
     answer.flag(kernels::eq_ignore_case(first, second));
     answer.finish(room)
 }
 
 /// A text without the whitespace at both ends, at its start and at its end.
-#[unsafe(no_mangle)]
-pub extern "C" fn ask_trims(alloc: Global, source: &[u8], room: &mut [u8]) -> usize
+pub fn ask_trims(alloc: Global, source: &[u8], room: &mut [u8]) -> usize
     requires { IsAscii source.now }
 {
     let view = bytes::as_ascii_str_unchecked(source);
@@ -63,8 +54,7 @@ pub extern "C" fn ask_trims(alloc: Global, source: &[u8], room: &mut [u8]) -> us
 }
 
 /// Copies of a text in upper and in lower case, and a string that is changed in place to them.
-#[unsafe(no_mangle)]
-pub extern "C" fn ask_cases(alloc: Global, source: &[u8], room: &mut [u8]) -> usize
+pub fn ask_cases(alloc: Global, source: &[u8], room: &mut [u8]) -> usize
     requires { IsAscii source.now }
 {
     let view = bytes::as_ascii_str_unchecked(source);
@@ -81,13 +71,7 @@ pub extern "C" fn ask_cases(alloc: Global, source: &[u8], room: &mut [u8]) -> us
 }
 
 /// Whether two texts are equal and which is the lesser one, with case and without.
-#[unsafe(no_mangle)]
-pub extern "C" fn ask_comparisons(
-    alloc: Global,
-    first: &[u8],
-    second: &[u8],
-    room: &mut [u8],
-) -> usize
+pub fn ask_comparisons(alloc: Global, first: &[u8], second: &[u8], room: &mut [u8]) -> usize
     requires first { IsAscii first.now }
     requires second { IsAscii second.now }
 {
@@ -108,13 +92,7 @@ pub extern "C" fn ask_comparisons(
 }
 
 /// Whether two texts are equal and which is the lesser one, as strings and as inline strings.
-#[unsafe(no_mangle)]
-pub extern "C" fn ask_owned_comparisons(
-    alloc: Global,
-    first: &[u8],
-    second: &[u8],
-    room: &mut [u8],
-) -> usize
+pub fn ask_owned_comparisons(alloc: Global, first: &[u8], second: &[u8], room: &mut [u8]) -> usize
     requires first { IsAscii first.now }
     requires second { IsAscii second.now }
 {
@@ -147,8 +125,7 @@ fn compare<T: Ord + Drop>(
 }
 
 /// The hashes of a text: as a view, ignoring case, as a string and as an inline string; and of its first character.
-#[unsafe(no_mangle)]
-pub extern "C" fn ask_hashes(alloc: Global, source: &[u8], room: &mut [u8]) -> usize
+pub fn ask_hashes(alloc: Global, source: &[u8], room: &mut [u8]) -> usize
     requires { IsAscii source.now }
 {
     let view = bytes::as_ascii_str_unchecked(source);

@@ -40,14 +40,7 @@ pub(crate) fn ending_name(ending: Ending) -> &'static str {
 }
 
 /// The pieces at a character, each with what remains.
-#[unsafe(no_mangle)]
-pub extern "C" fn ask_split(
-    alloc: Global,
-    code: u8,
-    source: &[u8],
-    script: &[u8],
-    room: &mut [u8],
-) -> usize
+pub fn ask_split(alloc: Global, code: u8, source: &[u8], script: &[u8], room: &mut [u8]) -> usize
     requires { IsAscii source.now }
 {
     let mut answer = Answer::new(alloc);
@@ -62,8 +55,7 @@ pub extern "C" fn ask_split(
 }
 
 /// The pieces at a character with their starts in a text that starts at `from`, each with what remains.
-#[unsafe(no_mangle)]
-pub extern "C" fn ask_split_spans(
+pub fn ask_split_spans(
     alloc: Global,
     from: usize,
     code: u8,
@@ -87,8 +79,7 @@ pub extern "C" fn ask_split_spans(
 
 /// The pieces at a character with their starts. Form 0 has the last one first, form 1 has no empty last one,
 /// and any other number has them with their separators.
-#[unsafe(no_mangle)]
-pub extern "C" fn ask_pieces(
+pub fn ask_pieces(
     alloc: Global,
     form: u8,
     code: u8,
@@ -124,13 +115,7 @@ fn put_spans<'a, I: DoubleEndedIterator<Item = SplitSpan<'a>> + Clone + Drop>(
 }
 
 /// The pieces at a text with their starts, and the occurrences of that text.
-#[unsafe(no_mangle)]
-pub extern "C" fn ask_pieces_at(
-    alloc: Global,
-    source: &[u8],
-    needle: &[u8],
-    room: &mut [u8],
-) -> usize
+pub fn ask_pieces_at(alloc: Global, source: &[u8], needle: &[u8], room: &mut [u8]) -> usize
     requires source { IsAscii source.now }
     requires needle { IsAscii needle.now }
 {
@@ -155,8 +140,7 @@ pub(crate) fn start_and_text<'a>(span: Option<SplitSpan<'a>>) -> Option<(usize, 
 }
 
 /// The lines, each with what remains.
-#[unsafe(no_mangle)]
-pub extern "C" fn ask_lines(alloc: Global, source: &[u8], script: &[u8], room: &mut [u8]) -> usize
+pub fn ask_lines(alloc: Global, source: &[u8], script: &[u8], room: &mut [u8]) -> usize
     requires { IsAscii source.now }
 {
     let mut answer = Answer::new(alloc);
@@ -169,8 +153,7 @@ pub extern "C" fn ask_lines(alloc: Global, source: &[u8], script: &[u8], room: &
 }
 
 /// The lines with their starts in a text that starts at `from` and their endings, each with what remains.
-#[unsafe(no_mangle)]
-pub extern "C" fn ask_line_spans(
+pub fn ask_line_spans(
     alloc: Global,
     from: usize,
     source: &[u8],
@@ -200,8 +183,7 @@ fn put_line(line: Option<LineSpan<'_>>, answer: &mut Answer) {
 }
 
 /// The characters, each with what remains and the length of that.
-#[unsafe(no_mangle)]
-pub extern "C" fn ask_chars(alloc: Global, source: &[u8], script: &[u8], room: &mut [u8]) -> usize
+pub fn ask_chars(alloc: Global, source: &[u8], script: &[u8], room: &mut [u8]) -> usize
     requires { IsAscii source.now }
 {
     let mut answer = Answer::new(alloc);
@@ -218,13 +200,7 @@ pub extern "C" fn ask_chars(alloc: Global, source: &[u8], script: &[u8], room: &
 }
 
 /// The characters of a view that is iterated itself, each with what remains.
-#[unsafe(no_mangle)]
-pub extern "C" fn ask_chars_of_view(
-    alloc: Global,
-    source: &[u8],
-    script: &[u8],
-    room: &mut [u8],
-) -> usize
+pub fn ask_chars_of_view(alloc: Global, source: &[u8], script: &[u8], room: &mut [u8]) -> usize
     requires { IsAscii source.now }
 {
     let mut answer = Answer::new(alloc);
@@ -237,8 +213,7 @@ pub extern "C" fn ask_chars_of_view(
 }
 
 /// The words between whitespace, each with what remains.
-#[unsafe(no_mangle)]
-pub extern "C" fn ask_words(alloc: Global, source: &[u8], script: &[u8], room: &mut [u8]) -> usize
+pub fn ask_words(alloc: Global, source: &[u8], script: &[u8], room: &mut [u8]) -> usize
     requires { IsAscii source.now }
 {
     let mut answer = Answer::new(alloc);
@@ -251,13 +226,7 @@ pub extern "C" fn ask_words(alloc: Global, source: &[u8], script: &[u8], room: &
 }
 
 /// The runs of ASCII bytes and of other bytes.
-#[unsafe(no_mangle)]
-pub extern "C" fn ask_chunks(
-    alloc: Global,
-    source: &[u8],
-    script: &[u8],
-    room: &mut [u8],
-) -> usize {
+pub fn ask_chunks(alloc: Global, source: &[u8], script: &[u8], room: &mut [u8]) -> usize {
     let mut answer = Answer::new(alloc);
     let mut chunks = bytes::ascii_chunks(source);
     for number in script {

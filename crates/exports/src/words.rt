@@ -18,14 +18,7 @@ use std::alloc::Global;
 ///
 /// Which of the bytes are in the class, the first and the last one that is not and that is; and of a text
 /// its run at the start, the text without the class at its ends, and its words, runs and pieces by a script.
-#[unsafe(no_mangle)]
-pub extern "C" fn ask_class(
-    alloc: Global,
-    class: u8,
-    source: &[u8],
-    script: &[u8],
-    room: &mut [u8],
-) -> usize {
+pub fn ask_class(alloc: Global, class: u8, source: &[u8], script: &[u8], room: &mut [u8]) -> usize {
     let mut answer = Answer::new(alloc);
     match class {
         0 => search::<Ascii>(source, script, &mut answer),
@@ -83,8 +76,7 @@ fn walk_words<C: Searched>(view: AsciiStr<'_>, script: &[u8], answer: &mut Answe
 }
 
 /// The number that a text writes and the one at its start, as each of the unsigned types.
-#[unsafe(no_mangle)]
-pub extern "C" fn ask_numbers(alloc: Global, source: &[u8], room: &mut [u8]) -> usize
+pub fn ask_numbers(alloc: Global, source: &[u8], room: &mut [u8]) -> usize
     requires { IsAscii source.now }
 {
     let view = bytes::as_ascii_str_unchecked(source);
@@ -132,14 +124,7 @@ fn put_error(error: NumberError, answer: &mut Answer) {
 
 /// A text with the digits of numbers appended, each as some types. `high` and `low` are the bits of a `u128` and an
 /// `i128`, and `low` those of the shorter types, as far as it fits them.
-#[unsafe(no_mangle)]
-pub extern "C" fn ask_decimals(
-    alloc: Global,
-    high: u64,
-    low: u64,
-    source: &[u8],
-    room: &mut [u8],
-) -> usize
+pub fn ask_decimals(alloc: Global, high: u64, low: u64, source: &[u8], room: &mut [u8]) -> usize
     requires { IsAscii source.now }
 {
     let view = bytes::as_ascii_str_unchecked(source);
@@ -174,8 +159,7 @@ fn push_digits<I: Integer>(
 }
 
 /// A text without a character.
-#[unsafe(no_mangle)]
-pub extern "C" fn ask_retain(alloc: Global, code: u8, source: &[u8], room: &mut [u8]) -> usize
+pub fn ask_retain(alloc: Global, code: u8, source: &[u8], room: &mut [u8]) -> usize
     requires { IsAscii source.now }
 {
     let view = bytes::as_ascii_str_unchecked(source);
