@@ -1,10 +1,7 @@
 -- The pieces of a text at the codes of a class, and its words: the pieces that are not empty.
-use Rattle.std.specs.Prelude.{◌≡◌, ℕ, Bool, true, false, not, List, [], ◌∷◌, All, MatchOption, Option}
+use Rattle.std.specs.Prelude.{ℕ, Bool, true, false, not, List, [], ◌∷◌, All}
 use Rattle.std.specs.List.{filter, slice_split}
-use Rattle.ascii.specs.declared.ascii_str.AsciiStr.{AsciiStr}
-use Rattle.ascii.specs.Pieces.{Remaining}
 use Rattle.ascii.specs.Spans.{WithStart, piece_size, with_starts}
-use Rattle.ascii.specs.View.{text_of}
 
 -- a whole text, which starts at 0
 abbrev pub whole : List ℕ → WithStart (List ℕ)
