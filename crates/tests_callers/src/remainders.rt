@@ -72,7 +72,6 @@ pub fn resume_lines<'a>(lines: &Lines<'a>) -> Option<Lines<'a>>
 }
 
 /// A split with the same remaining pieces and starts, if any remain.
-#[tactic(auto, using(ascii::proofs::CallerLemmas::rest_of_piece_spans))]
 pub fn resume_split_spans<'a>(split: &SplitSpans<'a>, on: AsciiChar) -> Option<SplitSpans<'a>>
     requires { code_of on ≡ split.now.on }
     ensures { MatchOption result (split.now.items ≡ [])
