@@ -7,46 +7,44 @@ use ascii::{AsciiChar, AsciiStr, bytes};
 use std::process::Abort;
 use testing::assert_row;
 
-/// The items of both iterators, in order.
-fn compare<'a, I, S>(rt: &impl Abort, items: I, texts: S)
-where
-    I: Iterator<Item = AsciiStr<'a>>,
-    S: Iterator<Item = &'a str>,
-{
-    let mut items = items;
-    for want in texts {
-        assert_row!(rt; items.next().unwrap_or_default().as_str(), want);
-    }
-    assert_row!(rt; items.next().is_none(), true);
+/// Compares the items of both iterators, in order.
+macro_rules! compare {
+    ($rt:expr, $items:expr, $texts:expr) => {{
+        let mut items = $items;
+        for want in $texts {
+            assert_row!($rt; items.next().unwrap_or_default().as_str(), want);
+        }
+        assert_row!($rt; items.next().is_none(), true);
+    }};
 }
 
 /// The pieces at a comma.
 fn compare_at_comma(rt: &impl Abort, view: AsciiStr<'_>) {
     let text = view.as_str();
     let comma = AsciiChar::Comma;
-    compare(rt, view.rsplit(comma), text.rsplit(','));
-    compare(rt, view.rsplit(comma).rev(), text.split(','));
-    compare(rt, view.split_by::<Punctuation>(), text.split(','));
-    compare(rt, view.split_by::<Punctuation>().rev(), text.rsplit(','));
-    compare(rt, view.split_terminator(comma), text.split_terminator(','));
-    compare(
+    compare!(rt, view.rsplit(comma), text.rsplit(','));
+    compare!(rt, view.rsplit(comma).rev(), text.split(','));
+    compare!(rt, view.split_by::<Punctuation>(), text.split(','));
+    compare!(rt, view.split_by::<Punctuation>().rev(), text.rsplit(','));
+    compare!(rt, view.split_terminator(comma), text.split_terminator(','));
+    compare!(
         rt,
         view.split_terminator(comma).rev(),
-        text.split_terminator(',').rev(),
+        text.split_terminator(',').rev()
     );
-    compare(rt, view.split_inclusive(comma), text.split_inclusive(','));
-    compare(
+    compare!(rt, view.split_inclusive(comma), text.split_inclusive(','));
+    compare!(
         rt,
         view.split_inclusive(comma).rev(),
-        text.split_inclusive(',').rev(),
+        text.split_inclusive(',').rev()
     );
 }
 
 /// The pieces at a text, and where it occurs.
 fn compare_at_text(rt: &impl Abort, view: AsciiStr<'_>, needle: AsciiStr<'_>) {
     let text = view.as_str();
-    compare(rt, view.split_str(needle), text.split(needle.as_str()));
-    compare(rt, view.matches(needle), text.matches(needle.as_str()));
+    compare!(rt, view.split_str(needle), text.split(needle.as_str()));
+    compare!(rt, view.matches(needle), text.matches(needle.as_str()));
     let mut spans = view.match_spans(needle);
     for (start, _) in text.match_indices(needle.as_str()) {
         assert_row!(rt; spans.next().is_some_and(|span| span.start == start), true);
