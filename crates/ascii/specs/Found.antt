@@ -1,5 +1,7 @@
--- One way to find the pieces and the lines of a text, cited by private functions only. The calls
--- that make the iterators ensure that it finds the pieces or lines, and that nothing else is them.
+-- One way to find the pieces and the lines of a text. Public clauses cite `pieces_of` and
+-- `piece_spans`, directly or by a definition over them; only private functions cite the others. The
+-- calls that make the iterators ensure that it finds the pieces or lines, and that nothing else is
+-- them.
 use Rattle.std.specs.Prelude.{◌≡◌, ℕ, ◌+◌, ◌-◌, List, [], ◌∷◌, ◌++◌, ◌⊎◌, length, take}
 use Rattle.std.specs.Prelude.{slice_index_or, cond, Bool, ◌==◌, false, Option, Some, None}
 use Rattle.std.specs.Prelude.{zero, suc}

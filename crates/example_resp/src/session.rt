@@ -266,7 +266,8 @@ fn read_length(line: AsciiStr<'_>, mark: AsciiStr<'_>, most: usize) -> Length
 
 /// Returns the words of a line, which have blanks between them.
 fn words_of(alloc: Global, line: AsciiStr<'_>) -> Result<Vec<AsciiString>, AllocError>
-    ensures { IfOk result (λ words. reply_texts words.items ≡ words_by is_blank (text_of line.entry)) }
+    ensures { IfOk result (λ words.
+        reply_texts words.items ≡ words_by is_blank (text_of line.entry)) }
 {
     let mut words = Vec::new(alloc);
     for word in line.words::<Blank>() {

@@ -76,7 +76,8 @@ impl<'a> AsciiStr<'a> {
     ///     let mut spans = view("a.b.c").rsplit_spans(AsciiChar::Dot);
     ///     spans.next() // Some(SplitSpan { start: 4, text: "c" })
     pub fn rsplit_spans(self, on: AsciiChar) -> RSplitSpans<'a>
-        ensures iterates { Iterates (reverse (piece_spans (code_of on) (whole (text_of self.entry)))) result }
+        ensures iterates { Iterates
+            (reverse (piece_spans (code_of on) (whole (text_of self.entry)))) result }
         ensures placed { ArePlaced 0 (text_of self.entry) result.items }
         ensures loops { LoopsOverSpans result (λ back. IsFree back.cut) }
         ensures loops_back { LoopsBackOverSpans result (λ back. IsFree back.cut) }

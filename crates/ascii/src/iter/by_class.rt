@@ -216,7 +216,8 @@ impl<'a> AsciiStr<'a> {
     ///     runs.next() // Some("1")
     ///     runs.next() // Some("20")
     pub fn runs<C: Searched>(self) -> Runs<'a, C>
-        ensures iterates { Iterates (words_by (λ code. not (C.test code)) (text_of self.entry)) result }
+        ensures iterates { Iterates
+            (words_by (λ code. not (C.test code)) (text_of self.entry)) result }
         ensures loops { LoopsOverItems result (λ _. IsWord (λ code. ¬ (C.is code))) }
         ensures loops_back { LoopsBackOverItems result (λ _. IsWord (λ code. ¬ (C.is code))) }
     {

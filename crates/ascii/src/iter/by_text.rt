@@ -103,7 +103,8 @@ impl<'a> AsciiStr<'a> {
     ///     spans.next() // Some(SplitSpan { start: 0, text: "one" })
     ///     spans.next() // Some(SplitSpan { start: 5, text: "two" })
     pub fn split_spans_str<'n>(self, needle: AsciiStr<'n>) -> SplitSpansStr<'a, 'n>
-        ensures iterates { Iterates (piece_spans_at (text_of needle.entry) (whole (text_of self.entry))) result }
+        ensures iterates { Iterates
+            (piece_spans_at (text_of needle.entry) (whole (text_of self.entry))) result }
         ensures placed { ArePlaced 0 (text_of self.entry) result.items }
         ensures loops { LoopsOverSpans result (λ at. IsFreeOf (text_of at.needle)) }
     {
@@ -118,7 +119,8 @@ impl<'a> AsciiStr<'a> {
     ///     view("banana").matches(view("an")).count() // 2
     ///     view("aaa").matches(view("aa")).count() // 1
     pub fn matches<'n>(self, needle: AsciiStr<'n>) -> Matches<'a, 'n>
-        ensures iterates { Iterates (matches_at (text_of needle.entry) (text_of self.entry)) result }
+        ensures iterates { Iterates
+            (matches_at (text_of needle.entry) (text_of self.entry)) result }
         ensures loops { LoopsOverItems result (λ at item. item ≡ text_of at.needle) }
     {
         self.items_at(AtMatches { needle })
@@ -134,7 +136,8 @@ impl<'a> AsciiStr<'a> {
     ///     spans.next() // Some(SplitSpan { start: 3, text: "an" })
     ///     spans.next() // None
     pub fn match_spans<'n>(self, needle: AsciiStr<'n>) -> MatchSpans<'a, 'n>
-        ensures iterates { Iterates (match_spans_at (text_of needle.entry) (whole (text_of self.entry))) result }
+        ensures iterates { Iterates
+            (match_spans_at (text_of needle.entry) (whole (text_of self.entry))) result }
         ensures placed { ArePlaced 0 (text_of self.entry) result.items }
         ensures loops { LoopsOverSpans result (λ at item. item ≡ text_of at.needle) }
     {

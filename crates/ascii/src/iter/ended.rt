@@ -132,7 +132,8 @@ impl<'a> AsciiStr<'a> {
     ///     spans.next_back() // Some(SplitSpan { start: 2, text: "b" })
     ///     spans.remainder() // Some((0, "a;"))
     pub fn split_terminator_spans(self, on: AsciiChar) -> SplitTerminatorSpans<'a>
-        ensures iterates { Iterates (terminated_spans (code_of on) (whole (text_of self.entry))) result }
+        ensures iterates { Iterates
+            (terminated_spans (code_of on) (whole (text_of self.entry))) result }
         ensures placed { ArePlaced 0 (text_of self.entry) result.items }
         ensures loops { LoopsOverSpans result (λ at. IsFree (code_of at.on)) }
         ensures loops_back { LoopsBackOverSpans result (λ at. IsFree (code_of at.on)) }
@@ -168,7 +169,8 @@ impl<'a> AsciiStr<'a> {
     ///     spans.next_back() // Some(SplitSpan { start: 2, text: "b;" })
     ///     spans.remainder() // Some((0, "a;"))
     pub fn split_inclusive_spans(self, on: AsciiChar) -> SplitInclusiveSpans<'a>
-        ensures iterates { Iterates (inclusive_spans (code_of on) (whole (text_of self.entry))) result }
+        ensures iterates { Iterates
+            (inclusive_spans (code_of on) (whole (text_of self.entry))) result }
         ensures placed { ArePlaced 0 (text_of self.entry) result.items }
         ensures loops { LoopsOverSpans result (λ at. EndsAtMost (code_of at.on)) }
         ensures loops_back { LoopsBackOverSpans result (λ at. EndsAtMost (code_of at.on)) }
