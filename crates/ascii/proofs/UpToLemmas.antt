@@ -1,17 +1,19 @@
 -- At most `n` pieces of a text, of which the n-th holds the rest.
-use Rattle.std.proofs.Common.{◌≡◌, ◌≢◌, ℕ, zero, suc, List, [], ◌∷◌, ◌++◌}
+use Rattle.std.proofs.Common.{◌≡◌, ◌≢◌, ◌<◌, ℕ, zero, suc, List, [], ◌∷◌, ◌++◌}
 use Rattle.std.proofs.Common.{take, refl, sym, ap, ◌∙◌, arith, Option, None, Some}
+use Rattle.std.specs.Prelude.{⊤}
 use native.Mathlib.Numerals.{unary_clauses}
 use Rattle.std.specs.List.{Contains, join_with_byte}
 use Rattle.std.proofs.Math.Seq.{take-nil}
 use Rattle.std.proofs.lemmas.List.Elements.{All-cons, All-head, All-nil, All-tail}
 use Rattle.ascii.specs.Found.{pieces_of, pieces_up_to}
-use Rattle.ascii.specs.Pieces.{IsRemainderOfPieces, Pieces, PiecesUpTo}
-use Rattle.ascii.specs.Steps.{DropsFirst, YieldsFirstAnd}
+use Rattle.ascii.specs.Pieces.{IsRemainderOfPieces, IsRemainderUpTo, IteratesPiecesUpTo, Pieces}
+use Rattle.ascii.specs.Pieces.{PiecesUpTo, Remaining}
+use Rattle.ascii.specs.Steps.{StepsText, YieldsFirstAnd}
 use Rattle.ascii.specs.View.{text_of}
 use Rattle.ascii.specs.declared.ascii_str.AsciiStr.{AsciiStr}
 use Rattle.ascii.proofs.PiecesLemmas.{HasNo-from_absent, pieces_of-free, pieces_of-split_at_first}
-use Rattle.ascii.proofs.PiecesLemmas.{Pieces-pieces_of}
+use Rattle.ascii.proofs.PiecesLemmas.{Pieces-only, Pieces-pieces_of}
 
 module _ (on : ℕ) where
   pub up_to-zero : (pieces : List (List ℕ)) → pieces_up_to on 0 pieces ≡ []
@@ -99,26 +101,49 @@ module _ (on : ℕ) where
       ∙ ap (pieces_up_to on (suc (suc n))) (sym (pieces_of-split_at_first on text piece after
       (sym (held.joined (omega arith))) free))
 
+  -- the pieces found are the only list in the relation
+  pub up_to_iterates : (n : ℕ) (text : List ℕ) (pieces : List (List ℕ)) → Pieces text on pieces
+      → IteratesPiecesUpTo n text on (pieces_up_to on n pieces)
+  up_to_iterates n text pieces whole = record {
+    pieces = up_to_found n text pieces whole;
+    only = λ other held. up_to_only n text other held
+        ∙ ap (pieces_up_to on n) (sym (Pieces-only text on pieces whole));
+  }
+
+  -- what is left of a whole split is what is left of its first pieces
+  pub up_to_remainder : (n : ℕ) (pieces : List (List ℕ)) (result : Option AsciiStr) → 0 < n
+      → IsRemainderOfPieces (record { on = on; items = pieces }) result
+      → IsRemainderUpTo (record { on = on; items = pieces_up_to on n pieces }) result
+  up_to_remainder n pieces None more none = ap (pieces_up_to on n) none
+  up_to_remainder n pieces (Some view) more left =
+      (n, more, up_to_iterates n (text_of view) pieces left)
+
 -- ---- a step of the iterator whose pieces to come are `old`
 
-module _ (on count : ℕ) (pieces old : List (List ℕ)) (is : old ≡ pieces_up_to on count pieces)
-  where
-    -- nothing is yielded if no piece may come
-    pub up_to_done : count ≡ 0
-        → YieldsFirstAnd {A = AsciiStr} text_of (λ texts. texts) DropsFirst old None old
-    up_to_done none =
-        let empty : old ≡ [] =
-        is ∙ (ap (λ n. pieces_up_to on n pieces) none ∙ up_to-zero on pieces) in
-        ((empty, empty), rw empty refl)
+module _ (on count : ℕ) (pieces : List (List ℕ)) (old : Remaining ℕ (List ℕ))
+    (is : record { on = on; items = pieces_up_to on count pieces } ≡ old) where
+  -- no pieces are left if no piece may come
+  pub up_to_none : count ≡ 0 → old.items ≡ []
+  up_to_none none = sym (ap (λ left. left.items) is)
+      ∙ (ap (λ n. pieces_up_to on n pieces) none ∙ up_to-zero on pieces)
 
-    -- the rest is yielded if one piece may come
-    pub up_to_rest : (result : Option AsciiStr) → count ≡ 1
-        → IsRemainderOfPieces (record { on = on; items = pieces }) result
-        → YieldsFirstAnd text_of (λ texts. texts) DropsFirst old result (pieces_up_to on 0 pieces)
-    up_to_rest None one none =
-        let empty : old ≡ [] = is ∙ (ap (pieces_up_to on count) none) in
-        rw (up_to-zero on pieces, empty) ((refl, refl), refl)
-    up_to_rest (Some view) one left =
-        let last : old ≡ text_of view ∷ [] =
-        is ∙ (ap (λ n. pieces_up_to on n pieces) one ∙ up_to-one on (text_of view) pieces left) in
-        rw (up_to-zero on pieces, last) (refl, refl)
+  -- nothing is yielded if no piece may come
+  pub up_to_done : count ≡ 0 → YieldsFirstAnd {A = AsciiStr} text_of (λ left. left.items)
+      (StepsText (λ _ _. ⊤)) old None old
+  up_to_done none =
+      ((up_to_none none, up_to_none none), (refl, _))
+
+  -- the rest is yielded if one piece may come
+  pub up_to_rest : (result : Option AsciiStr) → count ≡ 1
+      → IsRemainderOfPieces (record { on = on; items = pieces }) result
+      → YieldsFirstAnd text_of (λ left. left.items) (StepsText (λ _ _. ⊤)) old result
+      (record { on = on; items = pieces_up_to on 0 pieces })
+  up_to_rest None one none =
+      let empty : old.items ≡ [] =
+      sym (ap (λ left. left.items) is) ∙ ap (pieces_up_to on count) none in
+      ((empty, up_to-zero on pieces), (ap (λ left. left.on) is, _))
+  up_to_rest (Some view) one left =
+      let last : old.items ≡ text_of view ∷ [] =
+      sym (ap (λ left. left.items) is)
+      ∙ (ap (λ n. pieces_up_to on n pieces) one ∙ up_to-one on (text_of view) pieces left) in
+      (rw (up_to-zero on pieces, last) refl, (ap (λ left. left.on) is, _))

@@ -111,10 +111,6 @@ abbrev pub LoopsBackOverPieces : Type 0
 LoopsBackOverPieces =
     LoopsInReverse text_of (λ (split : Remaining ℕ (List ℕ)). split.items) StepsPiece
 
--- loops over a `SplitN` see the pieces in order
-abbrev pub LoopsOverTexts : Type 0
-LoopsOverTexts = LoopsInOrder text_of (λ (pieces : List (List ℕ)). pieces) DropsFirst
-
 -- loops over a `SplitSpans` see the pieces with their starts, in order
 abbrev pub LoopsOverPieceSpans : Type 0
 LoopsOverPieceSpans = LoopsInOrder piece_in (λ split. split.items) StepsPieceSpan

@@ -8,7 +8,7 @@
 //!
 //! A contract sees the iterator as the bytes whose chunks it has yet to yield, with their start.
 
-ghost use Rattle.std.specs.Prelude.{⊤, ◌≡◌, ◌+◌, ◌<◌, All, length};
+ghost use Rattle.std.specs.Prelude.{⊤, ◌≡◌, ◌≢◌, ◌+◌, ◌<◌, ◌≤◌, [], All, IfSome, MatchOption, length};
 ghost use Rattle.std.specs.Iterator.{item_count};
 ghost use Rattle.ascii.specs.Chunks.{HasOneListOfChunks, IsByteOf, LoopsBackOverChunks, LoopsOverChunks};
 ghost use Rattle.ascii.specs.Chunks.{run_in};
@@ -126,6 +126,26 @@ impl<'a> DoubleEndedIterator for AsciiChunks<'a> {
 }
 
 impl FusedIterator for AsciiChunks<'_> {}
+
+impl<'a> AsciiChunks<'a> {
+    /// Returns the bytes whose chunks remain, with the position in the source at which they start, or
+    /// `None` if there are no chunks left. The iterator is unchanged. Constant time.
+    ///
+    ///     let mut chunks = bytes::ascii_chunks(b"ab\xc4cd");
+    ///     chunks.next() // Some(AsciiChunk { start: 0, run: Ascii("ab") })
+    ///     chunks.remainder() // Some((2, [196, 99, 100]))
+    ///     bytes::ascii_chunks(b"").remainder() // None
+    pub fn remainder(&self) -> Option<(usize, &'a [u8])>
+        ensures remainder { MatchOption result (self.now.item ≡ []) (λ tail.
+            (self.now.item ≢ []) × (tail.0 ≡ self.now.start) × (tail.1.now ≡ self.now.item)) }
+        ensures fits { IfSome result (λ tail. tail.0 + length tail.1.now ≤ usize.MAX) }
+    {
+        if self.rest.is_empty() {
+            return None;
+        }
+        Some((self.start, self.rest))
+    }
+}
 
 /// Returns the position after the run at the start: of ASCII bytes, or of other bytes.
 fn first_run_end(bytes: &[u8], ascii: bool) -> usize

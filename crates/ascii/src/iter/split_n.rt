@@ -3,8 +3,8 @@
 ghost use Rattle.std.specs.Prelude.{⊤, ◌≡◌};
 ghost use Rattle.std.specs.Iterator.{item_count};
 ghost use Rattle.ascii_base.specs.Code.{code_of};
-ghost use Rattle.ascii.specs.Pieces.{IteratesPiecesUpTo};
-ghost use Rattle.ascii.specs.Steps.{DropsFirst, LoopsOverTexts, YieldsFirstAnd};
+ghost use Rattle.ascii.specs.Pieces.{IsRemainderUpTo, IteratesPiecesUpTo};
+ghost use Rattle.ascii.specs.Steps.{LoopsOverItems, StepsText, YieldsFirstAnd};
 ghost use Rattle.ascii.specs.View.{text_of};
 
 use crate::ascii_str::AsciiStr;
@@ -24,10 +24,14 @@ pub struct SplitN<'a> {
 impl<'a> Model for SplitN<'a> {
     ghost use Rattle.std.specs.Prelude.{List, ℕ};
     ghost use Rattle.ascii.specs.Found.{pieces_up_to};
+    ghost use Rattle.ascii.specs.Pieces.{Remaining};
 
-    ghost Value = { List (List ℕ) };
+    ghost Value = { Remaining ℕ (List ℕ) };
 
-    ghost view = { λ split. pieces_up_to split.pieces.on split.count split.pieces.items };
+    ghost view = { λ split. record {
+      on = split.pieces.on;
+      items = pieces_up_to split.pieces.on split.count split.pieces.items;
+    } };
 }
 
 impl Clone for SplitN<'_> {
@@ -53,9 +57,9 @@ impl Clone for SplitN<'_> {
 impl<'a> Iterator for SplitN<'a> {
     type Item = AsciiStr<'a>;
 
-    ghost next_gives = { YieldsFirstAnd text_of (λ pieces. pieces) DropsFirst };
+    ghost next_gives = { YieldsFirstAnd text_of (λ left. left.items) (StepsText (λ _ _. ⊤)) };
 
-    ghost remaining = { item_count (λ pieces. pieces) };
+    ghost remaining = { item_count (λ left. left.items) };
 
     /// Returns the next piece, or `None` if there are none left; it then keeps returning `None`.
     ///
@@ -78,6 +82,24 @@ impl<'a> Iterator for SplitN<'a> {
 
 impl FusedIterator for SplitN<'_> {}
 
+impl<'a> SplitN<'a> {
+    /// Returns the part of the view whose pieces remain, or `None` if there are none left. The iterator
+    /// is unchanged. Constant time.
+    ///
+    ///     let mut pieces = view("a,b,c").splitn(3, AsciiChar::Comma);
+    ///     pieces.next() // Some("a")
+    ///     pieces.remainder() // Some("b,c")
+    ///     view("a,b,c").splitn(0, AsciiChar::Comma).remainder() // None
+    pub fn remainder(&self) -> Option<AsciiStr<'a>>
+        ensures { IsRemainderUpTo self.now result }
+    {
+        if self.count == 0 {
+            return None;
+        }
+        self.pieces.remainder()
+    }
+}
+
 impl<'a> AsciiStr<'a> {
     /// Returns an iterator over at most `n` pieces of the view at `on`: the n-th piece holds the rest
     /// of the view, with every `on` in it. There are none if `n` is 0. Does not allocate.
@@ -87,8 +109,9 @@ impl<'a> AsciiStr<'a> {
     ///     pieces.next() // Some("b,c")
     ///     pieces.next() // None
     pub fn splitn(self, n: usize, on: AsciiChar) -> SplitN<'a>
-        ensures iterates { IteratesPiecesUpTo n (text_of self.entry) (code_of on) result }
-        ensures loops { LoopsOverTexts }
+        ensures iterates { IteratesPiecesUpTo n (text_of self.entry) (code_of on) result.items }
+        ensures separator { result.on ≡ code_of on }
+        ensures loops { LoopsOverItems result (λ _ _. ⊤) }
     {
         SplitN {
             pieces: self.split(on),

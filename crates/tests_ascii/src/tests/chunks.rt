@@ -60,3 +60,16 @@ fn chunks_come_from_the_end(rt: HostRuntime) {
         assert_debug!(rt; chunks.next_back(), "None");
     }
 }
+
+#[test]
+fn remainder_of_chunks(rt: HostRuntime) {
+    let mut chunks = bytes::ascii_chunks(b"ab\xc4cd");
+    assert_debug!(rt; chunks.remainder(), "Some((0, [97, 98, 196, 99, 100]))");
+    chunks.next();
+    assert_debug!(rt; chunks.remainder(), "Some((2, [196, 99, 100]))");
+    chunks.next_back();
+    assert_debug!(rt; chunks.remainder(), "Some((2, [196]))");
+    chunks.next();
+    assert_debug!(rt; chunks.remainder(), "None");
+    assert_debug!(rt; bytes::ascii_chunks(b"").remainder(), "None");
+}

@@ -878,6 +878,15 @@ fn next_back_of_ascii_chunks(rt: HostRuntime) {
     );
 }
 
+// AsciiChunks::remainder
+#[test]
+fn remainder_of_ascii_chunks(rt: HostRuntime) {
+    let mut chunks = bytes::ascii_chunks(b"ab\xc4cd");
+    assert_debug!(rt; chunks.next(), "Some(AsciiChunk { start: 0, run: Ascii(\"ab\") })");
+    assert_debug!(rt; chunks.remainder(), "Some((2, [196, 99, 100]))");
+    assert_debug!(rt; bytes::ascii_chunks(b"").remainder(), "None");
+}
+
 // bytes::ascii_chunks
 #[test]
 fn ascii_chunks_of_bytes(rt: HostRuntime) {
@@ -1792,6 +1801,15 @@ fn clone_of_split_n(rt: HostRuntime) {
 #[test]
 fn next_of_split_n(rt: HostRuntime) {
     assert_debug!(rt; view("a,b,c").splitn(1, AsciiChar::Comma).next(), "Some(\"a,b,c\")");
+}
+
+// SplitN::remainder
+#[test]
+fn remainder_of_split_n(rt: HostRuntime) {
+    let mut pieces = view("a,b,c").splitn(3, AsciiChar::Comma);
+    assert_debug!(rt; pieces.next(), "Some(\"a\")");
+    assert_debug!(rt; pieces.remainder(), "Some(\"b,c\")");
+    assert_debug!(rt; view("a,b,c").splitn(0, AsciiChar::Comma).remainder(), "None");
 }
 
 // AsciiStr::splitn
