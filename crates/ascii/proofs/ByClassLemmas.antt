@@ -18,7 +18,7 @@ use Rattle.std.proofs.lemmas.List.Sums.{count_by-le-length, length-filter}
 use Rattle.ascii.specs.ByClass.{IsOutside, has_some, piece_spans_by, word_spans_by, words_by}
 use Rattle.ascii_base.specs.Runs.{EndsRun, StartsRun}
 use Rattle.ascii.specs.Spans.{WithStart, items_of, piece_size, with_starts}
-use Rattle.ascii.specs.Words.{IsWord, Words}
+use Rattle.ascii.specs.Words.{IsFirstWord, IsWord, Words}
 use Rattle.ascii.proofs.PiecesLemmas.{slice_split-joint, slice_split-some}
 use Rattle.ascii.proofs.SpansLemmas.{length-with_starts, room}
 
@@ -488,3 +488,79 @@ module _ (Is : ℕ → Type 0) (test : ℕ → Bool) (decides : (n : ℕ) → De
   pub Words-words_by : (text : List ℕ) (words : List (List ℕ)) → Words Is text words
       → words_by test text ≡ words
   Words-words_by text words held = sym (words_of_spans test 0 text) ∙ words_are 0 text words held
+
+  -- the first piece is outside the class, and the words of what follows it are the other pieces
+  -- that are not empty
+  record FirstPiece (text piece : List ℕ) (pieces : List (List ℕ)) : Type 0 where
+    rest : List ℕ
+    joined : piece ++ rest ≡ text
+    free : All (λ c. ¬ (Is c)) piece
+    bounded : IfSome (slice_get rest 0) Is
+    held : Words Is rest (filter has_some pieces)
+
+  abbrev HasFirstPiece : List ℕ → List (List ℕ) → Type 0
+  HasFirstPiece text [] = text ≢ text
+  HasFirstPiece text (piece ∷ pieces) = FirstPiece text piece pieces
+
+  words_of_pieces : (text : List ℕ) (pieces : List (List ℕ)) → HasFirstPiece text pieces
+      → Words Is text (filter has_some pieces)
+  words_of_pieces text [] none = absurd (none refl)
+  words_of_pieces text ([] ∷ pieces) first =
+      subst (λ t. Words Is t (filter has_some pieces)) first.joined first.held
+  words_of_pieces text ((c ∷ piece) ∷ pieces) first =
+      let found : IsFirstWord Is text (c ∷ piece) first.rest = record {
+        gap = [];
+        joined = first.joined;
+        within = All-nil Is;
+        is_word = record { some = λ none. cc; free = first.free };
+        bounded = first.bounded;
+      } in (first.rest, found, first.held)
+
+  words_after_one : (c : ℕ) (text : List ℕ) (words : List (List ℕ)) → Is c → Words Is text words
+      → Words Is (c ∷ text) words
+  words_after_one c text [] is held = All-cons Is c text is held
+  words_after_one c text (word ∷ words) is held =
+      let found : IsFirstWord Is (c ∷ text) word held.0 = record {
+        gap = c ∷ held.1.gap;
+        joined = ap (λ t. c ∷ t) held.1.joined;
+        within = All-cons Is c held.1.gap is held.1.within;
+        is_word = held.1.is_word;
+        bounded = held.1.bounded;
+      } in (held.0, found, held.2)
+
+  onto_first_piece : (c : ℕ) (text : List ℕ) (pieces : List (List ℕ)) → ¬ (Is c)
+      → HasFirstPiece text pieces → HasFirstPiece (c ∷ text) (onto_first c pieces)
+  onto_first_piece c text [] out none = absurd (none refl)
+  onto_first_piece c text (piece ∷ pieces) out first = record {
+    rest = first.rest;
+    joined = ap (λ t. c ∷ t) first.joined;
+    free = All-cons (λ d. ¬ (Is d)) c piece out first.free;
+    bounded = first.bounded;
+    held = first.held;
+  }
+
+  has_first_piece : (text : List ℕ) → HasFirstPiece text (slice_split test text)
+  has_first_piece [] = record {
+    rest = [];
+    joined = refl;
+    free = All-nil (λ c. ¬ (Is c));
+    bounded = tt;
+    held = All-nil Is;
+  }
+  has_first_piece (c ∷ text) =
+      let first = has_first_piece text in
+      cond_both (test c) _ _ (HasFirstPiece (c ∷ text))
+      (λ in_it. record {
+        rest = c ∷ text;
+        joined = refl;
+        free = All-nil (λ d. ¬ (Is d));
+        bounded = (decides c).0 in_it;
+        held = words_after_one c text (words_by test text) ((decides c).0 in_it)
+            (words_of_pieces text (slice_split test text) first);
+      })
+      (λ out. onto_first_piece c text (slice_split test text)
+      (not_from_Decides (test c) (decides c) out) first)
+
+  -- the pieces that are not empty are the words of the text
+  pub words_by_are_words : (text : List ℕ) → Words Is text (words_by test text)
+  words_by_are_words text = words_of_pieces text (slice_split test text) (has_first_piece text)

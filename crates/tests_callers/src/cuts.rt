@@ -10,9 +10,10 @@ ghost use Rattle.ascii.specs.Trim.{IsSpan};
 ghost use Rattle.ascii.specs.View.{text_of};
 ghost use Rattle.ascii.specs.ByClass.{words_by};
 ghost use Rattle.ascii.specs.Tests.{is_whitespace};
+ghost use Rattle.ascii.specs.Words.{OfWords};
 ghost use Rattle.tests_callers.specs.Cuts.{EndsWithPiece};
 
-use ascii::classes::Digit;
+use ascii::classes::{Digit, Searched};
 use ascii::{AsciiChar, AsciiStr};
 use std::alloc::{AllocError, Global};
 
@@ -55,6 +56,13 @@ pub fn word_count(view: AsciiStr<'_>) -> usize
     ensures { result ≡ length (words_by is_whitespace (text_of view.entry)) }
 {
     view.split_whitespace().count()
+}
+
+/// The number of words of a view between characters of a class, by what the words are.
+pub fn word_count_by<C: Searched>(view: AsciiStr<'_>) -> usize
+    ensures { OfWords C.is view.entry (λ words. result ≡ length words) }
+{
+    view.words::<C>().count()
 }
 
 /// The words of a view, in order.

@@ -1,4 +1,4 @@
-use Rattle.std.proofs.Common.{◌≡◌, ℕ, sym, subst, ◌∙◌}
+use Rattle.std.proofs.Common.{sym, subst, ◌∙◌}
 use Rattle.ascii.specs.Spans.{PieceSpans}
 use Rattle.ascii.specs.View.{text_of}
 use Rattle.ascii.proofs.CallerLemmas.{rest_of_piece_spans}

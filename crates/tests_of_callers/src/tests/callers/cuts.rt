@@ -1,9 +1,11 @@
 //! The callers that cut a view, each once.
 
 use ascii::AsciiStr;
+use ascii::classes::Whitespace;
 use testing::{ascii, assert_row};
 use tests_callers::cuts::{
     all_words, extension, first_word, is_get, number_and_unit, without_prefix, word_count,
+    word_count_by,
 };
 
 fn text_in<'a>(part: Option<AsciiStr<'a>>) -> Option<&'a str> {
@@ -25,6 +27,7 @@ fn words(rt: HostRuntime) {
     let view = ascii(" one\t two ");
     assert_row!(rt; text_in(first_word(view)), Some("one"));
     assert_row!(rt; word_count(view), 2);
+    assert_row!(rt; word_count_by::<Whitespace>(view), 2);
     let words = all_words(rt.alloc(), view).expect(&rt, "refused");
     assert_row!(rt; words.len(), 2);
 }
