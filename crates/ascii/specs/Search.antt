@@ -30,25 +30,11 @@ EndsWith suffix text = (rest : List ℕ) × IsSuffix suffix text rest
 abbrev pub Strips : Type 0 → (List ℕ → Type 0) → Option AsciiStr → Type 0
 Strips Has IsRest result = MatchOption result (¬ Has) (λ rest. IsRest (text_of rest))
 
--- `text` begins with `prefix` when the case of letters is ignored
-abbrev pub StartsFolded : List ℕ → List ℕ → Type 0
-StartsFolded prefix text = StartsWith (map lower_image prefix) (map lower_image text)
-
--- `text` is `start` followed by `rest`, and `start` is `prefix` when the case of letters is ignored
-pub record IsFoldedPrefix (prefix text rest : List ℕ) : Type 0 where
-  pub start : List ℕ
-  pub joined : start ++ rest ≡ text
-  pub folded : map lower_image start ≡ map lower_image prefix
-
--- `text` ends with `suffix` when the case of letters is ignored
-abbrev pub EndsFolded : List ℕ → List ℕ → Type 0
-EndsFolded suffix text = EndsWith (map lower_image suffix) (map lower_image text)
-
--- `text` is `rest` followed by `end`, and `end` is `suffix` when the case of letters is ignored
-pub record IsFoldedSuffix (suffix text rest : List ℕ) : Type 0 where
-  pub end : List ℕ
-  pub joined : rest ++ end ≡ text
-  pub folded : map lower_image end ≡ map lower_image suffix
+-- `Is` is true of `other`, which is `text` when the case of letters is ignored
+pub record IgnoringCase (Is : List ℕ → Type 0) (text : List ℕ) : Type 0 where
+  pub other : List ℕ
+  pub same : map lower_image other ≡ map lower_image text
+  pub is : Is other
 
 -- `text` is `before`, `between` and `after`, and `Is` is true of the two sides
 pub record IsCut (Is : List ℕ → List ℕ → Type 0) (between text before after : List ℕ) : Type 0

@@ -2,8 +2,7 @@
 //! allocates.
 
 ghost use Rattle.std.specs.Prelude.{◌↔◌, IsTrue};
-ghost use Rattle.ascii.specs.Search.{EndsFolded, IsFoldedPrefix, IsFoldedSuffix, StartsFolded};
-ghost use Rattle.ascii.specs.Search.{Strips};
+ghost use Rattle.ascii.specs.Search.{EndsWith, IgnoringCase, IsPrefix, IsSuffix, StartsWith, Strips};
 ghost use Rattle.ascii.specs.View.{text_of};
 
 use crate::ascii_str::AsciiStr;
@@ -17,7 +16,8 @@ impl<'a> AsciiStr<'a> {
     ///     view("Host: a").starts_with_ignore_ascii_case(view("a")) // false
     #[tactic(auto, using(crate::proofs::FoldLemmas::folded_starts))]
     pub fn starts_with_ignore_ascii_case(self, prefix: AsciiStr<'_>) -> bool
-        ensures { IsTrue result ↔ StartsFolded (text_of prefix.entry) (text_of self.entry) }
+        ensures { IsTrue result ↔
+            IgnoringCase (λ start. StartsWith start (text_of self.entry)) (text_of prefix.entry) }
     {
         self.strip_prefix_ignore_ascii_case(prefix).is_some()
     }
@@ -29,8 +29,10 @@ impl<'a> AsciiStr<'a> {
     ///     view("Host: a").strip_prefix_ignore_ascii_case(view("a")) // None
     #[tactic(auto, using(crate::proofs::FoldLemmas::folded_reads, crate::proofs::FoldLemmas::folded_fits, crate::proofs::FoldLemmas::folded_rest))]
     pub fn strip_prefix_ignore_ascii_case(self, prefix: AsciiStr<'_>) -> Option<AsciiStr<'a>>
-        ensures { Strips (StartsFolded (text_of prefix.entry) (text_of self.entry))
-            (IsFoldedPrefix (text_of prefix.entry) (text_of self.entry)) result }
+        ensures { Strips
+            (IgnoringCase (λ start. StartsWith start (text_of self.entry)) (text_of prefix.entry))
+            (λ rest. IgnoringCase (λ start. IsPrefix start (text_of self.entry) rest)
+            (text_of prefix.entry)) result }
     {
         let n = prefix.len();
         if n <= self.len() && self.slice(AsciiRange::To(n)).eq_ignore_ascii_case(prefix) {
@@ -47,7 +49,8 @@ impl<'a> AsciiStr<'a> {
     ///     view("a.HTML").ends_with_ignore_ascii_case(view("a")) // false
     #[tactic(auto, using(crate::proofs::FoldLemmas::folded_ends))]
     pub fn ends_with_ignore_ascii_case(self, suffix: AsciiStr<'_>) -> bool
-        ensures { IsTrue result ↔ EndsFolded (text_of suffix.entry) (text_of self.entry) }
+        ensures { IsTrue result ↔
+            IgnoringCase (λ end. EndsWith end (text_of self.entry)) (text_of suffix.entry) }
     {
         self.strip_suffix_ignore_ascii_case(suffix).is_some()
     }
@@ -59,8 +62,10 @@ impl<'a> AsciiStr<'a> {
     ///     view("a.HTML").strip_suffix_ignore_ascii_case(view("a")) // None
     #[tactic(auto, using(crate::proofs::FoldLemmas::folded_suffix_reads, crate::proofs::FoldLemmas::folded_suffix_fits, crate::proofs::FoldLemmas::folded_front))]
     pub fn strip_suffix_ignore_ascii_case(self, suffix: AsciiStr<'_>) -> Option<AsciiStr<'a>>
-        ensures { Strips (EndsFolded (text_of suffix.entry) (text_of self.entry))
-            (IsFoldedSuffix (text_of suffix.entry) (text_of self.entry)) result }
+        ensures { Strips
+            (IgnoringCase (λ end. EndsWith end (text_of self.entry)) (text_of suffix.entry))
+            (λ rest. IgnoringCase (λ end. IsSuffix end (text_of self.entry) rest)
+            (text_of suffix.entry)) result }
     {
         let n = suffix.len();
         if self.len() < n {

@@ -123,10 +123,10 @@ dot_says_nothing command says =
     let call = says.2 in
     omega (
       arith,
-      ap length call.joined,
-      length-append call.start says.1,
-      ap length call.folded,
-      length-map call.start lower_image,
+      ap length call.is,
+      length-append call.other says.1,
+      ap length call.same,
+      length-map call.other lower_image,
       length-map (name_of says.0) lower_image,
       long_name says.0,
     )

@@ -1,7 +1,7 @@
 -- The commands of a client, the lines that say them, and the lines that reply to them.
 use Rattle.std.specs.Prelude.{◌≡◌, ◌≢◌, ℕ, List, [], ◌++◌, MatchResult, codes}
 use Rattle.std.specs.declared.result.Result.{Result}
-use Rattle.ascii.specs.Search.{IsFoldedPrefix, StartsFolded}
+use Rattle.ascii.specs.Search.{IgnoringCase, IsPrefix, StartsWith}
 use Rattle.ascii.specs.View.{text_of}
 use Rattle.example_smtp.specs.declared.commands.Command.{Command}
 use Rattle.example_smtp.specs.declared.commands.Command.TheVariants.{AddRecipient, BeginLines}
@@ -50,9 +50,13 @@ HasParts verb argument Leave = (verb ≡ Quit) × (argument ≡ [])
 abbrev pub IsPartsFault : Verb → List ℕ → Reply → Type 0
 IsPartsFault verb argument fault = (fault ≡ reply.BadArgument) × ¬ (IsArgument verb argument)
 
+-- `line` begins with the name of `verb`, in any case
+abbrev pub BeginsWithVerb : List ℕ → Verb → Type 0
+BeginsWithVerb line verb = IgnoringCase (λ start. StartsWith start line) (name_of verb)
+
 -- `line` is the name of `verb`, in any case, and then `argument`
 abbrev pub IsCall : List ℕ → Verb → List ℕ → Type 0
-IsCall line verb argument = IsFoldedPrefix (name_of verb) line argument
+IsCall line verb argument = IgnoringCase (λ start. IsPrefix start line argument) (name_of verb)
 
 -- `line` says `command`
 abbrev pub Says : List ℕ → Command → Type 0
@@ -62,7 +66,7 @@ Says line command =
 -- why `line` does not say a command. `UnknownCommand`: it does not begin with the name of a verb.
 -- Otherwise it is a verb with an argument at fault
 abbrev pub IsFault : List ℕ → Reply → Type 0
-IsFault line reply.UnknownCommand = (verb : Verb) → ¬ (StartsFolded (name_of verb) line)
+IsFault line reply.UnknownCommand = (verb : Verb) → ¬ (BeginsWithVerb line verb)
 IsFault line fault = (verb : Verb) × (argument : List ℕ) × IsCall line verb argument
     × IsPartsFault verb argument fault
 

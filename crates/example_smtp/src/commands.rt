@@ -1,10 +1,9 @@
 //! The commands of a client, and the lines that say them.
 
 ghost use Rattle.std.specs.Prelude.{◌≡◌, List, MatchOption, MatchResult, ℕ};
-ghost use Rattle.ascii.specs.Search.{IsFoldedPrefix, StartsFolded};
 ghost use Rattle.ascii.specs.View.{text_of};
-ghost use Rattle.example_smtp.specs.Commands.{HasParts, IsPartsFault, IsPath, ReadsCommand};
-ghost use Rattle.example_smtp.specs.Commands.{name_of, reply_line};
+ghost use Rattle.example_smtp.specs.Commands.{BeginsWithVerb, HasParts, IsCall, IsPartsFault};
+ghost use Rattle.example_smtp.specs.Commands.{IsPath, ReadsCommand, name_of, reply_line};
 
 use ascii_lines::AsciiStr;
 
@@ -118,9 +117,8 @@ pub fn read_command<'a>(line: AsciiStr<'a>) -> Result<Command<'a>, Reply>
 /// Returns the verb with whose name the line begins when case is ignored, and the text after it; or
 /// `None` if there is none.
 fn read_verb<'a>(line: AsciiStr<'a>) -> Option<Call<'a>>
-    ensures { MatchOption result
-        ((verb : Verb) → ¬ (StartsFolded (name_of verb) (text_of line.entry)))
-        (λ call. IsFoldedPrefix (name_of call.verb) (text_of line.entry) (text_of call.argument)) }
+    ensures { MatchOption result ((verb : Verb) → ¬ (BeginsWithVerb (text_of line.entry) verb))
+        (λ call. IsCall (text_of line.entry) call.verb (text_of call.argument)) }
 {
     if let Some(call) = call_of(line, Verb::Helo) {
         return Some(call);
@@ -146,9 +144,9 @@ fn read_verb<'a>(line: AsciiStr<'a>) -> Option<Call<'a>>
 /// Returns the verb and the text after its name, or `None` if the line does not begin with the name
 /// when case is ignored.
 fn call_of<'a>(line: AsciiStr<'a>, verb: Verb) -> Option<Call<'a>>
-    ensures { MatchOption result (¬ (StartsFolded (name_of verb) (text_of line.entry)))
+    ensures { MatchOption result (¬ (BeginsWithVerb (text_of line.entry) verb))
         (λ call. (call.verb ≡ verb)
-        × IsFoldedPrefix (name_of verb) (text_of line.entry) (text_of call.argument)) }
+        × IsCall (text_of line.entry) verb (text_of call.argument)) }
 {
     let argument = line.strip_prefix_ignore_ascii_case(verb.name())?;
     Some(Call { verb, argument })
