@@ -1,12 +1,14 @@
 //! Callers that stop in the middle of a walk: they count what is left, hand it over as a view, and take
 //! it up again.
 
-ghost use Rattle.std.specs.Prelude.{◌≡◌, ◌-◌, IfOk, MatchOption, [], drop, length, map};
+ghost use Rattle.std.specs.Prelude.{◌≡◌, ◌-◌, ◌∷◌, ℕ, IfOk, IfSome, List, MatchOption, [], drop};
+ghost use Rattle.std.specs.Prelude.{length, map};
+ghost use Rattle.std.specs.List.{join_with_byte};
 ghost use Rattle.std.specs.Option.{option_map};
 ghost use Rattle.ascii.specs.Code.{code_of};
 ghost use Rattle.ascii.specs.Walks.{TakesEnd};
 ghost use Rattle.ascii.specs.Lines.{LinesOf, OfLines};
-ghost use Rattle.ascii.specs.Pieces.{Pieces, OfPieces};
+ghost use Rattle.ascii.specs.Pieces.{Pieces, PiecesUpTo, OfPieces};
 ghost use Rattle.ascii.specs.Spans.{line_in};
 ghost use Rattle.ascii.specs.View.{text_of};
 
@@ -102,4 +104,15 @@ pub fn lengths_left(alloc: Global, split: Split<'_>) -> Result<Vec<usize>, Alloc
     ensures { IfOk result (λ lengths. lengths.items ≡ map length split.entry.items) }
 {
     split.map(|piece| piece.len()).collect(alloc)
+}
+
+/// What follows the first of at most `n` pieces, or `None` if nothing does.
+pub fn after_first_piece<'a>(view: AsciiStr<'a>, n: usize, on: AsciiChar) -> Option<AsciiStr<'a>>
+    ensures { IfSome result (λ rest. (first : List ℕ) × (others : List (List ℕ))
+        × PiecesUpTo n (text_of view.entry) (code_of on) (first ∷ others)
+        × (join_with_byte (code_of on) others ≡ text_of rest)) }
+{
+    let mut pieces = view.splitn(n, on);
+    pieces.next()?;
+    pieces.remainder()
 }

@@ -8,8 +8,9 @@ use tests_callers::iterators::{
 };
 use tests_callers::prefixes::{first_bodies, first_line_spans, first_piece_spans, first_pieces};
 use tests_callers::remainders::{
-    after_two_separators, count_after_first, count_and_lines, count_before_last, lengths_left,
-    resume_line_spans, resume_lines, resume_split, resume_split_spans, take_line_span,
+    after_first_piece, after_two_separators, count_after_first, count_and_lines, count_before_last,
+    lengths_left, resume_line_spans, resume_lines, resume_split, resume_split_spans,
+    take_line_span,
 };
 use tests_callers::spans::{
     line_span_count, line_spans_reversed, line_starts, line_starts_by_for, piece_span_count,
@@ -63,6 +64,7 @@ fn stopped_over_pieces(rt: HostRuntime) {
     let view = ascii("ab,,c");
     assert_debug!(rt; count_after_first(view, on), "2");
     assert_debug!(rt; after_two_separators(view, on), "Some(\"c\")");
+    assert_debug!(rt; after_first_piece(view, 2, on), "Some(\",c\")");
     let mut split = view.split(on);
     split.next();
     let again = resume_split(&split, on).and_then(|mut again| again.next_back());
