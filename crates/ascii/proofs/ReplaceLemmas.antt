@@ -1,9 +1,9 @@
 -- One more occurrence is replaced.
-use Rattle.std.proofs.Common.{◌≡◌, ℕ, ◌+◌, List, ◌++◌, Some, None, length, take, drop, sym, subst}
+use Rattle.std.proofs.Common.{◌≡◌, ◌≢◌, ℕ, ◌+◌, List, [], ◌++◌, Some, None, length, take, drop, sym, subst}
 use Rattle.std.proofs.Common.{◌∙◌, append_assoc, arith, refl}
 use Rattle.std.specs.List.{slice_range}
 use Rattle.std.proofs.lemmas.Grind.{common_steps}
-use Rattle.std.proofs.lemmas.List.{take_rest}
+use Rattle.std.proofs.lemmas.List.{nil_from_length, take_rest}
 use Rattle.memchr.specs.Find.{FindsNeedle}
 use Rattle.ascii.specs.Replace.{Replaces}
 use Rattle.ascii.specs.Replace.Replaces.{unchanged, first}
@@ -33,3 +33,11 @@ pub replaces_all : (from to whole done rest copied : List ℕ) → FindsNeedle r
     → Replaces from to whole copied
 replaces_all from to whole done rest copied none copied_is left =
     subst (Replaces from to whole) (sym copied_is) (left rest (unchanged rest none))
+
+-- an empty text has nothing to replace
+pub replaces_nothing : (from to text out : List ℕ) → from ≢ [] → text ≡ [] → out ≡ []
+    → Replaces from to text out
+replaces_nothing from to text out some is_empty none =
+    let absent : FindsNeedle [] from 0 None =
+    λ k above below occurs. some (nil_from_length from (omega (arith, occurs.fits))) in
+    rw (is_empty, none) (unchanged [] absent)

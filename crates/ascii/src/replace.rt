@@ -1,6 +1,6 @@
 //! Copies of views with a text in place of another.
 
-ghost use Rattle.std.specs.Prelude.{◌≢◌, [], IfOk};
+ghost use Rattle.std.specs.Prelude.{◌≡◌, ◌≢◌, [], IfOk, IsOk};
 ghost use Rattle.ascii.specs.Replace.{Replaces};
 ghost use Rattle.ascii.specs.View.{text_of};
 
@@ -11,7 +11,7 @@ use std::alloc::{AllocError, Allocator};
 
 impl AsciiStr<'_> {
     /// Returns a copy of the view with `to` in place of each `from`. The occurrences are found from the
-    /// left, and do not overlap. Fails only if an allocation fails.
+    /// left, and do not overlap. Fails only if an allocation fails, and never for the empty view.
     ///
     /// Condition: `from` is not empty.
     ///
@@ -24,10 +24,14 @@ impl AsciiStr<'_> {
         to: AsciiStr<'_>,
     ) -> Result<AsciiString<A>, AllocError>
         requires { text_of from ≢ [] }
-        ensures { IfOk result (λ copy.
+        ensures text { IfOk result (λ copy.
             Replaces (text_of from.entry) (text_of to.entry) (text_of self.entry) copy.text) }
+        ensures empty { text_of self.entry ≡ [] → IsOk result }
     {
         let mut copy = AsciiString::new(alloc);
+        if self.is_empty() {
+            return Ok(copy);
+        }
         let mut rest = self;
         while let Some(at) = rest.find(from) {
             copy.push_str(rest.slice(AsciiRange::To(at)))?;
