@@ -17,6 +17,7 @@ nor a reason below; an item that is in no group; and a head that asks for an ite
 import re
 import textwrap
 from dataclasses import dataclass, field, replace
+from functools import cache
 
 from items import Wrong, read_items
 from made import LIBRARIES, PROOFS, settle
@@ -29,7 +30,7 @@ SAID_ELSEWHERE = {
     ("ascii", "Debug for FromAsciiError::fmt"): "std's trait promises no text where the impl names none",
     ("ascii_base", "Serialize for AsciiChar::serialize"): "serde's trait says it: `writes` of `Described`",
     ("ascii", "Serialize for AsciiStr::serialize"): "serde's trait says it: `writes` of `Described`",
-    ("ascii", "Serialize for AsciiString::serialize"): "serde's trait says it: `writes` of `Described`",
+    ("ascii", "Serialize for Text::serialize"): "serde's trait says it: `writes` of `Described`",
 }
 
 # The ghost members that say what a call gives under a name of their own.
@@ -72,7 +73,7 @@ def entries_of(crate, modules):
             paths[id(item)] = path
     items = [item for path in modules for item in modules[path]]
     hidden = hidden_types(modules)
-    own_traits = {item.name for item in items if item.kind == "trait"}
+    own_traits = traits_with_pages()
     entries = []
     for item in items:
         if id(item) in paths:
@@ -80,6 +81,13 @@ def entries_of(crate, modules):
         elif item.kind == "impl":
             entries += entries_of_impl(item, hidden, own_traits)
     return entries, others
+
+
+@cache
+def traits_with_pages():
+    """The names of the traits of the crates that have a page, which says their calls."""
+    items = (item for crate in LIBRARIES for module in read_modules(crate).values() for item in module)
+    return {item.name for item in items if item.kind == "trait"}
 
 
 def hidden_types(modules):

@@ -23,6 +23,9 @@ TESTS = {
     "ascii_run": "tests_run",
 }
 
+# The names that an example may have from a crate above its own, and that crate, whose tests have the example.
+FROM_ABOVE = {"Inline": "ascii_run", "SmallAsciiString": "ascii_run"}
+
 # What the tests share.
 SHARED = {
     "assert_debug!": "use testing::assert_debug;",
@@ -99,14 +102,15 @@ def words_of(name):
 
 
 def names_of_tests(crate, keys):
-    """The name of the test of each call: the call, and its type, module or crate. If the name is taken, that of a trait."""
+    """The name of the test of each call: the call, and its type, module or crate. If the name is taken, that of a trait, or
+    the word `type`, since a module may have the name of a type."""
     names, paths = [], [key.rpartition(" for ")[2] for key in keys]
     for key, path in zip(keys, paths):
         of_trait, (*modules, call) = key.rpartition(" for ")[0], path.split("::")
         owner, calls = (modules or [call if of_trait else crate])[-1], [call]
         if of_trait and (not modules or paths.count(path) > 1):
             calls = [of_trait, f"{of_trait}_{call}"]
-        found = [words_of(f"{name}_of_{owner}") for name in calls]
+        found = [words_of(f"{name}_of_{owner}") for name in calls] + [words_of(f"{call}_of_the_type_{owner}")]
         names.append(next(name for name in found if name not in names))
     return names
 
@@ -198,15 +202,24 @@ def laid_out(texts):
         return {name: sources.read(crate / "src" / f"{name}.rt") for name in texts}
 
 
+def home_of(crate, example):
+    """The crate whose tests have an example of a crate."""
+    words = set(re.findall(r"\w+", "\n".join(example[1])))
+    return next((above for name, above in FROM_ABOVE.items() if name in words), crate)
+
+
 def faults(is_check):
     """Writes the tests, or compares them with the sources. Returns the faults."""
     wrong, found, texts = [], dict(OTHERS), {}
+    examples = {crate: [] for crate in LIBRARIES}
     for crate in LIBRARIES:
         modules = sources.read_modules(crate)
-        examples, without = examples_of(crate, modules)
+        own, without = examples_of(crate, modules)
+        for example in own:
+            examples[home_of(crate, example)].append(example)
         wrong += [f"no example at {call}" for call in without]
         found = {**found, **names_of(crate, modules, found)}
-        texts[crate] = tests_of(crate, found, examples)
+        texts[crate] = tests_of(crate, found, examples[crate])
     for crate, text in laid_out(texts).items():
         file = sources.CRATES / TESTS[crate] / "src" / "tests" / f"of_{crate}.rt"
         wrong += settle(file, text, "examples", is_check)

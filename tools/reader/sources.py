@@ -34,7 +34,7 @@ def read_modules(crate):
 
 def give_aliases(items):
     """Tells each impl of a type that has a public name of its own, as `type Split<'a> = Items<'a, AtChar>`, that name."""
-    heads = (item.head.partition(" = ") for item in items if item.kind == "type" and item.public)
+    heads = (item.head.rpartition(" = ") for item in items if item.kind == "type" and item.public)
     names = {bare(of_type): bare(re.sub(r"^pub type ", "", name)) for name, _, of_type in heads}
     for item in items:
         if item.kind == "impl":

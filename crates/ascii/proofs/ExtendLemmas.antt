@@ -4,7 +4,6 @@ use Rattle.std.proofs.Common.{◌<◌, Option, None, Some, Ok, Err, Result, IfOk
 use Rattle.std.proofs.Common.{length-append, refl, sym, ap, ◌∙◌}
 use Rattle.std.specs.Iterator.{Drains, Yields}
 use Rattle.std.specs.List.{flat_map}
-use Rattle.std.specs.declared.alloc.AllocError.{AllocError}
 use Rattle.std.proofs.lemmas.Grind.{common_steps, flat_map-append}
 use Rattle.std.proofs.lemmas.Iterator.{YieldsList}
 use Rattle.std.proofs.lemmas.Iterator.Consumers.{YieldsList-end, YieldsList-so_far, YieldsList-turn}
@@ -16,15 +15,15 @@ use Rattle.ascii.specs.StringState.{StringState}
 use Rattle.ascii.specs.Extend.{Extends, Fills, TakesFront}
 
 -- the pieces of the items so far, and the next piece did not fit
-pub Extends-refused : {S A : Type 0} (steps : S → Option A → S → Type 0) (piece : A → List ℕ)
+pub Extends-refused : {S A E : Type 0} (steps : S → Option A → S → Type 0) (piece : A → List ℕ)
     (iter : S) (old mid new : StringState)
-    (items : List A) (left : S) (refused : A) (after : S) (result : Result (Unit {0}) AllocError)
-    (e : AllocError) → result ≡ Err e
+    (items : List A) (left : S) (refused : A) (after : S) (result : Result (Unit {0}) E)
+    (e : E) → result ≡ Err e
     → Yields steps iter items left → steps left (Some refused) after
     → mid.text ≡ old.text ++ flat_map piece items → old.capacity ≤ mid.capacity
     → new.text ≡ mid.text → mid.capacity < length (mid.text ++ piece refused)
     → Extends steps piece iter old new result
-Extends-refused {S} {A} steps piece iter old mid new items left refused after result e is gave
+Extends-refused {S} {A} {E} steps piece iter old mid new items left refused after result e is gave
     next so_far room stays full =
     let whole : old.text ++ flat_map piece (items ++ refused ∷ []) ≡ mid.text ++ piece refused =
     grind (arith, common_steps, flat_map-append) in
@@ -70,9 +69,10 @@ module _ {S A : Type 0} (steps : S → Option A → S → Type 0) where
 
     module _ (iter mid next : S) (old now new : StringState) (codes : List ℕ) (count : ℕ)
         (before : Gathers iter mid old now) (run : Fills steps code mid next codes count) where
-      gathers_run : (u : Unit {0}) → TakesFront (take count codes) now new (Ok u)
+      gathers_run : {E : Type 0} (u : Unit {0})
+          → TakesFront {E = E} (take count codes) now new (Ok u)
           → Gathers iter run.left old new
-      gathers_run u front = record {
+      gathers_run {E} u front = record {
         items = before.items ++ run.items;
         gave = yields_both before.items run.items iter mid run.left before.gave run.gave;
         text = grind (
@@ -89,14 +89,16 @@ module _ {S A : Type 0} (steps : S → Option A → S → Type 0) where
       }
 
       -- the array is full, and the iterator may go on
-      pub gathers_more : (u : Unit {0}) → TakesFront (take count codes) now new (Ok u)
+      pub gathers_more : {E : Type 0} (u : Unit {0})
+          → TakesFront {E = E} (take count codes) now new (Ok u)
           → count ≡ length codes → Gathers iter next old new
-      gathers_more u front full = rw (run.full full) at (gathers_run u front)
+      gathers_more {E} u front full = rw (run.full full) at (gathers_run u front)
 
       -- the array is not full, so the iterator has ended
-      pub Extends-gathered : (u : Unit {0}) → TakesFront (take count codes) now new (Ok u)
-          → count < length codes → Extends steps (λ x. code x ∷ []) iter old new (Ok u)
-      Extends-gathered u front short =
+      pub Extends-gathered : {E : Type 0} (u : Unit {0})
+          → TakesFront {E = E} (take count codes) now new (Ok u)
+          → count < length codes → Extends {E = E} steps (λ x. code x ∷ []) iter old new (Ok u)
+      Extends-gathered {E} u front short =
           let all = gathers_run u front in
           record {
             items = all.items;
@@ -107,10 +109,10 @@ module _ {S A : Type 0} (steps : S → Option A → S → Type 0) where
           }
 
       -- a code of the array did not fit
-      pub Extends-front : (result : Result (Unit {0}) AllocError) (e f : AllocError)
+      pub Extends-front : {E : Type 0} (result : Result (Unit {0}) E) (e f : E)
           → result ≡ Err e → TakesFront (take count codes) now new (Err f)
           → Extends steps (λ x. code x ∷ []) iter old new result
-      Extends-front result e f is front =
+      Extends-front {E} result e f is front =
           let inside : front.taken < length run.items =
           omega (arith, ap length run.start, length-map run.items code) in
           let stop = next_of run.items front.taken mid run.left inside run.gave in
@@ -165,10 +167,10 @@ pieces_from_drains {S} {A} {B} {steps} {v} {iter} {all} h items drained road =
     let ended = YieldsList-end road items drained.1.0 drained.1.1 None drained.0 refl drained.1.2 in
     sym (flat_map-map h v items) ∙ ap (flat_map h) ended.0
 
-module _ {S A B : Type 0} {steps : S → Option A → S → Type 0} {v : A → B} {iter : S}
+module _ {S A B E : Type 0} {steps : S → Option A → S → Type 0} {v : A → B} {iter : S}
     {all : List B} (h : B → List ℕ) (old new : StringState) where
   -- at Ok the whole list went in
-  pub all_from_extends : (result : Result (Unit {0}) AllocError)
+  pub all_from_extends : (result : Result (Unit {0}) E)
       → Extends steps (λ x. h (v x)) iter old new result → YieldsList steps v iter all
       → OnOk result (new.text ≡ old.text ++ flat_map h all)
   all_from_extends (Ok x) e road =
@@ -177,7 +179,7 @@ module _ {S A B : Type 0} {steps : S → Option A → S → Type 0} {v : A → B
   all_from_extends (Err x) e road = tt
 
   -- at Err as at Ok a front of the list went in
-  pub front_from_extends : (result : Result (Unit {0}) AllocError)
+  pub front_from_extends : (result : Result (Unit {0}) E)
       → Extends steps (λ x. h (v x)) iter old new result → YieldsList steps v iter all
       → (n : ℕ) × (new.text ≡ old.text ++ flat_map h (take n all))
   front_from_extends result e road = (
@@ -188,7 +190,7 @@ module _ {S A B : Type 0} {steps : S → Option A → S → Type 0} {v : A → B
   )
 
   -- for a list that fits the capacity no allocation is needed
-  pub ok_from_extends : (result : Result (Unit {0}) AllocError)
+  pub ok_from_extends : (result : Result (Unit {0}) E)
       → Extends steps (λ x. h (v x)) iter old new result → YieldsList steps v iter all
       → length old.text + length (flat_map h all) ≤ old.capacity → IsOk result
   ok_from_extends (Ok x) e road fits = refl

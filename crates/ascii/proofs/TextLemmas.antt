@@ -1,15 +1,17 @@
 -- Edits of a text leave codes alone.
-use Rattle.std.proofs.Common.{ℕ, ◌≡◌, map, ◌<◌, List, ◌++◌, ◌≤◌, length, take, drop, arith, Err}
-use Rattle.std.proofs.Common.{refl}
+use Rattle.std.proofs.Common.{ℕ, ◌≡◌, map, ◌<◌, List, ◌++◌, ◌≤◌, length, take, drop, arith, Err, Ok}
+use Rattle.std.proofs.Common.{ap, refl, subst, suc, sym, ◌∙◌}
+use Rattle.std.proofs.Math.Seq.{take-append_seam}
 use Rattle.std.proofs.lemmas.Bool.Decides.{nat_tests}
 use Rattle.std.specs.Str.{IsAscii}
-use Rattle.std.specs.List.{insert}
+use Rattle.std.specs.List.{insert, refill, remove}
 use Rattle.std.proofs.lemmas.Str.{IsAscii-take, IsAscii-drop, IsAscii-append}
 use Rattle.std.proofs.lemmas.Str.Ascii.{IsAscii-cons, IsAscii-map, IsAscii-nil}
 use Rattle.std.specs.declared.fmt.Error.{Error}
+use Rattle.std.specs.declared.result.Result.{Result}
 use Rattle.ascii_base.specs.Bytes.{FirstOther}
 use Rattle.ascii_base.specs.Case.{upper_image, lower_image}
-use Rattle.ascii.specs.StringState.{StringState, Writes}
+use Rattle.ascii.specs.StringState.{EditsInPlace, GrowsTo, StringState, Writes}
 
 -- the upper image of a code is a code
 pub upper_image-below : (n : ℕ) → n < 128 → upper_image n < 128
@@ -22,6 +24,42 @@ lower_image-below n h = grind (arith, nat_tests)
 -- a text with a code inside is a text
 pub IsAscii-insert : (t : List ℕ) (i n : ℕ) → IsAscii t → n < 128 → IsAscii (insert t i n)
 IsAscii-insert t i n a b = search (IsAscii-append, IsAscii-cons, IsAscii-take, IsAscii-drop)
+
+-- a text without the code at a position is a text
+pub IsAscii-remove : (t : List ℕ) (i : ℕ) → IsAscii t → IsAscii (remove t i)
+IsAscii-remove t i a =
+    IsAscii-append (take i t) (drop (suc i) t) (IsAscii-take t i a) (IsAscii-drop t (suc i) a)
+
+-- a text that grows to a text is a text, also if it does not
+pub IsAscii-grown : {E : Type 0} (to : List ℕ) (old new : StringState)
+    (result : Result (Unit {0}) E)
+    → GrowsTo to old new result → IsAscii old.text → IsAscii to → IsAscii new.text
+IsAscii-grown to old new (Ok done) grows a b = subst IsAscii (sym grows.ok) b
+IsAscii-grown to old new (Err e) grows a b = subst IsAscii (sym grows.err) a
+
+-- written again in its place
+pub IsAscii-written : (t w new : List ℕ) → new ≡ refill (length t) t w → IsAscii t → IsAscii w
+    → IsAscii new
+IsAscii-written t w new is a b = subst IsAscii (sym is)
+    (IsAscii-take (w ++ drop (length w) t) (length t)
+    (IsAscii-append w (drop (length w) t) b (IsAscii-drop t (length w) a)))
+
+-- written whole
+pub refill-same : (t w : List ℕ) → length w ≡ length t → refill (length t) t w ≡ w
+refill-same t w same =
+    ap (λ (n : ℕ). take n (w ++ drop (length w) t)) (sym same) ∙ take-append_seam w (drop (length w) t)
+
+-- bytes written again in their place are an edit
+pub EditsInPlace-written : (to w : List ℕ) (held old new : StringState) → held ≡ old
+    → new.text ≡ refill (length held.text) held.text w → new.capacity ≡ held.capacity
+    → length held.text ≤ held.capacity → length w ≡ length held.text → w ≡ to
+    → EditsInPlace to old new
+EditsInPlace-written to w held old new same text capacity room full is =
+    subst (λ (s : StringState). EditsInPlace to s new) same (record {
+      text = text ∙ refill-same held.text w full ∙ is;
+      capacity = capacity;
+      room = subst (λ (n : ℕ). length held.text ≤ n) (sym capacity) room;
+    })
 
 -- the bytes of a buffer after a text in front of them is mapped to codes
 pub IsAscii-mapped : (f : ℕ → ℕ) → ((b : ℕ) → b < 128 → f b < 128)

@@ -2,7 +2,7 @@
 use Rattle.std.specs.Prelude.{◌≡◌, ⊤, ℕ, List}
 use Rattle.std.specs.declared.result.Result.{Result}
 use Rattle.std.specs.declared.result.Result.TheVariants.{Ok}
-use Rattle.ascii.specs.declared.ascii_string.AsciiString.{AsciiString}
+use Rattle.ascii.specs.StringState.{StringState}
 use Rattle.ascii.specs.declared.boxed.CowAsciiStr.{CowAsciiStr}
 use Rattle.ascii.specs.declared.boxed.CowAsciiStr.TheVariants.{Borrowed, Owned}
 use Rattle.ascii.specs.View.{text_of}
@@ -14,6 +14,6 @@ cow_text (Owned string) = string.text
 
 -- an owned string is returned as it is, as `Ok`
 abbrev pub OwnedStays : {A : Type 0} → CowAsciiStr A
-    → Result (AsciiString A) (CowAsciiStr A) → Type 0
+    → Result StringState (CowAsciiStr A) → Type 0
 OwnedStays (Borrowed view) result = ⊤
 OwnedStays (Owned string) result = result ≡ Ok string

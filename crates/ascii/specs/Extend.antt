@@ -4,14 +4,13 @@ use Rattle.std.specs.Prelude.{Option, Some, None, MatchResult}
 use Rattle.std.specs.List.{flat_map}
 use Rattle.std.specs.Iterator.{Drains, Yields}
 use Rattle.std.specs.declared.result.Result.{Result}
-use Rattle.std.specs.declared.alloc.AllocError.{AllocError}
 use Rattle.ascii.specs.StringState.{StringState}
 
 -- The new text is the old text followed by the pieces of the items taken. `Ok`: the iterator has no
 -- further item. `Err`: it yielded one more, of which nothing was appended, and with which the text
 -- would not fit the old capacity.
-pub record Extends {S A : Type 0} (steps : S → Option A → S → Type 0) (piece : A → List ℕ)
-    (iter : S) (old new : StringState) (result : Result (Unit {0}) AllocError) : Type 0 where
+pub record Extends {S A E : Type 0} (steps : S → Option A → S → Type 0) (piece : A → List ℕ)
+    (iter : S) (old new : StringState) (result : Result (Unit {0}) E) : Type 0 where
   pub items : List A
   pub left : S
   pub gave : Yields steps iter items left
@@ -43,8 +42,8 @@ pub record Fills {S A : Type 0} (steps : S → Option A → S → Type 0) (code 
 
 -- The first `taken` codes are appended. `Ok`: they are all of `codes`. `Err`: with the next one the
 -- text would not fit the old capacity. The capacity never shrinks.
-pub record TakesFront (codes : List ℕ) (old new : StringState)
-    (result : Result (Unit {0}) AllocError) : Type 0 where
+pub record TakesFront {E : Type 0} (codes : List ℕ) (old new : StringState)
+    (result : Result (Unit {0}) E) : Type 0 where
   pub taken : ℕ
   pub text : new.text ≡ old.text ++ take taken codes
   pub ended : MatchResult result

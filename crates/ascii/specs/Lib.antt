@@ -1,3 +1,4 @@
+pub mod Buffer
 pub mod ByClass
 pub mod ByText
 pub mod Chunks

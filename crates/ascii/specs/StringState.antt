@@ -2,7 +2,6 @@
 use Rattle.std.specs.Prelude.{◌≡◌, ℕ, ◌+◌, ◌<◌, ◌≤◌, List, [], ◌++◌, length, take, drop, IsOk}
 use Rattle.std.specs.Prelude.{OnErr, OnOk}
 use Rattle.std.specs.Str.{IsAscii}
-use Rattle.std.specs.declared.alloc.AllocError.{AllocError}
 use Rattle.std.specs.declared.fmt.Error.{Error}
 use Rattle.std.specs.declared.result.Result.{Result}
 
@@ -17,8 +16,8 @@ insert_text t i piece = take i t ++ (piece ++ drop i t)
 
 -- `Ok`: the text becomes `text`. `Err`: it is unchanged, and `text` did not fit the old capacity.
 -- Never `Err` if `text` is the old text. The capacity never shrinks, and the new text fits it.
-pub record GrowsTo (text : List ℕ) (old new : StringState)
-    (result : Result (Unit {0}) AllocError) : Type 0 where
+pub record GrowsTo {E : Type 0} (text : List ℕ) (old new : StringState)
+    (result : Result (Unit {0}) E) : Type 0 where
   pub ok : OnOk result (new.text ≡ text)
   pub err : OnErr result (new.text ≡ old.text)
   pub full : OnErr result (old.capacity < length text)
@@ -40,8 +39,8 @@ pub record Writes (piece : List ℕ) (old new : StringState)
 
 -- The text is unchanged. `Ok`: there is room for `additional` more bytes. `Err`: there was not
 -- before. Never `Err` if `additional` is 0. The capacity never shrinks, and the text fits it.
-pub record Reserves (additional : ℕ) (old new : StringState)
-    (result : Result (Unit {0}) AllocError) : Type 0 where
+pub record Reserves {E : Type 0} (additional : ℕ) (old new : StringState)
+    (result : Result (Unit {0}) E) : Type 0 where
   pub text : new.text ≡ old.text
   pub ok : OnOk result (length new.text + additional ≤ new.capacity)
   pub full : OnErr result (old.capacity < length old.text + additional)

@@ -13,8 +13,8 @@
 //! `collect_strs` in `collect`, `retain` in `retain`, `from_char`, `from_chars` and other copies in `copies`,
 //! conversions to boxed and shared text in `boxed`, JSON values in `json`. The modules `vec` and `string` make a string from a `Vec<u8>` or a `String`.
 
-ghost use Rattle.std.specs.Prelude.{◌≡◌, ◌+◌, ◌-◌, ◌<◌, ◌≤◌, ◌↔◌, ◌++◌, ◌∷◌, [], IfOk, IsOk};
-ghost use Rattle.std.specs.Prelude.{IsTrue, OnErr, OnOk, drop, insert, length, map, remove, slice_get};
+ghost use Rattle.std.specs.Prelude.{◌≡◌, ◌+◌, ◌-◌, ◌<◌, ◌≤◌, ◌↔◌, ◌++◌, ◌∷◌, [], IfErr, IfOk, IsOk};
+ghost use Rattle.std.specs.Prelude.{IsTrue, MatchResult, OnErr, OnOk, drop, insert, length, map, remove, slice_get};
 ghost use Rattle.std.specs.Prelude.{slice_index, slice_set, take, vec_capacity, vec_len};
 ghost use Rattle.std.specs.Option.{option_map};
 ghost use Rattle.ascii_base.specs.Case.{lower_image, upper_image};
@@ -23,49 +23,53 @@ ghost use Rattle.ascii.specs.StringState.{EditsInPlace, GrowsTo, Reserves, Write
 ghost use Rattle.ascii.specs.View.{text_of};
 
 use crate::ascii_str::AsciiStr;
+use crate::buffer::{Buffer, CloneBuffer, InlineBuffer};
 use crate::text;
 use ascii_base::ascii_char::{AsciiChar, ToAsciiChar};
 use ascii_base::kernels;
-use itoa::{Buffer, Integer};
+use itoa::{Buffer as Digits, Integer};
 use std::alloc::{AllocError, Allocator, Global};
 use std::cmp::Ordering;
 use std::fmt;
 use std::hash::{Hash, Hasher};
 use std::marker::Model;
 
-/// Owned ASCII text that can grow: a `String` that can hold nothing else. It keeps the allocator
-/// that it was made with.
+/// Owned ASCII text that can grow, over a buffer.
 ///
 /// `==`, the order and the hash are those of the text; the capacity does not count.
 #[derive(Drop)]
-pub struct AsciiString<A: Allocator = Global> {
-    pub(crate) bytes: Vec<u8, A>,
+pub struct Text<B: Buffer> {
+    pub(crate) bytes: B,
 }
 
-impl<A: Allocator> Model for AsciiString<A> {
-    ghost use Rattle.std.specs.Prelude.{vec_capacity};
+/// Owned ASCII text that can grow: a `String` that can hold nothing else. It keeps the allocator
+/// that it was made with.
+pub type AsciiString<A = Global> = Text<Vec<u8, A>>;
+
+impl<B: Buffer> Model for Text<B> {
     ghost use Rattle.std.specs.Str.{IsAscii};
     ghost use Rattle.ascii.specs.StringState.{StringState};
 
     ghost Value = { StringState };
 
-    ghost view = { λ s. record { text = s.bytes.items; capacity = vec_capacity s.bytes } };
+    ghost view = { λ s. B.state s.bytes };
 
-    ghost invariant = { λ s. IsAscii s.bytes.items };
+    ghost invariant = { λ s. IsAscii (B.state s.bytes).text };
 }
 
-impl<A: Allocator> AsciiString<A> {
+impl<B: Buffer> Text<B> {
     ghost use Rattle.std.specs.Str.{IsAscii};
 
     /// Creates an empty string. Does not allocate.
     ///
     ///     AsciiString::new(alloc).len() // 0
     #[inline]
-    pub fn new(alloc: A) -> AsciiString<A>
-        ensures { result.text ≡ [] }
+    pub fn new(alloc: B::Alloc) -> Text<B>
+        ensures text { result.text ≡ [] }
+        ensures capacity { result.capacity ≡ B.sure }
     {
-        AsciiString {
-            bytes: Vec::new(alloc),
+        Text {
+            bytes: B::empty(alloc),
         }
     }
 
@@ -73,28 +77,33 @@ impl<A: Allocator> AsciiString<A> {
     /// allocation fails.
     ///
     ///     AsciiString::with_capacity(alloc, 10)?.capacity() >= 10 // true
-    pub fn with_capacity(alloc: A, capacity: usize) -> Result<AsciiString<A>, AllocError>
+    pub fn with_capacity(alloc: B::Alloc, capacity: usize) -> Result<Text<B>, B::Refusal>
         ensures text { IfOk result (λ string. string.text ≡ []) }
         ensures capacity { IfOk result (λ string. capacity ≤ string.capacity) }
-        ensures succeeds { capacity ≡ 0 → IsOk result }
+        ensures exact { capacity ≤ B.sure → IfOk result (λ string. string.capacity ≡ B.sure) }
+        ensures succeeds { capacity ≤ B.sure → IsOk result }
     {
-        Ok(AsciiString {
-            bytes: Vec::with_capacity(alloc, capacity)?,
+        Ok(Text {
+            bytes: B::with_room(alloc, capacity)?,
         })
     }
 
-    /// Converts the bytes into a string, keeping their buffer. Nothing is checked.
+    /// Returns a copy of a view. Fails only if the allocation fails, and never for a view that fits
+    /// the sure length.
     ///
-    /// Condition: every byte is ASCII.
+    /// Allocates at most once, for the length of the view.
     ///
-    ///     AsciiString::from_ascii_unchecked(Vec::from_slice(alloc, b"foo")?) // "foo"
-    #[inline]
-    pub fn from_ascii_unchecked(bytes: Vec<u8, A>) -> AsciiString<A>
-        requires { IsAscii bytes.items }
-        ensures text { result.text ≡ bytes.items }
-        ensures capacity { result.capacity ≡ vec_capacity bytes }
+    ///     AsciiString::from_ascii_str(alloc, view("foo"))? // "foo"
+    pub fn from_ascii_str(alloc: B::Alloc, view: AsciiStr<'_>) -> Result<Text<B>, B::Refusal>
+        ensures text { IfOk result (λ string. string.text ≡ text_of view.entry) }
+        ensures room { IfOk result (λ string. length string.text ≤ string.capacity) }
+        ensures inline { length (text_of view.entry) ≤ B.sure
+            → IfOk result (λ string. string.capacity ≡ B.sure) }
+        ensures succeeds { length (text_of view.entry) ≤ B.sure → IsOk result }
     {
-        AsciiString { bytes }
+        Ok(Text {
+            bytes: B::with_copy(alloc, view.as_bytes())?,
+        })
     }
 
     /// Returns a view of the whole text.
@@ -105,7 +114,7 @@ impl<A: Allocator> AsciiString<A> {
         ensures { text_of result ≡ self.now.text }
     {
         AsciiStr {
-            bytes: self.bytes.as_slice(),
+            bytes: self.bytes.bytes(),
         }
     }
 
@@ -116,8 +125,21 @@ impl<A: Allocator> AsciiString<A> {
     pub fn capacity(&self) -> usize
         ensures capacity { result ≡ self.now.capacity }
         ensures room { length self.now.text ≤ result }
+        ensures sure { B.sure ≤ result }
+        ensures most { result ≤ B.most }
     {
-        self.bytes.capacity()
+        self.bytes.room()
+    }
+
+    /// Returns `true` if the text is in the value itself, or nothing is allocated. A text that has
+    /// grown into an allocation remains there.
+    ///
+    ///     AsciiString::new(alloc).is_inline() // true
+    #[inline]
+    pub fn is_inline(&self) -> bool
+        ensures { IsTrue result ↔ (self.now.capacity ≡ B.sure) }
+    {
+        self.bytes.is_inline()
     }
 
     /// Makes room for at least `additional` more bytes. Fails only if there is not enough room and
@@ -129,7 +151,7 @@ impl<A: Allocator> AsciiString<A> {
     ///     let mut text = view("foo").to_ascii_string(alloc)?;
     ///     text.reserve(10) // Ok(())
     ///     text.capacity() >= 13 // true
-    pub fn reserve(&mut self, additional: usize) -> Result<(), AllocError>
+    pub fn reserve(&mut self, additional: usize) -> Result<(), B::Refusal>
         requires { length self.old.text + additional ≤ usize.MAX }
         ensures { Reserves additional self.old self.new result }
     {
@@ -144,7 +166,7 @@ impl<A: Allocator> AsciiString<A> {
     ///     let mut text = view("foo").to_ascii_string(alloc)?;
     ///     text.reserve_exact(10) // Ok(())
     ///     text.capacity() >= 13 // true
-    pub fn reserve_exact(&mut self, additional: usize) -> Result<(), AllocError>
+    pub fn reserve_exact(&mut self, additional: usize) -> Result<(), B::Refusal>
         requires { length self.old.text + additional ≤ usize.MAX }
         ensures { Reserves additional self.old self.new result }
     {
@@ -157,18 +179,15 @@ impl<A: Allocator> AsciiString<A> {
     ///     let mut text = AsciiString::with_capacity(alloc, 10)?;
     ///     text.shrink_to_fit() // Ok(())
     ///     text.capacity() // 0
-    pub fn shrink_to_fit(&mut self) -> Result<(), AllocError>
+    pub fn shrink_to_fit(&mut self) -> Result<(), B::Refusal>
         ensures text { self.new.text ≡ self.old.text }
-        ensures ok { OnOk result (self.new.capacity ≡ length self.new.text) }
+        ensures ok { OnOk result (B.shrinks self.old self.new) }
         ensures err { OnErr result (length self.new.text < self.new.capacity) }
+        ensures unsure { OnErr result (B.sure ≡ 0) }
         ensures capacity { self.new.capacity ≤ self.old.capacity }
         ensures room { length self.new.text ≤ self.new.capacity }
     {
-        self.bytes.shrink_to_fit();
-        if self.bytes.len() < self.bytes.capacity() {
-            return Err(AllocError);
-        }
-        Ok(())
+        self.bytes.shrink()
     }
 
     /// Appends `ch`. Fails only if the string has to grow and the allocation fails; the text is
@@ -180,11 +199,10 @@ impl<A: Allocator> AsciiString<A> {
     ///     text.push(AsciiChar::o) // Ok(())
     ///     text // "foo"
     #[inline]
-    pub fn push(&mut self, ch: AsciiChar) -> Result<(), AllocError>
+    pub fn push(&mut self, ch: AsciiChar) -> Result<(), B::Refusal>
         ensures { GrowsTo (self.old.text ++ code_text ch) self.old self.new result }
     {
-        self.bytes.push(ch.as_byte())?;
-        Ok(())
+        self.bytes.append_byte(ch.as_byte())
     }
 
     /// Appends a view. Fails only if the string has to grow and the allocation fails; the text is
@@ -194,10 +212,10 @@ impl<A: Allocator> AsciiString<A> {
     ///     text.push_str(view("bar")) // Ok(())
     ///     text // "foobar"
     #[inline]
-    pub fn push_str(&mut self, view: AsciiStr<'_>) -> Result<(), AllocError>
+    pub fn push_str(&mut self, view: AsciiStr<'_>) -> Result<(), B::Refusal>
         ensures { GrowsTo (self.old.text ++ text_of view.entry) self.old self.new result }
     {
-        self.bytes.extend_from_slice(view.as_bytes())
+        self.bytes.append(view.as_bytes())
     }
 
     /// Appends the decimal digits of `n`, after `-` if `n` is negative. Fails only if the string has
@@ -206,11 +224,11 @@ impl<A: Allocator> AsciiString<A> {
     ///     let mut text = view("n = ").to_ascii_string(alloc)?;
     ///     text.push_decimal(42u64) // Ok(())
     ///     text // "n = 42"
-    pub fn push_decimal<I: Integer>(&mut self, n: I) -> Result<(), AllocError>
+    pub fn push_decimal<I: Integer>(&mut self, n: I) -> Result<(), B::Refusal>
         ensures { GrowsTo (self.old.text ++ I.text n) self.old self.new result }
     {
-        let mut buffer = Buffer::new();
-        self.bytes.extend_from_slice(buffer.format(n).as_bytes())
+        let mut digits = Digits::new();
+        self.bytes.append(digits.format(n).as_bytes())
     }
 
     /// Inserts `ch` before position `idx`, or appends it if `idx` is the length. Fails only if the
@@ -221,12 +239,11 @@ impl<A: Allocator> AsciiString<A> {
     ///     let mut text = view("fo").to_ascii_string(alloc)?;
     ///     text.insert(0, AsciiChar::z) // Ok(())
     ///     text // "zfo"
-    pub fn insert(&mut self, idx: usize, ch: AsciiChar) -> Result<(), AllocError>
+    pub fn insert(&mut self, idx: usize, ch: AsciiChar) -> Result<(), B::Refusal>
         requires { idx ≤ length self.old.text }
         ensures { GrowsTo (insert self.old.text idx (code_of ch)) self.old self.new result }
     {
-        self.bytes.insert(idx, ch.as_byte())?;
-        Ok(())
+        self.bytes.insert_byte(idx, ch.as_byte())
     }
 
     /// Inserts a view before position `idx`, or appends it if `idx` is the length. Fails only if
@@ -238,7 +255,7 @@ impl<A: Allocator> AsciiString<A> {
     ///     let mut text = view("fo").to_ascii_string(alloc)?;
     ///     text.insert_str(1, view("lo")) // Ok(())
     ///     text // "floo"
-    pub fn insert_str(&mut self, idx: usize, view: AsciiStr<'_>) -> Result<(), AllocError>
+    pub fn insert_str(&mut self, idx: usize, view: AsciiStr<'_>) -> Result<(), B::Refusal>
         requires { idx ≤ length self.old.text }
         ensures { GrowsTo (insert_text self.old.text idx (text_of view.entry))
             self.old self.new result }
@@ -259,7 +276,7 @@ impl<A: Allocator> AsciiString<A> {
         ensures removed { code_of result ≡ slice_index self.old.text idx }
         ensures edits { EditsInPlace (remove self.old.text idx) self.old self.new }
     {
-        AsciiChar::from_ascii_unchecked(self.bytes.remove(idx))
+        AsciiChar::from_ascii_unchecked(self.bytes.remove_byte(idx))
     }
 
     /// Removes the last character and returns it, or returns `None` if the text is empty. Does not
@@ -275,7 +292,7 @@ impl<A: Allocator> AsciiString<A> {
         ensures edits { let text = self.old.text in
             EditsInPlace (take (length text - 1) text) self.old self.new }
     {
-        let byte = self.bytes.pop()?;
+        let byte = self.bytes.pop_byte()?;
         Some(AsciiChar::from_ascii_unchecked(byte))
     }
 
@@ -289,27 +306,7 @@ impl<A: Allocator> AsciiString<A> {
     pub fn truncate(&mut self, n: usize)
         ensures { EditsInPlace (take n self.old.text) self.old self.new }
     {
-        self.bytes.truncate(n);
-    }
-
-    /// Keeps the first `at` characters and returns the others as a string of their own. On error, the
-    /// text is unchanged; the capacity is unchanged either way.
-    ///
-    /// Condition: `at` is at most the length.
-    ///
-    ///     let mut text = view("foobar").to_ascii_string(alloc)?;
-    ///     text.split_off(3) // Ok("bar")
-    ///     text // "foo"
-    pub fn split_off(&mut self, at: usize) -> Result<AsciiString<A>, AllocError>
-    where
-        A: Clone,
-        requires { at ≤ length self.old.text }
-        ensures tail { IfOk result (λ tail. tail.text ≡ drop at self.old.text) }
-        ensures ok { OnOk result (EditsInPlace (take at self.old.text) self.old self.new) }
-        ensures err { OnErr result (EditsInPlace self.old.text self.old self.new) }
-    {
-        let bytes = self.bytes.split_off(at)?;
-        Ok(AsciiString { bytes })
+        self.bytes.keep_front(n);
     }
 
     /// Removes all characters. Does not allocate, and keeps the capacity.
@@ -321,7 +318,7 @@ impl<A: Allocator> AsciiString<A> {
     pub fn clear(&mut self)
         ensures { EditsInPlace [] self.old self.new }
     {
-        self.bytes.clear();
+        self.bytes.keep_front(0);
     }
 
     /// Sets the character at position `i`, counted from 0, to `ch`. Does not allocate.
@@ -336,7 +333,7 @@ impl<A: Allocator> AsciiString<A> {
         requires { i < length self.old.text }
         ensures { EditsInPlace (slice_set self.old.text i (code_of ch)) self.old self.new }
     {
-        self.bytes[i] = ch.as_byte();
+        self.bytes.bytes_mut()[i] = ch.as_byte();
     }
 
     /// Changes each letter `a` to `z` to `A` to `Z`. Every other character is unchanged.
@@ -347,7 +344,7 @@ impl<A: Allocator> AsciiString<A> {
     pub fn make_ascii_uppercase(&mut self)
         ensures { EditsInPlace (map upper_image self.old.text) self.old self.new }
     {
-        kernels::upper_in_place(&mut self.bytes);
+        kernels::upper_in_place(self.bytes.bytes_mut());
     }
 
     /// Changes each letter `A` to `Z` to `a` to `z`. Every other character is unchanged.
@@ -358,7 +355,7 @@ impl<A: Allocator> AsciiString<A> {
     pub fn make_ascii_lowercase(&mut self)
         ensures { EditsInPlace (map lower_image self.old.text) self.old self.new }
     {
-        kernels::lower_in_place(&mut self.bytes);
+        kernels::lower_in_place(self.bytes.bytes_mut());
     }
 
     /// Returns the number of characters, which is also the number of bytes.
@@ -368,7 +365,7 @@ impl<A: Allocator> AsciiString<A> {
     pub fn len(&self) -> usize
         ensures { result ≡ length self.now.text }
     {
-        self.bytes.len()
+        self.bytes.bytes().len()
     }
 
     /// Returns `true` if the text is empty.
@@ -378,43 +375,99 @@ impl<A: Allocator> AsciiString<A> {
     pub fn is_empty(&self) -> bool
         ensures { IsTrue result ↔ (self.now.text ≡ []) }
     {
-        self.bytes.is_empty()
+        self.bytes.bytes().is_empty()
     }
 }
 
 /// Inserts bytes before position `idx`. If the allocation fails, the bytes are unchanged.
-fn insert_bytes<A: Allocator>(
-    bytes: &mut Vec<u8, A>,
-    idx: usize,
-    piece: &[u8],
-) -> Result<(), AllocError>
-    requires { idx ≤ vec_len bytes.old }
-    ensures ok { OnOk result (bytes.new.items ≡ insert_text bytes.old.items idx piece.now) }
-    ensures err { OnErr result (bytes.new.items ≡ bytes.old.items) }
-    ensures capacity { vec_capacity bytes.old ≤ vec_capacity bytes.new }
-    ensures succeeds { vec_len bytes.old + length piece.now ≤ vec_capacity bytes.old → IsOk result }
-    ensures nothing { piece.now ≡ [] → IsOk result }
+fn insert_bytes<B: Buffer>(bytes: &mut B, idx: usize, piece: &[u8]) -> Result<(), B::Refusal>
+    requires { idx ≤ length (B.state bytes.old).text }
+    ensures { let old = B.state bytes.old in
+        GrowsTo (insert_text old.text idx piece.now) old (B.state bytes.new) result }
 {
-    bytes.extend_from_slice(piece)?;
-    bytes[idx..].rotate_right(piece.len());
+    bytes.append(piece)?;
+    bytes.bytes_mut()[idx..].rotate_right(piece.len());
     Ok(())
 }
 
-impl<A: Allocator + Clone> Clone for AsciiString<A> {
+impl<A: Allocator> Text<Vec<u8, A>> {
+    ghost use Rattle.std.specs.Str.{IsAscii};
+
+    /// Converts the bytes into a string, keeping their buffer. Nothing is checked.
+    ///
+    /// Condition: every byte is ASCII.
+    ///
+    ///     AsciiString::from_ascii_unchecked(Vec::from_slice(alloc, b"foo")?) // "foo"
+    #[inline]
+    pub fn from_ascii_unchecked(bytes: Vec<u8, A>) -> AsciiString<A>
+        requires { IsAscii bytes.items }
+        ensures text { result.text ≡ bytes.items }
+        ensures capacity { result.capacity ≡ vec_capacity bytes }
+    {
+        Text { bytes }
+    }
+}
+
+impl<B: CloneBuffer> Text<B> {
+    /// Keeps the first `at` characters and returns the others as a string of their own. On error,
+    /// the text is unchanged; the capacity is unchanged either way. Never fails at the length if the
+    /// allocator can always be cloned.
+    ///
+    /// Condition: `at` is at most the length.
+    ///
+    ///     let mut text = view("foobar").to_ascii_string(alloc)?;
+    ///     text.split_off(3) // Ok("bar")
+    ///     text // "foo"
+    pub fn split_off(&mut self, at: usize) -> Result<Text<B>, B::Refusal>
+        requires { at ≤ length self.old.text }
+        ensures tail { IfOk result (λ tail. tail.text ≡ drop at self.old.text) }
+        ensures ok { OnOk result (EditsInPlace (take at self.old.text) self.old self.new) }
+        ensures err { OnErr result (EditsInPlace self.old.text self.old self.new) }
+        ensures succeeds { B.clones → at ≡ length self.old.text → IsOk result }
+    {
+        let bytes = self.bytes.split_off(at)?;
+        Ok(Text { bytes })
+    }
+}
+
+impl<B: InlineBuffer> Text<B> {
+    /// Converts the string into an `AsciiString`. A text in an allocation keeps it, and this cannot
+    /// fail. An inline text is copied: if the allocation fails, returns the string as the error.
+    ///
+    ///     SmallAsciiString::from_ascii_str(alloc, view("foo"))?.into_ascii_string().ok() // Some("foo")
+    pub fn into_ascii_string(self) -> Result<AsciiString, Text<B>>
+        ensures ok { IfOk result (λ string. string.text ≡ self.text) }
+        ensures err { IfErr result (λ string. string ≡ self) }
+        ensures succeeds { B.sure < self.capacity → IsOk result }
+    {
+        match self.bytes.into_vec() {
+            Ok(bytes) => Ok(AsciiString::from_ascii_unchecked(bytes)),
+            Err(bytes) => Err(Text { bytes }),
+        }
+    }
+}
+
+impl<B: CloneBuffer> Clone for Text<B> {
     ghost is_clone = { λ string copy. copy.text ≡ string.text };
 
+    ghost is_infallible = { λ string. B.copies string };
+
     /// Returns a copy of the string, with a copy of its allocator. Fails only if the allocation
-    /// fails.
+    /// fails; never for a small string of at most 24 characters.
     ///
     ///     view("foo").to_ascii_string(alloc)?.clone()? // "foo"
-    fn clone(&self) -> Result<AsciiString<A>, AllocError> {
-        Ok(AsciiString {
-            bytes: self.bytes.clone()?,
+    fn clone(&self) -> Result<Text<B>, AllocError>
+        ensures cases { MatchResult result (λ copy. copy.text ≡ self.now.text)
+            (λ _. ¬ (B.copies self.now)) }
+        ensures inline { B.copies self.now → IfOk result (λ copy. copy.capacity ≡ B.sure) }
+    {
+        Ok(Text {
+            bytes: self.bytes.copy()?,
         })
     }
 }
 
-impl<A: Allocator> PartialEq for AsciiString<A> {
+impl<B: Buffer> PartialEq for Text<B> {
     ghost use Rattle.std.specs.Prelude.{◌==◌};
     ghost use Rattle.std.specs.Ordering.{on};
     ghost use Rattle.std.specs.Cmp.Lexicographic.{pointwise};
@@ -428,19 +481,19 @@ impl<A: Allocator> PartialEq for AsciiString<A> {
     /// Returns `true` if the two texts are equal.
     ///
     ///     view("foo").to_ascii_string(alloc)? == view("foo").to_ascii_string(alloc)? // true
-    fn eq(&self, other: &AsciiString<A>) -> bool {
+    fn eq(&self, other: &Text<B>) -> bool {
         self.as_ascii_str() == other.as_ascii_str()
     }
 }
 
-impl<A: Allocator> Eq for AsciiString<A> {
+impl<B: Buffer> Eq for Text<B> {
     ghost use Rattle.std.specs.Cmp.Rules.{comparing};
     ghost use Rattle.std.proofs.Common.{rules};
 
     ghost laws = { Prim.search (comparing, rules) };
 }
 
-impl<A: Allocator> PartialOrd for AsciiString<A> {
+impl<B: Buffer> PartialOrd for Text<B> {
     ghost use Rattle.std.specs.Ordering.{as_partial_cmp, nat_cmp, on};
     ghost use Rattle.std.specs.Cmp.Lexicographic.{slice_cmp};
     ghost use Rattle.std.specs.Cmp.{partial_order_from_own_ties};
@@ -455,12 +508,12 @@ impl<A: Allocator> PartialOrd for AsciiString<A> {
     /// Returns the order of the two texts: that of `cmp`.
     ///
     ///     view("foo").to_ascii_string(alloc)? < view("fop").to_ascii_string(alloc)? // true
-    fn partial_cmp(&self, other: &AsciiString<A>) -> Option<Ordering> {
+    fn partial_cmp(&self, other: &Text<B>) -> Option<Ordering> {
         Some(self.cmp(other))
     }
 }
 
-impl<A: Allocator> Ord for AsciiString<A> {
+impl<B: Buffer> Ord for Text<B> {
     ghost use Rattle.std.specs.Ordering.{nat_cmp, on};
     ghost use Rattle.std.specs.Cmp.Lexicographic.{slice_cmp};
     ghost use Rattle.std.specs.Cmp.Rules.{comparing};
@@ -477,17 +530,17 @@ impl<A: Allocator> Ord for AsciiString<A> {
     /// Returns the order of the two texts: lexicographic, by the codes.
     ///
     ///     view("foo").to_ascii_string(alloc)?.cmp(&view("fo").to_ascii_string(alloc)?) // Greater
-    fn cmp(&self, other: &AsciiString<A>) -> Ordering {
+    fn cmp(&self, other: &Text<B>) -> Ordering {
         self.as_ascii_str().cmp(&other.as_ascii_str())
     }
 }
 
-impl<A: Allocator> Hash for AsciiString<A> {
+impl<B: Buffer> Hash for Text<B> {
     ghost use Rattle.std.specs.Hash as fed;
     ghost use Rattle.std.specs.Cmp.Rules.{hashing};
     ghost use Rattle.std.proofs.Common.{rules};
 
-    ghost hash_input = { λ string. fed.str string.text };
+    ghost hash_input = { λ string. fed.slice fed.u8 string.text };
 
     ghost respects_eq = { Prim.search (hashing, rules) };
 
@@ -497,11 +550,11 @@ impl<A: Allocator> Hash for AsciiString<A> {
     ///     seen.insert(view("foo").to_ascii_string(alloc)?)?;
     ///     seen.contains(&view("foo").to_ascii_string(alloc)?) // true
     fn hash<H: Hasher>(&self, state: &mut H) {
-        self.as_ascii_str().as_str().hash(state);
+        self.as_ascii_str().hash(state);
     }
 }
 
-impl<A: Allocator> fmt::Display for AsciiString<A> {
+impl<B: Buffer> fmt::Display for Text<B> {
     ghost use Rattle.std.specs.Prelude.{Some};
     ghost use Rattle.std.specs.Fmt.{styled_text};
 
@@ -518,7 +571,7 @@ impl<A: Allocator> fmt::Display for AsciiString<A> {
     }
 }
 
-impl<A: Allocator> fmt::Debug for AsciiString<A> {
+impl<B: Buffer> fmt::Debug for Text<B> {
     ghost use Rattle.std.specs.Prelude.{Some};
     ghost use Rattle.ascii.specs.View.{debug_text};
 
@@ -532,7 +585,7 @@ impl<A: Allocator> fmt::Debug for AsciiString<A> {
     }
 }
 
-impl<A: Allocator> AsciiString<A> {
+impl<B: Buffer> Text<B> {
     ghost use Rattle.std.specs.Str.{IsAscii};
 
     /// Appends a character. Fails if it is not ASCII, or if the string has to grow and the
@@ -554,7 +607,7 @@ impl<A: Allocator> AsciiString<A> {
     }
 }
 
-impl<A: Allocator> fmt::Write for AsciiString<A> {
+impl<B: Buffer> fmt::Write for Text<B> {
     ghost use Rattle.std.specs.Str.{IsAscii};
 
     ghost write_str_gives = { λ old bytes new. new.text ≡ old.text ++ bytes };

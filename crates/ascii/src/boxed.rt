@@ -5,42 +5,37 @@ ghost use Rattle.std.specs.Box.{boxed_str_bytes};
 ghost use Rattle.ascii.specs.View.{text_of};
 
 use crate::ascii_str::AsciiStr;
-use crate::ascii_string::AsciiString;
+use crate::ascii_string::{AsciiString, Text};
 use std::alloc::{AllocError, Allocator, Global};
 use std::boxed::BoxedStr;
+use std::convert::AsStr;
 use std::marker::Model;
 use std::rc::RcStr;
 
-/// ASCII text in a box: owned text that does not grow.
+/// Text that is kept and can't be edited, in a box or shared.
 #[derive(Drop)]
-pub struct BoxedAsciiStr<A: Allocator = Global> {
-    text: BoxedStr<A>,
+pub struct Kept<S: AsStr> {
+    text: S,
 }
 
-impl<A: Allocator> Model for BoxedAsciiStr<A> {
+/// ASCII text in a box: owned text that does not grow.
+pub type BoxedAsciiStr<A = Global> = Kept<BoxedStr<A>>;
+
+/// ASCII text that several owners share by counting references.
+pub type RcAsciiStr<A = Global> = Kept<RcStr<A>>;
+
+impl<S: AsStr> Model for Kept<S> {
     ghost use Rattle.std.specs.Prelude.{List, ℕ};
-    ghost use Rattle.std.specs.Box.{boxed_str_bytes};
     ghost use Rattle.std.specs.Str.{IsAscii};
 
     ghost Value = { List ℕ };
 
-    ghost view = { λ boxed. boxed_str_bytes boxed.text };
+    ghost view = { λ kept. S.text kept.text };
 
-    ghost invariant = { λ boxed. IsAscii (boxed_str_bytes boxed.text) };
+    ghost invariant = { λ kept. IsAscii (S.text kept.text) };
 }
 
-impl<A: Allocator> BoxedAsciiStr<A> {
-    /// Returns a copy of a view in a box. Fails only if the allocation fails.
-    ///
-    ///     BoxedAsciiStr::from_ascii_str(alloc, view("foo"))?.as_ascii_str() // "foo"
-    pub fn from_ascii_str(alloc: A, view: AsciiStr<'_>) -> Result<BoxedAsciiStr<A>, AllocError>
-        ensures { IfOk result (λ boxed. boxed ≡ text_of view.entry) }
-    {
-        Ok(BoxedAsciiStr {
-            text: BoxedStr::from_str(alloc, view.as_str())?,
-        })
-    }
-
+impl<S: AsStr> Kept<S> {
     /// Returns a view of the text.
     ///
     ///     BoxedAsciiStr::from_ascii_str(alloc, view("foo"))?.as_ascii_str().len() // 3
@@ -51,6 +46,19 @@ impl<A: Allocator> BoxedAsciiStr<A> {
         AsciiStr {
             bytes: self.text.as_str().as_bytes(),
         }
+    }
+}
+
+impl<A: Allocator> Kept<BoxedStr<A>> {
+    /// Returns a copy of a view in a box. Fails only if the allocation fails.
+    ///
+    ///     BoxedAsciiStr::from_ascii_str(alloc, view("foo"))?.as_ascii_str() // "foo"
+    pub fn from_ascii_str(alloc: A, view: AsciiStr<'_>) -> Result<BoxedAsciiStr<A>, AllocError>
+        ensures { IfOk result (λ boxed. boxed ≡ text_of view.entry) }
+    {
+        Ok(Kept {
+            text: BoxedStr::from_str(alloc, view.as_str())?,
+        })
     }
 
     /// Converts the box into a string that can grow, keeping its buffer. Always returns `Ok`.
@@ -73,25 +81,7 @@ impl<A: Allocator> BoxedAsciiStr<A> {
     }
 }
 
-/// ASCII text that several owners share by counting references.
-#[derive(Drop)]
-pub struct RcAsciiStr<A: Allocator = Global> {
-    text: RcStr<A>,
-}
-
-impl<A: Allocator> Model for RcAsciiStr<A> {
-    ghost use Rattle.std.specs.Prelude.{List, ℕ};
-    ghost use Rattle.std.specs.Rc.{rc_str_bytes};
-    ghost use Rattle.std.specs.Str.{IsAscii};
-
-    ghost Value = { List ℕ };
-
-    ghost view = { λ shared. rc_str_bytes shared.text };
-
-    ghost invariant = { λ shared. IsAscii (rc_str_bytes shared.text) };
-}
-
-impl<A: Allocator> RcAsciiStr<A> {
+impl<A: Allocator> Kept<RcStr<A>> {
     /// Returns a shared copy of a view. Fails only if the allocation fails.
     ///
     ///     RcAsciiStr::from_ascii_str(alloc, view("foo"))?.as_ascii_str() // "foo"
@@ -100,38 +90,26 @@ impl<A: Allocator> RcAsciiStr<A> {
         A: Clone,
         ensures { IfOk result (λ shared. shared ≡ text_of view.entry) }
     {
-        Ok(RcAsciiStr {
+        Ok(Kept {
             text: RcStr::from_str(alloc, view.as_str())?,
         })
     }
-
-    /// Returns a view of the text.
-    ///
-    ///     RcAsciiStr::from_ascii_str(alloc, view("foo"))?.as_ascii_str().len() // 3
-    #[inline]
-    pub fn as_ascii_str(&self) -> AsciiStr<'_>
-        ensures { text_of result ≡ self.now }
-    {
-        AsciiStr {
-            bytes: self.text.as_str().as_bytes(),
-        }
-    }
 }
 
-impl<A: Allocator> Clone for RcAsciiStr<A> {
+impl<A: Allocator> Clone for Kept<RcStr<A>> {
     ghost is_clone = { λ shared copy. copy ≡ shared };
 
     /// Returns one more owner of the text. Does not allocate.
     ///
     ///     RcAsciiStr::from_ascii_str(alloc, view("foo"))?.clone()?.as_ascii_str() // "foo"
     fn clone(&self) -> Result<RcAsciiStr<A>, AllocError> {
-        Ok(RcAsciiStr {
+        Ok(Kept {
             text: self.text.clone()?,
         })
     }
 }
 
-impl<A: Allocator> AsciiString<A> {
+impl<A: Allocator> Text<Vec<u8, A>> {
     /// Converts the string into boxed text, keeping its buffer. Always returns `Ok`.
     ///
     ///     view("foo").to_ascii_string(alloc)?.into_boxed_ascii_str().is_ok() // true
@@ -139,7 +117,7 @@ impl<A: Allocator> AsciiString<A> {
         ensures { IsOkAnd result (λ boxed. boxed ≡ self.text) }
     {
         let text = String::from(self).into_boxed_str();
-        Ok(BoxedAsciiStr { text })
+        Ok(Kept { text })
     }
 
     /// Returns a shared copy of the text, and drops the string. If the allocation fails, returns

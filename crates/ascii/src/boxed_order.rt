@@ -9,12 +9,13 @@ ghost use Rattle.std.specs.Ordering.{as_partial_cmp, nat_cmp, on};
 ghost use Rattle.std.proofs.Common.{rules};
 ghost use Rattle.ascii.specs.Cow.{cow_text};
 
-use crate::boxed::{BoxedAsciiStr, CowAsciiStr, RcAsciiStr};
+use crate::boxed::{CowAsciiStr, Kept};
 use std::alloc::Allocator;
 use std::cmp::Ordering;
+use std::convert::AsStr;
 use std::hash::{Hash, Hasher};
 
-impl<A: Allocator> PartialEq for BoxedAsciiStr<A> {
+impl<S: AsStr> PartialEq for Kept<S> {
     ghost eq = { pointwise ◌==◌ };
 
     ghost laws = { Prim.search (comparing, rules) };
@@ -22,16 +23,16 @@ impl<A: Allocator> PartialEq for BoxedAsciiStr<A> {
     /// Returns `true` if the two texts are equal.
     ///
     ///     BoxedAsciiStr::from_ascii_str(alloc, view("foo"))? == BoxedAsciiStr::from_ascii_str(alloc, view("foo"))? // true
-    fn eq(&self, other: &BoxedAsciiStr<A>) -> bool {
+    fn eq(&self, other: &Kept<S>) -> bool {
         self.as_ascii_str() == other.as_ascii_str()
     }
 }
 
-impl<A: Allocator> Eq for BoxedAsciiStr<A> {
+impl<S: AsStr> Eq for Kept<S> {
     ghost laws = { Prim.search (comparing, rules) };
 }
 
-impl<A: Allocator> PartialOrd for BoxedAsciiStr<A> {
+impl<S: AsStr> PartialOrd for Kept<S> {
     ghost partial_cmp = { as_partial_cmp (slice_cmp nat_cmp) };
 
     ghost laws = { partial_order_from_own_ties
@@ -40,12 +41,12 @@ impl<A: Allocator> PartialOrd for BoxedAsciiStr<A> {
     /// Returns the order of the two texts: that of `cmp`.
     ///
     ///     BoxedAsciiStr::from_ascii_str(alloc, view("foo"))? < BoxedAsciiStr::from_ascii_str(alloc, view("fop"))? // true
-    fn partial_cmp(&self, other: &BoxedAsciiStr<A>) -> Option<Ordering> {
+    fn partial_cmp(&self, other: &Kept<S>) -> Option<Ordering> {
         Some(self.cmp(other))
     }
 }
 
-impl<A: Allocator> Ord for BoxedAsciiStr<A> {
+impl<S: AsStr> Ord for Kept<S> {
     ghost cmp = { slice_cmp nat_cmp };
 
     ghost total = { Prim.search (comparing, rules) };
@@ -57,13 +58,13 @@ impl<A: Allocator> Ord for BoxedAsciiStr<A> {
     /// Returns the order of the two texts: lexicographic, by the codes.
     ///
     ///     BoxedAsciiStr::from_ascii_str(alloc, view("foo"))?.cmp(&BoxedAsciiStr::from_ascii_str(alloc, view("fo"))?) // Greater
-    fn cmp(&self, other: &BoxedAsciiStr<A>) -> Ordering {
+    fn cmp(&self, other: &Kept<S>) -> Ordering {
         self.as_ascii_str().cmp(&other.as_ascii_str())
     }
 }
 
-impl<A: Allocator> Hash for BoxedAsciiStr<A> {
-    ghost hash_input = { λ boxed. fed.str boxed };
+impl<S: AsStr> Hash for Kept<S> {
+    ghost hash_input = { λ kept. fed.slice fed.u8 kept };
 
     ghost respects_eq = { Prim.search (hashing, rules) };
 
@@ -73,70 +74,7 @@ impl<A: Allocator> Hash for BoxedAsciiStr<A> {
     ///     seen.insert(BoxedAsciiStr::from_ascii_str(alloc, view("foo"))?)?;
     ///     seen.contains(&BoxedAsciiStr::from_ascii_str(alloc, view("foo"))?) // true
     fn hash<H: Hasher>(&self, state: &mut H) {
-        self.as_ascii_str().as_str().hash(state);
-    }
-}
-
-impl<A: Allocator> PartialEq for RcAsciiStr<A> {
-    ghost eq = { pointwise ◌==◌ };
-
-    ghost laws = { Prim.search (comparing, rules) };
-
-    /// Returns `true` if the two texts are equal.
-    ///
-    ///     RcAsciiStr::from_ascii_str(alloc, view("foo"))? == RcAsciiStr::from_ascii_str(alloc, view("foo"))? // true
-    fn eq(&self, other: &RcAsciiStr<A>) -> bool {
-        self.as_ascii_str() == other.as_ascii_str()
-    }
-}
-
-impl<A: Allocator> Eq for RcAsciiStr<A> {
-    ghost laws = { Prim.search (comparing, rules) };
-}
-
-impl<A: Allocator> PartialOrd for RcAsciiStr<A> {
-    ghost partial_cmp = { as_partial_cmp (slice_cmp nat_cmp) };
-
-    ghost laws = { partial_order_from_own_ties
-        (Prim.search (comparing, rules)) (Prim.search (comparing, rules)) };
-
-    /// Returns the order of the two texts: that of `cmp`.
-    ///
-    ///     RcAsciiStr::from_ascii_str(alloc, view("foo"))? < RcAsciiStr::from_ascii_str(alloc, view("fop"))? // true
-    fn partial_cmp(&self, other: &RcAsciiStr<A>) -> Option<Ordering> {
-        Some(self.cmp(other))
-    }
-}
-
-impl<A: Allocator> Ord for RcAsciiStr<A> {
-    ghost cmp = { slice_cmp nat_cmp };
-
-    ghost total = { Prim.search (comparing, rules) };
-
-    ghost matches_partial_cmp = { Prim.search (comparing, rules) };
-
-    ghost matches_eq = { Prim.search (comparing, rules) };
-
-    /// Returns the order of the two texts: lexicographic, by the codes.
-    ///
-    ///     RcAsciiStr::from_ascii_str(alloc, view("foo"))?.cmp(&RcAsciiStr::from_ascii_str(alloc, view("fo"))?) // Greater
-    fn cmp(&self, other: &RcAsciiStr<A>) -> Ordering {
-        self.as_ascii_str().cmp(&other.as_ascii_str())
-    }
-}
-
-impl<A: Allocator> Hash for RcAsciiStr<A> {
-    ghost hash_input = { λ shared. fed.str shared };
-
-    ghost respects_eq = { Prim.search (hashing, rules) };
-
-    /// Hashes the text as a view of it is hashed.
-    ///
-    ///     let mut seen = HashSet::new(alloc);
-    ///     seen.insert(RcAsciiStr::from_ascii_str(alloc, view("foo"))?)?;
-    ///     seen.contains(&RcAsciiStr::from_ascii_str(alloc, view("foo"))?) // true
-    fn hash<H: Hasher>(&self, state: &mut H) {
-        self.as_ascii_str().as_str().hash(state);
+        self.as_ascii_str().hash(state);
     }
 }
 
@@ -189,7 +127,7 @@ impl<A: Allocator> Ord for CowAsciiStr<'_, A> {
 }
 
 impl<A: Allocator> Hash for CowAsciiStr<'_, A> {
-    ghost hash_input = { λ cow. fed.str (cow_text cow) };
+    ghost hash_input = { λ cow. fed.slice fed.u8 (cow_text cow) };
 
     ghost respects_eq = { Prim.search (hashing, rules) };
 
@@ -199,6 +137,6 @@ impl<A: Allocator> Hash for CowAsciiStr<'_, A> {
     ///     seen.insert(CowAsciiStr::<Global>::from(view("foo")))?;
     ///     seen.contains(&CowAsciiStr::<Global>::from(view("foo"))) // true
     fn hash<H: Hasher>(&self, state: &mut H) {
-        self.as_ascii_str().as_str().hash(state);
+        self.as_ascii_str().hash(state);
     }
 }

@@ -5,14 +5,15 @@ ghost use Rattle.std.specs.Fmt.{styled_text};
 ghost use Rattle.ascii.specs.Cow.{cow_text};
 ghost use Rattle.ascii.specs.View.{debug_text};
 
-use crate::boxed::{BoxedAsciiStr, CowAsciiStr, RcAsciiStr};
+use crate::boxed::{CowAsciiStr, Kept};
 use std::alloc::Allocator;
+use std::convert::AsStr;
 use std::fmt;
 
-impl<A: Allocator> fmt::Display for BoxedAsciiStr<A> {
-    ghost output = { λ boxed. Some boxed };
+impl<S: AsStr> fmt::Display for Kept<S> {
+    ghost output = { λ kept. Some kept };
 
-    ghost styled_output = { λ boxed spec. Some (styled_text spec boxed) };
+    ghost styled_output = { λ kept spec. Some (styled_text spec kept) };
 
     /// Writes the text, with the width, the alignment and the precision of the format, as for
     /// `str`.
@@ -23,37 +24,12 @@ impl<A: Allocator> fmt::Display for BoxedAsciiStr<A> {
     }
 }
 
-impl<A: Allocator> fmt::Debug for BoxedAsciiStr<A> {
-    ghost debug_output = { λ boxed. Some (debug_text boxed) };
+impl<S: AsStr> fmt::Debug for Kept<S> {
+    ghost debug_output = { λ kept. Some (debug_text kept) };
 
     /// Writes the text in double quotes, escaped as std escapes it.
     ///
     ///     format!(in alloc; "{:?}", BoxedAsciiStr::from_ascii_str(alloc, view("foo"))?)? // "\"foo\""
-    fn fmt<W: fmt::Write>(&self, f: &mut fmt::Formatter<W>) -> fmt::Result {
-        fmt::Debug::fmt(&self.as_ascii_str(), f)
-    }
-}
-
-impl<A: Allocator> fmt::Display for RcAsciiStr<A> {
-    ghost output = { λ shared. Some shared };
-
-    ghost styled_output = { λ shared spec. Some (styled_text spec shared) };
-
-    /// Writes the text, with the width, the alignment and the precision of the format, as for
-    /// `str`.
-    ///
-    ///     format!(in alloc; "{}", RcAsciiStr::from_ascii_str(alloc, view("a\"b"))?)? // "a\"b"
-    fn fmt<W: fmt::Write>(&self, f: &mut fmt::Formatter<W>) -> fmt::Result {
-        fmt::Display::fmt(&self.as_ascii_str(), f)
-    }
-}
-
-impl<A: Allocator> fmt::Debug for RcAsciiStr<A> {
-    ghost debug_output = { λ shared. Some (debug_text shared) };
-
-    /// Writes the text in double quotes, escaped as std escapes it.
-    ///
-    ///     format!(in alloc; "{:?}", RcAsciiStr::from_ascii_str(alloc, view("foo"))?)? // "\"foo\""
     fn fmt<W: fmt::Write>(&self, f: &mut fmt::Formatter<W>) -> fmt::Result {
         fmt::Debug::fmt(&self.as_ascii_str(), f)
     }

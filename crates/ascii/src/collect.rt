@@ -11,10 +11,11 @@ ghost use Rattle.ascii.specs.Extend.{Collects, Extends, Fills, TakesFront};
 ghost use Rattle.ascii.specs.View.{text_of};
 
 use crate::ascii_str::AsciiStr;
-use crate::ascii_string::AsciiString;
+use crate::ascii_string::Text;
+use crate::buffer::Buffer;
 use crate::bytes;
 use ascii_base::ascii_char::AsciiChar;
-use std::alloc::{AllocError, Allocator};
+use std::alloc::AllocError;
 
 /// The number of characters of an iterator that are gathered before they are appended at once.
 const GATHERED: usize = 64;
@@ -39,7 +40,7 @@ fn gather<I: Iterator<Item = AsciiChar>>(iter: &mut I, codes: &mut [u8]) -> usiz
     codes.len()
 }
 
-impl<A: Allocator> AsciiString<A> {
+impl<B: Buffer> Text<B> {
     /// Appends the characters of an iterator. Fails only if the string has to grow and the
     /// allocation fails; the characters before the first that did not fit have then been appended.
     /// Never fails if all of them fit the capacity.
@@ -53,7 +54,7 @@ impl<A: Allocator> AsciiString<A> {
     pub fn extend_chars<I: Iterator<Item = AsciiChar> + Drop>(
         &mut self,
         iter: I,
-    ) -> Result<(), AllocError>
+    ) -> Result<(), B::Refusal>
         requires can { I.can_next iter }
         requires ends { IsFinite (I.remaining iter) }
         ensures extends { Extends I.next_gives code_text iter self.old self.new result }
@@ -72,7 +73,7 @@ impl<A: Allocator> AsciiString<A> {
 
     /// Appends ASCII codes at once. If the allocation for all of them fails, appends them one by one
     /// up to the first that does not fit.
-    fn push_gathered(&mut self, codes: &[u8]) -> Result<(), AllocError>
+    fn push_gathered(&mut self, codes: &[u8]) -> Result<(), B::Refusal>
         requires { IsAscii codes.now }
         ensures { TakesFront codes.now self.old self.new result }
     {
@@ -98,7 +99,7 @@ impl<A: Allocator> AsciiString<A> {
     pub fn extend_strs<'a, I: Iterator<Item = AsciiStr<'a>> + Drop>(
         &mut self,
         iter: I,
-    ) -> Result<(), AllocError>
+    ) -> Result<(), B::Refusal>
         requires can { I.can_next iter }
         requires ends { IsFinite (I.remaining iter) }
         ensures extends { Extends I.next_gives text_of iter self.old self.new result }
@@ -117,14 +118,14 @@ impl<A: Allocator> AsciiString<A> {
     ///
     ///     AsciiString::collect_chars(alloc, view("foo").chars().rev())? // "oof"
     pub fn collect_chars<I: Iterator<Item = AsciiChar> + Drop>(
-        alloc: A,
+        alloc: B::Alloc,
         iter: I,
-    ) -> Result<AsciiString<A>, AllocError>
+    ) -> Result<Text<B>, B::Refusal>
         requires can { I.can_next iter }
         requires ends { IsFinite (I.remaining iter) }
         ensures { IfOk result (λ string. Collects I.next_gives code_text iter string.text) }
     {
-        let mut string = AsciiString::new(alloc);
+        let mut string = Text::new(alloc);
         string.extend_chars(iter)?;
         Ok(string)
     }
@@ -136,14 +137,14 @@ impl<A: Allocator> AsciiString<A> {
     ///
     ///     AsciiString::collect_strs(alloc, view("b,c").split(AsciiChar::Comma))? // "bc"
     pub fn collect_strs<'a, I: Iterator<Item = AsciiStr<'a>> + Drop>(
-        alloc: A,
+        alloc: B::Alloc,
         iter: I,
-    ) -> Result<AsciiString<A>, AllocError>
+    ) -> Result<Text<B>, B::Refusal>
         requires can { I.can_next iter }
         requires ends { IsFinite (I.remaining iter) }
         ensures { IfOk result (λ string. Collects I.next_gives text_of iter string.text) }
     {
-        let mut string = AsciiString::new(alloc);
+        let mut string = Text::new(alloc);
         string.extend_strs(iter)?;
         Ok(string)
     }

@@ -1,14 +1,18 @@
 //! The conversion traits of std for views and strings: where a function takes a text, bytes or a path, it can
 //! be passed a view or a string, and `TryFrom` checks a source.
 
-ghost use Rattle.std.specs.Prelude.{◌≡◌, MatchResult, Some, string_bytes};
+ghost use Rattle.std.specs.Prelude.{◌≡◌, IfOk, MatchResult, OnOk, Some, max, string_bytes};
+ghost use Rattle.std.specs.Prelude.{vec_capacity};
+ghost use Rattle.std.specs.Str.{IsAscii};
+ghost use Rattle.std.specs.String.{string_capacity};
 ghost use Rattle.ascii.specs.ConversionError.{ReturnsSource};
 ghost use Rattle.ascii.specs.Slice.{SliceOutcome};
 ghost use Rattle.ascii.specs.View.{text_of};
 ghost use Rattle.ascii_base.specs.declared.range.AsciiRange.TheVariants.{Full};
 
 use crate::ascii_str::{AsAsciiStrError, AsciiStr};
-use crate::ascii_string::AsciiString;
+use crate::ascii_string::{AsciiString, Text};
+use crate::buffer::{Buffer, InlineBuffer};
 use crate::from_ascii::FromAsciiError;
 use crate::{bytes, string, text, vec};
 use std::alloc::Allocator;
@@ -60,7 +64,7 @@ impl AsPath for AsciiStr<'_> {
     }
 }
 
-impl<A: Allocator> AsStr for AsciiString<A> {
+impl<B: Buffer> AsStr for Text<B> {
     ghost text = { λ string. string.text };
 
     /// Returns the text as a `&str`. Nothing is checked or copied.
@@ -71,7 +75,7 @@ impl<A: Allocator> AsStr for AsciiString<A> {
     }
 }
 
-impl<A: Allocator> AsSlice<u8> for AsciiString<A> {
+impl<B: Buffer> AsSlice<u8> for Text<B> {
     ghost items = { λ string. string.text };
 
     /// Returns the bytes of the text, one for each character.
@@ -82,7 +86,7 @@ impl<A: Allocator> AsSlice<u8> for AsciiString<A> {
     }
 }
 
-impl<A: Allocator> AsBytes for AsciiString<A> {
+impl<B: Buffer> AsBytes for Text<B> {
     ghost bytes = { λ string. Some string.text };
 
     /// Returns the bytes of the text, one for each character.
@@ -102,7 +106,10 @@ impl<'a> TryFrom<&'a [u8]> for AsciiStr<'a> {
     ///
     ///     AsciiStr::try_from(b"foo".as_slice()) // Ok("foo")
     ///     AsciiStr::try_from(b"ab\xc4".as_slice()) // Err(AsAsciiStrError(2))
-    fn try_from(source: &'a [u8]) -> Result<AsciiStr<'a>, AsAsciiStrError> {
+    fn try_from(source: &'a [u8]) -> Result<AsciiStr<'a>, AsAsciiStrError>
+        ensures outcome { SliceOutcome source.now Full result }
+        ensures ascii { OnOk result (IsAscii source.now) }
+    {
         bytes::as_ascii_str(source)
     }
 }
@@ -112,11 +119,14 @@ impl<'a> TryFrom<&'a str> for AsciiStr<'a> {
 
     ghost try_from_gives = { λ source result. SliceOutcome source.now Full result };
 
-    /// Returns the source as a view, or an error with the position in bytes of its first non-ASCII byte.
+    /// Returns the source as a view, or an error with the position in bytes of its first non-ASCII
+    /// byte.
     ///
     ///     AsciiStr::try_from("foo") // Ok("foo")
     ///     AsciiStr::try_from("abč") // Err(AsAsciiStrError(2))
-    fn try_from(source: &'a str) -> Result<AsciiStr<'a>, AsAsciiStrError> {
+    fn try_from(source: &'a str) -> Result<AsciiStr<'a>, AsAsciiStrError>
+        ensures { SliceOutcome source.now Full result }
+    {
         text::as_ascii_str(source)
     }
 }
@@ -127,11 +137,15 @@ impl<A: Allocator> TryFrom<Vec<u8, A>> for AsciiString<A> {
     ghost try_from_gives = { λ source result. MatchResult result
         (λ string. string.text ≡ source.items) (ReturnsSource source source.items) };
 
-    /// Converts the bytes into a string, keeping their buffer, or returns an error with the bytes and the
-    /// position of the first non-ASCII byte.
+    /// Converts the bytes into a string, keeping their buffer, or returns an error with the bytes
+    /// and the position of the first non-ASCII byte. Does not allocate.
     ///
     ///     AsciiString::try_from(Vec::from_slice(alloc, b"foo")?) // Ok("foo")
-    fn try_from(source: Vec<u8, A>) -> Result<AsciiString<A>, FromAsciiError<Vec<u8, A>>> {
+    fn try_from(source: Vec<u8, A>) -> Result<AsciiString<A>, FromAsciiError<Vec<u8, A>>>
+        ensures text { MatchResult result (λ string. string.text ≡ source.items)
+            (ReturnsSource source source.items) }
+        ensures capacity { IfOk result (λ string. string.capacity ≡ vec_capacity source) }
+    {
         vec::into_ascii_string(source)
     }
 }
@@ -143,11 +157,68 @@ impl<A: Allocator> TryFrom<String<A>> for AsciiString<A> {
         (λ string. string.text ≡ string_bytes source)
         (ReturnsSource source (string_bytes source)) };
 
-    /// Converts the `String` into an ASCII string, keeping its buffer, or returns an error with the `String`
-    /// and the position of its first non-ASCII byte.
+    /// Converts the `String` into an ASCII string, keeping its buffer, or returns an error with the
+    /// `String` and the position of its first non-ASCII byte. Does not allocate.
     ///
     ///     AsciiString::try_from(String::from_str(alloc, "foo")?) // Ok("foo")
-    fn try_from(source: String<A>) -> Result<AsciiString<A>, FromAsciiError<String<A>>> {
+    fn try_from(source: String<A>) -> Result<AsciiString<A>, FromAsciiError<String<A>>>
+        ensures text { MatchResult result (λ string. string.text ≡ string_bytes source)
+            (ReturnsSource source (string_bytes source)) }
+        ensures capacity { IfOk result (λ string. string.capacity ≡ string_capacity source) }
+    {
         string::into_ascii_string(source)
+    }
+}
+
+impl<B: InlineBuffer> TryFrom<Vec<u8>> for Text<B> {
+    type Error = FromAsciiError<Vec<u8>>;
+
+    ghost try_from_gives = { λ source result. MatchResult result
+        (λ string. string.text ≡ source.items) (ReturnsSource source source.items) };
+
+    /// Converts the bytes into a string, or returns an error with the bytes and the position of the
+    /// first non-ASCII byte. The string keeps their allocation if that has more room than the value
+    /// itself. Does not allocate.
+    ///
+    ///     SmallAsciiString::try_from(Vec::from_slice(alloc, b"foo")?) // Ok("foo")
+    fn try_from(source: Vec<u8>) -> Result<Text<B>, FromAsciiError<Vec<u8>>>
+        ensures text { MatchResult result (λ string. string.text ≡ source.items)
+            (ReturnsSource source source.items) }
+        ensures capacity { IfOk result (λ string.
+            string.capacity ≡ max B.sure (vec_capacity source)) }
+    {
+        match vec::into_ascii_string(source) {
+            Ok(string) => Ok(Text {
+                bytes: B::from_vec(string.bytes),
+            }),
+            Err(error) => Err(error),
+        }
+    }
+}
+
+impl<B: InlineBuffer> TryFrom<String> for Text<B> {
+    type Error = FromAsciiError<String>;
+
+    ghost try_from_gives = { λ source result. MatchResult result
+        (λ string. string.text ≡ string_bytes source)
+        (ReturnsSource source (string_bytes source)) };
+
+    /// Converts the `String` into an ASCII string, or returns an error with the `String` and the
+    /// position of its first non-ASCII byte. The string keeps its allocation if that has more room
+    /// than the value itself. Does not allocate.
+    ///
+    ///     SmallAsciiString::try_from(String::from_str(alloc, "foo")?) // Ok("foo")
+    fn try_from(source: String) -> Result<Text<B>, FromAsciiError<String>>
+        ensures text { MatchResult result (λ string. string.text ≡ string_bytes source)
+            (ReturnsSource source (string_bytes source)) }
+        ensures capacity { IfOk result (λ string.
+            string.capacity ≡ max B.sure (string_capacity source)) }
+    {
+        match string::into_ascii_string(source) {
+            Ok(string) => Ok(Text {
+                bytes: B::from_vec(string.bytes),
+            }),
+            Err(error) => Err(error),
+        }
     }
 }

@@ -6,7 +6,8 @@ ghost use Rattle.ascii_base.specs.Code.{code_of, code_text};
 ghost use Rattle.ascii.specs.View.{text_of};
 
 use crate::ascii_str::AsciiStr;
-use crate::ascii_string::AsciiString;
+use crate::ascii_string::{AsciiString, Text};
+use crate::buffer::Buffer;
 use ascii_base::ascii_char::AsciiChar;
 use std::alloc::{AllocError, Allocator};
 
@@ -21,9 +22,7 @@ impl AsciiStr<'_> {
         ensures text { IfOk result (λ string. string.text ≡ text_of self.entry) }
         ensures empty { text_of self.entry ≡ [] → IsOk result }
     {
-        let mut string = AsciiString::with_capacity(alloc, self.len())?;
-        string.push_str(self)?;
-        Ok(string)
+        AsciiString::from_ascii_str(alloc, self)
     }
 
     /// Returns a copy of the view with each letter `a` to `z` changed to `A` to `Z`. Fails only if
@@ -69,14 +68,14 @@ impl AsciiStr<'_> {
     }
 }
 
-impl<A: Allocator> AsciiString<A> {
+impl<B: Buffer> Text<B> {
     /// Returns a string of one character. Fails only if the allocation fails.
     ///
     ///     AsciiString::from_char(alloc, AsciiChar::a)? // "a"
-    pub fn from_char(alloc: A, ch: AsciiChar) -> Result<AsciiString<A>, AllocError>
+    pub fn from_char(alloc: B::Alloc, ch: AsciiChar) -> Result<Text<B>, B::Refusal>
         ensures { IfOk result (λ string. string.text ≡ code_text ch) }
     {
-        let mut string = AsciiString::with_capacity(alloc, 1)?;
+        let mut string = Text::with_capacity(alloc, 1)?;
         string.push(ch)?;
         Ok(string)
     }
@@ -84,10 +83,10 @@ impl<A: Allocator> AsciiString<A> {
     /// Returns a string of the characters, in order. Fails only if the allocation fails.
     ///
     ///     AsciiString::from_chars(alloc, &[AsciiChar::a, AsciiChar::b])? // "ab"
-    pub fn from_chars(alloc: A, chars: &[AsciiChar]) -> Result<AsciiString<A>, AllocError>
+    pub fn from_chars(alloc: B::Alloc, chars: &[AsciiChar]) -> Result<Text<B>, B::Refusal>
         ensures { IfOk result (λ string. string.text ≡ map code_of chars.now) }
     {
-        let mut string = AsciiString::with_capacity(alloc, chars.len())?;
+        let mut string = Text::with_capacity(alloc, chars.len())?;
         for ch in chars {
             string.push(*ch)?;
         }
@@ -98,7 +97,7 @@ impl<A: Allocator> AsciiString<A> {
     /// the string as the error.
     ///
     ///     view("ab").to_ascii_string(alloc)?.into_chars(alloc) // Ok(['a', 'b'])
-    pub fn into_chars<B: Allocator>(self, alloc: B) -> Result<Vec<AsciiChar, B>, AsciiString<A>>
+    pub fn into_chars<A: Allocator>(self, alloc: A) -> Result<Vec<AsciiChar, A>, Text<B>>
         ensures ok { IfOk result (λ chars. map code_of chars.items ≡ self.text) }
         ensures err { IfErr result (λ string. string ≡ self) }
     {

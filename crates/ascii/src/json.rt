@@ -11,7 +11,8 @@ ghost use Rattle.ascii.specs.Json.{RejectsChar, RejectsText, RejectsTextCopy};
 ghost use Rattle.ascii.specs.View.{text_of};
 
 use crate::ascii_str::{AsAsciiStrError, AsciiStr};
-use crate::ascii_string::AsciiString;
+use crate::ascii_string::{AsciiString, Text};
+use crate::buffer::Buffer;
 use crate::text;
 use ascii_base::ascii_char::{AsciiChar, ToAsciiChar};
 use serde_json::Value;
@@ -42,7 +43,7 @@ impl AsciiStr<'_> {
     }
 }
 
-impl<A: Allocator> AsciiString<A> {
+impl<B: Buffer> Text<B> {
     /// Returns the text as a JSON string, all of it ASCII. Fails only if the allocation fails.
     ///
     ///     view("foo").to_ascii_string(alloc)?.to_json(alloc)?.to_string(alloc)? // "\"foo\""
@@ -51,6 +52,23 @@ impl<A: Allocator> AsciiString<A> {
         ensures ascii { IsAscii self.now.text }
     {
         self.as_ascii_str().to_json(alloc)
+    }
+}
+
+impl<B: Buffer<Refusal = AllocError>> Text<B> {
+    /// Returns a copy of the text of a JSON string, or an error: `NotText` if the value is not a
+    /// JSON string, `NotAscii` with the position of the first non-ASCII byte, and `Memory` if the
+    /// allocation fails.
+    ///
+    /// The value is checked before anything is allocated. A copy of the empty text never fails.
+    ///
+    ///     AsciiString::from_json(alloc, &Value::from_str(alloc, "\"foo\"")?) // Ok("foo")
+    pub fn from_json(alloc: B::Alloc, value: &Value) -> Result<Text<B>, JsonError>
+        ensures { MatchResult result (λ string. as_str (view value.now) ≡ Some string.text)
+            (RejectsTextCopy (view value.now)) }
+    {
+        let view = str_from_json(value)?;
+        Text::from_ascii_str(alloc, view).map_err(|_| JsonError::Memory)
     }
 }
 
@@ -106,6 +124,5 @@ pub fn string_from_json<A: Allocator>(alloc: A, value: &Value) -> Result<AsciiSt
     ensures { MatchResult result (λ string. as_str (view value.now) ≡ Some string.text)
         (RejectsTextCopy (view value.now)) }
 {
-    let view = str_from_json(value)?;
-    view.to_ascii_string(alloc).map_err(|_| JsonError::Memory)
+    AsciiString::from_json(alloc, value)
 }

@@ -5,11 +5,11 @@ ghost use Rattle.std.specs.Str.{IsAscii};
 ghost use Rattle.ascii.specs.Retain.{RetainsChars};
 ghost use Rattle.ascii.specs.StringState.{EditsInPlace};
 
-use crate::ascii_string::AsciiString;
+use crate::ascii_string::Text;
+use crate::buffer::Buffer;
 use ascii_base::ascii_char::AsciiChar;
-use std::alloc::Allocator;
 
-impl<A: Allocator> AsciiString<A> {
+impl<B: Buffer> Text<B> {
     /// Removes the characters for which `keep` returns `false`. It is called once for each character,
     /// in order. Does not allocate, and keeps the capacity.
     ///
@@ -24,8 +24,8 @@ impl<A: Allocator> AsciiString<A> {
         ensures kept { RetainsChars F.FnMut keep self.old.text self.new.text }
         ensures room { EditsInPlace self.new.text self.old self.new }
     {
-        let kept = move_kept(self.bytes.as_mut_slice(), keep);
-        self.bytes.truncate(kept);
+        let kept = move_kept(self.bytes.bytes_mut(), keep);
+        self.bytes.keep_front(kept);
     }
 }
 

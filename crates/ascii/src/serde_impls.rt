@@ -1,18 +1,20 @@
 //! The traits of the crate `serde` for views and strings, in any format. A view borrows its text from
 //! the input, so its text may hold no escape there.
 
-ghost use Rattle.std.specs.Prelude.{IfOk};
+ghost use Rattle.std.specs.Prelude.{◌≡◌, IfOk, MatchResult};
+ghost use Rattle.std.specs.Str.{IsAscii};
 ghost use Rattle.ascii.specs.View.{text_of};
 ghost use Rattle.serde.specs.Event.{Logs, text};
 ghost use Rattle.serde.specs.Steps.{Gives};
 
 use crate::ascii_str::{AsAsciiStrError, AsciiStr};
-use crate::ascii_string::AsciiString;
-use crate::{string, text};
+use crate::ascii_string::{AsciiString, Text};
+use crate::buffer::{Buffer, InlineBuffer};
+use crate::text;
 use serde::{
     Described, Deserialize, DeserializeOwned, Deserializer, Format, Serialize, Serializer,
 };
-use std::alloc::{Allocator, Global};
+use std::alloc::Global;
 
 impl Described for AsciiStr<'_> {
     ghost writes = { λ view old new. Logs old new (text (text_of view)) };
@@ -27,11 +29,11 @@ impl Serialize for AsciiStr<'_> {
     }
 }
 
-impl<A: Allocator> Described for AsciiString<A> {
+impl<B: Buffer> Described for Text<B> {
     ghost writes = { λ string old new. Logs old new (text string.text) };
 }
 
-impl<A: Allocator> Serialize for AsciiString<A> {
+impl<B: Buffer> Serialize for Text<B> {
     /// Writes the text as a string.
     ///
     ///     serde_json::to_string(alloc, &view("foo").to_ascii_string(alloc)?)? // "\"foo\""
@@ -53,6 +55,22 @@ fn reported<F: Format>(
     }
 }
 
+/// Returns a text that was read as a view, or the format's error with the position of its first
+/// non-ASCII byte. All texts that are read are accepted or rejected by this function.
+fn accepted<'a, F: Format>(
+    alloc: Global,
+    from: &Deserializer<'_, '_, F>,
+    source: &'a str,
+) -> Result<AsciiStr<'a>, F::Error>
+    ensures { MatchResult result (λ view. text_of view ≡ source.now)
+        (λ _. ¬ (IsAscii source.now)) }
+{
+    match text::as_ascii_str(source) {
+        Ok(view) => Ok(view),
+        Err(error) => Err(reported(alloc, from, error)),
+    }
+}
+
 impl<'de> Deserialize<'de> for AsciiStr<'de> {
     /// Reads a string that is borrowed from the input, or returns an error if a byte of it is not
     /// ASCII.
@@ -65,10 +83,7 @@ impl<'de> Deserialize<'de> for AsciiStr<'de> {
         ensures { IfOk result (λ view. Gives F.gives from.old (text (text_of view)) from.new) }
     {
         let source = from.borrowed_str()?;
-        match text::as_ascii_str(source) {
-            Ok(view) => Ok(view),
-            Err(error) => Err(reported(alloc, from, error)),
-        }
+        accepted(alloc, from, source)
     }
 }
 
@@ -83,10 +98,11 @@ impl DeserializeOwned for AsciiString {
     ) -> Result<AsciiString, F::Error>
         ensures { IfOk result (λ string. Gives F.gives from.old (text string.text) from.new) }
     {
-        match string::into_ascii_string(from.string(alloc)?) {
-            Ok(string) => Ok(string),
-            Err(error) => Err(reported(alloc, from, error.ascii_error())),
+        let source = from.string(alloc)?;
+        if let Err(error) = accepted(alloc, from, source.as_str()) {
+            return Err(error);
         }
+        Ok(AsciiString::from_ascii_unchecked(source.into_bytes()))
     }
 }
 
@@ -101,5 +117,37 @@ impl<'de> Deserialize<'de> for AsciiString {
         ensures { IfOk result (λ string. Gives F.gives from.old (text string.text) from.new) }
     {
         AsciiString::deserialize_owned(alloc, from)
+    }
+}
+
+impl<B: InlineBuffer> DeserializeOwned for Text<B> {
+    /// Reads a string, or returns an error if a byte of it is not ASCII.
+    ///
+    ///     let value = Value::from_str(alloc, "\"foo\"")?;
+    ///     serde_json::from_value::<SmallAsciiString>(alloc, value).ok() // Some("foo")
+    fn deserialize_owned<F: Format>(
+        alloc: Global,
+        from: &mut Deserializer<'_, '_, F>,
+    ) -> Result<Text<B>, F::Error>
+        ensures { IfOk result (λ string. Gives F.gives from.old (text string.text) from.new) }
+    {
+        let string = AsciiString::deserialize_owned(alloc, from)?;
+        Ok(Text {
+            bytes: B::from_vec(string.bytes),
+        })
+    }
+}
+
+impl<'de, B: InlineBuffer> Deserialize<'de> for Text<B> {
+    /// Reads a string, or returns an error if a byte of it is not ASCII.
+    ///
+    ///     serde_json::from_str::<SmallAsciiString>(alloc, "\"foo\"").ok() // Some("foo")
+    fn deserialize<F: Format>(
+        alloc: Global,
+        from: &mut Deserializer<'de, '_, F>,
+    ) -> Result<Text<B>, F::Error>
+        ensures { IfOk result (λ string. Gives F.gives from.old (text string.text) from.new) }
+    {
+        Text::deserialize_owned(alloc, from)
     }
 }

@@ -7,9 +7,8 @@ use Rattle.std.proofs.Math.Seq.{drop-cons}
 use Rattle.std.proofs.lemmas.Grind.{flat_map-append}
 use Rattle.std.proofs.lemmas.List.{map-append, take_more, take-append-drop}
 use Rattle.std.specs.Io.KnownBytes.{Appends}
-use Rattle.std.specs.declared.alloc.Global.{Global}
 use Rattle.std.specs.declared.option.Option.{Option}
-use Rattle.ascii.specs.declared.ascii_string.AsciiString.{AsciiString}
+use Rattle.ascii.specs.StringState.{StringState}
 use Rattle.ascii.specs.declared.iter.spans.Ending.{Ending}
 use Rattle.ascii.specs.Lines.{Line, line_text}
 use Rattle.ascii_lines.specs.declared.line_writer.LineWriter.{LineWriter}
@@ -100,13 +99,13 @@ reply_bytes-one : (ending : Ending) (body : List ℕ)
     → reply_bytes ending (body ∷ []) ≡ line_text (reply_line ending body)
 reply_bytes-one ending body = append-nil (line_text (reply_line ending body))
 
-module _ (ending : Ending) (items : List (AsciiString Global)) (i : ℕ) (d : AsciiString Global)
+module _ (ending : Ending) (items : List StringState) (i : ℕ) (d : StringState)
     (within : i < length items) where
   -- the texts of one reply more
   texts_more : reply_texts (take (i + 1) items)
       ≡ reply_texts (take i items) ++ (get_or items i d).text ∷ []
   texts_more = ap reply_texts (take_more items i d within)
-      ∙ map-append (λ (reply : AsciiString Global). reply.text) (take i items)
+      ∙ map-append (λ (reply : StringState). reply.text) (take i items)
       (get_or items i d ∷ [])
 
   bytes_more : reply_bytes ending (reply_texts (take (i + 1) items))
@@ -122,7 +121,7 @@ module _ (ending : Ending) (items : List (AsciiString Global)) (i : ℕ) (d : As
       ≡ reply_texts (take i items)
       ++ (get_or items i d).text ∷ reply_texts (drop (suc i) items)
   texts_around = ap reply_texts (sym (take-append-drop i items))
-      ∙ (map-append (λ (reply : AsciiString Global). reply.text) (take i items) (drop i items)
+      ∙ (map-append (λ (reply : StringState). reply.text) (take i items) (drop i items)
       ∙ ap (λ xs. reply_texts (take i items) ++ reply_texts xs) (drop-cons items i d within))
 
   module _ {K Z : Type 0} (taken : K → Option (List ℕ)) (failures : K → ℕ) (a : WriterState)

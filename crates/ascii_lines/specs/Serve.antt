@@ -2,9 +2,8 @@
 use Rattle.std.specs.Prelude.{◌≡◌, ◌⊎◌, ◌<◌, ℕ, List, [], ◌∷◌, ◌++◌, length, map, ⊤, Ok, Err, Some}
 use Rattle.std.specs.Io.KnownBytes.{Appends}
 use Rattle.std.specs.List.{flat_map}
-use Rattle.std.specs.declared.alloc.Global.{Global}
 use Rattle.std.specs.declared.result.Result.{Result}
-use Rattle.ascii.specs.declared.ascii_string.AsciiString.{AsciiString}
+use Rattle.ascii.specs.StringState.{StringState}
 use Rattle.ascii.specs.declared.iter.spans.Ending.{Ending}
 use Rattle.ascii.specs.declared.iter.spans.Ending.TheVariants.{Absent}
 use Rattle.ascii.specs.Lines.{Line, line_text}
@@ -31,7 +30,7 @@ abbrev pub IsReady : {K Z : Type 0} → LineWriter K Z → Type 0
 IsReady writer = writer.stage ≡ Ready
 
 -- the texts of replies
-abbrev pub reply_texts : List (AsciiString Global) → List (List ℕ)
+abbrev pub reply_texts : List StringState → List (List ℕ)
 reply_texts replies = map (λ reply. reply.text) replies
 
 -- the bytes of replies, each with this ending

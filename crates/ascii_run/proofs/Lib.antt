@@ -2,7 +2,6 @@ pub mod BoundedLemmas
 pub mod BufferCopyLemmas
 pub mod EndsOutputLemmas
 pub mod FrontOutputLemmas
-pub mod InlineLemmas
 pub mod JsonTextLemmas
 pub mod LineFeedLemmas
 pub mod ListLemmas

@@ -5,6 +5,7 @@ pub mod Engine
 pub mod Faults
 pub mod FrontOutput
 pub mod Inline
+pub mod Room
 pub mod Modes
 pub mod OutputState
 pub mod Run

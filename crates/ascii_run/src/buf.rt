@@ -1,7 +1,9 @@
-//! The edits of a text, in whichever form it is kept, and the form that keeps short texts inline.
+//! The edits of a text, in whichever form it is kept, and the forms that keep it in the value itself.
 
+mod array;
 mod ascii_buf;
-mod small;
+mod inline;
 
+pub use array::{Array, ArrayAsciiString, Full};
 pub use ascii_buf::AsciiBuf;
-pub use small::SmallAsciiString;
+pub use inline::{Inline, SmallAsciiString};

@@ -32,7 +32,7 @@ pub use ascii::{AsAsciiStrError, AsciiChar, AsciiRange, AsciiStr, AsciiString};
 pub use ascii_devices::{DeviceFault, Input, Output, Sink, Source};
 pub use both_types::{BothRuns, run_both};
 pub use bounded::{BoundedMode, bounded_engine};
-pub use buf::{AsciiBuf, SmallAsciiString};
+pub use buf::{ArrayAsciiString, AsciiBuf, Full, Inline, SmallAsciiString};
 pub use commands::{Cmd, Reply, plain_run, run, runs_agree};
 pub use faults::{BoundedFault, EngineFault};
 pub use modes::Mode;

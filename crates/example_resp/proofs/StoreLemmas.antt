@@ -6,23 +6,22 @@ use Rattle.std.specs.HashMap.{UpdatesBy, get_by_text}
 use Rattle.std.specs.Option.{option_map}
 use Rattle.std.specs.Str.{bytes_eq}
 use Rattle.std.specs.String.{string_bytes, string_eq}
-use Rattle.std.specs.declared.alloc.Global.{Global}
-use Rattle.ascii.specs.declared.ascii_string.AsciiString.{AsciiString}
+use Rattle.ascii.specs.StringState.{StringState}
 use Rattle.example_resp.specs.Store.{Changes, contents_of}
 use Rattle.example_resp.specs.declared.store.Store.{Store}
 
 -- the text of a value, if there is one
-abbrev pub text_in : Option (AsciiString Global) → Option (List ℕ)
-text_in value = option_map (λ (string : AsciiString Global). string.text) value
+abbrev pub text_in : Option StringState → Option (List ℕ)
+text_in value = option_map (λ (string : StringState). string.text) value
 
 -- the text of one of two values
-text_in-cond : (b : Bool) (x y : Option (AsciiString Global))
+text_in-cond : (b : Bool) (x y : Option StringState)
     → text_in (cond b x y) ≡ cond b (text_in x) (text_in y)
 text_in-cond true x y = refl
 text_in-cond false x y = refl
 
 -- a map that is changed at a key of these bytes has changed contents
-pub changes_contents : (old new : Store) (bytes : List ℕ) (value : Option (AsciiString Global))
+pub changes_contents : (old new : Store) (bytes : List ℕ) (value : Option StringState)
     → UpdatesBy string_eq (λ k. bytes_eq bytes (string_bytes k)) old.entries new.entries value
     → Changes (contents_of old) bytes (text_in value) (contents_of new)
 changes_contents old new bytes value updates = λ other.
@@ -30,13 +29,13 @@ changes_contents old new bytes value updates = λ other.
     ∙ text_in-cond (bytes_eq bytes other) value (get_by_text old.entries other)
 
 -- a value was found at a key of these bytes if the contents have one
-pub found_in_contents : (store : Store) (bytes : List ℕ) (value : Option (AsciiString Global))
+pub found_in_contents : (store : Store) (bytes : List ℕ) (value : Option StringState)
     (found : Bool) → value ≡ get_by_text store.entries bytes → found ≡ is_some value
     → IsTrue found ↔ IsSome (contents_of store bytes)
 found_in_contents store bytes value found is says =
     rw (← is, says) (some_text value)
   where
-    some_text : (value : Option (AsciiString Global))
+    some_text : (value : Option StringState)
         → IsTrue (is_some value) ↔ IsSome (text_in value)
     some_text (Some string) = (λ _. search rules, λ _. refl)
     some_text None = (λ some. absurd (cc), λ some. absurd (cc))

@@ -1,8 +1,7 @@
 -- The state of a session, and what it answers to a request that it has read whole.
 use Rattle.std.specs.Prelude.{◌≡◌, ℕ, List, [], ◌∷◌, MatchResult, None}
-use Rattle.std.specs.declared.alloc.Global.{Global}
 use Rattle.std.specs.declared.result.Result.{Result}
-use Rattle.ascii.specs.declared.ascii_string.AsciiString.{AsciiString}
+use Rattle.ascii.specs.StringState.{StringState}
 use Rattle.ascii_lines.specs.Serve.{reply_texts}
 use Rattle.ascii_lines.specs.declared.serving.Next.{Next}
 use Rattle.ascii_lines.specs.declared.serving.Next.TheVariants as next
@@ -36,7 +35,7 @@ state_of session = record {
 }
 
 -- an answer of these replies that asks for `next` and leaves `session`
-abbrev pub answer_of : List (AsciiString Global) → Next → Session → Answer
+abbrev pub answer_of : List StringState → Next → Session → Answer
 answer_of replies next session =
     record { replies = reply_texts replies; next = next; state = state_of session }
 

@@ -12,3 +12,4 @@ pub mod prefixes;
 pub mod remainders;
 pub mod spans;
 pub mod strings;
+pub mod texts;

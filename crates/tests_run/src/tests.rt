@@ -12,6 +12,7 @@ mod each_call_fails;
 mod edit_lists;
 mod edit_table;
 mod engine;
+mod hashes;
 mod known_runs;
 mod long_inputs;
 mod many_lines;
@@ -21,6 +22,7 @@ mod output_buffer;
 mod pseudo_random;
 mod scripted_devices;
 mod small_string;
+mod strings_in_the_value;
 
 ghost use Rattle.std.specs.Prelude.{◌≡◌, IsTrue};
 ghost use Rattle.std.specs.Str.{IsAscii};

@@ -9,8 +9,8 @@ ghost use Rattle.ascii.specs.StringState.{EditsInPlace, GrowsTo, StringState, Re
 ghost use Rattle.ascii.specs.StringState.{insert_text};
 ghost use Rattle.ascii.specs.View.{text_of};
 
-use ascii::{AsciiChar, AsciiStr, AsciiString};
-use std::alloc::{AllocError, Allocator};
+use ascii::{AsciiChar, AsciiStr, Buffer, Text};
+use std::alloc::AllocError;
 
 /// A string type whose text can be edited.
 pub trait AsciiBuf {
@@ -167,12 +167,14 @@ pub trait AsciiBuf {
     ghost holds_sure: { (buf : Self) → sure ≤ (state buf).capacity };
 }
 
-impl<A: Allocator> AsciiBuf for AsciiString<A> {
+impl<B: Buffer<Refusal = AllocError>> AsciiBuf for Text<B> {
     ghost use Rattle.std.proofs.Common.{rules};
+    ghost use Rattle.std.proofs.Math.Nat.{le-max_left};
+    ghost use Rattle.ascii_run.specs.Room.{with_room};
 
-    ghost state = { λ string. string };
+    ghost state = { with_room B.sure };
 
-    ghost sure = { 0 };
+    ghost sure = { B.sure };
 
     #[inline]
     fn as_ascii_str(&self) -> AsciiStr<'_> {
@@ -180,62 +182,84 @@ impl<A: Allocator> AsciiBuf for AsciiString<A> {
     }
 
     fn reserve(&mut self, additional: usize) -> Result<(), AllocError> {
+        tell_sure(self);
         self.reserve(additional)
     }
 
     fn shrink_to_fit(&mut self) -> Result<(), AllocError> {
-        self.shrink_to_fit()
+        let done = self.shrink_to_fit();
+        tell_sure(self);
+        done
     }
 
     #[inline]
     fn push(&mut self, ch: AsciiChar) -> Result<(), AllocError> {
+        tell_sure(self);
         self.push(ch)
     }
 
     #[inline]
     fn push_str(&mut self, view: AsciiStr<'_>) -> Result<(), AllocError> {
+        tell_sure(self);
         self.push_str(view)
     }
 
     fn insert(&mut self, idx: usize, ch: AsciiChar) -> Result<(), AllocError> {
+        tell_sure(self);
         self.insert(idx, ch)
     }
 
     fn insert_str(&mut self, idx: usize, view: AsciiStr<'_>) -> Result<(), AllocError> {
+        tell_sure(self);
         self.insert_str(idx, view)
     }
 
     fn remove(&mut self, idx: usize) -> AsciiChar {
+        tell_sure(self);
         self.remove(idx)
     }
 
     #[inline]
     fn pop(&mut self) -> Option<AsciiChar> {
+        tell_sure(self);
         self.pop()
     }
 
     #[inline]
     fn truncate(&mut self, n: usize) {
+        tell_sure(self);
         self.truncate(n);
     }
 
     #[inline]
     fn clear(&mut self) {
+        tell_sure(self);
         self.clear();
     }
 
     #[inline]
     fn set(&mut self, i: usize, ch: AsciiChar) {
+        tell_sure(self);
         self.set(i, ch);
     }
 
     fn make_ascii_uppercase(&mut self) {
+        tell_sure(self);
         self.make_ascii_uppercase();
     }
 
     fn make_ascii_lowercase(&mut self) {
+        tell_sure(self);
         self.make_ascii_lowercase();
     }
 
-    ghost holds_sure = { Prim.search rules };
+    ghost holds_sure = { λ buf. le-max_left B.sure buf.capacity };
+}
+
+/// Tells the prover that the capacity is at least the sure length.
+#[inline(always)]
+fn tell_sure<B: Buffer>(text: &Text<B>)
+    ensures { B.sure ≤ text.now.capacity }
+{
+    let _sure = text.capacity();
 }

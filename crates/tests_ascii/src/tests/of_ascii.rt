@@ -9,8 +9,8 @@ use ascii::iter::{
 use ascii::json::{JsonError, char_from_json, char_to_json, str_from_json, string_from_json};
 use ascii::numbers::{Number, NumberError};
 use ascii::{
-    AsAsciiStrError, AsciiChar, AsciiRange, AsciiStr, AsciiString, CowAsciiStr, bytes, string,
-    text, vec,
+    AsAsciiStrError, AsciiChar, AsciiRange, AsciiStr, AsciiString, Buffer, CloneBuffer,
+    CowAsciiStr, bytes, string, text, vec,
 };
 use serde_json::Value;
 use std::alloc::Global;
@@ -241,22 +241,186 @@ fn as_ascii_str_of_ascii_str_mut(rt: HostRuntime) {
     assert_debug!(rt; bytes::as_mut_ascii_str_unchecked(&mut source).as_ascii_str().len(), "3");
 }
 
-// AsciiString::new
+// Text::new
 #[test]
-fn new_of_ascii_string(rt: HostRuntime) {
+fn new_of_text(rt: HostRuntime) {
     let alloc = rt.alloc();
     assert_debug!(rt; AsciiString::new(alloc).len(), "0");
 }
 
-// AsciiString::with_capacity
+// Text::with_capacity
 #[test]
-fn with_capacity_of_ascii_string(rt: HostRuntime) {
+fn with_capacity_of_text(rt: HostRuntime) {
     let alloc = rt.alloc();
     assert_debug!(
         rt;
         AsciiString::with_capacity(alloc, 10).expect(&rt, "refused").capacity() >= 10,
         "true"
     );
+}
+
+// Text::from_ascii_str
+#[test]
+fn from_ascii_str_of_text(rt: HostRuntime) {
+    let alloc = rt.alloc();
+    assert_debug!(
+        rt;
+        AsciiString::from_ascii_str(alloc, view("foo")).expect(&rt, "refused"),
+        "\"foo\""
+    );
+}
+
+// Text::as_ascii_str
+#[test]
+fn as_ascii_str_of_text(rt: HostRuntime) {
+    assert_debug!(rt; owned(&rt, "foo").as_ascii_str(), "\"foo\"");
+}
+
+// Text::capacity
+#[test]
+fn capacity_of_text(rt: HostRuntime) {
+    let alloc = rt.alloc();
+    assert_debug!(rt; AsciiString::new(alloc).capacity(), "0");
+}
+
+// Text::is_inline
+#[test]
+fn is_inline_of_text(rt: HostRuntime) {
+    let alloc = rt.alloc();
+    assert_debug!(rt; AsciiString::new(alloc).is_inline(), "true");
+}
+
+// Text::reserve
+#[test]
+fn reserve_of_text(rt: HostRuntime) {
+    let mut text = owned(&rt, "foo");
+    assert_debug!(rt; text.reserve(10), "Ok(())");
+    assert_debug!(rt; text.capacity() >= 13, "true");
+}
+
+// Text::reserve_exact
+#[test]
+fn reserve_exact_of_text(rt: HostRuntime) {
+    let mut text = owned(&rt, "foo");
+    assert_debug!(rt; text.reserve_exact(10), "Ok(())");
+    assert_debug!(rt; text.capacity() >= 13, "true");
+}
+
+// Text::shrink_to_fit
+#[test]
+fn shrink_to_fit_of_text(rt: HostRuntime) {
+    let alloc = rt.alloc();
+    let mut text = AsciiString::with_capacity(alloc, 10).expect(&rt, "refused");
+    assert_debug!(rt; text.shrink_to_fit(), "Ok(())");
+    assert_debug!(rt; text.capacity(), "0");
+}
+
+// Text::push
+#[test]
+fn push_of_text(rt: HostRuntime) {
+    let mut text = owned(&rt, "fo");
+    assert_debug!(rt; text.push(AsciiChar::o), "Ok(())");
+    assert_debug!(rt; text, "\"foo\"");
+}
+
+// Text::push_str
+#[test]
+fn push_str_of_text(rt: HostRuntime) {
+    let mut text = owned(&rt, "foo");
+    assert_debug!(rt; text.push_str(view("bar")), "Ok(())");
+    assert_debug!(rt; text, "\"foobar\"");
+}
+
+// Text::push_decimal
+#[test]
+fn push_decimal_of_text(rt: HostRuntime) {
+    let mut text = owned(&rt, "n = ");
+    assert_debug!(rt; text.push_decimal(42u64), "Ok(())");
+    assert_debug!(rt; text, "\"n = 42\"");
+}
+
+// Text::insert
+#[test]
+fn insert_of_text(rt: HostRuntime) {
+    let mut text = owned(&rt, "fo");
+    assert_debug!(rt; text.insert(0, AsciiChar::z), "Ok(())");
+    assert_debug!(rt; text, "\"zfo\"");
+}
+
+// Text::insert_str
+#[test]
+fn insert_str_of_text(rt: HostRuntime) {
+    let mut text = owned(&rt, "fo");
+    assert_debug!(rt; text.insert_str(1, view("lo")), "Ok(())");
+    assert_debug!(rt; text, "\"floo\"");
+}
+
+// Text::remove
+#[test]
+fn remove_of_text(rt: HostRuntime) {
+    let mut text = owned(&rt, "foo");
+    assert_debug!(rt; text.remove(0), "'f'");
+    assert_debug!(rt; text, "\"oo\"");
+}
+
+// Text::pop
+#[test]
+fn pop_of_text(rt: HostRuntime) {
+    let mut text = owned(&rt, "fo");
+    assert_debug!(rt; text.pop(), "Some('o')");
+    assert_debug!(rt; text, "\"f\"");
+}
+
+// Text::truncate
+#[test]
+fn truncate_of_text(rt: HostRuntime) {
+    let mut text = owned(&rt, "foo");
+    text.truncate(2);
+    assert_debug!(rt; text, "\"fo\"");
+}
+
+// Text::clear
+#[test]
+fn clear_of_text(rt: HostRuntime) {
+    let mut text = owned(&rt, "foo");
+    text.clear();
+    assert_debug!(rt; text, "\"\"");
+}
+
+// Text::set
+#[test]
+fn set_of_text(rt: HostRuntime) {
+    let mut text = owned(&rt, "foo");
+    text.set(0, AsciiChar::z);
+    assert_debug!(rt; text, "\"zoo\"");
+}
+
+// Text::make_ascii_uppercase
+#[test]
+fn make_ascii_uppercase_of_text(rt: HostRuntime) {
+    let mut text = owned(&rt, "foo");
+    text.make_ascii_uppercase();
+    assert_debug!(rt; text, "\"FOO\"");
+}
+
+// Text::make_ascii_lowercase
+#[test]
+fn make_ascii_lowercase_of_text(rt: HostRuntime) {
+    let mut text = owned(&rt, "FOO");
+    text.make_ascii_lowercase();
+    assert_debug!(rt; text, "\"foo\"");
+}
+
+// Text::len
+#[test]
+fn len_of_text(rt: HostRuntime) {
+    assert_debug!(rt; owned(&rt, "foo").len(), "3");
+}
+
+// Text::is_empty
+#[test]
+fn is_empty_of_text(rt: HostRuntime) {
+    assert_debug!(rt; owned(&rt, "foo").is_empty(), "false");
 }
 
 // AsciiString::from_ascii_unchecked
@@ -270,203 +434,57 @@ fn from_ascii_unchecked_of_ascii_string(rt: HostRuntime) {
     );
 }
 
-// AsciiString::as_ascii_str
+// Text::split_off
 #[test]
-fn as_ascii_str_of_ascii_string(rt: HostRuntime) {
-    assert_debug!(rt; owned(&rt, "foo").as_ascii_str(), "\"foo\"");
-}
-
-// AsciiString::capacity
-#[test]
-fn capacity_of_ascii_string(rt: HostRuntime) {
-    let alloc = rt.alloc();
-    assert_debug!(rt; AsciiString::new(alloc).capacity(), "0");
-}
-
-// AsciiString::reserve
-#[test]
-fn reserve_of_ascii_string(rt: HostRuntime) {
-    let mut text = owned(&rt, "foo");
-    assert_debug!(rt; text.reserve(10), "Ok(())");
-    assert_debug!(rt; text.capacity() >= 13, "true");
-}
-
-// AsciiString::reserve_exact
-#[test]
-fn reserve_exact_of_ascii_string(rt: HostRuntime) {
-    let mut text = owned(&rt, "foo");
-    assert_debug!(rt; text.reserve_exact(10), "Ok(())");
-    assert_debug!(rt; text.capacity() >= 13, "true");
-}
-
-// AsciiString::shrink_to_fit
-#[test]
-fn shrink_to_fit_of_ascii_string(rt: HostRuntime) {
-    let alloc = rt.alloc();
-    let mut text = AsciiString::with_capacity(alloc, 10).expect(&rt, "refused");
-    assert_debug!(rt; text.shrink_to_fit(), "Ok(())");
-    assert_debug!(rt; text.capacity(), "0");
-}
-
-// AsciiString::push
-#[test]
-fn push_of_ascii_string(rt: HostRuntime) {
-    let mut text = owned(&rt, "fo");
-    assert_debug!(rt; text.push(AsciiChar::o), "Ok(())");
-    assert_debug!(rt; text, "\"foo\"");
-}
-
-// AsciiString::push_str
-#[test]
-fn push_str_of_ascii_string(rt: HostRuntime) {
-    let mut text = owned(&rt, "foo");
-    assert_debug!(rt; text.push_str(view("bar")), "Ok(())");
-    assert_debug!(rt; text, "\"foobar\"");
-}
-
-// AsciiString::push_decimal
-#[test]
-fn push_decimal_of_ascii_string(rt: HostRuntime) {
-    let mut text = owned(&rt, "n = ");
-    assert_debug!(rt; text.push_decimal(42u64), "Ok(())");
-    assert_debug!(rt; text, "\"n = 42\"");
-}
-
-// AsciiString::insert
-#[test]
-fn insert_of_ascii_string(rt: HostRuntime) {
-    let mut text = owned(&rt, "fo");
-    assert_debug!(rt; text.insert(0, AsciiChar::z), "Ok(())");
-    assert_debug!(rt; text, "\"zfo\"");
-}
-
-// AsciiString::insert_str
-#[test]
-fn insert_str_of_ascii_string(rt: HostRuntime) {
-    let mut text = owned(&rt, "fo");
-    assert_debug!(rt; text.insert_str(1, view("lo")), "Ok(())");
-    assert_debug!(rt; text, "\"floo\"");
-}
-
-// AsciiString::remove
-#[test]
-fn remove_of_ascii_string(rt: HostRuntime) {
-    let mut text = owned(&rt, "foo");
-    assert_debug!(rt; text.remove(0), "'f'");
-    assert_debug!(rt; text, "\"oo\"");
-}
-
-// AsciiString::pop
-#[test]
-fn pop_of_ascii_string(rt: HostRuntime) {
-    let mut text = owned(&rt, "fo");
-    assert_debug!(rt; text.pop(), "Some('o')");
-    assert_debug!(rt; text, "\"f\"");
-}
-
-// AsciiString::truncate
-#[test]
-fn truncate_of_ascii_string(rt: HostRuntime) {
-    let mut text = owned(&rt, "foo");
-    text.truncate(2);
-    assert_debug!(rt; text, "\"fo\"");
-}
-
-// AsciiString::split_off
-#[test]
-fn split_off_of_ascii_string(rt: HostRuntime) {
+fn split_off_of_text(rt: HostRuntime) {
     let mut text = owned(&rt, "foobar");
     assert_debug!(rt; text.split_off(3), "Ok(\"bar\")");
     assert_debug!(rt; text, "\"foo\"");
 }
 
-// AsciiString::clear
+// Clone for Text::clone
 #[test]
-fn clear_of_ascii_string(rt: HostRuntime) {
-    let mut text = owned(&rt, "foo");
-    text.clear();
-    assert_debug!(rt; text, "\"\"");
-}
-
-// AsciiString::set
-#[test]
-fn set_of_ascii_string(rt: HostRuntime) {
-    let mut text = owned(&rt, "foo");
-    text.set(0, AsciiChar::z);
-    assert_debug!(rt; text, "\"zoo\"");
-}
-
-// AsciiString::make_ascii_uppercase
-#[test]
-fn make_ascii_uppercase_of_ascii_string(rt: HostRuntime) {
-    let mut text = owned(&rt, "foo");
-    text.make_ascii_uppercase();
-    assert_debug!(rt; text, "\"FOO\"");
-}
-
-// AsciiString::make_ascii_lowercase
-#[test]
-fn make_ascii_lowercase_of_ascii_string(rt: HostRuntime) {
-    let mut text = owned(&rt, "FOO");
-    text.make_ascii_lowercase();
-    assert_debug!(rt; text, "\"foo\"");
-}
-
-// AsciiString::len
-#[test]
-fn len_of_ascii_string(rt: HostRuntime) {
-    assert_debug!(rt; owned(&rt, "foo").len(), "3");
-}
-
-// AsciiString::is_empty
-#[test]
-fn is_empty_of_ascii_string(rt: HostRuntime) {
-    assert_debug!(rt; owned(&rt, "foo").is_empty(), "false");
-}
-
-// Clone for AsciiString::clone
-#[test]
-fn clone_of_ascii_string(rt: HostRuntime) {
+fn clone_of_text(rt: HostRuntime) {
     assert_debug!(rt; owned(&rt, "foo").clone().expect(&rt, "refused"), "\"foo\"");
 }
 
-// PartialEq for AsciiString::eq
+// PartialEq for Text::eq
 #[test]
-fn eq_of_ascii_string(rt: HostRuntime) {
+fn eq_of_text(rt: HostRuntime) {
     assert_debug!(rt; owned(&rt, "foo") == owned(&rt, "foo"), "true");
 }
 
-// PartialOrd for AsciiString::partial_cmp
+// PartialOrd for Text::partial_cmp
 #[test]
-fn partial_cmp_of_ascii_string(rt: HostRuntime) {
+fn partial_cmp_of_text(rt: HostRuntime) {
     assert_debug!(rt; owned(&rt, "foo") < owned(&rt, "fop"), "true");
 }
 
-// Ord for AsciiString::cmp
+// Ord for Text::cmp
 #[test]
-fn cmp_of_ascii_string(rt: HostRuntime) {
+fn cmp_of_text(rt: HostRuntime) {
     assert_debug!(rt; owned(&rt, "foo").cmp(&owned(&rt, "fo")), "Greater");
 }
 
-// Hash for AsciiString::hash
+// Hash for Text::hash
 #[test]
-fn hash_of_ascii_string(rt: HostRuntime) {
+fn hash_of_text(rt: HostRuntime) {
     let alloc = rt.alloc();
     let mut seen = HashSet::new(alloc);
     seen.insert(owned(&rt, "foo")).expect(&rt, "refused");
     assert_debug!(rt; seen.contains(&owned(&rt, "foo")), "true");
 }
 
-// Display for AsciiString::fmt
+// Display for Text::fmt
 #[test]
-fn display_of_ascii_string(rt: HostRuntime) {
+fn display_of_text(rt: HostRuntime) {
     let alloc = rt.alloc();
     assert_debug!(rt; format!(in alloc; "{}", owned(&rt, "foo")).expect(&rt, "refused"), "\"foo\"");
 }
 
-// Debug for AsciiString::fmt
+// Debug for Text::fmt
 #[test]
-fn debug_of_ascii_string(rt: HostRuntime) {
+fn debug_of_text(rt: HostRuntime) {
     let alloc = rt.alloc();
     assert_debug!(
         rt;
@@ -475,18 +493,18 @@ fn debug_of_ascii_string(rt: HostRuntime) {
     );
 }
 
-// AsciiString::write_char
+// Text::write_char
 #[test]
-fn write_char_of_ascii_string(rt: HostRuntime) {
+fn write_char_of_text(rt: HostRuntime) {
     let mut text = owned(&rt, "foo");
     assert_debug!(rt; text.write_char('d'), "Ok(())");
     assert_debug!(rt; text.write_char('č'), "Err(Error)");
     assert_debug!(rt; text, "\"food\"");
 }
 
-// Write for AsciiString::write_str
+// Write for Text::write_str
 #[test]
-fn write_str_of_ascii_string(rt: HostRuntime) {
+fn write_str_of_text(rt: HostRuntime) {
     let mut text = owned(&rt, "foo");
     assert_debug!(rt; write!(text, "{}", 7), "Ok(())");
     assert_debug!(rt; text, "\"foo7\"");
@@ -504,16 +522,16 @@ fn from_of_string(rt: HostRuntime) {
     assert_debug!(rt; String::from(owned(&rt, "foo")), "\"foo\"");
 }
 
+// Kept::as_ascii_str
+#[test]
+fn as_ascii_str_of_kept(rt: HostRuntime) {
+    assert_debug!(rt; boxed(&rt, "foo").as_ascii_str().len(), "3");
+}
+
 // BoxedAsciiStr::from_ascii_str
 #[test]
 fn from_ascii_str_of_boxed_ascii_str(rt: HostRuntime) {
     assert_debug!(rt; boxed(&rt, "foo").as_ascii_str(), "\"foo\"");
-}
-
-// BoxedAsciiStr::as_ascii_str
-#[test]
-fn as_ascii_str_of_boxed_ascii_str(rt: HostRuntime) {
-    assert_debug!(rt; boxed(&rt, "foo").as_ascii_str().len(), "3");
 }
 
 // BoxedAsciiStr::into_ascii_string
@@ -532,12 +550,6 @@ fn into_boxed_str_of_boxed_ascii_str(rt: HostRuntime) {
 #[test]
 fn from_ascii_str_of_rc_ascii_str(rt: HostRuntime) {
     assert_debug!(rt; shared(&rt, "foo").as_ascii_str(), "\"foo\"");
-}
-
-// RcAsciiStr::as_ascii_str
-#[test]
-fn as_ascii_str_of_rc_ascii_str(rt: HostRuntime) {
-    assert_debug!(rt; shared(&rt, "foo").as_ascii_str().len(), "3");
 }
 
 // Clone for RcAsciiStr::clone
@@ -588,58 +600,31 @@ fn from_ascii_string_of_cow_ascii_str(rt: HostRuntime) {
     assert_debug!(rt; cow.as_ascii_str(), "\"foo\"");
 }
 
-// PartialEq for BoxedAsciiStr::eq
+// PartialEq for Kept::eq
 #[test]
-fn eq_of_boxed_ascii_str(rt: HostRuntime) {
+fn eq_of_kept(rt: HostRuntime) {
     assert_debug!(rt; boxed(&rt, "foo") == boxed(&rt, "foo"), "true");
 }
 
-// PartialOrd for BoxedAsciiStr::partial_cmp
+// PartialOrd for Kept::partial_cmp
 #[test]
-fn partial_cmp_of_boxed_ascii_str(rt: HostRuntime) {
+fn partial_cmp_of_kept(rt: HostRuntime) {
     assert_debug!(rt; boxed(&rt, "foo") < boxed(&rt, "fop"), "true");
 }
 
-// Ord for BoxedAsciiStr::cmp
+// Ord for Kept::cmp
 #[test]
-fn cmp_of_boxed_ascii_str(rt: HostRuntime) {
+fn cmp_of_kept(rt: HostRuntime) {
     assert_debug!(rt; boxed(&rt, "foo").cmp(&boxed(&rt, "fo")), "Greater");
 }
 
-// Hash for BoxedAsciiStr::hash
+// Hash for Kept::hash
 #[test]
-fn hash_of_boxed_ascii_str(rt: HostRuntime) {
+fn hash_of_kept(rt: HostRuntime) {
     let alloc = rt.alloc();
     let mut seen = HashSet::new(alloc);
     seen.insert(boxed(&rt, "foo")).expect(&rt, "refused");
     assert_debug!(rt; seen.contains(&boxed(&rt, "foo")), "true");
-}
-
-// PartialEq for RcAsciiStr::eq
-#[test]
-fn eq_of_rc_ascii_str(rt: HostRuntime) {
-    assert_debug!(rt; shared(&rt, "foo") == shared(&rt, "foo"), "true");
-}
-
-// PartialOrd for RcAsciiStr::partial_cmp
-#[test]
-fn partial_cmp_of_rc_ascii_str(rt: HostRuntime) {
-    assert_debug!(rt; shared(&rt, "foo") < shared(&rt, "fop"), "true");
-}
-
-// Ord for RcAsciiStr::cmp
-#[test]
-fn cmp_of_rc_ascii_str(rt: HostRuntime) {
-    assert_debug!(rt; shared(&rt, "foo").cmp(&shared(&rt, "fo")), "Greater");
-}
-
-// Hash for RcAsciiStr::hash
-#[test]
-fn hash_of_rc_ascii_str(rt: HostRuntime) {
-    let alloc = rt.alloc();
-    let mut seen = HashSet::new(alloc);
-    seen.insert(shared(&rt, "foo")).expect(&rt, "refused");
-    assert_debug!(rt; seen.contains(&shared(&rt, "foo")), "true");
 }
 
 // PartialEq for CowAsciiStr::eq
@@ -682,9 +667,9 @@ fn hash_of_cow_ascii_str(rt: HostRuntime) {
     assert_debug!(rt; seen.contains(&CowAsciiStr::<Global>::from(view("foo"))), "true");
 }
 
-// Display for BoxedAsciiStr::fmt
+// Display for Kept::fmt
 #[test]
-fn display_of_boxed_ascii_str(rt: HostRuntime) {
+fn display_of_kept(rt: HostRuntime) {
     let alloc = rt.alloc();
     assert_debug!(
         rt;
@@ -693,35 +678,13 @@ fn display_of_boxed_ascii_str(rt: HostRuntime) {
     );
 }
 
-// Debug for BoxedAsciiStr::fmt
+// Debug for Kept::fmt
 #[test]
-fn debug_of_boxed_ascii_str(rt: HostRuntime) {
+fn debug_of_kept(rt: HostRuntime) {
     let alloc = rt.alloc();
     assert_debug!(
         rt;
         format!(in alloc; "{:?}", boxed(&rt, "foo")).expect(&rt, "refused"),
-        "\"\\\"foo\\\"\""
-    );
-}
-
-// Display for RcAsciiStr::fmt
-#[test]
-fn display_of_rc_ascii_str(rt: HostRuntime) {
-    let alloc = rt.alloc();
-    assert_debug!(
-        rt;
-        format!(in alloc; "{}", shared(&rt, "a\"b")).expect(&rt, "refused"),
-        "\"a\\\"b\""
-    );
-}
-
-// Debug for RcAsciiStr::fmt
-#[test]
-fn debug_of_rc_ascii_str(rt: HostRuntime) {
-    let alloc = rt.alloc();
-    assert_debug!(
-        rt;
-        format!(in alloc; "{:?}", shared(&rt, "foo")).expect(&rt, "refused"),
         "\"\\\"foo\\\"\""
     );
 }
@@ -746,6 +709,40 @@ fn debug_of_cow_ascii_str(rt: HostRuntime) {
         format!(in alloc; "{:?}", CowAsciiStr::<Global>::from(view("foo"))).expect(&rt, "refused"),
         "\"\\\"foo\\\"\""
     );
+}
+
+// Buffer
+#[test]
+fn buffer_of_ascii(rt: HostRuntime) {
+    let alloc = rt.alloc();
+    let mut bytes: Vec<u8> = Buffer::with_copy(alloc, b"oo").expect(&rt, "refused");
+    assert_debug!(rt; bytes.insert_byte(0, 102), "Ok(())");
+    assert_debug!(rt; bytes.append_byte(33), "Ok(())");
+    assert_debug!(rt; bytes.pop_byte(), "Some(33)");
+    assert_debug!(rt; Buffer::append(&mut bytes, b"bar"), "Ok(())");
+    bytes.bytes_mut()[0] = 122;
+    assert_debug!(rt; bytes.bytes(), "[122, 111, 111, 98, 97, 114]");
+    assert_debug!(rt; bytes.remove_byte(0), "122");
+    bytes.keep_front(2);
+    assert_debug!(rt; bytes, "[111, 111]");
+    let mut bytes: Vec<u8> = Buffer::with_room(alloc, 3).expect(&rt, "refused");
+    assert_debug!(rt; bytes.room() >= 3, "true");
+    assert_debug!(rt; Buffer::reserve(&mut bytes, 10), "Ok(())");
+    assert_debug!(rt; Buffer::reserve_exact(&mut bytes, 20), "Ok(())");
+    assert_debug!(rt; bytes.room() >= 20, "true");
+    assert_debug!(rt; bytes.shrink(), "Ok(())");
+    assert_debug!(rt; bytes.is_inline(), "true");
+    let bytes: Vec<u8> = Buffer::empty(alloc);
+    assert_debug!(rt; bytes, "[]");
+}
+
+// CloneBuffer
+#[test]
+fn clone_buffer_of_ascii(rt: HostRuntime) {
+    let alloc = rt.alloc();
+    let mut bytes: Vec<u8> = Buffer::with_copy(alloc, b"foobar").expect(&rt, "refused");
+    assert_debug!(rt; CloneBuffer::split_off(&mut bytes, 3), "Ok([98, 97, 114])");
+    assert_debug!(rt; bytes.copy(), "Ok([102, 111, 111])");
 }
 
 // bytes::as_ascii_str
@@ -897,25 +894,25 @@ fn ascii_chunks_of_bytes(rt: HostRuntime) {
     assert_debug!(rt; chunks.next(), "None");
 }
 
-// AsciiString::extend_chars
+// Text::extend_chars
 #[test]
-fn extend_chars_of_ascii_string(rt: HostRuntime) {
+fn extend_chars_of_text(rt: HostRuntime) {
     let mut text = owned(&rt, "foo");
     assert_debug!(rt; text.extend_chars(view("bar").chars()), "Ok(())");
     assert_debug!(rt; text, "\"foobar\"");
 }
 
-// AsciiString::extend_strs
+// Text::extend_strs
 #[test]
-fn extend_strs_of_ascii_string(rt: HostRuntime) {
+fn extend_strs_of_text(rt: HostRuntime) {
     let mut text = owned(&rt, "a");
     assert_debug!(rt; text.extend_strs(view("b,c").split(AsciiChar::Comma)), "Ok(())");
     assert_debug!(rt; text, "\"abc\"");
 }
 
-// AsciiString::collect_chars
+// Text::collect_chars
 #[test]
-fn collect_chars_of_ascii_string(rt: HostRuntime) {
+fn collect_chars_of_text(rt: HostRuntime) {
     let alloc = rt.alloc();
     assert_debug!(
         rt;
@@ -924,9 +921,9 @@ fn collect_chars_of_ascii_string(rt: HostRuntime) {
     );
 }
 
-// AsciiString::collect_strs
+// Text::collect_strs
 #[test]
-fn collect_strs_of_ascii_string(rt: HostRuntime) {
+fn collect_strs_of_text(rt: HostRuntime) {
     let alloc = rt.alloc();
     assert_debug!(
         rt;
@@ -959,21 +956,21 @@ fn path_text_of_ascii_str(rt: HostRuntime) {
     assert_debug!(rt; view("a/b").path_text(), "\"a/b\"");
 }
 
-// AsStr for AsciiString::as_str
+// AsStr for Text::as_str
 #[test]
-fn as_str_of_ascii_string(rt: HostRuntime) {
+fn as_str_of_text(rt: HostRuntime) {
     assert_debug!(rt; AsStr::as_str(&owned(&rt, "foo")), "\"foo\"");
 }
 
-// AsSlice<u8> for AsciiString::as_slice
+// AsSlice<u8> for Text::as_slice
 #[test]
-fn as_slice_of_ascii_string(rt: HostRuntime) {
+fn as_slice_of_text(rt: HostRuntime) {
     assert_debug!(rt; owned(&rt, "foo").as_slice(), "[102, 111, 111]");
 }
 
-// AsBytes for AsciiString::as_byte_slice
+// AsBytes for Text::as_byte_slice
 #[test]
-fn as_byte_slice_of_ascii_string(rt: HostRuntime) {
+fn as_byte_slice_of_text(rt: HostRuntime) {
     assert_debug!(rt; owned(&rt, "foo").as_byte_slice(), "[102, 111, 111]");
 }
 
@@ -1052,16 +1049,16 @@ fn to_chars_of_ascii_str(rt: HostRuntime) {
     assert_debug!(rt; view("ab").to_chars(alloc).expect(&rt, "refused"), "['a', 'b']");
 }
 
-// AsciiString::from_char
+// Text::from_char
 #[test]
-fn from_char_of_ascii_string(rt: HostRuntime) {
+fn from_char_of_text(rt: HostRuntime) {
     let alloc = rt.alloc();
     assert_debug!(rt; AsciiString::from_char(alloc, AsciiChar::a).expect(&rt, "refused"), "\"a\"");
 }
 
-// AsciiString::from_chars
+// Text::from_chars
 #[test]
-fn from_chars_of_ascii_string(rt: HostRuntime) {
+fn from_chars_of_text(rt: HostRuntime) {
     let alloc = rt.alloc();
     assert_debug!(
         rt;
@@ -1070,9 +1067,9 @@ fn from_chars_of_ascii_string(rt: HostRuntime) {
     );
 }
 
-// AsciiString::into_chars
+// Text::into_chars
 #[test]
-fn into_chars_of_ascii_string(rt: HostRuntime) {
+fn into_chars_of_text(rt: HostRuntime) {
     let alloc = rt.alloc();
     assert_debug!(rt; owned(&rt, "ab").into_chars(alloc), "Ok(['a', 'b'])");
 }
@@ -1882,14 +1879,25 @@ fn to_json_of_ascii_str(rt: HostRuntime) {
     );
 }
 
-// AsciiString::to_json
+// Text::to_json
 #[test]
-fn to_json_of_ascii_string(rt: HostRuntime) {
+fn to_json_of_text(rt: HostRuntime) {
     let alloc = rt.alloc();
     assert_debug!(
         rt;
         owned(&rt, "foo").to_json(alloc).expect(&rt, "refused").to_string(alloc).expect(&rt, "refused"),
         "\"\\\"foo\\\"\""
+    );
+}
+
+// Text::from_json
+#[test]
+fn from_json_of_text(rt: HostRuntime) {
+    let alloc = rt.alloc();
+    assert_debug!(
+        rt;
+        AsciiString::from_json(alloc, &Value::from_str(alloc, "\"foo\"").expect(&rt, "refused")),
+        "Ok(\"foo\")"
     );
 }
 
@@ -2000,9 +2008,9 @@ fn replace_of_ascii_str(rt: HostRuntime) {
     );
 }
 
-// AsciiString::retain
+// Text::retain
 #[test]
-fn retain_of_ascii_string(rt: HostRuntime) {
+fn retain_of_text(rt: HostRuntime) {
     let mut text = owned(&rt, "a-b-c");
     text.retain(|ch| ch != AsciiChar::Minus);
     assert_debug!(rt; text, "\"abc\"");
@@ -2149,9 +2157,9 @@ fn serialize_of_ascii_str(rt: HostRuntime) {
     );
 }
 
-// Serialize for AsciiString::serialize
+// Serialize for Text::serialize
 #[test]
-fn serialize_of_ascii_string(rt: HostRuntime) {
+fn serialize_of_text(rt: HostRuntime) {
     let alloc = rt.alloc();
     assert_debug!(
         rt;
@@ -2258,7 +2266,7 @@ fn from_ascii_of_string(rt: HostRuntime) {
 
 // text::as_ascii_str
 #[test]
-fn as_ascii_str_of_text(rt: HostRuntime) {
+fn as_ascii_str_of_the_type_text(rt: HostRuntime) {
     assert_debug!(
         rt;
         (

@@ -1,16 +1,76 @@
 //! The examples in the documentation of `ascii_run`, made by `bin/docs examples`.
 
 use super::{owned, small};
-use ascii::bytes;
+use ascii::{InlineBuffer, bytes};
 use ascii_run::{
-    AsciiBuf, AsciiChar, BoundedFault, BoundedMode, Cmd, EngineFault, Input, Mode, Output,
-    SmallAsciiString, bounded_engine, engine, plain_run, run, run_both, runs_agree,
+    AsciiBuf, AsciiChar, BoundedFault, BoundedMode, Cmd, EngineFault, Full, Inline, Input, Mode,
+    Output, SmallAsciiString, bounded_engine, engine, plain_run, run, run_both, runs_agree,
 };
+use serde_json::Value;
 use std::alloc::AllocError;
-use std::collections::HashSet;
 use std::convert::AsSlice;
-use std::fmt::Write;
 use testing::{assert_debug, view};
+
+// Text::into_ascii_string
+#[test]
+fn into_ascii_string_of_text(rt: HostRuntime) {
+    assert_debug!(rt; small(&rt, "foo").into_ascii_string().ok(), "Some(\"foo\")");
+}
+
+// InlineBuffer
+#[test]
+fn inline_buffer_of_ascii_run(rt: HostRuntime) {
+    let alloc = rt.alloc();
+    let bytes: Inline<24> = InlineBuffer::from_vec(Vec::from_slice(alloc, b"foo").expect(
+        &rt, "refused",
+    ));
+    assert_debug!(rt; bytes.into_vec().ok(), "Some([102, 111, 111])");
+}
+
+// TryFrom<Vec> for Text::try_from
+#[test]
+fn try_from_vec_of_text(rt: HostRuntime) {
+    let alloc = rt.alloc();
+    assert_debug!(
+        rt;
+        SmallAsciiString::try_from(Vec::from_slice(alloc, b"foo").expect(&rt, "refused")),
+        "Ok(\"foo\")"
+    );
+}
+
+// TryFrom<String> for Text::try_from
+#[test]
+fn try_from_string_of_text(rt: HostRuntime) {
+    let alloc = rt.alloc();
+    assert_debug!(
+        rt;
+        SmallAsciiString::try_from(String::from_str(alloc, "foo").expect(&rt, "refused")),
+        "Ok(\"foo\")"
+    );
+}
+
+// DeserializeOwned for Text::deserialize_owned
+#[test]
+fn deserialize_owned_of_text(rt: HostRuntime) {
+    let alloc = rt.alloc();
+    let value = Value::from_str(alloc, "\"foo\"").expect(&rt, "refused");
+    assert_debug!(
+        rt;
+        serde_json::from_value::<SmallAsciiString>(alloc, value).ok(),
+        "Some(\"foo\")"
+    );
+}
+
+// Deserialize for Text::deserialize
+#[test]
+fn deserialize_of_text(rt: HostRuntime) {
+    let alloc = rt.alloc();
+    assert_debug!(
+        rt;
+        serde_json::from_str::<SmallAsciiString>(alloc, "\"foo\"").ok(),
+        "Some(\"foo\")"
+    );
+}
 
 // run_both
 #[test]
@@ -35,6 +95,17 @@ fn bounded_engine_of_ascii_run(rt: HostRuntime) {
         "Ok(())"
     );
     assert_debug!(rt; output.into_inner(), "[65, 66, 10]");
+}
+
+// Display for Full::fmt
+#[test]
+fn fmt_of_full(rt: HostRuntime) {
+    let alloc = rt.alloc();
+    assert_debug!(
+        rt;
+        format!(in alloc; "{}", Full).expect(&rt, "refused"),
+        "\"the text does not fit\""
+    );
 }
 
 // AsciiBuf::as_ascii_str
@@ -148,139 +219,6 @@ fn make_ascii_lowercase_of_ascii_buf(rt: HostRuntime) {
     let mut text = small(&rt, "FOO");
     text.make_ascii_lowercase();
     assert_debug!(rt; text, "\"foo\"");
-}
-
-// SmallAsciiString::new
-#[test]
-fn new_of_small_ascii_string(rt: HostRuntime) {
-    let alloc = rt.alloc();
-    assert_debug!(rt; SmallAsciiString::new(alloc).len(), "0");
-}
-
-// SmallAsciiString::from_ascii_str
-#[test]
-fn from_ascii_str_of_small_ascii_string(rt: HostRuntime) {
-    assert_debug!(rt; small(&rt, "foo"), "\"foo\"");
-}
-
-// SmallAsciiString::as_ascii_str
-#[test]
-fn as_ascii_str_of_small_ascii_string(rt: HostRuntime) {
-    assert_debug!(rt; small(&rt, "foo").as_ascii_str(), "\"foo\"");
-}
-
-// SmallAsciiString::is_inline
-#[test]
-fn is_inline_of_small_ascii_string(rt: HostRuntime) {
-    assert_debug!(rt; small(&rt, "foo").is_inline(), "true");
-}
-
-// SmallAsciiString::len
-#[test]
-fn len_of_small_ascii_string(rt: HostRuntime) {
-    assert_debug!(rt; small(&rt, "foo").len(), "3");
-}
-
-// SmallAsciiString::is_empty
-#[test]
-fn is_empty_of_small_ascii_string(rt: HostRuntime) {
-    let alloc = rt.alloc();
-    assert_debug!(rt; SmallAsciiString::new(alloc).is_empty(), "true");
-}
-
-// SmallAsciiString::capacity
-#[test]
-fn capacity_of_small_ascii_string(rt: HostRuntime) {
-    let alloc = rt.alloc();
-    assert_debug!(rt; SmallAsciiString::new(alloc).capacity(), "24");
-}
-
-// SmallAsciiString::into_ascii_string
-#[test]
-fn into_ascii_string_of_small_ascii_string(rt: HostRuntime) {
-    assert_debug!(rt; small(&rt, "foo").into_ascii_string().ok(), "Some(\"foo\")");
-}
-
-// AsciiBuf for SmallAsciiString::shrink_to_fit
-#[test]
-fn shrink_to_fit_of_small_ascii_string(rt: HostRuntime) {
-    let mut text = small(&rt, "foo");
-    assert_debug!(rt; text.shrink_to_fit(), "Ok(())");
-    assert_debug!(rt; text.capacity(), "24");
-}
-
-// Clone for SmallAsciiString::clone
-#[test]
-fn clone_of_small_ascii_string(rt: HostRuntime) {
-    assert_debug!(rt; small(&rt, "foo").clone().expect(&rt, "refused"), "\"foo\"");
-}
-
-// PartialEq for SmallAsciiString::eq
-#[test]
-fn eq_of_small_ascii_string(rt: HostRuntime) {
-    let alloc = rt.alloc();
-    assert_debug!(rt; SmallAsciiString::new(alloc) == small(&rt, "foo"), "false");
-}
-
-// PartialOrd for SmallAsciiString::partial_cmp
-#[test]
-fn partial_cmp_of_small_ascii_string(rt: HostRuntime) {
-    let alloc = rt.alloc();
-    assert_debug!(rt; SmallAsciiString::new(alloc) < small(&rt, "foo"), "true");
-}
-
-// Ord for SmallAsciiString::cmp
-#[test]
-fn cmp_of_small_ascii_string(rt: HostRuntime) {
-    let alloc = rt.alloc();
-    assert_debug!(rt; SmallAsciiString::new(alloc).cmp(&small(&rt, "foo")), "Less");
-}
-
-// Hash for SmallAsciiString::hash
-#[test]
-fn hash_of_small_ascii_string(rt: HostRuntime) {
-    let alloc = rt.alloc();
-    let mut seen = HashSet::new(alloc);
-    seen.insert(SmallAsciiString::new(alloc))
-        .expect(&rt, "refused");
-    assert_debug!(rt; seen.contains(&SmallAsciiString::new(alloc)), "true");
-}
-
-// Display for SmallAsciiString::fmt
-#[test]
-fn display_of_small_ascii_string(rt: HostRuntime) {
-    let alloc = rt.alloc();
-    assert_debug!(rt; format!(in alloc; "{}", small(&rt, "foo")).expect(&rt, "refused"), "\"foo\"");
-}
-
-// Debug for SmallAsciiString::fmt
-#[test]
-fn debug_of_small_ascii_string(rt: HostRuntime) {
-    let alloc = rt.alloc();
-    assert_debug!(
-        rt;
-        format!(in alloc; "{:?}", small(&rt, "foo")).expect(&rt, "refused"),
-        "\"\\\"foo\\\"\""
-    );
-}
-
-// SmallAsciiString::write_char
-#[test]
-fn write_char_of_small_ascii_string(rt: HostRuntime) {
-    let alloc = rt.alloc();
-    let mut text = SmallAsciiString::new(alloc);
-    assert_debug!(rt; text.write_char('a'), "Ok(())");
-    assert_debug!(rt; text.write_char('č'), "Err(Error)");
-    assert_debug!(rt; text, "\"a\"");
-}
-
-// Write for SmallAsciiString::write_str
-#[test]
-fn write_str_of_small_ascii_string(rt: HostRuntime) {
-    let alloc = rt.alloc();
-    let mut text = SmallAsciiString::new(alloc);
-    assert_debug!(rt; write!(text, "foo{}", 7), "Ok(())");
-    assert_debug!(rt; text, "\"foo7\"");
 }
 
 // run

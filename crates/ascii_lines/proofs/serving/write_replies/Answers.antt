@@ -1,7 +1,6 @@
 use Rattle.std.proofs.Common.{◌≡◌, ap, get_or, subst, ◌∙◌}
 use Rattle.std.proofs.lemmas.List.{take_all}
-use Rattle.std.specs.declared.alloc.Global.{Global}
-use Rattle.ascii.specs.declared.ascii_string.AsciiString.{AsciiString}
+use Rattle.ascii.specs.StringState.{StringState}
 use Rattle.ascii.specs.View.{text_of}
 use Rattle.ascii_lines.specs.LineWriter.{WritesBytes, WritesLine, state_of_writer}
 use Rattle.ascii_lines.specs.Serve.{reply_bytes, reply_texts}
@@ -15,7 +14,7 @@ loop-reply-preserved g c =
     let items = c.args.replies.now in let i = c.loop-reply.reply-index in
     let reply = c.reply-item.result in
     let text : text_of c.as_ascii_str.result ≡ (get_or items i reply).text =
-    c.as_ascii_str.ensures ∙ ap (λ (s : AsciiString Global). s.text) c.reply-item.is in
+    c.as_ascii_str.ensures ∙ ap (λ (s : StringState). s.text) c.reply-item.is in
     let old = c.loop-reply.writer in let new = c.write_line.new.self in
     one_reply_more c.args.ending items i reply c.loop-reply-test.true taken failures
     (state_of_writer taken failures c.args.writer.now) old new c.loop-reply.invariant
@@ -33,7 +32,7 @@ returns-in-Err g c =
     let items = c.args.replies.now in let i = c.loop-reply.reply-index in
     let reply = c.reply-item.result in
     let text : text_of c.as_ascii_str.result ≡ (get_or items i reply).text =
-    c.as_ascii_str.ensures ∙ ap (λ (s : AsciiString Global). s.text) c.reply-item.is in
+    c.as_ascii_str.ensures ∙ ap (λ (s : StringState). s.text) c.reply-item.is in
     let old = c.loop-reply.writer in let new = c.write_line.new.self in
     one_reply_fails c.args.ending items i reply c.loop-reply-test.true taken failures
     (state_of_writer taken failures c.args.writer.now) old new c.loop-reply.invariant

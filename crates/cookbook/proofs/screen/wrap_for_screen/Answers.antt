@@ -11,7 +11,7 @@ loop-ch-init c =
     let rest : c.into_iter-ch-iterator.result ≡ text_of c.args.view = search rules in
     let P : List ℕ → List ℕ → Type 0 =
     λ out rest. IsOnTheWay c.args.width (text_of c.args.view) out 0 rest in
-    subst (λ out. P out c.into_iter-ch-iterator.result) (sym c.new-text.ensures)
+    subst (λ out. P out c.into_iter-ch-iterator.result) (sym c.new-text.ensures.text)
     (subst (P []) (sym rest) (begins c.args.width (text_of c.args.view)))
 
 pub put-requires-clause-column : goal.put-requires-clause-column

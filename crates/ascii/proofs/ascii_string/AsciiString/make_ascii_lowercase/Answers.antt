@@ -1,6 +1,0 @@
-use Rattle.ascii.proofs.TextLemmas.{IsAscii-mapped, lower_image-below}
-use Rattle.ascii.proofs.ascii_string.AsciiString.make_ascii_lowercase.Goals as goal
-
-pub invariant_of-self : goal.invariant_of-self
-invariant_of-self g c =
-    search (IsAscii-mapped, lower_image-below)

@@ -1,0 +1,137 @@
+//! The string of a fixed capacity, and inline strings of another size than 24.
+
+use ascii::{AsciiString, Text};
+use ascii_run::{ArrayAsciiString, Full, Inline, SmallAsciiString};
+use std::fmt::Write;
+use testing::{ascii, assert_row, view};
+
+/// An inline string of up to 40 characters.
+type Label = Text<Inline<40>>;
+
+#[test]
+fn eight_characters_fit_eight(rt: HostRuntime) {
+    let mut string = ArrayAsciiString::<8>::new(());
+    assert_row!(rt; (string.len(), string.capacity(), string.is_inline()), (0, 8, true));
+    for ch in view("abcdefgh").chars() {
+        assert_row!(rt; string.push(ch), Ok(()));
+    }
+    assert_row!(rt; string.push(ascii::AsciiChar::i), Err(Full));
+    assert_row!(rt; string.as_ascii_str().as_str(), "abcdefgh");
+    assert_row!(rt; string.pop(), Some(ascii::AsciiChar::h));
+    assert_row!(rt; string.push(ascii::AsciiChar::i), Ok(()));
+    assert_row!(rt; string.as_ascii_str().as_str(), "abcdefgi");
+}
+
+#[test]
+fn what_half_fits_is_refused(rt: HostRuntime) {
+    let mut string = ArrayAsciiString::<8>::from_ascii_str((), view("abcdef")).expect(&rt, "full");
+    assert_row!(rt; string.insert_str(1, view("xyz")), Err(Full));
+    assert_row!(rt; string.push_str(view("xyz")), Err(Full));
+    assert_row!(rt; string.reserve(3), Err(Full));
+    assert_row!(rt; string.reserve_exact(2), Ok(()));
+    assert!(rt; string.write_str("xyz").is_err());
+    assert_row!(rt; string.as_ascii_str().as_str(), "abcdef");
+    assert_row!(rt; string.insert_str(1, view("xy")), Ok(()));
+    assert_row!(rt; string.as_ascii_str().as_str(), "axybcdef");
+    assert_row!(rt; string.insert(0, ascii::AsciiChar::z), Err(Full));
+    assert_row!(rt; string.remove(0), ascii::AsciiChar::a);
+    assert_row!(rt; string.insert(7, ascii::AsciiChar::z), Ok(()));
+    assert_row!(rt; string.as_ascii_str().as_str(), "xybcdefz");
+    assert_row!(rt; string.shrink_to_fit(), Ok(()));
+    assert_row!(rt; string.capacity(), 8);
+}
+
+#[test]
+fn the_largest_number_has_39_digits(rt: HostRuntime) {
+    let mut short = ArrayAsciiString::<38>::new(());
+    assert_row!(rt; short.push_decimal(u128::MAX), Err(Full));
+    assert!(rt; short.is_empty());
+    let mut long = ArrayAsciiString::<39>::new(());
+    assert_row!(rt; long.push_decimal(u128::MAX), Ok(()));
+    assert_row!(rt; long.as_ascii_str().as_str(), "340282366920938463463374607431768211455");
+}
+
+#[test]
+fn made_of_too_much(rt: HostRuntime) {
+    let is_made = |source| ArrayAsciiString::<4>::from_ascii_str((), view(source)).is_ok();
+    assert_row!(rt; is_made("abcd"), true);
+    assert_row!(rt; is_made("abcde"), false);
+    assert!(rt; ArrayAsciiString::<4>::with_capacity((), 4).is_ok());
+    assert!(rt; ArrayAsciiString::<4>::with_capacity((), 5).is_err());
+    assert!(rt; ArrayAsciiString::<4>::collect_chars((), view("abcd").chars()).is_ok());
+    let mut string = ArrayAsciiString::<4>::new(());
+    assert_row!(rt; string.extend_chars(view("abcde").chars()), Err(Full));
+    assert_row!(rt; string.as_ascii_str().as_str(), "abcd");
+    string.clear();
+    assert_row!(rt; string.extend_strs(view("ab,cde").split(ascii::AsciiChar::Comma)), Err(Full));
+    assert_row!(rt; string.as_ascii_str().as_str(), "ab");
+}
+
+#[test]
+fn cut_copied_and_changed(rt: HostRuntime) {
+    let mut string = ArrayAsciiString::<8>::from_ascii_str((), view("foobar")).expect(&rt, "full");
+    let copy = string.clone().expect(&rt, "refused");
+    let tail = string.split_off(3).expect(&rt, "full");
+    assert_row!(rt; string.as_ascii_str().as_str(), "foo");
+    assert_row!(rt; tail.as_ascii_str().as_str(), "bar");
+    assert_row!(rt; copy.as_ascii_str().as_str(), "foobar");
+    assert!(rt; string > tail && string != copy);
+    string.make_ascii_uppercase();
+    string.set(1, ascii::AsciiChar::Slash);
+    string.retain(|ch| ch != ascii::AsciiChar::F);
+    assert_row!(rt; string.as_ascii_str().as_str(), "/O");
+    string.make_ascii_lowercase();
+    string.truncate(1);
+    write!(string, "{}", 17).expect(&rt, "full");
+    assert_row!(rt; string.as_ascii_str().as_str(), "/17");
+}
+
+#[test]
+fn forty_characters_are_inline(rt: HostRuntime) {
+    let alloc = rt.alloc();
+    let text = ascii("abcdefghijabcdefghijabcdefghijabcdefghij");
+    let mut label = Label::from_ascii_str(alloc, text).expect(&rt, "refused");
+    assert_row!(rt; (label.len(), label.capacity(), label.is_inline()), (40, 40, true));
+    assert_row!(rt; label.push(ascii::AsciiChar::k), Ok(()));
+    assert!(rt; !label.is_inline() && 41 <= label.capacity());
+    assert_row!(rt; label.clone().expect(&rt, "refused").len(), 41);
+    assert_row!(rt; label.into_ascii_string().expect(&rt, "refused").len(), 41);
+}
+
+#[test]
+fn small_strings_have_the_calls_of_the_large(rt: HostRuntime) {
+    let alloc = rt.alloc();
+    let mut string = SmallAsciiString::with_capacity(alloc, 30).expect(&rt, "refused");
+    assert!(rt; 30 <= string.capacity() && !string.is_inline());
+    assert_row!(rt; string.push_decimal(-17), Ok(()));
+    assert_row!(rt; string.extend_chars(view("a-b-c").chars()), Ok(()));
+    assert_row!(rt; string.extend_strs(view("d,e").split(ascii::AsciiChar::Comma)), Ok(()));
+    assert_row!(rt; string.as_ascii_str().as_str(), "-17a-b-cde");
+    string.retain(|ch| ch != ascii::AsciiChar::Minus);
+    assert_row!(rt; string.as_ascii_str().as_str(), "17abcde");
+    assert_row!(rt; string.reserve_exact(40), Ok(()));
+    let tail = string.split_off(2).expect(&rt, "refused");
+    assert_row!(rt; (tail.as_ascii_str().as_str(), tail.is_inline()), ("abcde", true));
+    assert_row!(rt; string.as_ascii_str().as_str(), "17");
+    let one = SmallAsciiString::from_char(alloc, ascii::AsciiChar::a).expect(&rt, "refused");
+    assert_row!(rt; one.into_chars(alloc).expect(&rt, "refused").len(), 1);
+    let split = view("b,c").split(ascii::AsciiChar::Comma);
+    let joined = SmallAsciiString::collect_strs(alloc, split).expect(&rt, "refused");
+    assert_row!(rt; joined.as_ascii_str().as_str(), "bc");
+}
+
+#[test]
+fn buffers_are_kept_or_copied(rt: HostRuntime) {
+    let alloc = rt.alloc();
+    let long = AsciiString::from_ascii_str(alloc, view("abcdefghijklmnopqrstuvwxyz")).expect(
+        &rt, "refused",
+    );
+    let kept = SmallAsciiString::try_from(Vec::from(long)).expect(&rt, "not ASCII");
+    assert_row!(rt; (kept.len(), kept.is_inline()), (26, false));
+    let short = AsciiString::from_ascii_str(alloc, view("abc")).expect(&rt, "refused");
+    let copied = SmallAsciiString::try_from(String::from(short)).expect(&rt, "not ASCII");
+    assert_row!(rt; (copied.len(), copied.capacity(), copied.is_inline()), (3, 24, true));
+    let bytes = Vec::from_slice(alloc, b"ab\xc4").expect(&rt, "refused");
+    let error = SmallAsciiString::try_from(bytes).map_err(|e| e.ascii_error().valid_up_to());
+    assert_row!(rt; error.err(), Some(2));
+}
