@@ -7,6 +7,7 @@ mod copies_leave_the_source;
 mod each_allocation;
 mod each_free_block;
 mod enough_memory;
+mod every_buffer;
 mod fail_nth;
 mod json_values;
 mod long_callers;

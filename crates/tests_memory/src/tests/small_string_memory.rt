@@ -3,10 +3,9 @@
 use super::each_allocation::view;
 use super::each_free_block::{Left, Scarce, with_each_free_block};
 use ascii::{AsciiChar, AsciiRange};
-use ascii_run::{AsciiBuf, BothRuns, Cmd, SmallAsciiString, run, run_both};
+use ascii_run::{BothRuns, Cmd, SmallAsciiString, run, run_both};
 use linked_list_allocator::LocalHeap;
 use std::alloc::{AllocError, Global};
-use std::fmt::Write;
 use testing::FailNth;
 
 /// A text that just fits inline.
@@ -14,50 +13,6 @@ const FULL: &str = "abcdefghijklmnopqrstuvwx";
 
 /// A text in an allocation that is full.
 const LONG: &str = "abcdefghijklmnopqrstuvwxabcdefghijklmnopqrstuvwx";
-
-/// A growth of a text past its room.
-fn grown(alloc: Global, start: &str, call: &str, left: Left) -> Result<String, AllocError> {
-    let mut string = SmallAsciiString::from_ascii_str(alloc, view(start))?;
-    let scarce = Scarce::but(alloc, left)?;
-    match call {
-        "push" => scarce.told(string.push(AsciiChar::y), &mut string),
-        "push_str" => scarce.told(string.push_str(view("yy")), &mut string),
-        "insert" => scarce.told(string.insert(0, AsciiChar::w), &mut string),
-        "insert_str" => scarce.told(string.insert_str(0, view("ww")), &mut string),
-        "reserve" if string.len() <= 100 => scarce.told(string.reserve(100), &mut string),
-        "write_str" => scarce.told(string.write_str("yy"), &mut string),
-        "write_char" => scarce.told(string.write_char('y'), &mut string),
-        _ => Err(AllocError),
-    }
-}
-
-/// A growth of a text, its error, and what it puts before the text and after it.
-static GROWTHS: [(&str, &str, &str, &str); 7] = [
-    ("reserve", "AllocError", "", ""),
-    ("push", "AllocError", "", "y"),
-    ("push_str", "AllocError", "", "yy"),
-    ("insert", "AllocError", "w", ""),
-    ("insert_str", "AllocError", "ww", ""),
-    ("write_str", "Error", "", "yy"),
-    ("write_char", "Error", "", "y"),
-];
-
-#[test]
-fn text_stays(rt: HostRuntime) {
-    let alloc = rt.alloc();
-    for &(call, refusal, before, behind) in &GROWTHS {
-        for start in [FULL, LONG] {
-            let refused = format!(in alloc; "Err({refusal}) {start} {start}z").expect(
-                &rt, "refused",
-            );
-            let ample = format!(in alloc;
-                "Ok(()) {before}{start}{behind} {before}{start}{behind}z"
-            ).expect(&rt, "refused");
-            let wanted = [refused.as_str(), ample.as_str()];
-            with_each_free_block(&rt, call, &wanted, |left| grown(alloc, start, call, left));
-        }
-    }
-}
 
 /// A call that makes a text out of another one, which stays or comes back.
 fn made(alloc: Global, start: &str, call: &str, left: Left) -> Result<String, AllocError> {
@@ -122,22 +77,6 @@ fn sources_stay(rt: HostRuntime) {
     let alloc = rt.alloc();
     for &(call, start, wanted) in &MADE {
         with_each_free_block(&rt, call, wanted, |left| made(alloc, start, call, left));
-    }
-}
-
-/// A text with room inline for two characters more.
-const SHORT: &str = "abcdefghijklmnopqrstuv";
-
-#[test]
-fn no_memory_for_short_texts(rt: HostRuntime) {
-    let alloc = rt.alloc();
-    // All but `reserve`, which asks for more than fits inline.
-    for &(call, _, before, behind) in &GROWTHS[1..] {
-        let ample = format!(in alloc;
-            "Ok(()) {before}{SHORT}{behind} {before}{SHORT}{behind}z"
-        ).expect(&rt, "refused");
-        let wanted = [ample.as_str()];
-        with_each_free_block(&rt, call, &wanted, |left| grown(alloc, SHORT, call, left));
     }
 }
 

@@ -1,4 +1,4 @@
-//! Growths of a string.
+//! Calls of a string that shrink it, cut it, or grow it more than once.
 
 use super::each_allocation::{
     Heap, told, view, with_each_allocation_failing, with_each_two_allocations_failing,
@@ -12,13 +12,6 @@ fn edited(alloc: Global, heap: &Heap, call: &str) -> Result<String, AllocError> 
     let mut string = AsciiString::from_char(heap, AsciiChar::x)?;
     let pieces = view("a,bbbbbbbbbbbbbbbbbbbb,cccccccccccccccccccccccccccccccccccccccccccccccc");
     match call {
-        "push" => told(alloc, string.push(AsciiChar::y), &mut string),
-        "push_str" => told(alloc, string.push_str(view("yy")), &mut string),
-        "push_decimal" => told(alloc, string.push_decimal(42u64), &mut string),
-        "insert" => told(alloc, string.insert(0, AsciiChar::w), &mut string),
-        "insert_str" => told(alloc, string.insert_str(1, view("yy")), &mut string),
-        "reserve" => told(alloc, string.reserve(100), &mut string),
-        "reserve_exact" => told(alloc, string.reserve_exact(100), &mut string),
         "shrink_to_fit" => {
             string.reserve(100)?;
             told(alloc, string.shrink_to_fit(), &mut string)
@@ -27,8 +20,6 @@ fn edited(alloc: Global, heap: &Heap, call: &str) -> Result<String, AllocError> 
             let tail = string.split_off(0).map(|tail| tail.len());
             told(alloc, tail, &mut string)
         }
-        "write_str" => told(alloc, string.write_str("yy"), &mut string),
-        "write_char" => told(alloc, string.write_char('y'), &mut string),
         "write!" => {
             let written = write!(string, "{}-{}", "yy", "aaaaaaaaaaaaaaaaaaaa");
             told(alloc, written, &mut string)
@@ -42,18 +33,9 @@ fn edited(alloc: Global, heap: &Heap, call: &str) -> Result<String, AllocError> 
 }
 
 /// A call on the string `x`, and its answers.
-static EDITS: [(&str, &[&str]); 11] = [
-    ("push", &["Err(AllocError) x xz", "Ok(()) xy xyz"]),
-    ("push_str", &["Err(AllocError) x xz", "Ok(()) xyy xyyz"]),
-    ("push_decimal", &["Err(AllocError) x xz", "Ok(()) x42 x42z"]),
-    ("insert", &["Err(AllocError) x xz", "Ok(()) wx wxz"]),
-    ("insert_str", &["Err(AllocError) x xz", "Ok(()) xyy xyyz"]),
-    ("reserve", &["Err(AllocError) x xz", "Ok(()) x xz"]),
-    ("reserve_exact", &["Err(AllocError) x xz", "Ok(()) x xz"]),
+static EDITS: [(&str, &[&str]); 2] = [
     ("shrink_to_fit", &["Err(AllocError) x xz", "Ok(()) x xz"]),
     ("split_off", &["Err(AllocError) x xz", "Ok(1)  z"]),
-    ("write_str", &["Err(Error) x xz", "Ok(()) xyy xyyz"]),
-    ("write_char", &["Err(Error) x xz", "Ok(()) xy xyz"]),
 ];
 
 #[test]
