@@ -148,15 +148,13 @@ fn hash_of(value: impl Hash) -> usize {
     hasher.finish() as usize
 }
 
-/// A view is hashed as its list of codes, a folded view as that list in lower case, a string as a `str`, and a character
-/// as its code.
+/// A view and each type of owned text is hashed as its list of codes, a folded view as that list in lower case, and a
+/// character as its code.
 pub fn hashes(random: &mut Random, asked: &mut Asked) {
     let text = random.text();
     calls::ask_hashes(asked, &text);
-    let hash = hash_of(super::string(text.clone()).as_str());
     asked.want.number(hash_of(&text));
     asked.want.number(hash_of(text.to_ascii_lowercase()));
-    asked.want.number(hash);
-    asked.want.number(hash);
+    (0..5).for_each(|_| asked.want.number(hash_of(&text)));
     text.first().iter().for_each(|code| asked.want.number(hash_of(code)));
 }

@@ -3,7 +3,7 @@
 ghost use Rattle.std.specs.Str.{IsAscii};
 
 use crate::answer::Answer;
-use ascii::{bytes, kernels};
+use ascii::{BoxedAsciiStr, CowAsciiStr, RcAsciiStr, bytes, kernels};
 use ascii_run::SmallAsciiString;
 use std::alloc::{AllocError, Global};
 use std::hash::{DefaultHasher, Hash, Hasher};
@@ -124,7 +124,7 @@ fn compare<T: Ord + Drop>(
     }
 }
 
-/// The hashes of a text: as a view, ignoring case, as a string and as an inline string; and of its first character.
+/// The hashes of a text: as a view, ignoring case, as each type of owned text and as `Cow` text; and of its first character.
 pub fn ask_hashes(alloc: Global, source: &[u8], room: &mut [u8]) -> usize
     requires { IsAscii source.now }
 {
@@ -134,6 +134,9 @@ pub fn ask_hashes(alloc: Global, source: &[u8], room: &mut [u8]) -> usize
     hash(Ok(view.folded()), &mut answer);
     hash(view.to_ascii_string(alloc), &mut answer);
     hash(SmallAsciiString::from_ascii_str(alloc, view), &mut answer);
+    hash(BoxedAsciiStr::from_ascii_str(alloc, view), &mut answer);
+    hash(RcAsciiStr::from_ascii_str(alloc, view), &mut answer);
+    hash(Ok(CowAsciiStr::<Global>::from(view)), &mut answer);
     hash(view.first().ok_or(AllocError), &mut answer);
     answer.finish(room)
 }
