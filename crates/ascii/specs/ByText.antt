@@ -5,8 +5,8 @@ use Rattle.memchr.specs.Find.{OccursAt, occurs_at}
 use Rattle.ascii.specs.Spans.{WithStart, after_piece, with_starts}
 
 module _ (first : ℕ) (others : List ℕ) where
-  -- the pieces of what follows `skip` codes of a text, at each occurrence of `first ∷ others`, found
-  -- from the left, each after the end of the one before
+  -- the pieces of what follows `skip` codes of a text, at each occurrence of `first ∷ others`,
+  -- found from the left, each after the end of the one before
   abbrev pub pieces_after : ℕ → List ℕ → List (List ℕ)
   pieces_after skip [] = [] ∷ []
   pieces_after (suc skip) (c ∷ text) = pieces_after skip text

@@ -96,7 +96,8 @@ module _ {C A : Type 0} (iterator : Remaining C A) (Is : C → List ℕ → Type
 
   abbrev pub LoopsBackOverSpans : Type 0
   LoopsBackOverSpans =
-      LoopsInReverse piece_in (λ (left : Remaining C (WithStart (List ℕ))). left.items) (StepsSpan Is)
+      LoopsInReverse piece_in (λ (left : Remaining C (WithStart (List ℕ))). left.items)
+      (StepsSpan Is)
 
 -- The laws of loops. A call that makes an iterator ensures two of them, for the proof of a loop or
 -- a chain over that iterator: one for steps from the front, one for steps from the back. They are

@@ -9,9 +9,20 @@
 //!
 //! A contract sees a string as `string.text`, a list of codes, and `string.capacity`.
 //!
-//! The other methods of `AsciiString` are in the modules of their subject: `extend_chars`, `collect_chars` and
-//! `collect_strs` in `collect`, `retain` in `retain`, `from_char`, `from_chars` and other copies in `copies`,
-//! conversions to boxed and shared text in `boxed`, JSON values in `json`. The modules `vec` and `string` make a string from a `Vec<u8>` or a `String`.
+//! A string is a `Text` over the buffer that its bytes are kept in. All of them have the calls of `Text`; up to the
+//! sure length no edit fails:
+//!
+//! | String | Buffer | Sure length, `B.sure` | Largest, `B.most` | Error of an edit, `B::Refusal` |
+//! |---|---|---|---|---|
+//! | `AsciiString<A>` | `Vec<u8, A>` | 0 | `usize::MAX` | `AllocError` |
+//! | `SmallAsciiString` of `ascii_run` | the value itself, then a `SmallVec` | 24 | `usize::MAX` | `AllocError` |
+//! | `ArrayAsciiString<N>` of `ascii_run` | the value itself | `N` | `N` | `Full` |
+//!
+//! The other methods of `Text` are in the modules of their subject: `extend_chars`, `extend_strs`, `collect_chars` and
+//! `collect_strs` in `collect`, `retain` in `retain`, `from_char`, `from_chars` and `into_chars` in `copies`, `to_json`
+//! and `from_json` in `json`, the traits of std in `conversions`, those of serde in `serde_impls`. Only `AsciiString` has
+//! `from_ascii_unchecked` here, the conversions to boxed and shared text in `boxed`, and `From` of it for a `Vec` and a
+//! `String`, since these keep its `Vec`; the modules `vec` and `string` make it from one.
 
 ghost use Rattle.std.specs.Prelude.{◌≡◌, ◌+◌, ◌-◌, ◌<◌, ◌≤◌, ◌↔◌, ◌++◌, ◌∷◌, [], IfErr, IfOk, IsOk};
 ghost use Rattle.std.specs.Prelude.{IsTrue, MatchResult, OnErr, OnOk, drop, insert, length, map, remove, slice_get};
@@ -34,7 +45,7 @@ use std::fmt;
 use std::hash::{Hash, Hasher};
 use std::marker::Model;
 
-/// Owned ASCII text that can grow, over a buffer.
+/// Owned ASCII text over a buffer that its bytes are kept in.
 ///
 /// `==`, the order and the hash are those of the text; the capacity does not count.
 #[derive(Drop)]
@@ -453,7 +464,7 @@ impl<B: CloneBuffer> Clone for Text<B> {
     ghost is_infallible = { λ string. B.copies string };
 
     /// Returns a copy of the string, with a copy of its allocator. Fails only if the allocation
-    /// fails; never for a small string of at most 24 characters.
+    /// fails; never for a `SmallAsciiString` of at most 24 characters, or an `ArrayAsciiString`.
     ///
     ///     view("foo").to_ascii_string(alloc)?.clone()? // "foo"
     fn clone(&self) -> Result<Text<B>, AllocError>

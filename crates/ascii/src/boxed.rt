@@ -12,7 +12,9 @@ use std::convert::AsStr;
 use std::marker::Model;
 use std::rc::RcStr;
 
-/// Text that is kept and can't be edited, in a box or shared.
+/// Text that is kept and can't be edited, in a box or shared: `BoxedAsciiStr` or `RcAsciiStr`.
+///
+/// `==`, the order and the hash are those of the text.
 #[derive(Drop)]
 pub struct Kept<S: AsStr> {
     text: S,
@@ -96,6 +98,7 @@ impl<A: Allocator> Kept<RcStr<A>> {
     }
 }
 
+// Shared text alone can be cloned: a clone of boxed text would need an allocator.
 impl<A: Allocator> Clone for Kept<RcStr<A>> {
     ghost is_clone = { λ shared copy. copy ≡ shared };
 
@@ -136,6 +139,9 @@ impl<A: Allocator> Text<Vec<u8, A>> {
 }
 
 /// ASCII text that is borrowed or owned.
+///
+/// It is an enum with public variants, as std's `Cow`: a contract sees the variant, and its text is `cow_text`. So it is no
+/// `Kept`, which a contract sees as its text.
 #[derive(Drop)]
 pub enum CowAsciiStr<'a, A: Allocator = Global> {
     /// Borrowed text: a view.

@@ -18,7 +18,7 @@ ghost use Rattle.ascii.specs.StringState.{EditsInPlace, GrowsTo, Reserves, Strin
 
 use std::alloc::{AllocError, Allocator};
 
-/// Bytes that a `Text` is kept in. If an edit is refused, the bytes are unchanged.
+/// Bytes that a `Text` is kept in. If an edit fails, the bytes are unchanged.
 ///
 ///     let mut bytes: Vec<u8> = Buffer::with_copy(alloc, b"oo")?;
 ///     bytes.insert_byte(0, 102) // Ok(())
@@ -53,13 +53,13 @@ pub trait Buffer: Drop {
     // the buffer with its bytes written again
     ghost with: { Self → List ℕ → Self };
 
-    // the sure length: an edit is never refused for bytes up to it
+    // the sure length: an edit never fails for bytes up to it
     ghost sure: { ℕ };
 
     // the largest capacity
     ghost most: { ℕ };
 
-    // what a shrink does that is not refused
+    // what a shrink does if it does not fail
     ghost shrinks: { StringState → StringState → Type 0 };
 
     /// Creates an empty buffer. Does not allocate.
@@ -172,7 +172,7 @@ pub trait Buffer: Drop {
 ///     CloneBuffer::split_off(&mut bytes, 3) // Ok([98, 97, 114])
 ///     bytes.copy() // Ok([102, 111, 111])
 pub trait CloneBuffer: Buffer {
-    // the states of which a copy is never refused
+    // the states of which a copy never fails
     ghost copies: { StringState → Type 0 };
 
     // what a buffer allocates from can always be cloned

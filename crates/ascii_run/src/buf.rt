@@ -1,4 +1,4 @@
-//! The edits of a text, in whichever form it is kept, and the forms that keep it in the value itself.
+//! The edits of a string that can grow, over any buffer, and the buffers that keep a text in the value itself.
 
 mod array;
 mod ascii_buf;

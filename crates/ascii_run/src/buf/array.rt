@@ -26,8 +26,8 @@ impl fmt::Display for Full {
 
 impl Error for Full {}
 
-/// A buffer of at most `N` bytes in the value itself. It never allocates: bytes that do not fit are
-/// refused.
+/// A buffer of at most `N` bytes in the value itself. It never allocates: an edit whose
+/// bytes do not fit returns `Full`.
 #[derive(Drop)]
 pub struct Array<const N: usize> {
     bytes: ArrayVec<u8, N>,

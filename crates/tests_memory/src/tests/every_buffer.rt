@@ -11,7 +11,7 @@ use testing::assert_row;
 /// Why an edit failed.
 #[derive(Clone, Copy, PartialEq, Eq, Debug)]
 enum Reason {
-    /// The buffer refused it.
+    /// There is no room.
     Refused,
     /// std's trait `Write` has one error for all.
     Error,
