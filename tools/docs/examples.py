@@ -103,14 +103,15 @@ def words_of(name):
 
 def names_of_tests(crate, keys):
     """The name of the test of each call: the call, and its type, module or crate. If the name is taken, that of a trait, or
-    the word `type`, since a module may have the name of a type."""
+    what the owner is, since a module may have the name of a type."""
     names, paths = [], [key.rpartition(" for ")[2] for key in keys]
     for key, path in zip(keys, paths):
         of_trait, (*modules, call) = key.rpartition(" for ")[0], path.split("::")
         owner, calls = (modules or [call if of_trait else crate])[-1], [call]
         if of_trait and (not modules or paths.count(path) > 1):
             calls = [of_trait, f"{of_trait}_{call}"]
-        found = [words_of(f"{name}_of_{owner}") for name in calls] + [words_of(f"{call}_of_the_type_{owner}")]
+        kind = "type" if owner[0].isupper() else "module"
+        found = [words_of(f"{name}_of_{owner}") for name in calls] + [words_of(f"{call}_of_the_{kind}_{owner}")]
         names.append(next(name for name in found if name not in names))
     return names
 

@@ -2266,7 +2266,7 @@ fn from_ascii_of_string(rt: HostRuntime) {
 
 // text::as_ascii_str
 #[test]
-fn as_ascii_str_of_the_type_text(rt: HostRuntime) {
+fn as_ascii_str_of_the_module_text(rt: HostRuntime) {
     assert_debug!(
         rt;
         (

@@ -2,6 +2,7 @@
 //! TOML, both ways.
 
 use ascii::{AsciiChar, AsciiStr, AsciiString};
+use ascii_run::SmallAsciiString;
 use serde::{Deserialize, Serialize};
 use std::alloc::{AllocError, Global};
 use testing::{ascii, assert_row};
@@ -10,6 +11,7 @@ use testing::{ascii, assert_row};
 #[derive(Debug, Drop, PartialEq, Serialize, Deserialize)]
 struct Host {
     name: AsciiString,
+    label: SmallAsciiString,
     mark: AsciiChar,
     aliases: Vec<AsciiString>,
 }
@@ -21,21 +23,23 @@ struct Request<'a> {
     path: AsciiStr<'a>,
 }
 
-/// The host `a"b`, marked `*`, with the aliases `c` and the empty text.
+/// The host `a"b`, labelled `d`, marked `*`, with the aliases `c` and the empty text.
 fn sample_host(alloc: Global) -> Result<Host, AllocError> {
     let mut aliases = Vec::new(alloc);
     aliases.push(ascii("c").to_ascii_string(alloc)?)?;
     aliases.push(AsciiString::new(alloc))?;
     Ok(Host {
         name: ascii("a\"b").to_ascii_string(alloc)?,
+        label: SmallAsciiString::from_ascii_str(alloc, ascii("d"))?,
         mark: AsciiChar::Asterisk,
         aliases,
     })
 }
 
-const HOST_JSON: &str = "{\"name\":\"a\\\"b\",\"mark\":\"*\",\"aliases\":[\"c\",\"\"]}";
+const HOST_JSON: &str =
+    "{\"name\":\"a\\\"b\",\"label\":\"d\",\"mark\":\"*\",\"aliases\":[\"c\",\"\"]}";
 
-const HOST_TOML: &str = "name = 'a\"b'\nmark = \"*\"\naliases = [\"c\", \"\"]\n";
+const HOST_TOML: &str = "name = 'a\"b'\nlabel = \"d\"\nmark = \"*\"\naliases = [\"c\", \"\"]\n";
 
 #[test]
 fn a_host_through_json(rt: HostRuntime) {
@@ -95,7 +99,19 @@ fn what_is_not_ascii_is_rejected(rt: HostRuntime) {
     let text = "the byte at index 2 is not ASCII";
     is_rejected::<AsciiStr<'_>>(&rt, alloc, "\"abč\"", text);
     is_rejected::<AsciiString>(&rt, alloc, "\"abč\"", text);
+    is_rejected::<SmallAsciiString>(&rt, alloc, "\"abč\"", text);
     is_rejected::<AsciiChar>(&rt, alloc, "\"č\"", "not an ASCII character");
     assert!(rt; serde_json::from_str::<AsciiChar>(alloc, "\"ab\"").is_err());
     assert!(rt; serde_json::from_str::<AsciiStr<'_>>(alloc, "7").is_err());
+}
+
+#[test]
+fn what_is_not_ascii_is_rejected_from_toml(rt: HostRuntime) {
+    let alloc = rt.alloc();
+    let source = "name = 'a'\nlabel = 'abč'\nmark = '*'\naliases = []\n";
+    assert!(rt; toml::from_str::<Host>(alloc, source).is_err());
+    let source = "name = 'abč'\nlabel = 'a'\nmark = '*'\naliases = []\n";
+    assert!(rt; toml::from_str::<Host>(alloc, source).is_err());
+    let source = "name = 'a'\nlabel = 'a'\nmark = '*'\naliases = []\n";
+    assert!(rt; toml::from_str::<Host>(alloc, source).is_ok());
 }
