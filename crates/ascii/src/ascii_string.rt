@@ -34,7 +34,7 @@ ghost use Rattle.ascii.specs.StringState.{EditsInPlace, GrowsTo, Reserves, Write
 ghost use Rattle.ascii.specs.View.{text_of};
 
 use crate::ascii_str::AsciiStr;
-use crate::buffer::{Buffer, CloneBuffer, InlineBuffer};
+use crate::buffer::{Buffer, CloneBuffer, InlineBuffer, NewBuffer};
 use crate::text;
 use ascii_base::ascii_char::{AsciiChar, ToAsciiChar};
 use ascii_base::kernels;
@@ -68,7 +68,7 @@ impl<B: Buffer> Model for Text<B> {
     ghost invariant = { λ s. IsAscii (B.state s.bytes).text };
 }
 
-impl<B: Buffer> Text<B> {
+impl<B: NewBuffer> Text<B> {
     ghost use Rattle.std.specs.Str.{IsAscii};
 
     /// Creates an empty string. Does not allocate.
@@ -116,6 +116,10 @@ impl<B: Buffer> Text<B> {
             bytes: B::with_copy(alloc, view.as_bytes())?,
         })
     }
+}
+
+impl<B: Buffer> Text<B> {
+    ghost use Rattle.std.specs.Str.{IsAscii};
 
     /// Returns a view of the whole text.
     ///

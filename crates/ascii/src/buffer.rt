@@ -20,7 +20,7 @@ use std::alloc::{AllocError, Allocator};
 
 /// Bytes that a `Text` is kept in. If an edit fails, the bytes are unchanged.
 ///
-///     let mut bytes: Vec<u8> = Buffer::with_copy(alloc, b"oo")?;
+///     let mut bytes: Vec<u8> = NewBuffer::with_copy(alloc, b"oo")?;
 ///     bytes.insert_byte(0, 102) // Ok(())
 ///     bytes.append_byte(33) // Ok(())
 ///     bytes.pop_byte() // Some(33)
@@ -30,20 +30,12 @@ use std::alloc::{AllocError, Allocator};
 ///     bytes.remove_byte(0) // 122
 ///     bytes.keep_front(2);
 ///     bytes // [111, 111]
-///
-///     let mut bytes: Vec<u8> = Buffer::with_room(alloc, 3)?;
-///     bytes.room() >= 3 // true
 ///     Buffer::reserve(&mut bytes, 10) // Ok(())
 ///     Buffer::reserve_exact(&mut bytes, 20) // Ok(())
-///     bytes.room() >= 20 // true
+///     bytes.room() >= 22 // true
 ///     bytes.shrink() // Ok(())
-///     bytes.is_inline() // true
-///     let bytes: Vec<u8> = Buffer::empty(alloc);
-///     bytes // []
+///     bytes.is_inline() // false
 pub trait Buffer: Drop {
-    /// What a new buffer allocates from: `()` if it does not allocate.
-    type Alloc: Drop;
-
     /// The error of an edit for which there is no room.
     type Refusal: Drop;
 
@@ -61,25 +53,6 @@ pub trait Buffer: Drop {
 
     // what a shrink does if it does not fail
     ghost shrinks: { StringState → StringState → Type 0 };
-
-    /// Creates an empty buffer. Does not allocate.
-    fn empty(alloc: Self::Alloc) -> Self
-        ensures { state result ≡ record { text = []; capacity = sure } };
-
-    /// Creates an empty buffer with room for at least `capacity` bytes.
-    fn with_room(alloc: Self::Alloc, capacity: usize) -> Result<Self, Self::Refusal>
-        ensures text { IfOk result (λ buffer. (state buffer).text ≡ []) }
-        ensures capacity { IfOk result (λ buffer. capacity ≤ (state buffer).capacity) }
-        ensures exact { capacity ≤ sure → IfOk result (λ buffer. (state buffer).capacity ≡ sure) }
-        ensures succeeds { capacity ≤ sure → IsOk result };
-
-    /// Creates a buffer with a copy of `bytes`.
-    fn with_copy(alloc: Self::Alloc, bytes: &[u8]) -> Result<Self, Self::Refusal>
-        ensures text { IfOk result (λ buffer. (state buffer).text ≡ bytes.now) }
-        ensures room { IfOk result (λ buffer. length bytes.now ≤ (state buffer).capacity) }
-        ensures exact { length bytes.now ≤ sure
-            → IfOk result (λ buffer. (state buffer).capacity ≡ sure) }
-        ensures succeeds { length bytes.now ≤ sure → IsOk result };
 
     /// Returns the bytes.
     fn bytes(&self) -> &[u8]
@@ -166,9 +139,46 @@ pub trait Buffer: Drop {
         → (state (with buffer bytes)).capacity ≡ (state buffer).capacity };
 }
 
+/// A buffer that can be created.
+///
+///     let mut bytes: Vec<u8> = NewBuffer::with_room(alloc, 3)?;
+///     bytes.room() >= 3 // true
+///     Buffer::reserve(&mut bytes, 10) // Ok(())
+///     Buffer::reserve_exact(&mut bytes, 20) // Ok(())
+///     bytes.room() >= 20 // true
+///     bytes.shrink() // Ok(())
+///     bytes.is_inline() // true
+///     let bytes: Vec<u8> = NewBuffer::empty(alloc);
+///     bytes // []
+///     let bytes: Vec<u8> = NewBuffer::with_copy(alloc, b"foo")?;
+///     bytes // [102, 111, 111]
+pub trait NewBuffer: Buffer {
+    /// What a new buffer allocates from: `()` if it does not allocate.
+    type Alloc: Drop;
+
+    /// Creates an empty buffer. Does not allocate.
+    fn empty(alloc: Self::Alloc) -> Self
+        ensures { Self.state result ≡ record { text = []; capacity = Self.sure } };
+
+    /// Creates an empty buffer with room for at least `capacity` bytes.
+    fn with_room(alloc: Self::Alloc, capacity: usize) -> Result<Self, Self::Refusal>
+        ensures text { IfOk result (λ buffer. (Self.state buffer).text ≡ []) }
+        ensures capacity { IfOk result (λ buffer. capacity ≤ (Self.state buffer).capacity) }
+        ensures exact { capacity ≤ Self.sure → IfOk result (λ buffer. (Self.state buffer).capacity ≡ Self.sure) }
+        ensures succeeds { capacity ≤ Self.sure → IsOk result };
+
+    /// Creates a buffer with a copy of `bytes`.
+    fn with_copy(alloc: Self::Alloc, bytes: &[u8]) -> Result<Self, Self::Refusal>
+        ensures text { IfOk result (λ buffer. (Self.state buffer).text ≡ bytes.now) }
+        ensures room { IfOk result (λ buffer. length bytes.now ≤ (Self.state buffer).capacity) }
+        ensures exact { length bytes.now ≤ Self.sure
+            → IfOk result (λ buffer. (Self.state buffer).capacity ≡ Self.sure) }
+        ensures succeeds { length bytes.now ≤ Self.sure → IsOk result };
+}
+
 /// A buffer of which a second one can be made, with a clone of what it allocates from.
 ///
-///     let mut bytes: Vec<u8> = Buffer::with_copy(alloc, b"foobar")?;
+///     let mut bytes: Vec<u8> = NewBuffer::with_copy(alloc, b"foobar")?;
 ///     CloneBuffer::split_off(&mut bytes, 3) // Ok([98, 97, 114])
 ///     bytes.copy() // Ok([102, 111, 111])
 pub trait CloneBuffer: Buffer {
@@ -219,8 +229,6 @@ pub trait InlineBuffer: Buffer {
 }
 
 impl<A: Allocator> Buffer for Vec<u8, A> {
-    type Alloc = A;
-
     type Refusal = AllocError;
 
     ghost state = { λ bytes. record { text = bytes.items; capacity = vec_capacity bytes } };
@@ -232,24 +240,6 @@ impl<A: Allocator> Buffer for Vec<u8, A> {
     ghost most = { MAX };
 
     ghost shrinks = { λ old new. new.capacity ≡ length new.text };
-
-    #[inline]
-    fn empty(alloc: A) -> Self {
-        Vec::new(alloc)
-    }
-
-    fn with_room(alloc: A, capacity: usize) -> Result<Self, AllocError> {
-        Vec::with_capacity(alloc, capacity)
-    }
-
-    fn with_copy(alloc: A, bytes: &[u8]) -> Result<Self, AllocError> {
-        if bytes.is_empty() {
-            return Ok(Vec::new(alloc));
-        }
-        let mut copy = Vec::with_capacity(alloc, bytes.len())?;
-        copy.extend_from_slice(bytes)?;
-        Ok(copy)
-    }
 
     #[inline]
     fn bytes(&self) -> &[u8] {
@@ -320,6 +310,28 @@ impl<A: Allocator> Buffer for Vec<u8, A> {
     ghost with_text = { Prim.search rules };
 
     ghost with_capacity = { Prim.search rules };
+}
+
+impl<A: Allocator> NewBuffer for Vec<u8, A> {
+    type Alloc = A;
+
+    #[inline]
+    fn empty(alloc: A) -> Self {
+        Vec::new(alloc)
+    }
+
+    fn with_room(alloc: A, capacity: usize) -> Result<Self, AllocError> {
+        Vec::with_capacity(alloc, capacity)
+    }
+
+    fn with_copy(alloc: A, bytes: &[u8]) -> Result<Self, AllocError> {
+        if bytes.is_empty() {
+            return Ok(Vec::new(alloc));
+        }
+        let mut copy = Vec::with_capacity(alloc, bytes.len())?;
+        copy.extend_from_slice(bytes)?;
+        Ok(copy)
+    }
 }
 
 impl<A: Allocator + Clone> CloneBuffer for Vec<u8, A> {

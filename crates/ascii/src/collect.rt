@@ -12,7 +12,7 @@ ghost use Rattle.ascii.specs.View.{text_of};
 
 use crate::ascii_str::AsciiStr;
 use crate::ascii_string::Text;
-use crate::buffer::Buffer;
+use crate::buffer::{Buffer, NewBuffer};
 use crate::bytes;
 use ascii_base::ascii_char::AsciiChar;
 use std::alloc::AllocError;
@@ -110,7 +110,9 @@ impl<B: Buffer> Text<B> {
         }
         Ok(())
     }
+}
 
+impl<B: NewBuffer> Text<B> {
     /// Returns a string of the characters of an iterator, in order. Fails only if an allocation
     /// fails.
     ///

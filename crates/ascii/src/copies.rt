@@ -7,7 +7,7 @@ ghost use Rattle.ascii.specs.View.{text_of};
 
 use crate::ascii_str::AsciiStr;
 use crate::ascii_string::{AsciiString, Text};
-use crate::buffer::Buffer;
+use crate::buffer::{Buffer, NewBuffer};
 use ascii_base::ascii_char::AsciiChar;
 use std::alloc::{AllocError, Allocator};
 
@@ -68,7 +68,7 @@ impl AsciiStr<'_> {
     }
 }
 
-impl<B: Buffer> Text<B> {
+impl<B: NewBuffer> Text<B> {
     /// Returns a string of one character. Fails only if the allocation fails.
     ///
     ///     AsciiString::from_char(alloc, AsciiChar::a)? // "a"
@@ -92,7 +92,9 @@ impl<B: Buffer> Text<B> {
         }
         Ok(string)
     }
+}
 
+impl<B: Buffer> Text<B> {
     /// Copies the characters of the string into a `Vec`, in order. If the allocation fails, returns
     /// the string as the error.
     ///

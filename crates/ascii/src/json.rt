@@ -12,7 +12,7 @@ ghost use Rattle.ascii.specs.View.{text_of};
 
 use crate::ascii_str::{AsAsciiStrError, AsciiStr};
 use crate::ascii_string::{AsciiString, Text};
-use crate::buffer::Buffer;
+use crate::buffer::{Buffer, NewBuffer};
 use crate::text;
 use ascii_base::ascii_char::{AsciiChar, ToAsciiChar};
 use serde_json::Value;
@@ -55,7 +55,7 @@ impl<B: Buffer> Text<B> {
     }
 }
 
-impl<B: Buffer<Refusal = AllocError>> Text<B> {
+impl<B: NewBuffer<Refusal = AllocError>> Text<B> {
     /// Returns a copy of the text of a JSON string, or an error: `NotText` if the value is not a
     /// JSON string, `NotAscii` with the position of the first non-ASCII byte, and `Memory` if the
     /// allocation fails.

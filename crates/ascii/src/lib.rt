@@ -64,6 +64,6 @@ pub use ascii_str::{AsAsciiStrError, AsciiStr};
 pub use ascii_str_mut::AsciiStrMut;
 pub use ascii_string::{AsciiString, Text};
 pub use boxed::{BoxedAsciiStr, CowAsciiStr, Kept, RcAsciiStr};
-pub use buffer::{Buffer, CloneBuffer, InlineBuffer};
+pub use buffer::{Buffer, CloneBuffer, InlineBuffer, NewBuffer};
 pub use from_ascii::{CopyError, FromAsciiError};
 pub use iter::{Chars, CharsRef};

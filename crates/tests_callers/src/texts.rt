@@ -7,14 +7,14 @@ ghost use Rattle.ascii.specs.Code.{code_of};
 ghost use Rattle.ascii.specs.Cow.{cow_text};
 ghost use Rattle.ascii.specs.View.{text_of};
 
-use ascii::{AsciiChar, AsciiStr, AsciiString, Buffer, CowAsciiStr, FromAsciiError, Kept, Text};
+use ascii::{AsciiChar, AsciiStr, AsciiString, Buffer, CowAsciiStr, FromAsciiError, Kept, NewBuffer, Text};
 use ascii_run::{ArrayAsciiString, Full, SmallAsciiString};
 use std::alloc::{AllocError, Allocator, Global};
 use std::convert::AsStr;
 use std::hash::{Hash, Hasher};
 
 /// A view in brackets, over any buffer.
-pub fn bracketed<B: Buffer>(alloc: B::Alloc, view: AsciiStr<'_>) -> Result<Text<B>, B::Refusal>
+pub fn bracketed<B: NewBuffer>(alloc: B::Alloc, view: AsciiStr<'_>) -> Result<Text<B>, B::Refusal>
     ensures { IfOk result (λ string. string.text ≡ 40 ∷ text_of view.entry ++ 41 ∷ []) }
 {
     let mut string = Text::new(alloc);

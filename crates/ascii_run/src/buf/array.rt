@@ -4,7 +4,7 @@ ghost use Rattle.std.specs.Prelude.{⊤, ◌≡◌, ◌≤◌, Some, codes, leng
 ghost use Rattle.arrayvec.specs.ArrayVec.{with_items};
 
 use arrayvec::ArrayVec;
-use ascii::{Buffer, CloneBuffer, Text};
+use ascii::{Buffer, CloneBuffer, NewBuffer, Text};
 use std::alloc::AllocError;
 use std::error::Error;
 use std::fmt;
@@ -50,8 +50,6 @@ impl<const N: usize> Array<N> {
 impl<const N: usize> Buffer for Array<N> {
     ghost use Rattle.std.proofs.Common.{rules};
 
-    type Alloc = ();
-
     type Refusal = Full;
 
     ghost state = { λ array. record { text = array.bytes.items; capacity = N } };
@@ -63,26 +61,6 @@ impl<const N: usize> Buffer for Array<N> {
     ghost most = { N };
 
     ghost shrinks = { λ old new. new ≡ old };
-
-    #[inline]
-    fn empty(_alloc: ()) -> Self {
-        Array {
-            bytes: ArrayVec::new(),
-        }
-    }
-
-    fn with_room(_alloc: (), capacity: usize) -> Result<Self, Full> {
-        if capacity > N {
-            return Err(Full);
-        }
-        Ok(Self::empty(()))
-    }
-
-    fn with_copy(_alloc: (), bytes: &[u8]) -> Result<Self, Full> {
-        let mut copy = Self::empty(());
-        copy.append(bytes)?;
-        Ok(copy)
-    }
 
     #[inline]
     fn bytes(&self) -> &[u8] {
@@ -163,6 +141,30 @@ impl<const N: usize> Buffer for Array<N> {
     ghost with_text = { Prim.search rules };
 
     ghost with_capacity = { Prim.search rules };
+}
+
+impl<const N: usize> NewBuffer for Array<N> {
+    type Alloc = ();
+
+    #[inline]
+    fn empty(_alloc: ()) -> Self {
+        Array {
+            bytes: ArrayVec::new(),
+        }
+    }
+
+    fn with_room(_alloc: (), capacity: usize) -> Result<Self, Full> {
+        if capacity > N {
+            return Err(Full);
+        }
+        Ok(Self::empty(()))
+    }
+
+    fn with_copy(_alloc: (), bytes: &[u8]) -> Result<Self, Full> {
+        let mut copy = Self::empty(());
+        copy.append(bytes)?;
+        Ok(copy)
+    }
 }
 
 impl<const N: usize> CloneBuffer for Array<N> {

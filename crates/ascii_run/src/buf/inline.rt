@@ -3,7 +3,7 @@
 ghost use Rattle.std.specs.Prelude.{⊤, ◌≡◌, ◌≤◌, length, max};
 ghost use Rattle.smallvec.specs.SmallVec.{with_items};
 
-use ascii::{Buffer, CloneBuffer, InlineBuffer, Text};
+use ascii::{Buffer, CloneBuffer, InlineBuffer, NewBuffer, Text};
 use smallvec::SmallVec;
 use std::alloc::{AllocError, Global};
 
@@ -36,8 +36,6 @@ impl<const N: usize> Buffer for Inline<N> {
     ghost use Rattle.std.below.core.specs.declared.int.usize.TheConstants.{MAX};
     ghost use Rattle.std.proofs.Common.{rules};
 
-    type Alloc = Global;
-
     type Refusal = AllocError;
 
     ghost state = { λ inline. record {
@@ -52,27 +50,6 @@ impl<const N: usize> Buffer for Inline<N> {
     ghost most = { MAX };
 
     ghost shrinks = { λ old new. new ≡ old };
-
-    #[inline]
-    fn empty(alloc: Global) -> Self {
-        Inline {
-            bytes: SmallVec::new(alloc),
-        }
-    }
-
-    fn with_room(alloc: Global, capacity: usize) -> Result<Self, AllocError> {
-        Ok(Inline {
-            bytes: SmallVec::with_capacity(alloc, capacity)?,
-        })
-    }
-
-    fn with_copy(alloc: Global, bytes: &[u8]) -> Result<Self, AllocError> {
-        let inline = Inline {
-            bytes: SmallVec::from_slice(alloc, bytes)?,
-        };
-        inline.tell_room();
-        Ok(inline)
-    }
 
     #[inline]
     fn bytes(&self) -> &[u8] {
@@ -160,6 +137,31 @@ impl<const N: usize> Buffer for Inline<N> {
     ghost with_text = { Prim.search rules };
 
     ghost with_capacity = { Prim.search rules };
+}
+
+impl<const N: usize> NewBuffer for Inline<N> {
+    type Alloc = Global;
+
+    #[inline]
+    fn empty(alloc: Global) -> Self {
+        Inline {
+            bytes: SmallVec::new(alloc),
+        }
+    }
+
+    fn with_room(alloc: Global, capacity: usize) -> Result<Self, AllocError> {
+        Ok(Inline {
+            bytes: SmallVec::with_capacity(alloc, capacity)?,
+        })
+    }
+
+    fn with_copy(alloc: Global, bytes: &[u8]) -> Result<Self, AllocError> {
+        let inline = Inline {
+            bytes: SmallVec::from_slice(alloc, bytes)?,
+        };
+        inline.tell_room();
+        Ok(inline)
+    }
 }
 
 impl<const N: usize> CloneBuffer for Inline<N> {

@@ -10,7 +10,7 @@ use ascii::json::{JsonError, char_from_json, char_to_json, str_from_json, string
 use ascii::numbers::{Number, NumberError};
 use ascii::{
     AsAsciiStrError, AsciiChar, AsciiRange, AsciiStr, AsciiString, Buffer, CloneBuffer,
-    CowAsciiStr, bytes, string, text, vec,
+    CowAsciiStr, NewBuffer, bytes, string, text, vec,
 };
 use serde_json::Value;
 use std::alloc::Global;
@@ -715,7 +715,7 @@ fn debug_of_cow_ascii_str(rt: HostRuntime) {
 #[test]
 fn buffer_of_ascii(rt: HostRuntime) {
     let alloc = rt.alloc();
-    let mut bytes: Vec<u8> = Buffer::with_copy(alloc, b"oo").expect(&rt, "refused");
+    let mut bytes: Vec<u8> = NewBuffer::with_copy(alloc, b"oo").expect(&rt, "refused");
     assert_debug!(rt; bytes.insert_byte(0, 102), "Ok(())");
     assert_debug!(rt; bytes.append_byte(33), "Ok(())");
     assert_debug!(rt; bytes.pop_byte(), "Some(33)");
@@ -725,22 +725,35 @@ fn buffer_of_ascii(rt: HostRuntime) {
     assert_debug!(rt; bytes.remove_byte(0), "122");
     bytes.keep_front(2);
     assert_debug!(rt; bytes, "[111, 111]");
-    let mut bytes: Vec<u8> = Buffer::with_room(alloc, 3).expect(&rt, "refused");
+    assert_debug!(rt; Buffer::reserve(&mut bytes, 10), "Ok(())");
+    assert_debug!(rt; Buffer::reserve_exact(&mut bytes, 20), "Ok(())");
+    assert_debug!(rt; bytes.room() >= 22, "true");
+    assert_debug!(rt; bytes.shrink(), "Ok(())");
+    assert_debug!(rt; bytes.is_inline(), "false");
+}
+
+// NewBuffer
+#[test]
+fn new_buffer_of_ascii(rt: HostRuntime) {
+    let alloc = rt.alloc();
+    let mut bytes: Vec<u8> = NewBuffer::with_room(alloc, 3).expect(&rt, "refused");
     assert_debug!(rt; bytes.room() >= 3, "true");
     assert_debug!(rt; Buffer::reserve(&mut bytes, 10), "Ok(())");
     assert_debug!(rt; Buffer::reserve_exact(&mut bytes, 20), "Ok(())");
     assert_debug!(rt; bytes.room() >= 20, "true");
     assert_debug!(rt; bytes.shrink(), "Ok(())");
     assert_debug!(rt; bytes.is_inline(), "true");
-    let bytes: Vec<u8> = Buffer::empty(alloc);
+    let bytes: Vec<u8> = NewBuffer::empty(alloc);
     assert_debug!(rt; bytes, "[]");
+    let bytes: Vec<u8> = NewBuffer::with_copy(alloc, b"foo").expect(&rt, "refused");
+    assert_debug!(rt; bytes, "[102, 111, 111]");
 }
 
 // CloneBuffer
 #[test]
 fn clone_buffer_of_ascii(rt: HostRuntime) {
     let alloc = rt.alloc();
-    let mut bytes: Vec<u8> = Buffer::with_copy(alloc, b"foobar").expect(&rt, "refused");
+    let mut bytes: Vec<u8> = NewBuffer::with_copy(alloc, b"foobar").expect(&rt, "refused");
     assert_debug!(rt; CloneBuffer::split_off(&mut bytes, 3), "Ok([98, 97, 114])");
     assert_debug!(rt; bytes.copy(), "Ok([102, 111, 111])");
 }

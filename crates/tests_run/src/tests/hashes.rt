@@ -1,6 +1,5 @@
 //! A text has one hash, in whichever type it is kept.
 
-use super::owned;
 use ascii::{BoxedAsciiStr, CowAsciiStr, RcAsciiStr};
 use ascii_run::{ArrayAsciiString, SmallAsciiString};
 use std::alloc::Global;
@@ -26,7 +25,8 @@ fn of_strings(rt: HostRuntime) {
     let alloc = rt.alloc();
     for &(text, hash) in &HASHES {
         assert_row!(rt; hash_of(&ascii(text)), hash);
-        assert_row!(rt; hash_of(&owned(&rt, text)), hash);
+        let string = ascii(text).to_ascii_string(alloc).expect(&rt, "refused");
+        assert_row!(rt; hash_of(&string), hash);
         let small = SmallAsciiString::from_ascii_str(alloc, ascii(text)).expect(&rt, "refused");
         assert_row!(rt; hash_of(&small), hash);
         let array = ArrayAsciiString::<32>::from_ascii_str((), ascii(text)).expect(&rt, "full");
@@ -44,7 +44,8 @@ fn of_kept_and_cow_text(rt: HostRuntime) {
         assert_row!(rt; hash_of(&shared), hash);
         let borrowed: CowAsciiStr<'_, Global> = ascii(text).into();
         assert_row!(rt; hash_of(&borrowed), hash);
-        let owned: CowAsciiStr<'_, Global> = owned(&rt, text).into();
+        let string = ascii(text).to_ascii_string(alloc).expect(&rt, "refused");
+        let owned: CowAsciiStr<'_, Global> = string.into();
         assert_row!(rt; hash_of(&owned), hash);
     }
 }

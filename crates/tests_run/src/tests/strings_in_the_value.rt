@@ -53,7 +53,7 @@ fn the_largest_number_has_39_digits(rt: HostRuntime) {
 
 #[test]
 fn made_of_too_much(rt: HostRuntime) {
-    let is_made = |source| ArrayAsciiString::<4>::from_ascii_str((), view(source)).is_ok();
+    let is_made = |source| ArrayAsciiString::<4>::from_ascii_str((), ascii(source)).is_ok();
     assert_row!(rt; is_made("abcd"), true);
     assert_row!(rt; is_made("abcde"), false);
     assert!(rt; ArrayAsciiString::<4>::with_capacity((), 4).is_ok());
@@ -123,7 +123,7 @@ fn small_strings_have_the_calls_of_the_large(rt: HostRuntime) {
 #[test]
 fn buffers_are_kept_or_copied(rt: HostRuntime) {
     let alloc = rt.alloc();
-    let long = AsciiString::from_ascii_str(alloc, view("abcdefghijklmnopqrstuvwxyz")).expect(
+    let long = AsciiString::from_ascii_str(alloc, ascii("abcdefghijklmnopqrstuvwxyz")).expect(
         &rt, "refused",
     );
     let kept = SmallAsciiString::try_from(Vec::from(long)).expect(&rt, "not ASCII");
