@@ -86,6 +86,13 @@ class Items(unittest.TestCase):
         self.assertEqual(sources.impl_name(impl), ("Display", "Holder"))
         self.assertEqual([item.kind for item in impl.inner], ["ghost", "fn"])
 
+    def test_an_impl_has_the_public_name_of_its_type(self):
+        text = "pub type Own<A = Global> = Text<Vec<u8, A>>;\n\nimpl<A: Allocator> Text<Vec<u8, A>> {\n}\n\n"
+        items = read_items(text + "impl<B: Buffer> Clone for Text<B> {\n}\n")
+        sources.give_aliases(items)
+        names = [sources.impl_name(item) for item in items if item.kind == "impl"]
+        self.assertEqual(names, [("", "Own"), ("Clone", "Text")])
+
     def test_paths_of_a_use(self):
         use = Item("use", "", "pub use a::b::{C, D}", True)
         self.assertEqual(sources.used_paths(use), [("a", "b", "C"), ("a", "b", "D")])
