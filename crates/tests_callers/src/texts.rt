@@ -7,7 +7,9 @@ ghost use Rattle.ascii.specs.Code.{code_of};
 ghost use Rattle.ascii.specs.Cow.{cow_text};
 ghost use Rattle.ascii.specs.View.{text_of};
 
-use ascii::{AsciiChar, AsciiStr, AsciiString, Buffer, CowAsciiStr, FromAsciiError, Kept, NewBuffer, Text};
+use ascii::{
+    AsciiChar, AsciiStr, AsciiString, Buffer, CowAsciiStr, FromAsciiError, Kept, NewBuffer, Text,
+};
 use ascii_run::{ArrayAsciiString, Full, SmallAsciiString};
 use std::alloc::{AllocError, Allocator, Global};
 use std::convert::AsStr;
