@@ -25,7 +25,6 @@ fn edited<B: Buffer>(string: &mut Text<B>, call: &str) -> Result<(), Reason> {
         "push_decimal" => string.push_decimal(42u64),
         "insert" => string.insert(0, AsciiChar::w),
         "insert_str" => string.insert_str(0, view("ww")),
-        "extend_chars" => string.extend_chars(view("y").chars()),
         "extend_strs" => string.extend_strs(view("yy").split(AsciiChar::Comma)),
         "reserve" if string.len() <= 100 => string.reserve(100),
         "reserve_exact" if string.len() <= 100 => string.reserve_exact(100),
@@ -37,13 +36,12 @@ fn edited<B: Buffer>(string: &mut Text<B>, call: &str) -> Result<(), Reason> {
 }
 
 /// An edit, its error, and what it puts before the text and after it.
-static EDITS: [(&str, &str, &str, &str); 11] = [
+static EDITS: [(&str, &str, &str, &str); 10] = [
     ("push", "Refused", "", "y"),
     ("push_str", "Refused", "", "yy"),
     ("push_decimal", "Refused", "", "42"),
     ("insert", "Refused", "w", ""),
     ("insert_str", "Refused", "ww", ""),
-    ("extend_chars", "Refused", "", "y"),
     ("extend_strs", "Refused", "", "yy"),
     ("write_str", "Error", "", "yy"),
     ("write_char", "Error", "", "y"),
@@ -103,7 +101,7 @@ fn of_an_inline_buffer(rt: HostRuntime) {
 fn of_an_inline_buffer_with_room(rt: HostRuntime) {
     let alloc = rt.alloc();
     // All but those that ask for more room than there is inline.
-    for &(call, _, before, behind) in &EDITS[..9] {
+    for &(call, _, before, behind) in &EDITS[..8] {
         let ample = format!(in alloc;
             "Ok(()) {before}{SHORT}{behind} {before}{SHORT}{behind}z"
         ).expect(&rt, "refused");
