@@ -5,3 +5,4 @@ mod cuts;
 mod in_place;
 mod iterators;
 mod spans;
+mod texts;
