@@ -94,7 +94,8 @@ class Crate:
         if trait:
             name = camel(owner, own) + camel(re.sub(r"^(\w+::)+", "", trait), own)
             found = [s for s in found if s.split("::")[1:-2] == module]
-            found = [s for s in found if s.split("::")[-2] == name] or [
+            # The prover writes `Any` for a parameter where the name would otherwise be that of another item.
+            found = [s for s in found if s.split("::")[-2].replace("Any", "") == name] or [
                 s for s in found if name.startswith(s.split("::")[-2])
             ]
         else:
