@@ -1,2 +1,4 @@
+pub mod BufferCopy
+pub mod Buffered
 pub mod Devices
 pub mod Wrapped

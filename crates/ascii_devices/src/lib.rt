@@ -19,6 +19,10 @@ ghost use Rattle.std.specs.Io.KnownBytes.{Appends, Consumes, IsAtEnd, Keeps};
 ghost use Rattle.std.specs.declared.option.Option.{Option};
 ghost use Rattle.ascii_devices.specs.Devices.{CountsFault};
 
+mod buffer_copy;
+mod buffered;
+
+pub use buffered::{BufferedSink, zeros};
 use std::error::Error;
 use std::{fmt, io};
 

@@ -1,7 +1,7 @@
 -- Replies that were written, one after another.
 use Rattle.std.proofs.Common.{◌≡◌, ℕ, ◌+◌, ◌<◌, suc, List, [], ◌∷◌, ◌++◌, length, get_or, take}
 use Rattle.std.proofs.Common.{drop, ◌-◌, ◌^◌, min, Ok, Err, Result, append-nil, ap, refl, sym, subst, ◌∙◌}
-use Rattle.std.proofs.Common.{append_assoc}
+use Rattle.std.proofs.Common.{append_assoc, true, false}
 use Rattle.std.proofs.KnownBytes.{Appends-trans}
 use Rattle.std.proofs.Math.Seq.{drop-cons}
 use Rattle.std.proofs.lemmas.Grind.{flat_map-append}
@@ -14,7 +14,6 @@ use Rattle.ascii.specs.Lines.{Line, line_text}
 use Rattle.ascii_lines.specs.declared.line_writer.LineWriter.{LineWriter}
 use Rattle.ascii_lines.specs.declared.line_writer.WriteError.{WriteError}
 use Rattle.ascii_lines.specs.declared.line_writer.WriteError.TheVariants.{LineBreak, Write}
-use Rattle.ascii_lines.specs.declared.line_writer.WriterStage.TheVariants.{Ready, Failed}
 use Rattle.ascii_lines.specs.LineWriter.{FailsToWrite, Flushes, FlushesFrom, FlushesOutcome}
 use Rattle.ascii_lines.specs.LineWriter.{WriterState, WritesBytes, WritesLine, WritesLineFrom}
 use Rattle.ascii_lines.specs.LineWriter.{state_of_writer}
@@ -24,7 +23,7 @@ use Rattle.ascii_lines.proofs.WriteBufferLemmas.{PassesPrefix-more}
 
 -- ---- bytes after bytes
 
-pub WritesBytes-nil : (a : WriterState) → a.stage ≡ Ready → WritesBytes a a []
+pub WritesBytes-nil : (a : WriterState) → a.is_broken ≡ false → WritesBytes a a []
 WritesBytes-nil a is = record {
   passed = Passes-nil (record { taken = a.taken; held = a.held });
   failures = refl;
@@ -134,7 +133,7 @@ module _ (ending : Ending) (items : List StringState) (i : ℕ) (d : StringState
         (reply_bytes ending (reply_texts (take (i + 1) items)))
     one_reply_more done writes =
         let line = reply_line ending (get_or items i d).text in
-        let ready : WritesLineFrom taken failures Ready old line (Ok done) new =
+        let ready : WritesLineFrom taken failures false old line (Ok done) new =
         subst (λ stage. WritesLineFrom taken failures stage old line (Ok done) new) so_far.stage
         writes in
         subst (WritesBytes a (state_of_writer taken failures new)) (sym bytes_more)
@@ -142,7 +141,7 @@ module _ (ending : Ending) (items : List StringState) (i : ℕ) (d : StringState
         so_far ready.1)
 
     reply_fails : (error : WriteError)
-        → WritesLineFrom taken failures Ready old (reply_line ending (get_or items i d).text)
+        → WritesLineFrom taken failures false old (reply_line ending (get_or items i d).text)
         (Err error) new
         → WritesReplies WritesBytes ending a (reply_texts items) (Err error)
         (state_of_writer taken failures new)
@@ -188,7 +187,7 @@ module _ {K Z : Type 0} (taken : K → Option (List ℕ)) (failures : K → ℕ)
   -- what a flush of an open writer does, after the replies
   flushed_from : (result : Result (Unit {0}) WriteError)
       → WritesBytes a (state_of_writer taken failures old) (reply_bytes ending texts)
-      → FlushesFrom taken failures Ready old result new
+      → FlushesFrom taken failures false old result new
       → WritesReplies WritesBytes ending a texts result (state_of_writer taken failures new)
   flushed_from (Ok done) writes flushes =
       subst (WritesBytes a (state_of_writer taken failures new))
@@ -221,7 +220,7 @@ module _ {K Z : Type 0} (taken : K → Option (List ℕ)) (failures : K → ℕ)
       (reply_bytes ending texts) writes
       (subst (λ stage. FlushesFrom taken failures stage old (Ok done) new) writes.stage flushes)
   sent_replies (Err Write) done writes flushes =
-      let failed : FlushesFrom taken failures Failed old (Ok done) new =
+      let failed : FlushesFrom taken failures true old (Ok done) new =
       subst (λ stage. FlushesFrom taken failures stage old (Ok done) new) writes.stage flushes in
       absurd (let e : Ok done ≡ Err Write = failed.0 in cc)
   sent_replies (Err (LineBreak k)) done writes flushes = (
@@ -242,7 +241,7 @@ module _ {K Z : Type 0} (taken : K → Option (List ℕ)) (failures : K → ℕ)
       → FlushesOutcome taken failures old (Err error) new
       → WritesReplies SendsBytes ending a texts (Err error) (state_of_writer taken failures new)
   fails_last bytes others error writes all flushes =
-      let open_flush : FlushesFrom taken failures Ready old (Err error) new =
+      let open_flush : FlushesFrom taken failures false old (Err error) new =
       subst (λ stage. FlushesFrom taken failures stage old (Err error) new) writes.stage
       flushes in
       subst
@@ -262,7 +261,7 @@ module _ {K Z : Type 0} (taken : K → Option (List ℕ)) (failures : K → ℕ)
       fails_last (reply_bytes ending texts) [] error writes
       (sym (append-nil (reply_bytes ending texts))) flushes
   failed_replies (Err Write) error writes flushes =
-      let failed : FlushesFrom taken failures Failed old (Err error) new =
+      let failed : FlushesFrom taken failures true old (Err error) new =
       subst (λ stage. FlushesFrom taken failures stage old (Err error) new) writes.stage
       flushes in
       let same : error ≡ Write = let e : Err error ≡ Err Write = failed.0 in cc in

@@ -1,18 +1,12 @@
 -- Bytes that were written through a buffer, one piece after another.
-use Rattle.std.proofs.Common.{◌≡◌, ℕ, List, [], ◌++◌, ap, sym, ◌∙◌, append_assoc, append-nil}
-use Rattle.std.proofs.Common.{Ok, Err, Result, OnErr, ◌-◌, length, take, drop, arith}
-use Rattle.std.proofs.lemmas.Grind.{common_steps}
-use Rattle.std.proofs.lemmas.List.{take-append-drop}
+use Rattle.std.proofs.Common.{◌≡◌, ℕ, List, [], ◌++◌, ap, sym, subst, ◌∙◌, append_assoc, append-nil}
+use Rattle.std.proofs.Common.{Bool, true, false, ◌+◌, ◌-◌, ◌^◌, ◌<◌, arith}
+use Rattle.std.proofs.lemmas.Bool.{false≢true}
 use Rattle.std.proofs.KnownBytes.{Appends-nil, Appends-trans}
-use Rattle.ascii_lines.specs.WriteBuffer.{Flow, Passes, PassesPrefix}
-
--- what was sent of two pieces, and what of them is held
-append_two : (sent more held mid before first second : List ℕ)
-    → sent ++ mid ≡ before ++ first → more ++ held ≡ mid ++ second
-    → (sent ++ more) ++ held ≡ before ++ (first ++ second)
-append_two sent more held mid before first second one two =
-    append_assoc sent more held ∙ (ap (λ xs. sent ++ xs) two ∙ (sym (append_assoc sent mid second)
-    ∙ (ap (λ xs. xs ++ second) one ∙ append_assoc before first second)))
+use Rattle.ascii_devices.specs.Buffered.{AppendsBy, AppendsBytes, AppendsFront}
+use Rattle.ascii_devices.specs.Buffered.{OutputState}
+use Rattle.ascii_devices.proofs.ListLemmas.{append_two}
+use Rattle.ascii_lines.specs.WriteBuffer.{Flow, Passes, PassesPrefix, PutsBytes, flow, one_more}
 
 -- nothing was written
 pub Passes-nil : (a : Flow) → Passes a a []
@@ -49,12 +43,42 @@ PassesPrefix-more {a} {b} first second one = record {
       ∙ (ap (λ xs. xs ++ second) one.all ∙ append_assoc a.held first second);
 }
 
--- what holds of any result holds of an error
-pub on_any_err : {T E P : Type 0} (r : Result T E) → P → OnErr r P
-on_any_err (Ok _) p = tt
-on_any_err (Err _) p = p
+-- ---- through the buffer of a sink
 
--- a prefix that was sent and the rest after it are still all of the bytes, after one more prefix
-pub sent_more : (sent rest bytes : List ℕ) (n : ℕ) → sent ++ rest ≡ bytes
-    → (sent ++ take n rest) ++ take (length rest - n) (drop n rest) ≡ bytes
-sent_more sent rest bytes n h = grind (arith, common_steps, take-append-drop)
+abbrev before : OutputState → Flow
+before a = flow a.taken a.buffer.bytes
+
+-- the sink took a prefix
+front_of : (a b : OutputState) (bytes : List ℕ) → AppendsFront a.taken b.taken (a.buffer.bytes ++ bytes)
+    → PassesPrefix (before a) (before b) bytes
+front_of a b bytes (sent, others, took, is) =
+    record { sent = sent; others = others; took = took; all = is }
+
+-- one more failure is counted
+counted : (n m : ℕ) → n < 2 ^ 64 - 1 → m ≡ n + 1 → m ≡ one_more n
+counted n m low is = omega (arith, low, is)
+
+whole_by : (q : Bool) (a b : OutputState) (bytes : List ℕ) → AppendsBy false q a b bytes
+    → q ≡ false → Passes (before a) (before b) bytes × (b.failures ≡ a.failures)
+whole_by false a b bytes (sent, took, is, same) none =
+    (record { sent = sent; took = took; all = is }, same)
+whole_by true a b bytes appends none = absurd (false≢true (sym none))
+
+broken_by : (q : Bool) (a b : OutputState) (bytes : List ℕ) → AppendsBy false q a b bytes
+    → a.failures < 2 ^ 64 - 1 → q ≡ true
+    → PassesPrefix (before a) (before b) bytes × (b.failures ≡ one_more a.failures)
+broken_by false a b bytes appends low some = absurd (false≢true some)
+broken_by true a b bytes (front, count) low some =
+    (front_of a b bytes front, counted a.failures b.failures low count)
+
+-- bytes were appended to a buffer through which no write had failed
+pub puts : {a b : OutputState} (bytes : List ℕ) → a.buffer.is_broken ≡ false
+    → a.failures < 2 ^ 64 - 1 → AppendsBytes a b bytes → PutsBytes a b bytes
+puts {a} {b} bytes ready low appends =
+    let q = b.buffer.is_broken in
+    let by = subst (λ p. AppendsBy p q a b bytes) ready appends.by_failure in
+    record {
+      whole = whole_by q a b bytes by;
+      broken = broken_by q a b bytes by low;
+      size = appends.size;
+    }

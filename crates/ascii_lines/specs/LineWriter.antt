@@ -1,5 +1,5 @@
 -- What a line writer writes, and the errors it returns.
-use Rattle.std.specs.Prelude.{◌≡◌, ℕ, ◌+◌, ◌-◌, ◌^◌, Bool, List, [], min, Ok, Err, None, Some}
+use Rattle.std.specs.Prelude.{◌≡◌, ℕ, ◌+◌, ◌-◌, ◌^◌, Bool, List, [], min, Ok, Err, None, Some, true, false}
 use Rattle.std.specs.Io.KnownBytes.{Appends}
 use Rattle.std.specs.List.{flat_map}
 use Rattle.std.specs.declared.option.Option.{Option}
@@ -13,18 +13,16 @@ use Rattle.ascii_lines.specs.WriteBuffer.{Passes, PassesPrefix, flow}
 use Rattle.ascii_lines.specs.declared.line_writer.LineWriter.{LineWriter}
 use Rattle.ascii_lines.specs.declared.line_writer.WriteError.{WriteError}
 use Rattle.ascii_lines.specs.declared.line_writer.WriteError.TheVariants.{LineBreak, Write}
-use Rattle.ascii_lines.specs.declared.line_writer.WriterStage.{WriterStage}
-use Rattle.ascii_lines.specs.declared.line_writer.WriterStage.TheVariants.{Ready, Failed}
 
 -- the state of a writer: the size of its buffer; the bytes that its sink has taken, if they are
 -- known; the bytes that were written and that the sink has not taken yet; how many calls of the
--- sink have failed; whether the writer goes on
+-- sink have failed; whether one did, so that nothing more is written
 pub record WriterState : Type 0 where
   pub size : ℕ
   pub taken : Option (List ℕ)
   pub held : List ℕ
   pub failures : ℕ
-  pub stage : WriterStage
+  pub is_broken : Bool
 
 -- the state of a writer whose sink has taken the bytes `taken sink`, and has failed `failures sink`
 -- times
@@ -33,9 +31,9 @@ abbrev pub state_of_writer
 state_of_writer taken failures writer = record {
   size = writer.buffer.size;
   taken = taken writer.sink;
-  held = writer.buffer.held;
+  held = writer.buffer.bytes;
   failures = failures writer.sink;
-  stage = writer.stage;
+  is_broken = writer.buffer.is_broken;
 }
 
 -- the sink of a writer
@@ -46,7 +44,7 @@ sink_of writer = writer.sink
 -- failed `failures` times
 abbrev pub IsFreshWriter : ℕ → Option (List ℕ) → ℕ → WriterState → Type 0
 IsFreshWriter size taken failures writing = (writing.size ≡ size) × (writing.taken ≡ taken)
-    × (writing.held ≡ []) × (writing.failures ≡ failures) × (writing.stage ≡ Ready)
+    × (writing.held ≡ []) × (writing.failures ≡ failures) × (writing.is_broken ≡ false)
 
 -- a body and an ending as a line
 abbrev pub line_with : AsciiStr → Ending → Line
@@ -62,7 +60,7 @@ is_line_break = is_byte2 13 10
 pub record WritesBytes (old new : WriterState) (bytes : List ℕ) : Type 0 where
   pub passed : Passes (flow old.taken old.held) (flow new.taken new.held) bytes
   pub failures : new.failures ≡ old.failures
-  pub stage : new.stage ≡ Ready
+  pub stage : new.is_broken ≡ false
   pub size : new.size ≡ old.size
 
 -- a call of the sink failed while the bytes were written: of the bytes held before and then
@@ -70,7 +68,7 @@ pub record WritesBytes (old new : WriterState) (bytes : List ℕ) : Type 0 where
 pub record FailsToWrite (old new : WriterState) (bytes : List ℕ) : Type 0 where
   pub passed : PassesPrefix (flow old.taken old.held) (flow new.taken new.held) bytes
   pub failures : new.failures ≡ min (old.failures + 1) (2 ^ 64 - 1)
-  pub stage : new.stage ≡ Failed
+  pub stage : new.is_broken ≡ true
   pub size : new.size ≡ old.size
 
 -- the sink took all bytes that were held, the writer holds none, and no call of the sink failed
@@ -78,7 +76,7 @@ pub record Flushes (old new : WriterState) : Type 0 where
   pub took : Appends old.taken new.taken old.held
   pub none : new.held ≡ []
   pub failures : new.failures ≡ old.failures
-  pub stage : new.stage ≡ Ready
+  pub stage : new.is_broken ≡ false
   pub size : new.size ≡ old.size
 
 -- from the state `old` to the state `new` these lines were written, in order: `WritesBytes` of
@@ -91,34 +89,34 @@ module _ {K Z : Type 0} (taken : K → Option (List ℕ)) (failures : K → ℕ)
   -- and the line was written. `LineBreak`: the position of the first CR or LF of the body, and
   -- nothing was changed. `Write`: a call of the sink failed. At `Failed` the error is `Write`, and
   -- nothing is changed
-  abbrev pub WritesLineFrom : WriterStage
+  abbrev pub WritesLineFrom : Bool
       → LineWriter K Z → Line → Result (Unit {0}) WriteError → LineWriter K Z → Type 0
-  WritesLineFrom Ready old line (Ok _) new = IsFirstByte is_line_break line.body None
+  WritesLineFrom false old line (Ok _) new = IsFirstByte is_line_break line.body None
       × WritesBytes (state_of_writer taken failures old) (state_of_writer taken failures new)
       (line_text line)
-  WritesLineFrom Ready old line (Err (LineBreak k)) new =
+  WritesLineFrom false old line (Err (LineBreak k)) new =
       IsFirstByte is_line_break line.body (Some k) × (new ≡ old)
-  WritesLineFrom Ready old line (Err Write) new = IsFirstByte is_line_break line.body None
+  WritesLineFrom false old line (Err Write) new = IsFirstByte is_line_break line.body None
       × FailsToWrite (state_of_writer taken failures old) (state_of_writer taken failures new)
       (line_text line)
-  WritesLineFrom Failed old line result new = (result ≡ Err Write) × (new ≡ old)
+  WritesLineFrom true old line result new = (result ≡ Err Write) × (new ≡ old)
 
   -- what writing a line does
   abbrev pub WritesLine
       : LineWriter K Z → Line → Result (Unit {0}) WriteError → LineWriter K Z → Type 0
-  WritesLine old line result new = WritesLineFrom old.stage old line result new
+  WritesLine old line result new = WritesLineFrom old.buffer.is_broken old line result new
 
   -- what a flush does, by the stage of the writer. `Ok`: `Flushes`. `Err`, always `Write`: a call
   -- of the sink failed, or at `Failed` had failed before, and then nothing is changed
   abbrev pub FlushesFrom
-      : WriterStage → LineWriter K Z → Result (Unit {0}) WriteError → LineWriter K Z → Type 0
-  FlushesFrom Ready old (Ok _) new =
+      : Bool → LineWriter K Z → Result (Unit {0}) WriteError → LineWriter K Z → Type 0
+  FlushesFrom false old (Ok _) new =
       Flushes (state_of_writer taken failures old) (state_of_writer taken failures new)
-  FlushesFrom Ready old (Err error) new = (error ≡ Write)
+  FlushesFrom false old (Err error) new = (error ≡ Write)
       × FailsToWrite (state_of_writer taken failures old) (state_of_writer taken failures new) []
-  FlushesFrom Failed old result new = (result ≡ Err Write) × (new ≡ old)
+  FlushesFrom true old result new = (result ≡ Err Write) × (new ≡ old)
 
   -- what a flush does
   abbrev pub FlushesOutcome
       : LineWriter K Z → Result (Unit {0}) WriteError → LineWriter K Z → Type 0
-  FlushesOutcome old result new = FlushesFrom old.stage old result new
+  FlushesOutcome old result new = FlushesFrom old.buffer.is_broken old result new

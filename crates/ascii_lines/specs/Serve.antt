@@ -1,5 +1,5 @@
 -- What a server reads, what its handler replies, and why it stops.
-use Rattle.std.specs.Prelude.{◌≡◌, ◌⊎◌, ◌<◌, ℕ, List, [], ◌∷◌, ◌++◌, length, map, ⊤, Ok, Err, Some}
+use Rattle.std.specs.Prelude.{◌≡◌, ◌⊎◌, ◌<◌, ℕ, List, [], ◌∷◌, ◌++◌, length, map, ⊤, Ok, Err, Some, false}
 use Rattle.std.specs.Io.KnownBytes.{Appends}
 use Rattle.std.specs.List.{flat_map}
 use Rattle.std.specs.declared.result.Result.{Result}
@@ -19,7 +19,6 @@ use Rattle.ascii_lines.specs.declared.line_reader.Stage.TheVariants.{Open, Ended
 use Rattle.ascii_lines.specs.declared.line_writer.LineWriter.{LineWriter}
 use Rattle.ascii_lines.specs.declared.line_writer.WriteError.{WriteError}
 use Rattle.ascii_lines.specs.declared.line_writer.WriteError.TheVariants.{LineBreak, Write}
-use Rattle.ascii_lines.specs.declared.line_writer.WriterStage.TheVariants.{Ready}
 use Rattle.ascii_lines.specs.declared.serving.Next.{Next}
 use Rattle.ascii_lines.specs.declared.serving.Next.TheVariants as next
 use Rattle.ascii_lines.specs.declared.serving.Stop.{Stop}
@@ -27,7 +26,7 @@ use Rattle.ascii_lines.specs.declared.serving.Stop.TheVariants as stop
 
 -- no call of the writer has returned `Write`
 abbrev pub IsReady : {K Z : Type 0} → LineWriter K Z → Type 0
-IsReady writer = writer.stage ≡ Ready
+IsReady writer = writer.buffer.is_broken ≡ false
 
 -- the texts of replies
 abbrev pub reply_texts : List StringState → List (List ℕ)
@@ -74,7 +73,7 @@ pub record SendsBytes (old new : WriterState) (bytes : List ℕ) : Type 0 where
   pub took : Appends old.taken new.taken (old.held ++ bytes)
   pub none : new.held ≡ []
   pub failures : new.failures ≡ old.failures
-  pub stage : new.stage ≡ Ready
+  pub stage : new.is_broken ≡ false
   pub size : new.size ≡ old.size
 
 -- replies were written, as `Writes` says of their bytes. `Write`: a call of the sink failed, and a

@@ -1,13 +1,8 @@
 -- What a buffer of fixed size holds before a sink, and what writing bytes through it does.
-use Rattle.std.specs.Prelude.{◌≡◌, ℕ, ◌+◌, ◌-◌, ◌^◌, List, ◌++◌, min, Ok, Err}
+use Rattle.std.specs.Prelude.{◌≡◌, ℕ, ◌+◌, ◌-◌, ◌^◌, List, ◌++◌, min, true, false}
 use Rattle.std.specs.Io.KnownBytes.{Appends}
 use Rattle.std.specs.declared.option.Option.{Option}
-use Rattle.std.specs.declared.result.Result.{Result}
-
--- what contracts see of a buffer: its size; the bytes that it holds for the sink
-pub record HeldState : Type 0 where
-  pub size : ℕ
-  pub held : List ℕ
+use Rattle.ascii_devices.specs.Buffered.{OutputState}
 
 -- a sink with the buffer before it: the bytes that the sink has taken, if they are known; the bytes
 -- that the buffer holds
@@ -34,8 +29,19 @@ pub record PassesPrefix (old new : Flow) (bytes : List ℕ) : Type 0 where
 abbrev pub flow : Option (List ℕ) → List ℕ → Flow
 flow taken held = record { taken = taken; held = held }
 
--- the failures of the sink after a call with this result, of `n` before: one more on `Err`, unless
--- `n` is 2 ^ 64 - 1
-abbrev pub failures_of_sink : {T E : Type 0} → ℕ → Result T E → ℕ
-failures_of_sink n (Ok _) = n
-failures_of_sink n (Err _) = min (n + 1) (2 ^ 64 - 1)
+-- the count of failures after one more, which stops at 2 ^ 64 - 1
+abbrev pub one_more : ℕ → ℕ
+one_more n = min (n + 1) (2 ^ 64 - 1)
+
+-- ---- cited by private functions only
+
+-- `bytes` were put through a buffer: `Passes`; or a write failed, `PassesPrefix`, and one more
+-- failure is counted
+pub record PutsBytes (old new : OutputState) (bytes : List ℕ) : Type 0 where
+  pub whole : new.buffer.is_broken ≡ false
+      → Passes (flow old.taken old.buffer.bytes) (flow new.taken new.buffer.bytes) bytes
+      × (new.failures ≡ old.failures)
+  pub broken : new.buffer.is_broken ≡ true
+      → PassesPrefix (flow old.taken old.buffer.bytes) (flow new.taken new.buffer.bytes) bytes
+      × (new.failures ≡ one_more old.failures)
+  pub size : new.buffer.size ≡ old.buffer.size

@@ -22,7 +22,6 @@ mod line_reader;
 mod line_writer;
 mod owned_lines;
 mod serving;
-mod write_buffer;
 
 pub use ascii::iter::Ending;
 pub use ascii::{AsciiChar, AsciiStr, AsciiString};

@@ -1,15 +1,16 @@
 //! A writer of lines over any sink, through one buffer of fixed size.
 
-ghost use Rattle.std.specs.Prelude.{◌≡◌, ◌+◌, ◌-◌, ◌^◌, ◌++◌, [], IfOk, OnErr, OnOk, min};
+ghost use Rattle.std.specs.Prelude.{◌≡◌, ◌++◌, [], IfOk, OnErr, OnOk, false, true};
+ghost use Rattle.std.specs.Io.KnownBytes.{Appends};
 ghost use Rattle.ascii.specs.Lines.{ending_text};
 ghost use Rattle.ascii_lines.specs.LineWriter.{FlushesOutcome, IsFreshWriter, WritesLine};
 ghost use Rattle.ascii_lines.specs.LineWriter.{line_with, sink_of, state_of_writer};
-ghost use Rattle.ascii_lines.specs.WriteBuffer.{Passes, PassesPrefix, failures_of_sink, flow};
+ghost use Rattle.ascii_devices.specs.Buffered.{IsReady, output_state};
+ghost use Rattle.ascii_lines.specs.WriteBuffer.{PutsBytes};
 
-use crate::write_buffer::WriteBuffer;
 use ascii::AsciiStr;
 use ascii::iter::Ending;
-use ascii_devices::{DeviceFault, Sink};
+use ascii_devices::{BufferedSink, DeviceFault, Sink};
 use memchr::memchr2;
 use std::alloc::{AllocError, Allocator, Global};
 
@@ -23,22 +24,12 @@ pub enum WriteError {
     Write,
 }
 
-/// Whether a writer writes further lines.
-#[derive(Clone, Copy)]
-enum WriterStage {
-    /// It does.
-    Ready,
-    /// A call of the sink has failed.
-    Failed,
-}
-
 /// A writer of lines. It gathers lines in one buffer, and passes that to its sink when it is full or flushed.
 /// A line that is longer than the buffer goes to the sink in parts.
 #[derive(Drop)]
 pub struct LineWriter<K, A: Allocator = Global> {
     sink: K,
-    buffer: WriteBuffer<A>,
-    stage: WriterStage,
+    buffer: BufferedSink<A>,
 }
 
 impl<K: Sink, A: Allocator> LineWriter<K, A> {
@@ -58,12 +49,8 @@ impl<K: Sink, A: Allocator> LineWriter<K, A> {
             (state_of_writer K.taken K.failures writer)) }
         ensures sink { IfOk result (λ writer. sink_of writer ≡ sink) }
     {
-        let buffer = WriteBuffer::new(alloc, size)?;
-        Ok(LineWriter {
-            sink,
-            buffer,
-            stage: WriterStage::Ready,
-        })
+        let buffer = BufferedSink::new(alloc, size)?;
+        Ok(LineWriter { sink, buffer })
     }
 
     /// Returns the sink. Bytes that the writer holds are lost: call `flush` first.
@@ -98,15 +85,15 @@ impl<K: Sink, A: Allocator> LineWriter<K, A> {
         ensures { WritesLine K.taken K.failures self.old (line_with body.entry ending) result
             self.new }
     {
-        if let WriterStage::Failed = self.stage {
+        if self.buffer.is_broken() {
             return Err(WriteError::Write);
         }
         let body = body.as_bytes();
         if let Some(place) = memchr2(b'\r', b'\n', body) {
             return Err(WriteError::LineBreak(place));
         }
-        if put_line(&mut self.buffer, &mut self.sink, body, ending).is_err() {
-            self.stage = WriterStage::Failed;
+        put_line(&mut self.buffer, &mut self.sink, body, ending);
+        if self.buffer.is_broken() {
             return Err(WriteError::Write);
         }
         Ok(())
@@ -123,60 +110,59 @@ impl<K: Sink, A: Allocator> LineWriter<K, A> {
     pub fn flush(&mut self) -> Result<(), WriteError>
         ensures { FlushesOutcome K.taken K.failures self.old result self.new }
     {
-        if let WriterStage::Failed = self.stage {
+        if self.buffer.is_broken() {
             return Err(WriteError::Write);
         }
-        if send_all(&mut self.buffer, &mut self.sink).is_err() {
-            self.stage = WriterStage::Failed;
-            return Err(WriteError::Write);
+        match send_all(&mut self.buffer, &mut self.sink) {
+            Ok(()) => Ok(()),
+            Err(_) => Err(WriteError::Write),
         }
-        Ok(())
     }
 }
 
 /// Writes a body and its ending.
 #[inline]
 fn put_line<K: Sink, A: Allocator>(
-    buffer: &mut WriteBuffer<A>,
+    buffer: &mut BufferedSink<A>,
     sink: &mut K,
     body: &[u8],
     ending: Ending,
-) -> Result<(), DeviceFault>
-    ensures ok { OnOk result (Passes (flow (K.taken sink.old) buffer.old.held)
-        (flow (K.taken sink.new) buffer.new.held) (body.now ++ ending_text ending)) }
-    ensures err { OnErr result (PassesPrefix (flow (K.taken sink.old) buffer.old.held)
-        (flow (K.taken sink.new) buffer.new.held) (body.now ++ ending_text ending)) }
-    ensures count { K.failures sink.new ≡ failures_of_sink (K.failures sink.old) result }
-    ensures size { buffer.new.size ≡ buffer.old.size }
+)
+    requires { buffer.old.is_broken ≡ false }
+    ensures { PutsBytes (output_state K.Sink sink.old buffer.old)
+        (output_state K.Sink sink.new buffer.new) (body.now ++ ending_text ending) }
 {
     if sink.failures() == u64::MAX {
-        return Err(DeviceFault);
+        buffer.give_up();
+        return;
     }
-    buffer.put(sink, body)?;
-    match ending {
-        Ending::Lf => buffer.put_byte(sink, b'\n'),
-        _ => buffer.put(sink, ending_bytes(ending)),
+    if let Ending::Lf = ending {
+        buffer.put_line(sink, body);
+    } else {
+        buffer.put(sink, body);
+        buffer.put(sink, ending_bytes(ending));
     }
 }
 
 /// Sends what the buffer holds, and flushes the sink.
 fn send_all<K: Sink, A: Allocator>(
-    buffer: &mut WriteBuffer<A>,
+    buffer: &mut BufferedSink<A>,
     sink: &mut K,
 ) -> Result<(), DeviceFault>
-    ensures ok { OnOk result (Passes (flow (K.taken sink.old) buffer.old.held)
-        (flow (K.taken sink.new) buffer.new.held) []) }
-    ensures empty { OnOk result (buffer.new.held ≡ []) }
-    ensures err { OnErr result (PassesPrefix (flow (K.taken sink.old) buffer.old.held)
-        (flow (K.taken sink.new) buffer.new.held) []) }
-    ensures count { K.failures sink.new ≡ failures_of_sink (K.failures sink.old) result }
+    requires { buffer.old.is_broken ≡ false }
+    ensures ok { OnOk result (Appends (K.taken sink.old) (K.taken sink.new) buffer.old.bytes
+        × (K.failures sink.new ≡ K.failures sink.old)) }
+    ensures ready { OnOk result (IsReady buffer.new) }
+    ensures err { OnErr result (PutsBytes (output_state K.Sink sink.old buffer.old)
+        (output_state K.Sink sink.new buffer.new) []) }
+    ensures broken { OnErr result (buffer.new.is_broken ≡ true) }
     ensures size { buffer.new.size ≡ buffer.old.size }
 {
     if sink.failures() == u64::MAX {
+        buffer.give_up();
         return Err(DeviceFault);
     }
-    buffer.send(sink)?;
-    sink.flush()
+    buffer.finish(sink)
 }
 
 /// The bytes of an ending.

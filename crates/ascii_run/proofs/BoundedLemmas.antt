@@ -21,11 +21,10 @@ use Rattle.ascii_run.specs.declared.faults.BoundedFault.{BoundedFault}
 use Rattle.ascii_run.specs.declared.faults.BoundedFault.TheVariants.{NotAscii, TooLong, Memory}
 use Rattle.ascii_run.specs.declared.faults.BoundedFault.TheVariants.{Read, Write}
 use Rattle.ascii_run.specs.Bounded.{BoundedOutcome, GivesFront, GivesWhole}
-use Rattle.ascii_run.specs.Engine.{AppendsFront}
-use Rattle.ascii_run.specs.FrontOutput.{PassesOn, closing, last_after, opening}
-use Rattle.ascii_run.specs.FrontOutput.{part_output}
-use Rattle.ascii_run.proofs.FrontOutputLemmas.{front_more, front_start, front_text, is_front}
-use Rattle.ascii_run.proofs.FrontOutputLemmas.{is_whole, last_more}
+use Rattle.ascii_run.specs.FrontOutput.{PassesOn}
+use Rattle.ascii_devices.specs.Buffered.{AppendsFront}
+use Rattle.ascii_run.specs.Streamed.{front, last_after, stream}
+use Rattle.ascii_run.proofs.StreamedLemmas.{front_more, front_start, is_front, is_whole, last_more}
 
 -- ---- written
 
@@ -51,10 +50,10 @@ prefix_written bytes a b f g Read passes = absurd passes
 -- one part more of the front output, as the output was before it
 pub part_more : (mode state : BoundedMode) (last : ℕ) (done part : List ℕ) → state ≡ mode
     → last ≡ last_after 10 done
-    → front_text mode done ++ part_output state last part ≡ front_text mode (done ++ part)
+    → front (stream mode) done ++ (stream state).part last part ≡ front (stream mode) (done ++ part)
 part_more mode state last done part is at =
-    ap (λ m. front_text mode done ++ part_output m last part) is
-    ∙ (ap (λ n. front_text mode done ++ part_output mode n part) at ∙ front_more mode done part)
+    ap (λ m. front (stream mode) done ++ (stream m).part last part) is
+    ∙ (ap (λ n. front (stream mode) done ++ (stream mode).part n part) at ∙ front_more mode done part)
 
 pub last_kept : (last before : ℕ) (done part : List ℕ) → last ≡ last_after before part
     → before ≡ last_after 10 done → last ≡ last_after 10 (done ++ part)
@@ -63,16 +62,16 @@ last_kept last before done part is at =
 
 -- the opening was written, or a prefix of it
 pub opened : (mode state : BoundedMode) (a b : Option (List ℕ)) → state ≡ mode
-    → Appends a b (opening state) → Appends a b (front_text mode [])
-opened mode state a b is = subst (Appends a b) (ap opening is ∙ sym (front_start mode))
+    → Appends a b (stream state).opening → Appends a b (front (stream mode) [])
+opened mode state a b is = subst (Appends a b) (ap (λ m. (stream m).opening) is ∙ sym (front_start mode))
 
 pub opening_fails : (mode state : BoundedMode) (r a b : Option (List ℕ)) → state ≡ mode
-    → AppendsFront a b (opening state)
+    → AppendsFront a b (stream state).opening
     → BoundedOutcome mode (Err Write) (record { remaining = r; taken = a })
     (record { remaining = r; taken = b })
 opening_fails mode state r a b is wrote = (
-  front_text mode [],
-  subst (AppendsFront a b) (ap opening is ∙ sym (front_start mode)) wrote,
+  front (stream mode) [],
+  subst (AppendsFront a b) (ap (λ m. (stream m).opening) is ∙ sym (front_start mode)) wrote,
   inl (
     [],
     record {
@@ -89,7 +88,7 @@ opening_fails mode state r a b is wrote = (
 -- a text and the text at the front of a part after it
 pub gives_more : (mode : BoundedMode) (a b c : Option (List ℕ)) (done part : List ℕ) (n : ℕ)
     → Consumes a b done → Consumes b c part → IsAscii done → IsAscii (take n part)
-    → GivesFront mode a c (drop n part) (front_text mode (done ++ take n part))
+    → GivesFront mode a c (drop n part) (front (stream mode) (done ++ take n part))
 gives_more mode a b c done part n first second ascii more = record {
   text = done ++ take n part;
   read = subst (Consumes a c)
@@ -102,7 +101,7 @@ gives_more mode a b c done part n first second ascii more = record {
 
 -- all that was read is a text
 pub gives_all : (mode : BoundedMode) (a b : Option (List ℕ)) (done : List ℕ) → Consumes a b done
-    → IsAscii done → GivesFront mode a b [] (front_text mode done)
+    → IsAscii done → GivesFront mode a b [] (front (stream mode) done)
 gives_all mode a b done first ascii = record {
   text = done;
   read = subst (Consumes a b) (sym (append-nil done)) first;
@@ -121,33 +120,33 @@ whole_part a b c done part n long first second =
 pub part_fails : (mode state : BoundedMode) (last : ℕ) (r s t a b c : Option (List ℕ))
     (done part : List ℕ) (n : ℕ) → state ≡ mode → last ≡ last_after 10 done
     → Consumes r s done → Consumes s t part → IsAscii done → IsAscii (take n part)
-    → Appends a b (front_text mode done)
-    → AppendsFront b c (part_output state last (take n part))
+    → Appends a b (front (stream mode) done)
+    → AppendsFront b c ((stream state).part last (take n part))
     → BoundedOutcome mode (Err Write) (record { remaining = r; taken = a })
     (record { remaining = t; taken = c })
-part_fails mode state last r s t a b c done part n is at first second ascii more wrote front =
+part_fails mode state last r s t a b c done part n is at first second ascii more wrote fails =
     let text = done ++ take n part in (
-      front_text mode text,
+      front (stream mode) text,
       subst (AppendsFront a c) (part_more mode state last done (take n part) is at)
-          (AppendsFront-after a b c (front_text mode done) (part_output state last (take n part))
-          wrote front),
+          (AppendsFront-after a b c (front (stream mode) done) ((stream state).part last (take n part))
+          wrote fails),
       inl (drop n part, gives_more mode r s t done part n first second ascii more),
     )
 
 -- a part was written
 pub part_written : (mode state : BoundedMode) (last : ℕ) (a b c : Option (List ℕ))
     (done part : List ℕ) → state ≡ mode → last ≡ last_after 10 done
-    → Appends a b (front_text mode done) → Appends b c (part_output state last part)
-    → Appends a c (front_text mode (done ++ part))
+    → Appends a b (front (stream mode) done) → Appends b c ((stream state).part last part)
+    → Appends a c (front (stream mode) (done ++ part))
 part_written mode state last a b c done part is at wrote more =
     subst (Appends a c) (part_more mode state last done part is at)
-    (Appends-trans a b c (front_text mode done) (part_output state last part) wrote more)
+    (Appends-trans a b c (front (stream mode) done) ((stream state).part last part) wrote more)
 
 -- a part was written, and the text is too long
 pub too_long : (mode : BoundedMode) (r s t a c : Option (List ℕ)) (done part : List ℕ)
     (position n : ℕ) → length done ≡ position → n ≤ length part
     → ¬ (position + n < 2 ^ 64) → Consumes r s done → Consumes s t part
-    → IsAscii done → IsAscii (take n part) → Appends a c (front_text mode (done ++ take n part))
+    → IsAscii done → IsAscii (take n part) → Appends a c (front (stream mode) (done ++ take n part))
     → BoundedOutcome mode (Err TooLong) (record { remaining = r; taken = a })
     (record { remaining = t; taken = c })
 unfolding gives_more
@@ -156,7 +155,7 @@ too_long mode r s t a c done part position n long within far first second ascii 
     let enough : 2 ^ 64 ≤ length text =
     omega (arith, long, far, length-append done (take n part), length-take-le n part within) in (
       drop n part,
-      front_text mode text,
+      front (stream mode) text,
       gives_more mode r s t done part n first second ascii more,
       enough,
       wrote,
@@ -167,7 +166,7 @@ pub closes : (mode state : BoundedMode) (last : ℕ) (r s t a b c : Option (List
     (done buf : List ℕ) (n : ℕ) (result : Result (Unit {0}) BoundedFault)
     → n ≡ 0 → state ≡ mode → last ≡ last_after 10 done
     → Consumes r s done → Consumes s t (take n buf) → IsAtEnd t → IsAscii done
-    → Appends a b (front_text mode done) → PassesOn (closing state last) b f c g result
+    → Appends a b (front (stream mode) done) → PassesOn ((stream state).closing last) b f c g result
     → BoundedOutcome mode result (record { remaining = r; taken = a })
     (record { remaining = t; taken = c })
 closes mode state last r s t a b c f g done buf n result none is at first second end ascii wrote
@@ -175,11 +174,11 @@ closes mode state last r s t a b c f g done buf n result none is at first second
     by_result result passes
   where
     output : List ℕ
-    output = front_text mode done ++ closing mode (last_after 10 done)
+    output = front (stream mode) done ++ (stream mode).closing (last_after 10 done)
 
-    ends : front_text mode done ++ closing state last ≡ output
-    ends = ap (λ m. front_text mode done ++ closing m last) is
-        ∙ ap (λ k. front_text mode done ++ closing mode k) at
+    ends : front (stream mode) done ++ (stream state).closing last ≡ output
+    ends = ap (λ m. front (stream mode) done ++ (stream m).closing last) is
+        ∙ ap (λ k. front (stream mode) done ++ (stream mode).closing k) at
 
     whole : GivesWhole mode r t output
     whole = record {
@@ -194,19 +193,19 @@ closes mode state last r s t a b c f g done buf n result none is at first second
     }
 
     by_result : (result : Result (Unit {0}) BoundedFault)
-        → PassesOn (closing state last) b f c g result
+        → PassesOn ((stream state).closing last) b f c g result
         → BoundedOutcome mode result (record { remaining = r; taken = a })
         (record { remaining = t; taken = c })
     by_result (Ok _) passes = (
       output,
       whole,
       subst (Appends a c) ends
-          (Appends-trans a b c (front_text mode done) (closing state last) wrote passes.0),
+          (Appends-trans a b c (front (stream mode) done) ((stream state).closing last) wrote passes.0),
     )
     by_result (Err Write) passes = (
       output,
       subst (AppendsFront a c) ends
-          (AppendsFront-after a b c (front_text mode done) (closing state last) wrote passes.0),
+          (AppendsFront-after a b c (front (stream mode) done) ((stream state).closing last) wrote passes.0),
       inr whole,
     )
     by_result (Err (NotAscii k)) passes = absurd passes
@@ -239,7 +238,7 @@ first_after done part place ascii first = record {
 pub stops_there : (mode : BoundedMode) (r s t a c : Option (List ℕ)) (done part : List ℕ)
     (position n next : ℕ) → length done ≡ position → next ≡ position + n
     → Consumes r s done → Consumes s t part → IsAscii done → FirstOther part 0 (length part) n
-    → Appends a c (front_text mode (done ++ take n part))
+    → Appends a c (front (stream mode) (done ++ take n part))
     → BoundedOutcome mode (Err (NotAscii next)) (record { remaining = r; taken = a })
     (record { remaining = t; taken = c })
 stops_there mode r s t a c done part position n next long is first second ascii other wrote =
@@ -247,10 +246,10 @@ stops_there mode r s t a c done part position n next long is first second ascii 
     let cut : take next (done ++ part) ≡ done ++ take n part =
     ap (λ k. take k (done ++ part)) at ∙ take-append-add done part n in (
       done ++ part,
-      front_text mode (take next (done ++ part)),
+      front (stream mode) (take next (done ++ part)),
       Consumes-trans r s t done part first second,
       subst (FirstOther (done ++ part) 0 (length (done ++ part))) (sym at)
           (first_after done part n ascii other),
       is_front mode (take next (done ++ part)),
-      subst (λ xs. Appends a c (front_text mode xs)) (sym cut) wrote,
+      subst (λ xs. Appends a c (front (stream mode) xs)) (sym cut) wrote,
     )

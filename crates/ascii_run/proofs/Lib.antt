@@ -1,7 +1,6 @@
 pub mod BoundedLemmas
-pub mod BufferCopyLemmas
 pub mod EndsOutputLemmas
-pub mod FrontOutputLemmas
+pub mod StreamedLemmas
 pub mod JsonTextLemmas
 pub mod LineFeedLemmas
 pub mod ListLemmas

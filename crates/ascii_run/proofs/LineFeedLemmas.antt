@@ -18,13 +18,9 @@ use Rattle.ascii.specs.Found.{HasNo, lines_of}
 use Rattle.ascii.specs.Lines.{EndsInCr, Line, MayFollow, ending_text, line_text}
 use Rattle.ascii.proofs.LinesLemmas.{LinesOf-lines_of}
 use Rattle.ascii.proofs.PiecesLemmas.{HasNo-from_absent}
-use Rattle.ascii_run.specs.declared.modes.Mode.TheVariants.{Lines}
-use Rattle.ascii_run.specs.Bounded.{ShowsFront, front_by_ending, front_of_line}
-use Rattle.ascii_run.specs.Bounded.{without_last_cr}
-use Rattle.ascii_run.specs.FrontOutput.{IsLastSegment, held_cr, lines_part, unless_cr}
-use Rattle.ascii_run.specs.FrontOutput.{with_feeds}
-use Rattle.ascii_run.specs.Modes.Lines.{with_line_feed}
-use Rattle.ascii_run.specs.Modes.{IsOutput}
+use Rattle.ascii_run.specs.Streamed.{IsLastSegment, ShowsFront, front_by_ending, front_of_line}
+use Rattle.ascii_run.specs.Streamed.{held_cr, lines_part, unless_cr, with_feeds, without_last_cr}
+use Rattle.ascii_run.specs.Modes.Lines.{ShowsLines, with_line_feed}
 use Rattle.ascii_run.proofs.ListLemmas.{last_is}
 
 -- the last code of a whole text: LF comes after it unless it is LF
@@ -196,8 +192,8 @@ open_end body free some =
     ∙ ap (λ xs. xs ++ 10 ∷ []) (init_last body some)))
 
 -- it is the output of `lines`
-pub IsOutput-lines : (t : List ℕ) → IsOutput Lines t (with_line_feeds t)
-IsOutput-lines t = (
+pub ShowsLines-feeds : (t : List ℕ) → ShowsLines t (with_line_feeds t)
+ShowsLines-feeds t = (
   lines_of t,
   LinesOf-lines_of t,
   shows and_feed refl (λ line. with_line_feed line.body) (λ line has. refl)
@@ -317,40 +313,6 @@ rest_by_end last (c ∷ d ∷ cs) some none =
     (λ j low high occurs. none (suc j) (omega arith) (omega (arith, high))
     (before c (d ∷ cs) j occurs)))
     ∙ ap (λ k. take k whole ++ last (get_or whole k 0)) (sym (last_place c d cs)))
-
--- no rest
-pub rest_of_none : (last : ℕ → List ℕ) (t : List ℕ) → true ≡ eqb (length t) 0
-    → with_feeds last t ≡ t
-rest_of_none last [] none = refl
-rest_of_none last (c ∷ cs) none = absurd (omega (arith, eqb-true (length (c ∷ cs)) 0 (sym none)))
-
-filled : (t : List ℕ) → false ≡ eqb (length t) 0 → t ≢ []
-filled t some none = false≢true (some ∙ ap (λ xs. eqb (length xs) 0) none)
-
--- a rest that ends in LF
-pub rest_ended : (t : List ℕ) → Nowhere (OccursAt t end) 0 (length t + 1)
-    → false ≡ eqb (length t) 0 → get_or t (length t - 1) 0 ≡ 10 → with_line_feeds t ≡ t
-rest_ended t none some is =
-    let front = take (length t - 1) t in
-    rest_by_end and_feed t (filled t some) none
-    ∙ (ap (λ code. front ++ cond (eqb code 10) (code ∷ []) (code ∷ 10 ∷ [])) is
-    ∙ (ap (λ code. front ++ code ∷ []) (sym is) ∙ init_last t (filled t some)))
-
-other_than : (c n : ℕ) (b : Bool) → eqb c n ≡ b → (c ≡ n → ⊥) → b ≡ false
-other_than c n true is other = absurd (other (eqb-true c n is))
-other_than c n false is other = refl
-
--- a rest that ends in another code
-pub rest_open : (t : List ℕ) → Nowhere (OccursAt t end) 0 (length t + 1)
-    → false ≡ eqb (length t) 0
-    → (get_or t (length t - 1) 0 ≡ 10 → ⊥) → with_line_feeds t ≡ t ++ 10 ∷ []
-rest_open t none some is_not =
-    let front = take (length t - 1) t in
-    let x = get_or t (length t - 1) 0 in
-    rest_by_end and_feed t (filled t some) none
-    ∙ (ap (λ b. front ++ cond b (x ∷ []) (x ∷ 10 ∷ [])) (other_than x 10 (eqb x 10) refl is_not)
-    ∙ (sym (append_assoc front (x ∷ []) (10 ∷ []))
-    ∙ ap (λ xs. xs ++ 10 ∷ []) (init_last t (filled t some))))
 
 -- a rest before more is read
 front_rest : (t : List ℕ) → Nowhere (OccursAt t end) 0 (length t + 1)

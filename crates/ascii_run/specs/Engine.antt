@@ -1,7 +1,7 @@
 -- What `engine` ensures of the bytes that it read and of those that it wrote.
-use Rattle.std.specs.Prelude.{◌≡◌, ⊤, ℕ, ◌+◌, List, ◌++◌, MatchOption, length}
+use Rattle.std.specs.Prelude.{⊤, ℕ, ◌+◌, List, ◌++◌, length}
 use Rattle.std.specs.Str.{IsAscii}
-use Rattle.std.specs.Io.KnownBytes.{Appends, Consumes, IsAtEnd, Keeps}
+use Rattle.std.specs.Io.KnownBytes.{Appends, Keeps}
 use Rattle.std.specs.declared.option.Option.{Option}
 use Rattle.std.specs.declared.result.Result.{Result}
 use Rattle.std.specs.declared.result.Result.TheVariants.{Ok, Err}
@@ -11,11 +11,7 @@ use Rattle.ascii_run.specs.declared.faults.EngineFault.TheVariants.{NotAscii, Po
 use Rattle.ascii_run.specs.declared.faults.EngineFault.TheVariants.{Read, Write}
 use Rattle.ascii_run.specs.declared.modes.Mode.{Mode}
 use Rattle.ascii_run.specs.Modes.{IsFaultOf, IsOutput}
-
--- between its old and its new remaining bytes the reader gave `bytes`, and it is at its end
-pub record ReadsAll (old new : Option (List ℕ)) (bytes : List ℕ) : Type 0 where
-  pub gave : Consumes old new bytes
-  pub ended : IsAtEnd new
+use Rattle.ascii_run.specs.Reading.{IoState, ReadsAll}
 
 -- the reader gave an ASCII text and is at its end, and `output` is the output of the mode for it
 pub record IsOutputOfInput (mode : Mode) (old new : Option (List ℕ)) (output : List ℕ) :
@@ -24,11 +20,6 @@ pub record IsOutputOfInput (mode : Mode) (old new : Option (List ℕ)) (output :
   pub read : ReadsAll old new text
   pub ascii : IsAscii text
   pub output_of : IsOutput mode text output
-
--- the bytes that the reader has yet to give, and those that the writer has taken, if they are known
-pub record IoState : Type 0 where
-  pub remaining : Option (List ℕ)
-  pub taken : Option (List ℕ)
 
 -- what the reader gave and the writer took between the old state and the new one. `Ok`: the writer
 -- took the output of the mode for all that the reader gave. `NotAscii`: the reader is at its end,
@@ -51,26 +42,7 @@ EngineOutcome mode (Err Write) old new =
     (sent others : List ℕ) × IsOutputOfInput mode old.remaining new.remaining (sent ++ others)
     × Appends old.taken new.taken sent
 
--- the reader's count of failures after a result: one more for `Read`, otherwise unchanged
-abbrev pub read_failures : {T : Type 0} → ℕ → Result T EngineFault → ℕ
-read_failures n (Err Read) = n + 1
-read_failures n other = n
-
--- the writer's count of failures after a result: one more for `Write`, otherwise unchanged
-abbrev pub write_failures : {T : Type 0} → ℕ → Result T EngineFault → ℕ
-write_failures n (Err Write) = n + 1
-write_failures n other = n
-
 -- ---- cited by private functions only
-
--- the position of the first byte that is not ASCII, if there is one
-abbrev pub HasFirstOther : List ℕ → Option ℕ → Type 0
-HasFirstOther bytes other = MatchOption other (IsAscii bytes) (FirstOther bytes 0 (length bytes))
-
--- the writer took a prefix of the bytes
-abbrev pub AppendsFront : Option (List ℕ) → Option (List ℕ) → List ℕ → Type 0
-AppendsFront old new bytes =
-    (sent others : List ℕ) × Appends old new sent × (sent ++ others ≡ bytes)
 
 -- why no output of the mode for the text was made. `Position`: it holds the fault place of the
 -- mode. `Memory`: an allocation failed.

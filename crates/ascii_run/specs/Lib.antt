@@ -1,5 +1,4 @@
 pub mod Bounded
-pub mod BufferCopy
 pub mod Edit
 pub mod Engine
 pub mod Faults
@@ -8,11 +7,14 @@ pub mod Inline
 pub mod Room
 pub mod Modes
 pub mod OutputState
+pub mod Reading
 pub mod Run
 pub mod Step
+pub mod Streamed
 pub use Rattle.ascii.specs.Bytes
 pub use Rattle.ascii.specs.Walks
 pub use Rattle.ascii.specs.Lines
+pub use Rattle.ascii_devices.specs.Buffered
 pub use Rattle.ascii_devices.specs.Devices
 pub use Rattle.ascii_devices.specs.Wrapped
 pub use Rattle.ascii.specs.Case

@@ -11,15 +11,14 @@
 //! The contract says of each outcome what was read, what was written, and how the devices' counts of failures rose.
 
 ghost use Rattle.std.specs.Prelude.{◌≡◌, ◌<◌};
-ghost use Rattle.ascii_run.specs.Bounded.{BoundedOutcome, bounded_read_failures};
-ghost use Rattle.ascii_run.specs.Bounded.{bounded_write_failures};
-ghost use Rattle.ascii_run.specs.FrontOutput.{IsTextLength};
+ghost use Rattle.ascii_run.specs.Bounded.{BoundedOutcome};
+ghost use Rattle.ascii_run.specs.Reading.{Counts};
+ghost use Rattle.ascii_run.specs.Streamed.{IsTextLength};
 
 use crate::faults::BoundedFault;
 use crate::front_output::FrontOutput;
-use crate::output_buffer::zeros;
 use ascii::kernels;
-use ascii_devices::{Sink, Source};
+use ascii_devices::{Sink, Source, zeros};
 use std::alloc::Allocator;
 
 /// What a bounded run does with the text of its input.
@@ -66,10 +65,10 @@ pub fn bounded_engine<S: Source, K: Sink, A: Allocator + Copy>(
     ensures outcome { BoundedOutcome mode result
         (record { remaining = S.rest reader.old; taken = K.taken writer.old })
         (record { remaining = S.rest reader.new; taken = K.taken writer.new }) }
-    ensures read { S.failures reader.new
-        ≡ bounded_read_failures (S.failures reader.old) result }
-    ensures write { K.failures writer.new
-        ≡ bounded_write_failures (K.failures writer.old) result }
+    ensures read { Counts BoundedFault.Read (S.failures reader.old)
+        (S.failures reader.new) result }
+    ensures write { Counts BoundedFault.Write (K.failures writer.old)
+        (K.failures writer.new) result }
 {
     let mut room = zeros(alloc, CHUNK)?;
     let chunk: &mut [u8] = &mut room;

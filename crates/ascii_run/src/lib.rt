@@ -20,12 +20,11 @@
 mod both_types;
 mod bounded;
 pub mod buf;
-mod buffer_copy;
 mod commands;
 mod faults;
 mod front_output;
 mod modes;
-mod output_buffer;
+mod streamed;
 mod text_engine;
 
 pub use ascii::iter::End;

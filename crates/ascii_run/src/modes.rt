@@ -2,8 +2,10 @@
 //! for the output of each.
 
 ghost use Rattle.std.specs.Prelude.{◌≡◌, IfErr, OnErr, OnOk};
+ghost use Rattle.std.specs.Str.{IsAscii};
 ghost use Rattle.ascii_run.specs.Engine.{StopsOutput};
-ghost use Rattle.ascii_run.specs.OutputState.{AppendsOutputTo, MayFail, output_state};
+ghost use Rattle.ascii_devices.specs.Buffered.{MayFail, output_state};
+ghost use Rattle.ascii_run.specs.OutputState.{AppendsOutputTo};
 
 pub(crate) mod caret;
 mod edit;
@@ -14,15 +16,14 @@ mod tac;
 
 use crate::commands::Cmd;
 use crate::faults::EngineFault;
-use crate::output_buffer::{LARGEST, OutputBuffer};
-use ascii::AsciiString;
+use crate::bounded::BoundedMode;
+use crate::streamed::LARGEST;
+use crate::streamed::{put_whole, streamed_size};
 use ascii::iter::End;
-use ascii_devices::Sink;
-use caret::put_caret;
+use ascii::{AsciiString, bytes};
+use ascii_devices::{BufferedSink, Sink};
 use edit::put_edit;
 use ends::{put_ends, put_ends_spans};
-use json_string::{SHORT, put_json};
-use lines::put_lines;
 use std::alloc::Allocator;
 use tac::put_tac;
 
@@ -54,13 +55,14 @@ pub enum Mode<'a> {
 /// at most, up to `LARGEST`, or 0 if the output is appended in one piece.
 pub(crate) fn buffer_size(mode: Mode<'_>, length: usize) -> usize {
     let most = match mode {
-        Mode::Copy | Mode::Edit(_) => 0,
-        Mode::Lines | Mode::Tac => length.saturating_add(1),
-        Mode::Caret => length.saturating_mul(2),
+        Mode::Copy => streamed_size(BoundedMode::Copy, length),
+        Mode::Lines => streamed_size(BoundedMode::Lines, length),
+        Mode::Caret => streamed_size(BoundedMode::Caret, length),
+        Mode::Json => streamed_size(BoundedMode::Json, length),
+        Mode::Edit(_) => 0,
+        Mode::Tac => length.saturating_add(1),
         Mode::Ends(script) => length.saturating_add(script.len().saturating_mul(2)),
         Mode::EndsSpans(script) => length.saturating_add(script.len().saturating_mul(28)),
-        Mode::Json if length <= SHORT => 0,
-        Mode::Json => length.saturating_mul(6).saturating_add(2),
     };
     most.min(LARGEST)
 }
@@ -69,26 +71,34 @@ pub(crate) fn buffer_size(mode: Mode<'_>, length: usize) -> usize {
 pub(crate) fn render_output<K: Sink, A: Allocator + Copy>(
     alloc: A,
     mode: Mode<'_>,
-    text: AsciiString<A>,
-    buffer: &mut OutputBuffer<A>,
+    mut input: Vec<u8, A>,
+    buffer: &mut BufferedSink<A>,
     writer: &mut K,
 ) -> Result<(), EngineFault>
-    requires { MayFail (output_state K.Sink writer.old buffer.old) }
-    ensures ok { OnOk result (AppendsOutputTo mode.entry text.text
+    requires fail { MayFail (output_state K.Sink writer.old buffer.old) }
+    requires ascii { IsAscii input.items }
+    ensures ok { OnOk result (AppendsOutputTo mode.entry input.items
         K.Sink writer.old buffer.old writer.new buffer.new) }
-    ensures err { IfErr result (StopsOutput mode.entry text.text) }
+    ensures err { IfErr result (StopsOutput mode.entry input.items) }
     ensures kept { OnErr result (writer.new ≡ writer.old) }
 {
-    let view = text.as_ascii_str();
+    let text = &mut input[..];
     match mode {
-        Mode::Copy => buffer.put(writer, view.as_bytes()),
-        Mode::Lines => put_lines(view, buffer, writer),
-        Mode::Tac => put_tac(view, buffer, writer),
-        Mode::Caret => put_caret(view, buffer, writer),
-        Mode::Ends(script) => put_ends(view, script, buffer, writer),
-        Mode::EndsSpans(script) => put_ends_spans(view, script, buffer, writer),
-        Mode::Edit(cmds) => put_edit(alloc, text, cmds, buffer, writer)?,
-        Mode::Json => put_json(alloc, view, buffer, writer)?,
+        Mode::Copy => put_whole(BoundedMode::Copy, text, buffer, writer),
+        Mode::Lines => put_whole(BoundedMode::Lines, text, buffer, writer),
+        Mode::Caret => put_whole(BoundedMode::Caret, text, buffer, writer),
+        Mode::Json => put_whole(BoundedMode::Json, text, buffer, writer),
+        Mode::Tac => put_tac(bytes::as_ascii_str_unchecked(text), buffer, writer),
+        Mode::Ends(script) => {
+            put_ends(bytes::as_ascii_str_unchecked(text), script, buffer, writer);
+        }
+        Mode::EndsSpans(script) => {
+            put_ends_spans(bytes::as_ascii_str_unchecked(text), script, buffer, writer);
+        }
+        Mode::Edit(cmds) => {
+            let text = AsciiString::from_ascii_unchecked(input);
+            put_edit(alloc, text, cmds, buffer, writer)?;
+        }
     }
     Ok(())
 }

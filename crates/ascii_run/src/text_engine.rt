@@ -13,14 +13,14 @@
 
 ghost use Rattle.std.specs.Prelude.{◌≡◌, ◌⊎◌, ℕ, ◌+◌, ◌<◌, ◌≤◌, List, ◌++◌, IfErr, IfOk, length};
 ghost use Rattle.std.specs.Option.{ForSome};
-ghost use Rattle.ascii_run.specs.Engine.{EngineOutcome, HasFirstOther, ReadsAll, WritesOutput};
-ghost use Rattle.ascii_run.specs.Engine.{read_failures, write_failures};
+ghost use Rattle.std.specs.Str.{IsAscii};
+ghost use Rattle.ascii_run.specs.Engine.{EngineOutcome, WritesOutput};
+ghost use Rattle.ascii_run.specs.Reading.{Counts, HasFirstOther, ReadsAll};
 
 use crate::faults::EngineFault;
 use crate::modes::{Mode, buffer_size, render_output};
-use crate::output_buffer::{OutputBuffer, zeros};
-use ascii::{AsciiString, kernels};
-use ascii_devices::{Sink, Source};
+use ascii::kernels;
+use ascii_devices::{BufferedSink, Sink, Source, zeros};
 use std::alloc::Allocator;
 
 /// Reads the input to its end, writes the output of the mode and flushes it, or returns why it
@@ -44,19 +44,14 @@ pub fn engine<S: Source, K: Sink, A: Allocator + Copy>(
     ensures outcome { EngineOutcome mode.entry result
         (record { remaining = S.rest reader.old; taken = K.taken writer.old })
         (record { remaining = S.rest reader.new; taken = K.taken writer.new }) }
-    ensures read { S.failures reader.new ≡ read_failures (S.failures reader.old) result }
-    ensures write { K.failures writer.new ≡ write_failures (K.failures writer.old) result }
+    ensures read { Counts EngineFault.Read (S.failures reader.old) (S.failures reader.new) result }
+    ensures write { Counts EngineFault.Write (K.failures writer.old) (K.failures writer.new) result }
 {
     let (input, other) = read_all(alloc, reader)?;
     if let Some(position) = other {
         return Err(EngineFault::NotAscii(position));
     }
-    write_output(
-        alloc,
-        mode,
-        AsciiString::from_ascii_unchecked(input),
-        writer,
-    )
+    write_output(alloc, mode, input, writer)
 }
 
 /// How many bytes one read asks for. They are on the heap, so that a run needs little of the stack: if
@@ -75,7 +70,7 @@ fn read_all<S: Source, A: Allocator + Copy>(
     ensures other { IfOk result (λ input. HasFirstOther input.0.items input.1) }
     ensures err { IfErr result (λ fault.
         (fault ≡ EngineFault.Memory) ⊎ (fault ≡ EngineFault.Read)) }
-    ensures count { S.failures reader.new ≡ read_failures (S.failures reader.old) result }
+    ensures count { Counts EngineFault.Read (S.failures reader.old) (S.failures reader.new) result }
 {
     let mut input = Vec::new(alloc);
     let mut other = None;
@@ -118,15 +113,19 @@ fn first_of_both(start: usize, other: Option<usize>, chunk_other: Option<usize>)
 fn write_output<K: Sink, A: Allocator + Copy>(
     alloc: A,
     mode: Mode<'_>,
-    text: AsciiString<A>,
+    input: Vec<u8, A>,
     writer: &mut K,
 ) -> Result<(), EngineFault>
-    requires { K.failures writer.old < u64.MAX }
-    ensures tells { WritesOutput mode.entry text.text result
+    requires fail { K.failures writer.old < u64.MAX }
+    requires ascii { IsAscii input.items }
+    ensures tells { WritesOutput mode.entry input.items result
         (K.taken writer.old) (K.taken writer.new) }
-    ensures count { K.failures writer.new ≡ write_failures (K.failures writer.old) result }
+    ensures count { Counts EngineFault.Write (K.failures writer.old) (K.failures writer.new) result }
 {
-    let mut buffer = OutputBuffer::new(alloc, buffer_size(mode, text.len()))?;
-    render_output(alloc, mode, text, &mut buffer, writer)?;
-    buffer.finish(writer)
+    let mut buffer = BufferedSink::new(alloc, buffer_size(mode, input.len()))?;
+    render_output(alloc, mode, input, &mut buffer, writer)?;
+    match buffer.finish(writer) {
+        Ok(()) => Ok(()),
+        Err(_) => Err(EngineFault::Write),
+    }
 }

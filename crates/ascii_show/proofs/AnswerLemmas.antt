@@ -7,7 +7,8 @@ use Rattle.std.specs.Str.{IsAscii}
 use Rattle.std.specs.declared.option.Option.{Option}
 use Rattle.std.specs.declared.result.Result.{Result}
 use Rattle.ascii.specs.Bytes.{FirstOther}
-use Rattle.ascii_run.specs.Engine.{EngineOutcome, IoState, ReadsAll}
+use Rattle.ascii_run.specs.Engine.{EngineOutcome}
+use Rattle.ascii_run.specs.Reading.{IoState, ReadsAll}
 use Rattle.ascii_run.specs.Modes.{IsFaultOf}
 use Rattle.ascii_run.specs.declared.faults.EngineFault.{EngineFault}
 use Rattle.ascii_run.specs.declared.faults.EngineFault.TheVariants.{NotAscii, Position, Memory}

@@ -4,10 +4,14 @@ use Rattle.std.specs.Bool.{Decides}
 use Rattle.std.proofs.Common.{eqb, leb}
 use Rattle.std.proofs.lemmas.Bool.{leb-true, le-leb}
 use Rattle.std.proofs.lemmas.Bool.Decides.{Decides-and, Decides-eqb, Decides-like, Decides-not}
-use Rattle.std.specs.Prelude.{◌≡◌, ◌≢◌, ◌≤◌, ◌<◌, length, get_or, ℕ, ◌/◌, ◌%◌, List, [], ◌∷◌, ◌++◌}
+use Rattle.std.specs.Prelude.{◌≢◌, ◌≤◌, ℕ, ◌/◌, ◌%◌, List, [], ◌∷◌, ◌++◌}
 use Rattle.std.specs.Prelude.{if◌then◌else◌, ◌==◌, nat_lt, codes}
 use Rattle.std.specs.Char.{digit_char}
 use Rattle.std.specs.List.{flat_map}
+
+-- `\u00` and two hexadecimal digits
+abbrev pub number_text : ℕ → List ℕ
+number_text n = codes "\\u00" ++ digit_char (n / 16) ∷ digit_char (n % 16) ∷ []
 
 -- a code as it appears in a JSON string: `\b`, `\t`, `\n`, `\f`, `\r`, `\"`, `\\`, `\u00` and two
 -- hexadecimal digits for the other codes less than 32, otherwise itself
@@ -20,7 +24,7 @@ json_code n =
     else (if n == 13 then codes "\\r"
     else (if n == 34 then codes "\\\""
     else (if n == 92 then codes "\\\\"
-    else (if nat_lt n 32 then codes "\\u00" ++ digit_char (n / 16) ∷ digit_char (n % 16) ∷ []
+    else (if nat_lt n 32 then number_text n
     else n ∷ [])))))))
 
 -- a text as a compact JSON string
@@ -32,12 +36,6 @@ json_text text = codes "\"" ++ (flat_map json_code text ++ codes "\"")
 -- the code appears as itself in a JSON string
 abbrev pub IsUnescaped : ℕ → Type 0
 IsUnescaped n = (32 ≤ n) × (n ≢ 34) × (n ≢ 92)
-
--- `texts` are the JSON strings of the first `n` characters, each character by itself
-abbrev pub AreEscapes : ℕ → List (List ℕ) → Type 0
-AreEscapes n texts =
-    (length texts ≡ n)
-    × ((code : ℕ) → code < n → get_or texts code [] ≡ json_text (code ∷ []))
 
 -- the test of these codes, and that it decides them
 abbrev pub is_unescaped : ℕ → Bool

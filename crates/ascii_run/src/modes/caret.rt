@@ -4,15 +4,14 @@ ghost use Rattle.std.specs.Prelude.{◌<◌, ◌≤◌, ◌+◌, length};
 ghost use Rattle.std.specs.List.{flat_map};
 ghost use Rattle.ascii.specs.Lanes.{Marks};
 ghost use Rattle.ascii.specs.View.{text_of};
-ghost use Rattle.ascii_run.specs.OutputState.{AppendsTo, MayFail, output_state};
 ghost use Rattle.ascii_run.specs.Modes.Caret.{is_shown, is_shown-decides};
+ghost use Rattle.ascii_devices.specs.Buffered.{AppendsTo, MayFail, output_state};
 ghost use Rattle.ascii_run.specs.Modes.Caret.{IsShown, caret_text};
 
-use crate::output_buffer::OutputBuffer;
 use ascii::AsciiStr;
 use ascii::classes::{Class, ClassBy};
 use ascii::kernels::first_not;
-use ascii_devices::Sink;
+use ascii_devices::{BufferedSink, Sink};
 use std::alloc::Allocator;
 use std::simd::prelude::*;
 
@@ -49,7 +48,7 @@ impl<const N: usize> ClassBy<N> for CaretPassThrough {
 /// characters between two of these are appended in one call.
 pub(crate) fn put_caret<K: Sink, A: Allocator>(
     text: AsciiStr<'_>,
-    buffer: &mut OutputBuffer<A>,
+    buffer: &mut BufferedSink<A>,
     writer: &mut K,
 )
     requires { MayFail (output_state K.Sink writer.old buffer.old) }
@@ -66,7 +65,7 @@ pub(crate) fn put_caret<K: Sink, A: Allocator>(
 }
 
 /// Appends a control character other than LF: `^` and its caret letter.
-fn put_control<K: Sink, A: Allocator>(code: u8, buffer: &mut OutputBuffer<A>, writer: &mut K)
+fn put_control<K: Sink, A: Allocator>(code: u8, buffer: &mut BufferedSink<A>, writer: &mut K)
     requires fail { MayFail (output_state K.Sink writer.old buffer.old) }
     requires control { ¬ IsShown code }
     requires ascii { code < 128 }

@@ -2,14 +2,14 @@
 
 ghost use Rattle.std.specs.Prelude.{◌≡◌, IfErr, OnErr, OnOk};
 ghost use Rattle.ascii_run.specs.Engine.{StopsOutput};
-ghost use Rattle.ascii_run.specs.OutputState.{AppendsOutputTo, MayFail, output_state};
+ghost use Rattle.ascii_devices.specs.Buffered.{MayFail, output_state};
+ghost use Rattle.ascii_run.specs.OutputState.{AppendsOutputTo};
 
 use super::Mode;
 use crate::commands::{Cmd, edit};
 use crate::faults::EngineFault;
-use crate::output_buffer::OutputBuffer;
 use ascii::AsciiString;
-use ascii_devices::Sink;
+use ascii_devices::{BufferedSink, Sink};
 use std::alloc::Allocator;
 
 /// Carries out the commands on the text, in the buffer that it has, and appends it. On error,
@@ -18,7 +18,7 @@ pub(super) fn put_edit<K: Sink, A: Allocator + Copy>(
     alloc: A,
     text: AsciiString<A>,
     cmds: &[Cmd<'_>],
-    buffer: &mut OutputBuffer<A>,
+    buffer: &mut BufferedSink<A>,
     writer: &mut K,
 ) -> Result<(), EngineFault>
     requires { MayFail (output_state K.Sink writer.old buffer.old) }

@@ -4,15 +4,15 @@ ghost use Rattle.std.specs.Prelude.{◌≡◌, ◌++◌, codes};
 ghost use Rattle.std.specs.Option.{option_map};
 ghost use Rattle.ascii.specs.Spans.{line_in};
 ghost use Rattle.ascii.specs.View.{text_of};
-ghost use Rattle.ascii_run.specs.OutputState.{AppendsOutputTo, AppendsTo, MayFail, output_state};
+ghost use Rattle.ascii_devices.specs.Buffered.{AppendsTo, MayFail, output_state};
+ghost use Rattle.ascii_run.specs.OutputState.{AppendsOutputTo};
 ghost use Rattle.ascii_run.specs.Modes.Ends.{answer_text, ending_word, span_text};
 
 use super::Mode;
 use super::lines::put_line;
-use crate::output_buffer::OutputBuffer;
 use ascii::AsciiStr;
 use ascii::iter::{End, Ending, LineSpan, take_end};
-use ascii_devices::Sink;
+use ascii_devices::{BufferedSink, Sink};
 use itoa::Buffer;
 use std::alloc::Allocator;
 
@@ -20,7 +20,7 @@ use std::alloc::Allocator;
 pub(super) fn put_ends<K: Sink, A: Allocator>(
     text: AsciiStr<'_>,
     script: &[End],
-    buffer: &mut OutputBuffer<A>,
+    buffer: &mut BufferedSink<A>,
     writer: &mut K,
 )
     requires { MayFail (output_state K.Sink writer.old buffer.old) }
@@ -36,7 +36,7 @@ pub(super) fn put_ends<K: Sink, A: Allocator>(
 /// Appends an answer: `+`, the body and LF, or `-` and LF.
 fn put_answer<K: Sink, A: Allocator>(
     answer: Option<AsciiStr<'_>>,
-    buffer: &mut OutputBuffer<A>,
+    buffer: &mut BufferedSink<A>,
     writer: &mut K,
 )
     requires { MayFail (output_state K.Sink writer.old buffer.old) }
@@ -56,7 +56,7 @@ fn put_answer<K: Sink, A: Allocator>(
 pub(super) fn put_ends_spans<K: Sink, A: Allocator>(
     text: AsciiStr<'_>,
     script: &[End],
-    buffer: &mut OutputBuffer<A>,
+    buffer: &mut BufferedSink<A>,
     writer: &mut K,
 )
     requires { MayFail (output_state K.Sink writer.old buffer.old) }
@@ -73,7 +73,7 @@ pub(super) fn put_ends_spans<K: Sink, A: Allocator>(
 /// between, and LF; or `-` and LF.
 fn put_span<K: Sink, A: Allocator>(
     answer: Option<LineSpan<'_>>,
-    buffer: &mut OutputBuffer<A>,
+    buffer: &mut BufferedSink<A>,
     writer: &mut K,
 )
     requires { MayFail (output_state K.Sink writer.old buffer.old) }

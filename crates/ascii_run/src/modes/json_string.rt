@@ -1,20 +1,18 @@
 //! The mode `Json`.
 
-ghost use Rattle.std.specs.Prelude.{◌≡◌, ◌<◌, ◌≤◌, ◌+◌, [], ◌∷◌, IfOk, OnErr, OnOk, length, map};
+ghost use Rattle.std.specs.Prelude.{◌≡◌, ◌<◌, ◌≤◌, ◌+◌, [], ◌∷◌, MatchOption, length};
 ghost use Rattle.std.specs.List.{flat_map};
 ghost use Rattle.ascii.specs.Lanes.{Marks};
 ghost use Rattle.ascii.specs.View.{text_of};
 ghost use Rattle.ascii_run.specs.Modes.Json.{is_unescaped, is_unescaped-decides};
-ghost use Rattle.ascii_run.specs.Modes.Json.{AreEscapes, IsUnescaped, json_code, json_text};
-ghost use Rattle.ascii_run.specs.OutputState.{MayFail, AppendsTo, output_state};
+ghost use Rattle.ascii_run.specs.Modes.Json.{IsUnescaped, json_code, number_text};
+ghost use Rattle.ascii_devices.specs.Buffered.{MayFail, AppendsTo, output_state};
 
-use crate::output_buffer::OutputBuffer;
+use ascii::AsciiStr;
 use ascii::classes::{Class, ClassBy};
 use ascii::kernels::first_not;
-use ascii::{AsciiStr, AsciiString, bytes};
-use ascii_devices::Sink;
-use json::Writer;
-use std::alloc::{AllocError, Allocator};
+use ascii_devices::{BufferedSink, Sink};
+use std::alloc::Allocator;
 use std::simd::prelude::*;
 
 /// The characters that appear as themselves in a JSON string.
@@ -46,96 +44,63 @@ impl<const N: usize> ClassBy<N> for JsonPassThrough {
     }
 }
 
-/// The length up to which a text is appended in one piece.
-pub(super) const SHORT: usize = 4_096;
-
-/// Appends the text as a compact JSON string. If an allocation fails, nothing has been appended.
-pub(super) fn put_json<K: Sink, A: Allocator + Copy>(
-    alloc: A,
-    text: AsciiStr<'_>,
-    buffer: &mut OutputBuffer<A>,
-    writer: &mut K,
-) -> Result<(), AllocError>
-    requires { MayFail (output_state K.Sink writer.old buffer.old) }
-    ensures ok { OnOk result (AppendsTo K.Sink writer.old buffer.old writer.new buffer.new
-        (json_text (text_of text.entry))) }
-    ensures kept { OnErr result (writer.new ≡ writer.old) }
-{
-    if text.len() <= SHORT {
-        let output = json_string(alloc, text)?;
-        buffer.put(writer, output.as_ascii_str().as_bytes());
-    } else {
-        let escapes = escapes(alloc)?;
-        buffer.put(writer, b"\"");
-        write_escaped_runs(text, &escapes, buffer, writer);
-        buffer.put(writer, b"\"");
-    }
-    Ok(())
-}
-
-/// The text as a compact JSON string.
-fn json_string<A: Allocator>(alloc: A, text: AsciiStr<'_>) -> Result<AsciiString<A>, AllocError>
-    ensures { IfOk result (λ output. output.text ≡ json_text (text_of text.entry)) }
-{
-    let mut writer = Writer::new(Vec::with_capacity(alloc, text.len().saturating_add(2))?);
-    writer.string(text.as_str())?;
-    Ok(AsciiString::from_ascii_unchecked(writer.into_inner()))
-}
-
-/// The JSON string of each character by itself, indexed by its code.
-pub(crate) fn escapes<A: Allocator + Copy>(alloc: A) -> Result<Vec<AsciiString<A>, A>, AllocError>
-    ensures { IfOk result (λ escapes. AreEscapes 128 (map (λ escape. escape.text) escapes.items)) }
-{
-    let mut escapes = Vec::with_capacity(alloc, 128)?;
-    for code in 0..128u8 {
-        escapes.push(json_string(alloc, bytes::as_ascii_str_unchecked(&[code]))?)?;
-    }
-    Ok(escapes)
-}
-
 /// Appends each character, escaped if need be. The characters between two escaped ones are appended
 /// in one call.
-pub(crate) fn write_escaped_runs<K: Sink, A: Allocator>(
+pub(crate) fn put_json<K: Sink, A: Allocator>(
     text: AsciiStr<'_>,
-    escapes: &[AsciiString<A>],
-    buffer: &mut OutputBuffer<A>,
+    buffer: &mut BufferedSink<A>,
     writer: &mut K,
 )
-    requires fail { MayFail (output_state K.Sink writer.old buffer.old) }
-    requires escapes { AreEscapes 128 (map (λ escape. escape.text) escapes.now) }
+    requires { MayFail (output_state K.Sink writer.old buffer.old) }
     ensures { AppendsTo K.Sink writer.old buffer.old writer.new buffer.new
         (flat_map json_code (text_of text.entry)) }
 {
     let mut remaining = text.as_bytes();
     'segments: while let Some(place) = first_not::<JsonPassThrough>(remaining) {
         buffer.put_front(writer, remaining, place);
-        write_escape(remaining[place], escapes, buffer, writer);
+        put_escape(remaining[place], buffer, writer);
         remaining = &remaining[place + 1..];
     }
     buffer.put(writer, remaining);
 }
 
-/// Appends a character as it appears in a JSON string.
-fn write_escape<K: Sink, A: Allocator>(
-    code: u8,
-    escapes: &[AsciiString<A>],
-    buffer: &mut OutputBuffer<A>,
-    writer: &mut K,
-)
+/// Appends a character that is escaped in a JSON string.
+fn put_escape<K: Sink, A: Allocator>(code: u8, buffer: &mut BufferedSink<A>, writer: &mut K)
     requires fail { MayFail (output_state K.Sink writer.old buffer.old) }
-    requires escapes { AreEscapes 128 (map (λ escape. escape.text) escapes.now) }
-    requires ascii { code < 128 }
+    requires escaped { ¬ IsUnescaped code }
     ensures { AppendsTo K.Sink writer.old buffer.old writer.new buffer.new (json_code code) }
 {
-    let escape = escape_of(code, escapes);
-    buffer.put(writer, &escape[1..escape.len() - 1]);
+    match letter_of(code) {
+        Some(letter) => buffer.put(writer, &[b'\\', letter]),
+        None => put_number(code, buffer, writer),
+    }
 }
 
-/// The JSON string of a character.
-fn escape_of<A: Allocator>(code: u8, escapes: &[AsciiString<A>]) -> &[u8]
-    requires escapes { AreEscapes 128 (map (λ escape. escape.text) escapes.now) }
-    requires ascii { code < 128 }
-    ensures { result.now ≡ json_text (code ∷ []) }
+/// The letter that follows a backslash in the escape of a character, or `None` if its escape has its
+/// number.
+fn letter_of(code: u8) -> Option<u8>
+    ensures { MatchOption result
+        (¬ IsUnescaped code → (code < 32) × (json_code code ≡ number_text code))
+        (λ letter. json_code code ≡ 92 ∷ letter ∷ []) }
 {
-    escapes[code as usize].as_ascii_str().as_bytes()
+    match code {
+        8 => Some(b'b'),
+        9 => Some(b't'),
+        10 => Some(b'n'),
+        12 => Some(b'f'),
+        13 => Some(b'r'),
+        34 | 92 => Some(code),
+        _ => None,
+    }
+}
+
+/// Appends a control character as `\u00` and two hexadecimal digits.
+fn put_number<K: Sink, A: Allocator>(code: u8, buffer: &mut BufferedSink<A>, writer: &mut K)
+    requires fail { MayFail (output_state K.Sink writer.old buffer.old) }
+    requires control { code < 32 }
+    ensures { AppendsTo K.Sink writer.old buffer.old writer.new buffer.new (number_text code) }
+{
+    let last = code % 16;
+    let last = if last < 10 { b'0' + last } else { b'a' - 10 + last };
+    buffer.put(writer, &[b'\\', b'u', b'0', b'0', b'0' + code / 16, last]);
 }

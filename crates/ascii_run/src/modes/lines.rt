@@ -2,42 +2,21 @@
 
 ghost use Rattle.std.specs.Prelude.{◌≡◌, ℕ, List};
 ghost use Rattle.ascii.specs.View.{text_of};
-ghost use Rattle.ascii_run.specs.FrontOutput.{IsLastSegment, held_cr, lines_part};
-ghost use Rattle.ascii_run.specs.Bounded.{without_last_cr};
-ghost use Rattle.ascii_run.specs.OutputState.{AppendsOutputTo, AppendsTo, MayFail, output_state};
+ghost use Rattle.ascii_run.specs.Streamed.{IsLastSegment, held_cr, lines_part, without_last_cr};
+ghost use Rattle.ascii_devices.specs.Buffered.{AppendsTo, MayFail, output_state};
 ghost use Rattle.ascii_run.specs.Modes.Lines.{with_line_feed};
 
-use super::Mode;
-use crate::output_buffer::OutputBuffer;
 use ascii::AsciiStr;
-use ascii_devices::Sink;
+use ascii_devices::{BufferedSink, Sink};
 use memchr::memmem::Finder;
 use std::alloc::Allocator;
 
-/// Appends the body of each line and LF, in order: the text without each CR that is before LF, and
-/// LF after a last line that has none.
-pub(super) fn put_lines<K: Sink, A: Allocator>(
-    text: AsciiStr<'_>,
-    buffer: &mut OutputBuffer<A>,
-    writer: &mut K,
-)
-    requires { MayFail (output_state K.Sink writer.old buffer.old) }
-    ensures { AppendsOutputTo Mode.Lines (text_of text.entry)
-        K.Sink writer.old buffer.old writer.new buffer.new }
-{
-    let remaining = put_segments(text.as_bytes(), buffer, writer);
-    buffer.put(writer, remaining);
-    if !remaining.is_empty() && remaining[remaining.len() - 1] != b'\n' {
-        buffer.put(writer, b"\n");
-    }
-}
-
 /// Appends what `Lines` adds for a part of a text after the byte `before`: a CR that was held back,
 /// unless LF follows, and the part without each CR that is before LF. A last CR is held back.
-pub(crate) fn put_lines_part<K: Sink, A: Allocator>(
+pub(crate) fn put_lines<K: Sink, A: Allocator>(
     before: u8,
     part: &[u8],
-    buffer: &mut OutputBuffer<A>,
+    buffer: &mut BufferedSink<A>,
     writer: &mut K,
 )
     requires { MayFail (output_state K.Sink writer.old buffer.old) }
@@ -78,7 +57,7 @@ fn without_last_cr(bytes: &[u8]) -> &[u8]
 /// the remaining bytes: that LF and what follows it, or all bytes if there is no CR LF.
 fn put_segments<'a, K: Sink, A: Allocator>(
     text: &'a [u8],
-    buffer: &mut OutputBuffer<A>,
+    buffer: &mut BufferedSink<A>,
     writer: &mut K,
 ) -> &'a [u8]
     requires { MayFail (output_state K.Sink writer.old buffer.old) }
@@ -99,7 +78,7 @@ fn put_segments<'a, K: Sink, A: Allocator>(
 /// Appends a body and LF.
 pub(super) fn put_line<K: Sink, A: Allocator>(
     body: AsciiStr<'_>,
-    buffer: &mut OutputBuffer<A>,
+    buffer: &mut BufferedSink<A>,
     writer: &mut K,
 )
     requires { MayFail (output_state K.Sink writer.old buffer.old) }

@@ -6,7 +6,7 @@ use Rattle.std.proofs.lemmas.Str.Ascii.{IsAscii-nil}
 use Rattle.ascii_run.proofs.BoundedLemmas.{closes, gives_all, last_kept, opened}
 use Rattle.ascii_run.proofs.BoundedLemmas.{opening_fails, part_fails, part_written, prefix_written}
 use Rattle.ascii_run.proofs.BoundedLemmas.{stops_there, too_long, whole_part}
-use Rattle.ascii_run.proofs.FrontOutputLemmas.{front_text}
+use Rattle.ascii_run.specs.Streamed.{front, stream}
 use Rattle.ascii_run.proofs.bounded.bounded_engine.Goals as goal
 
 pub returns-in_default-clause-outcome : goal.returns-in_default-clause-outcome
@@ -36,7 +36,7 @@ chunks-init g c =
 pub returns-in_default-read-clause-outcome : goal.returns-in_default-read-clause-outcome
 returns-in_default-read-clause-outcome g c =
     let (done, long, gave, ascii, last, wrote) = c.chunks.invariant.4 in (
-      front_text c.args.mode done,
+      front (stream c.args.mode) done,
       g.S.Source.rest c.chunks.reader,
       gives_all c.args.mode (g.S.Source.rest c.args.reader.now) (g.S.Source.rest c.chunks.reader)
           done gave ascii,

@@ -1,9 +1,8 @@
 use Rattle.std.proofs.Common.{◌≡◌, ◌-◌, ◌^◌, List, ℕ, length}
 use Rattle.std.specs.Io.KnownBytes.{Appends, Consumes}
 use Rattle.std.specs.Str.{IsAscii}
-use Rattle.ascii_run.specs.FrontOutput.{last_after}
-use Rattle.ascii_run.specs.OutputState.{IsReady}
-use Rattle.ascii_run.proofs.FrontOutputLemmas.{front_text}
+use Rattle.ascii_run.specs.Streamed.{front, last_after, stream}
+use Rattle.ascii_devices.specs.Buffered.{IsReady}
 use Rattle.ascii_run.proofs.bounded.bounded_engine.Given as goal
 
 -- the text so far was read, and its front output was written
@@ -15,7 +14,7 @@ invariant-chunks g l =
     × ((done : List ℕ) × (length done ≡ l.position)
     × Consumes (g.S.Source.rest l.fn.reader) (g.S.Source.rest l.reader) done
     × IsAscii done × (l.output.last ≡ last_after 10 done)
-    × Appends (g.K.Sink.taken l.fn.writer) (g.K.Sink.taken l.writer) (front_text l.fn.mode done))
+    × Appends (g.K.Sink.taken l.fn.writer) (g.K.Sink.taken l.writer) (front (stream l.fn.mode) done))
 
 -- the room left below the largest position
 abbrev pub decreases-chunks : goal.decreases-chunks

@@ -1,6 +1,6 @@
 use Rattle.std.proofs.Common.{◌≡◌, ◌-◌, ◌^◌, vec_len}
 use Rattle.std.specs.Io.KnownBytes.{Consumes}
-use Rattle.ascii_run.specs.Engine.{HasFirstOther}
+use Rattle.ascii_run.specs.Reading.{HasFirstOther}
 use Rattle.ascii_run.proofs.text_engine.read_all.Given as goal
 
 -- the input holds what the reader gave, the position of its first byte that is not ASCII is known,

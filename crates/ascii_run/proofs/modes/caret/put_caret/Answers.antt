@@ -4,7 +4,7 @@ use Rattle.std.specs.List.{flat_map}
 use Rattle.ascii.specs.View.{text_of}
 use Rattle.ascii_run.specs.Modes.Caret.{IsShown, caret_text}
 use Rattle.ascii_run.proofs.PlainRunLemmas.{caret_plain, shown_all, shown_more}
-use Rattle.ascii_run.proofs.OutputBufferLemmas.{MayFail-still, AppendsBytes-is, AppendsBytes-trans}
+use Rattle.ascii_devices.proofs.BufferedLemmas.{MayFail-still, AppendsBytes-is, AppendsBytes-trans}
 use Rattle.ascii_run.proofs.ListLemmas.{sent_more}
 use Rattle.ascii_run.proofs.modes.caret.put_caret.Goals as goal
 

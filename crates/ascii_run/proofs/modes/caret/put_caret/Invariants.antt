@@ -2,7 +2,7 @@ use Rattle.std.proofs.Common.{◌≡◌, List, ℕ, ◌++◌, length}
 use Rattle.std.specs.List.{flat_map}
 use Rattle.std.specs.Str.{IsAscii}
 use Rattle.ascii.specs.View.{text_of}
-use Rattle.ascii_run.specs.OutputState.{MayFail, AppendsBytes, output_state}
+use Rattle.ascii_devices.specs.Buffered.{MayFail, AppendsBytes, output_state}
 use Rattle.ascii_run.specs.Modes.Caret.{caret_text}
 use Rattle.ascii_run.proofs.modes.caret.put_caret.Given as goal
 

@@ -5,7 +5,7 @@ use Rattle.ascii.specs.View.{text_of}
 use Rattle.ascii.proofs.EndsLemmas.{TakesEnd-by}
 use Rattle.ascii_run.specs.Modes.Ends.{answer_text}
 use Rattle.ascii_run.proofs.EndsOutputLemmas.{shows_all, shows_more}
-use Rattle.ascii_run.proofs.OutputBufferLemmas.{MayFail-still, AppendsBytes-nil, AppendsBytes-trans}
+use Rattle.ascii_devices.proofs.BufferedLemmas.{MayFail-still, AppendsBytes-nil, AppendsBytes-trans}
 use Rattle.ascii_run.proofs.modes.ends.put_ends.Goals as goal
 
 pub loop-end-init : goal.loop-end-init

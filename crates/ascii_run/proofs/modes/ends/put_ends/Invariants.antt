@@ -1,6 +1,6 @@
 use Rattle.std.proofs.Common.{List, ℕ, take}
 use Rattle.ascii.specs.Lines.{bodies}
-use Rattle.ascii_run.specs.OutputState.{MayFail, AppendsBytes, output_state}
+use Rattle.ascii_devices.specs.Buffered.{MayFail, AppendsBytes, output_state}
 use Rattle.ascii_run.specs.Modes.Ends.{answer_text}
 use Rattle.ascii_run.proofs.EndsOutputLemmas.{ShowsSoFar}
 use Rattle.ascii_run.proofs.modes.ends.put_ends.Given as goal

@@ -4,7 +4,7 @@ use Rattle.ascii.specs.Spans.{line_in}
 use Rattle.ascii.proofs.EndsLemmas.{TakesEnd-by}
 use Rattle.ascii_run.specs.Modes.Ends.{span_text}
 use Rattle.ascii_run.proofs.EndsOutputLemmas.{shows_all, shows_more}
-use Rattle.ascii_run.proofs.OutputBufferLemmas.{MayFail-still, AppendsBytes-nil, AppendsBytes-trans}
+use Rattle.ascii_devices.proofs.BufferedLemmas.{MayFail-still, AppendsBytes-nil, AppendsBytes-trans}
 use Rattle.ascii_run.proofs.modes.ends.put_ends_spans.Goals as goal
 
 pub loop-end-init : goal.loop-end-init

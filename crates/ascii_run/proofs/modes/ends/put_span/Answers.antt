@@ -6,7 +6,7 @@ use Rattle.ascii.specs.Spans.{line_in}
 use Rattle.ascii.specs.View.{text_of}
 use Rattle.ascii_run.specs.Modes.Ends.{ending_word, span_text}
 use Rattle.ascii_run.specs.Modes.Lines.{with_line_feed}
-use Rattle.ascii_run.proofs.OutputBufferLemmas.{AppendsBytes-is, AppendsBytes-trans}
+use Rattle.ascii_devices.proofs.BufferedLemmas.{AppendsBytes-is, AppendsBytes-trans}
 use Rattle.ascii_run.proofs.modes.ends.put_span.Goals as goal
 
 pub returns : goal.returns

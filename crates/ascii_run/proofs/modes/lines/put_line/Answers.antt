@@ -1,6 +1,6 @@
 use Rattle.std.proofs.Common.{ap}
 use Rattle.ascii_run.specs.Modes.Lines.{with_line_feed}
-use Rattle.ascii_run.proofs.OutputBufferLemmas.{AppendsBytes-is}
+use Rattle.ascii_devices.proofs.BufferedLemmas.{AppendsBytes-is}
 use Rattle.ascii_run.proofs.modes.lines.put_line.Goals as goal
 
 pub returns : goal.returns

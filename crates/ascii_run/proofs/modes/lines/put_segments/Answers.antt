@@ -1,8 +1,8 @@
 use Rattle.std.proofs.Common.{◌+◌, ◌++◌, [], length, refl, subst}
 use Rattle.memchr.specs.Find.{Nowhere, OccursAt}
 use Rattle.ascii_run.proofs.LineFeedLemmas.{run_more}
-use Rattle.ascii_run.proofs.OutputBufferLemmas.{MayFail-still, AppendsBytes-nil}
-use Rattle.ascii_run.proofs.OutputBufferLemmas.{AppendsBytes-trans}
+use Rattle.ascii_devices.proofs.BufferedLemmas.{MayFail-still, AppendsBytes-nil}
+use Rattle.ascii_devices.proofs.BufferedLemmas.{AppendsBytes-trans}
 use Rattle.ascii_run.proofs.modes.lines.put_segments.Goals as goal
 
 pub segments-init : goal.segments-init

@@ -1,6 +1,6 @@
 use Rattle.std.proofs.Common.{◌≡◌, List, ℕ, ◌++◌, length}
-use Rattle.ascii_run.specs.FrontOutput.{with_feeds}
-use Rattle.ascii_run.specs.OutputState.{MayFail, AppendsBytes, output_state}
+use Rattle.ascii_run.specs.Streamed.{with_feeds}
+use Rattle.ascii_devices.specs.Buffered.{MayFail, AppendsBytes, output_state}
 use Rattle.ascii_run.proofs.modes.lines.put_segments.Given as goal
 
 -- what was appended, and what the rest gives, are what the text gives

@@ -1,7 +1,7 @@
 use Rattle.std.proofs.Common.{map}
 use Rattle.std.specs.List.{flat_map}
 use Rattle.ascii.specs.View.{text_of}
-use Rattle.ascii_run.specs.OutputState.{MayFail, AppendsBytes, output_state}
+use Rattle.ascii_devices.specs.Buffered.{MayFail, AppendsBytes, output_state}
 use Rattle.ascii_run.specs.Modes.Lines.{with_line_feed}
 use Rattle.ascii_run.proofs.modes.tac.put_tac.Given as goal
 

@@ -1,0 +1,80 @@
+-- What was appended to an output, one piece after another.
+use Rattle.std.proofs.Common.{◌≡◌, ◌+◌, ◌-◌, ◌^◌, ◌<◌, ℕ, List, [], ◌++◌, Bool, true}
+use Rattle.std.proofs.Common.{false, append-nil, ap, subst, sym, ◌∙◌, refl}
+use Rattle.std.proofs.lemmas.Bool.{false≢true}
+use Rattle.std.proofs.lemmas.List.{append_assoc}
+use Rattle.std.proofs.KnownBytes.{Appends-kept, Appends-nil, Appends-trans, Keeps-refl, Keeps-trans}
+use Rattle.ascii_devices.specs.Buffered.{AppendsBy, AppendsBytes}
+use Rattle.ascii_devices.specs.Buffered.{MayFail, OutputState}
+use Rattle.ascii_devices.proofs.ListLemmas.{append_two}
+
+-- one piece and then another
+appends_by : (p q r : Bool) (a b c : OutputState) (first second : List ℕ)
+    → AppendsBy p q a b first → AppendsBy q r b c second → AppendsBy p r a c (first ++ second)
+appends_by false false false a b c first second (sent, took, is, same)
+    (more, took_more, is_more, same_more) = (
+      sent ++ more,
+      Appends-trans a.taken b.taken c.taken sent more took took_more,
+      append_two sent more c.buffer.bytes b.buffer.bytes a.buffer.bytes first second is is_more,
+      same_more ∙ same,
+    )
+appends_by false false true a b c first second (sent, took, is, same)
+    ((more, others, took_more, is_more), count) = (
+      (
+        sent ++ more,
+        others,
+        Appends-trans a.taken b.taken c.taken sent more took took_more,
+        append_two sent more others b.buffer.bytes a.buffer.bytes first second is is_more,
+      ),
+      count ∙ ap (λ n. n + 1) same,
+    )
+appends_by false true false a b c first second one two = absurd (false≢true two.0)
+appends_by false true true a b c first second ((sent, others, took, is), count) (_, kept, same) = (
+  (
+    sent,
+    others ++ second,
+    Appends-kept a.taken b.taken c.taken sent took kept,
+    sym (append_assoc sent others second)
+        ∙ (ap (λ xs. xs ++ second) is ∙ append_assoc a.buffer.bytes first second),
+  ),
+  same ∙ count,
+)
+appends_by true false r a b c first second one two = absurd (false≢true one.0)
+appends_by true true r a b c first second (_, kept, same) (broken, kept_more, same_more) =
+    (broken, Keeps-trans a.taken b.taken c.taken kept kept_more, same_more ∙ same)
+
+pub AppendsBytes-trans : {a b c : OutputState} (first second : List ℕ)
+    → AppendsBytes a b first → AppendsBytes b c second → AppendsBytes a c (first ++ second)
+AppendsBytes-trans {a} {b} {c} first second one two = record {
+  by_failure =
+      appends_by a.buffer.is_broken b.buffer.is_broken c.buffer.is_broken a b c first second
+      one.by_failure two.by_failure;
+  size = two.size ∙ one.size;
+}
+
+-- no byte was appended
+nothing_by : (p : Bool) (a : OutputState) → AppendsBy p p a a []
+nothing_by false a = ([], Appends-nil a.taken, sym (append-nil a.buffer.bytes), refl)
+nothing_by true a = (refl, Keeps-refl a.taken, refl)
+
+pub AppendsBytes-nil : (a : OutputState) → AppendsBytes a a []
+AppendsBytes-nil a = record { by_failure = nothing_by a.buffer.is_broken a; size = refl }
+
+-- bytes that are equal to those appended
+pub AppendsBytes-is : {a b : OutputState} {bytes same : List ℕ}
+    → same ≡ bytes → AppendsBytes a b same → AppendsBytes a b bytes
+AppendsBytes-is {a} {b} is appends = subst (AppendsBytes a b) is appends
+
+-- if no write has failed by now, none had before, and no failure was counted
+unbroken_by : (p q : Bool) (a b : OutputState) (bytes : List ℕ)
+    → AppendsBy p q a b bytes → q ≡ false → (p ≡ false) × (b.failures ≡ a.failures)
+unbroken_by false false a b bytes appends whole = (refl, appends.3)
+unbroken_by false true a b bytes appends whole = absurd (false≢true (sym whole))
+unbroken_by true q a b bytes appends whole = absurd (false≢true (sym whole ∙ appends.0))
+
+pub MayFail-still : {a b : OutputState} (bytes : List ℕ)
+    → MayFail a → AppendsBytes a b bytes → MayFail b
+MayFail-still {a} {b} bytes may appends = λ whole.
+    let p = a.buffer.is_broken in
+    let before = unbroken_by p b.buffer.is_broken a b bytes appends.by_failure whole in
+    subst (λ n. n < 2 ^ 64 - 1) (sym before.1) (may before.0)

@@ -1,0 +1,3 @@
+pub mod BufferCopyLemmas
+pub mod BufferedLemmas
+pub mod ListLemmas

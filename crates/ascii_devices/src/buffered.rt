@@ -1,0 +1,228 @@
+//! A buffer of fixed size before a sink.
+
+ghost use Rattle.std.specs.Prelude.{◌≡◌, ◌+◌, ◌<◌, ◌≤◌, ◌∷◌, ◌++◌, IfOk, OnErr, OnOk, [], true};
+ghost use Rattle.std.specs.Prelude.{length};
+ghost use Rattle.std.specs.Prelude.{take, vec_len};
+ghost use Rattle.std.specs.Io.KnownBytes.{Appends};
+ghost use Rattle.ascii_devices.specs.Buffered.{AppendsFront, AppendsTo, FinishOutcome, IsReady};
+ghost use Rattle.ascii_devices.specs.Buffered.{MayFail, output_state};
+ghost use Rattle.ascii_devices.specs.Devices.{CountsFault};
+
+use crate::buffer_copy::{FIXED, copy_at, copy_front};
+use crate::{DeviceFault, Sink};
+use std::alloc::{AllocError, Allocator};
+use std::marker::Model;
+
+/// An output buffer: bytes that were appended and that the writer has not taken yet. After a write
+/// has failed, nothing more is written.
+#[derive(Drop)]
+pub struct BufferedSink<A: Allocator> {
+    /// All bytes of the buffer, of which the first `used` were appended.
+    room: Vec<u8, A>,
+    used: usize,
+    is_broken: bool,
+}
+
+impl<A: Allocator> Model for BufferedSink<A> {
+    ghost use Rattle.std.specs.Prelude.{◌≤◌, length, take};
+    ghost use Rattle.ascii_devices.specs.Buffered.{BufferState};
+
+    ghost Value = { BufferState };
+
+    ghost view = { λ buffer. record {
+      bytes = take buffer.used buffer.room.items;
+      size = length buffer.room.items;
+      is_broken = buffer.is_broken;
+    } };
+
+    ghost invariant = { λ buffer. buffer.used ≤ length buffer.room.items };
+}
+
+impl<A: Allocator> BufferedSink<A> {
+    /// Creates an empty buffer with this size in bytes, or returns an error if the allocation fails.
+    pub fn new(alloc: A, size: usize) -> Result<BufferedSink<A>, AllocError>
+        ensures ready { IfOk result IsReady }
+        ensures size { IfOk result (λ buffer. buffer.size ≡ size) }
+    {
+        Ok(BufferedSink {
+            room: zeros(alloc, size)?,
+            used: 0,
+            is_broken: false,
+        })
+    }
+
+    /// Appends bytes. If there is no room for them, the buffer is written first.
+    #[inline]
+    pub fn put<K: Sink>(&mut self, writer: &mut K, bytes: &[u8])
+        requires { MayFail (output_state K.Sink writer.old self.old) }
+        ensures { AppendsTo K.Sink writer.old self.old writer.new self.new bytes.now }
+    {
+        if bytes.len() <= self.room.len() - self.used {
+            self.hold(bytes);
+        } else {
+            self.send(writer);
+            self.pass(writer, bytes);
+        }
+    }
+
+    /// Appends the first `n` bytes. A few of many are appended by one copy of a fixed size.
+    #[inline]
+    pub fn put_front<K: Sink>(&mut self, writer: &mut K, bytes: &[u8], n: usize)
+        requires fail { MayFail (output_state K.Sink writer.old self.old) }
+        requires within { n ≤ length bytes.now }
+        ensures { AppendsTo K.Sink writer.old self.old writer.new self.new (take n bytes.now) }
+    {
+        if n <= FIXED && bytes.len() >= FIXED && self.room.len() - self.used >= FIXED {
+            self.hold_front(bytes, n);
+        } else {
+            self.put(writer, &bytes[..n]);
+        }
+    }
+
+    /// Appends the body of a line and LF.
+    #[inline]
+    pub fn put_line<K: Sink>(&mut self, writer: &mut K, body: &[u8])
+        requires { MayFail (output_state K.Sink writer.old self.old) }
+        ensures { AppendsTo K.Sink writer.old self.old writer.new self.new
+            (body.now ++ 10 ∷ []) }
+    {
+        if body.len() < self.room.len() - self.used {
+            self.hold_line(body);
+        } else {
+            self.put(writer, body);
+            self.put(writer, b"\n");
+        }
+    }
+
+    /// Appends bytes that there is room for.
+    #[inline(always)]
+    fn hold(&mut self, bytes: &[u8])
+        requires { length self.old.bytes + length bytes.now ≤ self.old.size }
+        ensures bytes { self.new.bytes ≡ self.old.bytes ++ bytes.now }
+        ensures size { self.new.size ≡ self.old.size }
+        ensures broken { self.new.is_broken ≡ self.old.is_broken }
+    {
+        self.used = copy_at(&mut self.room, self.used, bytes);
+    }
+
+    /// Appends the first `n` bytes to a buffer that has room for `FIXED`.
+    #[inline(always)]
+    fn hold_front(&mut self, bytes: &[u8], n: usize)
+        requires room { length self.old.bytes + FIXED ≤ self.old.size }
+        requires front { (n ≤ FIXED) × (FIXED ≤ length bytes.now) }
+        ensures bytes { self.new.bytes ≡ self.old.bytes ++ take n bytes.now }
+        ensures size { self.new.size ≡ self.old.size }
+        ensures broken { self.new.is_broken ≡ self.old.is_broken }
+    {
+        self.used = copy_front(&mut self.room, self.used, bytes, n);
+    }
+
+    /// Appends the body of a line and LF, for both of which there is room.
+    #[inline(always)]
+    fn hold_line(&mut self, body: &[u8])
+        requires { length self.old.bytes + length body.now < self.old.size }
+        ensures bytes { self.new.bytes ≡ self.old.bytes ++ (body.now ++ 10 ∷ []) }
+        ensures size { self.new.size ≡ self.old.size }
+        ensures broken { self.new.is_broken ≡ self.old.is_broken }
+    {
+        self.hold(body);
+        self.hold(b"\n");
+    }
+
+    /// Appends bytes to an empty buffer, or writes them at once if they are longer than
+    /// the buffer.
+    fn pass<K: Sink>(&mut self, writer: &mut K, bytes: &[u8])
+        requires fail { MayFail (output_state K.Sink writer.old self.old) }
+        requires empty { self.old.bytes ≡ [] }
+        ensures { AppendsTo K.Sink writer.old self.old writer.new self.new bytes.now }
+    {
+        if bytes.len() <= self.room.len() {
+            self.hold(bytes);
+        } else if !self.is_broken {
+            self.is_broken = write_each(writer, bytes).is_err();
+        }
+    }
+
+    /// Writes the bytes of the buffer, unless a write has failed, and empties it.
+    #[inline(never)]
+    fn send<K: Sink>(&mut self, writer: &mut K)
+        requires { MayFail (output_state K.Sink writer.old self.old) }
+        ensures puts { AppendsTo K.Sink writer.old self.old writer.new self.new [] }
+        ensures empty { self.new.bytes ≡ [] }
+    {
+        if !self.is_broken {
+            self.is_broken = write_each(writer, &self.room[..self.used]).is_err();
+        }
+        self.used = 0;
+    }
+
+    /// Writes the bytes of the buffer and flushes the writer. Returns an error if a write
+    /// or the flush fails, or if a write had failed before.
+    pub fn finish<K: Sink>(&mut self, writer: &mut K) -> Result<(), DeviceFault>
+        requires { MayFail (output_state K.Sink writer.old self.old) }
+        ensures outcome { FinishOutcome self.old.is_broken (output_state K.Sink writer.old self.old)
+            (K.taken writer.new) (K.failures writer.new) result }
+        ensures ready { OnOk result (IsReady self.new) }
+        ensures broken { OnErr result (self.new.is_broken ≡ true) }
+        ensures size { self.new.size ≡ self.old.size }
+    {
+        self.send(writer);
+        if self.is_broken {
+            return Err(DeviceFault);
+        }
+        match writer.flush() {
+            Ok(()) => Ok(()),
+            Err(fault) => {
+                self.is_broken = true;
+                Err(fault)
+            }
+        }
+    }
+
+    /// Whether a write or a flush has failed.
+    #[inline]
+    pub fn is_broken(&self) -> bool
+        ensures { result ≡ self.now.is_broken }
+    {
+        self.is_broken
+    }
+
+    /// Writes nothing from now on.
+    pub fn give_up(&mut self)
+        ensures broken { self.new.is_broken ≡ true }
+        ensures size { self.new.size ≡ self.old.size }
+    {
+        self.is_broken = true;
+    }
+}
+
+/// What `zeros` copies.
+static ZEROS: [u8; 1_024] = [0; 1_024];
+
+/// Zeros of this number. They are copied 1,024 at a time, since a loop that appends a byte at a time
+/// takes longer than the output of a short text.
+pub fn zeros<A: Allocator>(alloc: A, count: usize) -> Result<Vec<u8, A>, AllocError>
+    ensures { IfOk result (λ zeros. vec_len zeros ≡ count) }
+{
+    let mut zeros = Vec::with_capacity(alloc, count)?;
+    'parts: while zeros.len() < count {
+        let part = ZEROS.len().min(count - zeros.len());
+        zeros.extend_from_slice(&ZEROS[..part])?;
+    }
+    Ok(zeros)
+}
+
+/// Writes all of the bytes, in as many writes as the writer needs.
+fn write_each<K: Sink>(writer: &mut K, bytes: &[u8]) -> Result<(), DeviceFault>
+    requires { K.failures writer.old < u64.MAX }
+    ensures ok { OnOk result (Appends (K.taken writer.old) (K.taken writer.new) bytes.now) }
+    ensures err { OnErr result (AppendsFront (K.taken writer.old) (K.taken writer.new) bytes.now) }
+    ensures count { CountsFault (K.failures writer.old) (K.failures writer.new) result }
+{
+    let mut remaining = bytes;
+    'writes: while !remaining.is_empty() {
+        let n = writer.write(remaining)?;
+        remaining = &remaining[n..];
+    }
+    Ok(())
+}

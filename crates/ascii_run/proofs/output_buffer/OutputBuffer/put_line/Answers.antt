@@ -1,7 +1,0 @@
-use Rattle.std.specs.Prelude.{codes}
-use Rattle.ascii_run.proofs.OutputBufferLemmas.{AppendsBytes-trans}
-use Rattle.ascii_run.proofs.output_buffer.OutputBuffer.put_line.Goals as goal
-
-pub returns-else-body-len : goal.returns-else-body-len
-returns-else-body-len g c =
-    AppendsBytes-trans c.args.body.now (codes "\n") c.put.ensures c.put-else-body-len.ensures
