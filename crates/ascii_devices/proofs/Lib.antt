@@ -1,3 +1,4 @@
 pub mod BufferCopyLemmas
 pub mod BufferedLemmas
 pub mod ListLemmas
+pub mod Walks

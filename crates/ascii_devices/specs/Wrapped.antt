@@ -1,7 +1,9 @@
--- A reader and a writer as devices: what is inside, and how many calls have failed.
-use Rattle.std.specs.Prelude.{ℕ}
+-- A reader and a writer as devices: what is inside, how many calls have failed, and what happened.
+use Rattle.std.specs.Prelude.{ℕ, List, Some}
+use Rattle.std.specs.declared.option.Option.{Option}
 use Rattle.ascii_devices.specs.declared.Input.{Input}
 use Rattle.ascii_devices.specs.declared.Output.{Output}
+use Rattle.ascii_devices.specs.declared.log.Event.{Event}
 
 -- the reader inside an `Input`
 abbrev pub reader_of : {R : Type 0} → Input R → R
@@ -11,6 +13,10 @@ reader_of input = input.reader
 abbrev pub input_failures : {R : Type 0} → Input R → ℕ
 input_failures input = input.failures
 
+-- what has happened at an `Input` since it was created
+abbrev pub input_history : {R : Type 0} → Input R → Option (List Event)
+input_history input = Some input.log.items
+
 -- the writer inside an `Output`
 abbrev pub writer_of : {W : Type 0} → Output W → W
 writer_of output = output.writer
@@ -18,3 +24,7 @@ writer_of output = output.writer
 -- how many writes and flushes of an `Output` have failed
 abbrev pub output_failures : {W : Type 0} → Output W → ℕ
 output_failures output = output.failures
+
+-- what has happened at an `Output` since it was created
+abbrev pub output_history : {W : Type 0} → Output W → Option (List Event)
+output_history output = Some output.log.items

@@ -14,15 +14,24 @@
 //! In an example, `alloc` is an allocator, and the comment after `//` is the value's `{:?}` output.
 #![tactic(auto)]
 
-ghost use Rattle.std.specs.Prelude.{◌≡◌, ℕ, ◌<◌, ◌≤◌, List, length, take, IfOk, MatchResult};
+ghost use Rattle.std.specs.Prelude.{◌≡◌, ℕ, ◌<◌, ◌≤◌, List, [], ◌∷◌, length, take, IfOk, MatchResult};
+ghost use Rattle.std.specs.Prelude.{None};
 ghost use Rattle.std.specs.Io.KnownBytes.{Appends, Consumes, IsAtEnd, Keeps};
 ghost use Rattle.std.specs.declared.option.Option.{Option};
-ghost use Rattle.ascii_devices.specs.Devices.{CountsFault};
+ghost use Rattle.ascii_devices.specs.Devices.{Aside, CountsFault, Grows, no_aside, read_of, write_of};
+ghost use Rattle.ascii_devices.specs.declared.log.Event.{Event};
+ghost use Rattle.ascii_devices.specs.declared.log.Event.TheVariants.{Flushed};
 
 mod buffer_copy;
 mod buffered;
+mod duplex;
+mod log;
+mod notes;
 
 pub use buffered::{BufferedSink, zeros};
+pub use duplex::Duplex;
+pub use log::{Event, Log};
+use notes::{note_received, note_sent};
 use std::error::Error;
 use std::{fmt, io};
 
@@ -53,6 +62,12 @@ pub trait Source {
     // How many calls have failed.
     ghost failures: { Self → ℕ };
 
+    // What has happened at it, in both directions, if that is kept.
+    ghost history: { Self → Option (List Event) } = { λ _. None };
+
+    // What a read leaves as it is: its other direction, if it has one.
+    ghost aside: { Self → Aside } = { λ _. no_aside };
+
     /// Returns how many calls have failed.
     ///
     ///     Input::new(b"ab".as_slice()).failures() // 0
@@ -75,7 +90,11 @@ pub trait Source {
         ensures bytes { IfOk result (λ n. (n ≤ length buf.new)
             × Consumes (rest self.old) (rest self.new) (take n buf.new)) }
         ensures end { IfOk result (λ n. n ≡ 0 → IsAtEnd (rest self.new)) }
-        ensures count { CountsFault (failures self.old) (failures self.new) result };
+        ensures count { CountsFault (failures self.old) (failures self.new) result }
+        ensures history { MatchResult result
+            (λ n. Grows (history self.old) (history self.new) (read_of (take n buf.new)))
+            (λ _. Grows (history self.old) (history self.new) (read_of [])) }
+        ensures aside { aside self.new ≡ aside self.old };
 }
 
 /// A device that takes bytes.
@@ -85,6 +104,12 @@ pub trait Sink {
 
     // How many calls have failed.
     ghost failures: { Self → ℕ };
+
+    // What has happened at it, in both directions, if that is kept.
+    ghost history: { Self → Option (List Event) } = { λ _. None };
+
+    // What a write and a flush leave as it is: its other direction, if it has one.
+    ghost aside: { Self → Aside } = { λ _. no_aside };
 
     /// Returns how many calls have failed.
     ///
@@ -107,7 +132,11 @@ pub trait Sink {
         ensures bytes { MatchResult result
             (λ n. Appends (taken self.old) (taken self.new) (take n bytes.now))
             (λ _. Keeps (taken self.old) (taken self.new)) }
-        ensures count { CountsFault (failures self.old) (failures self.new) result };
+        ensures count { CountsFault (failures self.old) (failures self.new) result }
+        ensures history { MatchResult result
+            (λ n. Grows (history self.old) (history self.new) (write_of (take n bytes.now)))
+            (λ _. history self.new ≡ history self.old) }
+        ensures aside { aside self.new ≡ aside self.old };
 
     /// Passes on the bytes that the device holds, or returns an error if the device failed; the
     /// count of failures then rises by one. The bytes that it has taken are unchanged.
@@ -118,7 +147,22 @@ pub trait Sink {
     fn flush(&mut self) -> Result<(), DeviceFault>
         requires count { failures self.old < u64.MAX }
         ensures bytes { Keeps (taken self.old) (taken self.new) }
-        ensures count { CountsFault (failures self.old) (failures self.new) result };
+        ensures count { CountsFault (failures self.old) (failures self.new) result }
+        ensures history { MatchResult result
+            (λ _. Grows (history self.old) (history self.new) (Flushed ∷ []))
+            (λ _. history self.new ≡ history self.old) }
+        ensures aside { aside self.new ≡ aside self.old };
+}
+
+/// A device of both directions, with one history.
+pub trait Channel: Source + Sink {
+    ghost one_history: { (c : Self) → Self.Source.history c ≡ Self.Sink.history c };
+
+    ghost read_aside: { (c : Self) → Self.Source.aside c
+        ≡ record { bytes = Self.Sink.taken c; failures = Self.Sink.failures c } };
+
+    ghost write_aside: { (c : Self) → Self.Sink.aside c
+        ≡ record { bytes = Self.Source.rest c; failures = Self.Source.failures c } };
 }
 
 /// A reader as a `Source`. Each error of the reader is a failure, an interruption too.
@@ -126,10 +170,12 @@ pub trait Sink {
 pub struct Input<R> {
     reader: R,
     failures: u64,
+    log: Log<Event>,
 }
 
 impl<R: io::Read> Input<R> {
-    ghost use Rattle.ascii_devices.specs.Wrapped.{reader_of, input_failures};
+    ghost use Rattle.std.specs.Prelude.{[], Some};
+    ghost use Rattle.ascii_devices.specs.Wrapped.{reader_of, input_failures, input_history};
 
     /// Creates a source over the reader, with no failure so far.
     ///
@@ -137,10 +183,12 @@ impl<R: io::Read> Input<R> {
     pub fn new(reader: R) -> Input<R>
         ensures reader { reader_of result ≡ reader }
         ensures failures { input_failures result ≡ 0 }
+        ensures history { input_history result ≡ Some [] }
     {
         Input {
             reader,
             failures: 0,
+            log: Log::new(),
         }
     }
 
@@ -153,6 +201,7 @@ impl<R: io::Read> Input<R> {
         let Input {
             reader,
             failures: _,
+            log: _,
         } = self;
         reader
     }
@@ -160,19 +209,25 @@ impl<R: io::Read> Input<R> {
 
 impl<R: io::Read> Source for Input<R> {
     ghost use Rattle.std.specs.Prelude.{List, ℕ};
-    ghost use Rattle.ascii_devices.specs.Wrapped.{reader_of, input_failures};
+    ghost use Rattle.ascii_devices.specs.Wrapped.{reader_of, input_failures, input_history};
 
     ghost rest = { λ input. R.remaining (reader_of input) };
 
     ghost failures = { λ input. input_failures input };
+
+    ghost history = { λ input. input_history input };
 
     fn failures(&self) -> u64 {
         self.failures
     }
 
     fn read(&mut self, buf: &mut [u8]) -> Result<usize, DeviceFault> {
+        self.log = self.log.and(&Event::Read);
         match self.reader.read(buf) {
-            Ok(n) => Ok(n),
+            Ok(n) => {
+                note_received(&mut self.log, &buf[..n]);
+                Ok(n)
+            }
             Err(_) => {
                 self.failures += 1;
                 Err(DeviceFault)
@@ -187,10 +242,12 @@ impl<R: io::Read> Source for Input<R> {
 pub struct Output<W> {
     writer: W,
     failures: u64,
+    log: Log<Event>,
 }
 
 impl<W: io::Write> Output<W> {
-    ghost use Rattle.ascii_devices.specs.Wrapped.{writer_of, output_failures};
+    ghost use Rattle.std.specs.Prelude.{[], Some};
+    ghost use Rattle.ascii_devices.specs.Wrapped.{writer_of, output_failures, output_history};
 
     /// Creates a sink over the writer, with no failure so far.
     ///
@@ -198,10 +255,12 @@ impl<W: io::Write> Output<W> {
     pub fn new(writer: W) -> Output<W>
         ensures writer { writer_of result ≡ writer }
         ensures failures { output_failures result ≡ 0 }
+        ensures history { output_history result ≡ Some [] }
     {
         Output {
             writer,
             failures: 0,
+            log: Log::new(),
         }
     }
 
@@ -216,6 +275,7 @@ impl<W: io::Write> Output<W> {
         let Output {
             writer,
             failures: _,
+            log: _,
         } = self;
         writer
     }
@@ -223,11 +283,13 @@ impl<W: io::Write> Output<W> {
 
 impl<W: io::Write> Sink for Output<W> {
     ghost use Rattle.std.specs.Prelude.{List, ℕ};
-    ghost use Rattle.ascii_devices.specs.Wrapped.{writer_of, output_failures};
+    ghost use Rattle.ascii_devices.specs.Wrapped.{writer_of, output_failures, output_history};
 
     ghost taken = { λ output. W.contents (writer_of output) };
 
     ghost failures = { λ output. output_failures output };
+
+    ghost history = { λ output. output_history output };
 
     fn failures(&self) -> u64 {
         self.failures
@@ -235,7 +297,10 @@ impl<W: io::Write> Sink for Output<W> {
 
     fn write(&mut self, bytes: &[u8]) -> Result<usize, DeviceFault> {
         match self.writer.write(bytes) {
-            Ok(n) if n > 0 => Ok(n),
+            Ok(n) if n > 0 => {
+                note_sent(&mut self.log, &bytes[..n]);
+                Ok(n)
+            }
             _ => {
                 self.failures += 1;
                 Err(DeviceFault)
@@ -245,7 +310,10 @@ impl<W: io::Write> Sink for Output<W> {
 
     fn flush(&mut self) -> Result<(), DeviceFault> {
         match self.writer.flush() {
-            Ok(()) => Ok(()),
+            Ok(()) => {
+                self.log = self.log.and(&Event::Flushed);
+                Ok(())
+            }
             Err(_) => {
                 self.failures += 1;
                 Err(DeviceFault)

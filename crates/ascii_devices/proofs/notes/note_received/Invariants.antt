@@ -1,0 +1,6 @@
+use Rattle.std.proofs.Common.{◌≡◌, ◌++◌, map, take}
+use Rattle.ascii_devices.specs.declared.log.Event.TheVariants.{Received}
+use Rattle.ascii_devices.proofs.notes.note_received.Given as goal
+
+abbrev pub invariant-loop-byte : goal.invariant-loop-byte
+invariant-loop-byte l = l.log.items ≡ l.fn.log.items ++ map Received (take l.byte-index l.bytes)
