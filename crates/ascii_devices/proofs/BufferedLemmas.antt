@@ -1,47 +1,84 @@
 -- What was appended to an output, one piece after another.
-use Rattle.std.proofs.Common.{◌≡◌, ◌+◌, ◌-◌, ◌^◌, ◌<◌, ℕ, List, [], ◌++◌, Bool, true}
+use Rattle.std.proofs.Common.{◌≡◌, ◌+◌, ◌-◌, ◌^◌, ◌<◌, ℕ, List, [], ◌++◌, Option, Bool, true}
 use Rattle.std.proofs.Common.{false, append-nil, ap, subst, sym, ◌∙◌, refl}
 use Rattle.std.proofs.lemmas.Bool.{false≢true}
-use Rattle.std.proofs.lemmas.List.{append_assoc}
+use Rattle.std.proofs.lemmas.List.{append_assoc, map-append}
+use Rattle.std.specs.Io.KnownBytes.{Appends}
 use Rattle.std.proofs.KnownBytes.{Appends-kept, Appends-nil, Appends-trans, Keeps-refl, Keeps-trans}
-use Rattle.ascii_devices.specs.Buffered.{AppendsBy, AppendsBytes}
-use Rattle.ascii_devices.specs.Buffered.{MayFail, OutputState}
+use Rattle.ascii_devices.specs.Devices.{Grows, write_of}
+use Rattle.ascii_devices.specs.declared.log.Event.{Event}
+use Rattle.ascii_devices.specs.declared.log.Event.TheVariants.{Sent}
+use Rattle.ascii_devices.specs.Buffered.{AppendsBy, AppendsBytes, MayFail, OutputState}
+use Rattle.ascii_devices.specs.Buffered.{Sends, SendsNothing}
+use Rattle.ascii_devices.proofs.HistoryLemmas.{Grows-nil, Grows-trans}
 use Rattle.ascii_devices.proofs.ListLemmas.{append_two}
+
+pub Sends-nil : (a : OutputState) → Sends a a []
+Sends-nil a = (Appends-nil a.taken, Grows-nil a.history)
+
+-- more bytes were sent, by the bytes taken and the histories at the three times
+pub sends_more : (a b c : Option (List ℕ)) (h i j : Option (List Event)) (sent more : List ℕ)
+    → Appends a b sent × Grows h i (write_of sent) → Appends b c more × Grows i j (write_of more)
+    → Appends a c (sent ++ more) × Grows h j (write_of (sent ++ more))
+sends_more a b c h i j sent more (took, told) (took_more, told_more) = (
+  Appends-trans a b c sent more took took_more,
+  subst (Grows h j) (sym (map-append Sent sent more))
+      (Grows-trans h i j (write_of sent) (write_of more) told told_more),
+)
+
+-- the bytes were sent, and then more
+pub Sends-trans : (a b c : OutputState) (sent more : List ℕ)
+    → Sends a b sent → Sends b c more → Sends a c (sent ++ more)
+Sends-trans a b c sent more sends =
+    sends_more a.taken b.taken c.taken a.history b.history c.history sent more sends
+
+-- the bytes were sent, and then nothing
+pub Sends-kept : (a b c : OutputState) (sent : List ℕ)
+    → Sends a b sent → SendsNothing b c → Sends a c sent
+Sends-kept a b c sent (took, told) (kept, same) = (
+  Appends-kept a.taken b.taken c.taken sent took kept,
+  subst (λ h. Grows a.history h (write_of sent)) (sym same) told,
+)
 
 -- one piece and then another
 appends_by : (p q r : Bool) (a b c : OutputState) (first second : List ℕ)
     → AppendsBy p q a b first → AppendsBy q r b c second → AppendsBy p r a c (first ++ second)
-appends_by false false false a b c first second (sent, took, is, same)
-    (more, took_more, is_more, same_more) = (
+appends_by false false false a b c first second (sent, sends, is, same)
+    (more, sends_more, is_more, same_more) = (
       sent ++ more,
-      Appends-trans a.taken b.taken c.taken sent more took took_more,
+      Sends-trans a b c sent more sends sends_more,
       append_two sent more c.buffer.bytes b.buffer.bytes a.buffer.bytes first second is is_more,
       same_more ∙ same,
     )
-appends_by false false true a b c first second (sent, took, is, same)
-    ((more, others, took_more, is_more), count) = (
+appends_by false false true a b c first second (sent, sends, is, same)
+    ((more, others, sends_more, is_more), count) = (
       (
         sent ++ more,
         others,
-        Appends-trans a.taken b.taken c.taken sent more took took_more,
+        Sends-trans a b c sent more sends sends_more,
         append_two sent more others b.buffer.bytes a.buffer.bytes first second is is_more,
       ),
       count ∙ ap (λ n. n + 1) same,
     )
 appends_by false true false a b c first second one two = absurd (false≢true two.0)
-appends_by false true true a b c first second ((sent, others, took, is), count) (_, kept, same) = (
-  (
-    sent,
-    others ++ second,
-    Appends-kept a.taken b.taken c.taken sent took kept,
-    sym (append_assoc sent others second)
-        ∙ (ap (λ xs. xs ++ second) is ∙ append_assoc a.buffer.bytes first second),
-  ),
-  same ∙ count,
-)
+appends_by false true true a b c first second ((sent, others, sends, is), count)
+    (_, nothing, same) = (
+      (
+        sent,
+        others ++ second,
+        Sends-kept a b c sent sends nothing,
+        sym (append_assoc sent others second)
+            ∙ (ap (λ xs. xs ++ second) is ∙ append_assoc a.buffer.bytes first second),
+      ),
+      same ∙ count,
+    )
 appends_by true false r a b c first second one two = absurd (false≢true one.0)
-appends_by true true r a b c first second (_, kept, same) (broken, kept_more, same_more) =
-    (broken, Keeps-trans a.taken b.taken c.taken kept kept_more, same_more ∙ same)
+appends_by true true r a b c first second (_, (kept, still), same)
+    (broken, (kept_more, still_more), same_more) = (
+      broken,
+      (Keeps-trans a.taken b.taken c.taken kept kept_more, still_more ∙ still),
+      same_more ∙ same,
+    )
 
 pub AppendsBytes-trans : {a b c : OutputState} (first second : List ℕ)
     → AppendsBytes a b first → AppendsBytes b c second → AppendsBytes a c (first ++ second)
@@ -50,15 +87,17 @@ AppendsBytes-trans {a} {b} {c} first second one two = record {
       appends_by a.buffer.is_broken b.buffer.is_broken c.buffer.is_broken a b c first second
       one.by_failure two.by_failure;
   size = two.size ∙ one.size;
+  aside = two.aside ∙ one.aside;
 }
 
 -- no byte was appended
 nothing_by : (p : Bool) (a : OutputState) → AppendsBy p p a a []
-nothing_by false a = ([], Appends-nil a.taken, sym (append-nil a.buffer.bytes), refl)
-nothing_by true a = (refl, Keeps-refl a.taken, refl)
+nothing_by false a = ([], Sends-nil a, sym (append-nil a.buffer.bytes), refl)
+nothing_by true a = (refl, (Keeps-refl a.taken, refl), refl)
 
 pub AppendsBytes-nil : (a : OutputState) → AppendsBytes a a []
-AppendsBytes-nil a = record { by_failure = nothing_by a.buffer.is_broken a; size = refl }
+AppendsBytes-nil a =
+    record { by_failure = nothing_by a.buffer.is_broken a; size = refl; aside = refl }
 
 -- bytes that are equal to those appended
 pub AppendsBytes-is : {a b : OutputState} {bytes same : List ℕ}

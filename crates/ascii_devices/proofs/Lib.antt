@@ -1,4 +1,5 @@
 pub mod BufferCopyLemmas
 pub mod BufferedLemmas
+pub mod HistoryLemmas
 pub mod ListLemmas
 pub mod Walks

@@ -3,9 +3,8 @@
 ghost use Rattle.std.specs.Prelude.{◌≡◌, ◌+◌, ◌<◌, ◌≤◌, ◌∷◌, ◌++◌, IfOk, OnErr, OnOk, [], true};
 ghost use Rattle.std.specs.Prelude.{length};
 ghost use Rattle.std.specs.Prelude.{take, vec_len};
-ghost use Rattle.std.specs.Io.KnownBytes.{Appends};
-ghost use Rattle.ascii_devices.specs.Buffered.{AppendsFront, AppendsTo, FinishOutcome, IsReady};
-ghost use Rattle.ascii_devices.specs.Buffered.{MayFail, output_state};
+ghost use Rattle.ascii_devices.specs.Buffered.{AppendsTo, FinishOutcome, IsReady, MayFail};
+ghost use Rattle.ascii_devices.specs.Buffered.{Sends, SendsFront, output_state, sink_state};
 ghost use Rattle.ascii_devices.specs.Devices.{CountsFault};
 
 use crate::buffer_copy::{FIXED, copy_at, copy_front};
@@ -161,10 +160,11 @@ impl<A: Allocator> BufferedSink<A> {
     pub fn finish<K: Sink>(&mut self, writer: &mut K) -> Result<(), DeviceFault>
         requires { MayFail (output_state K.Sink writer.old self.old) }
         ensures outcome { FinishOutcome self.old.is_broken (output_state K.Sink writer.old self.old)
-            (K.taken writer.new) (K.failures writer.new) result }
+            (output_state K.Sink writer.new self.new) result }
         ensures ready { OnOk result (IsReady self.new) }
         ensures broken { OnErr result (self.new.is_broken ≡ true) }
         ensures size { self.new.size ≡ self.old.size }
+        ensures aside { K.aside writer.new ≡ K.aside writer.old }
     {
         self.send(writer);
         if self.is_broken {
@@ -215,9 +215,12 @@ pub fn zeros<A: Allocator>(alloc: A, count: usize) -> Result<Vec<u8, A>, AllocEr
 /// Writes all of the bytes, in as many writes as the writer needs.
 fn write_each<K: Sink>(writer: &mut K, bytes: &[u8]) -> Result<(), DeviceFault>
     requires { K.failures writer.old < u64.MAX }
-    ensures ok { OnOk result (Appends (K.taken writer.old) (K.taken writer.new) bytes.now) }
-    ensures err { OnErr result (AppendsFront (K.taken writer.old) (K.taken writer.new) bytes.now) }
+    ensures ok { OnOk result (Sends (sink_state K.Sink writer.old) (sink_state K.Sink writer.new)
+        bytes.now) }
+    ensures err { OnErr result (SendsFront (sink_state K.Sink writer.old)
+        (sink_state K.Sink writer.new) bytes.now) }
     ensures count { CountsFault (K.failures writer.old) (K.failures writer.new) result }
+    ensures aside { K.aside writer.new ≡ K.aside writer.old }
 {
     let mut remaining = bytes;
     'writes: while !remaining.is_empty() {

@@ -1,13 +1,15 @@
 use Rattle.std.proofs.Common.{◌≡◌, List, ℕ, ◌++◌, length}
-use Rattle.std.specs.Io.KnownBytes.{Appends}
+use Rattle.ascii_devices.specs.Buffered.{Sends, sink_state}
 use Rattle.ascii_devices.proofs.buffered.write_each.Given as goal
 
--- the writer took what is before the rest, and no write has failed
+-- the sink took what is before the rest, and no write has failed
 abbrev pub invariant-writes : goal.invariant-writes
 invariant-writes g l =
-    (sent : List ℕ) × Appends (g.K.Sink.taken l.fn.writer) (g.K.Sink.taken l.writer) sent
+    (sent : List ℕ)
+    × Sends (sink_state g.K.Sink l.fn.writer) (sink_state g.K.Sink l.writer) sent
     × (sent ++ l.remaining ≡ l.bytes)
     × (g.K.Sink.failures l.writer ≡ g.K.Sink.failures l.fn.writer)
+    × (g.K.Sink.aside l.writer ≡ g.K.Sink.aside l.fn.writer)
 
 -- the bytes that are left
 abbrev pub decreases-writes : goal.decreases-writes
