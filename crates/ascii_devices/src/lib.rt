@@ -15,7 +15,7 @@
 #![tactic(auto)]
 
 ghost use Rattle.std.specs.Prelude.{◌≡◌, ℕ, ◌<◌, ◌≤◌, List, [], ◌∷◌, length, take, IfOk, MatchResult};
-ghost use Rattle.std.specs.Prelude.{None};
+ghost use Rattle.std.specs.Prelude.{IsNone, IsSome, None};
 ghost use Rattle.std.specs.Io.KnownBytes.{Appends, Consumes, IsAtEnd, Keeps};
 ghost use Rattle.std.specs.declared.option.Option.{Option};
 ghost use Rattle.ascii_devices.specs.Devices.{Aside, CountsFault, Grows, no_aside, read_of, write_of};
@@ -170,7 +170,11 @@ pub trait Channel: Source + Sink {
 pub struct Input<R> {
     reader: R,
     failures: u64,
+    /// The error of the last read that failed.
+    error: Option<io::Error>,
     log: Log<Event>,
+    ghost no_error: { failures ≡ 0 → IsNone error },
+    ghost last_error: { 0 < failures → IsSome error },
 }
 
 impl<R: io::Read> Input<R> {
@@ -188,6 +192,7 @@ impl<R: io::Read> Input<R> {
         Input {
             reader,
             failures: 0,
+            error: None,
             log: Log::new(),
         }
     }
@@ -201,9 +206,22 @@ impl<R: io::Read> Input<R> {
         let Input {
             reader,
             failures: _,
+            error: _,
             log: _,
         } = self;
         reader
+    }
+
+    /// Returns the reader's error of the last read that failed, or `None` if no read has failed.
+    ///
+    ///     Input::new(b"ab".as_slice()).into_error() // None
+    pub fn into_error(self) -> Option<io::Error>
+    where
+        R: Drop,
+        ensures none { input_failures self ≡ 0 → result ≡ None }
+        ensures some { 0 < input_failures self → IsSome result }
+    {
+        self.error
     }
 }
 
@@ -228,8 +246,9 @@ impl<R: io::Read> Source for Input<R> {
                 note_received(&mut self.log, &buf[..n]);
                 Ok(n)
             }
-            Err(_) => {
+            Err(error) => {
                 self.failures += 1;
+                self.error = Some(error);
                 Err(DeviceFault)
             }
         }
@@ -242,7 +261,11 @@ impl<R: io::Read> Source for Input<R> {
 pub struct Output<W> {
     writer: W,
     failures: u64,
+    /// The error of the last call that failed.
+    error: Option<io::Error>,
     log: Log<Event>,
+    ghost no_error: { failures ≡ 0 → IsNone error },
+    ghost last_error: { 0 < failures → IsSome error },
 }
 
 impl<W: io::Write> Output<W> {
@@ -260,6 +283,7 @@ impl<W: io::Write> Output<W> {
         Output {
             writer,
             failures: 0,
+            error: None,
             log: Log::new(),
         }
     }
@@ -275,9 +299,23 @@ impl<W: io::Write> Output<W> {
         let Output {
             writer,
             failures: _,
+            error: _,
             log: _,
         } = self;
         writer
+    }
+
+    /// Returns the writer's error of the last write or flush that failed, or `None` if none has
+    /// failed. The error of a write that took no byte has the kind `WriteZero`.
+    ///
+    ///     Output::new(Vec::new(alloc)).into_error() // None
+    pub fn into_error(self) -> Option<io::Error>
+    where
+        W: Drop,
+        ensures none { output_failures self ≡ 0 → result ≡ None }
+        ensures some { 0 < output_failures self → IsSome result }
+    {
+        self.error
     }
 }
 
@@ -301,8 +339,9 @@ impl<W: io::Write> Sink for Output<W> {
                 note_sent(&mut self.log, &bytes[..n]);
                 Ok(n)
             }
-            _ => {
+            taken => {
                 self.failures += 1;
+                self.error = Some(error_of(taken));
                 Err(DeviceFault)
             }
         }
@@ -314,10 +353,19 @@ impl<W: io::Write> Sink for Output<W> {
                 self.log = self.log.and(&Event::Flushed);
                 Ok(())
             }
-            Err(_) => {
+            Err(error) => {
                 self.failures += 1;
+                self.error = Some(error);
                 Err(DeviceFault)
             }
         }
+    }
+}
+
+/// The error of a write that failed or took no byte.
+fn error_of(taken: io::Result<usize>) -> io::Error {
+    match taken {
+        Ok(_) => io::Error::from(io::ErrorKind::WriteZero),
+        Err(error) => error,
     }
 }
