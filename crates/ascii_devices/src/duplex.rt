@@ -4,109 +4,118 @@ ghost use Rattle.std.specs.Prelude.{◌≡◌};
 
 use crate::log::{Event, Log};
 use crate::notes::{note_received, note_sent};
-use crate::{Channel, DeviceFault, Sink, Source};
+use crate::{Channel, DeviceFault, Input, Output, Sink, Source};
 use std::io;
 
-/// A reader and a writer as one device of both directions. Its history, which only proofs read, has what
-/// happened at both, in order.
+/// A reader and a writer as one device of both directions, with one history of both.
 #[derive(Drop)]
 pub struct Duplex<R, W> {
-    reader: R,
-    writer: W,
-    read_failures: u64,
-    write_failures: u64,
+    input: Input<R>,
+    output: Output<W>,
     log: Log<Event>,
 }
 
 impl<R: io::Read, W: io::Write> Duplex<R, W> {
-    ghost use Rattle.std.specs.Prelude.{[]};
+    ghost use Rattle.std.specs.Prelude.{[], Some};
+    ghost use Rattle.ascii_devices.specs.Wrapped.{reader_of, input_failures, writer_of};
+    ghost use Rattle.ascii_devices.specs.Wrapped.{output_failures};
+    ghost use Rattle.ascii_devices.specs.Wrapped.{duplex_history, input_of, output_of};
 
-    /// Creates a device at which nothing has happened.
+    /// Creates a device over the reader and the writer, at which nothing has happened.
+    ///
+    ///     let mut duplex = Duplex::new(b"ab".as_slice(), Vec::new(alloc));
+    ///     Source::failures(&duplex) // 0
     pub fn new(reader: R, writer: W) -> Duplex<R, W>
-        ensures reader { result.reader ≡ reader }
-        ensures writer { result.writer ≡ writer }
-        ensures failures { (result.read_failures ≡ 0) × (result.write_failures ≡ 0) }
-        ensures history { result.log.items ≡ [] }
+        ensures reader { reader_of (input_of result) ≡ reader }
+        ensures writer { writer_of (output_of result) ≡ writer }
+        ensures failures { (input_failures (input_of result) ≡ 0)
+            × (output_failures (output_of result) ≡ 0) }
+        ensures history { duplex_history result ≡ Some [] }
     {
         Duplex {
-            reader,
-            writer,
-            read_failures: 0,
-            write_failures: 0,
+            input: Input::new(reader),
+            output: Output::new(writer),
             log: Log::new(),
         }
+    }
+
+    /// Returns the reader and the writer as two devices.
+    ///
+    ///     let (input, output) = Duplex::new(b"ab".as_slice(), Vec::new(alloc)).into_parts();
+    ///     input.into_inner() // [97, 98]
+    ///     output.into_inner() // []
+    pub fn into_parts(self) -> (Input<R>, Output<W>)
+        ensures { result ≡ (input_of self, output_of self) }
+    {
+        let Duplex {
+            input,
+            output,
+            log: _,
+        } = self;
+        (input, output)
     }
 }
 
 impl<R: io::Read, W: io::Write> Source for Duplex<R, W> {
-    ghost use Rattle.std.specs.Prelude.{List, Some, ℕ};
+    ghost use Rattle.std.specs.Prelude.{List, ℕ};
+    ghost use Rattle.ascii_devices.specs.Wrapped.{reader_of, input_failures, writer_of};
+    ghost use Rattle.ascii_devices.specs.Wrapped.{output_failures};
+    ghost use Rattle.ascii_devices.specs.Wrapped.{duplex_history, input_of, output_of};
 
-    ghost rest = { λ d. R.remaining d.reader };
+    ghost rest = { λ duplex. R.remaining (reader_of (input_of duplex)) };
 
-    ghost failures = { λ d. d.read_failures };
+    ghost failures = { λ duplex. input_failures (input_of duplex) };
 
-    ghost history = { λ d. Some d.log.items };
+    ghost history = { λ duplex. duplex_history duplex };
 
-    ghost aside = { λ d. record { bytes = W.contents d.writer; failures = d.write_failures } };
+    ghost aside = { λ duplex. record {
+      bytes = W.contents (writer_of (output_of duplex));
+      failures = output_failures (output_of duplex);
+    } };
 
     fn failures(&self) -> u64 {
-        self.read_failures
+        self.input.failures()
     }
 
     fn read(&mut self, buf: &mut [u8]) -> Result<usize, DeviceFault> {
         self.log = self.log.and(&Event::Read);
-        match self.reader.read(buf) {
-            Ok(n) => {
-                note_received(&mut self.log, &buf[..n]);
-                Ok(n)
-            }
-            Err(_) => {
-                self.read_failures += 1;
-                Err(DeviceFault)
-            }
-        }
+        let n = self.input.read(buf)?;
+        note_received(&mut self.log, &buf[..n]);
+        Ok(n)
     }
 }
 
 impl<R: io::Read, W: io::Write> Sink for Duplex<R, W> {
-    ghost use Rattle.std.specs.Prelude.{List, Some, ℕ};
+    ghost use Rattle.std.specs.Prelude.{List, ℕ};
+    ghost use Rattle.ascii_devices.specs.Wrapped.{reader_of, input_failures, writer_of};
+    ghost use Rattle.ascii_devices.specs.Wrapped.{output_failures};
+    ghost use Rattle.ascii_devices.specs.Wrapped.{duplex_history, input_of, output_of};
 
-    ghost taken = { λ d. W.contents d.writer };
+    ghost taken = { λ duplex. W.contents (writer_of (output_of duplex)) };
 
-    ghost failures = { λ d. d.write_failures };
+    ghost failures = { λ duplex. output_failures (output_of duplex) };
 
-    ghost history = { λ d. Some d.log.items };
+    ghost history = { λ duplex. duplex_history duplex };
 
-    ghost aside = { λ d. record { bytes = R.remaining d.reader; failures = d.read_failures } };
+    ghost aside = { λ duplex. record {
+      bytes = R.remaining (reader_of (input_of duplex));
+      failures = input_failures (input_of duplex);
+    } };
 
     fn failures(&self) -> u64 {
-        self.write_failures
+        self.output.failures()
     }
 
     fn write(&mut self, bytes: &[u8]) -> Result<usize, DeviceFault> {
-        match self.writer.write(bytes) {
-            Ok(n) if n > 0 => {
-                note_sent(&mut self.log, &bytes[..n]);
-                Ok(n)
-            }
-            _ => {
-                self.write_failures += 1;
-                Err(DeviceFault)
-            }
-        }
+        let n = self.output.write(bytes)?;
+        note_sent(&mut self.log, &bytes[..n]);
+        Ok(n)
     }
 
     fn flush(&mut self) -> Result<(), DeviceFault> {
-        match self.writer.flush() {
-            Ok(()) => {
-                self.log = self.log.and(&Event::Flushed);
-                Ok(())
-            }
-            Err(_) => {
-                self.write_failures += 1;
-                Err(DeviceFault)
-            }
-        }
+        self.output.flush()?;
+        self.log = self.log.and(&Event::Flushed);
+        Ok(())
     }
 }
 

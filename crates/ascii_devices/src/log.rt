@@ -32,7 +32,7 @@ impl<A> Log<A> {
 }
 
 /// What happened at a device of both directions.
-#[derive(Clone, Copy)]
+#[derive(Clone, Copy, PartialEq, Eq, Debug)]
 pub enum Event {
     /// It was asked for bytes.
     Read,
