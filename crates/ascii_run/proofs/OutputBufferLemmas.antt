@@ -6,7 +6,6 @@ use Rattle.std.proofs.lemmas.List.{append_assoc, map-append}
 use Rattle.std.specs.List.{flat_map}
 use Rattle.std.proofs.KnownBytes.{Appends-kept, Appends-trans}
 use Rattle.std.specs.Io.KnownBytes.{Appends}
-use Rattle.std.specs.declared.option.Option.{Option}
 use Rattle.std.specs.declared.result.Result.{Result}
 use Rattle.std.specs.declared.result.Result.TheVariants.{Ok, Err}
 use Rattle.ascii_devices.specs.declared.DeviceFault.{DeviceFault}
@@ -40,44 +39,44 @@ as_fault (Ok done) = Ok done
 as_fault (Err _) = Err Write
 
 -- all bytes that were appended, and what the writer took of them in the end
-module _ (mode : Mode) (text : List ℕ) (start mid : OutputState) (taken : Option (List ℕ))
-    (failures : ℕ) (empty : start.buffer.bytes ≡ []) where
+module _ (mode : Mode) (text : List ℕ) (start mid end : OutputState)
+    (empty : start.buffer.bytes ≡ []) where
   all_of : (sent held output : List ℕ) → sent ++ held ≡ start.buffer.bytes ++ output
       → sent ++ held ≡ output
   all_of sent held output is = is ∙ ap (λ bytes. bytes ++ output) empty
 
   writes_output_by : (q : Bool) (result : Result (Unit {0}) DeviceFault) (output : List ℕ)
       → IsOutput mode text output → AppendsBy false q start mid output
-      → FinishOutcome q mid taken failures result
-      → WritesOutput mode text (as_fault result) start.taken taken
-  writes_output_by false (Ok _) output of_text (sent, took, is, same) (took_rest, count) = (
+      → FinishOutcome q mid end result
+      → WritesOutput mode text (as_fault result) start.taken end.taken
+  writes_output_by false (Ok _) output of_text (sent, sends, is, same) ((took_rest, told), count) = (
     output,
     of_text,
-    subst (Appends start.taken taken) (all_of sent mid.buffer.bytes output is)
-        (Appends-trans start.taken mid.taken taken sent mid.buffer.bytes took took_rest),
+    subst (Appends start.taken end.taken) (all_of sent mid.buffer.bytes output is)
+        (Appends-trans start.taken mid.taken end.taken sent mid.buffer.bytes sends.0 took_rest),
   )
-  writes_output_by false (Err _) output of_text (sent, took, is, same)
-      ((more, others, took_more, rest_is), count) = (
+  writes_output_by false (Err _) output of_text (sent, sends, is, same)
+      ((more, others, sends_more, rest_is), count) = (
         sent ++ more,
         others,
         subst (IsOutput mode text)
             (sym (append_assoc sent more others
             ∙ (ap (λ xs. sent ++ xs) rest_is ∙ all_of sent mid.buffer.bytes output is))) of_text,
-        Appends-trans start.taken mid.taken taken sent more took took_more,
+        Appends-trans start.taken mid.taken end.taken sent more sends.0 sends_more.0,
       )
-  writes_output_by true (Err _) output of_text ((sent, others, took, is), count)
-      (kept, same) = (
+  writes_output_by true (Err _) output of_text ((sent, others, sends, is), count)
+      ((kept, still), same) = (
         sent,
         others,
         subst (IsOutput mode text) (sym (all_of sent others output is)) of_text,
-        Appends-kept start.taken mid.taken taken sent took kept,
+        Appends-kept start.taken mid.taken end.taken sent sends.0 kept,
       )
   writes_output_by true (Ok _) output of_text appends ends = absurd ends
 
   pub writes_output : (result : Result (Unit {0}) DeviceFault) → start.buffer.is_broken ≡ false
       → AppendsOutput mode text start mid
-      → FinishOutcome mid.buffer.is_broken mid taken failures result
-      → WritesOutput mode text (as_fault result) start.taken taken
+      → FinishOutcome mid.buffer.is_broken mid end result
+      → WritesOutput mode text (as_fault result) start.taken end.taken
   writes_output result whole appends =
       let q = mid.buffer.is_broken in
       writes_output_by q result appends.0 appends.1

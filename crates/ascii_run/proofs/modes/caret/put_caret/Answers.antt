@@ -1,12 +1,18 @@
-use Rattle.std.proofs.Common.{◌+◌, ◌++◌, take, get_or}
+use Rattle.std.proofs.Common.{[], ◌+◌, ◌++◌, take, get_or}
 use Rattle.std.proofs.lemmas.Str.{IsAscii-drop, IsAscii-take}
 use Rattle.std.specs.List.{flat_map}
 use Rattle.ascii.specs.View.{text_of}
 use Rattle.ascii_run.specs.Modes.Caret.{IsShown, caret_text}
 use Rattle.ascii_run.proofs.PlainRunLemmas.{caret_plain, shown_all, shown_more}
-use Rattle.ascii_devices.proofs.BufferedLemmas.{MayFail-still, AppendsBytes-is, AppendsBytes-trans}
+use Rattle.ascii_devices.proofs.BufferedLemmas.{MayFail-still, AppendsBytes-is, AppendsBytes-nil}
+use Rattle.ascii_devices.proofs.BufferedLemmas.{AppendsBytes-trans}
 use Rattle.ascii_run.proofs.ListLemmas.{sent_more}
 use Rattle.ascii_run.proofs.modes.caret.put_caret.Goals as goal
+
+pub segments-init : goal.segments-init
+segments-init g c =
+    let start = c.as_bytes-remaining.ensures in
+    (c.requires, start.ascii, ([], start.codes, AppendsBytes-nil _))
 
 pub segments-preserved : goal.segments-preserved
 segments-preserved g c =
