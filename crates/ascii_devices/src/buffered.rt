@@ -1,4 +1,13 @@
 //! A buffer of fixed size before a sink.
+//!
+//! A `BufferedSink` gathers bytes and passes them to a sink when they do not fit any more. No call that appends returns
+//! an error: after a write has failed, nothing more is written, and `finish` returns the error. So a loop that appends
+//! many pieces tests for an error once, after the loop.
+//!
+//! A contract sees the buffer as the bytes that it holds, its size, and whether a write has failed. It sees the sink
+//! and the buffer before it as one state (`OutputState`). `AppendsTo` says that bytes were appended: of the bytes held
+//! before and then those, the sink took a prefix, and the buffer holds the others. The sink's history, if it is kept,
+//! has exactly the bytes that the sink took.
 
 ghost use Rattle.std.specs.Prelude.{◌≡◌, ◌+◌, ◌<◌, ◌≤◌, ◌∷◌, ◌++◌, IfOk, OnErr, OnOk, [], true};
 ghost use Rattle.std.specs.Prelude.{length};
@@ -12,8 +21,9 @@ use crate::{DeviceFault, Sink};
 use std::alloc::{AllocError, Allocator};
 use std::marker::Model;
 
-/// An output buffer: bytes that were appended and that the writer has not taken yet. After a write
-/// has failed, nothing more is written.
+/// A buffer of fixed size before a sink: the bytes that were appended and that the sink has not taken
+/// yet. After a write has failed, nothing more is written. The sink is an argument of each call, and
+/// is to be the same at every call.
 #[derive(Drop)]
 pub struct BufferedSink<A: Allocator> {
     /// All bytes of the buffer, of which the first `used` were appended.
@@ -38,7 +48,12 @@ impl<A: Allocator> Model for BufferedSink<A> {
 }
 
 impl<A: Allocator> BufferedSink<A> {
-    /// Creates an empty buffer with this size in bytes, or returns an error if the allocation fails.
+    /// Creates an empty buffer of `size` bytes, or returns an error if the allocation fails. No later
+    /// call allocates.
+    ///
+    /// With a `size` of 0, the bytes of each call go to the sink at once.
+    ///
+    ///     BufferedSink::new(alloc, 4)?.is_broken() // false
     pub fn new(alloc: A, size: usize) -> Result<BufferedSink<A>, AllocError>
         ensures ready { IfOk result IsReady }
         ensures size { IfOk result (λ buffer. buffer.size ≡ size) }
@@ -50,7 +65,17 @@ impl<A: Allocator> BufferedSink<A> {
         })
     }
 
-    /// Appends bytes. If there is no room for them, the buffer is written first.
+    /// Appends bytes. If there is no room for them, the buffer is first written to the sink, and
+    /// emptied; bytes that are longer than the whole buffer go to the sink at once. If a write fails
+    /// now or has failed before, these bytes are dropped.
+    ///
+    /// Condition: a write has failed before, or fewer than `u64::MAX` calls of the sink have.
+    ///
+    ///     let mut output = Output::new(Vec::new(alloc));
+    ///     let mut buffer = BufferedSink::new(alloc, 4)?;
+    ///     buffer.put(&mut output, b"abc");
+    ///     buffer.put(&mut output, b"de");
+    ///     output.into_inner() // [97, 98, 99]
     #[inline]
     pub fn put<K: Sink>(&mut self, writer: &mut K, bytes: &[u8])
         requires { MayFail (output_state K.Sink writer.old self.old) }
@@ -64,7 +89,17 @@ impl<A: Allocator> BufferedSink<A> {
         }
     }
 
-    /// Appends the first `n` bytes. A few of many are appended by one copy of a fixed size.
+    /// Appends the first `n` of the bytes, as `put` does. If they are at most 32 of at least 32 bytes,
+    /// they are appended by one copy of a fixed size.
+    ///
+    /// Condition: `n` is at most the number of bytes. A write has failed before, or fewer than
+    /// `u64::MAX` calls of the sink have.
+    ///
+    ///     let mut output = Output::new(Vec::new(alloc));
+    ///     let mut buffer = BufferedSink::new(alloc, 4)?;
+    ///     buffer.put_front(&mut output, b"abc", 2);
+    ///     buffer.finish(&mut output) // Ok(())
+    ///     output.into_inner() // [97, 98]
     #[inline]
     pub fn put_front<K: Sink>(&mut self, writer: &mut K, bytes: &[u8], n: usize)
         requires fail { MayFail (output_state K.Sink writer.old self.old) }
@@ -78,7 +113,15 @@ impl<A: Allocator> BufferedSink<A> {
         }
     }
 
-    /// Appends the body of a line and LF.
+    /// Appends the body of a line and LF, as `put` does.
+    ///
+    /// Condition: a write has failed before, or fewer than `u64::MAX` calls of the sink have.
+    ///
+    ///     let mut output = Output::new(Vec::new(alloc));
+    ///     let mut buffer = BufferedSink::new(alloc, 4)?;
+    ///     buffer.put_line(&mut output, b"ab");
+    ///     buffer.finish(&mut output) // Ok(())
+    ///     output.into_inner() // [97, 98, 10]
     #[inline]
     pub fn put_line<K: Sink>(&mut self, writer: &mut K, body: &[u8])
         requires { MayFail (output_state K.Sink writer.old self.old) }
@@ -155,8 +198,19 @@ impl<A: Allocator> BufferedSink<A> {
         self.used = 0;
     }
 
-    /// Writes the bytes of the buffer and flushes the writer. Returns an error if a write
-    /// or the flush fails, or if a write had failed before.
+    /// Writes the bytes of the buffer to the sink, empties it and flushes the sink, or returns an error
+    /// if a write or the flush fails, or if one had failed before.
+    ///
+    /// After `Ok` the sink has taken all bytes that were appended. On an error it has taken a prefix of
+    /// them, and nothing more if a call had failed before.
+    ///
+    /// Condition: a write has failed before, or fewer than `u64::MAX` calls of the sink have.
+    ///
+    ///     let mut output = Output::new(Vec::new(alloc));
+    ///     let mut buffer = BufferedSink::new(alloc, 4)?;
+    ///     buffer.put(&mut output, b"abc");
+    ///     buffer.finish(&mut output) // Ok(())
+    ///     output.into_inner() // [97, 98, 99]
     pub fn finish<K: Sink>(&mut self, writer: &mut K) -> Result<(), DeviceFault>
         requires { MayFail (output_state K.Sink writer.old self.old) }
         ensures outcome { FinishOutcome self.old.is_broken (output_state K.Sink writer.old self.old)
@@ -179,7 +233,9 @@ impl<A: Allocator> BufferedSink<A> {
         }
     }
 
-    /// Whether a write or a flush has failed.
+    /// Returns `true` if a write or a flush has failed, or after `give_up`.
+    ///
+    ///     BufferedSink::new(alloc, 4)?.is_broken() // false
     #[inline]
     pub fn is_broken(&self) -> bool
         ensures { result ≡ self.now.is_broken }
@@ -187,7 +243,13 @@ impl<A: Allocator> BufferedSink<A> {
         self.is_broken
     }
 
-    /// Writes nothing from now on.
+    /// Makes every later call write nothing, as after a write that failed. For a sink that may not be
+    /// called again, for example because its count of failures is `u64::MAX`.
+    ///
+    ///     let mut output = Output::new(Vec::new(alloc));
+    ///     let mut buffer = BufferedSink::new(alloc, 4)?;
+    ///     buffer.give_up();
+    ///     buffer.finish(&mut output) // Err(DeviceFault)
     pub fn give_up(&mut self)
         ensures broken { self.new.is_broken ≡ true }
         ensures size { self.new.size ≡ self.old.size }
@@ -199,8 +261,10 @@ impl<A: Allocator> BufferedSink<A> {
 /// What `zeros` copies.
 static ZEROS: [u8; 1_024] = [0; 1_024];
 
-/// Zeros of this number. They are copied 1,024 at a time, since a loop that appends a byte at a time
-/// takes longer than the output of a short text.
+/// Returns `count` zeros, or an error if the allocation fails. They are copied 1,024 at a time, since
+/// a loop that appends a byte at a time takes longer than the output of a short text.
+///
+///     zeros(alloc, 3)? // [0, 0, 0]
 pub fn zeros<A: Allocator>(alloc: A, count: usize) -> Result<Vec<u8, A>, AllocError>
     ensures { IfOk result (λ zeros. vec_len zeros ≡ count) }
 {

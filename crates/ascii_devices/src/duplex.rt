@@ -1,4 +1,7 @@
 //! A reader and a writer as one device of both directions.
+//!
+//! A history for each direction cannot say whether an answer was sent before the next read. A `Duplex` has one history
+//! of both, so a contract of a server can.
 
 ghost use Rattle.std.specs.Prelude.{◌≡◌};
 
@@ -7,7 +10,8 @@ use crate::notes::{note_received, note_sent};
 use crate::{Channel, DeviceFault, Input, Output, Sink, Source};
 use std::io;
 
-/// A reader and a writer as one device of both directions, with one history of both.
+/// A reader and a writer as one device of both directions, a `Source` and a `Sink` with one history of
+/// both. Each direction has its own count of failures.
 #[derive(Drop)]
 pub struct Duplex<R, W> {
     input: Input<R>,
@@ -24,7 +28,9 @@ impl<R: io::Read, W: io::Write> Duplex<R, W> {
     /// Creates a device over the reader and the writer, at which nothing has happened.
     ///
     ///     let mut duplex = Duplex::new(b"ab".as_slice(), Vec::new(alloc));
-    ///     Source::failures(&duplex) // 0
+    ///     duplex.write(b"c") // Ok(1)
+    ///     duplex.read(&mut [0; 3]) // Ok(2)
+    ///     duplex.flush() // Ok(())
     pub fn new(reader: R, writer: W) -> Duplex<R, W>
         ensures reader { reader_of (input_of result) ≡ reader }
         ensures writer { writer_of (output_of result) ≡ writer }

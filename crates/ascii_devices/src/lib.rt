@@ -3,13 +3,19 @@
 //! After an error, std's contracts say little of a reader or a writer. These traits say more: a contract sees of a
 //! `Source` the bytes that it has yet to give, if they are known, and of a `Sink` those that it has taken. Both count
 //! the calls that failed, so that a caller can tell from the count whether a device failed. The only error is
-//! `DeviceFault`; the device's own error is dropped.
+//! `DeviceFault`. `Input` and `Output` keep the last error of the reader or the writer, which `into_error` returns.
 //!
 //! | You have | Use |
 //! |---|---|
 //! | a reader of std, also `&[u8]` | `Input::new(reader)` |
 //! | a writer of std, also `Vec<u8>` | `Output::new(writer)` |
+//! | a reader and a writer of the same peer | `Duplex::new(reader, writer)` |
+//! | many small pieces to write | a `BufferedSink` before the sink |
 //! | a device of your own | an `impl` of `Source` or `Sink` |
+//!
+//! A device may keep a *history*, which only contracts see: each read, each byte that it gave or took and each flush, in
+//! order. `Input`, `Output` and `Duplex` keep one. Std's contracts do not know the bytes of standard input and of
+//! standard output; the history has them. A device of your own that keeps none gives no `history`.
 //!
 //! In an example, `alloc` is an allocator, and the comment after `//` is the value's `{:?}` output.
 #![tactic(auto)]
@@ -62,10 +68,10 @@ pub trait Source {
     // How many calls have failed.
     ghost failures: { Self → ℕ };
 
-    // What has happened at it, in both directions, if that is kept.
+    // What has happened at it, in both directions if it has two, or `None` if that is not kept.
     ghost history: { Self → Option (List Event) } = { λ _. None };
 
-    // What a read leaves as it is: its other direction, if it has one.
+    // What a read leaves unchanged: its other direction, if it has one.
     ghost aside: { Self → Aside } = { λ _. no_aside };
 
     /// Returns how many calls have failed.
@@ -77,6 +83,8 @@ pub trait Source {
     /// Copies the next bytes to the start of `buf` and returns their number, or an error if the
     /// device failed; the count of failures then rises by one. The number is 0 only if there are no
     /// bytes left.
+    ///
+    /// A history gains `Event::Read` and then the bytes; on an error, `Event::Read` only.
     ///
     /// Condition: `buf` is not empty, and fewer than `u64::MAX` calls have failed.
     ///
@@ -105,10 +113,10 @@ pub trait Sink {
     // How many calls have failed.
     ghost failures: { Self → ℕ };
 
-    // What has happened at it, in both directions, if that is kept.
+    // What has happened at it, in both directions if it has two, or `None` if that is not kept.
     ghost history: { Self → Option (List Event) } = { λ _. None };
 
-    // What a write and a flush leave as it is: its other direction, if it has one.
+    // What a write and a flush leave unchanged: its other direction, if it has one.
     ghost aside: { Self → Aside } = { λ _. no_aside };
 
     /// Returns how many calls have failed.
@@ -119,6 +127,8 @@ pub trait Sink {
 
     /// Takes a prefix of `bytes` of at least one byte and returns its length, or an error if the
     /// device failed; the count of failures then rises by one.
+    ///
+    /// A history gains the bytes that were taken; on an error, nothing.
     ///
     /// Condition: `bytes` is not empty, and fewer than `u64::MAX` calls have failed.
     ///
@@ -141,6 +151,8 @@ pub trait Sink {
     /// Passes on the bytes that the device holds, or returns an error if the device failed; the
     /// count of failures then rises by one. The bytes that it has taken are unchanged.
     ///
+    /// A history gains `Event::Flushed`; on an error, nothing.
+    ///
     /// Condition: fewer than `u64::MAX` calls have failed.
     ///
     ///     Output::new(Vec::new(alloc)).flush() // Ok(())
@@ -154,18 +166,23 @@ pub trait Sink {
         ensures aside { aside self.new ≡ aside self.old };
 }
 
-/// A device of both directions, with one history.
+/// A device of both directions, with one history of both, so that a contract can say what was sent
+/// before which read.
 pub trait Channel: Source + Sink {
+    // Both directions have the same history.
     ghost one_history: { (c : Self) → Self.Source.history c ≡ Self.Sink.history c };
 
+    // A read leaves unchanged what was taken, and how many writes and flushes failed.
     ghost read_aside: { (c : Self) → Self.Source.aside c
         ≡ record { bytes = Self.Sink.taken c; failures = Self.Sink.failures c } };
 
+    // A write or a flush leaves unchanged what is yet to be given, and how many reads failed.
     ghost write_aside: { (c : Self) → Self.Sink.aside c
         ≡ record { bytes = Self.Source.rest c; failures = Self.Source.failures c } };
 }
 
-/// A reader as a `Source`. Each error of the reader is a failure, an interruption too.
+/// A reader as a `Source`. Each error of the reader is a failure, an interruption too. It keeps a
+/// history and the last error.
 #[derive(Drop)]
 pub struct Input<R> {
     reader: R,
@@ -181,7 +198,7 @@ impl<R: io::Read> Input<R> {
     ghost use Rattle.std.specs.Prelude.{[], Some};
     ghost use Rattle.ascii_devices.specs.Wrapped.{reader_of, input_failures, input_history};
 
-    /// Creates a source over the reader, with no failure so far.
+    /// Creates a source over the reader, with no failure and an empty history.
     ///
     ///     Input::new(b"ab".as_slice()).failures() // 0
     pub fn new(reader: R) -> Input<R>
@@ -212,7 +229,8 @@ impl<R: io::Read> Input<R> {
         reader
     }
 
-    /// Returns the reader's error of the last read that failed, or `None` if no read has failed.
+    /// Returns the reader's error of the last read that failed, or `None` if no read has failed. The
+    /// reader is dropped.
     ///
     ///     Input::new(b"ab".as_slice()).into_error() // None
     pub fn into_error(self) -> Option<io::Error>
@@ -256,7 +274,7 @@ impl<R: io::Read> Source for Input<R> {
 }
 
 /// A writer as a `Sink`. Each error of the writer is a failure, an interruption too, and so is a
-/// write that takes no byte.
+/// write that takes no byte. It keeps a history and the last error.
 #[derive(Drop)]
 pub struct Output<W> {
     writer: W,
@@ -272,7 +290,7 @@ impl<W: io::Write> Output<W> {
     ghost use Rattle.std.specs.Prelude.{[], Some};
     ghost use Rattle.ascii_devices.specs.Wrapped.{writer_of, output_failures, output_history};
 
-    /// Creates a sink over the writer, with no failure so far.
+    /// Creates a sink over the writer, with no failure and an empty history.
     ///
     ///     Output::new(Vec::new(alloc)).failures() // 0
     pub fn new(writer: W) -> Output<W>
@@ -306,7 +324,8 @@ impl<W: io::Write> Output<W> {
     }
 
     /// Returns the writer's error of the last write or flush that failed, or `None` if none has
-    /// failed. The error of a write that took no byte has the kind `WriteZero`.
+    /// failed. For a write that took no byte it is an error of the kind `WriteZero`. The writer is
+    /// dropped.
     ///
     ///     Output::new(Vec::new(alloc)).into_error() // None
     pub fn into_error(self) -> Option<io::Error>
