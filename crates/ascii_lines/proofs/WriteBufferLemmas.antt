@@ -3,8 +3,7 @@ use Rattle.std.proofs.Common.{◌≡◌, ℕ, List, [], ◌++◌, ap, sym, subst
 use Rattle.std.proofs.Common.{Bool, true, false, ◌+◌, ◌-◌, ◌^◌, ◌<◌, arith}
 use Rattle.std.proofs.lemmas.Bool.{false≢true}
 use Rattle.std.proofs.KnownBytes.{Appends-nil, Appends-trans}
-use Rattle.ascii_devices.specs.Buffered.{AppendsBy, AppendsBytes, AppendsFront}
-use Rattle.ascii_devices.specs.Buffered.{OutputState}
+use Rattle.ascii_devices.specs.Buffered.{AppendsBy, AppendsBytes, OutputState, SendsFront}
 use Rattle.ascii_devices.proofs.ListLemmas.{append_two}
 use Rattle.ascii_lines.specs.WriteBuffer.{Flow, Passes, PassesPrefix, PutsBytes, flow, one_more}
 
@@ -49,10 +48,10 @@ abbrev before : OutputState → Flow
 before a = flow a.taken a.buffer.bytes
 
 -- the sink took a prefix
-front_of : (a b : OutputState) (bytes : List ℕ) → AppendsFront a.taken b.taken (a.buffer.bytes ++ bytes)
+front_of : (a b : OutputState) (bytes : List ℕ) → SendsFront a b (a.buffer.bytes ++ bytes)
     → PassesPrefix (before a) (before b) bytes
-front_of a b bytes (sent, others, took, is) =
-    record { sent = sent; others = others; took = took; all = is }
+front_of a b bytes (sent, others, sends, is) =
+    record { sent = sent; others = others; took = sends.0; all = is }
 
 -- one more failure is counted
 counted : (n m : ℕ) → n < 2 ^ 64 - 1 → m ≡ n + 1 → m ≡ one_more n
@@ -60,8 +59,8 @@ counted n m low is = omega (arith, low, is)
 
 whole_by : (q : Bool) (a b : OutputState) (bytes : List ℕ) → AppendsBy false q a b bytes
     → q ≡ false → Passes (before a) (before b) bytes × (b.failures ≡ a.failures)
-whole_by false a b bytes (sent, took, is, same) none =
-    (record { sent = sent; took = took; all = is }, same)
+whole_by false a b bytes (sent, sends, is, same) none =
+    (record { sent = sent; took = sends.0; all = is }, same)
 whole_by true a b bytes appends none = absurd (false≢true (sym none))
 
 broken_by : (q : Bool) (a b : OutputState) (bytes : List ℕ) → AppendsBy false q a b bytes

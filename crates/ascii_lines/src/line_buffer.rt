@@ -10,7 +10,7 @@ ghost use Rattle.ascii_lines.specs.Endings.{IsFirstStop, FreeUpTo};
 
 use crate::endings::{Endings, find_end};
 use ascii::kernels::first_other;
-use ascii_devices::{DeviceFault, Source};
+use ascii_devices::{DeviceFault, Source, zeros};
 use std::alloc::{AllocError, Allocator};
 use std::marker::Model;
 
@@ -52,9 +52,8 @@ impl<A: Allocator> LineBuffer<A> {
         ensures held { IfOk result (λ buffer. buffer.held ≡ []) }
         ensures given { IfOk result (λ buffer. buffer.given ≡ []) }
     {
-        let bytes = vec![in alloc; 0; size]?;
         Ok(LineBuffer {
-            bytes,
+            bytes: zeros(alloc, size)?,
             given: 0,
             from: 0,
             checked: 0,
