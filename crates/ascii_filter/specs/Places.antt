@@ -62,11 +62,6 @@ ScanOutcome (Err Read) old new rest left =
 ScanOutcome (Err TooLong) old new rest left =
     (bytes : List ℕ) × Consumes rest left bytes × (old.room < length bytes)
 
--- the reader's count of failures after a result: one more for `Read`, otherwise unchanged
-abbrev pub scan_failures : {T : Type 0} → ℕ → Result T ScanFault → ℕ
-scan_failures n (Err Read) = n + 1
-scan_failures n other = n
-
 -- ---- cited by private functions only
 
 -- the number of LF among the bytes

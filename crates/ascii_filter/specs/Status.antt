@@ -5,12 +5,10 @@ use Rattle.std.specs.declared.option.Option.{Option}
 use Rattle.std.specs.declared.result.Result.{Result}
 use Rattle.std.specs.declared.result.Result.TheVariants.{Ok, Err}
 use Rattle.std.specs.IoError.{error_kind}
-use Rattle.std.specs.declared.io.Error.{Error}
 use Rattle.std.specs.declared.io.ErrorKind.TheVariants.{BrokenPipe}
 use Rattle.ascii.specs.Bytes.{FirstOther}
 use Rattle.ascii_filter.specs.declared.failure.Failure.{Failure}
 use Rattle.ascii_filter.specs.declared.failure.Failure.TheVariants.{NotAscii, Output}
-use Rattle.ascii_filter.specs.declared.remembering.Remembering.{Remembering}
 
 -- the status of a failure: 1 for input that is not ASCII, otherwise 3
 abbrev pub status_of : Failure → ℕ
@@ -33,11 +31,3 @@ abbrev pub MayAnswer : Option (List ℕ) → Result (Unit {0}) Failure → Type 
 MayAnswer known (Ok _) = IfSome known IsAscii
 MayAnswer known (Err (NotAscii n)) = IfSome known (λ bytes. FirstOther bytes 0 (length bytes) n)
 MayAnswer known (Err other) = ⊤
-
--- the device that a reader or a writer remembers the errors of
-abbrev pub device_of : {D : Type 0} → Remembering D → D
-device_of remembering = remembering.device
-
--- the last error of the device, if it has failed
-abbrev pub error_of : {D : Type 0} → Remembering D → Option Error
-error_of remembering = remembering.error

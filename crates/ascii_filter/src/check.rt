@@ -4,7 +4,6 @@ ghost use Rattle.std.specs.Prelude.{◌≤◌, IfOk};
 
 use crate::failure::Failure;
 use crate::options::Check;
-use crate::remembering::Remembering;
 use crate::scanner::{ScanFault, Scanner};
 use ascii_run::Input;
 use std::alloc::Global;
@@ -21,7 +20,7 @@ pub fn name_others<I: io::Read + Drop, O: io::Write + Drop>(
 ) -> Result<u64, Failure>
     ensures { IfOk result (λ found. found ≤ check.most) }
 {
-    let mut reader = Input::new(Remembering::new(input));
+    let mut reader = Input::new(input);
     let mut writer = BufWriter::new(alloc, output).map_err(|_| Failure::Memory)?;
     let mut scanner = Scanner::new(alloc).map_err(|_| Failure::Memory)?;
     let mut found = 0;
@@ -39,9 +38,7 @@ pub fn name_others<I: io::Read + Drop, O: io::Write + Drop>(
                 }
             }
             Err(ScanFault::TooLong) => return Err(Failure::TooLong),
-            Err(ScanFault::Read) => {
-                return Err(Failure::Input(reader.into_inner().last_error()));
-            }
+            Err(ScanFault::Read) => return Err(Failure::Input(reader.into_error().unwrap())),
         }
     }
     if check.is_count && !check.is_quiet {

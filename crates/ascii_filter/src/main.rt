@@ -7,7 +7,6 @@ ghost use Rattle.ascii_filter.specs.Status.{MayAnswer};
 mod check;
 mod failure;
 mod options;
-mod remembering;
 mod scanner;
 
 use ascii_run::{BoundedFault, BoundedMode, Input, Output, bounded_engine};
@@ -16,7 +15,6 @@ use clap::error::ErrorKind;
 use clap::{ArgMatches, Error};
 use failure::Failure;
 use options::{Check, STANDARD_INPUT, Task, command, options_of, task_of};
-use remembering::Remembering;
 use std::alloc::{AllocError, Allocator};
 use std::process::ExitCode;
 use std::{env, fs, io};
@@ -31,15 +29,15 @@ fn filter<A: Allocator + Copy, I: io::Read + Drop, O: io::Write + Drop>(
 ) -> Result<(), Failure>
     ensures { MayAnswer (I.remaining input) result }
 {
-    let mut reader = Input::new(Remembering::new(input));
-    let mut writer = Output::new(Remembering::new(output));
+    let mut reader = Input::new(input);
+    let mut writer = Output::new(output);
     match bounded_engine(alloc, mode, &mut reader, &mut writer) {
         Ok(()) => Ok(()),
         Err(BoundedFault::NotAscii(position)) => Err(Failure::NotAscii(position)),
         Err(BoundedFault::TooLong) => Err(Failure::TooLong),
         Err(BoundedFault::Memory) => Err(Failure::Memory),
-        Err(BoundedFault::Read) => Err(Failure::Input(reader.into_inner().last_error())),
-        Err(BoundedFault::Write) => Err(Failure::Output(writer.into_inner().last_error())),
+        Err(BoundedFault::Read) => Err(Failure::Input(reader.into_error().unwrap())),
+        Err(BoundedFault::Write) => Err(Failure::Output(writer.into_error().unwrap())),
     }
 }
 

@@ -5,10 +5,11 @@ ghost use Rattle.std.specs.Prelude.{length, MatchOption, MatchResult, OnOk};
 ghost use Rattle.std.specs.Str.{IsAscii};
 ghost use Rattle.std.specs.Io.KnownBytes.{Consumes, IsAtEnd};
 ghost use Rattle.ascii_filter.specs.Places.{FillOutcome, HeldNext, ScanOutcome, place_after};
-ghost use Rattle.ascii_filter.specs.Places.{feeds, place_after_byte, scan_failures};
+ghost use Rattle.ascii_filter.specs.Places.{feeds, place_after_byte};
+ghost use Rattle.ascii_run.specs.Reading.{Counts};
 
 use ascii::kernels::first_other;
-use ascii_run::Source;
+use ascii_devices::{Source, zeros};
 use memchr::memrchr;
 use std::alloc::{AllocError, Allocator};
 use std::marker::Model;
@@ -148,7 +149,7 @@ impl<A: Allocator> Scanner<A> {
             × (scanner.place.line ≡ 1) × (scanner.place.column ≡ 1) × (scanner.room ≡ 2 ^ 64 - 3)) }
     {
         Ok(Scanner {
-            chunk: Vec::from_elem(alloc, 0, CHUNK)?,
+            chunk: zeros(alloc, CHUNK)?,
             start: 0,
             end: 0,
             place: Place { line: 1, column: 1 },
@@ -163,7 +164,7 @@ impl<A: Allocator> Scanner<A> {
         requires { S.failures reader.old < u64.MAX }
         ensures outcome { ScanOutcome result
             self.old self.new (S.rest reader.old) (S.rest reader.new) }
-        ensures count { S.failures reader.new ≡ scan_failures (S.failures reader.old) result }
+        ensures count { Counts ScanFault.Read (S.failures reader.old) (S.failures reader.new) result }
     {
         'chunks: loop {
             if let Some(other) = self.next_held() {
@@ -200,7 +201,7 @@ impl<A: Allocator> Scanner<A> {
         requires empty { self.old.held ≡ [] }
         ensures outcome { FillOutcome result
             self.old self.new (S.rest reader.old) (S.rest reader.new) }
-        ensures count { S.failures reader.new ≡ scan_failures (S.failures reader.old) result }
+        ensures count { Counts ScanFault.Read (S.failures reader.old) (S.failures reader.new) result }
     {
         let Ok(n) = reader.read(&mut self.chunk) else {
             return Err(ScanFault::Read);

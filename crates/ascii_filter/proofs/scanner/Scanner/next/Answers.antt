@@ -1,4 +1,4 @@
-use Rattle.std.proofs.Common.{◌≡◌, ◌∙◌, ◌++◌, arith, length-append, rules}
+use Rattle.std.proofs.Common.{◌≡◌, ◌++◌, arith, length-append, rules}
 use Rattle.std.proofs.KnownBytes.{Consumes-trans}
 use Rattle.std.proofs.lemmas.Str.{IsAscii-append}
 use Rattle.ascii_filter.proofs.ScannerLemmas.{finds, finds_none, passes_chunk, scan_fails}
@@ -27,7 +27,7 @@ chunks-preserved g c =
     let fill = c.in-Ok.ensures.outcome in
     let rest = g.S.Source.rest in
     let more = c.fill.new.self.held in (
-      c.in-Ok.ensures.count ∙ c.chunks.invariant.0,
+      search rules,
       (
         passed ++ c.chunks.self.held,
         IsAscii-append passed c.chunks.self.held ascii all.0,
