@@ -66,8 +66,10 @@ impl<A: Allocator> BufferedSink<A> {
     }
 
     /// Appends bytes. If there is no room for them, the buffer is first written to the sink, and
-    /// emptied; bytes that are longer than the whole buffer go to the sink at once. If a write fails
-    /// now or has failed before, these bytes are dropped.
+    /// emptied; bytes that are longer than the whole buffer go to the sink at once.
+    ///
+    /// If a write fails, the sink has taken a prefix of the bytes held before and then these. If one has
+    /// failed before, nothing is written.
     ///
     /// Condition: a write has failed before, or fewer than `u64::MAX` calls of the sink have.
     ///

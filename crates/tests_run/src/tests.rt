@@ -5,9 +5,11 @@
 
 mod both_types_agree;
 mod bounded_engine;
+mod buffered;
 mod byte_past_127_everywhere;
 mod command_replies;
 mod device_steps;
+mod devices;
 mod each_call_fails;
 mod edit_lists;
 mod edit_table;

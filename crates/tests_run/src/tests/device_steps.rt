@@ -62,6 +62,30 @@ impl io::Write for Taking<'_> {
     }
 }
 
+/// A writer that follows a list of steps, and writes down its calls: the bytes that it took and `|` for a write, `!` for
+/// a flush.
+#[derive(Drop)]
+pub struct Recording<'a> {
+    pub steps: &'a [Step],
+    pub calls: Vec<u8>,
+}
+
+impl io::Write for Recording<'_> {
+    fn write(&mut self, buf: &[u8]) -> io::Result<usize> {
+        let most = follow(&mut self.steps)?;
+        let n = most.min(buf.len());
+        self.calls.extend_from_slice(&buf[..n])?;
+        self.calls.push(b'|')?;
+        Ok(n)
+    }
+
+    fn flush(&mut self) -> io::Result<()> {
+        follow(&mut self.steps)?;
+        self.calls.push(b'!')?;
+        Ok(())
+    }
+}
+
 /// The kinds of error that a device can name.
 pub const KINDS: [ErrorKind; 41] = [
     ErrorKind::NotFound,
