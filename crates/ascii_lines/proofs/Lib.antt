@@ -1,5 +1,6 @@
 pub mod EndedLemmas
 pub mod EndingsLemmas
+pub mod HistoryLemmas
 pub mod LineBufferLemmas
 pub mod LineReaderLemmas
 pub mod ServeLemmas

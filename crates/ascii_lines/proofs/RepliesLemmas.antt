@@ -7,7 +7,6 @@ use Rattle.std.proofs.Math.Seq.{drop-cons}
 use Rattle.std.proofs.lemmas.Grind.{flat_map-append}
 use Rattle.std.proofs.lemmas.List.{map-append, take_more, take-append-drop}
 use Rattle.std.specs.Io.KnownBytes.{Appends}
-use Rattle.std.specs.declared.option.Option.{Option}
 use Rattle.ascii.specs.StringState.{StringState}
 use Rattle.ascii.specs.declared.iter.spans.Ending.{Ending}
 use Rattle.ascii.specs.Lines.{Line, line_text}
@@ -16,7 +15,10 @@ use Rattle.ascii_lines.specs.declared.line_writer.WriteError.{WriteError}
 use Rattle.ascii_lines.specs.declared.line_writer.WriteError.TheVariants.{LineBreak, Write}
 use Rattle.ascii_lines.specs.LineWriter.{FailsToWrite, Flushes, FlushesFrom, FlushesOutcome}
 use Rattle.ascii_lines.specs.LineWriter.{WriterState, WritesBytes, WritesLine, WritesLineFrom}
-use Rattle.ascii_lines.specs.LineWriter.{state_of_writer}
+use Rattle.ascii_lines.specs.LineWriter.{flow_of_writer, state_of_writer}
+use Rattle.ascii_lines.specs.History.{TellsFlushed}
+use Rattle.ascii_devices.specs.declared.Sink.{Ghosts}
+use Rattle.ascii_lines.proofs.HistoryLemmas.{TellsFlushed-after, TellsSent-flush}
 use Rattle.ascii_lines.specs.Serve.{SendsBytes, WritesReplies, reply_bytes, reply_texts}
 use Rattle.ascii_lines.proofs.WriteBufferLemmas.{Passes-nil, Passes-prefix, Passes-trans}
 use Rattle.ascii_lines.proofs.WriteBufferLemmas.{PassesPrefix-more}
@@ -25,8 +27,9 @@ use Rattle.ascii_lines.proofs.WriteBufferLemmas.{PassesPrefix-more}
 
 pub WritesBytes-nil : (a : WriterState) → a.is_broken ≡ false → WritesBytes a a []
 WritesBytes-nil a is = record {
-  passed = Passes-nil (record { taken = a.taken; held = a.held });
+  passed = Passes-nil (flow_of_writer a);
   failures = refl;
+  aside = refl;
   stage = is;
   size = refl;
 }
@@ -36,6 +39,7 @@ pub WritesBytes-trans : {a b c : WriterState} (xs ys : List ℕ)
 WritesBytes-trans {a} {b} {c} xs ys first then = record {
   passed = Passes-trans xs ys first.passed then.passed;
   failures = then.failures ∙ first.failures;
+  aside = then.aside ∙ first.aside;
   stage = then.stage;
   size = then.size ∙ first.size;
 }
@@ -45,6 +49,7 @@ pub FailsToWrite-after : {a b c : WriterState} (xs ys : List ℕ)
 FailsToWrite-after {a} {b} {c} xs ys first then = record {
   passed = Passes-prefix xs ys first.passed then.passed;
   failures = then.failures ∙ ap (λ n. min (n + 1) (2 ^ 64 - 1)) first.failures;
+  aside = then.aside ∙ first.aside;
   stage = then.stage;
   size = then.size ∙ first.size;
 }
@@ -54,6 +59,7 @@ pub FailsToWrite-more : {a b : WriterState} (xs ys : List ℕ)
 FailsToWrite-more {a} {b} xs ys fails = record {
   passed = PassesPrefix-more xs ys fails.passed;
   failures = fails.failures;
+  aside = fails.aside;
   stage = fails.stage;
   size = fails.size;
 }
@@ -64,9 +70,11 @@ flush_writes a b flushes = record {
   passed = record {
     sent = a.held;
     took = flushes.took;
+    told = TellsSent-flush a.held flushes.told;
     all = ap (λ xs. a.held ++ xs) flushes.none;
   };
   failures = flushes.failures;
+  aside = flushes.aside;
   stage = flushes.stage;
   size = flushes.size;
 }
@@ -78,8 +86,11 @@ sends a b c bytes writes flushes = record {
   took = subst (Appends a.taken c.taken) writes.passed.all
       (Appends-trans a.taken b.taken c.taken writes.passed.sent b.held writes.passed.took
       flushes.took);
+  told = subst (TellsFlushed a.history c.history) writes.passed.all
+      (TellsFlushed-after writes.passed.sent b.held writes.passed.told flushes.told);
   none = flushes.none;
   failures = flushes.failures ∙ writes.failures;
+  aside = flushes.aside ∙ writes.aside;
   stage = flushes.stage;
   size = flushes.size ∙ writes.size;
 }
@@ -123,28 +134,28 @@ module _ (ending : Ending) (items : List StringState) (i : ℕ) (d : StringState
       ∙ (map-append (λ (reply : StringState). reply.text) (take i items) (drop i items)
       ∙ ap (λ xs. reply_texts (take i items) ++ reply_texts xs) (drop-cons items i d within))
 
-  module _ {K Z : Type 0} (taken : K → Option (List ℕ)) (failures : K → ℕ) (a : WriterState)
+  module _ {K Z : Type 0} (sink : Ghosts K) (a : WriterState)
       (old new : LineWriter K Z)
-      (so_far : WritesBytes a (state_of_writer taken failures old)
+      (so_far : WritesBytes a (state_of_writer sink old)
       (reply_bytes ending (reply_texts (take i items)))) where
     pub one_reply_more : (done : Unit {0})
-        → WritesLine taken failures old (reply_line ending (get_or items i d).text) (Ok done) new
-        → WritesBytes a (state_of_writer taken failures new)
+        → WritesLine sink old (reply_line ending (get_or items i d).text) (Ok done) new
+        → WritesBytes a (state_of_writer sink new)
         (reply_bytes ending (reply_texts (take (i + 1) items)))
     one_reply_more done writes =
         let line = reply_line ending (get_or items i d).text in
-        let ready : WritesLineFrom taken failures false old line (Ok done) new =
-        subst (λ stage. WritesLineFrom taken failures stage old line (Ok done) new) so_far.stage
+        let ready : WritesLineFrom sink false old line (Ok done) new =
+        subst (λ stage. WritesLineFrom sink stage old line (Ok done) new) so_far.stage
         writes in
-        subst (WritesBytes a (state_of_writer taken failures new)) (sym bytes_more)
+        subst (WritesBytes a (state_of_writer sink new)) (sym bytes_more)
         (WritesBytes-trans (reply_bytes ending (reply_texts (take i items))) (line_text line)
         so_far ready.1)
 
     reply_fails : (error : WriteError)
-        → WritesLineFrom taken failures false old (reply_line ending (get_or items i d).text)
+        → WritesLineFrom sink false old (reply_line ending (get_or items i d).text)
         (Err error) new
         → WritesReplies WritesBytes ending a (reply_texts items) (Err error)
-        (state_of_writer taken failures new)
+        (state_of_writer sink new)
     reply_fails Write writes =
         let line = reply_line ending (get_or items i d).text in
         let before = reply_bytes ending (reply_texts (take i items)) in
@@ -155,7 +166,7 @@ module _ (ending : Ending) (items : List StringState) (i : ℕ) (d : StringState
         ∙ (reply_bytes-append ending (reply_texts (take i items))
         ((get_or items i d).text ∷ reply_texts (drop (suc i) items))
         ∙ sym (append_assoc before (line_text line) after)) in
-        subst (FailsToWrite a (state_of_writer taken failures new)) (sym all)
+        subst (FailsToWrite a (state_of_writer sink new)) (sym all)
         (FailsToWrite-more (before ++ line_text line) after
         (FailsToWrite-after before (line_text line) so_far writes.1))
     reply_fails (LineBreak k) writes = (
@@ -165,63 +176,63 @@ module _ (ending : Ending) (items : List StringState) (i : ℕ) (d : StringState
       texts_around,
       writes.0,
       subst
-          (λ w. WritesBytes a (state_of_writer taken failures w)
+          (λ w. WritesBytes a (state_of_writer sink w)
           (reply_bytes ending (reply_texts (take i items)))) (sym writes.1) so_far,
     )
 
     pub one_reply_fails : (error : WriteError)
-        → WritesLine taken failures old (reply_line ending (get_or items i d).text) (Err error)
+        → WritesLine sink old (reply_line ending (get_or items i d).text) (Err error)
         new
         → WritesReplies WritesBytes ending a (reply_texts items) (Err error)
-        (state_of_writer taken failures new)
+        (state_of_writer sink new)
     one_reply_fails error writes =
         let line = reply_line ending (get_or items i d).text in
         reply_fails error
-        (subst (λ stage. WritesLineFrom taken failures stage old line (Err error) new)
+        (subst (λ stage. WritesLineFrom sink stage old line (Err error) new)
         so_far.stage writes)
 
 -- ---- replies and a flush
 
-module _ {K Z : Type 0} (taken : K → Option (List ℕ)) (failures : K → ℕ) (ending : Ending)
+module _ {K Z : Type 0} (sink : Ghosts K) (ending : Ending)
     (a : WriterState) (texts : List (List ℕ)) (old new : LineWriter K Z) where
   -- what a flush of an open writer does, after the replies
   flushed_from : (result : Result (Unit {0}) WriteError)
-      → WritesBytes a (state_of_writer taken failures old) (reply_bytes ending texts)
-      → FlushesFrom taken failures false old result new
-      → WritesReplies WritesBytes ending a texts result (state_of_writer taken failures new)
+      → WritesBytes a (state_of_writer sink old) (reply_bytes ending texts)
+      → FlushesFrom sink false old result new
+      → WritesReplies WritesBytes ending a texts result (state_of_writer sink new)
   flushed_from (Ok done) writes flushes =
-      subst (WritesBytes a (state_of_writer taken failures new))
+      subst (WritesBytes a (state_of_writer sink new))
       (append-nil (reply_bytes ending texts))
       (WritesBytes-trans (reply_bytes ending texts) [] writes
-      (flush_writes (state_of_writer taken failures old) (state_of_writer taken failures new)
+      (flush_writes (state_of_writer sink old) (state_of_writer sink new)
       flushes))
   flushed_from (Err error) writes flushes =
       subst
       (λ e. WritesReplies WritesBytes ending a texts (Err e)
-      (state_of_writer taken failures new)) (sym flushes.0)
-      (subst (FailsToWrite a (state_of_writer taken failures new))
+      (state_of_writer sink new)) (sym flushes.0)
+      (subst (FailsToWrite a (state_of_writer sink new))
       (append-nil (reply_bytes ending texts))
       (FailsToWrite-after (reply_bytes ending texts) [] writes flushes.1))
 
   pub flushed_replies : (result : Result (Unit {0}) WriteError)
-      → WritesBytes a (state_of_writer taken failures old) (reply_bytes ending texts)
-      → FlushesOutcome taken failures old result new
-      → WritesReplies WritesBytes ending a texts result (state_of_writer taken failures new)
+      → WritesBytes a (state_of_writer sink old) (reply_bytes ending texts)
+      → FlushesOutcome sink old result new
+      → WritesReplies WritesBytes ending a texts result (state_of_writer sink new)
   flushed_replies result writes flushes = flushed_from result writes
-      (subst (λ stage. FlushesFrom taken failures stage old result new) writes.stage flushes)
+      (subst (λ stage. FlushesFrom sink stage old result new) writes.stage flushes)
 
   -- the replies that were written went out by the last flush
   pub sent_replies : (result : Result (Unit {0}) WriteError) (done : Unit {0})
-      → WritesReplies WritesBytes ending a texts result (state_of_writer taken failures old)
-      → FlushesOutcome taken failures old (Ok done) new
-      → WritesReplies SendsBytes ending a texts result (state_of_writer taken failures new)
+      → WritesReplies WritesBytes ending a texts result (state_of_writer sink old)
+      → FlushesOutcome sink old (Ok done) new
+      → WritesReplies SendsBytes ending a texts result (state_of_writer sink new)
   sent_replies (Ok _) done writes flushes =
-      sends a (state_of_writer taken failures old) (state_of_writer taken failures new)
+      sends a (state_of_writer sink old) (state_of_writer sink new)
       (reply_bytes ending texts) writes
-      (subst (λ stage. FlushesFrom taken failures stage old (Ok done) new) writes.stage flushes)
+      (subst (λ stage. FlushesFrom sink stage old (Ok done) new) writes.stage flushes)
   sent_replies (Err Write) done writes flushes =
-      let failed : FlushesFrom taken failures true old (Ok done) new =
-      subst (λ stage. FlushesFrom taken failures stage old (Ok done) new) writes.stage flushes in
+      let failed : FlushesFrom sink true old (Ok done) new =
+      subst (λ stage. FlushesFrom sink stage old (Ok done) new) writes.stage flushes in
       absurd (let e : Ok done ≡ Err Write = failed.0 in cc)
   sent_replies (Err (LineBreak k)) done writes flushes = (
     writes.0,
@@ -229,47 +240,47 @@ module _ {K Z : Type 0} (taken : K → Option (List ℕ)) (failures : K → ℕ)
     writes.2,
     writes.3,
     writes.4,
-    sends a (state_of_writer taken failures old) (state_of_writer taken failures new)
+    sends a (state_of_writer sink old) (state_of_writer sink new)
         (reply_bytes ending writes.0) writes.5
-        (subst (λ stage. FlushesFrom taken failures stage old (Ok done) new) writes.5.stage
+        (subst (λ stage. FlushesFrom sink stage old (Ok done) new) writes.5.stage
         flushes),
   )
 
   fails_last : (bytes others : List ℕ) (error : WriteError)
-      → WritesBytes a (state_of_writer taken failures old) bytes
+      → WritesBytes a (state_of_writer sink old) bytes
       → reply_bytes ending texts ≡ bytes ++ others
-      → FlushesOutcome taken failures old (Err error) new
-      → WritesReplies SendsBytes ending a texts (Err error) (state_of_writer taken failures new)
+      → FlushesOutcome sink old (Err error) new
+      → WritesReplies SendsBytes ending a texts (Err error) (state_of_writer sink new)
   fails_last bytes others error writes all flushes =
-      let open_flush : FlushesFrom taken failures false old (Err error) new =
-      subst (λ stage. FlushesFrom taken failures stage old (Err error) new) writes.stage
+      let open_flush : FlushesFrom sink false old (Err error) new =
+      subst (λ stage. FlushesFrom sink stage old (Err error) new) writes.stage
       flushes in
       subst
       (λ e. WritesReplies SendsBytes ending a texts (Err e)
-      (state_of_writer taken failures new)) (sym open_flush.0)
-      (subst (FailsToWrite a (state_of_writer taken failures new)) (sym all)
+      (state_of_writer sink new)) (sym open_flush.0)
+      (subst (FailsToWrite a (state_of_writer sink new)) (sym all)
       (FailsToWrite-more bytes others
-      (subst (FailsToWrite a (state_of_writer taken failures new)) (append-nil bytes)
+      (subst (FailsToWrite a (state_of_writer sink new)) (append-nil bytes)
       (FailsToWrite-after bytes [] writes open_flush.1))))
 
   -- the last flush failed
   pub failed_replies : (result : Result (Unit {0}) WriteError) (error : WriteError)
-      → WritesReplies WritesBytes ending a texts result (state_of_writer taken failures old)
-      → FlushesOutcome taken failures old (Err error) new
-      → WritesReplies SendsBytes ending a texts (Err error) (state_of_writer taken failures new)
+      → WritesReplies WritesBytes ending a texts result (state_of_writer sink old)
+      → FlushesOutcome sink old (Err error) new
+      → WritesReplies SendsBytes ending a texts (Err error) (state_of_writer sink new)
   failed_replies (Ok _) error writes flushes =
       fails_last (reply_bytes ending texts) [] error writes
       (sym (append-nil (reply_bytes ending texts))) flushes
   failed_replies (Err Write) error writes flushes =
-      let failed : FlushesFrom taken failures true old (Err error) new =
-      subst (λ stage. FlushesFrom taken failures stage old (Err error) new) writes.stage
+      let failed : FlushesFrom sink true old (Err error) new =
+      subst (λ stage. FlushesFrom sink stage old (Err error) new) writes.stage
       flushes in
       let same : error ≡ Write = let e : Err error ≡ Err Write = failed.0 in cc in
       subst
       (λ e. WritesReplies SendsBytes ending a texts (Err e)
-      (state_of_writer taken failures new)) (sym same)
+      (state_of_writer sink new)) (sym same)
       (subst
-      (λ w. FailsToWrite a (state_of_writer taken failures w) (reply_bytes ending texts))
+      (λ w. FailsToWrite a (state_of_writer sink w) (reply_bytes ending texts))
       (sym failed.1) writes)
   failed_replies (Err (LineBreak k)) error writes flushes =
       fails_last (reply_bytes ending writes.0) (reply_bytes ending (writes.2 ∷ writes.1)) error

@@ -1,16 +1,24 @@
 -- Bytes that were written through a buffer, one piece after another.
 use Rattle.std.proofs.Common.{◌≡◌, ℕ, List, [], ◌++◌, ap, sym, subst, ◌∙◌, append_assoc, append-nil}
+use Rattle.std.proofs.Common.{Err, Ok, OnErr, Result}
 use Rattle.std.proofs.Common.{Bool, true, false, ◌+◌, ◌-◌, ◌^◌, ◌<◌, arith}
 use Rattle.std.proofs.lemmas.Bool.{false≢true}
 use Rattle.std.proofs.KnownBytes.{Appends-nil, Appends-trans}
-use Rattle.ascii_devices.specs.Buffered.{AppendsBy, AppendsBytes, OutputState, SendsFront}
+use Rattle.ascii_devices.specs.Buffered.{AppendsBy, AppendsBytes, FinishOutcome, OutputState}
+use Rattle.ascii_devices.specs.Buffered.{SendsFront}
+use Rattle.ascii_devices.specs.declared.DeviceFault.{DeviceFault}
 use Rattle.ascii_devices.proofs.ListLemmas.{append_two}
-use Rattle.ascii_lines.specs.WriteBuffer.{Flow, Passes, PassesPrefix, PutsBytes, flow, one_more}
+use Rattle.ascii_lines.specs.WriteBuffer.{Flow, Passes, PassesPrefix, PutsBytes, flow_of, one_more}
+use Rattle.ascii_lines.proofs.HistoryLemmas.{TellsSent-nil, TellsSent-trans, TellsSent-write}
 
 -- nothing was written
 pub Passes-nil : (a : Flow) → Passes a a []
-Passes-nil a =
-    record { sent = []; took = Appends-nil a.taken; all = sym (append-nil a.held) }
+Passes-nil a = record {
+  sent = [];
+  took = Appends-nil a.taken;
+  told = TellsSent-nil a.history;
+  all = sym (append-nil a.held);
+}
 
 -- one piece and then another
 pub Passes-trans : {a b c : Flow} (first second : List ℕ)
@@ -18,6 +26,7 @@ pub Passes-trans : {a b c : Flow} (first second : List ℕ)
 Passes-trans {a} {b} {c} first second one two = record {
   sent = one.sent ++ two.sent;
   took = Appends-trans a.taken b.taken c.taken one.sent two.sent one.took two.took;
+  told = TellsSent-trans one.sent two.sent one.told two.told;
   all = append_two one.sent two.sent c.held b.held a.held first second one.all two.all;
 }
 
@@ -28,6 +37,7 @@ Passes-prefix {a} {b} {c} first second one two = record {
   sent = one.sent ++ two.sent;
   others = two.others;
   took = Appends-trans a.taken b.taken c.taken one.sent two.sent one.took two.took;
+  told = TellsSent-trans one.sent two.sent one.told two.told;
   all = append_two one.sent two.sent two.others b.held a.held first second one.all two.all;
 }
 
@@ -38,34 +48,39 @@ PassesPrefix-more {a} {b} first second one = record {
   sent = one.sent;
   others = one.others ++ second;
   took = one.took;
+  told = one.told;
   all = sym (append_assoc one.sent one.others second)
       ∙ (ap (λ xs. xs ++ second) one.all ∙ append_assoc a.held first second);
 }
 
 -- ---- through the buffer of a sink
 
-abbrev before : OutputState → Flow
-before a = flow a.taken a.buffer.bytes
-
 -- the sink took a prefix
 front_of : (a b : OutputState) (bytes : List ℕ) → SendsFront a b (a.buffer.bytes ++ bytes)
-    → PassesPrefix (before a) (before b) bytes
-front_of a b bytes (sent, others, sends, is) =
-    record { sent = sent; others = others; took = sends.0; all = is }
+    → PassesPrefix (flow_of a) (flow_of b) bytes
+front_of a b bytes (sent, others, sends, is) = record {
+  sent = sent;
+  others = others;
+  took = sends.0;
+  told = TellsSent-write sent sends.1;
+  all = is;
+}
 
 -- one more failure is counted
 counted : (n m : ℕ) → n < 2 ^ 64 - 1 → m ≡ n + 1 → m ≡ one_more n
 counted n m low is = omega (arith, low, is)
 
 whole_by : (q : Bool) (a b : OutputState) (bytes : List ℕ) → AppendsBy false q a b bytes
-    → q ≡ false → Passes (before a) (before b) bytes × (b.failures ≡ a.failures)
-whole_by false a b bytes (sent, sends, is, same) none =
-    (record { sent = sent; took = sends.0; all = is }, same)
+    → q ≡ false → Passes (flow_of a) (flow_of b) bytes × (b.failures ≡ a.failures)
+whole_by false a b bytes (sent, sends, is, same) none = (
+  record { sent = sent; took = sends.0; told = TellsSent-write sent sends.1; all = is },
+  same,
+)
 whole_by true a b bytes appends none = absurd (false≢true (sym none))
 
 broken_by : (q : Bool) (a b : OutputState) (bytes : List ℕ) → AppendsBy false q a b bytes
     → a.failures < 2 ^ 64 - 1 → q ≡ true
-    → PassesPrefix (before a) (before b) bytes × (b.failures ≡ one_more a.failures)
+    → PassesPrefix (flow_of a) (flow_of b) bytes × (b.failures ≡ one_more a.failures)
 broken_by false a b bytes appends low some = absurd (false≢true some)
 broken_by true a b bytes (front, count) low some =
     (front_of a b bytes front, counted a.failures b.failures low count)
@@ -80,4 +95,23 @@ puts {a} {b} bytes ready low appends =
       whole = whole_by q a b bytes by;
       broken = broken_by q a b bytes by low;
       size = appends.size;
+      aside = appends.aside;
+    }
+
+-- the bytes of a buffer were to be written, and a write or the flush failed
+pub finish_fails : (a b : OutputState) (result : Result (Unit {0}) DeviceFault)
+    → a.buffer.is_broken ≡ false → a.failures < 2 ^ 64 - 1
+    → FinishOutcome a.buffer.is_broken a b result → OnErr result (b.buffer.is_broken ≡ true)
+    → b.buffer.size ≡ a.buffer.size → b.aside ≡ a.aside → OnErr result (PutsBytes a b [])
+finish_fails a b (Ok _) ready low outcome broken size aside = tt
+finish_fails a b (Err fault) ready low outcome broken size aside =
+    let (front, count) = subst (λ p. FinishOutcome p a b (Err fault)) ready outcome in
+    record {
+      whole = λ whole. absurd (false≢true (sym whole ∙ broken));
+      broken = λ _. (
+        front_of a b [] (subst (SendsFront a b) (sym (append-nil a.buffer.bytes)) front),
+        counted a.failures b.failures low count,
+      );
+      size = size;
+      aside = aside;
     }

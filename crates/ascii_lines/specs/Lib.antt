@@ -1,6 +1,7 @@
 pub mod CollectedLines
 pub mod Endings
 pub mod Errors
+pub mod History
 pub mod LineBuffer
 pub mod LineReader
 pub mod LineWriter

@@ -1,5 +1,5 @@
 -- What a line writer writes, and the errors it returns.
-use Rattle.std.specs.Prelude.{◌≡◌, ℕ, ◌+◌, ◌-◌, ◌^◌, Bool, List, [], min, Ok, Err, None, Some, true, false}
+use Rattle.std.specs.Prelude.{◌≡◌, ℕ, ◌+◌, ◌-◌, ◌^◌, Bool, List, [], ◌∷◌, ◌++◌, min, Ok, Err, None, Some, true, false}
 use Rattle.std.specs.Io.KnownBytes.{Appends}
 use Rattle.std.specs.List.{flat_map}
 use Rattle.std.specs.declared.option.Option.{Option}
@@ -9,30 +9,37 @@ use Rattle.ascii.specs.declared.iter.spans.Ending.{Ending}
 use Rattle.ascii.specs.Lines.{Line, line_text}
 use Rattle.ascii.specs.View.{text_of}
 use Rattle.memchr.specs.Find.{IsFirstByte, is_byte2}
-use Rattle.ascii_lines.specs.WriteBuffer.{Passes, PassesPrefix, flow}
+use Rattle.ascii_devices.specs.Devices.{Aside, Grows, write_of}
+use Rattle.ascii_devices.specs.declared.Sink.{Ghosts}
+use Rattle.ascii_devices.specs.declared.log.Event.{Event}
+use Rattle.ascii_devices.specs.declared.log.Event.TheVariants.{Flushed}
+use Rattle.ascii_lines.specs.WriteBuffer.{Flow, Passes, PassesPrefix, flow}
 use Rattle.ascii_lines.specs.declared.line_writer.LineWriter.{LineWriter}
 use Rattle.ascii_lines.specs.declared.line_writer.WriteError.{WriteError}
 use Rattle.ascii_lines.specs.declared.line_writer.WriteError.TheVariants.{LineBreak, Write}
 
 -- the state of a writer: the size of its buffer; the bytes that its sink has taken, if they are
--- known; the bytes that were written and that the sink has not taken yet; how many calls of the
--- sink have failed; whether one did, so that nothing more is written
+-- known; what has happened at the sink, if that is kept, and its other direction; the bytes that
+-- were written and that the sink has not taken yet; how many calls of the sink have failed; whether
+-- one did, so that nothing more is written
 pub record WriterState : Type 0 where
   pub size : ℕ
   pub taken : Option (List ℕ)
+  pub history : Option (List Event)
+  pub aside : Aside
   pub held : List ℕ
   pub failures : ℕ
   pub is_broken : Bool
 
--- the state of a writer whose sink has taken the bytes `taken sink`, and has failed `failures sink`
--- times
-abbrev pub state_of_writer
-    : {K Z : Type 0} → (K → Option (List ℕ)) → (K → ℕ) → LineWriter K Z → WriterState
-state_of_writer taken failures writer = record {
+-- the state of a writer, by what the `Sink` says of its sink
+abbrev pub state_of_writer : {K Z : Type 0} → Ghosts K → LineWriter K Z → WriterState
+state_of_writer sink writer = record {
   size = writer.buffer.size;
-  taken = taken writer.sink;
+  taken = sink.taken writer.sink;
+  history = sink.history writer.sink;
+  aside = sink.aside writer.sink;
   held = writer.buffer.bytes;
-  failures = failures writer.sink;
+  failures = sink.failures writer.sink;
   is_broken = writer.buffer.is_broken;
 }
 
@@ -40,11 +47,12 @@ state_of_writer taken failures writer = record {
 abbrev pub sink_of : {K Z : Type 0} → LineWriter K Z → K
 sink_of writer = writer.sink
 
--- the state of a new writer with a buffer of `size` bytes over a sink that has taken `taken` and
--- failed `failures` times
-abbrev pub IsFreshWriter : ℕ → Option (List ℕ) → ℕ → WriterState → Type 0
-IsFreshWriter size taken failures writing = (writing.size ≡ size) × (writing.taken ≡ taken)
-    × (writing.held ≡ []) × (writing.failures ≡ failures) × (writing.is_broken ≡ false)
+-- the state of a new writer with a buffer of `size` bytes over the sink `target`
+abbrev pub IsFreshWriter : {K : Type 0} → ℕ → Ghosts K → K → WriterState → Type 0
+IsFreshWriter size sink target writing = (writing.size ≡ size)
+    × (writing.taken ≡ sink.taken target) × (writing.history ≡ sink.history target)
+    × (writing.aside ≡ sink.aside target) × (writing.held ≡ [])
+    × (writing.failures ≡ sink.failures target) × (writing.is_broken ≡ false)
 
 -- a body and an ending as a line
 abbrev pub line_with : AsciiStr → Ending → Line
@@ -54,28 +62,37 @@ line_with body ending = record { body = text_of body; ending = ending }
 abbrev pub is_line_break : ℕ → Bool
 is_line_break = is_byte2 13 10
 
+-- the flow of the sink of a writer
+abbrev pub flow_of_writer : WriterState → Flow
+flow_of_writer writing = flow writing.taken writing.history writing.held
+
 -- from the state `old` to the state `new` the bytes were written, and no call of the sink failed:
 -- of the bytes held before and then `bytes`, the sink took a prefix, and the writer holds the
--- others
+-- others; its history has that prefix as sent
 pub record WritesBytes (old new : WriterState) (bytes : List ℕ) : Type 0 where
-  pub passed : Passes (flow old.taken old.held) (flow new.taken new.held) bytes
+  pub passed : Passes (flow_of_writer old) (flow_of_writer new) bytes
   pub failures : new.failures ≡ old.failures
+  pub aside : new.aside ≡ old.aside
   pub stage : new.is_broken ≡ false
   pub size : new.size ≡ old.size
 
 -- a call of the sink failed while the bytes were written: of the bytes held before and then
 -- `bytes`, the sink took a prefix. One more failure is counted, unless there were 2 ^ 64 - 1
 pub record FailsToWrite (old new : WriterState) (bytes : List ℕ) : Type 0 where
-  pub passed : PassesPrefix (flow old.taken old.held) (flow new.taken new.held) bytes
+  pub passed : PassesPrefix (flow_of_writer old) (flow_of_writer new) bytes
   pub failures : new.failures ≡ min (old.failures + 1) (2 ^ 64 - 1)
+  pub aside : new.aside ≡ old.aside
   pub stage : new.is_broken ≡ true
   pub size : new.size ≡ old.size
 
--- the sink took all bytes that were held, the writer holds none, and no call of the sink failed
+-- the sink took all bytes that were held and was then flushed, the writer holds none, and no call
+-- of the sink failed
 pub record Flushes (old new : WriterState) : Type 0 where
   pub took : Appends old.taken new.taken old.held
+  pub told : Grows old.history new.history (write_of old.held ++ Flushed ∷ [])
   pub none : new.held ≡ []
   pub failures : new.failures ≡ old.failures
+  pub aside : new.aside ≡ old.aside
   pub stage : new.is_broken ≡ false
   pub size : new.size ≡ old.size
 
@@ -84,7 +101,7 @@ pub record Flushes (old new : WriterState) : Type 0 where
 abbrev pub WritesLines : WriterState → List Line → WriterState → Type 0
 WritesLines old lines new = WritesBytes old new (flat_map line_text lines)
 
-module _ {K Z : Type 0} (taken : K → Option (List ℕ)) (failures : K → ℕ) where
+module _ {K Z : Type 0} (sink : Ghosts K) where
   -- what writing a line does, by the stage of the writer. `Ok`: no code of the body is CR or LF,
   -- and the line was written. `LineBreak`: the position of the first CR or LF of the body, and
   -- nothing was changed. `Write`: a call of the sink failed. At `Failed` the error is `Write`, and
@@ -92,12 +109,12 @@ module _ {K Z : Type 0} (taken : K → Option (List ℕ)) (failures : K → ℕ)
   abbrev pub WritesLineFrom : Bool
       → LineWriter K Z → Line → Result (Unit {0}) WriteError → LineWriter K Z → Type 0
   WritesLineFrom false old line (Ok _) new = IsFirstByte is_line_break line.body None
-      × WritesBytes (state_of_writer taken failures old) (state_of_writer taken failures new)
+      × WritesBytes (state_of_writer sink old) (state_of_writer sink new)
       (line_text line)
   WritesLineFrom false old line (Err (LineBreak k)) new =
       IsFirstByte is_line_break line.body (Some k) × (new ≡ old)
   WritesLineFrom false old line (Err Write) new = IsFirstByte is_line_break line.body None
-      × FailsToWrite (state_of_writer taken failures old) (state_of_writer taken failures new)
+      × FailsToWrite (state_of_writer sink old) (state_of_writer sink new)
       (line_text line)
   WritesLineFrom true old line result new = (result ≡ Err Write) × (new ≡ old)
 
@@ -111,9 +128,9 @@ module _ {K Z : Type 0} (taken : K → Option (List ℕ)) (failures : K → ℕ)
   abbrev pub FlushesFrom
       : Bool → LineWriter K Z → Result (Unit {0}) WriteError → LineWriter K Z → Type 0
   FlushesFrom false old (Ok _) new =
-      Flushes (state_of_writer taken failures old) (state_of_writer taken failures new)
+      Flushes (state_of_writer sink old) (state_of_writer sink new)
   FlushesFrom false old (Err error) new = (error ≡ Write)
-      × FailsToWrite (state_of_writer taken failures old) (state_of_writer taken failures new) []
+      × FailsToWrite (state_of_writer sink old) (state_of_writer sink new) []
   FlushesFrom true old result new = (result ≡ Err Write) × (new ≡ old)
 
   -- what a flush does

@@ -10,6 +10,7 @@ use Rattle.ascii.specs.Lines.{Line, line_text}
 use Rattle.ascii.specs.Spans.{WithStart, items_of, line_size, with_starts}
 use Rattle.memchr.specs.Find.{IsFirstByte}
 use Rattle.ascii_lines.specs.Endings.{LinesEndedBy}
+use Rattle.ascii_lines.specs.History.{TellsFlushed}
 use Rattle.ascii_lines.specs.LineReader.{IsDone, IsLineError, IsPartError, ReaderState, ReadsBytes}
 use Rattle.ascii_lines.specs.LineWriter.{FailsToWrite, WriterState, is_line_break}
 use Rattle.ascii_lines.specs.declared.endings.Endings.{Endings}
@@ -68,11 +69,14 @@ RefusesInput (next.Part n) old error new = ((new.stage ≡ Refused error)
     ⊎ ((old.stage ≡ Ended) × (error ≡ Incomplete 0) × (new ≡ old))
 RefusesInput next.Close old error new = ⊥
 
--- all bytes that were held and then `bytes` went to the sink, and no call of it failed
+-- all bytes that were held and then `bytes` went to the sink, which was then flushed, and no call of
+-- it failed
 pub record SendsBytes (old new : WriterState) (bytes : List ℕ) : Type 0 where
   pub took : Appends old.taken new.taken (old.held ++ bytes)
+  pub told : TellsFlushed old.history new.history (old.held ++ bytes)
   pub none : new.held ≡ []
   pub failures : new.failures ≡ old.failures
+  pub aside : new.aside ≡ old.aside
   pub stage : new.is_broken ≡ false
   pub size : new.size ≡ old.size
 

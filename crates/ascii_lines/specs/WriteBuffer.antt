@@ -3,11 +3,14 @@ use Rattle.std.specs.Prelude.{◌≡◌, ℕ, ◌+◌, ◌-◌, ◌^◌, List, �
 use Rattle.std.specs.Io.KnownBytes.{Appends}
 use Rattle.std.specs.declared.option.Option.{Option}
 use Rattle.ascii_devices.specs.Buffered.{OutputState}
+use Rattle.ascii_devices.specs.declared.log.Event.{Event}
+use Rattle.ascii_lines.specs.History.{TellsSent}
 
--- a sink with the buffer before it: the bytes that the sink has taken, if they are known; the bytes
--- that the buffer holds
+-- a sink with the buffer before it: the bytes that the sink has taken, if they are known; its
+-- history, if it is kept; the bytes that the buffer holds
 pub record Flow : Type 0 where
   pub taken : Option (List ℕ)
+  pub history : Option (List Event)
   pub held : List ℕ
 
 -- `bytes` were written: of the bytes held before and then `bytes`, the sink took a prefix, and the
@@ -15,6 +18,7 @@ pub record Flow : Type 0 where
 pub record Passes (old new : Flow) (bytes : List ℕ) : Type 0 where
   pub sent : List ℕ
   pub took : Appends old.taken new.taken sent
+  pub told : TellsSent old.history new.history sent
   pub all : sent ++ new.held ≡ old.held ++ bytes
 
 -- the sink failed while `bytes` were written: of the bytes held before and then `bytes`, it took a
@@ -23,11 +27,12 @@ pub record PassesPrefix (old new : Flow) (bytes : List ℕ) : Type 0 where
   pub sent : List ℕ
   pub others : List ℕ
   pub took : Appends old.taken new.taken sent
+  pub told : TellsSent old.history new.history sent
   pub all : sent ++ others ≡ old.held ++ bytes
 
--- a sink that has taken `taken`, before which `held` is held
-abbrev pub flow : Option (List ℕ) → List ℕ → Flow
-flow taken held = record { taken = taken; held = held }
+-- a sink that has taken `taken` and has this history, before which `held` is held
+abbrev pub flow : Option (List ℕ) → Option (List Event) → List ℕ → Flow
+flow taken history held = record { taken = taken; history = history; held = held }
 
 -- the count of failures after one more, which stops at 2 ^ 64 - 1
 abbrev pub one_more : ℕ → ℕ
@@ -35,13 +40,16 @@ one_more n = min (n + 1) (2 ^ 64 - 1)
 
 -- ---- cited by private functions only
 
+-- the flow of a sink with a buffer before it
+abbrev pub flow_of : OutputState → Flow
+flow_of state = flow state.taken state.history state.buffer.bytes
+
 -- `bytes` were put through a buffer: `Passes`; or a write failed, `PassesPrefix`, and one more
 -- failure is counted
 pub record PutsBytes (old new : OutputState) (bytes : List ℕ) : Type 0 where
   pub whole : new.buffer.is_broken ≡ false
-      → Passes (flow old.taken old.buffer.bytes) (flow new.taken new.buffer.bytes) bytes
-      × (new.failures ≡ old.failures)
+      → Passes (flow_of old) (flow_of new) bytes × (new.failures ≡ old.failures)
   pub broken : new.buffer.is_broken ≡ true
-      → PassesPrefix (flow old.taken old.buffer.bytes) (flow new.taken new.buffer.bytes) bytes
-      × (new.failures ≡ one_more old.failures)
+      → PassesPrefix (flow_of old) (flow_of new) bytes × (new.failures ≡ one_more old.failures)
   pub size : new.buffer.size ≡ old.buffer.size
+  pub aside : new.aside ≡ old.aside

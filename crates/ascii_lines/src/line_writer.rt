@@ -1,11 +1,10 @@
 //! A writer of lines over any sink, through one buffer of fixed size.
 
 ghost use Rattle.std.specs.Prelude.{◌≡◌, ◌++◌, [], IfOk, OnErr, OnOk, false, true};
-ghost use Rattle.std.specs.Io.KnownBytes.{Appends};
 ghost use Rattle.ascii.specs.Lines.{ending_text};
 ghost use Rattle.ascii_lines.specs.LineWriter.{FlushesOutcome, IsFreshWriter, WritesLine};
 ghost use Rattle.ascii_lines.specs.LineWriter.{line_with, sink_of, state_of_writer};
-ghost use Rattle.ascii_devices.specs.Buffered.{IsReady, output_state};
+ghost use Rattle.ascii_devices.specs.Buffered.{Finishes, IsReady, output_state};
 ghost use Rattle.ascii_lines.specs.WriteBuffer.{PutsBytes};
 
 use ascii::AsciiStr;
@@ -45,8 +44,8 @@ impl<K: Sink, A: Allocator> LineWriter<K, A> {
     pub fn new(alloc: A, sink: K, size: usize) -> Result<LineWriter<K, A>, AllocError>
     where
         K: Drop,
-        ensures fresh { IfOk result (λ writer. IsFreshWriter size (K.taken sink) (K.failures sink)
-            (state_of_writer K.taken K.failures writer)) }
+        ensures fresh { IfOk result (λ writer. IsFreshWriter size K.Sink sink
+            (state_of_writer K.Sink writer)) }
         ensures sink { IfOk result (λ writer. sink_of writer ≡ sink) }
     {
         let buffer = BufferedSink::new(alloc, size)?;
@@ -82,7 +81,7 @@ impl<K: Sink, A: Allocator> LineWriter<K, A> {
     ///     writer.flush() // Ok(())
     ///     writer.into_sink().into_inner() // [99, 10]
     pub fn write_line(&mut self, body: AsciiStr<'_>, ending: Ending) -> Result<(), WriteError>
-        ensures { WritesLine K.taken K.failures self.old (line_with body.entry ending) result
+        ensures { WritesLine K.Sink self.old (line_with body.entry ending) result
             self.new }
     {
         if self.buffer.is_broken() {
@@ -102,13 +101,13 @@ impl<K: Sink, A: Allocator> LineWriter<K, A> {
     /// Passes the bytes that the writer holds to the sink and flushes it, or returns `Write` if a call of
     /// the sink failed, or `u64::MAX` calls have failed before; every later call then returns `Write`.
     ///
-    /// After `Ok` the sink has taken all lines that were written. On an error it has taken a prefix of
-    /// them.
+    /// After `Ok` the sink has taken all lines that were written, and was flushed. On an error it has
+    /// taken a prefix of them.
     ///
     ///     let mut writer = LineWriter::new(alloc, Output::new(Vec::new(alloc)), 64)?;
     ///     writer.flush() // Ok(())
     pub fn flush(&mut self) -> Result<(), WriteError>
-        ensures { FlushesOutcome K.taken K.failures self.old result self.new }
+        ensures { FlushesOutcome K.Sink self.old result self.new }
     {
         if self.buffer.is_broken() {
             return Err(WriteError::Write);
@@ -150,13 +149,14 @@ fn send_all<K: Sink, A: Allocator>(
     sink: &mut K,
 ) -> Result<(), DeviceFault>
     requires { buffer.old.is_broken ≡ false }
-    ensures ok { OnOk result (Appends (K.taken sink.old) (K.taken sink.new) buffer.old.bytes
-        × (K.failures sink.new ≡ K.failures sink.old)) }
+    ensures ok { OnOk result (Finishes (output_state K.Sink sink.old buffer.old)
+        (output_state K.Sink sink.new buffer.new) × (K.failures sink.new ≡ K.failures sink.old)) }
     ensures ready { OnOk result (IsReady buffer.new) }
     ensures err { OnErr result (PutsBytes (output_state K.Sink sink.old buffer.old)
         (output_state K.Sink sink.new buffer.new) []) }
     ensures broken { OnErr result (buffer.new.is_broken ≡ true) }
     ensures size { buffer.new.size ≡ buffer.old.size }
+    ensures aside { K.aside sink.new ≡ K.aside sink.old }
 {
     if sink.failures() == u64::MAX {
         buffer.give_up();

@@ -98,9 +98,9 @@ pub fn serve<S: Source, K: Sink, H: Handler, A: Allocator, B: Allocator>(
     requires reader { IsOpen reader.old }
     requires writer { IsReady writer.old }
     ensures { Serves H.answers SendsBytes ending (state_of_reader S.rest S.failures reader.old)
-        (state_of_writer K.taken K.failures writer.old) handler.old result
+        (state_of_writer K.Sink writer.old) handler.old result
         (state_of_reader S.rest S.failures reader.new)
-        (state_of_writer K.taken K.failures writer.new) handler.new }
+        (state_of_writer K.Sink writer.new) handler.new }
 {
     let stop = converse(alloc, reader, writer, ending, handler);
     match writer.flush() {
@@ -120,9 +120,9 @@ fn converse<S: Source, K: Sink, H: Handler, A: Allocator, B: Allocator>(
     requires reader { IsOpen reader.old }
     requires writer { IsReady writer.old }
     ensures { Serves H.answers WritesBytes ending (state_of_reader S.rest S.failures reader.old)
-        (state_of_writer K.taken K.failures writer.old) handler.old result
+        (state_of_writer K.Sink writer.old) handler.old result
         (state_of_reader S.rest S.failures reader.new)
-        (state_of_writer K.taken K.failures writer.new) handler.new }
+        (state_of_writer K.Sink writer.new) handler.new }
 {
     let mut next = Next::Line;
     'turns: loop {
@@ -146,8 +146,8 @@ fn write_replies<K: Sink, B: Allocator>(
     ending: Ending,
 ) -> Result<(), WriteError>
     requires { IsReady writer.old }
-    ensures { WritesReplies WritesBytes ending (state_of_writer K.taken K.failures writer.old)
-        (reply_texts replies.now) result (state_of_writer K.taken K.failures writer.new) }
+    ensures { WritesReplies WritesBytes ending (state_of_writer K.Sink writer.old)
+        (reply_texts replies.now) result (state_of_writer K.Sink writer.new) }
 {
     for reply in replies {
         if let Err(error) = writer.write_line(reply.as_ascii_str(), ending) {

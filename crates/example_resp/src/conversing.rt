@@ -27,9 +27,9 @@ pub fn converse<S: Source, K: Sink, A: Allocator, B: Allocator>(
     requires session { IsFresh (state_of session.old) }
     ensures serves { Serves session_answers SendsBytes Ending.CrLf
         (state_of_reader S.rest S.failures reader.old)
-        (state_of_writer K.taken K.failures writer.old) session.old result
+        (state_of_writer K.Sink writer.old) session.old result
         (state_of_reader S.rest S.failures reader.new)
-        (state_of_writer K.taken K.failures writer.new) session.new }
+        (state_of_writer K.Sink writer.new) session.new }
     ensures lines { HasNoBrokenReply result }
 {
     serve(alloc, reader, writer, Ending::CrLf, session)

@@ -25,9 +25,9 @@ pub fn receive<S: Source, K: Sink, A: Allocator, B: Allocator>(
     requires writer { IsReady writer.old }
     requires session { IsFresh (state_of session.old) }
     ensures { ServesMail (state_of_reader S.rest S.failures reader.old)
-        (state_of_writer K.taken K.failures writer.old) session.old result
+        (state_of_writer K.Sink writer.old) session.old result
         (state_of_reader S.rest S.failures reader.new)
-        (state_of_writer K.taken K.failures writer.new) session.new }
+        (state_of_writer K.Sink writer.new) session.new }
 {
     serve(alloc, reader, writer, Ending::CrLf, session)
 }

@@ -12,7 +12,7 @@ turns-init g c = (
   Conversation-nil g.H.Handler.answers
       (state_of_reader g.S.Source.rest g.S.Source.failures c.args.reader.now) c.args.handler.now
       (inl c.requires.reader),
-  WritesBytes-nil (state_of_writer g.K.Sink.taken g.K.Sink.failures c.args.writer.now)
+  WritesBytes-nil (state_of_writer g.K.Sink c.args.writer.now)
       c.requires.writer,
   tt,
 )
@@ -32,7 +32,7 @@ turns-preserved g c =
     let turn = c.in-Ok.ensures.outcome in
     let so_far = c.turns.invariant in
     let reading = state_of_reader g.S.Source.rest g.S.Source.failures in
-    let writing = state_of_writer g.K.Sink.taken g.K.Sink.failures in
+    let writing = state_of_writer g.K.Sink in
     let now = reply_texts c.turn.new.replies.items in (
       so_far.0 ++ now,
       Conversation-more g.H.Handler.answers (reading c.args.reader.now)
@@ -56,7 +56,7 @@ returns-in-Err-write_replies g c =
     let turn = c.in-Ok.ensures.outcome in
     let so_far = c.turns.invariant in
     let reading = state_of_reader g.S.Source.rest g.S.Source.failures in
-    let writing = state_of_writer g.K.Sink.taken g.K.Sink.failures in
+    let writing = state_of_writer g.K.Sink in
     let now = reply_texts c.turn.new.replies.items in
     record {
       replies = so_far.0 ++ now;

@@ -10,8 +10,8 @@ invariant-turns g l =
     (replies : List (List ℕ)) × Conversation g.H.Handler.answers
     (state_of_reader g.S.Source.rest g.S.Source.failures l.fn.reader) l.fn.handler replies l.next
     (state_of_reader g.S.Source.rest g.S.Source.failures l.reader) l.handler
-    × WritesBytes (state_of_writer g.K.Sink.taken g.K.Sink.failures l.fn.writer)
-    (state_of_writer g.K.Sink.taken g.K.Sink.failures l.writer) (reply_bytes l.ending replies)
+    × WritesBytes (state_of_writer g.K.Sink l.fn.writer)
+    (state_of_writer g.K.Sink l.writer) (reply_bytes l.ending replies)
     × IsRequest l.next
 
 -- the positions that are left

@@ -6,7 +6,7 @@ use Rattle.ascii_lines.proofs.serving.serve.Goals as goal
 
 pub returns-in-Ok : goal.returns-in-Ok
 returns-in-Ok g c =
-    let taken = g.K.Sink.taken in let failures = g.K.Sink.failures in
+    let sink = g.K.Sink in
     let served = c.converse-stop.ensures in
     record {
       replies = served.replies;
@@ -15,18 +15,18 @@ returns-in-Ok g c =
       state = served.state;
       talk = served.talk;
       stops = served.stops;
-      wrote = sent_replies taken failures c.args.ending
-          (state_of_writer taken failures c.args.writer.now) served.replies
+      wrote = sent_replies sink c.args.ending
+          (state_of_writer sink c.args.writer.now) served.replies
           c.converse-stop.new.writer c.flush.new.self (writing_of c.converse-stop.result)
           c.in-Ok.field-0 served.wrote
           (subst
-          (λ r. FlushesOutcome taken failures c.converse-stop.new.writer r c.flush.new.self)
+          (λ r. FlushesOutcome sink c.converse-stop.new.writer r c.flush.new.self)
           c.in-Ok.is c.flush.ensures);
     }
 
 pub returns-in-Err : goal.returns-in-Err
 returns-in-Err g c =
-    let taken = g.K.Sink.taken in let failures = g.K.Sink.failures in
+    let sink = g.K.Sink in
     let served = c.converse-stop.ensures in
     record {
       replies = served.replies;
@@ -35,11 +35,11 @@ returns-in-Err g c =
       state = served.state;
       talk = served.talk;
       stops = tt;
-      wrote = failed_replies taken failures c.args.ending
-          (state_of_writer taken failures c.args.writer.now) served.replies
+      wrote = failed_replies sink c.args.ending
+          (state_of_writer sink c.args.writer.now) served.replies
           c.converse-stop.new.writer c.flush.new.self (writing_of c.converse-stop.result)
           c.in-Err.error served.wrote
           (subst
-          (λ r. FlushesOutcome taken failures c.converse-stop.new.writer r c.flush.new.self)
+          (λ r. FlushesOutcome sink c.converse-stop.new.writer r c.flush.new.self)
           c.in-Err.is c.flush.ensures);
     }

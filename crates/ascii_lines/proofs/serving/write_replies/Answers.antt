@@ -10,49 +10,49 @@ use Rattle.ascii_lines.proofs.serving.write_replies.Goals as goal
 
 pub loop-reply-preserved : goal.loop-reply-preserved
 loop-reply-preserved g c =
-    let taken = g.K.Sink.taken in let failures = g.K.Sink.failures in
+    let sink = g.K.Sink in
     let items = c.args.replies.now in let i = c.loop-reply.reply-index in
     let reply = c.reply-item.result in
     let text : text_of c.as_ascii_str.result ≡ (get_or items i reply).text =
     c.as_ascii_str.ensures ∙ ap (λ (s : StringState). s.text) c.reply-item.is in
     let old = c.loop-reply.writer in let new = c.write_line.new.self in
-    one_reply_more c.args.ending items i reply c.loop-reply-test.true taken failures
-    (state_of_writer taken failures c.args.writer.now) old new c.loop-reply.invariant
+    one_reply_more c.args.ending items i reply c.loop-reply-test.true sink
+    (state_of_writer sink c.args.writer.now) old new c.loop-reply.invariant
     c.in_default.field-0
     (subst
-    (λ r. WritesLine taken failures old (reply_line c.args.ending (get_or items i reply).text) r
+    (λ r. WritesLine sink old (reply_line c.args.ending (get_or items i reply).text) r
     new) c.in_default.is
     (subst
-    (λ t. WritesLine taken failures old (reply_line c.args.ending t) c.write_line.result new)
+    (λ t. WritesLine sink old (reply_line c.args.ending t) c.write_line.result new)
     text c.write_line.ensures))
 
 pub returns-in-Err : goal.returns-in-Err
 returns-in-Err g c =
-    let taken = g.K.Sink.taken in let failures = g.K.Sink.failures in
+    let sink = g.K.Sink in
     let items = c.args.replies.now in let i = c.loop-reply.reply-index in
     let reply = c.reply-item.result in
     let text : text_of c.as_ascii_str.result ≡ (get_or items i reply).text =
     c.as_ascii_str.ensures ∙ ap (λ (s : StringState). s.text) c.reply-item.is in
     let old = c.loop-reply.writer in let new = c.write_line.new.self in
-    one_reply_fails c.args.ending items i reply c.loop-reply-test.true taken failures
-    (state_of_writer taken failures c.args.writer.now) old new c.loop-reply.invariant
+    one_reply_fails c.args.ending items i reply c.loop-reply-test.true sink
+    (state_of_writer sink c.args.writer.now) old new c.loop-reply.invariant
     c.in-Err.error
     (subst
-    (λ r. WritesLine taken failures old (reply_line c.args.ending (get_or items i reply).text) r
+    (λ r. WritesLine sink old (reply_line c.args.ending (get_or items i reply).text) r
     new) c.in-Err.is
     (subst
-    (λ t. WritesLine taken failures old (reply_line c.args.ending t) c.write_line.result new)
+    (λ t. WritesLine sink old (reply_line c.args.ending t) c.write_line.result new)
     text c.write_line.ensures))
 
 pub returns : goal.returns
 returns g c =
-    let taken = g.K.Sink.taken in let failures = g.K.Sink.failures in
+    let sink = g.K.Sink in
     let old = c.loop-reply.writer in
-    let start = state_of_writer taken failures c.args.writer.now in
-    flushed_replies taken failures c.args.ending start (reply_texts c.args.replies.now) old
+    let start = state_of_writer sink c.args.writer.now in
+    flushed_replies sink c.args.ending start (reply_texts c.args.replies.now) old
     c.flush.new.self c.flush.result
     (subst
-    (λ items. WritesBytes start (state_of_writer taken failures old)
+    (λ items. WritesBytes start (state_of_writer sink old)
     (reply_bytes c.args.ending (reply_texts items)))
     (take_all c.loop-reply.reply-index c.args.replies.now c.loop-reply-test.false)
     c.loop-reply.invariant)

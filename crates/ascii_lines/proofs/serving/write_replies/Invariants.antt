@@ -6,6 +6,6 @@ use Rattle.ascii_lines.proofs.serving.write_replies.Given as goal
 -- the replies so far were written
 abbrev pub invariant-loop-reply : goal.invariant-loop-reply
 invariant-loop-reply g l =
-    WritesBytes (state_of_writer g.K.Sink.taken g.K.Sink.failures l.fn.writer)
-    (state_of_writer g.K.Sink.taken g.K.Sink.failures l.writer)
+    WritesBytes (state_of_writer g.K.Sink l.fn.writer)
+    (state_of_writer g.K.Sink l.writer)
     (reply_bytes l.ending (reply_texts (take l.reply-index l.replies)))

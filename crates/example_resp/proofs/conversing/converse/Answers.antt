@@ -9,8 +9,8 @@ use Rattle.example_resp.proofs.conversing.converse.Goals as goal
 pub returns-clause-lines : goal.returns-clause-lines
 returns-clause-lines g c = λ k is.
     let served = c.serve.ensures in
-    let old = state_of_writer g.K.Sink.taken g.K.Sink.failures c.args.writer.now in
-    let new = state_of_writer g.K.Sink.taken g.K.Sink.failures c.serve.new.writer in
+    let old = state_of_writer g.K.Sink c.args.writer.now in
+    let new = state_of_writer g.K.Sink c.serve.new.writer in
     let plain = talks_plain _ c.args.session.now served.state next.Line served.last
     served.talk.inputs served.replies served.talk.talks (fresh_plain _ c.requires.session) in
     let stops = subst

@@ -1,0 +1,34 @@
+-- What the history of a sink says of the writes and flushes that came to it.
+use Rattle.std.specs.Prelude.{◌≡◌, ℕ, List, [], ◌∷◌, ◌++◌, ⊤}
+use Rattle.std.specs.declared.option.Option.{Option}
+use Rattle.ascii_devices.specs.Devices.{Grows}
+use Rattle.ascii_devices.specs.declared.log.Event.{Event}
+use Rattle.ascii_devices.specs.declared.log.Event.TheVariants.{Flushed, Read, Received, Sent}
+
+-- the bytes that the device took
+abbrev pub sent_of : List Event → List ℕ
+sent_of [] = []
+sent_of (Sent b ∷ events) = b ∷ sent_of events
+sent_of (other ∷ events) = sent_of events
+
+-- the device was not asked for bytes and gave none
+abbrev pub AreWrites : List Event → Type 0
+AreWrites [] = ⊤
+AreWrites (Read ∷ events) = ⊥
+AreWrites (Received b ∷ events) = ⊥
+AreWrites (other ∷ events) = AreWrites events
+
+-- the history, if it is kept, grew by writes and flushes only, and `sent` is what was written
+pub record TellsSent (old new : Option (List Event)) (sent : List ℕ) : Type 0 where
+  pub events : List Event
+  pub grows : Grows old new events
+  pub writes : AreWrites events
+  pub noted : sent_of events ≡ sent
+
+-- the history, if it is kept, grew by writes and flushes only, the last one a flush, and `sent` is
+-- what was written
+pub record TellsFlushed (old new : Option (List Event)) (sent : List ℕ) : Type 0 where
+  pub events : List Event
+  pub grows : Grows old new (events ++ Flushed ∷ [])
+  pub writes : AreWrites events
+  pub noted : sent_of events ≡ sent
