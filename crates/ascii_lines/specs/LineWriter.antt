@@ -102,10 +102,10 @@ abbrev pub WritesLines : WriterState → List Line → WriterState → Type 0
 WritesLines old lines new = WritesBytes old new (flat_map line_text lines)
 
 module _ {K Z : Type 0} (sink : Ghosts K) where
-  -- what writing a line does, by the stage of the writer. `Ok`: no code of the body is CR or LF,
-  -- and the line was written. `LineBreak`: the position of the first CR or LF of the body, and
-  -- nothing was changed. `Write`: a call of the sink failed. At `Failed` the error is `Write`, and
-  -- nothing is changed
+  -- what writing a line does, by whether a call of the sink had failed before. `Ok`: no code of the
+  -- body is CR or LF, and the line was written. `LineBreak`: the position of the first CR or LF of
+  -- the body, and nothing was changed. `Write`: a call of the sink failed. If one had failed before,
+  -- the error is `Write`, and nothing is changed
   abbrev pub WritesLineFrom : Bool
       → LineWriter K Z → Line → Result (Unit {0}) WriteError → LineWriter K Z → Type 0
   WritesLineFrom false old line (Ok _) new = IsFirstByte is_line_break line.body None
@@ -123,8 +123,8 @@ module _ {K Z : Type 0} (sink : Ghosts K) where
       : LineWriter K Z → Line → Result (Unit {0}) WriteError → LineWriter K Z → Type 0
   WritesLine old line result new = WritesLineFrom old.buffer.is_broken old line result new
 
-  -- what a flush does, by the stage of the writer. `Ok`: `Flushes`. `Err`, always `Write`: a call
-  -- of the sink failed, or at `Failed` had failed before, and then nothing is changed
+  -- what a flush does, by whether a call of the sink had failed before. `Ok`: `Flushes`. `Err`,
+  -- always `Write`: a call of the sink failed, or one had failed before, and then nothing is changed
   abbrev pub FlushesFrom
       : Bool → LineWriter K Z → Result (Unit {0}) WriteError → LineWriter K Z → Type 0
   FlushesFrom false old (Ok _) new =
