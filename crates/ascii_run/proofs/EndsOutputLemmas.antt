@@ -1,12 +1,45 @@
 -- One more answer in the output of a script of ends.
-use Rattle.std.proofs.Common.{◌≡◌, ℕ, ◌+◌, ◌<◌, ◌≤◌, List, [], ◌∷◌, ◌++◌, length, get_or, take}
-use Rattle.std.proofs.Common.{Option, sym, ap, ◌∙◌, append-nil}
+use Rattle.std.proofs.Common.{◌≡◌, ℕ, ◌+◌, ◌-◌, ◌<◌, ◌≤◌, List, [], ◌∷◌, ◌++◌, length, get_or, take}
+use Rattle.std.proofs.Common.{Option, Some, None, sym, ap, ◌∙◌, append-nil, refl, arith}
 use Rattle.std.specs.List.{flat_map}
+use Rattle.std.specs.Prelude.{slice_get}
 use Rattle.std.proofs.lemmas.Grind.{flat_map-append}
+use Rattle.std.proofs.lemmas.List.{take_at, length_push}
 use Rattle.ascii.specs.declared.iter.walks.End.{End}
+use Rattle.ascii.specs.declared.iter.walks.End.TheVariants.{Front, Back}
 use Rattle.ascii.specs.Walks.{ListAnswersTo, TakesEnd}
 use Rattle.ascii.proofs.EndsLemmas.{AnswersTo-all, AnswersTo-step}
-use Rattle.ascii_run.specs.Modes.Ends.{ShowsEnds}
+use Rattle.ascii_run.specs.Modes.Ends.{answers}
+
+-- the last item of a list, and what is left before it
+pub last_item : {A : Type 0} (front : List A) (x : A)
+    → slice_get (front ++ x ∷ []) (length front) ≡ Some x
+last_item [] x = refl
+last_item (y ∷ front) x = last_item front x
+
+-- one end of a list
+taken : {A : Type 0} (end : End) (items : List A) (answer : Option A) (others : List A)
+    (script : List End)
+    → TakesEnd end items answer others
+    → answers (end ∷ script) items ≡ answer ∷ answers script others
+taken Front items None others script takes = rw (takes.0, takes.1) refl
+taken Front items (Some x) others script takes = rw takes refl
+taken Back items None others script takes = rw (takes.0, takes.1) refl
+taken Back items (Some x) others script takes =
+    let last : length (others ++ x ∷ []) - 1 ≡ length others =
+    omega (arith, length_push others x) in
+    rw (takes, last, last_item others x, take_at others (x ∷ []) (length others) refl) refl
+
+-- the answers of a list are one list
+pub answers_only : {A : Type 0} (items : List A) (script : List End) (found : List (Option A))
+    (left : List A)
+    → ListAnswersTo items script found left → found ≡ answers script items
+answers_only items [] [] left to = refl
+answers_only items [] (answer ∷ found) left to = absurd to
+answers_only items (end ∷ script) [] left to = absurd to
+answers_only items (end ∷ script) (answer ∷ found) left to =
+    ap (λ xs. answer ∷ xs) (answers_only to.0 script found left to.2)
+    ∙ sym (taken end items answer to.0 script to.1)
 
 -- the output of the answers so far, and of those that are left
 abbrev pub ShowsSoFar : {A : Type 0} → (Option A → List ℕ) → List A → List End → List ℕ → List A
@@ -35,9 +68,8 @@ module _ {A : Type 0} (shown : Option A → List ℕ) (items left : List A) (scr
 
   -- the answers to the whole script
   pub shows_all : (output : List ℕ) → length script ≤ k
-      → ShowsSoFar shown items (take k script) output left → ShowsEnds shown items script output
-  shows_all output past so_far = (
-    so_far.0,
-    (left, AnswersTo-all TakesEnd items left script k so_far.0 past so_far.1),
-    so_far.2,
-  )
+      → ShowsSoFar shown items (take k script) output left
+      → output ≡ flat_map shown (answers script items)
+  shows_all output past so_far = so_far.2 ∙ ap (flat_map shown)
+      (answers_only items script so_far.0 left
+      (AnswersTo-all TakesEnd items left script k so_far.0 past so_far.1))

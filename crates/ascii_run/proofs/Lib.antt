@@ -1,4 +1,6 @@
+pub mod Before
 pub mod BoundedLemmas
+pub mod EditLemmas
 pub mod EndsOutputLemmas
 pub mod StreamedLemmas
 pub mod JsonTextLemmas

@@ -15,7 +15,7 @@ use Rattle.memchr.specs.Find.{NoneBefore, Nowhere, OccursAt}
 use Rattle.ascii.specs.declared.iter.spans.Ending.{Ending}
 use Rattle.ascii.specs.declared.iter.spans.Ending.TheVariants.{Lf, CrLf, Absent}
 use Rattle.ascii.specs.Found.{HasNo, lines_of}
-use Rattle.ascii.specs.Lines.{EndsInCr, Line, MayFollow, ending_text, line_text}
+use Rattle.ascii.specs.Lines.{EndsInCr, Line, MayFollow, bodies, ending_text, line_text}
 use Rattle.ascii.proofs.LinesLemmas.{LinesOf-lines_of}
 use Rattle.ascii.proofs.PiecesLemmas.{HasNo-from_absent}
 use Rattle.ascii_run.specs.Streamed.{IsLastSegment, ShowsFront, front_by_ending, front_of_line}
@@ -192,7 +192,8 @@ open_end body free some =
     ∙ ap (λ xs. xs ++ 10 ∷ []) (init_last body some)))
 
 -- it is the output of `lines`
-pub ShowsLines-feeds : (t : List ℕ) → ShowsLines t (with_line_feeds t)
+pub ShowsLines-feeds : (t : List ℕ)
+    → ShowsLines (λ lines. flat_map with_line_feed (bodies lines)) t (with_line_feeds t)
 ShowsLines-feeds t = (
   lines_of t,
   LinesOf-lines_of t,

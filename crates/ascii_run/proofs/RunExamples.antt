@@ -1,6 +1,5 @@
 -- Runs whose replies and text are known from outside, computed by the definitions.
-use Rattle.std.proofs.Common.{◌≡◌, ℕ, ◌-◌, ◌^◌, true, List, [], ◌∷◌, Some, None, refl}
-use Rattle.std.proofs.lemmas.List.Elements.{All-cons, All-nil}
+use Rattle.std.proofs.Common.{◌≡◌, ℕ, ◌-◌, ◌^◌, true, List, [], ◌∷◌, Some, None, Err, refl}
 use Rattle.ascii.specs.AsciiChar.TheVariants as ch
 use Rattle.ascii.specs.AsciiRange.TheVariants as range
 use Rattle.ascii.specs.declared.ascii_str.AsciiStr.{AsciiStr}
@@ -9,7 +8,8 @@ use Rattle.ascii_run.specs.declared.commands.Cmd.{Cmd}
 use Rattle.ascii_run.specs.declared.commands.Cmd.TheVariants as cmd
 use Rattle.ascii_run.specs.Step.{a_char, a_number, a_text, a_truth, bad_position, done, refused}
 use Rattle.ascii_run.specs.Step.{too_many}
-use Rattle.ascii_run.specs.Run.{IsFaultPlace, IsNoFault, plain_replies, plain_text}
+use Rattle.ascii_run.specs.Edit.{edits}
+use Rattle.ascii_run.specs.Run.{plain_replies, plain_text}
 
 -- one command of each kind of reply, from `abc` to the empty text
 abbrev worked : AsciiStr → List Cmd
@@ -35,10 +35,5 @@ worked_text b = refl
 abbrev faulty : List Cmd
 faulty = cmd.Pop ∷ cmd.Remove 2 ∷ cmd.Set 9 ch.z ∷ []
 
-worked_fault : IsFaultPlace abc faulty 1
-worked_fault =
-    record {
-      here = tt;
-      before = All-cons IsNoFault (a_char (Some 99)) [] (λ fault. fault)
-          (All-nil IsNoFault);
-    }
+worked_fault : edits 0 abc faulty ≡ Err 1
+worked_fault = refl

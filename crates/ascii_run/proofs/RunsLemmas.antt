@@ -1,23 +1,18 @@
 -- Runs of commands, one step after another.
-use Rattle.std.proofs.Common.{◌≡◌, ◌≢◌, ℕ, ◌≤◌, zero, suc, List, [], ◌∷◌, ◌++◌, ◌∙◌, ap, length}
-use Rattle.std.proofs.Common.{map, refl, subst, sym, take, inl, inr, arith}
-use Rattle.std.specs.List.{All}
-use Rattle.std.proofs.lemmas.List.Elements.{All-cons, All-head, All-nil, All-push, All-tail}
-use Rattle.std.proofs.lemmas.Option.{none-some}
-use Rattle.std.specs.Prelude.{Some, slice_get, unwrap_or}
+use Rattle.std.proofs.Common.{◌≡◌, ◌≢◌, ℕ, ◌≤◌, zero, suc, List, [], ◌∷◌, ◌++◌, ◌∙◌, length}
+use Rattle.std.proofs.Common.{ap, map, refl, subst, sym, take, inl, inr, arith}
+use Rattle.std.specs.Prelude.{unwrap_or}
+use Rattle.std.specs.Option.{option_map_or}
+use Rattle.std.proofs.lemmas.List.Elements.{All-head, All-tail}
 use Rattle.ascii.specs.StringState.{StringState}
 use Rattle.ascii_run.specs.declared.commands.Cmd.{Cmd}
 use Rattle.ascii_run.specs.declared.commands.Cmd.TheVariants.{Push, PushStr, Insert, InsertStr}
 use Rattle.ascii_run.specs.declared.commands.Cmd.TheVariants.{Reserve, Shrink}
-use Rattle.ascii_run.specs.declared.faults.EngineFault.{EngineFault}
-use Rattle.ascii_run.specs.declared.faults.EngineFault.TheVariants.{Position, Memory}
 use Rattle.ascii_run.specs.declared.commands.Reply.{Reply}
-use Rattle.ascii_run.specs.Step.{MayRunOutIn, MayRunOut, ReplyValue, Step, after, answer, no_memory}
-use Rattle.ascii_run.specs.Step.{value_of_reply}
-use Rattle.ascii_run.specs.Run.{Agree, AreRuns, HasNoFault, IsFault, IsFaultPlace, IsNoFault}
-use Rattle.ascii_run.specs.Run.{IsPlainRun, IsNotOutOfMemory, Outcome, Run, NeverOutOfMemory}
-use Rattle.ascii_run.specs.Run.{outcome, plain_replies, plain_text}
-use Rattle.ascii_run.specs.Edit.{StopsAt, StopsEdits}
+use Rattle.ascii_run.specs.Step.{MayRunOutIn, MayRunOut, ReplyValue, Step, no_memory, rejection_of}
+use Rattle.ascii_run.specs.Step.{reply_of, value_of_reply}
+use Rattle.ascii_run.specs.Run.{Agree, AreRuns, IsPlainRun, IsNotOutOfMemory, Outcome, Run}
+use Rattle.ascii_run.specs.Run.{NeverOutOfMemory, after, answer, outcome, plain_replies}
 
 -- a run goes on by one step
 pub run_more : {A : Type 0} (sure : ℕ) (t : List ℕ) (cmds : List Cmd) (replies : List (Reply A))
@@ -34,8 +29,15 @@ run_more {A} sure t (c ∷ cmds) (q ∷ replies) mid cmd r t2 h s =
 -- a step whose allocation does not fail replies and edits
 pub step_plain : (sure : ℕ) (t : List ℕ) (cmd : Cmd) (r : ReplyValue) (t2 : List ℕ)
     → Step sure t cmd r t2 → r ≢ no_memory → (r ≡ answer t cmd) × (t2 ≡ after t cmd)
-step_plain sure t cmd r t2 (inl plain) some = plain
-step_plain sure t cmd r t2 (inr wants) some = absurd (some wants.0)
+step_plain sure t cmd r t2 (inl (is, reply)) some = (
+  reply ∙ sym (ap (λ o. option_map_or (λ mid. reply_of t cmd) o (rejection_of t cmd)) is),
+  sym (ap (λ o. unwrap_or o t) is),
+)
+step_plain sure t cmd r t2 (inr (inl (is, reply, same))) some = (
+  reply ∙ sym (ap (λ o. option_map_or (λ mid. reply_of t cmd) o (rejection_of t cmd)) is),
+  same ∙ sym (ap (λ o. unwrap_or o t) is),
+)
+step_plain sure t cmd r t2 (inr (inr wants)) some = absurd (some wants.0)
 
 -- a run in which no allocation fails is the plain run
 pub run_plain : {A : Type 0} (sure : ℕ) (t : List ℕ) (cmds : List Cmd) (replies : List (Reply A))
@@ -98,9 +100,9 @@ may_refuse_less : (sure less : ℕ) (t : List ℕ) (cmd : Cmd) → less ≤ sure
     → MayRunOut less t cmd
 may_refuse_less sure less t (Push ch) le h = (h.0, omega (arith, h.1))
 may_refuse_less sure less t (PushStr view) le h = (h.0, omega (arith, h.1))
-may_refuse_less sure less t (Insert i ch) le h = (h.0, (h.1.0, omega (arith, h.1.1)))
-may_refuse_less sure less t (InsertStr i view) le h = (h.0, (h.1.0, omega (arith, h.1.1)))
-may_refuse_less sure less t (Reserve n) le h = (h.0, (h.1.0, omega (arith, h.1.1)))
+may_refuse_less sure less t (Insert i ch) le h = (h.0, omega (arith, h.1))
+may_refuse_less sure less t (InsertStr i view) le h = (h.0, omega (arith, h.1))
+may_refuse_less sure less t (Reserve n) le h = (h.0, omega (arith, h.1))
 may_refuse_less sure less t Shrink le h = omega arith
 may_refuse_less sure less t other le h = h
 
@@ -122,88 +124,18 @@ module _ (held : StringState) (cmd : Cmd) (r : ReplyValue) (t2 : List ℕ)
   -- a step runs out of memory only past the sure length
   pub step_sure : sure ≤ held.capacity → Step sure held.text cmd r t2
   step_sure le = elim step [
-    | inl plain ↦ inl plain
-    | inr out ↦ inr (out.0, lacks_may_refuse sure held cmd le (lacks out.0), out.2)
+    | inl done ↦ inl done
+    | inr (inl rejected) ↦ inr (inl rejected)
+    | inr (inr out) ↦ inr (inr (out.0, out.1, lacks_may_refuse sure held cmd le (lacks out.0), out.3))
   ]
 
   -- up to the capacity every length is sure
   pub step_within : (start : ℕ) → start ≤ held.capacity → cmd ≢ Shrink
       → Step start held.text cmd r t2
   step_within start le ne = elim step [
-    | inl plain ↦ inl plain
-    | inr out ↦
+    | inl done ↦ inl done
+    | inr (inl rejected) ↦ inr (inl rejected)
+    | inr (inr out) ↦
         let short = lacks_room sure held cmd ne (lacks out.0) in
-        inr (out.0, may_refuse_less held.capacity start held.text cmd le short, out.2)
+        inr (inr (out.0, out.1, may_refuse_less held.capacity start held.text cmd le short, out.3))
   ]
-
--- the reply of a step that rejects its command is the plain reply
-pub step_fault : (t : List ℕ) (cmd : Cmd) (r : ReplyValue) (t2 : List ℕ)
-    → Step 0 t cmd r t2 → IsFault r → IsFault (answer t cmd)
-step_fault t cmd r t2 step fault =
-    subst IsFault ((step_plain 0 t cmd r t2 step (λ out. subst IsFault out fault)).0) fault
-
--- the plain text after one command more
-pub plain_text_more : (t : List ℕ) (cmds : List Cmd) (cmd : Cmd)
-    → plain_text t (cmds ++ cmd ∷ []) ≡ after (plain_text t cmds) cmd
-plain_text_more t [] cmd = refl
-plain_text_more t (c ∷ cmds) cmd = plain_text_more (after t c) cmds cmd
-
--- one command more that is not rejected
-pub no_fault_more : (t : List ℕ) (cmds : List Cmd) (cmd : Cmd)
-    → HasNoFault t cmds → IsNoFault (answer (plain_text t cmds) cmd)
-    → HasNoFault t (cmds ++ cmd ∷ [])
-no_fault_more t cmds cmd none good =
-    subst (All IsNoFault) (sym (plain_replies_more t cmds))
-    (All-push IsNoFault (plain_replies t cmds) (answer (plain_text t cmds) cmd) none good)
-  where
-    plain_replies_more : (t : List ℕ) (cmds : List Cmd) → plain_replies t (cmds ++ cmd ∷ [])
-        ≡ plain_replies t cmds ++ answer (plain_text t cmds) cmd ∷ []
-    plain_replies_more t [] = refl
-    plain_replies_more t (c ∷ cmds) =
-        ap (λ replies. answer t c ∷ replies) (plain_replies_more (after t c) cmds)
-
--- the first command that is rejected is at the fault place
-pub fault_here : (t : List ℕ) (cmds : List Cmd) (k : ℕ) (cmd : Cmd)
-    → slice_get cmds k ≡ Some cmd → HasNoFault t (take k cmds)
-    → IsFault (answer (plain_text t (take k cmds)) cmd) → IsFaultPlace t cmds k
-fault_here t [] k cmd at none fault = absurd (none-some cmd at)
-fault_here t (c ∷ cmds) zero cmd at none fault = record {
-  here = let P : Cmd → Type 0 = λ x. IsFault (answer t x) in
-      subst P (sym (ap (λ found. unwrap_or found cmd) at)) fault;
-  before = All-nil IsNoFault;
-}
-fault_here t (c ∷ cmds) (suc k) cmd at none fault =
-    let front = plain_replies (after t c) (take k cmds) in
-    let later = fault_here (after t c) cmds k cmd at (All-tail IsNoFault (answer t c) front none)
-    fault in record {
-      here = later.here;
-      before = All-cons IsNoFault (answer t c) (take k (plain_replies (after t c) cmds))
-          (All-head IsNoFault (answer t c) front none) later.before;
-    }
-
--- edits that stop at a command tell why
-pub edits_stop : (t : List ℕ) (cmds : List Cmd) (k : ℕ) (cmd : Cmd) (mid : List ℕ)
-    (r : ReplyValue) (t2 : List ℕ) (fault : EngineFault)
-    → slice_get cmds k ≡ Some cmd → HasNoFault t (take k cmds) → mid ≡ plain_text t (take k cmds)
-    → Step 0 mid cmd r t2 → StopsAt k r fault → StopsEdits t cmds fault
-edits_stop t cmds k cmd mid r t2 (Position i) at none text step stops =
-    let P : List ℕ → Type 0 = λ x. IsFault (answer x cmd) in
-    let here = fault_here t cmds k cmd at none
-    (subst P text (step_fault mid cmd r t2 step stops.1)) in
-    subst (IsFaultPlace t cmds) (sym stops.0) here
-edits_stop t cmds k cmd mid r t2 Memory at none text step stops = tt
-edits_stop t cmds k cmd mid r t2 other at none text step stops = stops
-
--- edits that go on after a command have its plain text
-pub edit_more : (t : List ℕ) (front : List Cmd) (mid : List ℕ) (cmd : Cmd) (r : ReplyValue)
-    (t2 : List ℕ)
-    → HasNoFault t front → mid ≡ plain_text t front → Step 0 mid cmd r t2 → IsNoFault r
-    → r ≢ no_memory
-    → HasNoFault t (front ++ cmd ∷ []) × (t2 ≡ plain_text t (front ++ cmd ∷ []))
-edit_more t front mid cmd r t2 none text step good some =
-    let plain = step_plain 0 mid cmd r t2 step some in
-    let says : r ≡ answer (plain_text t front) cmd = plain.0 ∙ ap (λ x. answer x cmd) text in
-    let leaves : t2 ≡ after (plain_text t front) cmd = plain.1 ∙ ap (λ x. after x cmd) text in (
-      no_fault_more t front cmd none (subst IsNoFault says good),
-      leaves ∙ sym (plain_text_more t front cmd),
-    )

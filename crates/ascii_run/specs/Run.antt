@@ -1,12 +1,15 @@
 -- What a run of commands does: one reply for each command, in order, and the text at the end.
-use Rattle.std.specs.Prelude.{◌≡◌, ◌≢◌, ⊤, ℕ, List, [], ◌∷◌, All, map, take}
-use Rattle.ascii.specs.First.{IsFirstAt}
+use Rattle.std.specs.Prelude.{◌≡◌, ◌≢◌, ⊤, ℕ, List, [], ◌∷◌, All, map, take, unwrap_or}
+use Rattle.std.specs.Option.{option_map_or}
 use Rattle.ascii.specs.StringState.{StringState}
 use Rattle.ascii_run.specs.declared.commands.Cmd.{Cmd}
 use Rattle.ascii_run.specs.declared.commands.Cmd.TheVariants.{Shrink}
 use Rattle.ascii_run.specs.declared.commands.Reply.{Reply}
-use Rattle.ascii_run.specs.Step.{ReplyValue, Step, after, answer, bad_position, no_memory, refused}
-use Rattle.ascii_run.specs.Step.{value_of_reply, too_many}
+use Rattle.ascii_run.specs.declared.faults.EngineFault.{EngineFault}
+use Rattle.ascii_run.specs.declared.faults.EngineFault.TheVariants.{Position, Memory}
+use Rattle.ascii_run.specs.Edit.{edited}
+use Rattle.ascii_run.specs.Step.{ReplyValue, Step, bad_position, no_memory, refused, rejection_of}
+use Rattle.ascii_run.specs.Step.{reply_of, too_many, value_of_reply}
 
 -- the commands, carried out in order from the text `t` by steps with the sure length `sure`, give
 -- `replies`, one for each command, and leave the text `t2`
@@ -29,6 +32,14 @@ pub record Outcome (A : Type 0) : Type 0 where
 -- an outcome, by its replies and its text
 abbrev pub outcome : {A : Type 0} → List (Reply A) → List ℕ → Outcome A
 outcome replies text = record { replies = replies; text = text }
+
+-- the reply to a command over the text `t` if no allocation fails
+abbrev pub answer : List ℕ → Cmd → ReplyValue
+answer t cmd = option_map_or (λ mid. reply_of t cmd) (edited t cmd) (rejection_of t cmd)
+
+-- the text after a command over the text `t` if no allocation fails: a rejected one leaves it
+abbrev pub after : List ℕ → Cmd → List ℕ
+after t cmd = unwrap_or (edited t cmd) t
 
 -- the text after the commands if no allocation fails
 abbrev pub plain_text : List ℕ → List Cmd → List ℕ
@@ -78,6 +89,8 @@ pub record Agree {A B : Type 0} (first : Outcome A) (second : Outcome B) : Type 
 abbrev pub NeverShrinks : List Cmd → Type 0
 NeverShrinks cmds = All (λ cmd. cmd ≢ Shrink) cmds
 
+-- ---- cited by private functions only
+
 -- the reply rejects its command for a position, a range or a number
 abbrev pub IsFault : ReplyValue → Type 0
 IsFault bad_position = ⊤
@@ -89,10 +102,9 @@ IsFault other = ⊥
 abbrev pub IsNoFault : ReplyValue → Type 0
 IsNoFault r = ¬ (IsFault r)
 
--- `k`, counted from 0, is the index of the first command that is rejected if no allocation fails
-abbrev pub IsFaultPlace : List ℕ → List Cmd → ℕ → Type 0
-IsFaultPlace t cmds k = IsFirstAt IsNoFault IsFault (plain_replies t cmds) k
-
--- no command is rejected if no allocation fails
-abbrev pub HasNoFault : List ℕ → List Cmd → Type 0
-HasNoFault t cmds = All IsNoFault (plain_replies t cmds)
+-- why edits stop at the command at index `k`, by the value `r` of its reply. `Position`: it holds
+-- `k`, and the reply rejects the command. `Memory`: the reply is `NoMemory`.
+abbrev pub StopsAt : ℕ → ReplyValue → EngineFault → Type 0
+StopsAt k r (Position i) = (i ≡ k) × IsFault r
+StopsAt k r Memory = r ≡ no_memory
+StopsAt k r other = ⊥

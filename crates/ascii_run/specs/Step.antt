@@ -1,24 +1,21 @@
 -- What one command does: its answer, and the text after it.
-use Rattle.std.specs.Prelude.{◌≡◌, ◌⊎◌, ℕ, ◌+◌, ◌-◌, ◌^◌, ◌<◌, ◌≤◌, Bool, ◌&&◌, if◌then◌else◌}
-use Rattle.std.specs.Prelude.{nat_le, nat_lt, List, [], ◌∷◌, ◌++◌, Option, Some, bytes_eq, insert}
-use Rattle.std.specs.Prelude.{length, map, option_map, remove, slice_get, slice_index, slice_range}
-use Rattle.std.specs.Prelude.{slice_set, take}
+use Rattle.std.specs.Prelude.{◌≡◌, ◌⊎◌, ℕ, ◌+◌, ◌-◌, ◌<◌, Bool, List, Option, IsSome, Some, None}
+use Rattle.std.specs.Prelude.{bytes_eq, length, map, option_map, slice_get, slice_index}
 use Rattle.std.specs.declared.result.Result.{Result}
 use Rattle.std.specs.declared.result.Result.TheVariants.{Ok, Err}
 use Rattle.std.specs.declared.alloc.AllocError.{AllocError}
-use Rattle.ascii.specs.Case.{lower_image, upper_image}
+use Rattle.ascii.specs.Case.{lower_image}
 use Rattle.ascii.specs.Code.{code_of}
-use Rattle.ascii.specs.Range.{Fits, end_of, start_of}
-use Rattle.ascii.specs.AsciiRange.{AsciiRange}
-use Rattle.ascii.specs.StringState.{StringState, insert_text}
+use Rattle.ascii.specs.Range.{end_of, part_of, start_of}
+use Rattle.ascii.specs.StringState.{StringState}
 use Rattle.ascii.specs.View.{position_of, text_of}
 use Rattle.ascii_run.specs.declared.commands.Cmd.{Cmd}
 use Rattle.ascii_run.specs.declared.commands.Cmd.TheVariants.{Push, PushStr, Insert, InsertStr}
-use Rattle.ascii_run.specs.declared.commands.Cmd.TheVariants.{Remove, Pop, Truncate, Clear, Set}
-use Rattle.ascii_run.specs.declared.commands.Cmd.TheVariants.{Upper, Lower, Reserve, Shrink, Len}
+use Rattle.ascii_run.specs.declared.commands.Cmd.TheVariants.{Remove, Pop, Reserve, Shrink, Len}
 use Rattle.ascii_run.specs.declared.commands.Cmd.TheVariants.{First, Last, Get, Copy, EqIgnoreCase}
 use Rattle.ascii_run.specs.declared.commands.Reply.{Reply}
 use Rattle.ascii_run.specs.declared.commands.Reply.TheVariants as reply
+use Rattle.ascii_run.specs.Edit.{edited}
 
 -- what contracts see of a reply: its case, with codes and texts
 pub data ReplyValue : Type 0 where
@@ -44,71 +41,50 @@ value_of_reply (reply.Refused e) = refused (position_of e)
 value_of_reply reply.NoMemory = no_memory
 value_of_reply reply.TooMany = too_many
 
--- whether the range `r` lies within `n` characters
-abbrev pub lies_within : AsciiRange → ℕ → Bool
-lies_within r n = nat_le (start_of r) (end_of r n) && nat_le (end_of r n) n
-
--- the largest length that a text can have
-abbrev pub largest : ℕ
-largest = 2 ^ 64 - 1
-
--- the answer of a command to the text `t` if no allocation fails
-abbrev pub answer : List ℕ → Cmd → ReplyValue
-answer t (Insert i ch) = if nat_le i (length t) then done else bad_position
-answer t (InsertStr i view) = if nat_le i (length t) then done else bad_position
-answer t (Remove i) = if nat_lt i (length t) then a_char (Some (slice_index t i)) else bad_position
-answer t Pop = a_char (slice_get t (length t - 1))
-answer t (Set i ch) = if nat_lt i (length t) then done else bad_position
-answer t (Reserve n) = if nat_le (length t + n) largest then done else too_many
-answer t Len = a_number (length t)
-answer t First = a_char (slice_get t 0)
-answer t Last = a_char (slice_get t (length t - 1))
-answer t (Get i) = a_char (slice_get t i)
-answer t (Copy r) =
-    if lies_within r (length t) then a_text (slice_range t (start_of r) (end_of r (length t)))
-    else refused (length t)
-answer t (EqIgnoreCase view) =
+-- the reply to a command over the text `t` that is not rejected
+abbrev pub reply_of : List ℕ → Cmd → ReplyValue
+reply_of t (Remove i) = a_char (Some (slice_index t i))
+reply_of t Pop = a_char (slice_get t (length t - 1))
+reply_of t Len = a_number (length t)
+reply_of t First = a_char (slice_get t 0)
+reply_of t Last = a_char (slice_get t (length t - 1))
+reply_of t (Get i) = a_char (slice_get t i)
+reply_of t (Copy r) = a_text (part_of t r)
+reply_of t (EqIgnoreCase view) =
     a_truth (bytes_eq (map lower_image t) (map lower_image (text_of view)))
-answer t other = done
+reply_of t other = done
 
--- the text after a command over the text `t` if no allocation fails
-abbrev pub after : List ℕ → Cmd → List ℕ
-after t (Push ch) = t ++ code_of ch ∷ []
-after t (PushStr view) = t ++ text_of view
-after t (Insert i ch) = if nat_le i (length t) then insert t i (code_of ch) else t
-after t (InsertStr i view) = if nat_le i (length t) then insert_text t i (text_of view) else t
-after t (Remove i) = if nat_lt i (length t) then remove t i else t
-after t Pop = take (length t - 1) t
-after t (Truncate n) = take n t
-after t Clear = []
-after t (Set i ch) = if nat_lt i (length t) then slice_set t i (code_of ch) else t
-after t Upper = map upper_image t
-after t Lower = map lower_image t
-after t other = t
+-- the reply to a command over the text `t` that is rejected
+abbrev pub rejection_of : List ℕ → Cmd → ReplyValue
+rejection_of t (Copy r) = refused (length t)
+rejection_of t (Reserve n) = too_many
+rejection_of t other = bad_position
 
 -- `n` more codes, at least one, make the text `t` longer than the sure length
 abbrev pub GrowsPast : ℕ → List ℕ → ℕ → Type 0
 GrowsPast sure t n = (0 < n) × (sure < length t + n)
 
--- the command may need an allocation over the text `t`, in a buffer that needs none for texts up
--- to the sure length: it grows the text or its room past that length, or copies at least one
--- character, or is `Shrink` in a buffer for which no length is sure
+-- a command that is not rejected may need an allocation over the text `t`, in a buffer that needs
+-- none for texts up to the sure length: it grows the text or its room past that length, or copies at
+-- least one character, or is `Shrink` in a buffer for which no length is sure
 abbrev pub MayRunOut : ℕ → List ℕ → Cmd → Type 0
 MayRunOut sure t (Push ch) = GrowsPast sure t 1
 MayRunOut sure t (PushStr view) = GrowsPast sure t (length (text_of view))
-MayRunOut sure t (Insert i ch) = (i ≤ length t) × GrowsPast sure t 1
-MayRunOut sure t (InsertStr i view) = (i ≤ length t) × GrowsPast sure t (length (text_of view))
-MayRunOut sure t (Reserve n) = (length t + n ≤ largest) × GrowsPast sure t n
+MayRunOut sure t (Insert i ch) = GrowsPast sure t 1
+MayRunOut sure t (InsertStr i view) = GrowsPast sure t (length (text_of view))
+MayRunOut sure t (Reserve n) = GrowsPast sure t n
 MayRunOut sure t Shrink = sure ≡ 0
-MayRunOut sure t (Copy r) = Fits r (length t) × (start_of r < end_of r (length t))
+MayRunOut sure t (Copy r) = start_of r < end_of r (length t)
 MayRunOut sure t other = ⊥
 
--- the command answers `r` to the text `t` and leaves `t2`, as `answer` and `after` say; or an
--- allocation that it may need fails, which `r` says, and the text is unchanged
+-- the command is carried out: it leaves the text `t2`, and `r` is its reply; or it is rejected, which
+-- `r` says, and the text is unchanged; or an allocation that it may need fails, which `r` says, and
+-- the text is unchanged
 abbrev pub Step : ℕ → List ℕ → Cmd → ReplyValue → List ℕ → Type 0
 Step sure t cmd r t2 =
-    ((r ≡ answer t cmd) × (t2 ≡ after t cmd))
-    ⊎ ((r ≡ no_memory) × MayRunOut sure t cmd × (t2 ≡ t))
+    ((edited t cmd ≡ Some t2) × (r ≡ reply_of t cmd))
+    ⊎ (((edited t cmd ≡ None) × (r ≡ rejection_of t cmd) × (t2 ≡ t))
+    ⊎ ((r ≡ no_memory) × IsSome (edited t cmd) × MayRunOut sure t cmd × (t2 ≡ t)))
 
 -- ---- cited by private functions only
 

@@ -7,7 +7,7 @@ use Rattle.std.specs.Str.{IsAscii}
 use Rattle.memchr.specs.Find.{Nowhere, OccursAt}
 use Rattle.ascii.specs.Bytes.{FirstOther}
 use Rattle.ascii.specs.Case.{lower_image, upper_image}
-use Rattle.ascii.specs.Lines.{Line, LinesOf}
+use Rattle.ascii.specs.Lines.{Line, bodies}
 use Rattle.ascii.specs.declared.iter.spans.Ending.{Ending}
 use Rattle.ascii.specs.declared.iter.spans.Ending.TheVariants.{Absent}
 use Rattle.ascii_run.specs.declared.bounded.BoundedMode.{BoundedMode}
@@ -21,7 +21,8 @@ use Rattle.ascii_run.specs.Modes.Lines.{ShowsLines, with_line_feed}
 -- line and LF, what `Caret` shows of each code, the compact JSON string, or the upper or lower image
 abbrev pub IsWholeOutput : BoundedMode → List ℕ → List ℕ → Type 0
 IsWholeOutput Copy text output = output ≡ text
-IsWholeOutput Lines text output = ShowsLines text output
+IsWholeOutput Lines text output =
+    ShowsLines (λ lines. flat_map with_line_feed (bodies lines)) text output
 IsWholeOutput Caret text output = output ≡ flat_map caret_text text
 IsWholeOutput Json text output = output ≡ json_text text
 IsWholeOutput Upper text output = output ≡ map upper_image text
@@ -44,8 +45,7 @@ front_of_line line = front_by_ending line.ending line.body
 
 -- `output` is what is written of the lines of a text before more is read
 abbrev pub ShowsFront : List ℕ → List ℕ → Type 0
-ShowsFront text output =
-    (lines : List Line) × LinesOf text lines × (output ≡ flat_map front_of_line lines)
+ShowsFront text output = ShowsLines (flat_map front_of_line) text output
 
 -- `output` is the front output of the mode for a text: what is written of it before more is read.
 -- For `Json`, a double quote and the characters of the text one by one.

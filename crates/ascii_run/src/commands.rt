@@ -15,11 +15,11 @@
 ghost use Rattle.std.specs.Prelude.{◌≡◌, ◌≢◌, ℕ, ◌≤◌, List, [], IfErr, IfOk, IsOk, OnErr, OnOk};
 ghost use Rattle.std.specs.Prelude.{length, vec_len};
 ghost use Rattle.ascii.specs.View.{text_of};
-ghost use Rattle.ascii_run.specs.Edit.{StopsAt, StopsEdits};
-ghost use Rattle.ascii_run.specs.Run.{Agree, AreRuns, HasNoFault, IsNoFault, IsPlainRun};
+ghost use Rattle.ascii_run.specs.Edit.{StopsEdits, edits};
+ghost use Rattle.ascii_run.specs.Run.{Agree, AreRuns, IsNoFault, IsPlainRun, StopsAt};
 ghost use Rattle.ascii_run.specs.Run.{IsNotOutOfMemory, NeverShrinks, Run, RunOf, NeverOutOfMemory};
-ghost use Rattle.ascii_run.specs.Run.{outcome, plain_text};
-ghost use Rattle.ascii_run.specs.Step.{RunsOutIn, Step, StepOf, after, answer, value_of_reply};
+ghost use Rattle.ascii_run.specs.Run.{outcome};
+ghost use Rattle.ascii_run.specs.Step.{RunsOutIn, Step, StepOf, no_memory, value_of_reply};
 ghost use Rattle.ascii_run.specs.Step.{value_of_growth};
 
 use crate::buf::AsciiBuf;
@@ -236,8 +236,8 @@ fn insert_str<A: Allocator, B: AsciiBuf>(buf: &mut B, idx: usize, view: AsciiStr
 
 /// Removes the character at a position.
 fn remove<A: Allocator, B: AsciiBuf>(buf: &mut B, idx: usize) -> Reply<A>
-    ensures reply { value_of_reply result ≡ answer (B.state buf.old).text (Cmd.Remove idx) }
-    ensures text { (B.state buf.new).text ≡ after (B.state buf.old).text (Cmd.Remove idx) }
+    ensures step { StepOf (B.state buf.old) (Cmd.Remove idx) result (B.state buf.new) }
+    ensures memory { value_of_reply result ≢ no_memory }
     ensures capacity { (B.state buf.new).capacity ≡ (B.state buf.old).capacity }
 {
     if idx < buf.as_ascii_str().len() {
@@ -249,8 +249,8 @@ fn remove<A: Allocator, B: AsciiBuf>(buf: &mut B, idx: usize) -> Reply<A>
 
 /// Replaces the character at a position.
 fn set<A: Allocator, B: AsciiBuf>(buf: &mut B, idx: usize, ch: AsciiChar) -> Reply<A>
-    ensures reply { value_of_reply result ≡ answer (B.state buf.old).text (Cmd.Set idx ch) }
-    ensures text { (B.state buf.new).text ≡ after (B.state buf.old).text (Cmd.Set idx ch) }
+    ensures step { StepOf (B.state buf.old) (Cmd.Set idx ch) result (B.state buf.new) }
+    ensures memory { value_of_reply result ≢ no_memory }
     ensures capacity { (B.state buf.new).capacity ≡ (B.state buf.old).capacity }
 {
     if idx < buf.as_ascii_str().len() {
@@ -294,8 +294,7 @@ pub(crate) fn edit<A: Allocator + Copy, B: Allocator>(
     buf: &mut AsciiString<B>,
     cmds: &[Cmd<'_>],
 ) -> Result<(), EngineFault>
-    ensures fault { OnOk result (HasNoFault buf.old.text cmds.now) }
-    ensures text { OnOk result (buf.new.text ≡ plain_text buf.old.text cmds.now) }
+    ensures ok { OnOk result (edits 0 buf.old.text cmds.now ≡ Ok buf.new.text) }
     ensures err { IfErr result (StopsEdits buf.old.text cmds.now) }
 {
     for (k, cmd) in cmds.iter().enumerate() {

@@ -1,38 +1,29 @@
 -- What the engine answers to a mode that words ask for.
-use Rattle.std.proofs.Common.{◌≡◌, ◌∙◌, ℕ, List, ◌++◌, append-nil, ap, sym, refl, subst, inl, inr}
+use Rattle.std.proofs.Common.{◌≡◌, ◌∙◌, ℕ, List, ◌++◌, append-nil, ap, sym, refl, subst, inl}
 use Rattle.std.proofs.Common.{length, Some, None, Ok, Err}
 use Rattle.std.specs.Prelude.{IfSome}
-use Rattle.std.specs.Result.{IsErrAnd}
-use Rattle.std.specs.Str.{IsAscii}
+use Rattle.std.specs.Result.{IsErrAnd, result_err}
 use Rattle.std.specs.declared.option.Option.{Option}
 use Rattle.std.specs.declared.result.Result.{Result}
 use Rattle.ascii.specs.Bytes.{FirstOther}
 use Rattle.ascii_run.specs.Engine.{EngineOutcome}
+use Rattle.ascii_run.specs.Modes.{IsOutput, fault_of}
 use Rattle.ascii_run.specs.Reading.{IoState, ReadsAll}
-use Rattle.ascii_run.specs.Modes.{IsFaultOf}
 use Rattle.ascii_run.specs.declared.faults.EngineFault.{EngineFault}
 use Rattle.ascii_run.specs.declared.faults.EngineFault.TheVariants.{NotAscii, Position, Memory}
 use Rattle.ascii_run.specs.declared.faults.EngineFault.TheVariants.{Read, Write}
 use Rattle.ascii_run.specs.declared.modes.Mode.{Mode}
-use Rattle.ascii_show.specs.Answer.{HasOutput, MayReturn}
-use Rattle.ascii_show.specs.Requested.{Requested, copy, lines, tac, caret, ends, ends_spans, edit}
-use Rattle.ascii_show.specs.Requested.{json, requested_mode}
-use Rattle.ascii_show.specs.Call.{Requests, IsCall}
-use Rattle.ascii_show.proofs.ScriptLemmas.{letters_are_no_option}
+use Rattle.ascii_run.specs.declared.modes.Mode.TheVariants.{Edit}
+use Rattle.ascii_show.specs.Answer.{HasFault, MayReturn}
+use Rattle.ascii_show.specs.Call.{Requests}
 use Rattle.ascii_show.specs.declared.failure.Failure.{Failure}
 use Rattle.ascii_show.specs.declared.failure.Failure.TheVariants.{Engine}
 
--- words that ask for something are a call
-call : (words : List (List ℕ)) (asked : Requested) → Requests words asked → IsCall words
-call words copy is = rw is (inl (inl refl, refl))
-call words lines is = rw is (inl (inr (inl refl), refl))
-call words tac is = rw is (inl (inr (inr (inl refl)), refl))
-call words caret is = rw is (inl (inr (inr (inr (inl refl))), refl))
-call words json is = rw is (inl (inr (inr (inr (inr refl))), refl))
-call words (ends script) asks = rw asks.1
-    (inr (inl (refl, (asks.0, 1, inl (refl, letters_are_no_option asks.0 script asks.2, refl)))))
-call words (ends_spans script) asks = rw asks.1 (inr (inl (refl, (asks.0, 2, inr (refl, refl)))))
-call words (edit cmds) asks = rw asks.1 (inr (inr refl))
+-- a mode that has an output for a text rejects no command
+no_fault : (mode : Mode) (text output : List ℕ) → IsOutput mode text output
+    → fault_of mode text ≡ None
+no_fault (Edit cmds) text output is = ap result_err is
+no_fault other text output is = refl
 
 -- what holds of all that was read holds of what is known
 reads : (P : List ℕ → Type 0) (known left : Option (List ℕ)) (bytes : List ℕ)
@@ -48,7 +39,7 @@ nothing (Some bytes) = tt
 
 -- a fault of the engine is one that the words and the input allow
 pub failed : (words : List (List ℕ)) (mode : Mode) (fault : EngineFault) (old new : IoState)
-    → Requests words (requested_mode mode) → EngineOutcome mode (Err fault) old new
+    → Requests words mode → EngineOutcome mode (Err fault) old new
     → MayReturn words old.remaining (Err (Engine fault))
 failed words mode (NotAscii n) old new asks outcome = (
   mode,
@@ -59,27 +50,27 @@ failed words mode (NotAscii n) old new asks outcome = (
 failed words mode (Position k) old new asks outcome = (
   mode,
   asks,
-  reads (λ bytes. IsAscii bytes × IsFaultOf mode bytes k) old.remaining
-      new.remaining outcome.0 outcome.1 (outcome.2, outcome.3),
+  reads (HasFault (Some k) mode) old.remaining new.remaining outcome.0 outcome.1
+      (outcome.2, outcome.3),
 )
-failed words mode Memory old new asks outcome = call words (requested_mode mode) asks
+failed words mode Memory old new asks outcome = inl (mode, asks)
 failed words mode Read old new asks outcome = (mode, asks, nothing old.remaining)
 failed words mode Write old new asks outcome = (
   mode,
   asks,
-  reads (HasOutput mode) old.remaining new.remaining outcome.2.text outcome.2.read
-      (outcome.2.ascii, (outcome.0 ++ outcome.1, outcome.2.output_of)),
+  reads (HasFault None mode) old.remaining new.remaining outcome.2.text outcome.2.read
+      (outcome.2.ascii, no_fault mode outcome.2.text (outcome.0 ++ outcome.1) outcome.2.output_of),
 )
 
 -- and so is its success
 pub done : (words : List (List ℕ)) (mode : Mode) (old new : IoState)
-    → Requests words (requested_mode mode) → EngineOutcome mode (Ok tt) old new
+    → Requests words mode → EngineOutcome mode (Ok tt) old new
     → MayReturn words old.remaining (Ok tt)
 done words mode old new asks outcome = (
   mode,
   asks,
-  reads (HasOutput mode) old.remaining new.remaining outcome.1.text outcome.1.read
-      (outcome.1.ascii, (outcome.0, outcome.1.output_of)),
+  reads (HasFault None mode) old.remaining new.remaining outcome.1.text outcome.1.read
+      (outcome.1.ascii, no_fault mode outcome.1.text outcome.0 outcome.1.output_of),
 )
 
 -- a failure passed on by `?`

@@ -1,4 +1,5 @@
 pub mod AnswerLemmas
+pub mod Before
 pub mod EditLemmas
 pub mod InsertionLemmas
 pub mod ScriptLemmas

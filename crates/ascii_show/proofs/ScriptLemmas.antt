@@ -1,21 +1,26 @@
 -- The letters of ends.
-use Rattle.std.proofs.Common.{◌≡◌, ◌≢◌, ◌∙◌, ℕ, ◌<◌, List, [], ◌∷◌, length, get_or, arith, ap, ap₂}
-use Rattle.std.proofs.Common.{refl, subst, sym, inl, inr}
+use Rattle.std.proofs.Common.{◌≡◌, ◌≢◌, ◌∙◌, ◌⊎◌, ℕ, ◌<◌, List, [], ◌∷◌, length, get_or, arith, ap}
+use Rattle.std.proofs.Common.{ap₂, drop, map, refl, subst, sym, inl, inr}
 use Rattle.std.specs.Prelude.{codes}
 use Rattle.std.specs.Borrow.{Bor}
 use Rattle.std.proofs.lemmas.List.{get_or-map, length-map}
 use Rattle.ascii.specs.declared.iter.walks.End.{End}
 use Rattle.ascii.specs.declared.iter.walks.End.TheVariants.{Back, Front}
-use Rattle.ascii_show.specs.Call.{HasScript, IsCall, IsScriptFault, IsWordsFault, bytes_of}
-use Rattle.ascii_show.specs.Call.{words_of}
+use Rattle.ascii_run.specs.declared.modes.Mode.TheVariants as mode
+use Rattle.ascii_show.specs.Call.{HasScript, IsCall, IsModeName, IsScriptFault, IsWordsFault}
+use Rattle.ascii_show.specs.Call.{TakesNoArgument, words_of}
 use Rattle.ascii_run.specs.declared.faults.EngineFault.TheVariants.{Memory}
 use Rattle.ascii_show.specs.declared.failure.Failure.{Failure}
 use Rattle.ascii_show.specs.declared.failure.Failure.TheVariants.{BadWord, Engine}
-use Rattle.ascii_show.specs.Words.{AreEndsOf, IsNotEndLetter, IsNotScript, letter_of}
+use Rattle.ascii_show.specs.Words.{AreEndsOf, IsNotEndLetter, IsScript, letter_of}
+
+-- the bytes of an argument
+abbrev pub bytes_of : Bor (List ℕ) → List ℕ
+bytes_of arg = arg.now
 
 -- a letter of no end spoils a script
 pub no_script : (script : List ℕ) (i : ℕ) → i < length script
-    → IsNotEndLetter (get_or script i 0) → IsNotScript script
+    → IsNotEndLetter (get_or script i 0) → ¬ (IsScript script)
 no_script script i inside none is =
     none (get_or is.0 i Front) (grind (arith, get_or-map, length-map, inside, is.1))
 
@@ -47,33 +52,90 @@ two_words (x ∷ y ∷ []) none two first last is_first is_last =
 two_words (x ∷ y ∷ z ∷ zs) none two first last is_first is_last = absurd (omega (arith, two))
 
 -- arguments after `ends` without a script are not a call
-no_ends : (words : List (List ℕ)) → ((script : List ℕ) (n : ℕ) → ¬ (HasScript words script n))
+no_ends : (words : List (List ℕ))
+    → ((script : List ℕ) (n : ℕ) → ¬ (HasScript (codes "ends" ∷ words) script n))
     → ¬ (IsCall (codes "ends" ∷ words))
-no_ends words none (inl (inl is, _)) = omega (arith, ap (λ word. get_or word 0 0) is)
-no_ends words none (inl (inr (inl is), _)) = omega (arith, ap (λ word. get_or word 0 0) is)
-no_ends words none (inl (inr (inr (inl is)), _)) = omega (arith, ap (λ word. get_or word 0 0) is)
-no_ends words none (inl (inr (inr (inr (inl is))), _)) =
-    omega (arith, ap (λ word. get_or word 0 0) is)
-no_ends words none (inl (inr (inr (inr (inr is))), _)) =
-    omega (arith, ap (λ word. get_or word 0 0) is)
-no_ends words none (inr (inl (_, has))) = none has.0 has.1 has.2
-no_ends words none (inr (inr is)) = omega (arith, ap (λ word. get_or word 1 0) is)
+no_ends words none (inl (mode.Copy, is)) = omega (arith, ap (λ ws. get_or (get_or ws 0 []) 0 0) is)
+no_ends words none (inl (mode.Lines, is)) =
+    omega (arith, ap (λ ws. get_or (get_or ws 0 []) 0 0) is)
+no_ends words none (inl (mode.Tac, is)) = omega (arith, ap (λ ws. get_or (get_or ws 0 []) 0 0) is)
+no_ends words none (inl (mode.Caret, is)) =
+    omega (arith, ap (λ ws. get_or (get_or ws 0 []) 0 0) is)
+no_ends words none (inl (mode.Json, is)) = omega (arith, ap (λ ws. get_or (get_or ws 0 []) 0 0) is)
+no_ends words none (inl (mode.Ends script, is)) = none (map letter_of script.now) 1
+    (inl (is, letters_are_no_option (map letter_of script.now) script.now refl, refl))
+no_ends words none (inl (mode.EndsSpans script, is)) =
+    none (map letter_of script.now) 2 (inr (is, refl))
+no_ends words none (inl (mode.Edit cmds, is)) =
+    omega (arith, ap (λ ws. get_or (get_or ws 0 []) 1 0) is.1)
+no_ends words none (inr (inl (script, n, has))) = none script n has
+no_ends words none (inr (inr (edits, is))) =
+    omega (arith, ap (λ ws. get_or (get_or ws 0 []) 1 0) is)
 
 -- only `-s` is not a call
 pub option_alone : (args : List (Bor (List ℕ))) (none : Bor (List ℕ)) → length args ≡ 1
     → (get_or args 0 none).now ≡ codes "-s"
     → ¬ (IsCall (codes "ends" ∷ words_of args))
 option_alone args none one is = no_ends (words_of args) (λ script n has. elim has [
-  | inl alone ↦ alone.1 (sym (ap (λ words. get_or words 0 []) alone.0)
+  | inl alone ↦ alone.1 (sym (ap (λ words. get_or words 1 []) alone.0)
       ∙ (ap (λ words. get_or words 0 []) (one_word args none one) ∙ is))
   | inr behind ↦ omega (arith, one, ap length behind.0, length-map args bytes_of)
 ])
 
 -- why a script after `ends` has no ends is why the arguments request nothing
-pub script_fault : (others : List (List ℕ)) (script : List ℕ) (n : ℕ) (failure : Failure)
-    → HasScript others script n → IsScriptFault script n failure
-    → IsWordsFault (codes "ends" ∷ others) failure
-script_fault others script n (BadWord m) has fault =
-    inl (others, script, refl, subst (HasScript others script) (sym fault.0) has, fault.1)
-script_fault others script n (Engine Memory) has fault = inr (inl (refl, (script, n, has)))
-script_fault others script n other has fault = absurd fault
+pub script_fault : (words : List (List ℕ)) (script : List ℕ) (n : ℕ) (failure : Failure)
+    → HasScript words script n → IsScriptFault script n failure → IsWordsFault words failure
+script_fault words script n (BadWord m) has fault =
+    inl (script, subst (HasScript words script) (sym fault.0) has, fault.1)
+script_fault words script n (Engine Memory) has fault = inr (inl (script, n, has))
+script_fault words script n other has fault = absurd fault
+
+-- ---- a call begins with the name of a mode, and a mode that takes no word is alone
+
+call_of : (name : List ℕ) (others : List (List ℕ)) → IsCall (name ∷ others)
+    → (TakesNoArgument name × (others ≡ [])) ⊎ ((name ≡ codes "ends") ⊎ (name ≡ codes "edit"))
+call_of name others (inl (mode.Copy, is)) =
+    inl (inl (ap (λ ws. get_or ws 0 []) is), ap (drop 1) is)
+call_of name others (inl (mode.Lines, is)) =
+    inl (inr (inl (ap (λ ws. get_or ws 0 []) is)), ap (drop 1) is)
+call_of name others (inl (mode.Tac, is)) =
+    inl (inr (inr (inl (ap (λ ws. get_or ws 0 []) is))), ap (drop 1) is)
+call_of name others (inl (mode.Caret, is)) =
+    inl (inr (inr (inr (inl (ap (λ ws. get_or ws 0 []) is)))), ap (drop 1) is)
+call_of name others (inl (mode.Json, is)) =
+    inl (inr (inr (inr (inr (ap (λ ws. get_or ws 0 []) is)))), ap (drop 1) is)
+call_of name others (inl (mode.Ends script, is)) = inr (inl (ap (λ ws. get_or ws 0 []) is))
+call_of name others (inl (mode.EndsSpans script, is)) = inr (inl (ap (λ ws. get_or ws 0 []) is))
+call_of name others (inl (mode.Edit cmds, is)) = inr (inr (ap (λ ws. get_or ws 0 []) is.1))
+call_of name others (inr (inl (script, n, inl is))) = inr (inl (ap (λ ws. get_or ws 0 []) is.0))
+call_of name others (inr (inl (script, n, inr is))) = inr (inl (ap (λ ws. get_or ws 0 []) is.0))
+call_of name others (inr (inr (edits, is))) = inr (inr (ap (λ ws. get_or ws 0 []) is))
+
+pub call_names : (name : List ℕ) (others : List (List ℕ)) → IsCall (name ∷ others)
+    → IsModeName name
+call_names name others call = elim (call_of name others call) [
+  | inl plain ↦ inl plain.0
+  | inr named ↦ inr named
+]
+
+-- no name of a mode that takes no word is that of one that does
+first_letter : (name : List ℕ) → get_or name 0 0 ≡ 101 → ¬ (TakesNoArgument name)
+first_letter name is (inl named) = omega (arith, is, ap (λ n. get_or n 0 0) named)
+first_letter name is (inr (inl named)) = omega (arith, is, ap (λ n. get_or n 0 0) named)
+first_letter name is (inr (inr (inl named))) = omega (arith, is, ap (λ n. get_or n 0 0) named)
+first_letter name is (inr (inr (inr (inl named)))) =
+    omega (arith, is, ap (λ n. get_or n 0 0) named)
+first_letter name is (inr (inr (inr (inr named)))) =
+    omega (arith, is, ap (λ n. get_or n 0 0) named)
+
+differs : (name : List ℕ) → TakesNoArgument name
+    → ¬ ((name ≡ codes "ends") ⊎ (name ≡ codes "edit"))
+differs name plain (inl other) = first_letter name (ap (λ n. get_or n 0 0) other) plain
+differs name plain (inr other) = first_letter name (ap (λ n. get_or n 0 0) other) plain
+
+pub plain_alone : (name : List ℕ) (others : List (List ℕ)) → TakesNoArgument name
+    → IsCall (name ∷ others) → others ≡ []
+plain_alone name others plain call = elim (call_of name others call) [
+  | inl alone ↦ alone.1
+  | inr named ↦ absurd (differs name plain named)
+]

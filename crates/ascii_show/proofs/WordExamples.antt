@@ -1,5 +1,5 @@
 -- Words that are known from outside, computed by the definitions.
-use Rattle.std.proofs.Common.{◌≡◌, ◌≢◌, List, ℕ, [], ◌∷◌, ◌++◌, drop, get_or, length, refl, sym, ap}
+use Rattle.std.proofs.Common.{◌≡◌, ◌≢◌, [], ◌∷◌, ◌++◌, drop, get_or, length, refl, sym, ap}
 use Rattle.std.proofs.Common.{subst, arith, inl, inr}
 use Rattle.std.specs.Prelude.{codes}
 use Rattle.std.specs.Str.{IsAscii}
@@ -11,11 +11,11 @@ use Rattle.ascii.specs.declared.iter.walks.End.TheVariants.{Front, Back}
 use Rattle.ascii_run.specs.declared.commands.Cmd.{Cmd}
 use Rattle.ascii_run.specs.declared.commands.Cmd.TheVariants.{PushStr, InsertStr, Remove, Truncate}
 use Rattle.ascii_run.specs.declared.commands.Cmd.TheVariants.{Pop, Upper, Lower}
-use Rattle.ascii_show.specs.Call.{HasScript, IsCall}
+use Rattle.ascii_run.specs.declared.modes.Mode.TheVariants as mode
+use Rattle.ascii_show.specs.Call.{HasBadWord, IsCall}
 use Rattle.ascii_show.specs.Modes.{usage_line}
-use Rattle.ascii_show.specs.Words.{AreDigitsOf, AreEndsOf, IsFirstBadWord, IsNotScript, IsWord}
-use Rattle.ascii_show.specs.Words.{IsWordOf, letter_of}
-use Rattle.ascii_show.proofs.ScriptLemmas.{no_script}
+use Rattle.ascii_show.specs.Words.{AreDigitsOf, AreEndsOf, IsScript, IsWord, IsWordOf, letter_of}
+use Rattle.ascii_show.proofs.ScriptLemmas.{no_script, option_alone}
 
 -- the usage line
 usage : usage_line
@@ -24,25 +24,31 @@ usage = refl
 
 -- calls
 copy_call : IsCall (codes "copy" ∷ [])
-copy_call = inl (inl refl, refl)
+copy_call = inl (mode.Copy, refl)
 
 ends_call : IsCall (codes "ends" ∷ (codes "" ∷ []))
-ends_call = inr (inl (refl, (codes "", 1, inl (refl, (λ is. omega (arith, ap length is)), refl))))
+ends_call = inr (inl (codes "", 1, inl (refl, (λ is. omega (arith, ap length is)), refl)))
 
 ends_spans_call : IsCall (codes "ends" ∷ (codes "-s" ∷ (codes "F" ∷ [])))
-ends_spans_call = inr (inl (refl, (codes "F", 2, inr (refl, refl))))
+ends_spans_call = inr (inl (codes "F", 2, inr (refl, refl)))
 
-no_script_alone : (script : List ℕ) (n : ℕ) → ¬ (HasScript (codes "-s" ∷ []) script n)
-no_script_alone script n (inl alone) = alone.1 (sym (ap (λ words. get_or words 0 []) alone.0))
-no_script_alone script n (inr behind) = omega (arith, ap length behind.0)
+-- only `-s` after `ends`, and nothing
+option_alone_call : ¬ (IsCall (codes "ends" ∷ (codes "-s" ∷ [])))
+option_alone_call = option_alone (record { ref_ptr = (0, 0); now = codes "-s" } ∷ [])
+    (record { ref_ptr = (0, 0); now = [] }) refl refl
 
-option_alone : ¬ (IsCall (codes "ends" ∷ (codes "-s" ∷ [])))
-option_alone (inl alone) = omega (arith, ap length alone.1)
-option_alone (inr (inl ends)) = no_script_alone ends.1.0 ends.1.1 ends.1.2
-option_alone (inr (inr edit)) = omega (arith, ap (λ word. get_or word 1 0) edit)
-
-no_words : ¬ (IsCall [])
-no_words is = is
+no_words_call : ¬ (IsCall [])
+no_words_call (inl (mode.Copy, is)) = omega (arith, ap length is)
+no_words_call (inl (mode.Lines, is)) = omega (arith, ap length is)
+no_words_call (inl (mode.Tac, is)) = omega (arith, ap length is)
+no_words_call (inl (mode.Caret, is)) = omega (arith, ap length is)
+no_words_call (inl (mode.Ends script, is)) = omega (arith, ap length is)
+no_words_call (inl (mode.EndsSpans script, is)) = omega (arith, ap length is)
+no_words_call (inl (mode.Edit cmds, is)) = omega (arith, ap length is.1)
+no_words_call (inl (mode.Json, is)) = omega (arith, ap length is)
+no_words_call (inr (inl (script, n, inl is))) = omega (arith, ap length is.0)
+no_words_call (inr (inl (script, n, inr is))) = omega (arith, ap length is.0)
+no_words_call (inr (inr (edits, is))) = omega (arith, ap length is)
 
 -- scripts
 script : AreEndsOf (codes "FBB") (Front ∷ Back ∷ Back ∷ [])
@@ -52,7 +58,7 @@ other_letter : (end : End) → letter_of end ≢ 88
 other_letter Front is = omega (arith, is)
 other_letter Back is = omega (arith, is)
 
-bad_script : IsNotScript (codes "FXB")
+bad_script : ¬ (IsScript (codes "FXB"))
 bad_script = no_script (codes "FXB") 1 (omega arith) other_letter
 
 -- words of an edit
@@ -69,7 +75,7 @@ one = ((omega arith, (omega arith, tt)), refl, omega arith)
 insertion : (view : AsciiStr) → text_of view ≡ codes "def" → IsAscii (text_of view)
     → IsWordOf (codes "i1:def") (InsertStr 1 view)
 insertion view is ascii =
-    (codes "1:def", refl, (codes "1", ap (λ text. codes "1:" ++ text) (sym is), one, ascii))
+    (codes "1", ap (λ text. codes "i1:" ++ text) (sym is), one, ascii)
 
 no_number : (cmd : Cmd) → ¬ (IsWordOf (codes "rx") cmd)
 no_number (PushStr view) of = omega (arith, ap (λ word. get_or word 0 0) of.0)
@@ -83,12 +89,13 @@ no_number Upper of = omega (arith, ap (λ word. get_or word 0 0) of)
 no_number Lower of = omega (arith, ap (λ word. get_or word 0 0) of)
 no_number other of = absurd of
 
-first_bad : IsFirstBadWord (codes "u" ∷ (codes "rx" ∷ [])) 2
-first_bad = (
-  1,
+first_bad : HasBadWord (codes "edit" ∷ (codes "u" ∷ (codes "rx" ∷ []))) 2
+first_bad = inr (
+  codes "u" ∷ [],
+  [],
+  codes "rx",
   refl,
-  record {
-    here = λ is. no_number is.0 is.1;
-    before = All-cons IsWord (codes "u") [] (Upper, refl) (All-nil IsWord);
-  },
+  All-cons IsWord (codes "u") [] (Upper, refl) (All-nil IsWord),
+  λ is. no_number is.0 is.1,
+  refl,
 )

@@ -1,5 +1,5 @@
 -- The letter that the argument of a command begins with, and what comes after it.
-use Rattle.std.proofs.Common.{◌≡◌, ◌≤◌, ℕ, List, [], ◌∷◌, Option, Some, None, MatchOption, get_or}
+use Rattle.std.proofs.Common.{◌≡◌, ◌≤◌, ℕ, List, [], ◌∷◌, ◌++◌, Option, Some, None, MatchOption, get_or}
 use Rattle.std.proofs.Common.{drop, refl, sym, ap, subst, arith}
 use Rattle.std.specs.Str.{IsAscii}
 use Rattle.std.specs.Str.Parse.{AllDigits}
@@ -24,10 +24,10 @@ word_ascii : (word : List ℕ) (cmd : Cmd) → IsWordOf word cmd → IsAscii wor
 word_ascii word (PushStr view) of =
     subst IsAscii (sym of.0) (IsAscii-cons 112 (text_of view) (omega arith) of.1)
 word_ascii word (InsertStr n view) of =
-    let digits = digits_ascii of.2.0 of.2.2.0.1 in
-    let text = IsAscii-cons 58 (text_of view) (omega arith) of.2.3 in
-    let rest = subst IsAscii (sym of.2.1) (IsAscii-append of.2.0 (58 ∷ text_of view) digits text) in
-    subst IsAscii (sym of.1) (IsAscii-cons 105 of.0 (omega arith) rest)
+    let digits = digits_ascii of.0 of.2.0.1 in
+    let text = IsAscii-cons 58 (text_of view) (omega arith) of.3 in
+    let rest = IsAscii-append of.0 (58 ∷ text_of view) digits text in
+    subst IsAscii (sym of.1) (IsAscii-cons 105 (of.0 ++ 58 ∷ text_of view) (omega arith) rest)
 word_ascii word (Remove n) of = subst IsAscii (sym of.1)
     (IsAscii-cons 114 of.0 (omega arith) (digits_ascii of.0 of.2.0.1))
 word_ascii word (Truncate n) of =
@@ -45,7 +45,7 @@ pub only_insertion : (rest : List ℕ) (cmd : Cmd) → IsWordOf (105 ∷ rest) c
     → (n : ℕ) × (view : AsciiStr) × (cmd ≡ InsertStr n view) × IsInsertion rest n view
 only_insertion rest (PushStr view) of = absurd (omega (arith, ap (λ word. get_or word 0 0) of.0))
 only_insertion rest (InsertStr n view) of =
-    (n, view, refl, subst (λ word. IsInsertion word n view) (sym (ap (drop 1) of.1)) of.2)
+    (n, view, refl, (of.0, ap (drop 1) of.1, of.2, of.3))
 only_insertion rest (Remove n) of = absurd (omega (arith, ap (λ word. get_or word 0 0) of.1))
 only_insertion rest (Truncate n) of = absurd (omega (arith, ap (λ word. get_or word 0 0) of.1))
 only_insertion rest Pop of = absurd (omega (arith, ap (λ word. get_or word 0 0) of))
@@ -60,4 +60,5 @@ pub insertion_word : (rest : List ℕ) (result : Option Cmd)
     → MatchOption result (¬ (IsWord (105 ∷ rest))) (IsWordOf (105 ∷ rest))
 insertion_word rest None none = λ is. let of = only_insertion rest is.0 is.1 in
     none (of.0, of.1, of.3)
-insertion_word rest (Some cmd) of = subst (IsWordOf (105 ∷ rest)) (sym of.2) (rest, refl, of.3)
+insertion_word rest (Some cmd) of = subst (IsWordOf (105 ∷ rest)) (sym of.2)
+    (of.3.0, ap (λ word. 105 ∷ word) of.3.1, of.3.2, of.3.3)

@@ -1,8 +1,7 @@
--- What the words after a mode stand for.
-use Rattle.std.specs.Prelude.{◌≡◌, ◌≢◌, ◌<◌, ◌^◌, ◌+◌, ◌++◌, ℕ, List, codes, map}
+-- What the words after `ends` and after `edit` stand for.
+use Rattle.std.specs.Prelude.{◌≡◌, ◌≢◌, ◌<◌, ◌^◌, ◌++◌, ℕ, List, codes, map}
 use Rattle.std.specs.Str.{IsAscii}
 use Rattle.std.specs.Str.Parse.{IsNumeral, digits_value}
-use Rattle.ascii.specs.First.{IsFirstAt}
 use Rattle.ascii.specs.View.{text_of}
 use Rattle.ascii.specs.declared.ascii_str.AsciiStr.{AsciiStr}
 use Rattle.ascii.specs.declared.iter.walks.End.{End}
@@ -11,21 +10,21 @@ use Rattle.ascii_run.specs.declared.commands.Cmd.{Cmd}
 use Rattle.ascii_run.specs.declared.commands.Cmd.TheVariants.{PushStr, InsertStr, Remove, Pop}
 use Rattle.ascii_run.specs.declared.commands.Cmd.TheVariants.{Truncate, Upper, Lower}
 
+-- the letter of an end: `F` or `B`
+abbrev pub letter_of : End → ℕ
+letter_of Front = 70
+letter_of Back = 66
+
 -- `digits` are one or more decimal digits with the value `n`, which fits a `usize`
 abbrev pub AreDigitsOf : List ℕ → ℕ → Type 0
 AreDigitsOf digits n = IsNumeral 10 digits × (digits_value 10 digits ≡ n) × (n < 2 ^ 64)
-
--- the word is the digits of the position `n`, a colon and the text of `view`, which is ASCII
-abbrev pub IsInsertion : List ℕ → ℕ → AsciiStr → Type 0
-IsInsertion word n view =
-    (digits : List ℕ) × (word ≡ digits ++ (codes ":" ++ text_of view))
-    × AreDigitsOf digits n × IsAscii (text_of view)
 
 -- the word, which is one after `edit`, stands for the command
 abbrev pub IsWordOf : List ℕ → Cmd → Type 0
 IsWordOf word (PushStr view) = (word ≡ codes "p" ++ text_of view) × IsAscii (text_of view)
 IsWordOf word (InsertStr n view) =
-    (rest : List ℕ) × (word ≡ codes "i" ++ rest) × IsInsertion rest n view
+    (digits : List ℕ) × (word ≡ codes "i" ++ (digits ++ (codes ":" ++ text_of view)))
+    × AreDigitsOf digits n × IsAscii (text_of view)
 IsWordOf word (Remove n) =
     (digits : List ℕ) × (word ≡ codes "r" ++ digits) × AreDigitsOf digits n
 IsWordOf word (Truncate n) =
@@ -39,18 +38,17 @@ IsWordOf word other = ⊥
 abbrev pub IsWord : List ℕ → Type 0
 IsWord word = (cmd : Cmd) × IsWordOf word cmd
 
--- the word is not a command of an edit
-abbrev pub IsNoWord : List ℕ → Type 0
-IsNoWord word = ¬ (IsWord word)
+-- the letters are those of ends, in order
+abbrev pub IsScript : List ℕ → Type 0
+IsScript letters = (ends : List End) × (map letter_of ends ≡ letters)
 
--- `n`, counted from 1, is the number of the first word that is not a command
-abbrev pub IsFirstBadWord : List (List ℕ) → ℕ → Type 0
-IsFirstBadWord words n = (k : ℕ) × (n ≡ k + 1) × IsFirstAt IsWord IsNoWord words k
+-- ---- cited by private functions only
 
--- the letter of an end: `F` or `B`
-abbrev pub letter_of : End → ℕ
-letter_of Front = 70
-letter_of Back = 66
+-- the word is the digits of the position `n`, a colon and the text of `view`, which is ASCII
+abbrev pub IsInsertion : List ℕ → ℕ → AsciiStr → Type 0
+IsInsertion word n view =
+    (digits : List ℕ) × (word ≡ digits ++ (codes ":" ++ text_of view))
+    × AreDigitsOf digits n × IsAscii (text_of view)
 
 -- the letter is not that of an end
 abbrev pub IsNotEndLetter : ℕ → Type 0
@@ -59,7 +57,3 @@ IsNotEndLetter letter = (end : End) → letter_of end ≢ letter
 -- the letters of `script` are those of the ends, in order
 abbrev pub AreEndsOf : List ℕ → List End → Type 0
 AreEndsOf script ends = map letter_of ends ≡ script
-
--- some letter of `script` is not that of an end
-abbrev pub IsNotScript : List ℕ → Type 0
-IsNotScript script = ¬ ((ends : List End) × AreEndsOf script ends)

@@ -1,13 +1,11 @@
 //! What the arguments after the program's name ask for.
 
-ghost use Rattle.std.specs.Prelude.{◌≡◌, ◌==◌, [], ◌∷◌, MatchOption, MatchResult, ℕ, codes};
+ghost use Rattle.std.specs.Prelude.{◌≡◌, ◌==◌, [], ◌∷◌, MatchOption, MatchResult, List, ℕ, codes};
 ghost use Rattle.std.specs.Prelude.{position};
 ghost use Rattle.std.specs.List.{AllZip};
 ghost use Rattle.ascii.specs.View.{text_of};
-ghost use Rattle.ascii_show.specs.Requested.{requested_by, requested_mode};
-ghost use Rattle.ascii_show.specs.Call.{Requests, IsEditsFault, IsScriptFault, IsWordsFault};
-ghost use Rattle.ascii_show.specs.Call.{words_of};
-ghost use Rattle.ascii_show.specs.Modes.{ends_name};
+ghost use Rattle.ascii_show.specs.Call.{IsEditsFault, IsScriptFault, IsWordsFault, Requests};
+ghost use Rattle.ascii_show.specs.Call.{RequestsBy, words_of};
 ghost use Rattle.ascii_show.specs.Words.{AreDigitsOf, AreEndsOf, IsInsertion, IsNotEndLetter};
 ghost use Rattle.ascii_show.specs.Words.{IsWord, IsWordOf, letter_of};
 
@@ -31,7 +29,7 @@ pub enum Request<'a, A: Allocator> {
 impl<'a, A: Allocator> Request<'a, A> {
     /// The mode of the engine.
     pub fn mode(&self) -> Mode<'_>
-        ensures { requested_mode result ≡ requested_by self.now }
+        ensures { (words : List (List ℕ)) → RequestsBy words self.now → Requests words result }
     {
         match self {
             Request::Plain(mode) => *mode,
@@ -46,8 +44,7 @@ impl<'a, A: Allocator> Request<'a, A> {
 /// before any argument after the mode.
 pub fn parse_args<'a, A: Allocator>(alloc: A, args: &[&'a str]) -> Result<Request<'a, A>, Failure>
     ensures { MatchResult result
-        (λ request. Requests (words_of args.now) (requested_by request))
-        (IsWordsFault (words_of args.now)) }
+        (RequestsBy (words_of args.now)) (IsWordsFault (words_of args.now)) }
 {
     let Some((mode, others)) = args.split_first() else {
         return Err(Failure::Usage);
@@ -66,8 +63,8 @@ pub fn parse_args<'a, A: Allocator>(alloc: A, args: &[&'a str]) -> Result<Reques
 /// Parses the arguments after `ends`: a script only, or `-s` and a script.
 fn parse_ends<'a, A: Allocator>(alloc: A, others: &[&'a str]) -> Result<Request<'a, A>, Failure>
     ensures { MatchResult result
-        (λ request. Requests (ends_name ∷ words_of others.now) (requested_by request))
-        (IsWordsFault (ends_name ∷ words_of others.now)) }
+        (RequestsBy (codes "ends" ∷ words_of others.now))
+        (IsWordsFault (codes "ends" ∷ words_of others.now)) }
 {
     match others {
         [script] => {

@@ -22,7 +22,7 @@ pub enum Failure {
 impl Failure {
     /// The status that the program ends with.
     pub fn status(self) -> u8
-        ensures { result ≡ status_of self }
+        ensures { result ≡ status_of (Err self) }
     {
         match self {
             Failure::Engine(EngineFault::NotAscii(_)) => 1,

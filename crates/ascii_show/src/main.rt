@@ -2,7 +2,7 @@
 #![tactic(auto)]
 
 ghost use Rattle.std.specs.Prelude.{◌≡◌, Result};
-ghost use Rattle.ascii_show.specs.Answer.{MayReturn, status_of_result};
+ghost use Rattle.ascii_show.specs.Answer.{MayReturn};
 ghost use Rattle.ascii_show.specs.Call.{words_of};
 ghost use Rattle.ascii_show.specs.Status.{status_of};
 
@@ -34,7 +34,7 @@ pub fn show<A: Allocator + Copy, I: io::Read + Drop, O: io::Write + Drop, E: io:
 ) -> u8
     ensures { (answer : Result (Unit {0}) Failure)
         × MayReturn (words_of args.now) (I.remaining input) answer
-        × (result ≡ status_of_result answer) }
+        × (result ≡ status_of answer) }
 {
     match run_args(alloc, args, input, output) {
         Ok(()) => 0,
@@ -47,7 +47,7 @@ const LINE: usize = 128;
 
 /// Writes the message of a failure in one write, and returns its status. Does not allocate.
 fn report<E: io::Write + Drop>(failure: Failure, mut errors: E) -> u8
-    ensures { result ≡ status_of failure }
+    ensures { result ≡ status_of (Err failure) }
 {
     let mut line = ArrayString::<LINE>::new();
     if writeln!(line, "{failure}").is_ok() {

@@ -1,12 +1,20 @@
 -- The modes `Ends` and `EndsSpans`: what one iterator of lines yields to a script of ends.
-use Rattle.std.specs.Prelude.{◌≡◌, ℕ, List, ◌++◌, Option, Some, None, codes, decimal}
-use Rattle.std.specs.List.{flat_map}
-use Rattle.ascii.specs.Walks.{ListAnswers}
-use Rattle.ascii.specs.Lines.{Line, LinesOf, bodies}
-use Rattle.ascii.specs.Spans.{LineSpansOf, WithStart}
+use Rattle.std.specs.Prelude.{ℕ, ◌-◌, List, [], ◌∷◌, ◌++◌, Option, Some, None, codes, decimal, drop}
+use Rattle.std.specs.Prelude.{length, slice_get, take}
+use Rattle.ascii.specs.Lines.{Line}
+use Rattle.ascii.specs.Spans.{WithStart}
 use Rattle.ascii.specs.declared.iter.spans.Ending.{Ending}
 use Rattle.ascii.specs.declared.iter.spans.Ending.TheVariants.{Lf, CrLf, Absent}
 use Rattle.ascii.specs.declared.iter.walks.End.{End}
+use Rattle.ascii.specs.declared.iter.walks.End.TheVariants.{Front, Back}
+
+-- the answers of the list to the script: to `Front` its first item, to `Back` its last, which it
+-- then has no more; `None` if it is empty
+abbrev pub answers : {A : Type 0} → List End → List A → List (Option A)
+answers [] items = []
+answers (Front ∷ script) items = slice_get items 0 ∷ answers script (drop 1 items)
+answers (Back ∷ script) items =
+    slice_get items (length items - 1) ∷ answers script (take (length items - 1) items)
 
 -- what is shown of an answer: `+`, the body and LF; for `None`, `-` and LF
 abbrev pub answer_text : Option (List ℕ) → List ℕ
@@ -26,20 +34,3 @@ span_text None = codes "-\n"
 span_text (Some span) =
     codes "+" ++ (decimal span.start ++ (codes " " ++ (ending_word span.item.ending
     ++ (codes " " ++ (span.item.body ++ codes "\n")))))
-
--- `output` is what `shown` shows of the answers of the list `items` to the script of ends, in order
-abbrev pub ShowsEnds : {A : Type 0} → (Option A → List ℕ) → List A → List End → List ℕ → Type 0
-ShowsEnds {A} shown items script output =
-    (answers : List (Option A)) × ListAnswers items script answers
-    × (output ≡ flat_map shown answers)
-
--- `output` shows what the lines of the text yield to the script
-abbrev pub ShowsAnswers : List End → List ℕ → List ℕ → Type 0
-ShowsAnswers script text output =
-    (lines : List Line) × LinesOf text lines × ShowsEnds answer_text (bodies lines) script output
-
--- `output` shows what the lines of the text, each with its start, yield to the script
-abbrev pub ShowsSpans : List End → List ℕ → List ℕ → Type 0
-ShowsSpans script text output =
-    (spans : List (WithStart Line)) × LineSpansOf 0 text spans
-    × ShowsEnds span_text spans script output

@@ -1,7 +1,8 @@
 use Rattle.std.proofs.Common.{[], ◌<◌, arith, length}
 use Rattle.std.proofs.lemmas.List.{get_or-map, length-map}
-use Rattle.ascii_show.specs.Call.{bytes_of, words_of}
+use Rattle.ascii_show.specs.Call.{words_of}
 use Rattle.ascii_show.proofs.EditLemmas.{more_words, first_bad_word}
+use Rattle.ascii_show.proofs.ScriptLemmas.{bytes_of}
 use Rattle.ascii_show.proofs.arguments.parse_commands.Goals as goal
 
 pub returns-in_default : goal.returns-in_default

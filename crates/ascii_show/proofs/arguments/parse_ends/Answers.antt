@@ -18,9 +18,10 @@ returns-then-eq g c =
 pub returns-in_err-ends-in-len1 : goal.returns-in_err-ends-in-len1
 returns-in_err-ends-in-len1 g c =
     let one : length c.args.others.now ≡ 1 = search rules in
-    let whole : words_of c.args.others.now ≡ c.as_bytes.result.now ∷ [] =
-    one_word c.args.others.now none one
-    ∙ ap (λ (word : List ℕ). word ∷ []) (sym c.as_bytes.ensures.value) in
+    let whole : codes "ends" ∷ words_of c.args.others.now
+    ≡ codes "ends" ∷ (c.as_bytes.result.now ∷ []) =
+    ap (λ (words : List (List ℕ)). codes "ends" ∷ words) (one_word c.args.others.now none one
+    ∙ ap (λ (word : List ℕ). word ∷ []) (sym c.as_bytes.ensures.value)) in
     search (rules, script_fault, whole)
 
 pub returns-in_err-ends-in-text : goal.returns-in_err-ends-in-text
@@ -28,7 +29,9 @@ returns-in_err-ends-in-text g c =
     let two : length c.args.others.now ≡ 2 = search rules in
     let last : (get_or c.args.others.now 1 none).now ≡ c.as_bytes-in-text.result.now =
     sym c.as_bytes-in-text.ensures.value in
-    let whole : words_of c.args.others.now ≡ codes "-s" ∷ (c.as_bytes-in-text.result.now ∷ []) =
-    two_words c.args.others.now none two (codes "-s") c.as_bytes-in-text.result.now
-    c.in-text.is-text last in
+    let whole : codes "ends" ∷ words_of c.args.others.now
+    ≡ codes "ends" ∷ (codes "-s" ∷ (c.as_bytes-in-text.result.now ∷ [])) =
+    ap (λ (words : List (List ℕ)). codes "ends" ∷ words)
+    (two_words c.args.others.now none two (codes "-s") c.as_bytes-in-text.result.now
+    c.in-text.is-text last) in
     search (rules, script_fault, whole)

@@ -1,8 +1,9 @@
-use Rattle.std.proofs.Common.{[], ◌++◌, arith, refl, rules}
+use Rattle.std.proofs.Common.{[], ◌++◌, ◌∙◌, ap, arith, refl, rules}
+use Rattle.std.specs.List.{flat_map}
 use Rattle.std.specs.Option.{option_map}
-use Rattle.ascii.specs.Spans.{line_in}
+use Rattle.ascii.specs.Spans.{items_of, line_in}
 use Rattle.ascii.proofs.EndsLemmas.{TakesEnd-by}
-use Rattle.ascii_run.specs.Modes.Ends.{span_text}
+use Rattle.ascii_run.specs.Modes.Ends.{answers, span_text}
 use Rattle.ascii_run.proofs.EndsOutputLemmas.{shows_all, shows_more}
 use Rattle.ascii_devices.proofs.BufferedLemmas.{MayFail-still, AppendsBytes-nil, AppendsBytes-trans}
 use Rattle.ascii_run.proofs.modes.ends.put_ends_spans.Goals as goal
@@ -29,13 +30,16 @@ loop-end-preserved g c =
     )
 
 pub returns : goal.returns
-returns g c = (
-  c.loop-end.invariant.1.0,
-  (
-    c.line_spans-lines.result,
-    c.line_spans-lines.ensures.iterates.spans,
-    shows_all span_text (c.line_spans-lines.result) (c.loop-end.lines) c.args.script.now
-        c.loop-end.end-index c.loop-end.invariant.1.0 (omega arith) c.loop-end.invariant.1.2,
-  ),
-  c.loop-end.invariant.1.1,
-)
+returns g c =
+    let spans = c.line_spans-lines.result in
+    let found = c.line_spans-lines.ensures.iterates.spans in (
+      c.loop-end.invariant.1.0,
+      (
+        items_of spans,
+        found.lines,
+        shows_all span_text spans (c.loop-end.lines) c.args.script.now
+            c.loop-end.end-index c.loop-end.invariant.1.0 (omega arith) c.loop-end.invariant.1.2
+            ∙ ap (λ xs. flat_map span_text (answers c.args.script.now xs)) found.starts,
+      ),
+      c.loop-end.invariant.1.1,
+    )
