@@ -1,11 +1,12 @@
 -- What the program may return for its words and its input.
-use Rattle.std.specs.Prelude.{◌≡◌, ⊤, ℕ, List, IfSome, None, Some, length}
+use Rattle.std.specs.Prelude.{◌≡◌, ⊤, ℕ, List, ◌++◌, IfSome, None, Some, length}
 use Rattle.std.specs.Str.{IsAscii}
+use Rattle.std.specs.Io.KnownBytes.{Appends, Keeps}
 use Rattle.std.specs.declared.option.Option.{Option}
 use Rattle.std.specs.declared.result.Result.{Result}
 use Rattle.std.specs.declared.result.Result.TheVariants.{Ok, Err}
 use Rattle.ascii.specs.Bytes.{FirstOther}
-use Rattle.ascii_run.specs.Modes.{fault_of}
+use Rattle.ascii_run.specs.Modes.{IsOutput, fault_of}
 use Rattle.ascii_run.specs.declared.faults.EngineFault.TheVariants.{NotAscii, Position, Memory}
 use Rattle.ascii_run.specs.declared.faults.EngineFault.TheVariants.{Read, Write}
 use Rattle.ascii_run.specs.declared.modes.Mode.{Mode}
@@ -41,3 +42,18 @@ MayReturn words known (Err (Engine (Position k))) =
 MayReturn words known (Err (Engine Memory)) = IsCall words
 MayReturn words known (Err (Engine Read)) = RequestsModeWith words known (λ mode bytes. ⊤)
 MayReturn words known (Err (Engine Write)) = RequestsModeWith words known (HasFault None)
+
+-- ---- cited by private functions only
+
+-- what the output took between its old and its new contents. `Ok`: the output of the mode that the
+-- words ask for. `Write`: a prefix of it. Nothing otherwise.
+abbrev pub Writes : List (List ℕ) → Option (List ℕ) → Result (Unit {0}) Failure
+    → Option (List ℕ) → Option (List ℕ) → Type 0
+Writes words known (Ok _) old new =
+    (output : List ℕ) × RequestsModeWith words known (λ mode bytes. IsOutput mode bytes output)
+    × Appends old new output
+Writes words known (Err (Engine Write)) old new =
+    (sent others : List ℕ)
+    × RequestsModeWith words known (λ mode bytes. IsOutput mode bytes (sent ++ others))
+    × Appends old new sent
+Writes words known other old new = Keeps old new

@@ -1,8 +1,9 @@
 //! `ascii_show MODE [..]`: standard input, in one of several modes, to standard output.
 #![tactic(auto)]
 
-ghost use Rattle.std.specs.Prelude.{◌≡◌, Result};
-ghost use Rattle.ascii_show.specs.Answer.{MayReturn};
+ghost use Rattle.std.specs.Prelude.{◌≡◌, ◌<◌, Result};
+ghost use Rattle.ascii_run.specs.Wrapped.{output_failures, writer_of};
+ghost use Rattle.ascii_show.specs.Answer.{MayReturn, Writes};
 ghost use Rattle.ascii_show.specs.Call.{words_of};
 ghost use Rattle.ascii_show.specs.Status.{status_of};
 
@@ -36,7 +37,7 @@ pub fn show<A: Allocator + Copy, I: io::Read + Drop, O: io::Write + Drop, E: io:
         × MayReturn (words_of args.now) (I.remaining input) answer
         × (result ≡ status_of answer) }
 {
-    match run_args(alloc, args, input, output) {
+    match run_args(alloc, args, input, &mut Output::new(output)) {
         Ok(()) => 0,
         Err(failure) => report(failure, errors),
     }
@@ -61,17 +62,15 @@ fn run_args<A: Allocator + Copy, I: io::Read + Drop, O: io::Write + Drop>(
     alloc: A,
     args: &[&str],
     input: I,
-    output: O,
+    output: &mut Output<O>,
 ) -> Result<(), Failure>
-    ensures { MayReturn (words_of args.now) (I.remaining input) result }
+    requires { output_failures output.old < u64.MAX }
+    ensures answer { MayReturn (words_of args.now) (I.remaining input) result }
+    ensures output { Writes (words_of args.now) (I.remaining input) result
+        (O.contents (writer_of output.old)) (O.contents (writer_of output.new)) }
 {
     let request = parse_args(alloc, args)?;
-    engine(
-        alloc,
-        request.mode(),
-        &mut Input::new(input),
-        &mut Output::new(output),
-    )?;
+    engine(alloc, request.mode(), &mut Input::new(input), output)?;
     Ok(())
 }
 
