@@ -1,10 +1,21 @@
--- The compact JSON text of a text is what the kit's writer gives.
-use Rattle.std.proofs.Common.{◌≡◌, ℕ, List, [], ◌∷◌, ◌++◌, refl, ap, ◌∙◌, sym, arith, append-nil}
+-- The compact JSON text of a text is what the kit's writer gives, and is itself a text.
+use Rattle.std.proofs.Common.{◌≡◌, ℕ, ◌<◌, List, [], ◌∷◌, ◌++◌, refl, ap, ◌∙◌, sym, arith}
+use Rattle.std.proofs.Common.{append-nil, length, map, take, drop, length-append, ◌+◌, ◌-◌, ◌≤◌}
+use Rattle.std.proofs.Common.{subst, nat_lt, Bool, true, ⊎_elim, get_or}
 use Rattle.std.proofs.lemmas.Bool.Decides.{nat_tests}
-use Rattle.std.specs.List.{flat_map}
+use Rattle.std.proofs.lemmas.Str.Ascii.{All-from_ascii, IsAscii-from_all}
+use Rattle.std.proofs.lemmas.Grind.{common_steps}
+use Rattle.std.proofs.lemmas.List.{get_or-map, get_or_append_left, length-map, map-append}
+use Rattle.std.proofs.Math.Seq.{get_or-append_seam}
+use Rattle.std.proofs.lemmas.List.Elements.{All-append, All-from_get_or, All-cons, All-head}
+use Rattle.std.proofs.lemmas.List.Elements.{All-nil, All-tail}
+use Rattle.std.proofs.lemmas.Bool.{agree_below_at, cases_lt, ltb-true}
+use Rattle.std.proofs.lemmas.List.Sums.{AllPass-from_list_all}
+use Rattle.std.specs.List.{All, AllPass, flat_map, list_all}
+use Rattle.std.specs.Str.{IsAscii}
 use Rattle.json.specs.Print.{escape_byte, print, print_from}
-use Rattle.json.specs.Token.{string}
-use Rattle.ascii_run.specs.Modes.Json.{json_code, json_text}
+use Rattle.json.specs.Token.{Token, string}
+use Rattle.ascii_run.specs.Modes.Json.{AreEscapes, json_code, json_text}
 
 -- a code in a JSON string, as the writer has it
 json_code-is : (n : ℕ) → json_code n ≡ escape_byte n
@@ -21,3 +32,87 @@ pub print-string : (t : List ℕ) → print (string t ∷ []) ≡ json_text t
 unfolding print_from
 print-string t = append-nil (34 ∷ (flat_map escape_byte t ++ 34 ∷ []))
     ∙ ap (λ cs. 34 ∷ (cs ++ 34 ∷ [])) (json_codes t)
+
+-- the bytes of a code in a JSON string are codes
+json_code-ascii : (n : ℕ) → n < 128 → All (λ b. b < 128) (json_code n)
+json_code-ascii n low =
+    let test : ℕ → Bool = λ b. nat_lt b 128 in
+    let pass : AllPass test (json_code n) =
+    AllPass-from_list_all test (json_code n)
+    (agree_below_at (λ c. list_all test (json_code c)) (λ _. true) 128 n refl low) in
+    All-from_get_or (λ b. b < 128) (json_code n) 0
+    (λ k inside. ltb-true (get_or (json_code n) k 0) 128 (pass k 0 inside))
+
+json_codes-ascii : (t : List ℕ) → All (λ b. b < 128) t → All (λ b. b < 128) (flat_map json_code t)
+json_codes-ascii [] h = All-nil (λ b. b < 128)
+json_codes-ascii (x ∷ xs) h =
+    All-append (λ b. b < 128) (json_code x) (flat_map json_code xs)
+    (json_code-ascii x (All-head (λ b. b < 128) x xs h))
+    (json_codes-ascii xs (All-tail (λ b. b < 128) x xs h))
+
+-- the compact JSON text of a text is a text
+pub IsAscii-json_text : (t : List ℕ) → IsAscii t → IsAscii (json_text t)
+IsAscii-json_text t h =
+    let Low : ℕ → Type 0 = λ b. b < 128 in
+    let quote : 34 < 128 = omega arith in
+    let end : All Low (34 ∷ []) = All-cons Low 34 [] quote (All-nil Low) in
+    IsAscii-from_all (json_text t)
+    (All-cons Low 34 (flat_map json_code t ++ 34 ∷ []) quote
+    (All-append Low (flat_map json_code t) (34 ∷ [])
+    (json_codes-ascii t (All-from_ascii t h)) end))
+
+-- what the writer holds after one string
+pub printed : (items before : List ℕ) (tokens old : List Token) (t text : List ℕ)
+    → items ≡ before ++ print tokens → before ≡ []
+    → tokens ≡ old ++ string t ∷ [] → old ≡ [] → t ≡ text → items ≡ json_text text
+printed items before tokens old t text is none held empty same =
+    is ∙ (ap (λ b. b ++ print tokens) none
+    ∙ (ap print (held ∙ ap (λ o. o ++ string t ∷ []) empty)
+    ∙ (print-string t ∙ ap json_text same)))
+
+-- the escape of a code, by its place
+pub escape_at : {F : Type 0} (text : F → List ℕ) (escapes : List F) (code : ℕ) (escape : F)
+    → AreEscapes 128 (map text escapes) → code < 128
+    → escape ≡ get_or escapes code escape → text escape ≡ json_text (code ∷ [])
+escape_at text escapes code escape are low is =
+    ap text is
+    ∙ (sym (get_or-map text escapes code escape [] (omega (arith, length-map escapes text, are.0)))
+    ∙ are.1 code low)
+
+-- one escape more
+pub escape_more : {F : Type 0} (text : F → List ℕ) (escapes : List F) (escape : F) (n : ℕ)
+    → AreEscapes n (map text escapes) → text escape ≡ json_text (n ∷ [])
+    → AreEscapes (n + 1) (map text (escapes ++ escape ∷ []))
+escape_more text escapes escape n are is =
+    let texts = map text escapes in
+    let more : map text (escapes ++ escape ∷ []) ≡ texts ++ text escape ∷ [] =
+    map-append text escapes (escape ∷ []) in
+    let last : get_or (texts ++ text escape ∷ []) n [] ≡ json_text (n ∷ []) =
+    subst (λ k. get_or (texts ++ text escape ∷ []) k [] ≡ json_text (n ∷ [])) are.0
+    (get_or-append_seam texts (text escape) [] [] ∙ is) in
+    subst (AreEscapes (n + 1)) (sym more) (
+      omega (arith, length-append texts (text escape ∷ []), are.0),
+      λ code low.
+          ⊎_elim (λ below. get_or_append_left texts (text escape ∷ []) [] code
+          (omega (arith, are.0)) ∙ are.1 code below)
+          (λ high. let e : code ≡ n = omega arith in
+          subst (λ k. get_or (texts ++ text escape ∷ []) k [] ≡ json_text (k ∷ [])) (sym e)
+          last) (cases_lt code n),
+    )
+
+-- the JSON string of one character is a quote, its code in a JSON string, and a quote
+escape_is : (escape : List ℕ) (code : ℕ) → escape ≡ json_text (code ∷ [])
+    → escape ≡ 34 ∷ (json_code code ++ 34 ∷ [])
+escape_is escape code is = is ∙ ap (λ xs. 34 ∷ (xs ++ 34 ∷ [])) (append-nil (json_code code))
+
+pub escape_long : (escape : List ℕ) (code : ℕ) → escape ≡ json_text (code ∷ []) → 2 ≤ length escape
+escape_long escape code is = subst (λ xs. 2 ≤ length xs) (sym (escape_is escape code is))
+    (omega (arith, length-append (json_code code) (34 ∷ [])))
+
+-- the JSON string of one character without its quotes
+pub escape_inner : (escape : List ℕ) (code : ℕ) → escape ≡ json_text (code ∷ [])
+    → take (length escape - 1 - 1) (drop 1 escape) ≡ json_code code
+escape_inner escape code is =
+    subst (λ xs. take (length xs - 1 - 1) (drop 1 xs) ≡ json_code code)
+    (sym (escape_is escape code is))
+    (grind (arith, common_steps))

@@ -6,6 +6,7 @@ pub mod StreamedLemmas
 pub mod JsonTextLemmas
 pub mod LineFeedLemmas
 pub mod ListLemmas
+pub mod NameLemmas
 pub mod OutputBufferLemmas
 pub mod PlainRunLemmas
 mod RunExamples

@@ -18,8 +18,8 @@ use Rattle.ascii.specs.Found.{HasNo, lines_of}
 use Rattle.ascii.specs.Lines.{EndsInCr, Line, MayFollow, bodies, ending_text, line_text}
 use Rattle.ascii.proofs.LinesLemmas.{LinesOf-lines_of}
 use Rattle.ascii.proofs.PiecesLemmas.{HasNo-from_absent}
-use Rattle.ascii_run.specs.Streamed.{IsLastSegment, ShowsFront, front_by_ending, front_of_line}
-use Rattle.ascii_run.specs.Streamed.{held_cr, lines_part, unless_cr, with_feeds, without_last_cr}
+use Rattle.ascii_run.specs.Streamed.{IsLastSegment, held_cr, lines_part, unless_cr, with_feeds}
+use Rattle.ascii_run.specs.Streamed.{without_last_cr}
 use Rattle.ascii_run.specs.Modes.Lines.{ShowsLines, with_line_feed}
 use Rattle.ascii_run.proofs.ListLemmas.{last_is}
 
@@ -209,26 +209,9 @@ without_by : (t : List ℕ) → t ≢ [] → (b : Bool) → eqb (get_or t (lengt
 without_by t some true is = append-nil (take (length t - 1) t)
 without_by t some false is = init_last t some
 
-front_ended : (ending : Ending) (body : List ℕ) → ending ≢ Absent
-    → front_by_ending ending body ≡ with_line_feed body
-front_ended Lf body has = refl
-front_ended CrLf body has = refl
-front_ended Absent body has = absurd (has refl)
-
 -- what is written of a text before more is read, as one text
 abbrev pub front_feeds : List ℕ → List ℕ
 front_feeds text = with_feeds unless_cr text
-
--- it is the front output of `lines`
-pub ShowsFront-feeds : (t : List ℕ) → ShowsFront t (front_feeds t)
-ShowsFront-feeds t = (
-  lines_of t,
-  LinesOf-lines_of t,
-  shows unless_cr refl front_of_line (λ line has. front_ended line.ending line.body has)
-      (λ line absent free some. alone unless_cr line.body free some
-      ∙ (without_by line.body some (eqb (get_or line.body (length line.body - 1) 0) 13) refl
-      ∙ ap (λ ending. front_by_ending ending line.body) (sym absent))) t,
-)
 
 -- ---- by runs
 

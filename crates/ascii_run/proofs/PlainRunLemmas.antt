@@ -9,19 +9,10 @@ use Rattle.std.proofs.lemmas.List.{get_or-take, take_more}
 use Rattle.std.proofs.lemmas.List.Elements.{All-from_get_or, All-head, All-tail}
 use Rattle.std.specs.List.{All, flat_map}
 use Rattle.ascii.specs.Bytes.{IsFirstNot}
-use Rattle.ascii_run.specs.Modes.Json.{IsUnescaped, json_code}
-use Rattle.ascii_run.specs.Modes.Caret.{IsShown, caret_text}
 
 -- a code with the plain property is shown as itself
 abbrev pub ShowsPlain : (ℕ → Type 0) → (ℕ → List ℕ) → Type 0
 ShowsPlain plain shown = (n : ℕ) → plain n → shown n ≡ n ∷ []
-
-pub caret_plain : ShowsPlain IsShown caret_text
-caret_plain n (inl is) = subst (λ k. caret_text k ≡ k ∷ []) (sym is) refl
-caret_plain n (inr (low, other)) = grind (arith, nat_tests)
-
-pub json_plain : ShowsPlain IsUnescaped json_code
-json_plain n (low, quote, back) = grind (arith, nat_tests)
 
 shown_run : (plain : ℕ → Type 0) (shown : ℕ → List ℕ) → ShowsPlain plain shown → (run : List ℕ)
     → All plain run → flat_map shown run ≡ run

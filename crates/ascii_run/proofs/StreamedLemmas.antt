@@ -5,17 +5,18 @@ use Rattle.std.proofs.Common.{arith, ap, sym, subst, refl, ◌∙◌, append-nil
 use Rattle.std.proofs.Common.{◌&&◌, length-append}
 use Rattle.std.proofs.lemmas.Grind.{flat_map-append}
 use Rattle.std.proofs.lemmas.List.{map-append}
+use Rattle.std.specs.Char.Escape.{escape_ascii}
 use Rattle.std.specs.List.{flat_map}
 use Rattle.ascii.specs.Case.{lower_image, upper_image}
 use Rattle.ascii_run.specs.declared.bounded.BoundedMode.{BoundedMode}
 use Rattle.ascii_run.specs.declared.bounded.BoundedMode.TheVariants.{Copy, Lines, Caret, Json}
-use Rattle.ascii_run.specs.declared.bounded.BoundedMode.TheVariants.{Upper, Lower}
-use Rattle.ascii_run.specs.Streamed.{IsFrontOutput, IsWholeOutput, Stream, front, last_after}
+use Rattle.ascii_run.specs.declared.bounded.BoundedMode.TheVariants.{Upper, Lower, Escape, Lossy}
+use Rattle.ascii_run.specs.Streamed.{IsCutOutput, IsWholeOutput, Stream, cut_off, front, last_after}
 use Rattle.ascii_run.specs.Streamed.{lines_closing, lines_part, stream, whole}
 use Rattle.ascii_run.specs.Modes.Caret.{caret_text}
 use Rattle.ascii_run.specs.Modes.Json.{json_code}
-use Rattle.ascii_run.proofs.LineFeedLemmas.{ShowsFront-feeds, ShowsLines-feeds, front_feeds}
-use Rattle.ascii_run.proofs.LineFeedLemmas.{with_line_feeds}
+use Rattle.ascii_run.specs.Modes.Lossy.{lossy_text}
+use Rattle.ascii_run.proofs.LineFeedLemmas.{ShowsLines-feeds, front_feeds, with_line_feeds}
 
 -- the law: what is added for two parts is what is added for the first and then for the second
 abbrev pub Law : Stream → Type 0
@@ -91,16 +92,8 @@ law Caret before text more = flat_map-append caret_text text more
 law Json before text more = flat_map-append json_code text more
 law Upper before text more = map-append upper_image text more
 law Lower before text more = map-append lower_image text more
-
-pub is_front : (mode : BoundedMode) (text : List ℕ)
-    → IsFrontOutput mode text (front (stream mode) text)
-is_front Copy text = refl
-is_front Lines text =
-    subst (IsFrontOutput Lines text) (sym (lines_front text)) (ShowsFront-feeds text)
-is_front Caret text = refl
-is_front Json text = refl
-is_front Upper text = refl
-is_front Lower text = refl
+law Escape before text more = flat_map-append escape_ascii text more
+law Lossy before text more = flat_map-append lossy_text text more
 
 pub is_whole : (mode : BoundedMode) (text : List ℕ)
     → IsWholeOutput mode text (whole (stream mode) text)
@@ -113,6 +106,20 @@ is_whole Caret text = append-nil (flat_map caret_text text)
 is_whole Json text = refl
 is_whole Upper text = append-nil (map upper_image text)
 is_whole Lower text = append-nil (map lower_image text)
+is_whole Escape text = append-nil (flat_map escape_ascii text)
+is_whole Lossy text = append-nil (flat_map lossy_text text)
+
+-- of a text after which an error ends the input
+pub is_cut : (mode : BoundedMode) (text : List ℕ)
+    → IsCutOutput mode text (cut_off (stream mode) text)
+is_cut Copy text = append-nil text
+is_cut Lines text = is_whole Lines text
+is_cut Caret text = append-nil (flat_map caret_text text)
+is_cut Json text = append-nil (34 ∷ flat_map json_code text)
+is_cut Upper text = append-nil (map upper_image text)
+is_cut Lower text = append-nil (map lower_image text)
+is_cut Escape text = append-nil (flat_map escape_ascii text)
+is_cut Lossy text = append-nil (flat_map lossy_text text)
 
 -- ---- what follows from the law for every mode
 

@@ -1,5 +1,5 @@
 -- The output of a bounded run, passed on part by part. Only private functions cite it.
-use Rattle.std.specs.Prelude.{◌≡◌, ℕ, ◌+◌, List}
+use Rattle.std.specs.Prelude.{◌≡◌, ◌≢◌, ◌⊎◌, ℕ, ◌+◌, List, []}
 use Rattle.std.specs.Io.KnownBytes.{Appends}
 use Rattle.std.specs.declared.option.Option.{Option}
 use Rattle.std.specs.declared.result.Result.{Result}
@@ -25,3 +25,13 @@ PassesOn bytes old failures new failures_now (Ok _) =
 PassesOn bytes old failures new failures_now (Err Write) =
     AppendsFront old new bytes × (failures_now ≡ failures + 1)
 PassesOn bytes old failures new failures_now other = ⊥
+
+-- the outcome of writing `bytes`, which come after a text that the error `fault` ends: the writer
+-- took them, and the error stands; or it took a prefix of them, which are some, the error is
+-- `Write`, and one more of its calls has failed
+abbrev pub StopsWith : BoundedFault → List ℕ → Option (List ℕ) → ℕ → Option (List ℕ) → ℕ
+    → BoundedFault → Type 0
+StopsWith fault bytes old failures new failures_now result =
+    ((result ≡ fault) × Appends old new bytes × (failures_now ≡ failures))
+    ⊎ ((result ≡ Write) × (bytes ≢ []) × AppendsFront old new bytes
+    × (failures_now ≡ failures + 1))

@@ -6,6 +6,7 @@ pub mod FrontOutput
 pub mod Inline
 pub mod Room
 pub mod Modes
+pub mod Names
 pub mod OutputState
 pub mod Reading
 pub mod Run

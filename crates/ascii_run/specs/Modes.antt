@@ -2,8 +2,10 @@
 -- a code, a line or an answer is in the file of its name in `Modes/`.
 pub mod Caret
 pub mod Ends
+pub mod Escape
 pub mod Json
 pub mod Lines
+pub mod Lossy
 use Rattle.std.specs.Prelude.{◌≡◌, ℕ, List, None, Ok, Option, reverse}
 use Rattle.std.specs.List.{flat_map}
 use Rattle.std.specs.Result.{result_err}

@@ -10,10 +10,12 @@
 //!
 //! The contract says of each outcome what was read, what was written, and how the devices' counts of failures rose.
 
-ghost use Rattle.std.specs.Prelude.{◌≡◌, ◌<◌};
-ghost use Rattle.ascii_run.specs.Bounded.{BoundedOutcome};
+ghost use Rattle.std.specs.Prelude.{◌≡◌, ◌<◌, MatchOption};
+ghost use Rattle.std.specs.List.{Contains};
+ghost use Rattle.ascii_run.specs.Names.{IsBoundedName, bounded_name};
+ghost use Rattle.ascii_run.specs.Bounded.{BoundedOutcome, CountsReads};
 ghost use Rattle.ascii_run.specs.Reading.{Counts};
-ghost use Rattle.ascii_run.specs.Streamed.{IsTextLength};
+ghost use Rattle.ascii_run.specs.Streamed.{IsTextLength, takes_all};
 
 use crate::faults::BoundedFault;
 use crate::front_output::FrontOutput;
@@ -36,6 +38,95 @@ pub enum BoundedMode {
     Upper,
     /// The text with its letters in lower case.
     Lower,
+    /// Each byte as `u8::escape_ascii` of std writes it. The input may have any bytes.
+    Escape,
+    /// Each byte; one above 127 as `?`. The input may have any bytes.
+    Lossy,
+}
+
+/// The table of the modes: for each it passes its variant and its name to a macro.
+macro_rules! modes {
+    ($with:ident $($first:tt)*) => {
+        $with! {
+            $($first)*
+            Copy "copy";
+            Lines "lines";
+            Caret "caret";
+            Json "json";
+            Upper "upper";
+            Lower "lower";
+            Escape "escape";
+            Lossy "lossy";
+        }
+    };
+}
+
+/// The name of a mode.
+macro_rules! name_of {
+    ($mode:ident $($variant:ident $name:literal;)*) => {
+        match $mode {
+            $(BoundedMode::$variant => $name,)*
+        }
+    };
+}
+
+/// The mode with a name.
+macro_rules! with_name {
+    ($word:ident $($variant:ident $name:literal;)*) => {
+        match $word {
+            $($name => Some(BoundedMode::$variant),)*
+            _ => None,
+        }
+    };
+}
+
+/// All modes.
+macro_rules! list {
+    ($($variant:ident $name:literal;)*) => {
+        &[$(BoundedMode::$variant,)*]
+    };
+}
+
+impl BoundedMode {
+    /// Returns all modes.
+    ///
+    ///     BoundedMode::all().contains(&BoundedMode::Lines) // true
+    pub fn all() -> &'static [BoundedMode]
+        ensures { (mode : BoundedMode) → Contains result.now mode }
+    {
+        modes!(list)
+    }
+
+    /// Returns the name of the mode: that of its variant, in lower case.
+    ///
+    ///     BoundedMode::Lines.name() // "lines"
+    pub fn name(self) -> &'static str
+        ensures { result.now ≡ bounded_name self }
+    {
+        let mode = self;
+        modes!(name_of mode)
+    }
+
+    /// Returns the mode with this name, or `None` if no mode has the name.
+    ///
+    ///     BoundedMode::from_name("lines") // Some(Lines)
+    ///     BoundedMode::from_name("LINES") // None
+    pub fn from_name(name: &str) -> Option<BoundedMode>
+        ensures { MatchOption result (¬ (IsBoundedName name.now))
+            (λ mode. name.now ≡ bounded_name mode) }
+    {
+        modes!(with_name name)
+    }
+
+    /// Returns `true` if the mode takes all bytes, and `false` if it takes an ASCII text alone.
+    ///
+    ///     BoundedMode::Escape.takes_all() // true
+    ///     BoundedMode::Lines.takes_all() // false
+    pub fn takes_all(self) -> bool
+        ensures { result ≡ takes_all self }
+    {
+        matches!(self, BoundedMode::Escape | BoundedMode::Lossy)
+    }
 }
 
 /// How many bytes one read asks for.
@@ -65,8 +156,7 @@ pub fn bounded_engine<S: Source, K: Sink, A: Allocator + Copy>(
     ensures outcome { BoundedOutcome mode result
         (record { remaining = S.rest reader.old; taken = K.taken writer.old })
         (record { remaining = S.rest reader.new; taken = K.taken writer.new }) }
-    ensures read { Counts BoundedFault.Read (S.failures reader.old)
-        (S.failures reader.new) result }
+    ensures read { CountsReads mode result (S.failures reader.old) (S.failures reader.new) }
     ensures write { Counts BoundedFault.Write (K.failures writer.old)
         (K.failures writer.new) result }
 {
@@ -79,30 +169,33 @@ pub fn bounded_engine<S: Source, K: Sink, A: Allocator + Copy>(
     let mut position: u64 = 0;
     'chunks: loop {
         let Ok(n) = reader.read(chunk) else {
-            return Err(BoundedFault::Read);
+            return Err(output.stop(writer, BoundedFault::Read));
         };
         if n == 0 {
             return output.close(writer);
         }
         let part = &mut chunk[..n];
-        let length = text_length(part);
+        let length = text_length(mode, part);
         let Ok(()) = output.append(writer, &mut part[..length]) else {
             return Err(BoundedFault::Write);
         };
         let Some(next) = position.checked_add(length as u64) else {
-            return Err(BoundedFault::TooLong);
+            return Err(output.stop(writer, BoundedFault::TooLong));
         };
         if length < n {
-            return Err(BoundedFault::NotAscii(next));
+            return Err(output.stop(writer, BoundedFault::NotAscii(next)));
         }
         position = next;
     }
 }
 
-/// The number of bytes before the first that is not ASCII.
-fn text_length(bytes: &[u8]) -> usize
-    ensures { IsTextLength bytes.now result }
+/// The number of bytes before the first that the mode does not take.
+fn text_length(mode: BoundedMode, bytes: &[u8]) -> usize
+    ensures { IsTextLength mode bytes.now result }
 {
+    if mode.takes_all() {
+        return bytes.len();
+    }
     match kernels::first_other(bytes) {
         Some(position) => position,
         None => bytes.len(),

@@ -1,16 +1,14 @@
 //! The front output of a bounded run: what is written of a text part by part, as it is read.
 
 ghost use Rattle.std.specs.Prelude.{◌≡◌, ℕ, List, ◌<◌, IfOk, OnOk};
-ghost use Rattle.std.specs.Str.{IsAscii};
-ghost use Rattle.ascii_run.specs.FrontOutput.{PassesOn};
+ghost use Rattle.ascii_run.specs.FrontOutput.{PassesOn, StopsWith};
 ghost use Rattle.ascii_devices.specs.Buffered.{AppendsBytes, IsReady, MayFail};
 ghost use Rattle.ascii_devices.specs.Buffered.{OutputState, output_state};
 ghost use Rattle.ascii_run.specs.Streamed.{last_after, stream};
 
 use crate::bounded::BoundedMode;
 use crate::faults::BoundedFault;
-use crate::streamed::LARGEST;
-use crate::streamed::{closing_of, last_of, opening_of, put_part, streamed_size};
+use crate::streamed::{LARGEST, Streamed, last_of, streamed_size};
 use ascii_devices::{BufferedSink, Sink};
 use std::alloc::{AllocError, Allocator};
 use std::marker::Model;
@@ -18,7 +16,7 @@ use std::marker::Model;
 /// What a bounded run writes. Each call passes on all that it appends.
 #[derive(Drop)]
 pub(crate) struct FrontOutput<A: Allocator> {
-    mode: BoundedMode,
+    mode: Streamed<A>,
     buffer: BufferedSink<A>,
     /// The last byte of the text so far, or LF.
     last: u8,
@@ -36,13 +34,14 @@ impl<A: Allocator> Model for FrontOutput<A> {
     } };
 }
 
-impl<A: Allocator> FrontOutput<A> {
+impl<A: Allocator + Copy> FrontOutput<A> {
     /// Makes all allocations of a run. Nothing has been written.
     pub(crate) fn new(alloc: A, mode: BoundedMode) -> Result<FrontOutput<A>, AllocError>
         ensures { IfOk result (λ output. (output.mode ≡ mode) × (output.last ≡ 10)
             × IsReady output.buffer) }
     {
         let size = streamed_size(mode, usize::MAX).min(LARGEST);
+        let mode = Streamed::new(alloc, mode)?;
         let buffer = BufferedSink::new(alloc, size)?;
         Ok(FrontOutput {
             mode,
@@ -50,7 +49,9 @@ impl<A: Allocator> FrontOutput<A> {
             last: b'\n',
         })
     }
+}
 
+impl<A: Allocator> FrontOutput<A> {
     /// Writes what comes before the text.
     pub(crate) fn open<K: Sink>(&mut self, writer: &mut K) -> Result<(), BoundedFault>
         requires ready { IsReady self.old.buffer }
@@ -60,7 +61,7 @@ impl<A: Allocator> FrontOutput<A> {
         ensures kept { (self.new.mode ≡ self.old.mode) × (self.new.last ≡ self.old.last) }
         ensures ready { OnOk result (IsReady self.new.buffer) }
     {
-        self.buffer.put(writer, opening_of(self.mode));
+        self.buffer.put(writer, self.mode.opening());
         pass_on(&mut self.buffer, writer)
     }
 
@@ -72,7 +73,6 @@ impl<A: Allocator> FrontOutput<A> {
     ) -> Result<(), BoundedFault>
         requires ready { IsReady self.old.buffer }
         requires fail { K.failures writer.old < u64.MAX }
-        requires ascii { IsAscii part.old }
         ensures passes { PassesOn ((stream self.old.mode).part self.old.last part.old)
             (K.taken writer.old) (K.failures writer.old)
             (K.taken writer.new) (K.failures writer.new) result }
@@ -82,7 +82,7 @@ impl<A: Allocator> FrontOutput<A> {
     {
         let before = self.last;
         self.last = last_of(before, part);
-        put_part(self.mode, before, part, &mut self.buffer, writer);
+        self.mode.put_part(before, part, &mut self.buffer, writer);
         pass_on(&mut self.buffer, writer)
     }
 
@@ -93,8 +93,27 @@ impl<A: Allocator> FrontOutput<A> {
         ensures passes { PassesOn ((stream self.old.mode).closing self.old.last) (K.taken writer.old)
             (K.failures writer.old) (K.taken writer.new) (K.failures writer.new) result }
     {
-        self.buffer.put(writer, closing_of(self.mode, self.last));
+        self.buffer.put(writer, self.mode.closing(self.last));
         pass_on(&mut self.buffer, writer)
+    }
+
+    /// Writes what comes after a text that an error ends, if that is anything. Returns the error, or
+    /// `Write` if the writer failed.
+    pub(crate) fn stop<K: Sink>(&mut self, writer: &mut K, fault: BoundedFault) -> BoundedFault
+        requires ready { IsReady self.old.buffer }
+        requires fail { K.failures writer.old < u64.MAX }
+        ensures { StopsWith fault ((stream self.old.mode).cut self.old.last) (K.taken writer.old)
+            (K.failures writer.old) (K.taken writer.new) (K.failures writer.new) result }
+    {
+        let bytes = self.mode.cut(self.last);
+        if bytes.is_empty() {
+            return fault;
+        }
+        self.buffer.put(writer, bytes);
+        match pass_on(&mut self.buffer, writer) {
+            Ok(()) => fault,
+            Err(write) => write,
+        }
     }
 }
 

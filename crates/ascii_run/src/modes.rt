@@ -1,24 +1,27 @@
 //! The modes of a run from bytes to bytes: a line for each in the table `render_output`, and a file
 //! for the output of each.
 
-ghost use Rattle.std.specs.Prelude.{◌≡◌, IfErr, OnErr, OnOk};
+ghost use Rattle.std.specs.Prelude.{◌≡◌, IfErr, MatchOption, OnErr, OnOk};
 ghost use Rattle.std.specs.Str.{IsAscii};
 ghost use Rattle.ascii_run.specs.Engine.{StopsOutput};
 ghost use Rattle.ascii_devices.specs.Buffered.{MayFail, output_state};
+ghost use Rattle.ascii_run.specs.Names.{IsPlain, IsPlainName, mode_name};
 ghost use Rattle.ascii_run.specs.OutputState.{AppendsOutputTo};
 
 pub(crate) mod caret;
 mod edit;
 mod ends;
+pub(crate) mod escape;
 pub(crate) mod json_string;
 pub(crate) mod lines;
+pub(crate) mod lossy;
+pub(crate) mod mapped;
 mod tac;
 
+use crate::bounded::BoundedMode;
 use crate::commands::Cmd;
 use crate::faults::EngineFault;
-use crate::bounded::BoundedMode;
-use crate::streamed::LARGEST;
-use crate::streamed::{put_whole, streamed_size};
+use crate::streamed::{LARGEST, put_streamed, streamed_size};
 use ascii::iter::End;
 use ascii::{AsciiString, bytes};
 use ascii_devices::{BufferedSink, Sink};
@@ -49,6 +52,51 @@ pub enum Mode<'a> {
     Edit(&'a [Cmd<'a>]),
     /// The text as a compact JSON string.
     Json,
+}
+
+impl<'a> Mode<'a> {
+    /// Returns the name of the mode: that of its variant, in lower case; `EndsSpans` has that of `Ends`.
+    ///
+    ///     Mode::Tac.name() // "tac"
+    ///     Mode::EndsSpans(&[]).name() // "ends"
+    pub fn name(self) -> &'static str
+        ensures { result.now ≡ mode_name self.entry }
+    {
+        match self {
+            Mode::Copy => BoundedMode::Copy.name(),
+            Mode::Lines => BoundedMode::Lines.name(),
+            Mode::Tac => "tac",
+            Mode::Caret => BoundedMode::Caret.name(),
+            Mode::Ends(_) | Mode::EndsSpans(_) => "ends",
+            Mode::Edit(_) => "edit",
+            Mode::Json => BoundedMode::Json.name(),
+        }
+    }
+
+    /// Returns the mode with this name, or `None` if no mode has the name or the mode takes a script or
+    /// commands.
+    ///
+    ///     Mode::from_name("tac").is_some() // true
+    ///     Mode::from_name("ends").is_some() // false
+    ///     Mode::from_name("upper").is_some() // false
+    pub fn from_name(name: &str) -> Option<Mode<'static>>
+        ensures { MatchOption result (¬ (IsPlainName name.now))
+            (λ mode. IsPlain mode × (name.now ≡ mode_name mode)) }
+    {
+        if name == "tac" {
+            return Some(Mode::Tac);
+        }
+        let Some(mode) = BoundedMode::from_name(name) else {
+            return None;
+        };
+        match mode {
+            BoundedMode::Copy => Some(Mode::Copy),
+            BoundedMode::Lines => Some(Mode::Lines),
+            BoundedMode::Caret => Some(Mode::Caret),
+            BoundedMode::Json => Some(Mode::Json),
+            _ => None,
+        }
+    }
 }
 
 /// The size in bytes of the output buffer for a mode and a text of this length: what the output has
@@ -84,10 +132,10 @@ pub(crate) fn render_output<K: Sink, A: Allocator + Copy>(
 {
     let text = &mut input[..];
     match mode {
-        Mode::Copy => put_whole(BoundedMode::Copy, text, buffer, writer),
-        Mode::Lines => put_whole(BoundedMode::Lines, text, buffer, writer),
-        Mode::Caret => put_whole(BoundedMode::Caret, text, buffer, writer),
-        Mode::Json => put_whole(BoundedMode::Json, text, buffer, writer),
+        Mode::Copy => put_streamed(alloc, BoundedMode::Copy, text, buffer, writer)?,
+        Mode::Lines => put_streamed(alloc, BoundedMode::Lines, text, buffer, writer)?,
+        Mode::Caret => put_streamed(alloc, BoundedMode::Caret, text, buffer, writer)?,
+        Mode::Json => put_streamed(alloc, BoundedMode::Json, text, buffer, writer)?,
         Mode::Tac => put_tac(bytes::as_ascii_str_unchecked(text), buffer, writer),
         Mode::Ends(script) => {
             put_ends(bytes::as_ascii_str_unchecked(text), script, buffer, writer);

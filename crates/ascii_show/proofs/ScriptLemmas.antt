@@ -7,6 +7,7 @@ use Rattle.std.proofs.lemmas.List.{get_or-map, length-map}
 use Rattle.ascii.specs.declared.iter.walks.End.{End}
 use Rattle.ascii.specs.declared.iter.walks.End.TheVariants.{Back, Front}
 use Rattle.ascii_run.specs.declared.modes.Mode.TheVariants as mode
+use Rattle.ascii_run.specs.Names.{IsPlainName}
 use Rattle.ascii_show.specs.Call.{HasScript, IsCall, IsModeName, IsScriptFault, IsWordsFault}
 use Rattle.ascii_show.specs.Call.{TakesNoArgument, words_of}
 use Rattle.ascii_run.specs.declared.faults.EngineFault.TheVariants.{Memory}
@@ -139,3 +140,18 @@ plain_alone name others plain call = elim (call_of name others call) [
   | inl alone ↦ alone.1
   | inr named ↦ absurd (differs name plain named)
 ]
+
+-- the name of a mode that takes no argument is one in the library
+plain_name : (name : List ℕ) → TakesNoArgument name → IsPlainName name
+plain_name name (inl is) = (mode.Copy, tt, is)
+plain_name name (inr (inl is)) = (mode.Lines, tt, is)
+plain_name name (inr (inr (inl is))) = (mode.Tac, tt, is)
+plain_name name (inr (inr (inr (inl is)))) = (mode.Caret, tt, is)
+plain_name name (inr (inr (inr (inr is)))) = (mode.Json, tt, is)
+
+-- no other word is the name of a mode
+pub no_mode_name : (name : List ℕ) → name ≢ codes "ends" → name ≢ codes "edit"
+    → ¬ (IsPlainName name) → ¬ (IsModeName name)
+no_mode_name name not_ends not_edit none (inl takes) = none (plain_name name takes)
+no_mode_name name not_ends not_edit none (inr (inl is)) = not_ends is
+no_mode_name name not_ends not_edit none (inr (inr is)) = not_edit is

@@ -3,7 +3,7 @@
 ghost use Rattle.std.specs.Prelude.{◌≡◌, Some};
 ghost use Rattle.ascii_show.specs.Status.{status_of};
 
-use crate::modes::usage;
+use crate::modes::Usage;
 use ascii_run::EngineFault;
 use std::alloc::{AllocError, AllocFailed};
 use std::fmt;
@@ -39,7 +39,7 @@ impl fmt::Display for Failure {
 
     fn fmt<W: fmt::Write>(&self, f: &mut fmt::Formatter<W>) -> fmt::Result {
         match *self {
-            Failure::Usage => f.write_str(usage()),
+            Failure::Usage => fmt::Display::fmt(&Usage, f),
             Failure::BadWord(number) => write!(f, "bad word {number}"),
             Failure::Engine(EngineFault::Position(place)) => {
                 let number = place.saturating_add(1);

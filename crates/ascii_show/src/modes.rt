@@ -1,10 +1,11 @@
-//! The modes of the program by name, and the usage line, which is made of them.
+//! The modes of the program, which are the library's, by name.
 
-ghost use Rattle.std.specs.Prelude.{◌≡◌, MatchOption};
+ghost use Rattle.std.specs.Prelude.{◌≡◌, MatchOption, Some};
 ghost use Rattle.ascii_show.specs.Call.{IsModeName, NamesMode};
 ghost use Rattle.ascii_show.specs.Modes.{usage_line};
 
 use ascii_run::Mode;
+use std::fmt;
 
 /// The arguments that a mode takes after its name.
 #[derive(Clone, Copy)]
@@ -17,50 +18,36 @@ pub enum Takes {
     Commands,
 }
 
-/// The table of the modes. For each it passes to a macro the name, the arguments that the usage line
-/// shows after the name, and what the mode takes.
-macro_rules! modes {
-    ($with:ident $($first:tt)*) => {
-        $with! {
-            $($first)*
-            "copy" "" Takes::Nothing(Mode::Copy);
-            "lines" "" Takes::Nothing(Mode::Lines);
-            "tac" "" Takes::Nothing(Mode::Tac);
-            "caret" "" Takes::Nothing(Mode::Caret);
-            "ends" " [-s] SCRIPT" Takes::Script;
-            "edit" " WORD.." Takes::Commands;
-            "json" "" Takes::Nothing(Mode::Json);
-        }
-    };
-}
-
-/// What the mode with a name takes.
-macro_rules! look_up {
-    ($word:ident $($name:literal $shown:literal $takes:expr;)*) => {
-        match $word {
-            $($name => Some($takes),)*
-            _ => None,
-        }
-    };
-}
-
-/// The names with the arguments that are shown after them, separated by `|`.
-macro_rules! joined {
-    ($name:literal $shown:literal $takes:expr; $($names:literal $more:literal $others:expr;)*) => {
-        concat!("usage: ascii_show ", $name, $shown $(, "|", $names, $more)*)
-    };
-}
-
 /// Returns what the mode with this name takes, or `None` if no mode has the name.
 pub fn find_mode(name: &str) -> Option<Takes>
     ensures { MatchOption result (¬ (IsModeName name.now)) (NamesMode name.now) }
 {
-    modes!(look_up name)
+    if name == Mode::Ends(&[]).name() {
+        Some(Takes::Script)
+    } else if name == Mode::Edit(&[]).name() {
+        Some(Takes::Commands)
+    } else {
+        match Mode::from_name(name) {
+            Some(mode) => Some(Takes::Nothing(mode)),
+            None => None,
+        }
+    }
 }
 
-/// Returns the usage line.
-pub fn usage() -> &'static str
-    ensures { result.now ≡ usage_line }
-{
-    modes!(joined)
+/// The usage line.
+pub struct Usage;
+
+impl fmt::Display for Usage {
+    ghost output = { λ _. Some usage_line };
+
+    /// Writes the names of the modes, each with the arguments that it takes.
+    fn fmt<W: fmt::Write>(&self, f: &mut fmt::Formatter<W>) -> fmt::Result {
+        let (copy, lines, tac) = (Mode::Copy.name(), Mode::Lines.name(), Mode::Tac.name());
+        let (caret, json) = (Mode::Caret.name(), Mode::Json.name());
+        let (ends, edit) = (Mode::Ends(&[]).name(), Mode::Edit(&[]).name());
+        write!(
+            f,
+            "usage: ascii_show {copy}|{lines}|{tac}|{caret}|{ends} [-s] SCRIPT|{edit} WORD..|{json}",
+        )
+    }
 }

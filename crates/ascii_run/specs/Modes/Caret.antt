@@ -1,9 +1,10 @@
 -- The mode `Caret`: each code as it is shown.
 use Rattle.std.specs.Prelude.{◌&&◌, ◌||◌, Bool, not}
 use Rattle.std.specs.Bool.{Decides}
-use Rattle.std.proofs.Common.{eqb, leb}
+use Rattle.std.proofs.Common.{arith, eqb, inl, inr, leb, refl, subst, sym}
 use Rattle.std.proofs.lemmas.Bool.{leb-true, le-leb}
 use Rattle.std.proofs.lemmas.Bool.Decides.{Decides-and, Decides-eqb, Decides-not, Decides-or}
+use Rattle.std.proofs.lemmas.Bool.Decides.{nat_tests}
 use Rattle.std.specs.Prelude.{◌≡◌, ◌≢◌, ℕ, ◌+◌, ◌≤◌, ◌⊎◌, List, [], ◌∷◌, ◌++◌}
 use Rattle.std.specs.Prelude.{if◌then◌else◌, nat_lt, ◌==◌, codes}
 
@@ -27,3 +28,8 @@ pub is_shown-decides : (n : ℕ) → Decides (is_shown n) (IsShown n)
 is_shown-decides n = Decides-or (eqb n 10) (leb 32 n && not (eqb n 127)) (Decides-eqb n 10)
     (Decides-and (leb 32 n) (not (eqb n 127)) (leb-true 32 n, le-leb 32 n)
     (Decides-not (eqb n 127) (Decides-eqb n 127)))
+
+-- such a code is shown as itself
+pub caret_plain : (n : ℕ) → IsShown n → caret_text n ≡ n ∷ []
+caret_plain n (inl is) = subst (λ k. caret_text k ≡ k ∷ []) (sym is) refl
+caret_plain n (inr (low, other)) = grind (arith, nat_tests)

@@ -1,14 +1,11 @@
 //! The mode `Caret`.
 
-ghost use Rattle.std.specs.Prelude.{◌<◌, ◌≤◌, ◌+◌, length};
-ghost use Rattle.std.specs.List.{flat_map};
+ghost use Rattle.std.specs.Prelude.{◌≤◌, ◌+◌, ⊤, length};
 ghost use Rattle.ascii.specs.Lanes.{Marks};
-ghost use Rattle.ascii.specs.View.{text_of};
-ghost use Rattle.ascii_run.specs.Modes.Caret.{is_shown, is_shown-decides};
-ghost use Rattle.ascii_devices.specs.Buffered.{AppendsTo, MayFail, output_state};
-ghost use Rattle.ascii_run.specs.Modes.Caret.{IsShown, caret_text};
+ghost use Rattle.ascii_run.specs.Modes.Caret.{IsShown, caret_text, is_shown, is_shown-decides};
+ghost use Rattle.ascii_run.specs.Modes.Caret.{caret_plain};
 
-use ascii::AsciiStr;
+use super::mapped::Show;
 use ascii::classes::{Class, ClassBy};
 use ascii::kernels::first_not;
 use ascii_devices::{BufferedSink, Sink};
@@ -44,33 +41,30 @@ impl<const N: usize> ClassBy<N> for CaretPassThrough {
     }
 }
 
-/// Appends each character; a control character other than LF as `^` and its caret letter. The
-/// characters between two of these are appended in one call.
-pub(crate) fn put_caret<K: Sink, A: Allocator>(
-    text: AsciiStr<'_>,
-    buffer: &mut BufferedSink<A>,
-    writer: &mut K,
-)
-    requires { MayFail (output_state K.Sink writer.old buffer.old) }
-    ensures { AppendsTo K.Sink writer.old buffer.old writer.new buffer.new
-        (flat_map caret_text (text_of text.entry)) }
-{
-    let mut remaining = text.as_bytes();
-    'segments: while let Some(place) = first_not::<CaretPassThrough>(remaining) {
-        buffer.put_front(writer, remaining, place);
-        put_control(remaining[place], buffer, writer);
-        remaining = &remaining[place + 1..];
-    }
-    buffer.put(writer, remaining);
-}
+/// Shows each character; a control character other than LF as `^` and its caret letter.
+pub(crate) struct Caret;
 
-/// Appends a control character other than LF: `^` and its caret letter.
-fn put_control<K: Sink, A: Allocator>(code: u8, buffer: &mut BufferedSink<A>, writer: &mut K)
-    requires fail { MayFail (output_state K.Sink writer.old buffer.old) }
-    requires control { ¬ IsShown code }
-    requires ascii { code < 128 }
-    ensures { AppendsTo K.Sink writer.old buffer.old writer.new buffer.new (caret_text code) }
-{
-    let letter = if code < 32 { code + 64 } else { b'?' };
-    buffer.put(writer, &[b'^', letter]);
+impl Show for Caret {
+    ghost shown = { caret_text };
+
+    ghost is_ready = { λ _. ⊤ };
+
+    ghost is_plain = { IsShown };
+
+    ghost plain = { caret_plain };
+
+    #[inline(always)]
+    fn first_other(codes: &[u8]) -> Option<usize> {
+        first_not::<CaretPassThrough>(codes)
+    }
+
+    fn put_other<K: Sink, A: Allocator>(
+        &self,
+        code: u8,
+        buffer: &mut BufferedSink<A>,
+        writer: &mut K,
+    ) {
+        let letter = if code < 32 { code + 64 } else { b'?' };
+        buffer.put(writer, &[b'^', letter]);
+    }
 }

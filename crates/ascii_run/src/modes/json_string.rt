@@ -1,18 +1,20 @@
 //! The mode `Json`.
 
-ghost use Rattle.std.specs.Prelude.{◌≡◌, ◌<◌, ◌≤◌, ◌+◌, [], ◌∷◌, MatchOption, length};
-ghost use Rattle.std.specs.List.{flat_map};
+ghost use Rattle.std.specs.Prelude.{◌≡◌, ◌<◌, ◌≤◌, ◌+◌, ◌∷◌, [], IfOk, length, map};
 ghost use Rattle.ascii.specs.Lanes.{Marks};
 ghost use Rattle.ascii.specs.View.{text_of};
-ghost use Rattle.ascii_run.specs.Modes.Json.{is_unescaped, is_unescaped-decides};
-ghost use Rattle.ascii_run.specs.Modes.Json.{IsUnescaped, json_code, number_text};
-ghost use Rattle.ascii_devices.specs.Buffered.{MayFail, AppendsTo, output_state};
+ghost use Rattle.ascii_devices.specs.Buffered.{AppendsTo, MayFail, output_state};
+ghost use Rattle.ascii_run.specs.Modes.Json.{is_unescaped, is_unescaped-decides, json_plain};
+ghost use Rattle.ascii_run.specs.Modes.Json.{AreEscapes, HasEscapes, IsUnescaped, json_code};
+ghost use Rattle.ascii_run.specs.Modes.Json.{json_text};
 
-use ascii::AsciiStr;
+use super::mapped::Show;
 use ascii::classes::{Class, ClassBy};
 use ascii::kernels::first_not;
+use ascii::{AsciiStr, AsciiString, bytes};
 use ascii_devices::{BufferedSink, Sink};
-use std::alloc::Allocator;
+use json::Writer;
+use std::alloc::{AllocError, Allocator};
 use std::simd::prelude::*;
 
 /// The characters that appear as themselves in a JSON string.
@@ -44,63 +46,74 @@ impl<const N: usize> ClassBy<N> for JsonPassThrough {
     }
 }
 
-/// Appends each character, escaped if need be. The characters between two escaped ones are appended
-/// in one call.
-pub(crate) fn put_json<K: Sink, A: Allocator>(
+/// The text as a compact JSON string.
+pub(crate) fn json_string<A: Allocator>(
+    alloc: A,
     text: AsciiStr<'_>,
-    buffer: &mut BufferedSink<A>,
-    writer: &mut K,
-)
-    requires { MayFail (output_state K.Sink writer.old buffer.old) }
-    ensures { AppendsTo K.Sink writer.old buffer.old writer.new buffer.new
-        (flat_map json_code (text_of text.entry)) }
+) -> Result<AsciiString<A>, AllocError>
+    ensures { IfOk result (λ output. output.text ≡ json_text (text_of text.entry)) }
 {
-    let mut remaining = text.as_bytes();
-    'segments: while let Some(place) = first_not::<JsonPassThrough>(remaining) {
-        buffer.put_front(writer, remaining, place);
-        put_escape(remaining[place], buffer, writer);
-        remaining = &remaining[place + 1..];
-    }
-    buffer.put(writer, remaining);
+    let mut writer = Writer::new(Vec::with_capacity(alloc, text.len().saturating_add(2))?);
+    writer.string(text.as_str())?;
+    Ok(AsciiString::from_ascii_unchecked(writer.into_inner()))
 }
 
-/// Appends a character that is escaped in a JSON string.
-fn put_escape<K: Sink, A: Allocator>(code: u8, buffer: &mut BufferedSink<A>, writer: &mut K)
-    requires fail { MayFail (output_state K.Sink writer.old buffer.old) }
-    requires escaped { ¬ IsUnescaped code }
-    ensures { AppendsTo K.Sink writer.old buffer.old writer.new buffer.new (json_code code) }
-{
-    match letter_of(code) {
-        Some(letter) => buffer.put(writer, &[b'\\', letter]),
-        None => put_number(code, buffer, writer),
-    }
+/// The JSON string of each character by itself, indexed by its code.
+#[derive(Drop)]
+pub(crate) struct Escapes<A: Allocator> {
+    strings: Vec<AsciiString<A>, A>,
 }
 
-/// The letter that follows a backslash in the escape of a character, or `None` if its escape has its
-/// number.
-fn letter_of(code: u8) -> Option<u8>
-    ensures { MatchOption result
-        (¬ IsUnescaped code → (code < 32) × (json_code code ≡ number_text code))
-        (λ letter. json_code code ≡ 92 ∷ letter ∷ []) }
-{
-    match code {
-        8 => Some(b'b'),
-        9 => Some(b't'),
-        10 => Some(b'n'),
-        12 => Some(b'f'),
-        13 => Some(b'r'),
-        34 | 92 => Some(code),
-        _ => None,
+impl<A: Allocator + Copy> Escapes<A> {
+    /// The JSON strings of all characters.
+    pub(crate) fn new(alloc: A) -> Result<Escapes<A>, AllocError>
+        ensures { IfOk result HasEscapes }
+    {
+        let mut strings = Vec::with_capacity(alloc, 128)?;
+        for code in 0..128u8 {
+            strings.push(json_string(alloc, bytes::as_ascii_str_unchecked(&[code]))?)?;
+        }
+        Ok(Escapes { strings })
+    }
+
+    /// No JSON string, for the modes that need none.
+    pub(crate) fn none(alloc: A) -> Escapes<A> {
+        Escapes {
+            strings: Vec::new(alloc),
+        }
     }
 }
 
-/// Appends a control character as `\u00` and two hexadecimal digits.
-fn put_number<K: Sink, A: Allocator>(code: u8, buffer: &mut BufferedSink<A>, writer: &mut K)
-    requires fail { MayFail (output_state K.Sink writer.old buffer.old) }
-    requires control { code < 32 }
-    ensures { AppendsTo K.Sink writer.old buffer.old writer.new buffer.new (number_text code) }
+impl<B: Allocator> Show for Escapes<B> {
+    ghost shown = { json_code };
+
+    ghost is_ready = { HasEscapes };
+
+    ghost is_plain = { IsUnescaped };
+
+    ghost plain = { json_plain };
+
+    #[inline(always)]
+    fn first_other(codes: &[u8]) -> Option<usize> {
+        first_not::<JsonPassThrough>(codes)
+    }
+
+    fn put_other<K: Sink, A: Allocator>(
+        &self,
+        code: u8,
+        buffer: &mut BufferedSink<A>,
+        writer: &mut K,
+    ) {
+        let escape = escape_of(code, &self.strings);
+        buffer.put(writer, &escape[1..escape.len() - 1]);
+    }
+}
+
+/// The JSON string of a character.
+fn escape_of<A: Allocator>(code: u8, escapes: &[AsciiString<A>]) -> &[u8]
+    requires escapes { AreEscapes 128 (map (λ escape. escape.text) escapes.now) }
+    requires ascii { code < 128 }
+    ensures { result.now ≡ json_text (code ∷ []) }
 {
-    let last = code % 16;
-    let last = if last < 10 { b'0' + last } else { b'a' - 10 + last };
-    buffer.put(writer, &[b'\\', b'u', b'0', b'0', b'0' + code / 16, last]);
+    escapes[code as usize].as_ascii_str().as_bytes()
 }

@@ -1,12 +1,11 @@
-use Rattle.std.proofs.Common.{◌<◌, ◌≤◌, ◌∙◌, [], ◌++◌, length, take, arith, refl}
+use Rattle.std.proofs.Common.{◌<◌, ◌≤◌, ◌∙◌, ◌+◌, ap, [], ◌++◌, length, take, arith, refl}
 use Rattle.std.proofs.Common.{length-append, length-take-le}
 use Rattle.std.proofs.KnownBytes.{Consumes-nil}
 use Rattle.std.proofs.lemmas.Str.{IsAscii-append}
 use Rattle.std.proofs.lemmas.Str.Ascii.{IsAscii-nil}
-use Rattle.ascii_run.proofs.BoundedLemmas.{closes, gives_all, last_kept, opened}
-use Rattle.ascii_run.proofs.BoundedLemmas.{opening_fails, part_fails, part_written, prefix_written}
+use Rattle.ascii_run.proofs.BoundedLemmas.{closes, last_kept, opened, opening_fails, part_fails}
+use Rattle.ascii_run.proofs.BoundedLemmas.{part_written, prefix_written, read_fails, reads_counted}
 use Rattle.ascii_run.proofs.BoundedLemmas.{stops_there, too_long, whole_part}
-use Rattle.ascii_run.specs.Streamed.{front, stream}
 use Rattle.ascii_run.proofs.bounded.bounded_engine.Goals as goal
 
 pub returns-in_default-clause-outcome : goal.returns-in_default-clause-outcome
@@ -26,7 +25,7 @@ chunks-init g c =
         [],
         refl,
         Consumes-nil (g.S.Source.rest c.args.reader.now),
-        IsAscii-nil,
+        λ ascii. IsAscii-nil,
         c.in-Ok.ensures.kept.1 ∙ c.in_ok-output.ensures.1,
         opened c.args.mode c.in_ok-output.output.mode (g.K.Sink.taken c.args.writer.now)
             (g.K.Sink.taken c.open.new.writer) is c.in-Ok.ensures.passes.0,
@@ -35,17 +34,24 @@ chunks-init g c =
 
 pub returns-in_default-read-clause-outcome : goal.returns-in_default-read-clause-outcome
 returns-in_default-read-clause-outcome g c =
-    let (done, long, gave, ascii, last, wrote) = c.chunks.invariant.4 in (
-      front (stream c.args.mode) done,
-      g.S.Source.rest c.chunks.reader,
-      gives_all c.args.mode (g.S.Source.rest c.args.reader.now) (g.S.Source.rest c.chunks.reader)
-          done gave ascii,
-      wrote,
-    )
+    let (done, long, gave, input, last, wrote) = c.chunks.invariant.4 in
+    let rest = g.S.Source.rest in
+    let taken = g.K.Sink.taken in
+    read_fails c.args.mode c.chunks.output.mode c.chunks.output.last (rest c.args.reader.now)
+    (rest c.chunks.reader) (rest c.read.new.self) (taken c.args.writer.now)
+    (taken c.chunks.writer) (taken c.stop.new.writer) _ _ done c.stop.result
+    c.chunks.invariant.2 last gave input wrote c.stop.ensures
+
+pub returns-in_default-read-clause-read : goal.returns-in_default-read-clause-read
+returns-in_default-read-clause-read g c =
+    reads_counted c.args.mode c.chunks.output.mode c.chunks.output.last _ _ _ _
+    (g.S.Source.failures c.args.reader.now) (g.S.Source.failures c.read.new.self) c.stop.result
+    c.chunks.invariant.2 c.stop.ensures
+    (c.in_default-read.ensures.count ∙ ap (λ k. k + 1) c.chunks.invariant.0)
 
 pub returns-then-n-eq0-clause-outcome : goal.returns-then-n-eq0-clause-outcome
 returns-then-n-eq0-clause-outcome g c =
-    let (done, long, gave, ascii, last, wrote) = c.chunks.invariant.4 in
+    let (done, long, gave, input, last, wrote) = c.chunks.invariant.4 in
     let rest = g.S.Source.rest in
     let taken = g.K.Sink.taken in
     let none = c.if-n-eq0.true in
@@ -53,39 +59,44 @@ returns-then-n-eq0-clause-outcome g c =
     (rest c.chunks.reader) (rest c.read.new.self) (taken c.args.writer.now)
     (taken c.chunks.writer) (taken c.close.new.writer) _ _ done c.read.new.buf c.in-Ok-read.n
     c.close.result none c.chunks.invariant.2 last gave c.in-Ok-read.ensures.bytes.1
-    (c.in-Ok-read.ensures.end none) ascii wrote c.close.ensures.passes
+    (c.in-Ok-read.ensures.end none) input wrote c.close.ensures.passes
 
 pub returns-in_default-append-clause-outcome : goal.returns-in_default-append-clause-outcome
 returns-in_default-append-clause-outcome g c =
-    let (done, long, gave, ascii, last, wrote) = c.chunks.invariant.4 in
+    let (done, long, gave, input, last, wrote) = c.chunks.invariant.4 in
     let rest = g.S.Source.rest in
     let taken = g.K.Sink.taken in
     part_fails c.args.mode c.chunks.output.mode c.chunks.output.last (rest c.args.reader.now)
     (rest c.chunks.reader) (rest c.read.new.self) (taken c.args.writer.now)
     (taken c.chunks.writer) (taken c.append.new.writer) done (take c.in-Ok-read.n c.read.new.buf)
-    c.text_length-length.result c.chunks.invariant.2 last gave c.in-Ok-read.ensures.bytes.1 ascii
-    c.text_length-length.ensures.ascii wrote
+    c.text_length-length.result c.chunks.invariant.2 last gave c.in-Ok-read.ensures.bytes.1 input
+    c.text_length-length.ensures.input wrote
     (prefix_written _ _ _ _ _ c.in_default-append.field-0 c.in_default-append.ensures.passes)
 
 pub returns-in_default-checked_add-clause-outcome :
     goal.returns-in_default-checked_add-clause-outcome
 returns-in_default-checked_add-clause-outcome g c =
-    let (done, long, gave, ascii, last, wrote) = c.chunks.invariant.4 in
+    let (done, long, gave, input, last, wrote) = c.chunks.invariant.4 in
     let rest = g.S.Source.rest in
     let taken = g.K.Sink.taken in
     let n = c.text_length-length.result in
     let part = take c.in-Ok-read.n c.read.new.buf in
-    too_long c.args.mode (rest c.args.reader.now) (rest c.chunks.reader) (rest c.read.new.self)
-    (taken c.args.writer.now) (taken c.append.new.writer) done part c.chunks.position n long
-    c.text_length-length.ensures.within c.in_default-checked_add.ensures gave
-    c.in-Ok-read.ensures.bytes.1 ascii c.text_length-length.ensures.ascii
+    too_long c.args.mode c.append.new.self.mode c.append.new.self.last (rest c.args.reader.now)
+    (rest c.chunks.reader) (rest c.read.new.self) (taken c.args.writer.now)
+    (taken c.append.new.writer) (taken c.stop-in_default-checked_add.new.writer) _ _ done part c.chunks.position n
+    c.stop-in_default-checked_add.result (c.in-Ok-append.ensures.kept.0 ∙ c.chunks.invariant.2)
+    (last_kept c.append.new.self.last c.chunks.output.last done (take n part)
+    c.in-Ok-append.ensures.kept.1 last) long c.text_length-length.ensures.within
+    c.in_default-checked_add.ensures gave c.in-Ok-read.ensures.bytes.1 input
+    c.text_length-length.ensures.input
     (part_written c.args.mode c.chunks.output.mode c.chunks.output.last
     (taken c.args.writer.now) (taken c.chunks.writer) (taken c.append.new.writer) done
     (take n part) c.chunks.invariant.2 last wrote c.in-Ok-append.ensures.passes.0)
+    c.stop-in_default-checked_add.ensures
 
 pub returns-then-length-n-clause-outcome : goal.returns-then-length-n-clause-outcome
 returns-then-length-n-clause-outcome g c =
-    let (done, long, gave, ascii, last, wrote) = c.chunks.invariant.4 in
+    let (done, long, gave, input, last, wrote) = c.chunks.invariant.4 in
     let rest = g.S.Source.rest in
     let taken = g.K.Sink.taken in
     let n = c.text_length-length.result in
@@ -96,17 +107,23 @@ returns-then-length-n-clause-outcome g c =
       c.if-length-n.true,
       length-take-le c.in-Ok-read.n c.read.new.buf c.in-Ok-read.ensures.bytes.0,
     ) in
-    stops_there c.args.mode (rest c.args.reader.now) (rest c.chunks.reader)
-    (rest c.read.new.self) (taken c.args.writer.now) (taken c.append.new.writer) done part
-    c.chunks.position n c.in-Some.next long c.in-Some.ensures.1 gave
-    c.in-Ok-read.ensures.bytes.1 ascii (c.text_length-length.ensures.other inside)
+    stops_there c.args.mode c.append.new.self.mode c.append.new.self.last
+    (rest c.args.reader.now) (rest c.chunks.reader) (rest c.read.new.self)
+    (taken c.args.writer.now) (taken c.append.new.writer) (taken c.stop-then-length-n.new.writer) _ _ done part
+    c.chunks.position n c.in-Some.next c.stop-then-length-n.result
+    (c.in-Ok-append.ensures.kept.0 ∙ c.chunks.invariant.2)
+    (last_kept c.append.new.self.last c.chunks.output.last done (take n part)
+    c.in-Ok-append.ensures.kept.1 last) long c.in-Some.ensures.1 gave
+    c.in-Ok-read.ensures.bytes.1 input c.text_length-length.ensures.input
+    (c.text_length-length.ensures.other inside)
     (part_written c.args.mode c.chunks.output.mode c.chunks.output.last
     (taken c.args.writer.now) (taken c.chunks.writer) (taken c.append.new.writer) done
     (take n part) c.chunks.invariant.2 last wrote c.in-Ok-append.ensures.passes.0)
+    c.stop-then-length-n.ensures
 
 pub chunks-preserved : goal.chunks-preserved
 chunks-preserved g c =
-    let (done, long, gave, ascii, last, wrote) = c.chunks.invariant.4 in
+    let (done, long, gave, input, last, wrote) = c.chunks.invariant.4 in
     let rest = g.S.Source.rest in
     let taken = g.K.Sink.taken in
     let n = c.text_length-length.result in
@@ -133,7 +150,8 @@ chunks-preserved g c =
         ),
         whole_part (rest c.args.reader.now) (rest c.chunks.reader) (rest c.read.new.self) done
             part n all gave c.in-Ok-read.ensures.bytes.1,
-        IsAscii-append done text ascii c.text_length-length.ensures.ascii,
+        λ ascii. IsAscii-append done text (input ascii)
+            (c.text_length-length.ensures.input ascii),
         last_kept c.append.new.self.last c.chunks.output.last done text
             c.in-Ok-append.ensures.kept.1 last,
         part_written c.args.mode c.chunks.output.mode c.chunks.output.last

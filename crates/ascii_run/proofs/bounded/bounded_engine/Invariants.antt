@@ -1,7 +1,6 @@
 use Rattle.std.proofs.Common.{◌≡◌, ◌-◌, ◌^◌, List, ℕ, length}
 use Rattle.std.specs.Io.KnownBytes.{Appends, Consumes}
-use Rattle.std.specs.Str.{IsAscii}
-use Rattle.ascii_run.specs.Streamed.{front, last_after, stream}
+use Rattle.ascii_run.specs.Streamed.{IsInput, front, last_after, stream}
 use Rattle.ascii_devices.specs.Buffered.{IsReady}
 use Rattle.ascii_run.proofs.bounded.bounded_engine.Given as goal
 
@@ -13,7 +12,7 @@ invariant-chunks g l =
     × (l.output.mode ≡ l.fn.mode) × IsReady l.output.buffer
     × ((done : List ℕ) × (length done ≡ l.position)
     × Consumes (g.S.Source.rest l.fn.reader) (g.S.Source.rest l.reader) done
-    × IsAscii done × (l.output.last ≡ last_after 10 done)
+    × IsInput l.fn.mode done × (l.output.last ≡ last_after 10 done)
     × Appends (g.K.Sink.taken l.fn.writer) (g.K.Sink.taken l.writer) (front (stream l.fn.mode) done))
 
 -- the room left below the largest position
