@@ -106,6 +106,6 @@ FinishOutcome true old new (Err _) = SendsNothing old new × (new.failures ≡ o
 -- ---- cited by private functions only
 
 -- the state of a sink with no buffer before it
-abbrev pub sink_state : {K : Type 0} → Ghosts K → K → OutputState
-sink_state sink writer =
+abbrev pub unbuffered : {K : Type 0} → Ghosts K → K → OutputState
+unbuffered sink writer =
     output_state sink writer (record { bytes = []; size = 0; is_broken = false })

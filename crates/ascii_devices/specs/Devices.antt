@@ -1,5 +1,5 @@
 -- What a call of a device does to its count of failures and to its history.
-use Rattle.std.specs.Prelude.{◌≡◌, ℕ, ◌+◌, List, ◌∷◌, ◌++◌, ⊤, None, Some, MatchResult, map}
+use Rattle.std.specs.Prelude.{◌≡◌, ℕ, ◌+◌, List, [], ◌∷◌, ◌++◌, ⊤, None, Some, MatchResult, map}
 use Rattle.std.specs.declared.option.Option.{Option}
 use Rattle.std.specs.declared.result.Result.{Result}
 use Rattle.ascii_devices.specs.declared.log.Event.{Event}
@@ -32,3 +32,15 @@ read_of bytes = Read ∷ map Received bytes
 -- the events of a write that took these bytes
 abbrev pub write_of : List ℕ → List Event
 write_of bytes = map Sent bytes
+
+-- the bytes that were received by these events
+abbrev pub received_of : List Event → List ℕ
+received_of [] = []
+received_of (Received byte ∷ events) = byte ∷ received_of events
+received_of (other ∷ events) = received_of events
+
+-- the bytes that were sent by these events
+abbrev pub sent_of : List Event → List ℕ
+sent_of [] = []
+sent_of (Sent byte ∷ events) = byte ∷ sent_of events
+sent_of (other ∷ events) = sent_of events

@@ -1,4 +1,5 @@
 pub mod BufferCopy
 pub mod Buffered
 pub mod Devices
+pub mod States
 pub mod Wrapped

@@ -13,7 +13,7 @@ ghost use Rattle.std.specs.Prelude.{◌≡◌, ◌+◌, ◌<◌, ◌≤◌, ◌�
 ghost use Rattle.std.specs.Prelude.{length};
 ghost use Rattle.std.specs.Prelude.{take, vec_len};
 ghost use Rattle.ascii_devices.specs.Buffered.{AppendsTo, FinishOutcome, IsReady, MayFail};
-ghost use Rattle.ascii_devices.specs.Buffered.{Sends, SendsFront, output_state, sink_state};
+ghost use Rattle.ascii_devices.specs.Buffered.{Sends, SendsFront, output_state, unbuffered};
 ghost use Rattle.ascii_devices.specs.Devices.{CountsFault};
 
 use crate::buffer_copy::{FIXED, copy_at, copy_front};
@@ -281,10 +281,10 @@ pub fn zeros<A: Allocator>(alloc: A, count: usize) -> Result<Vec<u8, A>, AllocEr
 /// Writes all of the bytes, in as many writes as the writer needs.
 fn write_each<K: Sink>(writer: &mut K, bytes: &[u8]) -> Result<(), DeviceFault>
     requires { K.failures writer.old < u64.MAX }
-    ensures ok { OnOk result (Sends (sink_state K.Sink writer.old) (sink_state K.Sink writer.new)
+    ensures ok { OnOk result (Sends (unbuffered K.Sink writer.old) (unbuffered K.Sink writer.new)
         bytes.now) }
-    ensures err { OnErr result (SendsFront (sink_state K.Sink writer.old)
-        (sink_state K.Sink writer.new) bytes.now) }
+    ensures err { OnErr result (SendsFront (unbuffered K.Sink writer.old)
+        (unbuffered K.Sink writer.new) bytes.now) }
     ensures count { CountsFault (K.failures writer.old) (K.failures writer.new) result }
     ensures aside { K.aside writer.new ≡ K.aside writer.old }
 {

@@ -3,6 +3,7 @@ pub mod BoundedLemmas
 pub mod EditLemmas
 pub mod EndsOutputLemmas
 pub mod StreamedLemmas
+pub mod FrontOutputLemmas
 pub mod JsonTextLemmas
 pub mod LineFeedLemmas
 pub mod ListLemmas

@@ -1,7 +1,8 @@
 //! The front output of a bounded run: what is written of a text part by part, as it is read.
 
 ghost use Rattle.std.specs.Prelude.{◌≡◌, ℕ, List, ◌<◌, IfOk, OnOk};
-ghost use Rattle.ascii_run.specs.FrontOutput.{PassesOn, StopsWith};
+ghost use Rattle.ascii_run.specs.FrontOutput.{PassesOn, StopsWith, sink_of};
+ghost use Rattle.ascii_devices.specs.States.{sink_state};
 ghost use Rattle.ascii_devices.specs.Buffered.{AppendsBytes, IsReady, MayFail};
 ghost use Rattle.ascii_devices.specs.Buffered.{OutputState, output_state};
 ghost use Rattle.ascii_run.specs.Streamed.{last_after, stream};
@@ -56,8 +57,8 @@ impl<A: Allocator> FrontOutput<A> {
     pub(crate) fn open<K: Sink>(&mut self, writer: &mut K) -> Result<(), BoundedFault>
         requires ready { IsReady self.old.buffer }
         requires fail { K.failures writer.old < u64.MAX }
-        ensures passes { PassesOn (stream self.old.mode).opening (K.taken writer.old)
-            (K.failures writer.old) (K.taken writer.new) (K.failures writer.new) result }
+        ensures passes { PassesOn (stream self.old.mode).opening
+            (sink_state K.Sink writer.old) (sink_state K.Sink writer.new) result }
         ensures kept { (self.new.mode ≡ self.old.mode) × (self.new.last ≡ self.old.last) }
         ensures ready { OnOk result (IsReady self.new.buffer) }
     {
@@ -74,8 +75,7 @@ impl<A: Allocator> FrontOutput<A> {
         requires ready { IsReady self.old.buffer }
         requires fail { K.failures writer.old < u64.MAX }
         ensures passes { PassesOn ((stream self.old.mode).part self.old.last part.old)
-            (K.taken writer.old) (K.failures writer.old)
-            (K.taken writer.new) (K.failures writer.new) result }
+            (sink_state K.Sink writer.old) (sink_state K.Sink writer.new) result }
         ensures kept { (self.new.mode ≡ self.old.mode)
             × (self.new.last ≡ last_after self.old.last part.old) }
         ensures ready { OnOk result (IsReady self.new.buffer) }
@@ -90,8 +90,8 @@ impl<A: Allocator> FrontOutput<A> {
     pub(crate) fn close<K: Sink>(&mut self, writer: &mut K) -> Result<(), BoundedFault>
         requires ready { IsReady self.old.buffer }
         requires fail { K.failures writer.old < u64.MAX }
-        ensures passes { PassesOn ((stream self.old.mode).closing self.old.last) (K.taken writer.old)
-            (K.failures writer.old) (K.taken writer.new) (K.failures writer.new) result }
+        ensures passes { PassesOn ((stream self.old.mode).closing self.old.last)
+            (sink_state K.Sink writer.old) (sink_state K.Sink writer.new) result }
     {
         self.buffer.put(writer, self.mode.closing(self.last));
         pass_on(&mut self.buffer, writer)
@@ -102,8 +102,8 @@ impl<A: Allocator> FrontOutput<A> {
     pub(crate) fn stop<K: Sink>(&mut self, writer: &mut K, fault: BoundedFault) -> BoundedFault
         requires ready { IsReady self.old.buffer }
         requires fail { K.failures writer.old < u64.MAX }
-        ensures { StopsWith fault ((stream self.old.mode).cut self.old.last) (K.taken writer.old)
-            (K.failures writer.old) (K.taken writer.new) (K.failures writer.new) result }
+        ensures { StopsWith fault ((stream self.old.mode).cut self.old.last)
+            (sink_state K.Sink writer.old) (sink_state K.Sink writer.new) result }
     {
         let bytes = self.mode.cut(self.last);
         if bytes.is_empty() {
@@ -125,8 +125,7 @@ fn pass_on<K: Sink, A: Allocator>(
     requires { MayFail (output_state K.Sink writer.old buffer.old) }
     ensures passes { (start : OutputState) (bytes : List ℕ) → IsReady start.buffer
         → AppendsBytes start (output_state K.Sink writer.old buffer.old) bytes
-        → PassesOn bytes start.taken start.failures (K.taken writer.new) (K.failures writer.new)
-        result }
+        → PassesOn bytes (sink_of start) (sink_state K.Sink writer.new) result }
     ensures ready { OnOk result (IsReady buffer.new) }
 {
     match buffer.finish(writer) {

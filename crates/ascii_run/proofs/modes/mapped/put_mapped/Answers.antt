@@ -1,9 +1,13 @@
-use Rattle.std.proofs.Common.{◌+◌, ◌++◌, take, get_or}
+use Rattle.std.proofs.Common.{[], ◌+◌, ◌++◌, take, get_or, refl}
 use Rattle.std.specs.List.{flat_map}
 use Rattle.ascii_run.proofs.PlainRunLemmas.{shown_all, shown_more}
-use Rattle.ascii_devices.proofs.BufferedLemmas.{MayFail-still, AppendsBytes-is, AppendsBytes-trans}
+use Rattle.ascii_devices.proofs.BufferedLemmas.{AppendsBytes-is, AppendsBytes-nil}
+use Rattle.ascii_devices.proofs.BufferedLemmas.{AppendsBytes-trans, MayFail-still}
 use Rattle.ascii_run.proofs.ListLemmas.{sent_more}
 use Rattle.ascii_run.proofs.modes.mapped.put_mapped.Goals as goal
+
+pub segments-init : goal.segments-init
+segments-init g c = (c.requires.fail, ([], refl, AppendsBytes-nil _))
 
 pub segments-preserved : goal.segments-preserved
 segments-preserved g c =
