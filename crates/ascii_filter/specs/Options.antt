@@ -1,5 +1,5 @@
 -- The options of the program: the task that the words of a call ask for.
-use Rattle.std.specs.Prelude.{◌≡◌, ◌⊎◌, ℕ, ◌^◌, ◌-◌, ◌<◌, ◌≤◌, List, [], codes, length}
+use Rattle.std.specs.Prelude.{◌≡◌, ◌≢◌, ◌⊎◌, ℕ, ◌^◌, ◌-◌, ◌<◌, ◌≤◌, List, [], codes, length}
 use Rattle.std.specs.Prelude.{Bool, true, false, if◌then◌else◌, option_map, unwrap_or}
 use Rattle.std.specs.Borrow.{Bor}
 use Rattle.std.specs.declared.result.Result.{Result}
@@ -8,25 +8,11 @@ use Rattle.std.specs.declared.option.Option.{Option}
 use Rattle.std.specs.declared.option.Option.TheVariants.{None, Some}
 use Rattle.clap.specs.declared.parser.matches.Found.{Found}
 use Rattle.clap.specs.Words.{first_value, matched_of, one_text, raw_values}
-use Rattle.ascii_run.specs.declared.bounded.BoundedMode.{BoundedMode}
-use Rattle.ascii_run.specs.declared.bounded.BoundedMode.TheVariants.{Copy, Lines, Caret, Json}
-use Rattle.ascii_run.specs.declared.bounded.BoundedMode.TheVariants.{Upper, Lower}
+use Rattle.ascii_run.specs.Names.{IsBoundedName, bounded_name}
+use Rattle.ascii_run.specs.declared.bounded.BoundedMode.TheVariants.{Json}
 use Rattle.ascii_filter.specs.declared.options.Options.{Options}
 use Rattle.ascii_filter.specs.declared.options.Task.{Task}
 use Rattle.ascii_filter.specs.declared.options.Task.TheVariants.{Filter, Check}
-
--- the name of a mode
-abbrev pub mode_name : BoundedMode → List ℕ
-mode_name Copy = codes "copy"
-mode_name Lines = codes "lines"
-mode_name Caret = codes "caret"
-mode_name Json = codes "json"
-mode_name Upper = codes "upper"
-mode_name Lower = codes "lower"
-
--- the word is the name of a mode
-abbrev pub IsModeName : List ℕ → Type 0
-IsModeName word = (mode : BoundedMode) × (word ≡ mode_name mode)
 
 -- a flag is as its value says, and not set if it has none
 abbrev pub IsFlagOf : Option (List ℕ) → Bool → Type 0
@@ -51,14 +37,17 @@ HasNoOptionOfCheck options =
 -- the outcome of the options: the task, or the line that says what is wrong with them
 abbrev pub TaskOutcome : Options → Result Task (Bor (List ℕ)) → Type 0
 TaskOutcome options (Ok (Filter mode)) =
-    (options.mode.now ≡ mode_name mode) × HasNoOptionOfCheck options
+    (options.mode.now ≡ bounded_name mode) × HasNoOptionOfCheck options
     × (mode ≡ Json → options.files ≤ 1)
 TaskOutcome options (Ok (Check check)) =
-    (¬ (IsModeName options.mode.now)) × (check.is_count ≡ options.is_count)
+    (options.mode.now ≡ codes "check") × (check.is_count ≡ options.is_count)
     × (check.is_quiet ≡ options.is_quiet)
     × (check.most ≡ if options.is_quiet then 1 else unwrap_or options.max (2 ^ 64 - 1))
 TaskOutcome options (Err line) =
-    ((line.now ≡ codes "ascii_filter: --count, --max and --quiet are options of check\n")
-    × IsModeName options.mode.now × ¬ (HasNoOptionOfCheck options))
+    ((line.now ≡ codes "ascii_filter: there is no such mode\n")
+    × (options.mode.now ≢ codes "check") × ¬ (IsBoundedName options.mode.now))
+    ⊎ (((line.now ≡ codes "ascii_filter: --count, --max and --quiet are options of check\n")
+    × IsBoundedName options.mode.now × ¬ (HasNoOptionOfCheck options))
     ⊎ ((line.now ≡ codes "ascii_filter: json takes one input\n")
-    × (options.mode.now ≡ mode_name Json) × HasNoOptionOfCheck options × (1 < options.files))
+    × (options.mode.now ≡ bounded_name Json) × HasNoOptionOfCheck options
+    × (1 < options.files)))

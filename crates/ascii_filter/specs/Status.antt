@@ -1,12 +1,13 @@
 -- The statuses of the program, and what an answer says of its input.
-use Rattle.std.specs.Prelude.{ℕ, ◌≡◌, List, ⊤, IfSome, length}
-use Rattle.std.specs.Str.{IsAscii}
+use Rattle.std.specs.Prelude.{ℕ, ◌≡◌, List, ⊤, IfSome, false, length}
 use Rattle.std.specs.declared.option.Option.{Option}
 use Rattle.std.specs.declared.result.Result.{Result}
 use Rattle.std.specs.declared.result.Result.TheVariants.{Ok, Err}
 use Rattle.std.specs.IoError.{error_kind}
 use Rattle.std.specs.declared.io.ErrorKind.TheVariants.{BrokenPipe}
 use Rattle.ascii.specs.Bytes.{FirstOther}
+use Rattle.ascii_run.specs.Streamed.{IsInput, takes_all}
+use Rattle.ascii_run.specs.declared.bounded.BoundedMode.{BoundedMode}
 use Rattle.ascii_filter.specs.declared.failure.Failure.{Failure}
 use Rattle.ascii_filter.specs.declared.failure.Failure.TheVariants.{NotAscii, Output}
 
@@ -25,9 +26,11 @@ abbrev pub IsClosedPipe : Failure → Type 0
 IsClosedPipe (Output error) = error_kind error ≡ BrokenPipe
 IsClosedPipe other = ⊥
 
--- an input may be answered so, if its bytes are known. `Ok`: they are ASCII. `NotAscii`: it holds
--- the position of the first non-ASCII byte
-abbrev pub MayAnswer : Option (List ℕ) → Result (Unit {0}) Failure → Type 0
-MayAnswer known (Ok _) = IfSome known IsAscii
-MayAnswer known (Err (NotAscii n)) = IfSome known (λ bytes. FirstOther bytes 0 (length bytes) n)
-MayAnswer known (Err other) = ⊤
+-- an input may be answered so by a mode, if its bytes are known. `Ok`: they are ASCII, unless the
+-- mode takes all bytes. `NotAscii`: it does not, and the error holds the position of the first
+-- non-ASCII byte
+abbrev pub MayAnswer : BoundedMode → Option (List ℕ) → Result (Unit {0}) Failure → Type 0
+MayAnswer mode known (Ok _) = IfSome known (IsInput mode)
+MayAnswer mode known (Err (NotAscii n)) =
+    (takes_all mode ≡ false) × IfSome known (λ bytes. FirstOther bytes 0 (length bytes) n)
+MayAnswer mode known (Err other) = ⊤

@@ -14,7 +14,7 @@ use check::name_others;
 use clap::error::ErrorKind;
 use clap::{ArgMatches, Error};
 use failure::Failure;
-use options::{Check, STANDARD_INPUT, Task, command, options_of, task_of};
+use options::{Check, STANDARD_INPUT, Task, command, mode_names, options_of, task_of};
 use std::alloc::{AllocError, Allocator};
 use std::process::ExitCode;
 use std::{env, fs, io};
@@ -27,7 +27,7 @@ fn filter<A: Allocator + Copy, I: io::Read + Drop, O: io::Write + Drop>(
     input: I,
     output: O,
 ) -> Result<(), Failure>
-    ensures { MayAnswer (I.remaining input) result }
+    ensures { MayAnswer mode (I.remaining input) result }
 {
     let mut reader = Input::new(input);
     let mut writer = Output::new(output);
@@ -141,7 +141,8 @@ fn run_matches(rt: &HostRuntime, matches: &ArgMatches<'_>) -> Result<u8, AllocEr
 
 /// Parses the arguments, before any input is read, and runs them.
 fn run_words(rt: &HostRuntime, words: &[String]) -> Result<u8, AllocError> {
-    match command(rt.alloc())?.try_get_matches_from(words) {
+    let names = mode_names(rt.alloc())?;
+    match command(rt.alloc(), &names)?.try_get_matches_from(words) {
         Ok(matches) => run_matches(rt, &matches),
         Err(error) if matches!(error.kind(), ErrorKind::OutOfMemory) => Err(AllocError),
         Err(error) => Ok(print_error(rt, &error)),

@@ -1,8 +1,8 @@
 //! The options of the program.
 
-ghost use Rattle.std.specs.Prelude.{◌≡◌, MatchOption};
+ghost use Rattle.std.specs.Prelude.{◌≡◌};
 ghost use Rattle.clap.specs.Words.{found_of};
-ghost use Rattle.ascii_filter.specs.Options.{AreOptionsOf, IsModeName, TaskOutcome, mode_name};
+ghost use Rattle.ascii_filter.specs.Options.{AreOptionsOf, TaskOutcome};
 
 use ascii_run::BoundedMode;
 use clap::builder::ValueParser;
@@ -12,8 +12,8 @@ use std::alloc::{AllocError, Global};
 /// What the program calls standard input.
 pub const STANDARD_INPUT: &str = "(standard input)";
 
-/// The names of the modes.
-static MODES: [&str; 7] = ["copy", "lines", "caret", "json", "upper", "lower", "check"];
+/// The name of the mode that names each non-ASCII byte. The others are those of the library.
+const CHECK: &str = "check";
 
 /// What `check` writes of each input.
 #[derive(Clone, Copy)]
@@ -73,13 +73,16 @@ pub fn task_of(options: Options<'_>) -> Result<Task, &'static str>
         max,
         ..
     } = options;
-    let Some(mode) = mode_of(options.mode) else {
+    if options.mode == CHECK {
         let most = if is_quiet { 1 } else { max.unwrap_or(u64::MAX) };
         return Ok(Task::Check(Check {
             most,
             is_count,
             is_quiet,
         }));
+    }
+    let Some(mode) = BoundedMode::from_name(options.mode) else {
+        return Err("ascii_filter: there is no such mode\n");
     };
     if is_count || is_quiet || max.is_some() {
         return Err("ascii_filter: --count, --max and --quiet are options of check\n");
@@ -90,27 +93,22 @@ pub fn task_of(options: Options<'_>) -> Result<Task, &'static str>
     Ok(Task::Filter(mode))
 }
 
-/// The mode with a name, or `None` for any other word.
-fn mode_of(name: &str) -> Option<BoundedMode>
-    ensures { MatchOption result (¬ (IsModeName name.now)) (λ mode. name.now ≡ mode_name mode) }
-{
-    match name {
-        "copy" => Some(BoundedMode::Copy),
-        "lines" => Some(BoundedMode::Lines),
-        "caret" => Some(BoundedMode::Caret),
-        "json" => Some(BoundedMode::Json),
-        "upper" => Some(BoundedMode::Upper),
-        "lower" => Some(BoundedMode::Lower),
-        _ => None,
+/// The names of the modes, in the order of the help.
+pub fn mode_names(alloc: Global) -> Result<Vec<&'static str>, AllocError> {
+    let mut names = Vec::new(alloc);
+    for mode in BoundedMode::all() {
+        names.push(mode.name())?;
     }
+    names.push(CHECK)?;
+    Ok(names)
 }
 
-/// The command line of the program.
-pub fn command<'a>(alloc: Global) -> Result<Command<'a>, AllocError> {
+/// The command line of the program, with these names of modes.
+pub fn command<'a>(alloc: Global, names: &'a [&'a str]) -> Result<Command<'a>, AllocError> {
     let mode = Arg::new(alloc, "MODE")
         .required(true)
         .action(ArgAction::Set)
-        .value_parser(MODES.as_slice())
+        .value_parser(names)
         .help("What is written of each input");
     let files = Arg::new(alloc, "FILE")
         .action(ArgAction::Append)
