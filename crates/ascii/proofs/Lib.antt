@@ -5,11 +5,13 @@ pub mod ChunkLemmas
 pub mod CutLemmas
 pub mod DebugLemmas
 pub mod EndedLemmas
+pub mod EndingsLemmas
 pub mod EndsLemmas
 mod Examples
 pub mod ExtendLemmas
 pub mod FoldLemmas
 pub mod JsonLemmas
+pub mod LinesByLemmas
 pub mod LinesLemmas
 pub mod ListLemmas
 pub mod NumbersLemmas

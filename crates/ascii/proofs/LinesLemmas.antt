@@ -15,6 +15,9 @@ use Rattle.ascii.specs.declared.iter.spans.Ending.{Ending}
 use Rattle.ascii.specs.declared.iter.spans.Ending.TheVariants.{Lf, CrLf, Absent}
 use Rattle.ascii.specs.Found.{HasNo, IsEndedBy, terminated_line, ends_in_cr, lines_of}
 use Rattle.ascii.specs.Found.{lines_of_pieces, pieces_of}
+use Rattle.ascii.specs.declared.iter.spans.Endings.{Endings}
+use Rattle.ascii.specs.declared.iter.spans.Endings.TheVariants as by
+use Rattle.ascii.specs.Lines.{IsBody, LinesEndedBy, MayEnd}
 use Rattle.ascii.specs.Lines.{EndsInCr, Line, LinesOf, MayFollow, ending_text, line_text}
 use Rattle.ascii.proofs.ListLemmas.{append-some, front_is}
 use Rattle.ascii.proofs.PiecesLemmas.{HasNo-from_absent, absent-from_Free, all_free}
@@ -22,8 +25,8 @@ use Rattle.ascii.proofs.PiecesLemmas.{length-pieces_of, pieces_of-free, slice_sp
 use Rattle.ascii.proofs.PiecesLemmas.{slice_split-some}
 
 -- the ending of a line may follow its body
-abbrev MayEnd : Line → Type 0
-MayEnd line = MayFollow line.ending line.body
+abbrev Follows : Line → Type 0
+Follows line = MayFollow line.ending line.body
 
 -- ---- how the lines of pieces break
 
@@ -76,8 +79,8 @@ line_text-ended p = ended_cases p (λ line. line_text line ≡ p ++ 10 ∷ [])
     ∙ append_assoc (take (length p - 1) p) (13 ∷ []) (10 ∷ [])))
     (λ is. refl)
 
-MayEnd-ended : (p : List ℕ) → MayEnd (terminated_line p)
-MayEnd-ended p = ended_cases p MayEnd (λ is. tt)
+MayEnd-ended : (p : List ℕ) → Follows (terminated_line p)
+MayEnd-ended p = ended_cases p Follows (λ is. tt)
     (λ is ends. eqb-false _ 13 is (get_or_from_slice_get p (length p - 1) 13 0 ends))
 
 terminated_line-has : (p : List ℕ) → (terminated_line p).ending ≢ Absent
@@ -91,43 +94,43 @@ body-free p free = ended_cases p (λ line. HasNo 10 line.body)
 -- ---- the one list
 
 -- a line before others, which has an ending unless there are none
-LinesOf-cons : (line : Line) (text : List ℕ) (lines : List Line) → HasNo 10 line.body → MayEnd line
-    → (line.ending ≡ Absent → lines ≡ []) → LinesOf text lines
-    → LinesOf (line_text line ++ text) (line ∷ lines)
-LinesOf-cons line text lines free may last others = record {
-  bodies = All-cons (λ one. ¬ (Contains one.body 10)) line lines
-      (absent-from_Free 10 line.body free) others.bodies;
-  endings = All-cons MayEnd line lines may others.endings;
+pub LinesEndedBy-cons : (kind : Endings) (line : Line) (text : List ℕ) (lines : List Line)
+    → IsBody kind line.body → MayEnd kind line.ending line.body
+    → (line.ending ≡ Absent → lines ≡ []) → LinesEndedBy kind text lines
+    → LinesEndedBy kind (line_text line ++ text) (line ∷ lines)
+LinesEndedBy-cons kind line text lines body may last others = record {
+  bodies = All-cons (λ one. IsBody kind one.body) line lines body others.bodies;
+  endings = All-cons (λ one. MayEnd kind one.ending one.body) line lines may others.endings;
   ended = front lines last others.ended;
   joined = ap (λ t. line_text line ++ t) others.joined;
 }
   where
-    Ended : Line → Type 0
-    Ended one = one.ending ≢ Absent
-
     front : (ls : List Line) → (line.ending ≡ Absent → ls ≡ [])
-        → All Ended (take (length ls - 1) ls)
-        → All Ended (take (length (line ∷ ls) - 1) (line ∷ ls))
-    front [] last ended = All-nil Ended
+        → All (λ one. one.ending ≢ Absent) (take (length ls - 1) ls)
+        → All (λ one. one.ending ≢ Absent) (take (length (line ∷ ls) - 1) (line ∷ ls))
+    front [] last ended = All-nil _
     front (next ∷ ls) last ended = rw (front_is line next ls)
-        (All-cons Ended line (take (length (next ∷ ls) - 1) (next ∷ ls))
-        (λ none. let some = last none in cc) ended)
+        (All-cons (λ one. one.ending ≢ Absent) line
+        (take (length (next ∷ ls) - 1) (next ∷ ls)) (λ none. let some = last none in cc) ended)
 
-LinesOf-none : LinesOf [] []
-LinesOf-none =
+pub LinesEndedBy-nil : (kind : Endings) → LinesEndedBy kind [] []
+LinesEndedBy-nil kind =
     record { bodies = All-nil _; endings = All-nil _; ended = All-nil _; joined = refl }
 
 LinesOf-pieces : (ps : List (List ℕ)) → ps ≢ [] → All (HasNo 10) ps
     → LinesOf (join_with_byte 10 ps) (lines_of_pieces ps)
 LinesOf-pieces [] some free = absurd (some refl)
-LinesOf-pieces ([] ∷ []) some free = LinesOf-none
+LinesOf-pieces ([] ∷ []) some free = LinesEndedBy-nil by.Any
 LinesOf-pieces ((x ∷ xs) ∷ []) some free =
     rw (append-nil ((x ∷ xs) ++ []), append-nil (x ∷ xs)) at (
-    LinesOf-cons (record { body = x ∷ xs; ending = Absent }) [] [] (free 0 [] (omega arith))
-    (λ none. cc) (λ is. refl) LinesOf-none)
+    LinesEndedBy-cons by.Any (record { body = x ∷ xs; ending = Absent }) [] []
+    (absent-from_Free 10 (x ∷ xs) (free 0 [] (omega arith)))
+    (λ none. cc) (λ is. refl) (LinesEndedBy-nil by.Any))
 LinesOf-pieces (p ∷ q ∷ qs) some free =
     rw (line_text-ended p, append_assoc) at
-    (LinesOf-cons (terminated_line p) _ _ (body-free p (free 0 [] (omega arith))) (MayEnd-ended p)
+    (LinesEndedBy-cons by.Any (terminated_line p) _ _
+    (absent-from_Free 10 ((terminated_line p).body) (body-free p (free 0 [] (omega arith))))
+    (MayEnd-ended p)
     (λ is. absurd (terminated_line-has p is))
     (LinesOf-pieces (q ∷ qs) (λ none. cc) (All-tail (HasNo 10) p (q ∷ qs) free)))
 
@@ -174,7 +177,7 @@ found_line body Absent others absent may last =
 
 -- lines with such endings are found again when they are joined
 lines_of-joined : (lines : List Line) → All (λ line. ¬ (Contains line.body 10)) lines
-    → All MayEnd lines
+    → All Follows lines
     → All (λ line. line.ending ≢ Absent) (take (length lines - 1) lines)
     → lines_of (flat_map line_text lines) ≡ lines
 lines_of-joined [] absent may ended = refl
@@ -188,7 +191,7 @@ lines_of-joined (line ∷ next ∷ others) absent may ended =
     (λ is. absurd (front 0 line (omega arith) is))
     ∙ ap (λ ls. line ∷ ls) (lines_of-joined (next ∷ others)
     (All-tail (λ one. ¬ (Contains one.body 10)) line (next ∷ others) absent)
-    (All-tail MayEnd line (next ∷ others) may)
+    (All-tail Follows line (next ∷ others) may)
     (All-tail Ended line (take (length (next ∷ others) - 1) (next ∷ others)) front))
 
 -- no other list is in the relation

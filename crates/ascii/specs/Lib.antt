@@ -6,6 +6,7 @@ pub mod ConversionError
 pub mod Cow
 pub mod Cuts
 pub mod Ended
+pub mod Endings
 pub mod Extend
 pub mod First
 pub mod Folded

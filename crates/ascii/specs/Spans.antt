@@ -4,9 +4,11 @@ use Rattle.std.specs.Prelude.{Option, MatchOption}
 use Rattle.ascii_base.specs.declared.ascii_char.AsciiChar.{AsciiChar}
 use Rattle.ascii_base.specs.Code.{code_of}
 use Rattle.ascii.specs.declared.ascii_str.AsciiStr.{AsciiStr}
+use Rattle.ascii.specs.declared.iter.spans.Endings.{Endings}
+use Rattle.ascii.specs.declared.iter.spans.Endings.TheVariants as by
 use Rattle.ascii.specs.declared.iter.spans.LineSpan.{LineSpan}
 use Rattle.ascii.specs.declared.iter.spans.SplitSpan.{SplitSpan}
-use Rattle.ascii.specs.Lines.{Line, LinesOf, line_text}
+use Rattle.ascii.specs.Lines.{Line, LinesEndedBy, line_text}
 use Rattle.ascii.specs.Pieces.{IsUnique, Pieces, Remaining}
 use Rattle.ascii.specs.View.{text_of}
 
@@ -43,10 +45,15 @@ pub record PieceSpans (start : ℕ) (text : List ℕ) (on : ℕ) (spans : List (
   pub pieces : Pieces text on (items_of spans)
   pub starts : spans ≡ with_starts piece_size start (items_of spans)
 
--- the items of `spans` are the lines of `text`, laid end to end from `start`
-pub record LineSpansOf (start : ℕ) (text : List ℕ) (spans : List (WithStart Line)) : Type 0 where
-  pub lines : LinesOf text (items_of spans)
+-- the items of `spans` are the lines of `text` by `kind`, laid end to end from `start`
+pub record LineSpansEndedBy (kind : Endings) (start : ℕ) (text : List ℕ)
+    (spans : List (WithStart Line)) : Type 0 where
+  pub lines : LinesEndedBy kind text (items_of spans)
   pub starts : spans ≡ with_starts line_size start (items_of spans)
+
+-- the items of `spans` are the lines of `text`, laid end to end from `start`
+abbrev pub LineSpansOf : ℕ → List ℕ → List (WithStart Line) → Type 0
+LineSpansOf = LineSpansEndedBy by.Any
 
 -- `Holds` is true of a list that is the pieces of the view at `on`, with starts counted from 0
 abbrev pub OfPieceSpans : AsciiStr → AsciiChar → (List (WithStart (List ℕ)) → Type 0) → Type 0

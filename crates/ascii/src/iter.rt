@@ -51,7 +51,7 @@ pub use ended::{
 };
 pub use items::{Cut, CutBack, Items, Spans};
 pub use lines::{LineSpans, Lines};
-pub use spans::{Ending, LineSpan, SplitSpan};
+pub use spans::{Ending, Endings, LineSpan, SplitSpan};
 pub use split::{AtChar, Split, SplitSpans};
 pub use split_n::SplitN;
 pub use walks::{End, take_end, walk_line_spans, walk_lines, walk_split, walk_split_spans};

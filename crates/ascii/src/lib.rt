@@ -39,6 +39,7 @@ pub mod chunks;
 mod collect;
 mod conversions;
 mod copies;
+pub mod endings;
 mod errors;
 pub mod folded;
 mod folded_search;

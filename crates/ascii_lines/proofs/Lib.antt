@@ -1,5 +1,3 @@
-pub mod EndedLemmas
-pub mod EndingsLemmas
 pub mod HistoryLemmas
 pub mod LineBufferLemmas
 pub mod LineReaderLemmas

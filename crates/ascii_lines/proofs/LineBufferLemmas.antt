@@ -11,9 +11,9 @@ use Rattle.std.proofs.lemmas.Slice.{between_is}
 use Rattle.ascii.specs.Bytes.{FirstOther}
 use Rattle.ascii.proofs.ListLemmas.{length-slice_range, slice_range-at}
 use Rattle.ascii_lines.specs.LineBuffer.{IsLaidOut}
-use Rattle.ascii_lines.specs.declared.endings.Endings.{Endings}
-use Rattle.ascii_lines.specs.Endings.{IsFirstStop, FreeUpTo}
-use Rattle.ascii_lines.proofs.EndingsLemmas.{AgreeUpTo, IsFirstStop-same, FreeUpTo-same}
+use Rattle.ascii.specs.declared.iter.spans.Endings.{Endings}
+use Rattle.ascii.specs.Endings.{IsFirstStop, FreeUpTo}
+use Rattle.ascii.proofs.EndingsLemmas.{AgreeUpTo, IsFirstStop-same, FreeUpTo-same}
 
 -- a byte of a part, by its position in the whole
 at_place : (bytes : List ℕ) (s e k : ℕ) → s ≤ k → k < e

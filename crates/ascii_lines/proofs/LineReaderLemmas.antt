@@ -17,7 +17,7 @@ use Rattle.std.proofs.lemmas.List.Elements.{All-append, All-map, All-nil, All-ta
 use Rattle.ascii.specs.declared.iter.spans.Ending.TheVariants.{Absent}
 use Rattle.ascii.specs.Lines.{Line, line_text}
 use Rattle.ascii.specs.Spans.{WithStart, items_of, line_size, with_starts}
-use Rattle.ascii_lines.specs.declared.endings.Endings.{Endings}
+use Rattle.ascii.specs.declared.iter.spans.Endings.{Endings}
 use Rattle.ascii_lines.specs.declared.line_reader.LineError.{LineError}
 use Rattle.ascii_lines.specs.declared.line_reader.LineError.TheVariants.{LoneBreak, Read, TooFar}
 use Rattle.ascii_lines.specs.declared.line_reader.LineError.TheVariants.{TooLong}
@@ -27,15 +27,19 @@ use Rattle.ascii_lines.specs.declared.line_reader.Stage.TheVariants.{Open, Ended
 use Rattle.ascii_lines.specs.LineReader.{YieldsLines, IsDone, IsHeldThenRead, Next, NextFrom}
 use Rattle.ascii_lines.specs.LineReader.{FindsLineEnd, IsLineError, IsLineTaken, ReaderState}
 use Rattle.ascii_lines.specs.LineReader.{TakesLine, read_line_in, state_of_reader}
-use Rattle.ascii_lines.specs.Endings.{FindsLoneBreak, FreeUpTo, IsBody, IsCrLfAt, IsFirstStop}
-use Rattle.ascii_lines.specs.Endings.{IsLoneBreak, IsWhole, LineSpansEndedBy, LinesEndedBy, MayEnd}
-use Rattle.ascii_lines.specs.Endings.{any_text}
-use Rattle.ascii_lines.specs.declared.endings.Endings.TheVariants.{CrLfStrict}
+use Rattle.ascii.specs.Endings.{FindsLoneBreak, FreeUpTo, IsFirstStop}
+use Rattle.ascii.specs.Lines.{IsBody, IsCrLfAt}
+use Rattle.ascii_lines.specs.LineReader.{IsLoneBreak}
+use Rattle.ascii.specs.Endings.{IsWhole}
+use Rattle.ascii.specs.Spans.{LineSpansEndedBy}
+use Rattle.ascii.specs.Lines.{LinesEndedBy, MayEnd}
+use Rattle.ascii.specs.Endings.{any_text}
+use Rattle.ascii.specs.declared.iter.spans.Endings.TheVariants.{CrLfStrict}
 use Rattle.std.proofs.Math.ListN.{get_or-append}
 use Rattle.std.proofs.Common.{◌<◌, ◌^◌, get_or}
 use Rattle.std.proofs.lemmas.Bool.{cases_lt}
-use Rattle.ascii_lines.proofs.EndingsLemmas.{IsFirstStop-same, FreeUpTo-more}
-use Rattle.ascii_lines.proofs.EndedLemmas.{any_text_spans, no_cr_below, some_spans}
+use Rattle.ascii.proofs.EndingsLemmas.{IsFirstStop-same, FreeUpTo-more}
+use Rattle.ascii.proofs.LinesByLemmas.{any_text_spans, no_cr_below, some_spans}
 
 -- a text is read in two parts
 pub IsHeldThenRead-more : (held : List ℕ) (rest mid left : Option (List ℕ)) (text more : List ℕ)

@@ -9,9 +9,9 @@ use Rattle.std.specs.List.{flat_map}
 use Rattle.ascii.specs.declared.iter.spans.Ending.{Ending}
 use Rattle.ascii.specs.declared.iter.spans.Ending.TheVariants.{Absent, CrLf, Lf}
 use Rattle.ascii.specs.Lines.{Line, MayFollow, ending_text, line_text}
-use Rattle.ascii_lines.specs.declared.endings.Endings.{Endings}
-use Rattle.ascii_lines.specs.Endings.{LinesEndedBy}
-use Rattle.ascii_lines.proofs.EndedLemmas.{MayFollow-ended}
+use Rattle.ascii.specs.declared.iter.spans.Endings.{Endings}
+use Rattle.ascii.specs.Lines.{LinesEndedBy}
+use Rattle.ascii.proofs.LinesByLemmas.{MayFollow-ended}
 use Rattle.ascii.specs.Spans.{WithStart, items_of, line_size, with_starts}
 use Rattle.ascii.specs.View.{text_of}
 use Rattle.ascii_lines.specs.declared.line_reader.LineError.{LineError}

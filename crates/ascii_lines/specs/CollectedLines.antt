@@ -3,7 +3,9 @@ use Rattle.std.specs.Prelude.{◌≡◌, ℕ, List, [], ◌++◌, map, None, Som
 use Rattle.std.specs.declared.option.Option.{Option}
 use Rattle.ascii.specs.Lines.{Line}
 use Rattle.ascii.specs.Spans.{WithStart, items_of}
-use Rattle.ascii_lines.specs.Endings.{IsBody, LineSpansEndedBy, any_text}
+use Rattle.ascii.specs.Lines.{IsBody}
+use Rattle.ascii.specs.Spans.{LineSpansEndedBy}
+use Rattle.ascii.specs.Endings.{any_text}
 use Rattle.std.specs.List.{All}
 use Rattle.ascii_lines.specs.declared.line_reader.LineError.{LineError}
 use Rattle.ascii_lines.specs.declared.owned_lines.OwnedLine.{OwnedLine}

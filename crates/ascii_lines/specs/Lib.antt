@@ -1,5 +1,4 @@
 pub mod CollectedLines
-pub mod Endings
 pub mod Errors
 pub mod History
 pub mod LineBuffer
@@ -7,6 +6,7 @@ pub mod LineReader
 pub mod LineWriter
 pub mod Serve
 pub mod WriteBuffer
+pub use Rattle.ascii.specs.Endings
 pub use Rattle.ascii.specs.Lines
 pub use Rattle.ascii.specs.Spans
 pub use Rattle.ascii.specs.StringState

@@ -1,6 +1,7 @@
 -- What a line reader reads and yields, and the errors it returns.
 use Rattle.std.specs.Prelude.{◌≡◌, ◌≢◌, ◌⊎◌, ℕ, ◌+◌, ◌-◌, ◌^◌, ◌<◌, ◌≤◌, Bool, true, false, List}
 use Rattle.std.specs.Prelude.{[], ◌∷◌, ◌++◌, ⊤, if◌then◌else◌, nat_lt, length, min, take, Ok, Err}
+use Rattle.std.specs.Prelude.{slice_index}
 use Rattle.std.specs.Prelude.{None, Some}
 use Rattle.std.specs.Io.KnownBytes.{Consumes, IsAtEnd}
 use Rattle.std.specs.List.{All}
@@ -9,14 +10,13 @@ use Rattle.std.specs.declared.option.Option.{Option}
 use Rattle.std.specs.declared.result.Result.{Result}
 use Rattle.ascii.specs.declared.iter.spans.Ending.TheVariants.{Absent}
 use Rattle.ascii.specs.Lines.{Line}
-use Rattle.ascii.specs.Spans.{WithStart, line_size}
+use Rattle.ascii.specs.Spans.{LineSpansEndedBy, WithStart, line_size}
 use Rattle.ascii.specs.View.{text_of}
 use Rattle.ascii.specs.Bytes.{FirstOther}
-use Rattle.ascii_lines.specs.Endings.{FreeUpTo, IsFirstStop, IsLoneBreak, IsWhole}
-use Rattle.ascii_lines.specs.Endings.{LineSpansEndedBy}
+use Rattle.ascii.specs.Endings.{FreeUpTo, IsFirstStop, IsOneLine, IsWhole}
 use Rattle.ascii_lines.specs.LineBuffer.{WindowState}
-use Rattle.ascii_lines.specs.declared.endings.Endings.{Endings}
-use Rattle.ascii_lines.specs.declared.endings.Endings.TheVariants.{Any, CrLfStrict}
+use Rattle.ascii.specs.declared.iter.spans.Endings.{Endings}
+use Rattle.ascii.specs.declared.iter.spans.Endings.TheVariants.{Any, CrLfStrict}
 use Rattle.ascii_lines.specs.declared.line_reader.LineError.{LineError}
 use Rattle.ascii_lines.specs.declared.line_reader.LineError.TheVariants.{NotAscii, LoneBreak}
 use Rattle.ascii_lines.specs.declared.line_reader.LineError.TheVariants.{TooLong, TooFar}
@@ -75,6 +75,19 @@ IsOpen reader = reader.stage ≡ Open
 abbrev pub IsFresh : ℕ → ReaderState → Type 0
 IsFresh size reading = (reading.size ≡ size) × (reading.start ≡ 0) × (reading.held ≡ [])
     × (reading.stage ≡ Open) × (reading.endings ≡ Any)
+
+-- the byte at `i` is a CR without an LF after it, or an LF without a CR before it, and the first
+-- such byte of `text`. The bytes up to the one that shows it, which are `n`, fit in `size` bytes
+-- and are ASCII: for LF it shows itself; for CR the byte after it does; or, if there is none, the
+-- source, which has yet to give `left`, is at its end
+pub record IsLoneBreak (size : ℕ) (text : List ℕ) (left : Option (List ℕ)) (i n : ℕ) : Type 0 where
+  pub fits : n ≤ size
+  pub inside : n ≤ length text
+  pub ascii : IsAscii (take n text)
+  pub first : (k : ℕ) → k < i → (slice_index text k ≢ 10) × (slice_index text k ≢ 13)
+  pub lone : ((n ≡ i + 1) × (slice_index text i ≡ 10))
+      ⊎ ((n ≡ i + 2) × (slice_index text i ≡ 13) × (slice_index text (i + 1) ≢ 10))
+      ⊎ ((n ≡ i + 1) × (n ≡ length text) × (slice_index text i ≡ 13) × IsAtEnd left)
 
 -- a `ReadLine` as a line with its start
 abbrev pub read_line_in : ReadLine → WithStart Line
@@ -223,11 +236,6 @@ module _ {S Z : Type 0} (rest : S → Option (List ℕ)) (failures : S → ℕ) 
   NextPart old result new = NextPartFrom old.stage old result new
 
 -- ---- cited by private functions only
-
--- `bytes` is not empty, only its last byte may end a line, and it has no lone CR or LF by `endings`
-abbrev pub IsOneLine : Endings → List ℕ → Type 0
-IsOneLine endings bytes = (0 < length bytes) × FreeUpTo endings bytes (length bytes - 1)
-    × IsWhole endings bytes
 
 -- the error for a byte that is not less than 128, `i` bytes after the position `start`: its
 -- position, or `TooFar` if that does not fit a `u64`

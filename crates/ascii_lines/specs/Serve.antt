@@ -9,11 +9,11 @@ use Rattle.ascii.specs.declared.iter.spans.Ending.TheVariants.{Absent}
 use Rattle.ascii.specs.Lines.{Line, line_text}
 use Rattle.ascii.specs.Spans.{WithStart, items_of, line_size, with_starts}
 use Rattle.memchr.specs.Find.{IsFirstByte}
-use Rattle.ascii_lines.specs.Endings.{LinesEndedBy}
+use Rattle.ascii.specs.Lines.{LinesEndedBy}
 use Rattle.ascii_lines.specs.History.{TellsFlushed}
 use Rattle.ascii_lines.specs.LineReader.{IsDone, IsLineError, IsPartError, ReaderState, ReadsBytes}
 use Rattle.ascii_lines.specs.LineWriter.{FailsToWrite, WriterState, is_line_break}
-use Rattle.ascii_lines.specs.declared.endings.Endings.{Endings}
+use Rattle.ascii.specs.declared.iter.spans.Endings.{Endings}
 use Rattle.ascii_lines.specs.declared.line_reader.LineError.{LineError}
 use Rattle.ascii_lines.specs.declared.line_reader.LineError.TheVariants.{Incomplete}
 use Rattle.ascii_lines.specs.declared.line_reader.Stage.TheVariants.{Open, Ended, Refused}

@@ -15,7 +15,6 @@
 //! | answer each line of an input with lines | `serve`, with a `Handler` |
 #![tactic(auto)]
 
-mod endings;
 mod errors;
 mod line_buffer;
 mod line_reader;
@@ -23,10 +22,9 @@ mod line_writer;
 mod owned_lines;
 mod serving;
 
-pub use ascii::iter::Ending;
+pub use ascii::iter::{Ending, Endings};
 pub use ascii::{AsciiChar, AsciiStr, AsciiString};
 pub use ascii_devices::{DeviceFault, Input, Output, Sink, Source};
-pub use endings::Endings;
 pub use line_reader::{LineError, LineReader, ReadLine, ReadPart};
 pub use line_writer::{LineWriter, WriteError};
 pub use owned_lines::{CollectedLines, OwnedLine, collect_lines};

@@ -6,9 +6,10 @@ ghost use Rattle.std.specs.Io.KnownBytes.{Consumes, IsAtEnd};
 ghost use Rattle.std.specs.Str.{IsAscii};
 ghost use Rattle.ascii.specs.Bytes.{FirstOther};
 ghost use Rattle.ascii_devices.specs.Devices.{CountsFault};
-ghost use Rattle.ascii_lines.specs.Endings.{IsFirstStop, FreeUpTo};
+ghost use Rattle.ascii.specs.Endings.{IsFirstStop, FreeUpTo};
 
-use crate::endings::{Endings, find_end};
+use ascii::endings::find_end;
+use ascii::iter::Endings;
 use ascii::kernels::first_other;
 use ascii_devices::{DeviceFault, Source, zeros};
 use std::alloc::{AllocError, Allocator};

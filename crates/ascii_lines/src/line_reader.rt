@@ -4,15 +4,15 @@ ghost use Rattle.std.specs.Prelude.{◌≡◌, ◌≢◌, ◌⊎◌, ◌+◌, �
 ghost use Rattle.std.specs.Prelude.{None, OnOk, length, ℕ};
 ghost use Rattle.std.specs.Io.KnownBytes.{Consumes, IsAtEnd};
 ghost use Rattle.std.specs.Str.{IsAscii};
-ghost use Rattle.ascii.specs.Spans.{LineSpansOf, line_size};
-ghost use Rattle.ascii_lines.specs.LineReader.{FindsLineEnd, IsOneLine, IsHeldThenRead, IsLineError};
+ghost use Rattle.ascii.specs.Spans.{LineSpansEndedBy, line_size};
+ghost use Rattle.ascii_lines.specs.LineReader.{FindsLineEnd, IsHeldThenRead, IsLineError};
 ghost use Rattle.ascii_lines.specs.LineReader.{IsPartError};
 ghost use Rattle.ascii_lines.specs.LineReader.{TakesLine, failures_after, read_line_in, error_at};
-ghost use Rattle.ascii_lines.specs.Endings.{IsFirstStop, LineSpansEndedBy};
+ghost use Rattle.ascii.specs.Endings.{IsFirstStop, IsOneLine};
 
-use crate::endings::{Endings, ends_in_cr_lf, lone_break};
 use crate::line_buffer::LineBuffer;
-use ascii::iter::Ending;
+use ascii::endings::{lone_break, split_ending};
+use ascii::iter::{Ending, Endings};
 use ascii::{AsciiStr, bytes};
 use ascii_devices::Source;
 use std::alloc::{AllocError, Allocator, Global};
@@ -456,73 +456,11 @@ fn line_at(endings: Endings, start: u64, line: &[u8]) -> ReadLine<'_>
     ensures ended { IsFirstStop endings line.now (length line.now)
         → result.ending ≢ Ending.Absent }
 {
-    match endings {
-        Endings::Any => any_line_at(start, line),
-        Endings::CrLf => cr_lf_line_at(start, line),
-        Endings::CrLfStrict => strict_line_at(start, line),
-    }
-}
-
-/// The line of bytes of which only the last one may be LF.
-#[inline]
-fn any_line_at(start: u64, line: &[u8]) -> ReadLine<'_>
-    requires ascii { IsAscii line.now }
-    requires one { IsOneLine Endings.Any line.now }
-    ensures line { LineSpansOf start line.now (read_line_in result ∷ []) }
-    ensures size { line_size (read_line_in result).item ≡ length line.now }
-    ensures ended { IsFirstStop Endings.Any line.now (length line.now)
-        → result.ending ≢ Ending.Absent }
-{
-    match line {
-        [body @ .., b'\r', b'\n'] => ReadLine {
-            start,
-            text: bytes::as_ascii_str_unchecked(body),
-            ending: Ending::CrLf,
-        },
-        [body @ .., b'\n'] => ReadLine {
-            start,
-            text: bytes::as_ascii_str_unchecked(body),
-            ending: Ending::Lf,
-        },
-        _ => ReadLine {
-            start,
-            text: bytes::as_ascii_str_unchecked(line),
-            ending: Ending::Absent,
-        },
-    }
-}
-
-/// The line of bytes of which only the last two may be CR or LF, and are then CR LF.
-fn strict_line_at(start: u64, line: &[u8]) -> ReadLine<'_>
-    requires ascii { IsAscii line.now }
-    requires one { IsOneLine Endings.CrLfStrict line.now }
-    ensures line { LineSpansEndedBy Endings.CrLfStrict start line.now (read_line_in result ∷ []) }
-    ensures size { line_size (read_line_in result).item ≡ length line.now }
-    ensures ended { IsFirstStop Endings.CrLfStrict line.now (length line.now)
-        → result.ending ≢ Ending.Absent }
-{
-    cr_lf_line_at(start, line)
-}
-
-/// The line of bytes of which only the last two may be CR LF.
-fn cr_lf_line_at(start: u64, line: &[u8]) -> ReadLine<'_>
-    requires ascii { IsAscii line.now }
-    requires one { IsOneLine Endings.CrLf line.now }
-    ensures line { LineSpansEndedBy Endings.CrLf start line.now (read_line_in result ∷ []) }
-    ensures size { line_size (read_line_in result).item ≡ length line.now }
-    ensures ended { IsFirstStop Endings.CrLf line.now (length line.now)
-        → result.ending ≢ Ending.Absent }
-{
-    if ends_in_cr_lf(line) {
-        return ReadLine {
-            start,
-            text: bytes::as_ascii_str_unchecked(&line[..line.len() - 2]),
-            ending: Ending::CrLf,
-        };
-    }
+    let line = bytes::as_ascii_str_unchecked(line);
+    let (text, ending) = split_ending(endings, line);
     ReadLine {
         start,
-        text: bytes::as_ascii_str_unchecked(line),
-        ending: Ending::Absent,
+        text,
+        ending,
     }
 }

@@ -17,7 +17,7 @@ use Rattle.ascii.specs.Spans.{WithStart}
 use Rattle.ascii.specs.View.{text_of}
 use Rattle.ascii_lines.specs.LineWriter.{is_line_break}
 use Rattle.ascii_lines.specs.Serve.{Talks}
-use Rattle.ascii_lines.specs.declared.endings.Endings.{Endings}
+use Rattle.ascii.specs.declared.iter.spans.Endings.{Endings}
 use Rattle.ascii_lines.specs.declared.serving.Next.{Next}
 use Rattle.example_resp.specs.Commands.{HasLineBreak, ReadsCommand, Says, after, error_line, reply}
 use Rattle.example_resp.specs.Commands.{value_reply}

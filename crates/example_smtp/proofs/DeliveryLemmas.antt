@@ -11,7 +11,7 @@ use Rattle.ascii.specs.Case.{lower_image}
 use Rattle.ascii.specs.Lines.{Line}
 use Rattle.ascii.specs.Spans.{WithStart, items_of}
 use Rattle.ascii_lines.specs.Serve.{Talks}
-use Rattle.ascii_lines.specs.declared.endings.Endings.{Endings}
+use Rattle.ascii.specs.declared.iter.spans.Endings.{Endings}
 use Rattle.ascii_lines.specs.declared.serving.Next.{Next}
 use Rattle.example_smtp.specs.Commands.{IsFault, ReadsCommand, Says, name_of, reply_line}
 use Rattle.example_smtp.specs.Deliveries.{Delivers, Exchange}

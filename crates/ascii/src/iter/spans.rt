@@ -23,6 +23,17 @@ pub enum Ending {
     Absent,
 }
 
+/// Which endings end the lines of an input. The last line may have none.
+#[derive(Clone, Copy, PartialEq, Eq, Debug)]
+pub enum Endings {
+    /// LF and CR LF. A CR that is not before an LF is part of a line.
+    Any,
+    /// CR LF only. A CR or an LF that is not part of a CR LF is part of a line.
+    CrLf,
+    /// CR LF only. A CR or an LF that is not part of a CR LF is part of no line, so that not every text has lines.
+    CrLfStrict,
+}
+
 /// A line of a text, with its start and its ending.
 #[derive(Clone, Copy, PartialEq, Eq, Debug)]
 pub struct LineSpan<'a> {

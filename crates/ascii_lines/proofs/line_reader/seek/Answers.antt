@@ -1,6 +1,6 @@
 use Rattle.std.proofs.Common.{◌≡◌, length, arith, sym, subst, ◌∙◌}
 use Rattle.ascii_lines.specs.LineReader.{IsHeldThenRead}
-use Rattle.ascii_lines.specs.Endings.{FreeUpTo}
+use Rattle.ascii.specs.Endings.{FreeUpTo}
 use Rattle.ascii_lines.proofs.LineReaderLemmas.{IsHeldThenRead-more, free_more, full}
 use Rattle.ascii_lines.proofs.line_reader.seek.Goals as goal
 

@@ -1,5 +1,5 @@
 use Rattle.std.proofs.Common.{◌≡◌, ◌≤◌, ◌-◌, length}
-use Rattle.ascii_lines.specs.Endings.{FreeUpTo}
+use Rattle.ascii.specs.Endings.{FreeUpTo}
 use Rattle.ascii_lines.specs.LineReader.{IsHeldThenRead}
 use Rattle.ascii_lines.proofs.line_reader.seek.Given as goal
 

@@ -1,5 +1,5 @@
 use Rattle.std.proofs.Common.{◌+◌, ◌-◌, ◌^◌, ◌<◌, ◌≤◌, Some, arith, length, subst}
-use Rattle.ascii_lines.specs.Endings.{FindsLoneBreak, IsWhole}
+use Rattle.ascii.specs.Endings.{FindsLoneBreak, IsWhole}
 use Rattle.ascii_lines.proofs.LineReaderLemmas.{far_error, lone_error, takes_line}
 use Rattle.ascii_lines.proofs.line_reader.take_line.Goals as goal
 

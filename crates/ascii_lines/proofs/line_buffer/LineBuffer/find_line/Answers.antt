@@ -1,5 +1,5 @@
 use Rattle.std.proofs.Common.{◌≤◌, sym, subst}
-use Rattle.ascii_lines.specs.Endings.{FreeUpTo}
+use Rattle.ascii.specs.Endings.{FreeUpTo}
 use Rattle.ascii_lines.specs.LineBuffer.{WindowState}
 use Rattle.ascii_lines.proofs.LineBufferLemmas.{found_part, free_part}
 use Rattle.ascii_lines.proofs.line_buffer.LineBuffer.find_line.Goals as goal

@@ -1,6 +1,6 @@
 use Rattle.memchr.specs.Find.{is_byte2}
-use Rattle.ascii_lines.proofs.EndingsLemmas.{first_passes, none_passes}
-use Rattle.ascii_lines.proofs.endings.first_break.Goals as goal
+use Rattle.ascii.proofs.EndingsLemmas.{first_passes, none_passes}
+use Rattle.ascii.proofs.endings.first_break.Goals as goal
 
 pub returns-in-Some : goal.returns-in-Some
 returns-in-Some c = first_passes c.args.text.now c.args.from c.requires (is_byte2 13 10)

@@ -1,7 +1,7 @@
 use Rattle.std.proofs.Common.{◌≤◌, ◌-◌, length}
-use Rattle.ascii_lines.specs.declared.endings.Endings.TheVariants.{CrLf}
-use Rattle.ascii_lines.specs.Endings.{FreeUpTo}
-use Rattle.ascii_lines.proofs.endings.find_cr_lf.Given as goal
+use Rattle.ascii.specs.declared.iter.spans.Endings.TheVariants.{CrLf}
+use Rattle.ascii.specs.Endings.{FreeUpTo}
+use Rattle.ascii.proofs.endings.find_cr_lf.Given as goal
 
 -- no CR LF ends before `from`
 abbrev pub invariant-feeds : goal.invariant-feeds

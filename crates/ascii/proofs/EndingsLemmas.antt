@@ -7,9 +7,10 @@ use Rattle.std.proofs.Common.{◌≢◌, ◌⊎◌, Bool, true, eqb}
 use Rattle.std.proofs.lemmas.Bool.{cases_lt, or_cases, or_left, or_right}
 use Rattle.ascii.proofs.ListLemmas.{length-slice_range, slice_range-at}
 use Rattle.memchr.specs.Find.{IsFirst, IsFirstByte, NoneBefore, Nowhere, Passes, is_byte, is_byte2}
-use Rattle.ascii_lines.specs.declared.endings.Endings.{Endings}
-use Rattle.ascii_lines.specs.declared.endings.Endings.TheVariants.{Any, CrLf, CrLfStrict}
-use Rattle.ascii_lines.specs.Endings.{StopsAt, IsFirstStop, FreeUpTo, IsCrLfAt}
+use Rattle.ascii.specs.declared.iter.spans.Endings.{Endings}
+use Rattle.ascii.specs.declared.iter.spans.Endings.TheVariants.{Any, CrLf, CrLfStrict}
+use Rattle.ascii.specs.Endings.{StopsAt, IsFirstStop, FreeUpTo}
+use Rattle.ascii.specs.Lines.{IsCrLfAt}
 
 -- the first `n` bytes of two texts are the same
 abbrev pub AgreeUpTo : List ℕ → List ℕ → ℕ → Type 0
@@ -100,7 +101,7 @@ cr_lf_free text from place free none other k inside = λ is. elim (cases_lt k fr
 
 -- ---- a search for CR and LF
 
-is_break : (x : ℕ) → (x ≡ 13) ⊎ (x ≡ 10) → is_byte2 13 10 x ≡ true
+pub is_break : (x : ℕ) → (x ≡ 13) ⊎ (x ≡ 10) → is_byte2 13 10 x ≡ true
 is_break x (inl cr) = or_left (eqb x 13) (eqb x 10) (eq-eqb _ _ cr)
 is_break x (inr feed) = or_right (eqb x 13) (eqb x 10) (eq-eqb _ _ feed)
 

@@ -1,4 +1,4 @@
--- The lines of a text by each kind of ending.
+-- The lines of a text by each kind of ending, and the line of some bytes.
 use Rattle.std.proofs.Common.{◌≡◌, ◌≢◌, ℕ, zero, suc, ◌+◌, ◌-◌, ◌<◌, List, [], ◌∷◌, ◌++◌, length}
 use Rattle.std.proofs.Common.{◌≤◌, ◌↔◌, length-append}
 use Rattle.std.proofs.Math.ListN.{get_or-append}
@@ -12,14 +12,16 @@ use Rattle.ascii.specs.declared.iter.spans.Ending.{Ending}
 use Rattle.ascii.specs.declared.iter.spans.Ending.TheVariants as ending
 use Rattle.ascii.specs.Found.{line_spans}
 use Rattle.ascii.specs.Lines.{Line, MayFollow, ending_text, line_text}
-use Rattle.ascii.specs.Spans.{LineSpansOf, WithStart, line_size, with_starts}
+use Rattle.ascii.specs.Spans.{WithStart, line_size, with_starts}
+use Rattle.ascii.proofs.LinesLemmas.{LinesEndedBy-cons, LinesEndedBy-nil}
 use Rattle.ascii.proofs.ListLemmas.{front_is}
 use Rattle.ascii.proofs.SpansLemmas.{items-with_starts, line_spans_found}
-use Rattle.ascii_lines.specs.declared.endings.Endings.{Endings}
-use Rattle.ascii_lines.specs.declared.endings.Endings.TheVariants.{Any, CrLf, CrLfStrict}
-use Rattle.ascii_lines.specs.LineReader.{IsOneLine}
-use Rattle.ascii_lines.specs.Endings.{FreeUpTo, IsBody, IsCrLfAt, IsFirstStop, MayEnd}
-use Rattle.ascii_lines.specs.Endings.{LineSpansEndedBy, LinesEndedBy, any_text}
+use Rattle.ascii.specs.declared.iter.spans.Endings.{Endings}
+use Rattle.ascii.specs.declared.iter.spans.Endings.TheVariants.{Any, CrLf, CrLfStrict}
+use Rattle.ascii.specs.Endings.{FreeUpTo, IsFirstStop, IsOneLine, any_text}
+use Rattle.ascii.specs.Lines.{IsBody, IsCrLfAt, MayEnd}
+use Rattle.ascii.specs.Spans.{LineSpansEndedBy}
+use Rattle.ascii.specs.Lines.{LinesEndedBy}
 
 -- an ending that may follow a body by a kind may follow it
 pub MayFollow-ended : (kind : Endings) (end : Ending) (body : List ℕ) → MayEnd kind end body
@@ -32,50 +34,13 @@ MayFollow-ended CrLfStrict ending.Lf body may = absurd may
 MayFollow-ended CrLfStrict ending.CrLf body may = may
 MayFollow-ended CrLfStrict ending.Absent body may = may
 
--- the lines of a text are its lines by any ending
-pub any_spans : (start : ℕ) (text : List ℕ) (spans : List (WithStart Line))
-    → LineSpansOf start text spans → LineSpansEndedBy Any start text spans
-any_spans start text spans held = record {
-  lines = record {
-    bodies = held.lines.bodies;
-    endings = held.lines.endings;
-    ended = held.lines.ended;
-    joined = held.lines.joined;
-  };
-  starts = held.starts;
-}
-
 -- ---- a text has lines by CR LF
 
--- a line before others, which has an ending unless there are none
-pub LinesEndedBy-cons : (kind : Endings) (line : Line) (text : List ℕ) (lines : List Line)
-    → IsBody kind line.body → MayEnd kind line.ending line.body
-    → (line.ending ≡ ending.Absent → lines ≡ []) → LinesEndedBy kind text lines
-    → LinesEndedBy kind (line_text line ++ text) (line ∷ lines)
-LinesEndedBy-cons kind line text lines body may last others = record {
-  bodies = All-cons (λ one. IsBody kind one.body) line lines body others.bodies;
-  endings = All-cons (λ one. MayEnd kind one.ending one.body) line lines may others.endings;
-  ended = front lines last others.ended;
-  joined = ap (λ t. line_text line ++ t) others.joined;
-}
-  where
-    front : (ls : List Line) → (line.ending ≡ ending.Absent → ls ≡ [])
-        → All (λ one. one.ending ≢ ending.Absent) (take (length ls - 1) ls)
-        → All (λ one. one.ending ≢ ending.Absent) (take (length (line ∷ ls) - 1) (line ∷ ls))
-    front [] last ended = All-nil _
-    front (next ∷ ls) last ended = rw (front_is line next ls)
-        (All-cons (λ one. one.ending ≢ ending.Absent) line
-        (take (length (next ∷ ls) - 1) (next ∷ ls)) (λ none. let some = last none in cc) ended)
-
-pub LinesEndedBy-nil : (kind : Endings) → LinesEndedBy kind [] []
-LinesEndedBy-nil kind =
-    record { bodies = All-nil _; endings = All-nil _; ended = All-nil _; joined = refl }
-
 -- past the end there is no LF
-inside : (text : List ℕ) (k : ℕ) → get_or text k 0 ≡ 10 → k < length text
-inside [] k is = absurd (omega (arith, is))
-inside (x ∷ text) zero is = omega arith
-inside (x ∷ text) (suc k) is = omega (arith, inside text k is)
+pub feed_inside : (text : List ℕ) (k : ℕ) → get_or text k 0 ≡ 10 → k < length text
+feed_inside [] k is = absurd (omega (arith, is))
+feed_inside (x ∷ text) zero is = omega arith
+feed_inside (x ∷ text) (suc k) is = omega (arith, feed_inside text k is)
 
 -- ---- one byte more before the lines by CR LF
 
@@ -110,7 +75,7 @@ first_ended line next lines ended =
     subst (All (λ one. one.ending ≢ ending.Absent)) (front_is line next lines) ended
 
 -- the first line is the last one if it has no ending, and the others are lines
-last_if_absent : (line : Line) (lines : List Line)
+pub last_if_absent : (line : Line) (lines : List Line)
     → All (λ one. one.ending ≢ ending.Absent) (take (length (line ∷ lines) - 1) (line ∷ lines))
     → line.ending ≡ ending.Absent → lines ≡ []
 last_if_absent line [] ended none = refl
@@ -230,17 +195,17 @@ more_lines b text (line ∷ lines) held = elim (cases_eq b 13) [
   ]
 ]
 
-pub cr_lf_lines : (text : List ℕ) → (lines : List Line) × LinesEndedBy CrLf text lines
-cr_lf_lines [] = ([], LinesEndedBy-nil CrLf)
-cr_lf_lines (b ∷ text) =
-    let later = cr_lf_lines text in more_lines b text later.0 later.1
+pub some_cr_lf_lines : (text : List ℕ) → (lines : List Line) × LinesEndedBy CrLf text lines
+some_cr_lf_lines [] = ([], LinesEndedBy-nil CrLf)
+some_cr_lf_lines (b ∷ text) =
+    let later = some_cr_lf_lines text in more_lines b text later.0 later.1
 
 -- ---- a text has lines
 
 cr_lf_spans : (start : ℕ) (text : List ℕ)
     → (spans : List (WithStart Line)) × LineSpansEndedBy CrLf start text spans
 cr_lf_spans start text =
-    let found = cr_lf_lines text in
+    let found = some_cr_lf_lines text in
     let spans = with_starts line_size start found.0 in
     let alone = sym (items-with_starts line_size start found.0) in (
       spans,
@@ -254,17 +219,17 @@ pub some_spans : (kind : Endings) (start : ℕ) (text : List ℕ)
     → (spans : List (WithStart Line)) × LineSpansEndedBy (any_text kind) start text spans
 some_spans Any start text =
     let part : WithStart (List ℕ) = record { start = start; item = text } in
-    (line_spans part, any_spans start text (line_spans part) (line_spans_found part))
+    (line_spans part, line_spans_found part)
 some_spans CrLf start text = cr_lf_spans start text
 some_spans CrLfStrict start text = cr_lf_spans start text
 
 -- a body with neither CR nor LF has no CR LF
-cr_lf_body : (body : List ℕ) → IsBody CrLfStrict body → IsBody CrLf body
+pub cr_lf_body : (body : List ℕ) → IsBody CrLfStrict body → IsBody CrLf body
 cr_lf_body body strict k is =
-    let high : k < length body = inside body k is.1 in
+    let high : k < length body = feed_inside body k is.1 in
     strict.0 (k, high, get_or_default body k 10 0 high ∙ is.1)
 
-cr_lf_end : (end : Ending) (body : List ℕ) → MayEnd CrLfStrict end body → MayEnd CrLf end body
+pub cr_lf_end : (end : Ending) (body : List ℕ) → MayEnd CrLfStrict end body → MayEnd CrLf end body
 cr_lf_end ending.Lf body may = may
 cr_lf_end ending.CrLf body may = may
 cr_lf_end ending.Absent body may = may
@@ -323,7 +288,7 @@ module _ (start : ℕ) (line body : List ℕ) (one : IsOneLine CrLf line) where
       let free : IsBody CrLf line = λ k at. elim (cases_lt k (length line - 1)) [
         | inl before ↦ one.1 k before at
         | inr after ↦
-            let high : k < length line = inside line k at.1 in
+            let high : k < length line = feed_inside line k at.1 in
             let same : k ≡ length line - 1 = omega (arith, after, high) in
             other (subst (IsCrLfAt line) same at)
       ] in
@@ -348,7 +313,7 @@ module _ (start : ℕ) (line body : List ℕ) (one : IsOneLine CrLf line) where
       let long : length body + 2 ≡ length line =
       omega (arith, length-append body (13 ∷ 10 ∷ []), ap length whole) in
       let free : IsBody CrLf body = λ k at.
-      let high : k < length body = inside body k at.1 in
+      let high : k < length body = feed_inside body k at.1 in
       let here : (j : ℕ) → j ≤ k → get_or line j 0 ≡ get_or body j 0 = λ j low.
       ap (λ t. get_or t j 0) (sym whole)
       ∙ get_or-append body (13 ∷ 10 ∷ []) 0 j (omega (arith, low, high)) in

@@ -1,10 +1,10 @@
 use Rattle.std.proofs.Common.{◌≡◌, ◌+◌, ◌-◌, length, get_or, arith, subst, sym, ◌∙◌}
 use Rattle.std.proofs.lemmas.Bool.{false≢true}
-use Rattle.ascii_lines.specs.declared.endings.Endings.TheVariants.{CrLfStrict}
-use Rattle.ascii_lines.specs.Endings.{FreeUpTo, IsFirstStop}
-use Rattle.ascii_lines.proofs.EndingsLemmas.{at_break, before_break, break_is, stop_after_cr}
-use Rattle.ascii_lines.proofs.EndingsLemmas.{stop_at_lf}
-use Rattle.ascii_lines.proofs.endings.find_break.Goals as goal
+use Rattle.ascii.specs.declared.iter.spans.Endings.TheVariants.{CrLfStrict}
+use Rattle.ascii.specs.Endings.{FreeUpTo, IsFirstStop}
+use Rattle.ascii.proofs.EndingsLemmas.{at_break, before_break, break_is, stop_after_cr}
+use Rattle.ascii.proofs.EndingsLemmas.{stop_at_lf}
+use Rattle.ascii.proofs.endings.find_break.Goals as goal
 
 pub returns-then-text-place-eq10 : goal.returns-then-text-place-eq10
 returns-then-text-place-eq10 c =

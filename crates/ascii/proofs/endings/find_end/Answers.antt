@@ -1,6 +1,6 @@
 use Rattle.std.proofs.Common.{subst}
-use Rattle.ascii_lines.specs.Endings.{FreeUpTo}
-use Rattle.ascii_lines.proofs.endings.find_end.Goals as goal
+use Rattle.ascii.specs.Endings.{FreeUpTo}
+use Rattle.ascii.proofs.endings.find_end.Goals as goal
 
 pub find_cr_lf-requires-clause-free : goal.find_cr_lf-requires-clause-free
 find_cr_lf-requires-clause-free c =
