@@ -39,7 +39,7 @@ module _ (first : ℕ) (others : List ℕ) where
   ]
 
   -- the first piece is before the first occurrence
-  pieces_found : (t : List ℕ) (k : ℕ) → OccursAt t needle k
+  pub pieces_found : (t : List ℕ) (k : ℕ) → OccursAt t needle k
       → ((j : ℕ) → j < k → ¬ (OccursAt t needle j))
       → pieces_after first others 0 t
       ≡ take k t ∷ pieces_after first others 0 (drop (k + length needle) t)
@@ -57,7 +57,7 @@ module _ (first : ℕ) (others : List ℕ) where
       ∙ ap (λ n. (c ∷ take k t) ∷ pieces_after first others 0 (drop n (c ∷ t))) after)
 
   -- a text in which it does not occur is its one piece
-  pieces_absent : (t : List ℕ) → ((j : ℕ) → ¬ (OccursAt t needle j))
+  pub pieces_absent : (t : List ℕ) → ((j : ℕ) → ¬ (OccursAt t needle j))
       → pieces_after first others 0 t ≡ t ∷ []
   pieces_absent [] none = refl
   pieces_absent (c ∷ t) none = cond-false _ _ _ (not_here (c ∷ t) (none 0))
@@ -69,7 +69,7 @@ module _ (first : ℕ) (others : List ℕ) where
   length-onto_first x [] some = absurd (omega (arith, some))
   length-onto_first x (p ∷ ps) some = refl
 
-  pieces_many : (skip : ℕ) (t : List ℕ) → (0 < length (pieces_after first others skip t))
+  pub pieces_many : (skip : ℕ) (t : List ℕ) → (0 < length (pieces_after first others skip t))
       × (length (pieces_after first others skip t) ≤ length t + 1)
   pieces_many skip [] = (omega arith, omega arith)
   pieces_many (suc skip) (c ∷ t) =

@@ -3,6 +3,7 @@
 use Rattle.std.proofs.Common.{◌≡◌, ◌≢◌, ℕ, ◌+◌, ◌≤◌, List, [], ◌∷◌, ◌++◌, length, append-nil, refl}
 use Rattle.std.proofs.Common.{arith, append_assoc, ap, ◌∙◌, Result, IsOk, OnOk, ◌-◌, ◌<◌, Option}
 use Rattle.std.proofs.Common.{Some, get_or, length-append, map, sym, subst, Bool, true, false, cond}
+use Rattle.std.proofs.Common.{◌↔◌}
 use Rattle.std.specs.Iterator.{YieldsFirstBy}
 use Rattle.std.specs.Fn.{Called, Mut}
 use Rattle.std.specs.List.{All, Contains, filter, flat_map, join_with_byte, slice_get}
@@ -17,7 +18,11 @@ use Rattle.ascii_base.specs.Code.{code_of, code_text}
 use Rattle.ascii_base.specs.declared.ascii_char.AsciiChar.{AsciiChar}
 use Rattle.ascii.specs.Chunks.{ChunksOf, Run}
 use Rattle.ascii.specs.Extend.{Collects, Extends}
-use Rattle.ascii.specs.Lines.{Line, LinesOf, bodies, line_text}
+use Rattle.ascii.specs.declared.iter.spans.Endings.{Endings}
+use Rattle.ascii.specs.declared.iter.spans.Endings.TheVariants.{CrLfStrict}
+use Rattle.ascii.specs.Lines.{Line, LinesEndedBy, LinesOf, bodies, line_text}
+use Rattle.ascii.specs.LinesBy.{LinesUpTo}
+use Rattle.ascii.proofs.LinesLeftLemmas.{LinesUpTo-all}
 use Rattle.ascii.specs.Pieces.{Pieces, Remaining}
 use Rattle.ascii.specs.Spans.{LineSpansOf, PieceSpans, WithStart}
 use Rattle.ascii.specs.Spans.{items_of, line_size, piece_size}
@@ -120,6 +125,24 @@ last_of_line_spans start text front last spans whole left =
       ),
       last_of_lines text front last.item items (rw map_push at whole.lines) left.lines,
     )
+
+-- ---- which lists are lines
+
+-- lines after which nothing comes are the lines of the text
+pub lines_to_end : (endings : Endings) (text : List ℕ) (lines : List Line)
+    → LinesUpTo endings text lines [] ↔ LinesEndedBy endings text lines
+lines_to_end endings text lines = (
+  λ held. subst (λ t. LinesEndedBy endings t lines)
+      (sym (append-nil (flat_map line_text lines)) ∙ held.joined) held.are,
+  LinesUpTo-all endings text lines,
+)
+
+-- something comes after lines with `CrLfStrict` only
+pub nothing_after : (endings : Endings) (text : List ℕ) (lines : List Line) (rest : List ℕ)
+    → endings ≢ CrLfStrict → LinesUpTo endings text lines rest → rest ≡ []
+nothing_after endings text lines [] other held = refl
+nothing_after endings text lines (c ∷ rest) other held =
+    absurd (other (held.stop (λ none. cc)).0)
 
 -- ---- what remains of a split with starts
 

@@ -12,6 +12,7 @@ pub mod ExtendLemmas
 pub mod FoldLemmas
 pub mod JsonLemmas
 pub mod LinesByLemmas
+pub mod LinesLeftLemmas
 pub mod LinesLemmas
 pub mod ListLemmas
 pub mod NumbersLemmas

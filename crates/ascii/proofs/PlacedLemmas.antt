@@ -35,16 +35,16 @@ omega_zero : (n : ℕ) → n ≡ n + 0
 omega_zero n = omega arith
 
 -- a text with a first code that a test accepts
-record FirstOf (test : ℕ → Bool) (t : List ℕ) : Type 0 where
-  before : List ℕ
-  code : ℕ
-  after : List ℕ
-  split : t ≡ before ++ code ∷ after
-  free : All (λ d. test d ≡ false) before
-  cuts : test code ≡ true
+pub record FirstOf (test : ℕ → Bool) (t : List ℕ) : Type 0 where
+  pub before : List ℕ
+  pub code : ℕ
+  pub after : List ℕ
+  pub split : t ≡ before ++ code ∷ after
+  pub free : All (λ d. test d ≡ false) before
+  pub cuts : test code ≡ true
 
 -- a text is free of what a test accepts, or has a first code that it accepts
-first_of : (test : ℕ → Bool) (t : List ℕ) → All (λ d. test d ≡ false) t ⊎ FirstOf test t
+pub first_of : (test : ℕ → Bool) (t : List ℕ) → All (λ d. test d ≡ false) t ⊎ FirstOf test t
 first_of test [] = inl (All-nil _)
 first_of test (c ∷ t) = elim (cases_Bool (test c)) [
   | inl is ↦ inr (record {
@@ -354,26 +354,35 @@ matches_placed (n ∷ ns) offset text = placed_all
 
 -- ---- lines
 
-lines_from : (offset : ℕ) (text : List ℕ) (start : ℕ) (lines : List Line) → offset ≤ start
-    → drop (start - offset) text ≡ flat_map line_text lines
+lines_from : (offset : ℕ) (text : List ℕ) (start : ℕ) (lines : List Line) (rest : List ℕ)
+    → offset ≤ start → drop (start - offset) text ≡ flat_map line_text lines ++ rest
     → ArePlacedLines offset text (with_starts line_size start lines)
-lines_from offset text start [] low is = All-nil _
-lines_from offset text start (line ∷ lines) low is =
+lines_from offset text start [] rest low is = All-nil _
+lines_from offset text start (line ∷ lines) rest low is =
     let Is : WithStart Line → Type 0 = λ span. HasAt text (span.start - offset) span.item.body in
-    let others = flat_map line_text lines in
+    let others = flat_map line_text lines ++ rest in
     let next : start + line_size line - offset ≡ (start - offset) + length (line_text line) =
     omega (arith, low) in
+    let whole : drop (start - offset) text ≡ line_text line ++ others =
+    is ∙ append_assoc (line_text line) (flat_map line_text lines) rest in
     let behind : drop (start + line_size line - offset) text ≡ others =
     ap (λ n. drop n text) next ∙ (sym (drop-drop (length (line_text line)) (start - offset) text)
-    ∙ (ap (drop (length (line_text line))) is ∙ drop-append_seam (line_text line) others)) in
+    ∙ (ap (drop (length (line_text line))) whole ∙ drop-append_seam (line_text line) others)) in
     All-cons Is (record { start = start; item = line }) (with_starts line_size (start + line_size line) lines)
     (has_at text line.body (ending_text line.ending ++ others) (start - offset)
-    (is ∙ append_assoc line.body (ending_text line.ending) others))
-    (lines_from offset text (start + line_size line) lines (omega (arith, low)) behind)
+    (whole ∙ append_assoc line.body (ending_text line.ending) others))
+    (lines_from offset text (start + line_size line) lines rest (omega (arith, low)) behind)
+
+-- the body of each of the first lines of a text
+pub first_lines_placed : (offset : ℕ) (text : List ℕ) (lines : List Line) (rest : List ℕ)
+    → flat_map line_text lines ++ rest ≡ text
+    → ArePlacedLines offset text (with_starts line_size offset lines)
+first_lines_placed offset text lines rest joined = lines_from offset text offset lines rest
+    (omega arith) (let none : offset - offset ≡ 0 = omega arith in
+    ap (λ n. drop n text) none ∙ sym joined)
 
 -- the body of each line of a text
 pub lines_placed : (offset : ℕ) (text : List ℕ) (spans : List (WithStart Line))
     → LineSpansOf offset text spans → ArePlacedLines offset text spans
-lines_placed offset text spans are = rw are.starts (lines_from offset text offset (items_of spans)
-    (omega arith) (let none : offset - offset ≡ 0 = omega arith in
-    ap (λ n. drop n text) none ∙ sym are.lines.joined))
+lines_placed offset text spans are = rw are.starts (first_lines_placed offset text
+    (items_of spans) [] (append-nil (flat_map line_text (items_of spans)) ∙ are.lines.joined))

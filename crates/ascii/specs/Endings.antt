@@ -50,3 +50,9 @@ FindsLoneBreak kind bytes (Some i) = (kind ≡ CrLfStrict)
 abbrev pub IsOneLine : Endings → List ℕ → Type 0
 IsOneLine endings bytes = (0 < length bytes) × FreeUpTo endings bytes (length bytes - 1)
     × IsWhole endings bytes
+
+-- the first `n` bytes are those up to the first that ends a line or shows a lone CR or LF, or all
+-- bytes if none does
+abbrev pub IsLineLength : Endings → List ℕ → ℕ → Type 0
+IsLineLength endings text n =
+    IsFirstStop endings text n ⊎ ((n ≡ length text) × FreeUpTo endings text n)

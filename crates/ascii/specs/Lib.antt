@@ -13,6 +13,7 @@ pub mod Folded
 pub mod Found
 pub mod Json
 pub mod Lines
+pub mod LinesBy
 pub mod Numbers
 pub mod Pieces
 pub mod Placed

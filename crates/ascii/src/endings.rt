@@ -1,4 +1,4 @@
-//! Where a line of some bytes ends, and in what: the search under readers of lines.
+//! Where a line of some bytes ends, and in what: the search under `lines_by` and under readers of lines.
 //!
 //! A reader of lines cuts off the bytes up to `find_end`, tests them with `lone_break`, and splits them with
 //! `split_ending`:
@@ -10,7 +10,8 @@
 //! | the body and the ending of a line | `split_ending` |
 //! | whether bytes end in CR LF | `ends_in_cr_lf` |
 //!
-//! None of them allocates. The searches for CR and LF are those of the crate `memchr`.
+//! None of them allocates. The searches for CR and LF are those of the crate `memchr`. If a view has the whole text,
+//! use `lines_by` or `line_spans_by` of the view.
 
 ghost use Rattle.std.specs.Prelude.{◌≡◌, ◌≢◌, ◌+◌, ◌-◌, ◌<◌, ◌≤◌, ◌↔◌, ◌∷◌, [], IsTrue};
 ghost use Rattle.std.specs.Prelude.{MatchOption, length, slice_index};
@@ -83,7 +84,7 @@ fn follows_cr(text: &[u8], place: usize) -> bool
 }
 
 /// The position of the first CR or LF of a text from `from` on.
-fn first_break(text: &[u8], from: usize) -> Option<usize>
+pub(crate) fn first_break(text: &[u8], from: usize) -> Option<usize>
     requires { from ≤ length text.now }
     ensures { IsFirst (Passes (is_byte2 13 10) text.now) from (length text.now) result }
 {

@@ -14,6 +14,7 @@
 //! | words: the longest runs outside a class | `words::<C>()`, `split_whitespace()` | `word_spans::<C>()` | yes |
 //! | runs: the longest runs of a class | `runs::<C>()` | `run_spans::<C>()` | yes |
 //! | lines | `lines()` | `line_spans()`, also with their endings | yes |
+//! | lines by the endings that you choose | `lines_by(endings)` | `line_spans_by(endings)`, also with their endings | no |
 //!
 //! Take from either end, in any order; `remainder` returns what is left as a view, which can be iterated again:
 //!
@@ -35,6 +36,7 @@ mod cursor;
 mod ended;
 mod items;
 mod lines;
+mod lines_by;
 mod spans;
 mod split;
 mod split_n;
@@ -51,6 +53,7 @@ pub use ended::{
 };
 pub use items::{Cut, CutBack, Items, Spans};
 pub use lines::{LineSpans, Lines};
+pub use lines_by::{LineSpansBy, LinesBy};
 pub use spans::{Ending, Endings, LineSpan, SplitSpan};
 pub use split::{AtChar, Split, SplitSpans};
 pub use split_n::SplitN;

@@ -12,6 +12,7 @@
 //! | an owned string | `AsciiString`; the buffer of a `Vec<u8>` or a `String`: the modules `vec` and `string` |
 //! | characters, pieces, lines or words, from both ends | `chars`, `split`, `lines`, `split_whitespace` of a view |
 //! | the positions of pieces, lines or words | `split_spans`, `line_spans`, `word_spans` |
+//! | lines that end in CR LF only | `lines_by` and `line_spans_by` of a view, with `Endings` of the module `iter` |
 //! | to search for a text, a character or a class | `find`, `position`, `span::<C>()` of a view |
 //! | the ASCII runs of bytes that may hold others | `bytes::ascii_chunks` |
 //! | a class of characters of your own | the module `classes` |
