@@ -3,7 +3,7 @@
 use Rattle.std.proofs.Common.{◌≡◌, ◌≢◌, ℕ, ◌+◌, ◌≤◌, List, [], ◌∷◌, ◌++◌, length, append-nil, refl}
 use Rattle.std.proofs.Common.{arith, append_assoc, ap, ◌∙◌, Result, IsOk, OnOk, ◌-◌, ◌<◌, Option}
 use Rattle.std.proofs.Common.{Some, get_or, length-append, map, sym, subst, Bool, true, false, cond}
-use Rattle.std.proofs.Common.{◌↔◌}
+use Rattle.std.proofs.Common.{◌⊎◌, ◌↔◌, inl, inr}
 use Rattle.std.specs.Iterator.{YieldsFirstBy}
 use Rattle.std.specs.Fn.{Called, Mut}
 use Rattle.std.specs.List.{All, Contains, filter, flat_map, join_with_byte, slice_get}
@@ -18,9 +18,12 @@ use Rattle.ascii_base.specs.Code.{code_of, code_text}
 use Rattle.ascii_base.specs.declared.ascii_char.AsciiChar.{AsciiChar}
 use Rattle.ascii.specs.Chunks.{ChunksOf, Run}
 use Rattle.ascii.specs.Extend.{Collects, Extends}
+use Rattle.ascii.specs.declared.iter.spans.Ending.{Ending}
+use Rattle.ascii.specs.declared.iter.spans.Ending.TheVariants as ending
 use Rattle.ascii.specs.declared.iter.spans.Endings.{Endings}
 use Rattle.ascii.specs.declared.iter.spans.Endings.TheVariants.{CrLfStrict}
-use Rattle.ascii.specs.Lines.{Line, LinesEndedBy, LinesOf, bodies, line_text}
+use Rattle.ascii.specs.Lines.{EndsInCr, IsListOfLines, Line, LinesEndedBy, LinesOf, MayFollow}
+use Rattle.ascii.specs.Lines.{bodies, line_text}
 use Rattle.ascii.specs.LinesBy.{LinesUpTo}
 use Rattle.ascii.proofs.LinesLeftLemmas.{LinesUpTo-all}
 use Rattle.ascii.specs.Pieces.{Pieces, Remaining}
@@ -127,6 +130,48 @@ last_of_line_spans start text front last spans whole left =
     )
 
 -- ---- which lists are lines
+
+-- the relation of the calls, and the five sentences that say which lists are the lines of a text
+pub list_of_lines : (text : List ℕ) (lines : List Line)
+    → LinesOf text lines ↔ IsListOfLines text lines
+list_of_lines text lines = (
+  λ held. record {
+    no_lf = held.bodies;
+    kinds = λ k d low. each_ending (get_or lines k d).ending;
+    lf = λ k d low. (follows (get_or lines k d).ending (get_or lines k d).body
+        (held.endings k d low)).0;
+    absent = (
+      held.ended,
+      λ k d low. (follows (get_or lines k d).ending (get_or lines k d).body
+          (held.endings k d low)).1,
+    );
+    joined = held.joined;
+  },
+  λ said. record {
+    bodies = said.no_lf;
+    endings = λ k d low. may_follow (get_or lines k d).ending (get_or lines k d).body
+        (said.lf k d low) (said.absent.1 k d low);
+    ended = said.absent.0;
+    joined = said.joined;
+  },
+)
+  where
+    each_ending : (end : Ending) → (end ≡ ending.Lf) ⊎ (end ≡ ending.CrLf) ⊎ (end ≡ ending.Absent)
+    each_ending ending.Lf = inl refl
+    each_ending ending.CrLf = inr (inl refl)
+    each_ending ending.Absent = inr (inr refl)
+
+    follows : (end : Ending) (body : List ℕ) → MayFollow end body
+        → (end ≡ ending.Lf → ¬ (EndsInCr body)) × (end ≡ ending.Absent → body ≢ [])
+    follows ending.Lf body may = (λ is. may, λ none. cc)
+    follows ending.CrLf body may = (λ is. cc, λ none. cc)
+    follows ending.Absent body may = (λ is. cc, λ none. may)
+
+    may_follow : (end : Ending) (body : List ℕ) → (end ≡ ending.Lf → ¬ (EndsInCr body))
+        → (end ≡ ending.Absent → body ≢ []) → MayFollow end body
+    may_follow ending.Lf body lf absent = lf refl
+    may_follow ending.CrLf body lf absent = tt
+    may_follow ending.Absent body lf absent = absent refl
 
 -- lines after which nothing comes are the lines of the text
 pub lines_to_end : (endings : Endings) (text : List ℕ) (lines : List Line)
