@@ -21,8 +21,9 @@
 //! The other methods of `Text` are in the modules of their subject: `extend_chars`, `extend_strs`, `collect_chars` and
 //! `collect_strs` in `collect`, `retain` in `retain`, `from_char`, `from_chars` and `into_chars` in `copies`, `to_json`
 //! and `from_json` in `json`, the traits of std in `conversions`, those of serde in `serde_impls`. Only `AsciiString` has
-//! `from_ascii_unchecked` here, the conversions to boxed and shared text in `boxed`, and `From` of it for a `Vec` and a
-//! `String`, since these keep its `Vec`; the modules `vec` and `string` make it from one.
+//! `from_ascii_unchecked` here, the conversion to boxed text in `boxed`, and `From` of it for a `Vec` and a `String`,
+//! since these keep its `Vec`, and in `boxed` the conversion to shared text, which copies it; the modules `vec` and
+//! `string` make it from a `Vec` or a `String`.
 
 ghost use Rattle.std.specs.Prelude.{◌≡◌, ◌+◌, ◌-◌, ◌<◌, ◌≤◌, ◌↔◌, ◌++◌, ◌∷◌, [], IfErr, IfOk, IsOk};
 ghost use Rattle.std.specs.Prelude.{IsTrue, MatchResult, OnErr, OnOk, drop, insert, length, map, remove, slice_get};

@@ -58,13 +58,15 @@ pub trait Buffer: Drop {
     fn bytes(&self) -> &[u8]
         ensures { result.now ≡ (state self.now).text };
 
-    /// Returns the bytes, for writing.
+    /// Returns the bytes as a mutable slice: what is written there are the bytes from then on. Their
+    /// number and the room are unchanged.
     fn bytes_mut(&mut self) -> &mut [u8]
         ensures* writes_back { sem 𝓛 (LendsBytes Self.row with self.entry result) }
         ensures value { result.now ≡ (state self.old).text }
         ensures room { length (state self.old).text ≤ (state self.old).capacity };
 
-    /// Returns the number of bytes up to which the buffer does not have to grow.
+    /// Returns the number of bytes up to which the buffer does not have to grow, which is at least the
+    /// number of bytes.
     fn room(&self) -> usize
         ensures capacity { result ≡ (state self.now).capacity }
         ensures room { length (state self.now).text ≤ result }
@@ -75,17 +77,24 @@ pub trait Buffer: Drop {
     fn is_inline(&self) -> bool
         ensures { IsTrue result ↔ ((state self.now).capacity ≡ sure) };
 
-    /// Makes room for at least `additional` more bytes.
+    /// Makes room for at least `additional` more bytes, or returns an error if there is none; the bytes
+    /// are unchanged.
+    ///
+    /// Condition: `additional` and the number of bytes together are at most `usize::MAX`.
     fn reserve(&mut self, additional: usize) -> Result<(), Self::Refusal>
         requires { length (state self.old).text + additional ≤ usize.MAX }
         ensures { Reserves additional (state self.old) (state self.new) result };
 
-    /// Makes room for `additional` more bytes, and asks for no more than that.
+    /// Makes room for `additional` more bytes and asks for no more than that, or returns an error if
+    /// there is none; the bytes are unchanged.
+    ///
+    /// Condition: `additional` and the number of bytes together are at most `usize::MAX`.
     fn reserve_exact(&mut self, additional: usize) -> Result<(), Self::Refusal>
         requires { length (state self.old).text + additional ≤ usize.MAX }
         ensures { Reserves additional (state self.old) (state self.new) result };
 
-    /// Gives back the room that the bytes do not need.
+    /// Gives back the room that the bytes do not need, or returns an error if some of it is left; the
+    /// bytes are unchanged.
     fn shrink(&mut self) -> Result<(), Self::Refusal>
         ensures text { (state self.new).text ≡ (state self.old).text }
         ensures ok { OnOk result (shrinks (state self.old) (state self.new)) }
@@ -94,38 +103,44 @@ pub trait Buffer: Drop {
         ensures capacity { (state self.new).capacity ≤ (state self.old).capacity }
         ensures room { length (state self.new).text ≤ (state self.new).capacity };
 
-    /// Appends a byte.
+    /// Appends a byte, or returns an error if there is no room; the bytes are then unchanged.
     fn append_byte(&mut self, byte: u8) -> Result<(), Self::Refusal>
         ensures { let old = state self.old in
             GrowsTo (old.text ++ byte ∷ []) old (state self.new) result };
 
-    /// Appends bytes.
+    /// Appends bytes, or returns an error if there is no room; the bytes are then unchanged.
     fn append(&mut self, piece: &[u8]) -> Result<(), Self::Refusal>
         ensures { let old = state self.old in
             GrowsTo (old.text ++ piece.now) old (state self.new) result };
 
-    /// Inserts a byte before position `idx`. Condition: `idx` is at most the number of bytes.
+    /// Inserts a byte before position `idx`, or returns an error if there is no room; the bytes are
+    /// then unchanged.
+    ///
+    /// Condition: `idx` is at most the number of bytes.
     fn insert_byte(&mut self, idx: usize, byte: u8) -> Result<(), Self::Refusal>
         requires { idx ≤ length (state self.old).text }
         ensures { let old = state self.old in
             GrowsTo (insert old.text idx byte) old (state self.new) result };
 
-    /// Removes the byte at position `idx` and returns it. Condition: `idx` is less than the number
-    /// of bytes.
+    /// Removes the byte at position `idx` and returns it. The room is unchanged.
+    ///
+    /// Condition: `idx` is less than the number of bytes.
     fn remove_byte(&mut self, idx: usize) -> u8
         requires { idx < length (state self.old).text }
         ensures removed { result ≡ slice_index (state self.old).text idx }
         ensures edits { let old = state self.old in
             EditsInPlace (remove old.text idx) old (state self.new) };
 
-    /// Removes the last byte and returns it, or returns `None` if there are no bytes.
+    /// Removes the last byte and returns it, or returns `None` if there are no bytes. The room is
+    /// unchanged.
     fn pop_byte(&mut self) -> Option<u8>
         ensures popped { let text = (state self.old).text in
             result ≡ slice_get text (length text - 1) }
         ensures edits { let old = state self.old in
             EditsInPlace (take (length old.text - 1) old.text) old (state self.new) };
 
-    /// Keeps the first `n` bytes.
+    /// Keeps the first `n` bytes, or all if there are fewer, and removes the others. The room is
+    /// unchanged.
     fn keep_front(&mut self, n: usize)
         ensures { let old = state self.old in
             EditsInPlace (take n old.text) old (state self.new) };
@@ -160,14 +175,16 @@ pub trait NewBuffer: Buffer {
     fn empty(alloc: Self::Alloc) -> Self
         ensures { Self.state result ≡ record { text = []; capacity = Self.sure } };
 
-    /// Creates an empty buffer with room for at least `capacity` bytes.
+    /// Creates an empty buffer with room for at least `capacity` bytes, or returns an error if there is
+    /// none.
     fn with_room(alloc: Self::Alloc, capacity: usize) -> Result<Self, Self::Refusal>
         ensures text { IfOk result (λ buffer. (Self.state buffer).text ≡ []) }
         ensures capacity { IfOk result (λ buffer. capacity ≤ (Self.state buffer).capacity) }
-        ensures exact { capacity ≤ Self.sure → IfOk result (λ buffer. (Self.state buffer).capacity ≡ Self.sure) }
+        ensures exact { capacity ≤ Self.sure
+            → IfOk result (λ buffer. (Self.state buffer).capacity ≡ Self.sure) }
         ensures succeeds { capacity ≤ Self.sure → IsOk result };
 
-    /// Creates a buffer with a copy of `bytes`.
+    /// Creates a buffer with a copy of `bytes`, or returns an error if there is no room for it.
     fn with_copy(alloc: Self::Alloc, bytes: &[u8]) -> Result<Self, Self::Refusal>
         ensures text { IfOk result (λ buffer. (Self.state buffer).text ≡ bytes.now) }
         ensures room { IfOk result (λ buffer. length bytes.now ≤ (Self.state buffer).capacity) }
@@ -196,8 +213,10 @@ pub trait CloneBuffer: Buffer {
         ensures exact { copies (Self.state self.now)
             → IfOk result (λ copy. (Self.state copy).capacity ≡ Self.sure) };
 
-    /// Keeps the first `at` bytes and returns the others as a buffer of their own. Condition: `at`
-    /// is at most the number of bytes.
+    /// Keeps the first `at` bytes and returns the others as a buffer of their own, or returns an error
+    /// if there is no room for that; the bytes are then unchanged.
+    ///
+    /// Condition: `at` is at most the number of bytes.
     fn split_off(&mut self, at: usize) -> Result<Self, Self::Refusal>
         requires { at ≤ length (Self.state self.old).text }
         ensures tail { IfOk result (λ tail.
