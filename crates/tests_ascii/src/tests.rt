@@ -8,6 +8,7 @@ mod chunks;
 mod clones;
 mod folded;
 mod json;
+mod lines_by;
 mod long_texts;
 mod mutable_views;
 mod numbers;

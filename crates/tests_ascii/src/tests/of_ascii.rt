@@ -2,9 +2,10 @@
 
 use super::{boxed, owned, shared};
 use ascii::classes::{Blank, Digit, Ranges};
+use ascii::endings::{ends_in_cr_lf, find_end, lone_break, split_ending};
 use ascii::folded::FoldedStr;
 use ascii::iter::{
-    Cut, CutBack, End, take_end, walk_line_spans, walk_lines, walk_split, walk_split_spans,
+    Cut, CutBack, End, Endings, take_end, walk_line_spans, walk_lines, walk_split, walk_split_spans,
 };
 use ascii::json::{JsonError, char_from_json, char_to_json, str_from_json, string_from_json};
 use ascii::numbers::{Number, NumberError};
@@ -1087,6 +1088,60 @@ fn into_chars_of_text(rt: HostRuntime) {
     assert_debug!(rt; owned(&rt, "ab").into_chars(alloc), "Ok(['a', 'b'])");
 }
 
+// endings::find_end
+#[test]
+fn find_end_of_endings(rt: HostRuntime) {
+    assert_debug!(
+        rt;
+        (
+            find_end(Endings::CrLf, b"a\nb\r\nc", 0),
+            find_end(Endings::CrLf, b"a\nb", 0),
+            find_end(Endings::CrLfStrict, b"a\nb\r\nc", 0),
+        ),
+        "(Some(5), None, Some(2))"
+    );
+}
+
+// endings::lone_break
+#[test]
+fn lone_break_of_endings(rt: HostRuntime) {
+    assert_debug!(
+        rt;
+        (
+            lone_break(Endings::CrLfStrict, b"a\n"),
+            lone_break(Endings::CrLfStrict, b"a\r\n"),
+            lone_break(Endings::CrLf, b"a\n"),
+        ),
+        "(Some(1), None, None)"
+    );
+}
+
+// endings::ends_in_cr_lf
+#[test]
+fn ends_in_cr_lf_of_endings(rt: HostRuntime) {
+    assert_debug!(
+        rt;
+        (
+            ends_in_cr_lf(b"a\r\n"),
+            ends_in_cr_lf(b"a\n"),
+        ),
+        "(true, false)"
+    );
+}
+
+// endings::split_ending
+#[test]
+fn split_ending_of_endings(rt: HostRuntime) {
+    assert_debug!(
+        rt;
+        (
+            split_ending(Endings::CrLf, view("a\nb\r\n")),
+            split_ending(Endings::Any, view("ab\n")),
+        ),
+        "((\"a\\nb\", CrLf), (\"ab\", Lf))"
+    );
+}
+
 // Display for CopyError::fmt
 #[test]
 fn fmt_of_copy_error(rt: HostRuntime) {
@@ -1764,6 +1819,103 @@ fn line_spans_from_of_ascii_str(rt: HostRuntime) {
         view("x\r\ny").line_spans_from(10).next_back(),
         "Some(LineSpan { start: 13, text: \"y\", ending: Absent })"
     );
+}
+
+// Clone for LineSpansBy::clone
+#[test]
+fn clone_of_line_spans_by(rt: HostRuntime) {
+    assert_debug!(
+        rt;
+        view("x\r\ny").line_spans_by(Endings::CrLf).clone().expect(&rt, "refused").remainder(),
+        "Some((0, \"x\\r\\ny\"))"
+    );
+}
+
+// Iterator for LineSpansBy::next
+#[test]
+fn next_of_line_spans_by(rt: HostRuntime) {
+    assert_debug!(
+        rt;
+        view("x\r\ny").line_spans_by(Endings::CrLf).next(),
+        "Some(LineSpan { start: 0, text: \"x\", ending: CrLf })"
+    );
+}
+
+// LineSpansBy::remainder
+#[test]
+fn remainder_of_line_spans_by(rt: HostRuntime) {
+    let mut spans = view("x\r\ny\nz").line_spans_by(Endings::CrLfStrict);
+    assert_debug!(rt; spans.next(), "Some(LineSpan { start: 0, text: \"x\", ending: CrLf })");
+    assert_debug!(rt; spans.next(), "None");
+    assert_debug!(rt; spans.remainder(), "Some((3, \"y\\nz\"))");
+}
+
+// LineSpansBy::lone_break
+#[test]
+fn lone_break_of_line_spans_by(rt: HostRuntime) {
+    assert_debug!(
+        rt;
+        (
+            view("x\r\ny\nz").line_spans_by(Endings::CrLfStrict).lone_break(),
+            view("x\r\ny\nz").line_spans_by(Endings::CrLf).lone_break(),
+        ),
+        "(Some(4), None)"
+    );
+}
+
+// Clone for LinesBy::clone
+#[test]
+fn clone_of_lines_by(rt: HostRuntime) {
+    assert_debug!(
+        rt;
+        view("x\r\ny").lines_by(Endings::CrLf).clone().expect(&rt, "refused").remainder(),
+        "Some(\"x\\r\\ny\")"
+    );
+}
+
+// Iterator for LinesBy::next
+#[test]
+fn next_of_lines_by(rt: HostRuntime) {
+    assert_debug!(rt; view("x\ny\r\nz").lines_by(Endings::CrLf).next(), "Some(\"x\\ny\")");
+}
+
+// LinesBy::remainder
+#[test]
+fn remainder_of_lines_by(rt: HostRuntime) {
+    let mut lines = view("x\r\ny\nz").lines_by(Endings::CrLfStrict);
+    assert_debug!(rt; lines.next(), "Some(\"x\")");
+    assert_debug!(rt; lines.next(), "None");
+    assert_debug!(rt; lines.remainder(), "Some(\"y\\nz\")");
+}
+
+// LinesBy::lone_break
+#[test]
+fn lone_break_of_lines_by(rt: HostRuntime) {
+    assert_debug!(
+        rt;
+        (
+            view("x\r\ny\nz").lines_by(Endings::CrLfStrict).lone_break(),
+            view("x\r\ny\nz").lines_by(Endings::CrLf).lone_break(),
+        ),
+        "(Some(4), None)"
+    );
+}
+
+// AsciiStr::lines_by
+#[test]
+fn lines_by_of_ascii_str(rt: HostRuntime) {
+    let mut lines = view("x\ny\r\nz").lines_by(Endings::CrLf);
+    assert_debug!(rt; lines.next(), "Some(\"x\\ny\")");
+    assert_debug!(rt; lines.next(), "Some(\"z\")");
+    assert_debug!(rt; lines.next(), "None");
+}
+
+// AsciiStr::line_spans_by
+#[test]
+fn line_spans_by_of_ascii_str(rt: HostRuntime) {
+    let mut spans = view("x\r\ny").line_spans_by(Endings::CrLf);
+    assert_debug!(rt; spans.next(), "Some(LineSpan { start: 0, text: \"x\", ending: CrLf })");
+    assert_debug!(rt; spans.next(), "Some(LineSpan { start: 3, text: \"y\", ending: Absent })");
 }
 
 // Split::remainder
