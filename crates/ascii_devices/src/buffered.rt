@@ -11,7 +11,7 @@
 
 ghost use Rattle.std.specs.Prelude.{◌≡◌, ◌+◌, ◌<◌, ◌≤◌, ◌∷◌, ◌++◌, IfOk, OnErr, OnOk, [], true};
 ghost use Rattle.std.specs.Prelude.{length};
-ghost use Rattle.std.specs.Prelude.{take, vec_len};
+ghost use Rattle.std.specs.Prelude.{All, replicate, take, vec_len};
 ghost use Rattle.ascii_devices.specs.Buffered.{AppendsTo, FinishOutcome, IsReady, MayFail};
 ghost use Rattle.ascii_devices.specs.Buffered.{Sends, SendsFront, output_state, unbuffered};
 ghost use Rattle.ascii_devices.specs.Devices.{CountsFault};
@@ -268,14 +268,24 @@ static ZEROS: [u8; 1_024] = [0; 1_024];
 ///
 ///     zeros(alloc, 3)? // [0, 0, 0]
 pub fn zeros<A: Allocator>(alloc: A, count: usize) -> Result<Vec<u8, A>, AllocError>
-    ensures { IfOk result (λ zeros. vec_len zeros ≡ count) }
+    ensures size { IfOk result (λ zeros. vec_len zeros ≡ count) }
+    ensures zeros { IfOk result (λ zeros. All (λ byte. byte ≡ 0) zeros.items) }
 {
     let mut zeros = Vec::with_capacity(alloc, count)?;
     'parts: while zeros.len() < count {
         let part = ZEROS.len().min(count - zeros.len());
-        zeros.extend_from_slice(&ZEROS[..part])?;
+        zeros.extend_from_slice(zeros_up_to(part))?;
     }
     Ok(zeros)
+}
+
+/// A part of the zeros that `zeros` copies.
+#[inline(always)]
+fn zeros_up_to(n: usize) -> &'static [u8]
+    requires { n ≤ 1_024 }
+    ensures { result.now ≡ replicate n 0 }
+{
+    &ZEROS[..n]
 }
 
 /// Writes all of the bytes, in as many writes as the writer needs.

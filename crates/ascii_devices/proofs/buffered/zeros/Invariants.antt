@@ -1,9 +1,10 @@
-use Rattle.std.proofs.Common.{◌-◌, ◌≤◌, vec_len}
+use Rattle.std.proofs.Common.{◌≡◌, ◌-◌, ◌≤◌, length, replicate, vec_len}
 use Rattle.ascii_devices.proofs.buffered.zeros.Given as goal
 
--- no more zeros than were asked for
+-- zeros, no more than were asked for
 abbrev pub invariant-parts : goal.invariant-parts
-invariant-parts g l = vec_len l.zeros ≤ l.count
+invariant-parts g l =
+    (vec_len l.zeros ≤ l.count) × (l.zeros.items ≡ replicate (length l.zeros.items) 0)
 
 -- the zeros that are left
 abbrev pub decreases-parts : goal.decreases-parts
