@@ -1,6 +1,6 @@
 -- Replies that were written, one after another.
 use Rattle.std.proofs.Common.{◌≡◌, ℕ, ◌+◌, ◌<◌, suc, List, [], ◌∷◌, ◌++◌, length, get_or, take}
-use Rattle.std.proofs.Common.{drop, ◌-◌, ◌^◌, min, Ok, Err, Result, append-nil, ap, refl, sym, subst, ◌∙◌}
+use Rattle.std.proofs.Common.{drop, Ok, Err, Result, append-nil, ap, refl, sym, subst, ◌∙◌}
 use Rattle.std.proofs.Common.{append_assoc, true, false}
 use Rattle.std.proofs.KnownBytes.{Appends-trans}
 use Rattle.std.proofs.Math.Seq.{drop-cons}
@@ -16,6 +16,7 @@ use Rattle.ascii_lines.specs.declared.line_writer.WriteError.TheVariants.{LineBr
 use Rattle.ascii_lines.specs.LineWriter.{FailsToWrite, Flushes, FlushesFrom, FlushesOutcome}
 use Rattle.ascii_lines.specs.LineWriter.{WriterState, WritesBytes, WritesLine, WritesLineFrom}
 use Rattle.ascii_lines.specs.LineWriter.{flow_of_writer, state_of_writer}
+use Rattle.ascii_lines.specs.Failures.{one_more}
 use Rattle.ascii_lines.specs.History.{TellsFlushed}
 use Rattle.ascii_devices.specs.declared.Sink.{Ghosts}
 use Rattle.ascii_lines.proofs.HistoryLemmas.{TellsFlushed-after, TellsSent-flush}
@@ -48,7 +49,7 @@ pub FailsToWrite-after : {a b c : WriterState} (xs ys : List ℕ)
     → WritesBytes a b xs → FailsToWrite b c ys → FailsToWrite a c (xs ++ ys)
 FailsToWrite-after {a} {b} {c} xs ys first then = record {
   passed = Passes-prefix xs ys first.passed then.passed;
-  failures = then.failures ∙ ap (λ n. min (n + 1) (2 ^ 64 - 1)) first.failures;
+  failures = then.failures ∙ ap one_more first.failures;
   aside = then.aside ∙ first.aside;
   stage = then.stage;
   size = then.size ∙ first.size;

@@ -8,7 +8,8 @@ use Rattle.ascii_devices.specs.Buffered.{AppendsBy, AppendsBytes, FinishOutcome,
 use Rattle.ascii_devices.specs.Buffered.{SendsFront}
 use Rattle.ascii_devices.specs.declared.DeviceFault.{DeviceFault}
 use Rattle.ascii_devices.proofs.ListLemmas.{append_two}
-use Rattle.ascii_lines.specs.WriteBuffer.{Flow, Passes, PassesPrefix, PutsBytes, flow_of, one_more}
+use Rattle.ascii_lines.specs.WriteBuffer.{Flow, Passes, PassesPrefix, PutsBytes, flow_of}
+use Rattle.ascii_lines.specs.Failures.{one_more}
 use Rattle.ascii_lines.proofs.HistoryLemmas.{TellsSent-nil, TellsSent-trans, TellsSent-write}
 
 -- nothing was written

@@ -1,6 +1,6 @@
 -- What a line reader reads and yields, and the errors it returns.
 use Rattle.std.specs.Prelude.{◌≡◌, ◌≢◌, ◌⊎◌, ℕ, ◌+◌, ◌-◌, ◌^◌, ◌<◌, ◌≤◌, Bool, true, false, List}
-use Rattle.std.specs.Prelude.{[], ◌∷◌, ◌++◌, ⊤, if◌then◌else◌, nat_lt, length, min, take, Ok, Err}
+use Rattle.std.specs.Prelude.{[], ◌∷◌, ◌++◌, ⊤, if◌then◌else◌, nat_lt, length, take, Ok, Err}
 use Rattle.std.specs.Prelude.{slice_index}
 use Rattle.std.specs.Prelude.{None, Some}
 use Rattle.std.specs.Io.KnownBytes.{Consumes, IsAtEnd}
@@ -14,6 +14,7 @@ use Rattle.ascii.specs.Spans.{LineSpansEndedBy, WithStart, line_size}
 use Rattle.ascii.specs.View.{text_of}
 use Rattle.ascii.specs.Bytes.{FirstOther}
 use Rattle.ascii.specs.Endings.{FreeUpTo, IsFirstStop, IsOneLine, IsWhole}
+use Rattle.ascii_lines.specs.Failures.{one_more}
 use Rattle.ascii_lines.specs.LineBuffer.{WindowState}
 use Rattle.ascii.specs.declared.iter.spans.Endings.{Endings}
 use Rattle.ascii.specs.declared.iter.spans.Endings.TheVariants.{Any, CrLfStrict}
@@ -179,7 +180,7 @@ IsPartError start size n held rest left Read = ⊤
 -- the failures of the source after a call that returns this, of `n` before: one more if the call
 -- returns `Read`, unless `n` is 2 ^ 64 - 1
 abbrev pub failures_after : {T : Type 0} → ℕ → Result T LineError → ℕ
-failures_after n (Err Read) = min (n + 1) (2 ^ 64 - 1)
+failures_after n (Err Read) = one_more n
 failures_after n other = n
 
 -- what an open reader returns. `Some`: the next line, which fits in the buffer. `None`: there are

@@ -1,5 +1,5 @@
 -- What a line writer writes, and the errors it returns.
-use Rattle.std.specs.Prelude.{◌≡◌, ℕ, ◌+◌, ◌-◌, ◌^◌, Bool, List, [], ◌∷◌, ◌++◌, min, Ok, Err, None, Some, true, false}
+use Rattle.std.specs.Prelude.{◌≡◌, ℕ, Bool, List, [], ◌∷◌, ◌++◌, Ok, Err, None, Some, true, false}
 use Rattle.std.specs.Io.KnownBytes.{Appends}
 use Rattle.std.specs.List.{flat_map}
 use Rattle.std.specs.declared.option.Option.{Option}
@@ -13,6 +13,7 @@ use Rattle.ascii_devices.specs.Devices.{Aside, Grows, write_of}
 use Rattle.ascii_devices.specs.declared.Sink.{Ghosts}
 use Rattle.ascii_devices.specs.declared.log.Event.{Event}
 use Rattle.ascii_devices.specs.declared.log.Event.TheVariants.{Flushed}
+use Rattle.ascii_lines.specs.Failures.{one_more}
 use Rattle.ascii_lines.specs.WriteBuffer.{Flow, Passes, PassesPrefix, flow}
 use Rattle.ascii_lines.specs.declared.line_writer.LineWriter.{LineWriter}
 use Rattle.ascii_lines.specs.declared.line_writer.WriteError.{WriteError}
@@ -80,7 +81,7 @@ pub record WritesBytes (old new : WriterState) (bytes : List ℕ) : Type 0 where
 -- `bytes`, the sink took a prefix. One more failure is counted, unless there were 2 ^ 64 - 1
 pub record FailsToWrite (old new : WriterState) (bytes : List ℕ) : Type 0 where
   pub passed : PassesPrefix (flow_of_writer old) (flow_of_writer new) bytes
-  pub failures : new.failures ≡ min (old.failures + 1) (2 ^ 64 - 1)
+  pub failures : new.failures ≡ one_more old.failures
   pub aside : new.aside ≡ old.aside
   pub stage : new.is_broken ≡ true
   pub size : new.size ≡ old.size

@@ -1,9 +1,10 @@
 -- What a buffer of fixed size holds before a sink, and what writing bytes through it does.
-use Rattle.std.specs.Prelude.{◌≡◌, ℕ, ◌+◌, ◌-◌, ◌^◌, List, ◌++◌, min, true, false}
+use Rattle.std.specs.Prelude.{◌≡◌, ℕ, List, ◌++◌, true, false}
 use Rattle.std.specs.Io.KnownBytes.{Appends}
 use Rattle.std.specs.declared.option.Option.{Option}
 use Rattle.ascii_devices.specs.Buffered.{OutputState}
 use Rattle.ascii_devices.specs.declared.log.Event.{Event}
+use Rattle.ascii_lines.specs.Failures.{one_more}
 use Rattle.ascii_lines.specs.History.{TellsSent}
 
 -- a sink with the buffer before it: the bytes that the sink has taken, if they are known; its
@@ -33,10 +34,6 @@ pub record PassesPrefix (old new : Flow) (bytes : List ℕ) : Type 0 where
 -- a sink that has taken `taken` and has this history, before which `held` is held
 abbrev pub flow : Option (List ℕ) → Option (List Event) → List ℕ → Flow
 flow taken history held = record { taken = taken; history = history; held = held }
-
--- the count of failures after one more, which stops at 2 ^ 64 - 1
-abbrev pub one_more : ℕ → ℕ
-one_more n = min (n + 1) (2 ^ 64 - 1)
 
 -- ---- cited by private functions only
 
