@@ -1,8 +1,7 @@
-pub mod Before
 pub mod BoundedLemmas
 pub mod EditLemmas
+pub mod EditRunLemmas
 pub mod EndsOutputLemmas
-pub mod StreamedLemmas
 pub mod FrontOutputLemmas
 pub mod JsonTextLemmas
 pub mod LineFeedLemmas
@@ -12,3 +11,4 @@ pub mod OutputBufferLemmas
 pub mod PlainRunLemmas
 mod RunExamples
 pub mod RunsLemmas
+pub mod StreamedLemmas

@@ -1,5 +1,4 @@
 pub mod AnswerLemmas
-pub mod Before
 pub mod EditLemmas
 pub mod InsertionLemmas
 pub mod ScriptLemmas
