@@ -9,20 +9,20 @@
 //! | a table with tabs between the fields | the fields of a row | `table` |
 //! | a text that begins with an identifier | the identifier and the rest, by a class of one's own | `identifiers` |
 //! | a log | its last lines, and whether the last one is complete | `last_lines` |
-//! | bytes that may not be ASCII | a text with `?` in place of other bytes | `lossy` |
+//! | bytes that may not be ASCII | a text with `?` in place of other bytes | `copy_lossy` |
 //! | text for a terminal | what a screen of a given width shows of it | `screen` |
 //! | an `AsciiString` and JSON | a value, and the string back | `values` |
 //!
 //! Each error prints a line and implements `Error`. Lines of an input are read by the crate `ascii_lines`.
 #![tactic(auto)]
 
+pub mod copy_lossy;
 mod errors;
 pub mod header_map;
 pub mod headers;
 pub mod hosts;
 pub mod identifiers;
 pub mod last_lines;
-pub mod lossy;
 pub mod screen;
 pub mod settings;
 pub mod table;

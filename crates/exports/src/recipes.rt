@@ -5,13 +5,13 @@ ghost use Rattle.std.specs.Str.{IsAscii};
 
 use crate::answer::Answer;
 use ascii::{AsciiStr, bytes};
+use cookbook::copy_lossy::copy_lossy;
 use cookbook::header_map::HeaderMap;
 use cookbook::headers::{
     Header, HeaderBlockError, HeaderError, find_header, read_header, read_headers,
 };
 use cookbook::hosts::{HostName, HostNameError, host_order, same_host};
 use cookbook::last_lines::{is_open, last_body_end, last_lines, without_last_lines};
-use cookbook::lossy::copy_lossy;
 use cookbook::screen::wrap_for_screen;
 use cookbook::settings::{SettingError, read_setting};
 use cookbook::table::{RowError, read_row};

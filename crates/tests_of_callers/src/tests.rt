@@ -3,6 +3,7 @@
 
 mod beside;
 mod callers;
+mod copy_lossy;
 mod errors;
 mod header_map;
 mod headers;
@@ -10,7 +11,6 @@ mod hosts;
 mod identifiers;
 mod json_round_trip;
 mod last_lines;
-mod lossy;
 mod screen;
 mod serialized;
 mod settings;

@@ -2,10 +2,10 @@
 
 use super::repeated;
 use ascii::{AsciiChar, AsciiString};
+use cookbook::copy_lossy::copy_lossy;
 use cookbook::header_map::HeaderMap;
 use cookbook::headers::read_headers;
 use cookbook::hosts::{HostName, host_order, same_host};
-use cookbook::lossy::copy_lossy;
 use cookbook::screen::wrap_for_screen;
 use cookbook::table::read_row;
 use cookbook::values::through_json;

@@ -1,6 +1,6 @@
 //! Text from bytes that may not be ASCII.
 
-use cookbook::lossy::copy_lossy;
+use cookbook::copy_lossy::copy_lossy;
 use testing::assert_row;
 
 /// Bytes, and the text with a mark for each run of other bytes.
