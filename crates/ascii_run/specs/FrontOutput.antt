@@ -15,7 +15,7 @@ pub record FrontState : Type 0 where
   pub last : ℕ
   pub buffer : BufferState
 
--- the state of the sink behind a buffer
+-- the state of the sink after a buffer
 abbrev pub sink_of : OutputState → SinkState
 sink_of state =
     record { taken = state.taken; failures = state.failures; history = state.history }

@@ -44,7 +44,7 @@ IsWholeOutput Escape text output = output ≡ flat_map escape_ascii text
 IsWholeOutput Lossy text output = output ≡ flat_map lossy_text text
 
 -- `output` is what is written of a text after which another error ends the input: the output of the
--- mode, but for `Json` without the last double quote, so that nobody takes it for the whole
+-- mode, except that `Json` is without the last double quote, so that nobody takes it for the whole
 abbrev pub IsCutOutput : BoundedMode → List ℕ → List ℕ → Type 0
 IsCutOutput Json text output = output ≡ codes "\"" ++ flat_map json_code text
 IsCutOutput mode text output = IsWholeOutput mode text output

@@ -2,13 +2,13 @@
 //!
 //! It holds one chunk of the input and one output buffer, and makes all allocations before the first read. It works
 //! over any `Source` and `Sink`. Modes that need the whole text, such as `Mode::Tac`, are modes of `engine` only; the
-//! change of case is a mode of this engine only.
+//! change of case, `Escape` and `Lossy` are modes of this engine only.
 //!
-//! The *front output* of a text is what the mode writes of it before more is read: for `Lines`, the last CR of the text
-//! is held back, because an LF may follow. If the input is not ASCII, the front output of the bytes before has been
-//! written.
+//! If an error ends the input, the output for the text before it has been written: the output of the mode, where for
+//! `Lines` an open line is closed, and for `Json` the string is left open, so that nobody takes it for the whole.
 //!
-//! The contract says of each outcome what was read, what was written, and how the devices' counts of failures rose.
+//! The contract says of each outcome which bytes the reader gave and which the writer took, by what the devices say of
+//! themselves and by their histories, and how their counts of failures rose.
 
 ghost use Rattle.std.specs.Prelude.{◌≡◌, ◌<◌, MatchOption};
 ghost use Rattle.std.specs.List.{Contains};
@@ -134,9 +134,10 @@ impl BoundedMode {
 const CHUNK: usize = 131_072;
 
 /// Reads an input of any length to its end and writes the output of the mode as it reads, or
-/// returns why it stopped. After `NotAscii` and `Read` the writer has taken the output of the bytes
-/// before, as far as it does not depend on what follows; after `Write` a prefix of it; after
-/// `Memory` nothing was read or written.
+/// returns why it stopped. After `NotAscii`, `TooLong` and `Read` the writer has taken the output of
+/// the bytes before, with the last line of `Lines` closed and the string of `Json` left open; after
+/// `Write` a prefix of it; after `Memory` nothing was read or written. `Escape` and `Lossy` take all
+/// bytes, so they never return `NotAscii`.
 ///
 /// Condition: fewer than `u64::MAX` calls of the reader and of the writer have failed. Reads 128 KiB
 /// at a time, and before each read writes and flushes the output so far. Holds that chunk and an

@@ -80,7 +80,7 @@ impl From<AsAsciiStrError> for EngineFault {
 pub enum BoundedFault {
     /// The byte of the input at this position, counted from 0, is the first that is not ASCII.
     NotAscii(u64),
-    /// The first `2^64` bytes of the input are ASCII, so that a position after them does not fit.
+    /// The first `2^64` bytes of the input have been taken, so that a position after them does not fit.
     TooLong,
     /// An allocation failed.
     Memory,

@@ -31,7 +31,7 @@ impl Ranges for UnescapedRanges {
     }
 }
 
-/// The bytes that `escape` shows as themselves: printable ASCII but for quotes and the backslash.
+/// The bytes that `escape` shows as themselves: printable ASCII except quotes and the backslash.
 type Unescaped = ByRanges<UnescapedRanges>;
 
 /// Shows each byte as std's `escape_ascii` does.

@@ -83,6 +83,44 @@ fn run_both_of_ascii_run(rt: HostRuntime) {
     );
 }
 
+// BoundedMode::all
+#[test]
+fn all_of_bounded_mode(rt: HostRuntime) {
+    assert_debug!(rt; BoundedMode::all().contains(&BoundedMode::Lines), "true");
+}
+
+// BoundedMode::name
+#[test]
+fn name_of_bounded_mode(rt: HostRuntime) {
+    assert_debug!(rt; BoundedMode::Lines.name(), "\"lines\"");
+}
+
+// BoundedMode::from_name
+#[test]
+fn from_name_of_bounded_mode(rt: HostRuntime) {
+    assert_debug!(
+        rt;
+        (
+            BoundedMode::from_name("lines"),
+            BoundedMode::from_name("LINES"),
+        ),
+        "(Some(Lines), None)"
+    );
+}
+
+// BoundedMode::takes_all
+#[test]
+fn takes_all_of_bounded_mode(rt: HostRuntime) {
+    assert_debug!(
+        rt;
+        (
+            BoundedMode::Escape.takes_all(),
+            BoundedMode::Lines.takes_all(),
+        ),
+        "(true, false)"
+    );
+}
+
 // bounded_engine
 #[test]
 fn bounded_engine_of_ascii_run(rt: HostRuntime) {
@@ -302,6 +340,33 @@ fn fmt_of_bounded_fault(rt: HostRuntime) {
 #[test]
 fn from_of_bounded_fault(rt: HostRuntime) {
     assert_debug!(rt; BoundedFault::from(AllocError), "Memory");
+}
+
+// Mode::name
+#[test]
+fn name_of_mode(rt: HostRuntime) {
+    assert_debug!(
+        rt;
+        (
+            Mode::Tac.name(),
+            Mode::EndsSpans(&[]).name(),
+        ),
+        "(\"tac\", \"ends\")"
+    );
+}
+
+// Mode::from_name
+#[test]
+fn from_name_of_mode(rt: HostRuntime) {
+    assert_debug!(
+        rt;
+        (
+            Mode::from_name("tac").is_some(),
+            Mode::from_name("ends").is_some(),
+            Mode::from_name("upper").is_some(),
+        ),
+        "(true, false, false)"
+    );
 }
 
 // engine
