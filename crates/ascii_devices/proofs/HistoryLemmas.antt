@@ -3,7 +3,7 @@ use Rattle.std.proofs.Common.{◌≡◌, ℕ, ◌+◌, List, [], ◌∷◌, ◌+
 use Rattle.std.proofs.Common.{append_assoc, append-nil, arith, refl, subst, ◌∙◌}
 use Rattle.std.proofs.KnownBytes.{Appends-kept, Appends-nil, Appends-trans, Consumes-nil}
 use Rattle.std.proofs.KnownBytes.{Consumes-trans}
-use Rattle.std.specs.Io.KnownBytes.{Appends, Consumes, Keeps}
+use Rattle.std.specs.Io.KnownBytes.{Appends, Consumes, IsAtEnd, Keeps}
 use Rattle.ascii_devices.specs.Devices.{Grows, read_of, received_of, sent_of, write_of}
 use Rattle.ascii_devices.specs.States.{Gives, SinkState, SourceState, Takes}
 use Rattle.ascii_devices.specs.declared.log.Event.{Event}
@@ -74,6 +74,11 @@ Gives-read a b c bytes more kept still gives then grows = record {
         ∙ ap (λ bs. bytes ++ bs) (received_of-all more)),
   );
 }
+
+-- if no call failed, what is left is what the source says of itself
+pub Gives-end : (a b : SourceState) (bytes : List ℕ) (gives : Gives a b bytes)
+    → b.failures ≡ a.failures → IsAtEnd b.rest → IsAtEnd gives.rest
+Gives-end a b bytes gives same end = subst IsAtEnd (gives.left same) end
 
 -- the source gave some bytes, none of its calls failed, and then a read failed
 pub Gives-failed : (a b c : SourceState) (bytes : List ℕ) → b.failures ≡ a.failures

@@ -13,4 +13,5 @@ pub use Rattle.ascii.specs.Spans
 pub use Rattle.ascii.specs.StringState
 pub use Rattle.ascii.specs.View
 pub use Rattle.ascii_devices.specs.Devices
+pub use Rattle.ascii_devices.specs.States
 pub use Rattle.ascii_devices.specs.Wrapped

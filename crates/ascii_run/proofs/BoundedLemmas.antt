@@ -23,11 +23,17 @@ use Rattle.ascii_run.specs.declared.bounded.BoundedMode.TheVariants.{Upper, Lowe
 use Rattle.ascii_run.specs.declared.faults.BoundedFault.{BoundedFault}
 use Rattle.ascii_run.specs.declared.faults.BoundedFault.TheVariants.{NotAscii, TooLong, Memory}
 use Rattle.ascii_run.specs.declared.faults.BoundedFault.TheVariants.{Read, Write}
-use Rattle.ascii_run.specs.Bounded.{BoundedRun, CountsReads, IsCutAt}
+use Rattle.ascii_run.specs.Bounded.{BoundedOutcome, CountsReads, IsCutAt}
 use Rattle.ascii_run.specs.FrontOutput.{PassesOn, StopsWith, TakesFront}
+use Rattle.ascii_run.specs.Reading.{GivesAll, RunsWith}
 use Rattle.ascii_run.specs.Streamed.{IsCutOutput, IsInput, IsWholeOutput, cut_off, front}
 use Rattle.ascii_run.specs.Streamed.{last_after, stream, takes_all}
 use Rattle.ascii_run.proofs.StreamedLemmas.{front_more, front_start, is_cut, is_whole, last_more}
+
+-- a bounded run with this result
+abbrev pub BoundedRun : BoundedMode → Result (Unit {0}) BoundedFault
+    → SourceState → SourceState → SinkState → SinkState → Type 0
+BoundedRun mode result = RunsWith (BoundedOutcome mode result)
 
 -- ---- written
 
@@ -285,7 +291,7 @@ stops_there mode state last r t a b c done part position n next result is at lon
 
 pub closes : (mode state : BoundedMode) (last : ℕ) (r t : SourceState) (a b c : SinkState)
     (done buf : List ℕ) (n : ℕ) (result : Result (Unit {0}) BoundedFault) → n ≡ 0 → state ≡ mode
-    → last ≡ last_after 10 done → Gives r t (done ++ take n buf) → IsAtEnd t.rest
+    → last ≡ last_after 10 done → (gave : Gives r t (done ++ take n buf)) → IsAtEnd gave.rest
     → IsInput mode done → Takes a b (front (stream mode) done)
     → PassesOn ((stream state).closing last) b c result → BoundedRun mode result r t a c
 closes mode state last r t a b c done buf n result none is at gave end input wrote passes =
@@ -301,18 +307,18 @@ closes mode state last r t a b c done buf n result none is at gave end input wro
     ends = ap (λ m. before ++ (stream m).closing last) is
         ∙ ap (λ k. before ++ (stream mode).closing k) at
 
-    gives : Gives r t done
-    gives = subst (Gives r t) (ap (λ k. done ++ take k buf) none ∙ append-nil done) gave
+    all : GivesAll r t done
+    all = subst (GivesAll r t) (ap (λ k. done ++ take k buf) none ∙ append-nil done) (gave, end)
 
     by_result : (result : Result (Unit {0}) BoundedFault)
         → PassesOn ((stream state).closing last) b c result → BoundedRun mode result r t a c
     by_result (Ok _) passes = (
       done,
       output,
-      gives,
+      all.0,
       subst (Takes a c) ends
           (Takes-trans a b c before ((stream state).closing last) wrote passes.0),
-      (end, input, is_whole mode done),
+      (all.1, input, is_whole mode done),
     )
     by_result (Err Write) passes =
         let (sent, others, took, whole) =
@@ -320,11 +326,11 @@ closes mode state last r t a b c done buf n result none is at gave end input wro
         (TakesFront-after a b c before ((stream state).closing last) wrote passes.0) in (
           done,
           sent,
-          gives,
+          all.0,
           took,
           (
             others,
-            inr (end, input, subst (IsWholeOutput mode done) (sym whole) (is_whole mode done)),
+            inr (all.1, input, subst (IsWholeOutput mode done) (sym whole) (is_whole mode done)),
           ),
         )
     by_result (Err (NotAscii k)) passes = absurd passes

@@ -9,14 +9,7 @@ use Rattle.ascii_devices.specs.Buffered.{AppendsBy, AppendsBytes, FinishOutcome,
 use Rattle.ascii_devices.specs.Buffered.{OutputState}
 use Rattle.ascii_devices.specs.States.{SinkState, Takes}
 use Rattle.ascii_devices.specs.declared.DeviceFault.{DeviceFault}
-use Rattle.ascii_run.specs.declared.faults.BoundedFault.{BoundedFault}
-use Rattle.ascii_run.specs.declared.faults.BoundedFault.TheVariants.{Write}
-use Rattle.ascii_run.specs.FrontOutput.{PassesOn, sink_of}
-
--- the outcome of `finish` as that of a run
-abbrev pub as_bounded : Result (Unit {0}) DeviceFault → Result (Unit {0}) BoundedFault
-as_bounded (Ok done) = Ok done
-as_bounded (Err _) = Err Write
+use Rattle.ascii_run.specs.FrontOutput.{Passes, sink_of}
 
 module _ (start mid now : OutputState) (bytes : List ℕ) (empty : start.buffer.bytes ≡ []) where
   abbrev a : SinkState
@@ -33,7 +26,7 @@ module _ (start mid now : OutputState) (bytes : List ℕ) (empty : start.buffer.
 
   passed_by : (q : Bool) (result : Result (Unit {0}) DeviceFault)
       → AppendsBy false q start mid bytes → FinishOutcome q mid now result
-      → PassesOn bytes a c (as_bounded result)
+      → Passes bytes a c result
   passed_by false (Ok _) (sent, sends, is, same) ((took, grows), count) = (
     subst (Takes a c) (all_of sent mid.buffer.bytes is)
         (Takes-trans a b c sent mid.buffer.bytes (Takes-sent a b sent sends.0 sends.1)
@@ -66,7 +59,7 @@ module _ (start mid now : OutputState) (bytes : List ℕ) (empty : start.buffer.
 pub passed_on : (start mid now : OutputState) (bytes : List ℕ)
     (result : Result (Unit {0}) DeviceFault) → IsReady start.buffer → AppendsBytes start mid bytes
     → FinishOutcome mid.buffer.is_broken mid now result
-    → PassesOn bytes (sink_of start) (sink_of now) (as_bounded result)
+    → Passes bytes (sink_of start) (sink_of now) result
 passed_on start mid now bytes result ready appends ends =
     let q = mid.buffer.is_broken in
     passed_by start mid now bytes ready.0 q result

@@ -1,20 +1,27 @@
 -- What was appended to an output, item by item, and what the writer took of it in the end.
-use Rattle.std.proofs.Common.{◌≡◌, ℕ, List, [], ◌∷◌, ◌++◌, map, Bool, true}
-use Rattle.std.proofs.Common.{false, append-nil, ap, subst, sym, ◌∙◌}
+use Rattle.std.proofs.Common.{◌≡◌, ◌⊎◌, ℕ, List, [], ◌∷◌, ◌++◌, map}
+use Rattle.std.proofs.Common.{append-nil, length, ap, inl, inr, refl, subst, sym, ◌∙◌}
 use Rattle.std.proofs.lemmas.Grind.{flat_map-append}
-use Rattle.std.proofs.lemmas.List.{append_assoc, map-append}
+use Rattle.std.proofs.lemmas.List.{map-append}
 use Rattle.std.specs.List.{flat_map}
-use Rattle.std.proofs.KnownBytes.{Appends-kept, Appends-trans}
-use Rattle.std.specs.Io.KnownBytes.{Appends}
+use Rattle.std.specs.Result.{IsErrAnd, OnErr}
+use Rattle.std.specs.Str.{IsAscii}
+use Rattle.ascii.specs.Bytes.{FirstOther}
 use Rattle.std.specs.declared.result.Result.{Result}
 use Rattle.std.specs.declared.result.Result.TheVariants.{Ok, Err}
 use Rattle.ascii_devices.specs.declared.DeviceFault.{DeviceFault}
-use Rattle.ascii_devices.specs.Buffered.{AppendsBy, AppendsBytes, FinishOutcome, MayFail, OutputState}
+use Rattle.ascii_devices.specs.Buffered.{AppendsBytes, FinishOutcome, IsReady, MayFail, OutputState}
+use Rattle.ascii_devices.specs.States.{Gives, SinkState, SourceState, Takes}
+use Rattle.ascii_devices.proofs.HistoryLemmas.{Takes-nil}
 use Rattle.ascii_devices.proofs.BufferedLemmas.{AppendsBytes-is, AppendsBytes-trans, MayFail-still}
 use Rattle.ascii_run.specs.declared.faults.EngineFault.{EngineFault}
-use Rattle.ascii_run.specs.declared.faults.EngineFault.TheVariants.{Write}
+use Rattle.ascii_run.specs.declared.faults.EngineFault.TheVariants.{NotAscii, Position, Memory}
+use Rattle.ascii_run.specs.declared.faults.EngineFault.TheVariants.{Read, Write}
 use Rattle.ascii_run.specs.declared.modes.Mode.{Mode}
-use Rattle.ascii_run.specs.Engine.{WritesOutput}
+use Rattle.ascii_run.specs.Engine.{EngineOutcome, StopsOutput, WritesOutput}
+use Rattle.ascii_run.specs.FrontOutput.{sink_of}
+use Rattle.ascii_run.specs.Reading.{GivesAll, RunsWith}
+use Rattle.ascii_run.proofs.FrontOutputLemmas.{passed_on}
 use Rattle.ascii_run.specs.OutputState.{AppendsOutput}
 use Rattle.ascii_run.specs.Modes.{IsOutput}
 
@@ -39,45 +46,69 @@ as_fault (Ok done) = Ok done
 as_fault (Err _) = Err Write
 
 -- all bytes that were appended, and what the writer took of them in the end
-module _ (mode : Mode) (text : List ℕ) (start mid end : OutputState)
-    (empty : start.buffer.bytes ≡ []) where
-  all_of : (sent held output : List ℕ) → sent ++ held ≡ start.buffer.bytes ++ output
-      → sent ++ held ≡ output
-  all_of sent held output is = is ∙ ap (λ bytes. bytes ++ output) empty
+pub writes_output : (mode : Mode) (text : List ℕ) (start mid now : OutputState)
+    (result : Result (Unit {0}) DeviceFault) → IsReady start.buffer
+    → AppendsOutput mode text start mid → FinishOutcome mid.buffer.is_broken mid now result
+    → WritesOutput mode text (as_fault result) (sink_of start) (sink_of now)
+writes_output mode text start mid now (Ok done) ready (output, of_text, appends) ends =
+    (output, of_text, (passed_on start mid now output (Ok done) ready appends ends).0)
+writes_output mode text start mid now (Err fault) ready (output, of_text, appends) ends =
+    let (sent, others, takes, is) =
+    (passed_on start mid now output (Err fault) ready appends ends).0 in
+    (sent, others, subst (IsOutput mode text) (sym is) of_text, takes)
 
-  writes_output_by : (q : Bool) (result : Result (Unit {0}) DeviceFault) (output : List ℕ)
-      → IsOutput mode text output → AppendsBy false q start mid output
-      → FinishOutcome q mid end result
-      → WritesOutput mode text (as_fault result) start.taken end.taken
-  writes_output_by false (Ok _) output of_text (sent, sends, is, same) ((took_rest, told), count) = (
-    output,
-    of_text,
-    subst (Appends start.taken end.taken) (all_of sent mid.buffer.bytes output is)
-        (Appends-trans start.taken mid.taken end.taken sent mid.buffer.bytes sends.0 took_rest),
-  )
-  writes_output_by false (Err _) output of_text (sent, sends, is, same)
-      ((more, others, sends_more, rest_is), count) = (
-        sent ++ more,
-        others,
-        subst (IsOutput mode text)
-            (sym (append_assoc sent more others
-            ∙ (ap (λ xs. sent ++ xs) rest_is ∙ all_of sent mid.buffer.bytes output is))) of_text,
-        Appends-trans start.taken mid.taken end.taken sent more sends.0 sends_more.0,
-      )
-  writes_output_by true (Err _) output of_text ((sent, others, sends, is), count)
-      ((kept, still), same) = (
-        sent,
-        others,
-        subst (IsOutput mode text) (sym (all_of sent others output is)) of_text,
-        Appends-kept start.taken mid.taken end.taken sent sends.0 kept,
-      )
-  writes_output_by true (Ok _) output of_text appends ends = absurd ends
+-- what is not begun: the writer is as it was, and the output could not be made
+pub writes_nothing : (mode : Mode) (text : List ℕ) (a b : SinkState) (fault : EngineFault)
+    → StopsOutput mode text fault → b ≡ a → WritesOutput mode text (Err fault) a b
+writes_nothing mode text a b (Position k) stops same = (stops, subst (λ s. Takes a s []) (sym same) (Takes-nil a))
+writes_nothing mode text a b Memory stops same = subst (λ s. Takes a s []) (sym same) (Takes-nil a)
+writes_nothing mode text a b (NotAscii n) stops same = absurd stops
+writes_nothing mode text a b Read stops same = absurd stops
+writes_nothing mode text a b Write stops same = absurd stops
 
-  pub writes_output : (result : Result (Unit {0}) DeviceFault) → start.buffer.is_broken ≡ false
-      → AppendsOutput mode text start mid
-      → FinishOutcome mid.buffer.is_broken mid end result
-      → WritesOutput mode text (as_fault result) start.taken end.taken
-  writes_output result whole appends =
-      let q = mid.buffer.is_broken in
-      writes_output_by q result appends.0 appends.1
-      (subst (λ p. AppendsBy p q start mid appends.0) whole appends.2.by_failure)
+-- ---- the whole run
+
+-- reading failed
+pub not_read : (mode : Mode) (r t : SourceState) (a : SinkState) (fault : EngineFault)
+    → (fault ≡ Memory) ⊎ (fault ≡ Read) → (bytes : List ℕ) × Gives r t bytes
+    → RunsWith (EngineOutcome mode (Err fault)) r t a a
+not_read mode r t a fault (inl is) (bytes, gives) =
+    subst (λ e. RunsWith (EngineOutcome mode (Err e)) r t a a) (sym is)
+    (bytes, [], gives, Takes-nil a, refl)
+not_read mode r t a fault (inr is) (bytes, gives) =
+    subst (λ e. RunsWith (EngineOutcome mode (Err e)) r t a a) (sym is)
+    (bytes, [], gives, Takes-nil a, refl)
+
+-- all was read, and it is a text
+pub ran : (mode : Mode) (r t : SourceState) (a b : SinkState) (text : List ℕ)
+    (result : Result (Unit {0}) EngineFault) → GivesAll r t text → IsAscii text
+    → WritesOutput mode text result a b → RunsWith (EngineOutcome mode result) r t a b
+ran mode r t a b text (Ok _) (gives, end) ascii (output, of_text, takes) =
+    (text, output, gives, takes, (end, ascii, of_text))
+ran mode r t a b text (Err (Position k)) (gives, end) ascii (fault, takes) =
+    (text, [], gives, takes, (end, ascii, fault, refl))
+ran mode r t a b text (Err Memory) (gives, end) ascii takes = (text, [], gives, takes, refl)
+ran mode r t a b text (Err Write) (gives, end) ascii (sent, others, of_text, takes) =
+    (text, sent, gives, takes, (end, ascii, (others, of_text)))
+ran mode r t a b text (Err (NotAscii n)) all ascii writes = absurd writes
+ran mode r t a b text (Err Read) all ascii writes = absurd writes
+
+-- a byte that is not ASCII
+pub not_ascii : (mode : Mode) (r t : SourceState) (a : SinkState) (text : List ℕ) (n : ℕ)
+    → GivesAll r t text → FirstOther text 0 (length text) n
+    → RunsWith (EngineOutcome mode (Err (NotAscii n))) r t a a
+not_ascii mode r t a text n (gives, end) other =
+    (text, [], gives, Takes-nil a, (end, other, refl))
+
+-- an error that is passed on by `?`
+pub stays : (mode : Mode) (r t : SourceState) (a : SinkState) (fault : EngineFault)
+    (result : Result (Unit {0}) EngineFault) → IsErrAnd result (λ e. e ≡ fault)
+    → RunsWith (EngineOutcome mode (Err fault)) r t a a
+    → RunsWith (EngineOutcome mode result) r t a a
+stays mode r t a fault (Ok _) is run = absurd is
+stays mode r t a fault (Err e) is run =
+    subst (λ e. RunsWith (EngineOutcome mode (Err e)) r t a a) (sym is) run
+
+pub on_error : {T E : Type 0} (result : Result T E) {P : Type 0} → P → OnErr result P
+on_error (Ok _) holds = tt
+on_error (Err _) holds = holds

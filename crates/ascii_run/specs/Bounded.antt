@@ -1,10 +1,8 @@
 -- What `bounded_engine` ensures of the bytes that its reader gave and of those that its writer took.
 use Rattle.std.specs.Prelude.{◌≡◌, ◌⊎◌, ℕ, ◌+◌, ◌≤◌, ◌^◌, List, [], ◌++◌, false, length, take}
-use Rattle.std.specs.Io.KnownBytes.{IsAtEnd}
 use Rattle.std.specs.declared.result.Result.{Result}
 use Rattle.std.specs.declared.result.Result.TheVariants.{Ok, Err}
 use Rattle.ascii.specs.Bytes.{FirstOther}
-use Rattle.ascii_devices.specs.States.{Gives, SinkState, SourceState, Takes}
 use Rattle.ascii_run.specs.declared.bounded.BoundedMode.{BoundedMode}
 use Rattle.ascii_run.specs.declared.bounded.BoundedMode.TheVariants.{Lines}
 use Rattle.ascii_run.specs.declared.faults.BoundedFault.{BoundedFault}
@@ -42,14 +40,6 @@ BoundedOutcome mode (Err Read) given at_end took = IsCutAt mode given given took
 BoundedOutcome mode (Err Write) given at_end took =
     (others : List ℕ) × (((text : List ℕ) × IsCutAt mode given text (took ++ others))
     ⊎ (at_end × IsInput mode given × IsWholeOutput mode given (took ++ others)))
-
--- a run over a reader and a writer, as they were and as they are now: the reader gave some bytes and
--- the writer took some, with that outcome
-abbrev pub BoundedRun : BoundedMode → Result (Unit {0}) BoundedFault
-    → SourceState → SourceState → SinkState → SinkState → Type 0
-BoundedRun mode result reader reader_now writer writer_now =
-    (given took : List ℕ) × Gives reader reader_now given × Takes writer writer_now took
-    × BoundedOutcome mode result given (IsAtEnd reader_now.rest) took
 
 -- the reader's count of failures: one more after `Read`, otherwise unchanged; but where a read
 -- failed and then the writer, at what `Lines` closes an open line with, the error is `Write`

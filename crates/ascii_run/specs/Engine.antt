@@ -1,45 +1,33 @@
--- What `engine` ensures of the bytes that it read and of those that it wrote.
-use Rattle.std.specs.Prelude.{◌≡◌, ⊤, ℕ, ◌+◌, List, ◌++◌, Some, length}
+-- What `engine` ensures of the bytes that its reader gave and of those that its writer took.
+use Rattle.std.specs.Prelude.{◌≡◌, ⊤, ℕ, List, [], ◌++◌, Some, length}
 use Rattle.std.specs.Str.{IsAscii}
-use Rattle.std.specs.Io.KnownBytes.{Appends, Keeps}
-use Rattle.std.specs.declared.option.Option.{Option}
 use Rattle.std.specs.declared.result.Result.{Result}
 use Rattle.std.specs.declared.result.Result.TheVariants.{Ok, Err}
 use Rattle.ascii.specs.Bytes.{FirstOther}
+use Rattle.ascii_devices.specs.States.{SinkState, Takes}
 use Rattle.ascii_run.specs.declared.faults.EngineFault.{EngineFault}
 use Rattle.ascii_run.specs.declared.faults.EngineFault.TheVariants.{NotAscii, Position, Memory}
 use Rattle.ascii_run.specs.declared.faults.EngineFault.TheVariants.{Write}
 use Rattle.ascii_run.specs.declared.modes.Mode.{Mode}
 use Rattle.ascii_run.specs.Modes.{IsOutput, fault_of}
-use Rattle.ascii_run.specs.Reading.{IoState, ReadsAll}
 
--- the reader gave an ASCII text and is at its end, and `output` is the output of the mode for it
-pub record IsOutputOfInput (mode : Mode) (old new : Option (List ℕ)) (output : List ℕ) :
-    Type 0 where
-  pub text : List ℕ
-  pub read : ReadsAll old new text
-  pub ascii : IsAscii text
-  pub output_of : IsOutput mode text output
-
--- what the reader gave and the writer took between the old state and the new one. `Ok`: the writer
--- took the output of the mode for all that the reader gave. `NotAscii`: the reader is at its end,
--- and the error holds the position of the first non-ASCII byte. `Position`: the reader is at its
--- end, and the error holds the index of the first command that is rejected. `Write`: the writer
--- took a prefix of the output. The writer took nothing except on `Ok` and `Write`.
-abbrev pub EngineOutcome : Mode → Result (Unit {0}) EngineFault → IoState → IoState → Type 0
-EngineOutcome mode (Ok _) old new =
-    (output : List ℕ) × IsOutputOfInput mode old.remaining new.remaining output
-    × Appends old.taken new.taken output
-EngineOutcome mode (Err (NotAscii n)) old new =
-    (bytes : List ℕ) × ReadsAll old.remaining new.remaining bytes
-    × FirstOther bytes 0 (length bytes) n × Keeps old.taken new.taken
-EngineOutcome mode (Err (Position k)) old new =
-    (text : List ℕ) × ReadsAll old.remaining new.remaining text
-    × IsAscii text × (fault_of mode text ≡ Some k) × Keeps old.taken new.taken
-EngineOutcome mode (Err Write) old new =
-    (sent others : List ℕ) × IsOutputOfInput mode old.remaining new.remaining (sent ++ others)
-    × Appends old.taken new.taken sent
-EngineOutcome mode other old new = Keeps old.taken new.taken
+-- the outcome of a run, by the bytes that the reader gave, whether it is at its end, and the bytes
+-- that the writer took. `Ok`: the reader is at its end, and the writer took the output of the mode for
+-- all that the reader gave. `NotAscii`: the reader is at its end, and the error holds the position of
+-- the first non-ASCII byte. `Position`: the reader is at its end, and the error holds the index of the
+-- first command that is rejected. `Write`: the reader is at its end, and the writer took a prefix of
+-- the output. The writer took nothing except on `Ok` and `Write`.
+abbrev pub EngineOutcome : Mode → Result (Unit {0}) EngineFault
+    → List ℕ → Type 0 → List ℕ → Type 0
+EngineOutcome mode (Ok _) given at_end took =
+    at_end × IsAscii given × IsOutput mode given took
+EngineOutcome mode (Err (NotAscii n)) given at_end took =
+    at_end × FirstOther given 0 (length given) n × (took ≡ [])
+EngineOutcome mode (Err (Position k)) given at_end took =
+    at_end × IsAscii given × (fault_of mode given ≡ Some k) × (took ≡ [])
+EngineOutcome mode (Err Write) given at_end took =
+    at_end × IsAscii given × ((others : List ℕ) × IsOutput mode given (took ++ others))
+EngineOutcome mode other given at_end took = took ≡ []
 
 -- ---- cited by private functions only
 
@@ -54,11 +42,12 @@ StopsOutput mode text other = ⊥
 -- `Position`: nothing, and the error holds the index of the first command that is rejected.
 -- `Memory`: nothing.
 abbrev pub WritesOutput : Mode → List ℕ
-    → Result (Unit {0}) EngineFault → Option (List ℕ) → Option (List ℕ) → Type 0
+    → Result (Unit {0}) EngineFault → SinkState → SinkState → Type 0
 WritesOutput mode text (Ok _) old new =
-    (output : List ℕ) × IsOutput mode text output × Appends old new output
-WritesOutput mode text (Err (Position k)) old new = (fault_of mode text ≡ Some k) × Keeps old new
-WritesOutput mode text (Err Memory) old new = Keeps old new
+    (output : List ℕ) × IsOutput mode text output × Takes old new output
+WritesOutput mode text (Err (Position k)) old new =
+    (fault_of mode text ≡ Some k) × Takes old new []
+WritesOutput mode text (Err Memory) old new = Takes old new []
 WritesOutput mode text (Err Write) old new =
-    (sent others : List ℕ) × IsOutput mode text (sent ++ others) × Appends old new sent
+    (sent others : List ℕ) × IsOutput mode text (sent ++ others) × Takes old new sent
 WritesOutput mode text other old new = ⊥

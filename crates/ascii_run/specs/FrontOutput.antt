@@ -1,5 +1,5 @@
 -- The output of a bounded run, passed on part by part. Only private functions cite it.
-use Rattle.std.specs.Prelude.{◌≡◌, ◌≢◌, ◌⊎◌, ℕ, ◌+◌, List, [], ◌++◌}
+use Rattle.std.specs.Prelude.{◌≡◌, ◌≢◌, ◌⊎◌, ℕ, ◌+◌, List, [], ◌++◌, MatchResult}
 use Rattle.std.specs.declared.result.Result.{Result}
 use Rattle.std.specs.declared.result.Result.TheVariants.{Ok, Err}
 use Rattle.ascii_devices.specs.Buffered.{BufferState, OutputState}
@@ -23,6 +23,13 @@ sink_of state =
 -- the sink took a prefix of the bytes
 abbrev pub TakesFront : SinkState → SinkState → List ℕ → Type 0
 TakesFront old new bytes = (sent others : List ℕ) × Takes old new sent × (sent ++ others ≡ bytes)
+
+-- what the sink took of `bytes` once the buffer before it was written and it was flushed: all of
+-- them, or on an error a prefix of them, and one more of its calls has failed
+abbrev pub Passes : {E : Type 0} → List ℕ → SinkState → SinkState → Result (Unit {0}) E → Type 0
+Passes bytes old new result = MatchResult result
+    (λ _. Takes old new bytes × (new.failures ≡ old.failures))
+    (λ _. TakesFront old new bytes × (new.failures ≡ old.failures + 1))
 
 -- the outcome of passing on `bytes`: `Ok`: the writer took them. `Err`, always `Write`: it took a
 -- prefix of them, and one more of its calls has failed.

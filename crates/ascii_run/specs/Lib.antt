@@ -17,6 +17,7 @@ pub use Rattle.ascii.specs.Walks
 pub use Rattle.ascii.specs.Lines
 pub use Rattle.ascii_devices.specs.Buffered
 pub use Rattle.ascii_devices.specs.Devices
+pub use Rattle.ascii_devices.specs.States
 pub use Rattle.ascii_devices.specs.Wrapped
 pub use Rattle.ascii.specs.Case
 pub use Rattle.ascii.specs.Code

@@ -1,21 +1,21 @@
 -- What both engines say of their reader and their writer.
 use Rattle.std.specs.Prelude.{◌≡◌, ◌≢◌, ℕ, ◌+◌, List, MatchOption, length}
 use Rattle.std.specs.Str.{IsAscii}
-use Rattle.std.specs.Io.KnownBytes.{Consumes, IsAtEnd}
+use Rattle.std.specs.Io.KnownBytes.{IsAtEnd}
 use Rattle.std.specs.declared.option.Option.{Option}
 use Rattle.std.specs.declared.result.Result.{Result}
 use Rattle.std.specs.declared.result.Result.TheVariants.{Err}
 use Rattle.ascii.specs.Bytes.{FirstOther}
+use Rattle.ascii_devices.specs.States.{Gives, SinkState, SourceState, Takes}
 
--- between its old and its new remaining bytes the reader gave `bytes`, and it is at its end
-pub record ReadsAll (old new : Option (List ℕ)) (bytes : List ℕ) : Type 0 where
-  pub gave : Consumes old new bytes
-  pub ended : IsAtEnd new
-
--- the bytes that the reader has yet to give, and those that the writer has taken, if they are known
-pub record IoState : Type 0 where
-  pub remaining : Option (List ℕ)
-  pub taken : Option (List ℕ)
+-- a run over a reader and a writer, as they were and as they are now: the reader gave some bytes and
+-- the writer took some, and `Holds` is true of the bytes given, of the reader's being at its end after
+-- them, and of the bytes taken
+abbrev pub RunsWith : (List ℕ → Type 0 → List ℕ → Type 0)
+    → SourceState → SourceState → SinkState → SinkState → Type 0
+RunsWith Holds reader reader_now writer writer_now =
+    (given took : List ℕ) × (gives : Gives reader reader_now given)
+    × Takes writer writer_now took × Holds given (IsAtEnd gives.rest) took
 
 -- a device's count of failures after a result: one more if it is the error `fault`, otherwise
 -- unchanged
@@ -24,6 +24,10 @@ Counts fault old new result =
     (result ≡ Err fault → new ≡ old + 1) × (result ≢ Err fault → new ≡ old)
 
 -- ---- cited by private functions only
+
+-- the reader gave these bytes and is at its end
+abbrev pub GivesAll : SourceState → SourceState → List ℕ → Type 0
+GivesAll old new bytes = (gives : Gives old new bytes) × IsAtEnd gives.rest
 
 -- the position of the first byte that is not ASCII, if there is one
 abbrev pub HasFirstOther : List ℕ → Option ℕ → Type 0

@@ -14,8 +14,8 @@ ghost use Rattle.std.specs.Prelude.{◌≡◌, ◌<◌, MatchOption};
 ghost use Rattle.std.specs.List.{Contains};
 ghost use Rattle.ascii_run.specs.Names.{IsBoundedName, bounded_name};
 ghost use Rattle.ascii_devices.specs.States.{sink_state, source_state};
-ghost use Rattle.ascii_run.specs.Bounded.{BoundedRun, CountsReads};
-ghost use Rattle.ascii_run.specs.Reading.{Counts};
+ghost use Rattle.ascii_run.specs.Bounded.{BoundedOutcome, CountsReads};
+ghost use Rattle.ascii_run.specs.Reading.{Counts, RunsWith};
 ghost use Rattle.ascii_run.specs.Streamed.{IsTextLength, takes_all};
 
 use crate::faults::BoundedFault;
@@ -155,7 +155,7 @@ pub fn bounded_engine<S: Source, K: Sink, A: Allocator + Copy>(
 ) -> Result<(), BoundedFault>
     requires reads { S.failures reader.old < u64.MAX }
     requires writes { K.failures writer.old < u64.MAX }
-    ensures outcome { BoundedRun mode result
+    ensures outcome { RunsWith (BoundedOutcome mode result)
         (source_state S.Source reader.old) (source_state S.Source reader.new)
         (sink_state K.Sink writer.old) (sink_state K.Sink writer.new) }
     ensures read { CountsReads mode result (S.failures reader.old) (S.failures reader.new) }

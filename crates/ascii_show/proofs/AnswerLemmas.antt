@@ -1,5 +1,5 @@
 -- What the engine answers to a mode that words ask for.
-use Rattle.std.proofs.Common.{◌≡◌, ◌∙◌, ℕ, List, ◌++◌, append-nil, ap, sym, refl, subst, inl}
+use Rattle.std.proofs.Common.{◌≡◌, ◌∙◌, ℕ, List, [], ◌++◌, append-nil, ap, sym, refl, subst, inl}
 use Rattle.std.proofs.Common.{length, Some, None, Ok, Err}
 use Rattle.std.specs.Prelude.{IfSome}
 use Rattle.std.specs.Result.{IsErrAnd, result_err}
@@ -8,7 +8,9 @@ use Rattle.std.specs.declared.result.Result.{Result}
 use Rattle.ascii.specs.Bytes.{FirstOther}
 use Rattle.ascii_run.specs.Engine.{EngineOutcome}
 use Rattle.ascii_run.specs.Modes.{IsOutput, fault_of}
-use Rattle.ascii_run.specs.Reading.{IoState, ReadsAll}
+use Rattle.ascii_run.specs.Reading.{RunsWith}
+use Rattle.ascii_run.specs.States.{SinkState, SourceState}
+use Rattle.std.specs.Io.KnownBytes.{Appends, Consumes, IsAtEnd, Keeps}
 use Rattle.ascii_run.specs.declared.faults.EngineFault.{EngineFault}
 use Rattle.ascii_run.specs.declared.faults.EngineFault.TheVariants.{NotAscii, Position, Memory}
 use Rattle.ascii_run.specs.declared.faults.EngineFault.TheVariants.{Read, Write}
@@ -28,85 +30,94 @@ no_fault other text output is = refl
 
 -- what holds of all that was read holds of what is known
 reads : (P : List ℕ → Type 0) (known left : Option (List ℕ)) (bytes : List ℕ)
-    → ReadsAll known left bytes → P bytes → IfSome known P
-reads P None left bytes all of = tt
-reads P (Some xs) None bytes all of = absurd all.gave
-reads P (Some xs) (Some ys) bytes all of =
-    subst P (sym (all.gave ∙ (ap (λ zs. bytes ++ zs) all.ended ∙ append-nil bytes))) of
+    → Consumes known left bytes → IsAtEnd left → P bytes → IfSome known P
+reads P None left bytes gave ended of = tt
+reads P (Some xs) None bytes gave ended of = absurd gave
+reads P (Some xs) (Some ys) bytes gave ended of =
+    subst P (sym (gave ∙ (ap (λ zs. bytes ++ zs) ended ∙ append-nil bytes))) of
 
 nothing : (known : Option (List ℕ)) → IfSome known (λ bytes. Unit {0})
 nothing None = tt
 nothing (Some bytes) = tt
 
+-- a sink that took no byte
+took_none : (old new : Option (List ℕ)) (bytes : List ℕ) → Appends old new bytes → bytes ≡ []
+    → Keeps old new
+took_none None new bytes took none = tt
+took_none (Some xs) None bytes took none = absurd took
+took_none (Some xs) (Some ys) bytes took none =
+    took ∙ (ap (λ zs. xs ++ zs) none ∙ append-nil xs)
+
 -- a fault of the engine is one that the words and the input allow
-pub failed : (words : List (List ℕ)) (mode : Mode) (fault : EngineFault) (old new : IoState)
-    → Requests words mode → EngineOutcome mode (Err fault) old new
-    → MayReturn words old.remaining (Err (Engine fault))
-failed words mode (NotAscii n) old new asks outcome = (
+pub failed : (words : List (List ℕ)) (mode : Mode) (fault : EngineFault) (r t : SourceState)
+    (a b : SinkState) → Requests words mode
+    → RunsWith (EngineOutcome mode (Err fault)) r t a b
+    → MayReturn words r.rest (Err (Engine fault))
+failed words mode (NotAscii n) r t a b asks (given, took, gives, takes, (end, other, none)) = (
   mode,
   asks,
-  reads (λ bytes. FirstOther bytes 0 (length bytes) n) old.remaining new.remaining
-      outcome.0 outcome.1 outcome.2,
+  reads (λ bytes. FirstOther bytes 0 (length bytes) n) r.rest gives.rest given gives.gave end
+      other,
 )
-failed words mode (Position k) old new asks outcome = (
+failed words mode (Position k) r t a b asks (given, took, gives, takes, (end, ascii, is, none)) =
+    (mode, asks, reads (HasFault (Some k) mode) r.rest gives.rest given gives.gave end (ascii, is))
+failed words mode Memory r t a b asks run = inl (mode, asks)
+failed words mode Read r t a b asks run = (mode, asks, nothing r.rest)
+failed words mode Write r t a b asks (given, took, gives, takes, (end, ascii, (others, of_text))) = (
   mode,
   asks,
-  reads (HasFault (Some k) mode) old.remaining new.remaining outcome.0 outcome.1
-      (outcome.2, outcome.3),
-)
-failed words mode Memory old new asks outcome = inl (mode, asks)
-failed words mode Read old new asks outcome = (mode, asks, nothing old.remaining)
-failed words mode Write old new asks outcome = (
-  mode,
-  asks,
-  reads (HasFault None mode) old.remaining new.remaining outcome.2.text outcome.2.read
-      (outcome.2.ascii, no_fault mode outcome.2.text (outcome.0 ++ outcome.1) outcome.2.output_of),
+  reads (HasFault None mode) r.rest gives.rest given gives.gave end
+      (ascii, no_fault mode given (took ++ others) of_text),
 )
 
 -- and so is its success
-pub done : (words : List (List ℕ)) (mode : Mode) (old new : IoState)
-    → Requests words mode → EngineOutcome mode (Ok tt) old new
-    → MayReturn words old.remaining (Ok tt)
-done words mode old new asks outcome = (
+pub done : (words : List (List ℕ)) (mode : Mode) (r t : SourceState) (a b : SinkState)
+    → Requests words mode → RunsWith (EngineOutcome mode (Ok tt)) r t a b
+    → MayReturn words r.rest (Ok tt)
+done words mode r t a b asks (given, took, gives, takes, (end, ascii, of_text)) = (
   mode,
   asks,
-  reads (HasFault None mode) old.remaining new.remaining outcome.1.text outcome.1.read
-      (outcome.1.ascii, no_fault mode outcome.1.text outcome.0 outcome.1.output_of),
+  reads (HasFault None mode) r.rest gives.rest given gives.gave end
+      (ascii, no_fault mode given took of_text),
 )
 
 -- what the output took on a fault of the engine
-pub wrote : (words : List (List ℕ)) (mode : Mode) (fault : EngineFault) (old new : IoState)
-    → Requests words mode → EngineOutcome mode (Err fault) old new
-    → Writes words old.remaining (Err (Engine fault)) old.taken new.taken
-wrote words mode (NotAscii n) old new asks outcome = outcome.3
-wrote words mode (Position k) old new asks outcome = outcome.4
-wrote words mode Memory old new asks outcome = outcome
-wrote words mode Read old new asks outcome = outcome
-wrote words mode Write old new asks outcome = (
-  outcome.0,
-  outcome.1,
+pub wrote : (words : List (List ℕ)) (mode : Mode) (fault : EngineFault) (r t : SourceState)
+    (a b : SinkState) → Requests words mode
+    → RunsWith (EngineOutcome mode (Err fault)) r t a b
+    → Writes words r.rest (Err (Engine fault)) a.taken b.taken
+wrote words mode (NotAscii n) r t a b asks (given, took, gives, takes, (end, other, none)) =
+    took_none a.taken b.taken took takes.took none
+wrote words mode (Position k) r t a b asks (given, took, gives, takes, (end, ascii, is, none)) =
+    took_none a.taken b.taken took takes.took none
+wrote words mode Memory r t a b asks (given, took, gives, takes, none) =
+    took_none a.taken b.taken took takes.took none
+wrote words mode Read r t a b asks (given, took, gives, takes, none) =
+    took_none a.taken b.taken took takes.took none
+wrote words mode Write r t a b asks (given, took, gives, takes, (end, ascii, (others, of_text))) = (
+  took,
+  others,
   (
     mode,
     asks,
-    reads (λ bytes. IsOutput mode bytes (outcome.0 ++ outcome.1)) old.remaining
-        new.remaining outcome.2.text outcome.2.read outcome.2.output_of,
+    reads (λ bytes. IsOutput mode bytes (took ++ others)) r.rest gives.rest given gives.gave end
+        of_text,
   ),
-  outcome.3,
+  takes.took,
 )
 
 -- and on its success
-pub wrote_all : (words : List (List ℕ)) (mode : Mode) (old new : IoState)
-    → Requests words mode → EngineOutcome mode (Ok tt) old new
-    → Writes words old.remaining (Ok tt) old.taken new.taken
-wrote_all words mode old new asks outcome = (
-  outcome.0,
+pub wrote_all : (words : List (List ℕ)) (mode : Mode) (r t : SourceState) (a b : SinkState)
+    → Requests words mode → RunsWith (EngineOutcome mode (Ok tt)) r t a b
+    → Writes words r.rest (Ok tt) a.taken b.taken
+wrote_all words mode r t a b asks (given, took, gives, takes, (end, ascii, of_text)) = (
+  took,
   (
     mode,
     asks,
-    reads (λ bytes. IsOutput mode bytes outcome.0) old.remaining new.remaining
-        outcome.1.text outcome.1.read outcome.1.output_of,
+    reads (λ bytes. IsOutput mode bytes took) r.rest gives.rest given gives.gave end of_text,
   ),
-  outcome.2,
+  takes.took,
 )
 
 -- nothing was written where the words request nothing

@@ -2,7 +2,7 @@ use Rattle.std.proofs.Common.{◌<◌, ◌≤◌, ◌∙◌, ◌+◌, ap, [], �
 use Rattle.std.proofs.Common.{length-append, length-take-le}
 use Rattle.std.proofs.lemmas.Str.{IsAscii-append}
 use Rattle.std.proofs.lemmas.Str.Ascii.{IsAscii-nil}
-use Rattle.ascii_devices.proofs.HistoryLemmas.{Gives-failed, Gives-nil, Gives-read}
+use Rattle.ascii_devices.proofs.HistoryLemmas.{Gives-end, Gives-failed, Gives-nil, Gives-read}
 use Rattle.ascii_devices.specs.States.{sink_state, source_state}
 use Rattle.ascii_run.proofs.BoundedLemmas.{closes, last_kept, no_run, opened, opening_fails}
 use Rattle.ascii_run.proofs.BoundedLemmas.{part_fails, part_written, prefix_written, read_fails}
@@ -63,14 +63,17 @@ returns-then-n-eq0-clause-outcome g c =
     let sink = sink_state g.K.Sink in
     let none = c.if-n-eq0.true in
     let part = take c.in-Ok-read.n c.read.new.buf in
+    let gave =
+    Gives-read (source c.args.reader.now) (source c.chunks.reader) (source c.read.new.self) done
+    part c.chunks.invariant.0 c.in-Ok-read.ensures.count gave c.in-Ok-read.ensures.bytes.1
+    c.in-Ok-read.ensures.history in
     closes c.args.mode c.chunks.output.mode c.chunks.output.last (source c.args.reader.now)
     (source c.read.new.self) (sink c.args.writer.now) (sink c.chunks.writer)
     (sink c.close.new.writer) done c.read.new.buf c.in-Ok-read.n c.close.result none
-    c.chunks.invariant.2 last
-    (Gives-read (source c.args.reader.now) (source c.chunks.reader) (source c.read.new.self) done
-    part c.chunks.invariant.0 c.in-Ok-read.ensures.count gave c.in-Ok-read.ensures.bytes.1
-    c.in-Ok-read.ensures.history)
-    (c.in-Ok-read.ensures.end none) input wrote c.close.ensures.passes
+    c.chunks.invariant.2 last gave
+    (Gives-end (source c.args.reader.now) (source c.read.new.self) (done ++ part) gave
+    (c.in-Ok-read.ensures.count ∙ c.chunks.invariant.0) (c.in-Ok-read.ensures.end none)) input
+    wrote c.close.ensures.passes
 
 pub returns-in_default-append-clause-outcome : goal.returns-in_default-append-clause-outcome
 returns-in_default-append-clause-outcome g c =

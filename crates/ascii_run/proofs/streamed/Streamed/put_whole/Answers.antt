@@ -1,4 +1,4 @@
-use Rattle.std.proofs.Common.{◌++◌, ◌∙◌, ap}
+use Rattle.std.proofs.Common.{◌∙◌, ap}
 use Rattle.ascii_run.specs.Streamed.{front, last_after, stream}
 use Rattle.ascii_devices.proofs.BufferedLemmas.{AppendsBytes-is, AppendsBytes-trans}
 use Rattle.ascii_run.proofs.streamed.Streamed.put_whole.Goals as goal
