@@ -19,6 +19,7 @@ import textwrap
 from dataclasses import dataclass, field, replace
 from functools import cache
 
+from definitions import re_exports, used_words
 from items import Wrong, read_items
 from made import LIBRARIES, PROOFS, settle
 from sources import CRATES, exported, impl_name, read, read_modules, without_braces
@@ -225,15 +226,6 @@ def doc_line(item):
 
 # The words of the contracts
 
-def ghost_uses(line):
-    """The words that a `ghost use` line brings, each with how it is written in the line."""
-    path, _, names = line[len("ghost use ") :].partition(".{")
-    if not names:
-        path, _, alias = path.partition(" as ")
-        return path, [(alias or path.rpartition(".")[2], "")]
-    return path, [(n.rpartition(" as ")[2], n) for n in (n.strip() for n in names.rstrip("}").split(","))]
-
-
 def stands_in(word, text):
     sign = re.escape(word.strip("◌"))
     if sign.isidentifier():
@@ -247,15 +239,6 @@ def quoted_text(item):
     if item.head.startswith("ghost ") and item.kind != "ghost use":
         text.append(without_braces(item.head))
     return " ".join(text)
-
-
-def re_exports():
-    """The crate that each re-exported file of definitions comes from, by the crate that re-exports it."""
-    origins = {}
-    for lib in sorted(CRATES.glob("*/specs/Lib.antt")):
-        for origin, name in re.findall(r"^pub use Rattle\.(\w+)\.specs\.(\w+)$", read(lib), re.MULTILINE):
-            origins[lib.parent.parent.name, name] = origin
-    return origins
 
 
 def named_for(crate):
@@ -277,7 +260,7 @@ def words_lines(entries, crate):
     for item in (item for entry in entries for item in entry.quoted):
         text = quoted_text(item)
         for line in item.words or []:
-            path, names = ghost_uses(line)
+            path, names = used_words(line)
             for word, written in names:
                 if text and stands_in(word, text):
                     used.setdefault(for_callers(path, crate), {})[written] = word
@@ -347,7 +330,7 @@ def caller_lines(file, name):
 
 def brings(line, text):
     """Whether a `ghost use` line brings a word of a text."""
-    return any(stands_in(word, text) for word, _ in ghost_uses(line)[1])
+    return any(stands_in(word, text) for word, _ in used_words(line)[1])
 
 
 def others_lines(others):

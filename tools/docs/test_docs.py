@@ -1,13 +1,16 @@
 """Tests of the parts of bin/docs, over small texts: `python3 tools/docs/test_docs.py`."""
 import subprocess
 import sys
+import tempfile
 import unittest
 from pathlib import Path
 
 sys.dont_write_bytecode = True
 TOP = Path(__file__).resolve().parents[2]
 sys.path[:0] = [str(TOP / "tools" / it) for it in ("docs", "reader")]
+import reach  # noqa: E402
 from callers import use_lines  # noqa: E402
+from definitions import Definitions  # noqa: E402
 from examples import examples_in, names_of_tests, statements  # noqa: E402
 from samples import is_sample, named  # noqa: E402
 
@@ -66,6 +69,113 @@ class Samples(unittest.TestCase):
         self.assertFalse(is_sample(page, "crates.txt", "c: d\n", self.SOURCES))
 
 
+# Two crates: `lines` has its own definitions, and passes on those of `base`.
+REPOSITORY = {
+    "base/src/lib.rt": "",
+    "base/specs/Marks.antt": """-- Marks.
+use Rattle.std.specs.Prelude.{ℕ}
+
+-- a mark
+pub data Mark : Type 0 where
+  stop : Mark
+  at : ℕ → Mark
+
+-- the value of a mark
+abbrev pub value : Mark → ℕ
+value stop = 0
+value (at n) = n
+""",
+    "lines/specs/Lib.antt": "pub mod Lines\npub use Rattle.base.specs.Marks\n",
+    "lines/specs/Lines.antt": """-- Lines.
+use Rattle.std.specs.Prelude.{ℕ, ◌≡◌}
+use Rattle.base.specs.Marks as marks
+
+-- a line with its mark
+pub record Line : Type 0 where
+  pub body : ℕ
+  -- its last mark
+  pub value : marks.Mark
+
+-- the body of a line
+abbrev pub body : Line → ℕ
+body line = line.body
+
+-- the line ends at the place
+abbrev pub EndsAt : Line → ℕ → Type 0
+EndsAt line body = marks.value line.value ≡ body
+""",
+    "lines/src/lib.rt": "mod walk;\npub fn walk() {}\n",
+    "lines/src/walk.rt": """
+ghost use Rattle.lines.specs.Lines.{EndsAt as Ends, Line};
+ghost use Rattle.lines.specs.Marks.{stop};
+
+pub fn first(a: u8) -> u8
+    requires { a < 2 }
+    ensures line { (Line : Some) × Ends Line result }
+{
+    a
+}
+
+impl<'a> Walk<'a> {
+    pub fn last(self) -> u8
+        ensures { result ≡ stop }
+    {
+        0
+    }
+
+    fn walk(self) {}
+}
+
+pub trait Each {
+    fn last(self) -> u8;
+}
+""",
+}
+
+
+class Reach(unittest.TestCase):
+    def setUp(self):
+        folder = tempfile.TemporaryDirectory()
+        self.addCleanup(folder.cleanup)
+        self.crates = Path(folder.name)
+        for name, text in REPOSITORY.items():
+            (self.crates / name).parent.mkdir(parents=True, exist_ok=True)
+            (self.crates / name).write_text(text, encoding="utf-8")
+        self.definitions = Definitions(self.crates)
+
+    def reached(self, name):
+        return [(it.path, len(it.lines)) for it in reach.reached(name, self.definitions, self.crates)]
+
+    def faults(self, *listed):
+        return reach.above(listed, self.definitions, self.crates)
+
+    def test_names_are_followed_through_use_lines(self):
+        mark, value = ("base.specs.Marks.Mark", 3), ("base.specs.Marks.value", 3)
+        own = [("lines.specs.Lines.EndsAt", 2), ("lines.specs.Lines.Line", 3)]
+        self.assertEqual(self.reached("lines::first"), [mark, value, *own])
+
+    def test_a_constructor_is_its_data(self):
+        self.assertEqual(self.reached("lines::Walk::last"), [("base.specs.Marks.Mark", 3)])
+
+    def test_a_function_without_a_clause_reaches_nothing(self):
+        self.assertEqual(self.reached("lines::walk"), [])
+
+    def test_a_name_is_that_of_one_public_function(self):
+        self.assertEqual(self.faults(("lines::none", 1)), ["reach.txt: lines::none: not a public function"])
+        self.assertEqual(self.faults(("none::walk", 1)), ["reach.txt: none::walk: no crate none"])
+        both = "walk::Walk::last, walk::Each::last"
+        self.assertEqual(self.faults(("lines::last", 1)), [f"reach.txt: lines::last: one of {both}"])
+
+    def test_a_count_above_its_ceiling_is_a_fault(self):
+        self.assertEqual(self.faults(("lines::first", 4), ("lines::walk", 0)), [])
+        want = "4 definitions, 11 lines, more than its ceiling 3: bin/docs reach --list lines::first shows them"
+        self.assertEqual(self.faults(("lines::first", 3)), [f"lines::first: {want}"])
+
+    def test_a_list_has_comments(self):
+        self.assertEqual(reach.ceilings("# A list.\nlines::first: 4\n\nlines::Walk::last: 1\n"),
+                         [("lines::first", 4), ("lines::Walk::last", 1)])
+
+
 class Commands(unittest.TestCase):
     def test_uses_are_broken_at_100_columns(self):
         lines = use_lines("Rattle.a.specs.B", {f"Word{n:02}": f"Word{n:02}" for n in range(20)})
@@ -73,7 +183,7 @@ class Commands(unittest.TestCase):
         self.assertTrue(all(len(line) <= 100 for line in lines))
 
     def test_unknown_arguments_are_rejected(self):
-        for words in (["nothing"], ["callers", "x"], ["words", "--check"], ["site"], []):
+        for words in (["nothing"], ["callers", "x"], ["words", "--check"], ["reach", "--list"], ["site"], []):
             ran = subprocess.run([str(TOP / "bin/docs"), *words], stdout=subprocess.PIPE, stderr=subprocess.PIPE)
             self.assertEqual((ran.returncode, ran.stdout), (64, b""), words)
 

@@ -11,8 +11,9 @@ from pathlib import Path
 
 sys.dont_write_bytecode = True
 sys.path[:0] = [str(Path(__file__).resolve().parents[1] / it) for it in ("docs", "reader")]
+from definitions import read_definitions  # noqa: E402
 from made import DEFINED, LIBRARIES  # noqa: E402
-from sources import CRATES, impl_name, read_definitions, read_modules  # noqa: E402
+from sources import CRATES, impl_name, read_modules  # noqa: E402
 
 VOID = {"meta", "link", "input", "img", "br", "hr", "col"}
 

@@ -14,8 +14,9 @@ import tempfile
 from html import escape
 from pathlib import Path
 
+from definitions import head_comment, read_definitions
 from made import DEFINED, LIBRARIES, PROOFS, TOP
-from sources import CRATES, head_comment, impl_name, read, read_definitions, read_modules, without_braces
+from sources import CRATES, impl_name, read, read_modules, without_braces
 
 sys.path.append("/usr/lib/python3/dist-packages")
 try:

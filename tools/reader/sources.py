@@ -1,4 +1,4 @@
-"""Reads the sources of the crates: the modules of a crate, what another crate can name, and the definitions."""
+"""Reads the sources of the crates: the modules of a crate, and what another crate can name."""
 import re
 from pathlib import Path
 
@@ -19,12 +19,13 @@ def without_braces(text):
 
 # The modules of a crate, and what another crate can name
 
-def read_modules(crate):
+def read_modules(crate, crates=CRATES):
     """The items of each module of a crate, by the module's path."""
     modules, waiting = {}, [()]
+    root = "lib" if (crates / crate / "src/lib.rt").is_file() else "main"
     while waiting:
         path = waiting.pop()
-        file = CRATES / crate / "src" / ("/".join(path or ("lib",)) + ".rt")
+        file = crates / crate / "src" / ("/".join(path or (root,)) + ".rt")
         modules[path] = read_items(read(file))
         give_words(modules[path], [])
         waiting += [path + (item.name,) for item in reversed(modules[path]) if item.kind == "mod"]
@@ -133,39 +134,3 @@ def find_generics_end(text, at):
         if depth == 0:
             return place + 1
     raise Wrong(f"no end of the parameters: {text}")
-
-
-# The definitions of a crate
-
-DEFINITION = re.compile(r"\s*(?:abbrev pub|unfoldable pub|pub record|pub data|pub)\s+(\S+)\s*[:({]")
-PRIVATE = "private"
-
-
-def read_definitions(file):
-    """The definitions of a file of specs/ that public clauses may use: pairs of a name and its comment."""
-    found, comment = [], []
-    for line in read(file).splitlines():
-        text = line.strip()
-        if text.startswith("-- ----"):
-            if PRIVATE in text:
-                break
-            comment = []
-        elif text.startswith("--"):
-            comment.append(text[len("--") :].strip())
-        else:
-            match = DEFINITION.match(line)
-            is_field = line.startswith("  pub ") and not line.startswith("  pub record")
-            if match and comment and not is_field:
-                found.append((match[1], " ".join(comment)))
-            comment = []
-    return found
-
-
-def head_comment(file):
-    """The comment at the head of a file of specs/, as one line."""
-    lines = []
-    for line in read(file).splitlines():
-        if not line.startswith("--"):
-            break
-        lines.append(line[len("--") :].strip())
-    return " ".join(lines)

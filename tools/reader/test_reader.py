@@ -7,6 +7,7 @@ from pathlib import Path
 
 sys.dont_write_bytecode = True
 sys.path.insert(0, str(Path(__file__).resolve().parent))
+import definitions  # noqa: E402
 import sources  # noqa: E402
 from functions import functions_of  # noqa: E402
 from items import Item, Wrong, read_items  # noqa: E402
@@ -218,13 +219,37 @@ abbrev pub Hidden : Type 0
 
 
 class Definitions(unittest.TestCase):
-    def test_comments_of_public_definitions(self):
+    def setUp(self):
         with tempfile.TemporaryDirectory() as folder:
             file = Path(folder) / "Subject.antt"
             file.write_text(DEFINITIONS, encoding="utf-8")
-            want = [("Kind", "a number of a kind"), ("Pair", "a pair"), ("Inner", "a word in a module")]
-            self.assertEqual(sources.read_definitions(file), want)
-            self.assertEqual(sources.head_comment(file), "A subject.")
+            self.found, self.head = definitions.read_file(file).definitions, definitions.head_comment(file)
+            self.public = definitions.read_definitions(file)
+
+    def test_comments_of_public_definitions(self):
+        want = [("Kind", "a number of a kind"), ("Pair", "a pair"), ("Inner", "a word in a module")]
+        self.assertEqual(self.public, want)
+        self.assertEqual(self.head, "A subject.")
+
+    def test_lines_and_parts(self):
+        lines = [["abbrev pub Kind : ℕ → Type 0", "Kind n = n ≡ 1"],
+                 ["pub record Pair (n : ℕ) : Type 0 where", "  pub first : ℕ"],
+                 ["abbrev pub Inner : Type 0", "Inner = Kind 1"], ["abbrev pub Hidden : Type 0"]]
+        self.assertEqual([it.lines for it in self.found], lines)
+        self.assertEqual([it.parts for it in self.found], [[], ["first"], [], []])
+
+    def test_names_that_a_definition_binds_are_not_its_words(self):
+        words = [{*it.words()} & {"n", "first", "Is", "Kind", "ℕ"} for it in self.found]
+        self.assertEqual(words, [{"ℕ"}, {"ℕ"}, {"Kind", "ℕ"}, set()])
+        text = 'All (λ a b. a.x ≡ "c") d × (e : F) × record { g = h; i = j }'
+        self.assertEqual({*definitions.free_words(text)} & {*"abcdefghij"}, {*"dhj"})
+
+    def test_every_line_is_of_a_definition(self):
+        for file in sorted(sources.CRATES.glob("*/specs/**/*.antt")):
+            text = re.sub(r"^ *(?:--.*)?\n", "", sources.read(file), flags=re.M)
+            text = re.sub(r"^(?:(?:pub )?(?:use|mod) .*|module (?:.*\n )*?.*where)\n", "", text, flags=re.M)
+            found = [line.strip() for it in definitions.read_file(file).definitions for line in it.lines]
+            self.assertEqual(found, [line.strip() for line in text.splitlines()], file)
 
 
 if __name__ == "__main__":
