@@ -9,8 +9,8 @@ BEGINS = re.compile(r"(?:abbrev |unfoldable )?pub (?:(record|data) )?([^\s:({]+)
 NOT_BEGINS = re.compile(r"(?:pub )?(use|mod) ")
 PART = re.compile(r" +(?:pub )?(\S+) :(?: |$)")
 WORD = re.compile(r"[^\s(){}\[\];,]+")
-# What is no name of a definition: a literal, and the name of a field in a value of a record.
-NO_NAMES = re.compile(r'"(?:[^"\\]|\\.)*"|(?<=[{;])\s*\S+ =(?=\s)')
+# What names no definition: a literal, and the name of a field in a value of a record.
+NAMELESS = re.compile(r'"(?:[^"\\]|\\.)*"|(?<=[{;])\s*\S+ =(?=\s)')
 # What binds names: an abstraction, and parameters in brackets.
 BINDERS = re.compile(r"λ ([^.]+)\.\s|[({]([^(){}:]+) :\s")
 
@@ -112,7 +112,7 @@ def head_comment(file):
 
 def free_words(text, bound=frozenset()):
     """The words of a text, except these names and those that it binds itself."""
-    text = NO_NAMES.sub("", text)
+    text = NAMELESS.sub("", text)
     bound = {name for groups in BINDERS.findall(text) for name in " ".join(groups).split()} | bound
     return [word for word in WORD.findall(text) if word.partition(".")[0] not in bound]
 
