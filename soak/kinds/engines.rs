@@ -82,7 +82,14 @@ pub fn engine(random: &mut Random, asked: &mut Asked) {
     expect(mode, &source, &script, &mut asked.want);
 }
 
-/// What a mode of the bounded engine has written when it comes to a non-ASCII byte, or to the end.
+/// The number of modes of the bounded engine. The last two take all bytes.
+const BOUNDED: usize = 8;
+
+fn takes_all(mode: usize) -> bool {
+    mode >= 6
+}
+
+/// What a mode of the bounded engine has written when it comes to a byte that it does not take, or to the end.
 fn bounded_output(mode: usize, text: &[u8], is_whole: bool) -> Vec<u8> {
     match mode {
         0 => text.to_vec(),
@@ -91,6 +98,8 @@ fn bounded_output(mode: usize, text: &[u8], is_whole: bool) -> Vec<u8> {
         3 => [b"\"".as_slice(), &json_codes(text)].concat(),
         4 => text.to_ascii_uppercase(),
         5 => text.to_ascii_lowercase(),
+        6 => text.escape_ascii().to_string().into_bytes(),
+        7 => text.iter().map(|byte| if byte.is_ascii() { *byte } else { b'?' }).collect(),
         _ => {
             let mut out = bodies(text, false);
             let is_open = text.last().is_some_and(|last| *last != b'\n');
@@ -107,7 +116,7 @@ fn bounded_output(mode: usize, text: &[u8], is_whole: bool) -> Vec<u8> {
 }
 
 fn expect_bounded(mode: usize, source: &[u8], want: &mut Answer) {
-    match non_ascii(source) {
+    match non_ascii(source).filter(|_| !takes_all(mode)) {
         Some(at) => {
             want.fault("ascii", at);
             want.text(bounded_output(mode, &source[..at], false));
@@ -120,7 +129,7 @@ fn expect_bounded(mode: usize, source: &[u8], want: &mut Answer) {
 }
 
 pub fn bounded(random: &mut Random, asked: &mut Asked) {
-    let (mode, source) = (random.below(6), random.bytes());
+    let (mode, source) = (random.below(BOUNDED), random.bytes());
     let (reads, writes) = (slow(random), slow(random));
     calls::ask_bounded_engine(asked, mode as u8, &source, &reads, &writes);
     expect_bounded(mode, &source, &mut asked.want);
@@ -129,8 +138,9 @@ pub fn bounded(random: &mut Random, asked: &mut Asked) {
 /// Devices of which one fails: the answer is its error and a prefix of the output, which is empty if `engine` could
 /// not read. If the call that fails is never made, all is as if none failed.
 pub fn failing(random: &mut Random, asked: &mut Asked) {
-    let (is_bounded, source) = (random.below(2) == 0, random.text());
-    let mode = random.below(if is_bounded { 6 } else { 7 });
+    let is_bounded = random.below(2) == 0;
+    let mode = random.below(if is_bounded { BOUNDED } else { 7 });
+    let source = if is_bounded && takes_all(mode) { random.bytes() } else { random.text() };
     let is_read = random.below(2) == 0;
     let device = Device { most: 1 + random.below(8), fails: random.below(source.len() + 4) as u64 };
     let (reads, writes) = if is_read { (device, WHOLE) } else { (WHOLE, device) };
@@ -163,7 +173,7 @@ pub fn long_inputs(random: &mut Random, asked: &mut Asked) {
 }
 
 pub fn long_bounded(random: &mut Random, asked: &mut Asked) {
-    let (mode, source) = (random.below(6), long_source(random));
+    let (mode, source) = (random.below(BOUNDED), long_source(random));
     let (reads, writes) = long_devices(random);
     calls::ask_bounded_engine(asked, mode as u8, &source, &reads, &writes);
     expect_bounded(mode, &source, &mut asked.want);

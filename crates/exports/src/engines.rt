@@ -72,7 +72,9 @@ pub fn ask_bounded_engine(
         2 => BoundedMode::Caret,
         3 => BoundedMode::Json,
         4 => BoundedMode::Upper,
-        _ => BoundedMode::Lower,
+        5 => BoundedMode::Lower,
+        6 => BoundedMode::Escape,
+        _ => BoundedMode::Lossy,
     };
     let mut answer = Answer::new(alloc);
     let mut input = Input::new(Given::new(source, *reads));
