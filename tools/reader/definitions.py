@@ -12,7 +12,7 @@ WORD = re.compile(r"[^\s(){}\[\];,]+")
 # What names no definition: a literal, and the name of a field in a value of a record.
 NAMELESS = re.compile(r'"(?:[^"\\]|\\.)*"|(?<=[{;])\s*\S+ =(?=\s)')
 # What binds names: an abstraction, and parameters in brackets.
-BINDERS = re.compile(r"λ ([^.]+)\.\s|[({]([^(){}:]+) :\s")
+BINDERS = re.compile(r"λ ([^.(){}:]+)\.\s|[({]([^(){}:]+) :\s")
 
 
 @dataclass
@@ -148,6 +148,8 @@ class Definitions:
     def named(self, module, name):
         """The definition with a name in a module, which a crate may re-export; none if it is not of this repository.
         The module can be data, whose constructors are named in it."""
+        if not module.startswith("Rattle."):
+            return None
         _, crate, *path = module.split(".")
         while path[1:] and (crate, path[1]) in self.origins:
             crate = self.origins[crate, path[1]]

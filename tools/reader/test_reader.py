@@ -241,8 +241,8 @@ class Definitions(unittest.TestCase):
     def test_names_that_a_definition_binds_are_not_its_words(self):
         words = [{*it.words()} & {"n", "first", "Is", "Kind", "ℕ"} for it in self.found]
         self.assertEqual(words, [{"ℕ"}, {"ℕ"}, {"Kind", "ℕ"}, set()])
-        text = 'All (λ a b. a.x ≡ "c") d × (e : F) × record { g = h; i = j }'
-        self.assertEqual({*definitions.free_words(text)} & {*"abcdefghij"}, {*"dhj"})
+        text = 'All (λ a b. a.x ≡ "c") d × (e : f) × record { g = h; i = j } (λ (k : l). k.x m)'
+        self.assertEqual({*definitions.free_words(text)} & {*"abcdefghijklm"}, {*"dfhjlm"})
 
     def test_every_line_is_of_a_definition(self):
         for file in sorted(sources.CRATES.glob("*/specs/**/*.antt")):
