@@ -1,11 +1,14 @@
 -- What happened at a device, one call after another.
 use Rattle.std.proofs.Common.{◌≡◌, ℕ, ◌+◌, List, [], ◌∷◌, ◌++◌, Option, None, Some, map, ap, sym}
 use Rattle.std.proofs.Common.{append_assoc, append-nil, arith, refl, subst, ◌∙◌}
+use Rattle.std.specs.Prelude.{IfSome}
 use Rattle.std.proofs.KnownBytes.{Appends-kept, Appends-nil, Appends-trans, Consumes-nil}
 use Rattle.std.proofs.KnownBytes.{Consumes-trans}
 use Rattle.std.specs.Io.KnownBytes.{Appends, Consumes, IsAtEnd, Keeps}
 use Rattle.ascii_devices.specs.Devices.{Grows, read_of, received_of, sent_of, write_of}
-use Rattle.ascii_devices.specs.States.{Gives, SinkState, SourceState, Takes}
+use Rattle.ascii_devices.specs.States.{Gives, Takes}
+use Rattle.ascii_devices.specs.declared.Sink as sink
+use Rattle.ascii_devices.specs.declared.Source as source
 use Rattle.ascii_devices.specs.declared.log.Event.{Event}
 use Rattle.ascii_devices.specs.declared.log.Event.TheVariants.{Flushed, Read, Received, Sent}
 
@@ -23,14 +26,14 @@ Grows-trans (Some a) (Some b) (Some c) xs ys first then =
 
 -- ---- the bytes that passed
 
-received_of-append : (xs ys : List Event) → received_of (xs ++ ys) ≡ received_of xs ++ received_of ys
+pub received_of-append : (xs ys : List Event) → received_of (xs ++ ys) ≡ received_of xs ++ received_of ys
 received_of-append [] ys = refl
 received_of-append (Read ∷ xs) ys = received_of-append xs ys
 received_of-append (Received byte ∷ xs) ys = ap (λ bs. byte ∷ bs) (received_of-append xs ys)
 received_of-append (Sent byte ∷ xs) ys = received_of-append xs ys
 received_of-append (Flushed ∷ xs) ys = received_of-append xs ys
 
-sent_of-append : (xs ys : List Event) → sent_of (xs ++ ys) ≡ sent_of xs ++ sent_of ys
+pub sent_of-append : (xs ys : List Event) → sent_of (xs ++ ys) ≡ sent_of xs ++ sent_of ys
 sent_of-append [] ys = refl
 sent_of-append (Read ∷ xs) ys = sent_of-append xs ys
 sent_of-append (Received byte ∷ xs) ys = sent_of-append xs ys
@@ -41,101 +44,136 @@ received_of-all : (bytes : List ℕ) → received_of (map Received bytes) ≡ by
 received_of-all [] = refl
 received_of-all (byte ∷ bytes) = ap (λ bs. byte ∷ bs) (received_of-all bytes)
 
-sent_of-all : (bytes : List ℕ) → sent_of (write_of bytes) ≡ bytes
+pub sent_of-all : (bytes : List ℕ) → sent_of (write_of bytes) ≡ bytes
 sent_of-all [] = refl
 sent_of-all (byte ∷ bytes) = ap (λ bs. byte ∷ bs) (sent_of-all bytes)
 
--- nothing passed
-pub Gives-nil : (a : SourceState) → Gives a a []
-Gives-nil a = record {
-  rest = a.rest;
-  gave = Consumes-nil a.rest;
-  left = λ same. refl;
-  told = ([], Grows-nil a.history, refl);
-}
+-- ---- histories that are kept
 
-pub Takes-nil : (a : SinkState) → Takes a a []
-Takes-nil a = record { took = Appends-nil a.taken; told = ([], Grows-nil a.history, refl) }
+-- what a history tells of the bytes `of` its events
+abbrev pub Tells : (List Event → List ℕ) → Option (List Event) → Option (List Event) → List ℕ
+    → Type 0
+Tells of old new bytes = IfSome old (λ before. (events : List Event)
+    × (new ≡ Some (before ++ events)) × (of events ≡ bytes))
 
--- the source gave some bytes, none of its calls failed, and then it gave more
-pub Gives-read : (a b c : SourceState) (bytes more : List ℕ) → b.failures ≡ a.failures
-    → c.failures ≡ b.failures → Gives a b bytes → Consumes b.rest c.rest more
-    → Grows b.history c.history (read_of more) → Gives a c (bytes ++ more)
-Gives-read a b c bytes more kept still gives then grows = record {
-  rest = c.rest;
-  gave = Consumes-trans a.rest b.rest c.rest bytes more
-      (subst (λ r. Consumes a.rest r bytes) (sym (gives.left kept)) gives.gave) then;
-  left = λ same. refl;
-  told = (
-    gives.told.0 ++ read_of more,
-    Grows-trans a.history b.history c.history gives.told.0 (read_of more) gives.told.1 grows,
-    received_of-append gives.told.0 (read_of more)
-        ∙ (ap (λ bs. bs ++ received_of (map Received more)) gives.told.2
-        ∙ ap (λ bs. bytes ++ bs) (received_of-all more)),
-  );
-}
+tells-by : (of : List Event → List ℕ) (a b : Option (List Event)) (events : List Event)
+    (bytes : List ℕ) → Grows a b events → of events ≡ bytes → Tells of a b bytes
+tells-by of None b events bytes grows is = tt
+tells-by of (Some xs) None events bytes grows is = absurd grows
+tells-by of (Some xs) (Some ys) events bytes grows is = (events, ap Some grows, is)
 
--- if no call failed, what is left is what the source says of itself
-pub Gives-end : (a b : SourceState) (bytes : List ℕ) (gives : Gives a b bytes)
-    → b.failures ≡ a.failures → IsAtEnd b.rest → IsAtEnd gives.rest
-Gives-end a b bytes gives same end = subst IsAtEnd (gives.left same) end
+-- events before and after
+tells-more : (of : List Event → List ℕ)
+    → ((xs ys : List Event) → of (xs ++ ys) ≡ of xs ++ of ys)
+    → (a b c : Option (List Event)) (bytes more : List ℕ)
+    → Tells of a b bytes → Tells of b c more → Tells of a c (bytes ++ more)
+tells-more of both None b c bytes more first then = tt
+tells-more of both (Some xs) b c bytes more (events, is, told) then =
+    let after = subst (λ h. Tells of h c more) is then in (
+      events ++ after.0,
+      after.1 ∙ ap Some (append_assoc xs events after.0),
+      both events after.0 ∙ (λ k. told k ++ after.2 k),
+    )
 
--- the source gave some bytes, none of its calls failed, and then a read failed
-pub Gives-failed : (a b c : SourceState) (bytes : List ℕ) → b.failures ≡ a.failures
-    → c.failures ≡ b.failures + 1 → Gives a b bytes → Grows b.history c.history (read_of [])
-    → Gives a c bytes
-Gives-failed a b c bytes kept failed gives grows = record {
-  rest = gives.rest;
-  gave = gives.gave;
-  left = λ same. absurd (omega (arith, kept, failed, same));
-  told = (
-    gives.told.0 ++ read_of [],
-    Grows-trans a.history b.history c.history gives.told.0 (read_of []) gives.told.1 grows,
-    received_of-append gives.told.0 (read_of [])
-        ∙ (append-nil (received_of gives.told.0) ∙ gives.told.2),
-  );
-}
+tells-nil : (of : List Event → List ℕ) → of [] ≡ [] → (a : Option (List Event))
+    → Tells of a a []
+tells-nil of none a = tells-by of a a [] [] (Grows-nil a) none
 
--- the sink took some bytes and then more
-pub Takes-trans : (a b c : SinkState) (bytes more : List ℕ) → Takes a b bytes → Takes b c more
-    → Takes a c (bytes ++ more)
-Takes-trans a b c bytes more first then = record {
-  took = Appends-trans a.taken b.taken c.taken bytes more first.took then.took;
-  told = (
-    first.told.0 ++ then.told.0,
-    Grows-trans a.history b.history c.history first.told.0 then.told.0 first.told.1 then.told.1,
-    sent_of-append first.told.0 then.told.0
-        ∙ (ap (λ bs. bs ++ sent_of then.told.0) first.told.2
-        ∙ ap (λ bs. bytes ++ bs) then.told.2),
-  );
-}
+received-read : (bytes : List ℕ) → received_of (read_of bytes) ≡ bytes
+received-read bytes = received_of-all bytes
 
--- bytes that were sent, and bytes that were sent before a flush
-pub Takes-sent : (a b : SinkState) (bytes : List ℕ) → Appends a.taken b.taken bytes
-    → Grows a.history b.history (write_of bytes) → Takes a b bytes
-Takes-sent a b bytes took grows =
-    record { took = took; told = (write_of bytes, grows, sent_of-all bytes) }
+sent-flushed : (bytes : List ℕ) → sent_of (write_of bytes ++ Flushed ∷ []) ≡ bytes
+sent-flushed bytes = sent_of-append (write_of bytes) (Flushed ∷ [])
+    ∙ (append-nil (sent_of (write_of bytes)) ∙ sent_of-all bytes)
 
-pub Takes-flushed : (a b : SinkState) (bytes : List ℕ) → Appends a.taken b.taken bytes
-    → Grows a.history b.history (write_of bytes ++ Flushed ∷ []) → Takes a b bytes
-Takes-flushed a b bytes took grows = record {
-  took = took;
-  told = (
-    write_of bytes ++ Flushed ∷ [],
-    grows,
-    sent_of-append (write_of bytes) (Flushed ∷ [])
-        ∙ (append-nil (sent_of (write_of bytes)) ∙ sent_of-all bytes),
-  );
-}
+-- ---- what a source gave
 
--- the sink took some bytes, and then nothing happened at it
-pub Takes-kept : (a b c : SinkState) (bytes : List ℕ) → Takes a b bytes
-    → Keeps b.taken c.taken → c.history ≡ b.history → Takes a c bytes
-Takes-kept a b c bytes takes kept same = record {
-  took = Appends-kept a.taken b.taken c.taken bytes takes.took kept;
-  told = (
-    takes.told.0,
-    subst (λ h. Grows a.history h takes.told.0) (sym same) takes.told.1,
-    takes.told.2,
-  );
-}
+module _ {S : Type 0} (says : source.Ghosts S) where
+  pub Gives-nil : (a : S) → Gives says a a []
+  Gives-nil a = record {
+    rest = says.rest a;
+    gave = Consumes-nil (says.rest a);
+    left = λ same. refl;
+    told = tells-nil received_of refl (says.history a);
+  }
+
+  -- some bytes, none of its calls failed, and then more
+  pub Gives-read : (a b c : S) (bytes more : List ℕ) → says.failures b ≡ says.failures a
+      → says.failures c ≡ says.failures b → Gives says a b bytes
+      → Consumes (says.rest b) (says.rest c) more
+      → Grows (says.history b) (says.history c) (read_of more) → Gives says a c (bytes ++ more)
+  Gives-read a b c bytes more kept still gives then grows = record {
+    rest = says.rest c;
+    gave = Consumes-trans (says.rest a) (says.rest b) (says.rest c) bytes more
+        (subst (λ r. Consumes (says.rest a) r bytes) (sym (gives.left kept)) gives.gave) then;
+    left = λ same. refl;
+    told = tells-more received_of received_of-append (says.history a) (says.history b)
+        (says.history c) bytes more gives.told
+        (tells-by received_of (says.history b) (says.history c) (read_of more) more grows
+        (received-read more));
+  }
+
+  -- if no call failed, what is left is what the source says of itself
+  pub Gives-end : (a b : S) (bytes : List ℕ) (gives : Gives says a b bytes)
+      → says.failures b ≡ says.failures a → IsAtEnd (says.rest b) → IsAtEnd gives.rest
+  Gives-end a b bytes gives same end = subst IsAtEnd (gives.left same) end
+
+  -- some bytes, none of its calls failed, and then a read failed
+  pub Gives-failed : (a b c : S) (bytes : List ℕ) → says.failures b ≡ says.failures a
+      → says.failures c ≡ says.failures b + 1 → Gives says a b bytes
+      → Grows (says.history b) (says.history c) (read_of []) → Gives says a c bytes
+  Gives-failed a b c bytes kept failed gives grows = record {
+    rest = gives.rest;
+    gave = gives.gave;
+    left = λ same. absurd (omega (arith, kept, failed, same));
+    told = subst (Tells received_of (says.history a) (says.history c)) (append-nil bytes)
+        (tells-more received_of received_of-append (says.history a) (says.history b)
+        (says.history c) bytes [] gives.told
+        (tells-by received_of (says.history b) (says.history c) (read_of []) [] grows refl));
+  }
+
+-- ---- what a sink took
+
+module _ {K : Type 0} (says : sink.Ghosts K) where
+  pub Takes-nil : (a : K) → Takes says a a []
+  Takes-nil a = record {
+    took = Appends-nil (says.taken a);
+    told = tells-nil sent_of refl (says.history a);
+  }
+
+  -- some bytes and then more
+  pub Takes-trans : (a b c : K) (bytes more : List ℕ) → Takes says a b bytes
+      → Takes says b c more → Takes says a c (bytes ++ more)
+  Takes-trans a b c bytes more first then = record {
+    took = Appends-trans (says.taken a) (says.taken b) (says.taken c) bytes more first.took
+        then.took;
+    told = tells-more sent_of sent_of-append (says.history a) (says.history b)
+        (says.history c) bytes more first.told then.told;
+  }
+
+  -- bytes that were sent, and bytes that were sent before a flush
+  pub Takes-sent : (a b : K) (bytes : List ℕ) → Appends (says.taken a) (says.taken b) bytes
+      → Grows (says.history a) (says.history b) (write_of bytes) → Takes says a b bytes
+  Takes-sent a b bytes took grows = record {
+    took = took;
+    told = tells-by sent_of (says.history a) (says.history b) (write_of bytes) bytes grows
+        (sent_of-all bytes);
+  }
+
+  pub Takes-flushed : (a b : K) (bytes : List ℕ) → Appends (says.taken a) (says.taken b) bytes
+      → Grows (says.history a) (says.history b) (write_of bytes ++ Flushed ∷ [])
+      → Takes says a b bytes
+  Takes-flushed a b bytes took grows = record {
+    took = took;
+    told = tells-by sent_of (says.history a) (says.history b) (write_of bytes ++ Flushed ∷ [])
+        bytes grows (sent-flushed bytes);
+  }
+
+  -- some bytes, and then nothing happened at it
+  pub Takes-kept : (a b c : K) (bytes : List ℕ) → Takes says a b bytes
+      → Keeps (says.taken b) (says.taken c) → says.history c ≡ says.history b
+      → Takes says a c bytes
+  Takes-kept a b c bytes takes kept same = record {
+    took = Appends-kept (says.taken a) (says.taken b) (says.taken c) bytes takes.took kept;
+    told = subst (λ h. Tells sent_of (says.history a) h bytes) (sym same) takes.told;
+  }

@@ -1,46 +1,42 @@
 -- What a sink took of the bytes that were appended to an empty buffer before it, once the buffer was
 -- written and the sink flushed.
-use Rattle.std.proofs.Common.{◌≡◌, List, [], ◌++◌, ℕ, Bool, true, false, ap, subst, sym, ◌∙◌}
+use Rattle.std.proofs.Common.{◌≡◌, List, [], ◌++◌, ℕ, Bool, true, false, ap, subst, ◌∙◌}
 use Rattle.std.proofs.Common.{◌+◌, append_assoc}
 use Rattle.std.specs.declared.result.Result.{Result}
 use Rattle.std.specs.declared.result.Result.TheVariants.{Ok, Err}
 use Rattle.ascii_devices.proofs.HistoryLemmas.{Takes-flushed, Takes-kept, Takes-sent, Takes-trans}
-use Rattle.ascii_devices.specs.Buffered.{AppendsBy, AppendsBytes, FinishOutcome, IsReady}
-use Rattle.ascii_devices.specs.Buffered.{OutputState}
-use Rattle.ascii_devices.specs.States.{SinkState, Takes}
+use Rattle.ascii_devices.specs.Buffered.{AppendsBy, AppendsTo, BufferState, FinishOutcome, IsReady}
+use Rattle.ascii_devices.specs.Buffered.{output_state}
+use Rattle.ascii_devices.specs.States.{Takes}
+use Rattle.ascii_devices.specs.declared.Sink.{Ghosts}
 use Rattle.ascii_devices.specs.declared.DeviceFault.{DeviceFault}
-use Rattle.ascii_run.specs.FrontOutput.{Passes, sink_of}
+use Rattle.ascii_run.specs.FrontOutput.{Passes}
 
-module _ (start mid now : OutputState) (bytes : List ℕ) (empty : start.buffer.bytes ≡ []) where
-  abbrev a : SinkState
-  a = sink_of start
-
-  abbrev b : SinkState
-  b = sink_of mid
-
-  abbrev c : SinkState
-  c = sink_of now
-
-  all_of : (sent held : List ℕ) → sent ++ held ≡ start.buffer.bytes ++ bytes → sent ++ held ≡ bytes
-  all_of sent held is = is ∙ ap (λ front. front ++ bytes) empty
+module _ {K : Type 0} (says : Ghosts K) (start mid now : K) (empty held left : BufferState)
+    (bytes : List ℕ) (none : empty.bytes ≡ []) where
+  all_of : (sent more : List ℕ) → sent ++ more ≡ empty.bytes ++ bytes → sent ++ more ≡ bytes
+  all_of sent more is = is ∙ ap (λ front. front ++ bytes) none
 
   passed_by : (q : Bool) (result : Result (Unit {0}) DeviceFault)
-      → AppendsBy false q start mid bytes → FinishOutcome q mid now result
-      → Passes bytes a c result
+      → AppendsBy false q (output_state says start empty) (output_state says mid held) bytes
+      → FinishOutcome q (output_state says mid held) (output_state says now left) result
+      → Passes says bytes start now result
   passed_by false (Ok _) (sent, sends, is, same) ((took, grows), count) = (
-    subst (Takes a c) (all_of sent mid.buffer.bytes is)
-        (Takes-trans a b c sent mid.buffer.bytes (Takes-sent a b sent sends.0 sends.1)
-        (Takes-flushed b c mid.buffer.bytes took grows)),
+    subst (Takes says start now) (all_of sent held.bytes is)
+        (Takes-trans says start mid now sent held.bytes
+        (Takes-sent says start mid sent sends.0 sends.1)
+        (Takes-flushed says mid now held.bytes took grows)),
     count ∙ same,
   )
   passed_by false (Err _) (sent, sends, is, same) ((more, others, sends_more, rest_is), count) = (
     (
       sent ++ more,
       others,
-      Takes-trans a b c sent more (Takes-sent a b sent sends.0 sends.1)
-          (Takes-sent b c more sends_more.0 sends_more.1),
+      Takes-trans says start mid now sent more
+          (Takes-sent says start mid sent sends.0 sends.1)
+          (Takes-sent says mid now more sends_more.0 sends_more.1),
       append_assoc sent more others
-          ∙ (ap (λ xs. sent ++ xs) rest_is ∙ all_of sent mid.buffer.bytes is),
+          ∙ (ap (λ xs. sent ++ xs) rest_is ∙ all_of sent held.bytes is),
     ),
     count ∙ ap (λ n. n + 1) same,
   )
@@ -49,18 +45,21 @@ module _ (start mid now : OutputState) (bytes : List ℕ) (empty : start.buffer.
     (
       sent,
       others,
-      Takes-kept a b c sent (Takes-sent a b sent sends.0 sends.1) kept still,
+      Takes-kept says start mid now sent (Takes-sent says start mid sent sends.0 sends.1) kept
+          still,
       all_of sent others is,
     ),
     same ∙ count,
   )
 
 -- all bytes that were appended, or a prefix of them
-pub passed_on : (start mid now : OutputState) (bytes : List ℕ)
-    (result : Result (Unit {0}) DeviceFault) → IsReady start.buffer → AppendsBytes start mid bytes
-    → FinishOutcome mid.buffer.is_broken mid now result
-    → Passes bytes (sink_of start) (sink_of now) result
-passed_on start mid now bytes result ready appends ends =
-    let q = mid.buffer.is_broken in
-    passed_by start mid now bytes ready.0 q result
-    (subst (λ p. AppendsBy p q start mid bytes) ready.1 appends.by_failure) ends
+pub passed_on : {K : Type 0} (says : Ghosts K) (start mid now : K) (empty held left : BufferState)
+    (bytes : List ℕ) (result : Result (Unit {0}) DeviceFault) → IsReady empty
+    → AppendsTo says start empty mid held bytes
+    → FinishOutcome held.is_broken (output_state says mid held) (output_state says now left) result
+    → Passes says bytes start now result
+passed_on says start mid now empty held left bytes result ready appends ends =
+    let q = held.is_broken in
+    passed_by says start mid now empty held left bytes ready.0 q result
+    (subst (λ p. AppendsBy p q (output_state says start empty) (output_state says mid held) bytes)
+    ready.1 appends.by_failure) ends

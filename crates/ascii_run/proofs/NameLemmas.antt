@@ -1,5 +1,5 @@
 -- The modes by their names.
-use Rattle.std.proofs.Common.{◌≡◌, ◌≢◌, ℕ, List}
+use Rattle.std.proofs.Common.{◌≢◌, ℕ, List}
 use Rattle.std.specs.Prelude.{codes}
 use Rattle.ascii_run.specs.declared.bounded.BoundedMode.TheVariants as bounded
 use Rattle.ascii_run.specs.declared.modes.Mode.TheVariants as mode

@@ -2,8 +2,7 @@
 -- one
 -- of these, and `shown` what is shown of a code.
 use Rattle.std.proofs.Common.{◌≡◌, ℕ, ◌+◌, ◌<◌, List, [], ◌∷◌, ◌++◌, length, take, get_or}
-use Rattle.std.proofs.Common.{append-nil, ap, arith, inl, inr, refl, sym, subst, ◌∙◌, length-take}
-use Rattle.std.proofs.lemmas.Bool.Decides.{nat_tests}
+use Rattle.std.proofs.Common.{append-nil, ap, arith, refl, sym, subst, ◌∙◌, length-take}
 use Rattle.std.proofs.lemmas.Grind.{flat_map-append}
 use Rattle.std.proofs.lemmas.List.{get_or-take, take_more}
 use Rattle.std.proofs.lemmas.List.Elements.{All-from_get_or, All-head, All-tail}

@@ -1,6 +1,6 @@
 -- A mode whose output is made part by part: the one law of its parts, and its output for a text.
-use Rattle.std.proofs.Common.{◌≡◌, ◌-◌, ℕ, Bool, true, false, cond}
-use Rattle.std.proofs.Common.{List, [], ◌∷◌, ◌++◌, length, map, get_or, eqb, eqb-true}
+use Rattle.std.proofs.Common.{◌≡◌, ℕ, Bool, true, false, cond}
+use Rattle.std.proofs.Common.{List, [], ◌∷◌, ◌++◌, length, map, eqb, eqb-true}
 use Rattle.std.proofs.Common.{arith, ap, sym, subst, refl, ◌∙◌, append-nil, append_assoc, not}
 use Rattle.std.proofs.Common.{◌&&◌, length-append}
 use Rattle.std.proofs.lemmas.Grind.{flat_map-append}

@@ -4,7 +4,8 @@ use Rattle.std.specs.Str.{IsAscii}
 use Rattle.std.specs.declared.result.Result.{Result}
 use Rattle.std.specs.declared.result.Result.TheVariants.{Ok, Err}
 use Rattle.ascii.specs.Bytes.{FirstOther}
-use Rattle.ascii_devices.specs.States.{SinkState, Takes}
+use Rattle.ascii_devices.specs.States.{Takes}
+use Rattle.ascii_devices.specs.declared.Sink as sink
 use Rattle.ascii_run.specs.declared.faults.EngineFault.{EngineFault}
 use Rattle.ascii_run.specs.declared.faults.EngineFault.TheVariants.{NotAscii, Position, Memory}
 use Rattle.ascii_run.specs.declared.faults.EngineFault.TheVariants.{Write}
@@ -41,13 +42,13 @@ StopsOutput mode text other = ⊥
 -- what the writer took of the output of the mode for the text. `Ok`: all of it. `Write`: a prefix.
 -- `Position`: nothing, and the error holds the index of the first command that is rejected.
 -- `Memory`: nothing.
-abbrev pub WritesOutput : Mode → List ℕ
-    → Result (Unit {0}) EngineFault → SinkState → SinkState → Type 0
-WritesOutput mode text (Ok _) old new =
-    (output : List ℕ) × IsOutput mode text output × Takes old new output
-WritesOutput mode text (Err (Position k)) old new =
-    (fault_of mode text ≡ Some k) × Takes old new []
-WritesOutput mode text (Err Memory) old new = Takes old new []
-WritesOutput mode text (Err Write) old new =
-    (sent others : List ℕ) × IsOutput mode text (sent ++ others) × Takes old new sent
-WritesOutput mode text other old new = ⊥
+abbrev pub WritesOutput : {K : Type 0} → sink.Ghosts K → Mode → List ℕ
+    → Result (Unit {0}) EngineFault → K → K → Type 0
+WritesOutput says mode text (Ok _) old new =
+    (output : List ℕ) × IsOutput mode text output × Takes says old new output
+WritesOutput says mode text (Err (Position k)) old new =
+    (fault_of mode text ≡ Some k) × Takes says old new []
+WritesOutput says mode text (Err Memory) old new = Takes says old new []
+WritesOutput says mode text (Err Write) old new =
+    (sent others : List ℕ) × IsOutput mode text (sent ++ others) × Takes says old new sent
+WritesOutput says mode text other old new = ⊥

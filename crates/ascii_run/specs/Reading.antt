@@ -6,16 +6,8 @@ use Rattle.std.specs.declared.option.Option.{Option}
 use Rattle.std.specs.declared.result.Result.{Result}
 use Rattle.std.specs.declared.result.Result.TheVariants.{Err}
 use Rattle.ascii.specs.Bytes.{FirstOther}
-use Rattle.ascii_devices.specs.States.{Gives, SinkState, SourceState, Takes}
-
--- a run over a reader and a writer, as they were and as they are now: the reader gave some bytes and
--- the writer took some, and `Holds` is true of the bytes given, of the reader's being at its end after
--- them, and of the bytes taken
-abbrev pub RunsWith : (List ℕ → Type 0 → List ℕ → Type 0)
-    → SourceState → SourceState → SinkState → SinkState → Type 0
-RunsWith Holds reader reader_now writer writer_now =
-    (given took : List ℕ) × (gives : Gives reader reader_now given)
-    × Takes writer writer_now took × Holds given (IsAtEnd gives.rest) took
+use Rattle.ascii_devices.specs.States.{Gives}
+use Rattle.ascii_devices.specs.declared.Source as source
 
 -- a device's count of failures after a result: one more if it is the error `fault`, otherwise
 -- unchanged
@@ -26,8 +18,8 @@ Counts fault old new result =
 -- ---- cited by private functions only
 
 -- the reader gave these bytes and is at its end
-abbrev pub GivesAll : SourceState → SourceState → List ℕ → Type 0
-GivesAll old new bytes = (gives : Gives old new bytes) × IsAtEnd gives.rest
+abbrev pub GivesAll : {S : Type 0} → source.Ghosts S → S → S → List ℕ → Type 0
+GivesAll says old new bytes = (gives : Gives says old new bytes) × IsAtEnd gives.rest
 
 -- the position of the first byte that is not ASCII, if there is one
 abbrev pub HasFirstOther : List ℕ → Option ℕ → Type 0

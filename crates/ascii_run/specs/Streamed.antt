@@ -8,9 +8,7 @@ use Rattle.std.specs.Str.{IsAscii}
 use Rattle.memchr.specs.Find.{Nowhere, OccursAt}
 use Rattle.ascii.specs.Bytes.{FirstOther}
 use Rattle.ascii.specs.Case.{lower_image, upper_image}
-use Rattle.ascii.specs.Lines.{Line, bodies}
-use Rattle.ascii.specs.declared.iter.spans.Ending.{Ending}
-use Rattle.ascii.specs.declared.iter.spans.Ending.TheVariants.{Absent}
+use Rattle.ascii.specs.Lines.{bodies}
 use Rattle.ascii_run.specs.declared.bounded.BoundedMode.{BoundedMode}
 use Rattle.ascii_run.specs.declared.bounded.BoundedMode.TheVariants.{Copy, Lines, Caret, Json}
 use Rattle.ascii_run.specs.declared.bounded.BoundedMode.TheVariants.{Upper, Lower, Escape, Lossy}

@@ -10,12 +10,13 @@
 //! The contract says of each outcome which bytes the reader gave and which the writer took, by what the devices say of
 //! themselves and by their histories, and how their counts of failures rose.
 
-ghost use Rattle.std.specs.Prelude.{◌≡◌, ◌<◌, MatchOption};
+ghost use Rattle.std.specs.Prelude.{◌≡◌, ◌<◌, ℕ, List, MatchOption};
+ghost use Rattle.std.specs.Io.KnownBytes.{IsAtEnd};
 ghost use Rattle.std.specs.List.{Contains};
 ghost use Rattle.ascii_run.specs.Names.{IsBoundedName, bounded_name};
-ghost use Rattle.ascii_devices.specs.States.{sink_state, source_state};
+ghost use Rattle.ascii_devices.specs.States.{Gives, Takes};
 ghost use Rattle.ascii_run.specs.Bounded.{BoundedOutcome, CountsReads};
-ghost use Rattle.ascii_run.specs.Reading.{Counts, RunsWith};
+ghost use Rattle.ascii_run.specs.Reading.{Counts};
 ghost use Rattle.ascii_run.specs.Streamed.{IsTextLength, takes_all};
 
 use crate::faults::BoundedFault;
@@ -155,9 +156,10 @@ pub fn bounded_engine<S: Source, K: Sink, A: Allocator + Copy>(
 ) -> Result<(), BoundedFault>
     requires reads { S.failures reader.old < u64.MAX }
     requires writes { K.failures writer.old < u64.MAX }
-    ensures outcome { RunsWith (BoundedOutcome mode result)
-        (source_state S.Source reader.old) (source_state S.Source reader.new)
-        (sink_state K.Sink writer.old) (sink_state K.Sink writer.new) }
+    ensures outcome { (given took : List ℕ)
+        × (gives : Gives S.Source reader.old reader.new given)
+        × Takes K.Sink writer.old writer.new took
+        × BoundedOutcome mode result given (IsAtEnd gives.rest) took }
     ensures read { CountsReads mode result (S.failures reader.old) (S.failures reader.new) }
     ensures write { Counts BoundedFault.Write (K.failures writer.old)
         (K.failures writer.new) result }

@@ -1,10 +1,9 @@
 //! The front output of a bounded run: what is written of a text part by part, as it is read.
 
 ghost use Rattle.std.specs.Prelude.{◌≡◌, ℕ, List, ◌<◌, IfOk, OnOk};
-ghost use Rattle.ascii_run.specs.FrontOutput.{PassesOn, StopsWith, sink_of};
-ghost use Rattle.ascii_devices.specs.States.{sink_state};
-ghost use Rattle.ascii_devices.specs.Buffered.{AppendsBytes, IsReady, MayFail};
-ghost use Rattle.ascii_devices.specs.Buffered.{OutputState, output_state};
+ghost use Rattle.ascii_run.specs.FrontOutput.{PassesOn, StopsWith};
+ghost use Rattle.ascii_devices.specs.Buffered.{AppendsTo, BufferState, IsReady, MayFail};
+ghost use Rattle.ascii_devices.specs.Buffered.{output_state};
 ghost use Rattle.ascii_run.specs.Streamed.{last_after, stream};
 
 use crate::bounded::BoundedMode;
@@ -57,8 +56,8 @@ impl<A: Allocator> FrontOutput<A> {
     pub(crate) fn open<K: Sink>(&mut self, writer: &mut K) -> Result<(), BoundedFault>
         requires ready { IsReady self.old.buffer }
         requires fail { K.failures writer.old < u64.MAX }
-        ensures passes { PassesOn (stream self.old.mode).opening
-            (sink_state K.Sink writer.old) (sink_state K.Sink writer.new) result }
+        ensures passes { PassesOn K.Sink (stream self.old.mode).opening
+            writer.old writer.new result }
         ensures kept { (self.new.mode ≡ self.old.mode) × (self.new.last ≡ self.old.last) }
         ensures ready { OnOk result (IsReady self.new.buffer) }
     {
@@ -74,8 +73,8 @@ impl<A: Allocator> FrontOutput<A> {
     ) -> Result<(), BoundedFault>
         requires ready { IsReady self.old.buffer }
         requires fail { K.failures writer.old < u64.MAX }
-        ensures passes { PassesOn ((stream self.old.mode).part self.old.last part.old)
-            (sink_state K.Sink writer.old) (sink_state K.Sink writer.new) result }
+        ensures passes { PassesOn K.Sink
+            ((stream self.old.mode).part self.old.last part.old) writer.old writer.new result }
         ensures kept { (self.new.mode ≡ self.old.mode)
             × (self.new.last ≡ last_after self.old.last part.old) }
         ensures ready { OnOk result (IsReady self.new.buffer) }
@@ -90,8 +89,8 @@ impl<A: Allocator> FrontOutput<A> {
     pub(crate) fn close<K: Sink>(&mut self, writer: &mut K) -> Result<(), BoundedFault>
         requires ready { IsReady self.old.buffer }
         requires fail { K.failures writer.old < u64.MAX }
-        ensures passes { PassesOn ((stream self.old.mode).closing self.old.last)
-            (sink_state K.Sink writer.old) (sink_state K.Sink writer.new) result }
+        ensures passes { PassesOn K.Sink ((stream self.old.mode).closing self.old.last)
+            writer.old writer.new result }
     {
         self.buffer.put(writer, self.mode.closing(self.last));
         pass_on(&mut self.buffer, writer)
@@ -102,8 +101,8 @@ impl<A: Allocator> FrontOutput<A> {
     pub(crate) fn stop<K: Sink>(&mut self, writer: &mut K, fault: BoundedFault) -> BoundedFault
         requires ready { IsReady self.old.buffer }
         requires fail { K.failures writer.old < u64.MAX }
-        ensures { StopsWith fault ((stream self.old.mode).cut self.old.last)
-            (sink_state K.Sink writer.old) (sink_state K.Sink writer.new) result }
+        ensures { StopsWith K.Sink fault ((stream self.old.mode).cut self.old.last)
+            writer.old writer.new result }
     {
         let bytes = self.mode.cut(self.last);
         if bytes.is_empty() {
@@ -123,9 +122,9 @@ fn pass_on<K: Sink, A: Allocator>(
     writer: &mut K,
 ) -> Result<(), BoundedFault>
     requires { MayFail (output_state K.Sink writer.old buffer.old) }
-    ensures passes { (start : OutputState) (bytes : List ℕ) → IsReady start.buffer
-        → AppendsBytes start (output_state K.Sink writer.old buffer.old) bytes
-        → PassesOn bytes (sink_of start) (sink_state K.Sink writer.new) result }
+    ensures passes { (start : K) (held : BufferState) (bytes : List ℕ) → IsReady held
+        → AppendsTo K.Sink start held writer.old buffer.old bytes
+        → PassesOn K.Sink bytes start writer.new result }
     ensures ready { OnOk result (IsReady buffer.new) }
 {
     match buffer.finish(writer) {

@@ -13,10 +13,11 @@
 
 ghost use Rattle.std.specs.Prelude.{◌≡◌, ◌⊎◌, ℕ, ◌+◌, ◌<◌, ◌≤◌, List, ◌++◌, IfErr, IfOk, OnErr, length};
 ghost use Rattle.std.specs.Option.{ForSome};
+ghost use Rattle.std.specs.Io.KnownBytes.{IsAtEnd};
 ghost use Rattle.std.specs.Str.{IsAscii};
-ghost use Rattle.ascii_devices.specs.States.{Gives, sink_state, source_state};
+ghost use Rattle.ascii_devices.specs.States.{Gives, Takes};
 ghost use Rattle.ascii_run.specs.Engine.{EngineOutcome, WritesOutput};
-ghost use Rattle.ascii_run.specs.Reading.{Counts, GivesAll, HasFirstOther, RunsWith};
+ghost use Rattle.ascii_run.specs.Reading.{Counts, GivesAll, HasFirstOther};
 
 use crate::faults::EngineFault;
 use crate::modes::{Mode, buffer_size, render_output};
@@ -42,9 +43,10 @@ pub fn engine<S: Source, K: Sink, A: Allocator + Copy>(
 ) -> Result<(), EngineFault>
     requires reads { S.failures reader.old < u64.MAX }
     requires writes { K.failures writer.old < u64.MAX }
-    ensures outcome { RunsWith (EngineOutcome mode.entry result)
-        (source_state S.Source reader.old) (source_state S.Source reader.new)
-        (sink_state K.Sink writer.old) (sink_state K.Sink writer.new) }
+    ensures outcome { (given took : List ℕ)
+        × (gives : Gives S.Source reader.old reader.new given)
+        × Takes K.Sink writer.old writer.new took
+        × EngineOutcome mode.entry result given (IsAtEnd gives.rest) took }
     ensures read { Counts EngineFault.Read (S.failures reader.old) (S.failures reader.new) result }
     ensures write { Counts EngineFault.Write (K.failures writer.old) (K.failures writer.new) result }
 {
@@ -66,13 +68,12 @@ fn read_all<S: Source, A: Allocator + Copy>(
     reader: &mut S,
 ) -> Result<(Vec<u8, A>, Option<usize>), EngineFault>
     requires { S.failures reader.old < u64.MAX }
-    ensures ok { IfOk result (λ input. GivesAll
-        (source_state S.Source reader.old) (source_state S.Source reader.new) input.0.items) }
+    ensures ok { IfOk result (λ input. GivesAll S.Source reader.old reader.new input.0.items) }
     ensures other { IfOk result (λ input. HasFirstOther input.0.items input.1) }
     ensures err { IfErr result (λ fault.
         (fault ≡ EngineFault.Memory) ⊎ (fault ≡ EngineFault.Read)) }
-    ensures gave { OnErr result ((bytes : List ℕ) × Gives
-        (source_state S.Source reader.old) (source_state S.Source reader.new) bytes) }
+    ensures gave { OnErr result ((bytes : List ℕ)
+        × Gives S.Source reader.old reader.new bytes) }
     ensures count { Counts EngineFault.Read (S.failures reader.old) (S.failures reader.new) result }
 {
     let mut input = Vec::new(alloc);
@@ -121,8 +122,7 @@ fn write_output<K: Sink, A: Allocator + Copy>(
 ) -> Result<(), EngineFault>
     requires fail { K.failures writer.old < u64.MAX }
     requires ascii { IsAscii input.items }
-    ensures tells { WritesOutput mode.entry input.items result
-        (sink_state K.Sink writer.old) (sink_state K.Sink writer.new) }
+    ensures tells { WritesOutput K.Sink mode.entry input.items result writer.old writer.new }
     ensures count { Counts EngineFault.Write (K.failures writer.old) (K.failures writer.new) result }
 {
     let mut buffer = BufferedSink::new(alloc, buffer_size(mode, input.len()))?;

@@ -8,8 +8,9 @@ use Rattle.std.specs.declared.result.Result.{Result}
 use Rattle.ascii.specs.Bytes.{FirstOther}
 use Rattle.ascii_run.specs.Engine.{EngineOutcome}
 use Rattle.ascii_run.specs.Modes.{IsOutput, fault_of}
-use Rattle.ascii_run.specs.Reading.{RunsWith}
-use Rattle.ascii_run.specs.States.{SinkState, SourceState}
+use Rattle.ascii_run.proofs.OutputBufferLemmas.{Runs}
+use Rattle.ascii_run.specs.declared.Sink as sink
+use Rattle.ascii_run.specs.declared.Source as source
 use Rattle.std.specs.Io.KnownBytes.{Appends, Consumes, IsAtEnd, Keeps}
 use Rattle.ascii_run.specs.declared.faults.EngineFault.{EngineFault}
 use Rattle.ascii_run.specs.declared.faults.EngineFault.TheVariants.{NotAscii, Position, Memory}
@@ -48,77 +49,78 @@ took_none (Some xs) None bytes took none = absurd took
 took_none (Some xs) (Some ys) bytes took none =
     took ∙ (ap (λ zs. xs ++ zs) none ∙ append-nil xs)
 
--- a fault of the engine is one that the words and the input allow
-pub failed : (words : List (List ℕ)) (mode : Mode) (fault : EngineFault) (r t : SourceState)
-    (a b : SinkState) → Requests words mode
-    → RunsWith (EngineOutcome mode (Err fault)) r t a b
-    → MayReturn words r.rest (Err (Engine fault))
-failed words mode (NotAscii n) r t a b asks (given, took, gives, takes, (end, other, none)) = (
-  mode,
-  asks,
-  reads (λ bytes. FirstOther bytes 0 (length bytes) n) r.rest gives.rest given gives.gave end
-      other,
-)
-failed words mode (Position k) r t a b asks (given, took, gives, takes, (end, ascii, is, none)) =
-    (mode, asks, reads (HasFault (Some k) mode) r.rest gives.rest given gives.gave end (ascii, is))
-failed words mode Memory r t a b asks run = inl (mode, asks)
-failed words mode Read r t a b asks run = (mode, asks, nothing r.rest)
-failed words mode Write r t a b asks (given, took, gives, takes, (end, ascii, (others, of_text))) = (
-  mode,
-  asks,
-  reads (HasFault None mode) r.rest gives.rest given gives.gave end
-      (ascii, no_fault mode given (took ++ others) of_text),
-)
-
--- and so is its success
-pub done : (words : List (List ℕ)) (mode : Mode) (r t : SourceState) (a b : SinkState)
-    → Requests words mode → RunsWith (EngineOutcome mode (Ok tt)) r t a b
-    → MayReturn words r.rest (Ok tt)
-done words mode r t a b asks (given, took, gives, takes, (end, ascii, of_text)) = (
-  mode,
-  asks,
-  reads (HasFault None mode) r.rest gives.rest given gives.gave end
-      (ascii, no_fault mode given took of_text),
-)
-
--- what the output took on a fault of the engine
-pub wrote : (words : List (List ℕ)) (mode : Mode) (fault : EngineFault) (r t : SourceState)
-    (a b : SinkState) → Requests words mode
-    → RunsWith (EngineOutcome mode (Err fault)) r t a b
-    → Writes words r.rest (Err (Engine fault)) a.taken b.taken
-wrote words mode (NotAscii n) r t a b asks (given, took, gives, takes, (end, other, none)) =
-    took_none a.taken b.taken took takes.took none
-wrote words mode (Position k) r t a b asks (given, took, gives, takes, (end, ascii, is, none)) =
-    took_none a.taken b.taken took takes.took none
-wrote words mode Memory r t a b asks (given, took, gives, takes, none) =
-    took_none a.taken b.taken took takes.took none
-wrote words mode Read r t a b asks (given, took, gives, takes, none) =
-    took_none a.taken b.taken took takes.took none
-wrote words mode Write r t a b asks (given, took, gives, takes, (end, ascii, (others, of_text))) = (
-  took,
-  others,
-  (
+module _ {S K : Type 0} (source : source.Ghosts S) (sink : sink.Ghosts K) where
+  -- a fault of the engine is one that the words and the input allow
+  pub failed : (words : List (List ℕ)) (mode : Mode) (fault : EngineFault) (r t : S)
+      (a b : K) → Requests words mode
+      → Runs source sink (EngineOutcome mode (Err fault)) r t a b
+      → MayReturn words (source.rest r) (Err (Engine fault))
+  failed words mode (NotAscii n) r t a b asks (given, took, gives, takes, (end, other, none)) = (
     mode,
     asks,
-    reads (λ bytes. IsOutput mode bytes (took ++ others)) r.rest gives.rest given gives.gave end
-        of_text,
-  ),
-  takes.took,
-)
-
--- and on its success
-pub wrote_all : (words : List (List ℕ)) (mode : Mode) (r t : SourceState) (a b : SinkState)
-    → Requests words mode → RunsWith (EngineOutcome mode (Ok tt)) r t a b
-    → Writes words r.rest (Ok tt) a.taken b.taken
-wrote_all words mode r t a b asks (given, took, gives, takes, (end, ascii, of_text)) = (
-  took,
-  (
+    reads (λ bytes. FirstOther bytes 0 (length bytes) n) (source.rest r) gives.rest given gives.gave end
+        other,
+  )
+  failed words mode (Position k) r t a b asks (given, took, gives, takes, (end, ascii, is, none)) =
+      (mode, asks, reads (HasFault (Some k) mode) (source.rest r) gives.rest given gives.gave end (ascii, is))
+  failed words mode Memory r t a b asks run = inl (mode, asks)
+  failed words mode Read r t a b asks run = (mode, asks, nothing (source.rest r))
+  failed words mode Write r t a b asks (given, took, gives, takes, (end, ascii, (others, of_text))) = (
     mode,
     asks,
-    reads (λ bytes. IsOutput mode bytes took) r.rest gives.rest given gives.gave end of_text,
-  ),
-  takes.took,
-)
+    reads (HasFault None mode) (source.rest r) gives.rest given gives.gave end
+        (ascii, no_fault mode given (took ++ others) of_text),
+  )
+
+  -- and so is its success
+  pub done : (words : List (List ℕ)) (mode : Mode) (r t : S) (a b : K)
+      → Requests words mode → Runs source sink (EngineOutcome mode (Ok tt)) r t a b
+      → MayReturn words (source.rest r) (Ok tt)
+  done words mode r t a b asks (given, took, gives, takes, (end, ascii, of_text)) = (
+    mode,
+    asks,
+    reads (HasFault None mode) (source.rest r) gives.rest given gives.gave end
+        (ascii, no_fault mode given took of_text),
+  )
+
+  -- what the output took on a fault of the engine
+  pub wrote : (words : List (List ℕ)) (mode : Mode) (fault : EngineFault) (r t : S)
+      (a b : K) → Requests words mode
+      → Runs source sink (EngineOutcome mode (Err fault)) r t a b
+      → Writes words (source.rest r) (Err (Engine fault)) (sink.taken a) (sink.taken b)
+  wrote words mode (NotAscii n) r t a b asks (given, took, gives, takes, (end, other, none)) =
+      took_none (sink.taken a) (sink.taken b) took takes.took none
+  wrote words mode (Position k) r t a b asks (given, took, gives, takes, (end, ascii, is, none)) =
+      took_none (sink.taken a) (sink.taken b) took takes.took none
+  wrote words mode Memory r t a b asks (given, took, gives, takes, none) =
+      took_none (sink.taken a) (sink.taken b) took takes.took none
+  wrote words mode Read r t a b asks (given, took, gives, takes, none) =
+      took_none (sink.taken a) (sink.taken b) took takes.took none
+  wrote words mode Write r t a b asks (given, took, gives, takes, (end, ascii, (others, of_text))) = (
+    took,
+    others,
+    (
+      mode,
+      asks,
+      reads (λ bytes. IsOutput mode bytes (took ++ others)) (source.rest r) gives.rest given gives.gave end
+          of_text,
+    ),
+    takes.took,
+  )
+
+  -- and on its success
+  pub wrote_all : (words : List (List ℕ)) (mode : Mode) (r t : S) (a b : K)
+      → Requests words mode → Runs source sink (EngineOutcome mode (Ok tt)) r t a b
+      → Writes words (source.rest r) (Ok tt) (sink.taken a) (sink.taken b)
+  wrote_all words mode r t a b asks (given, took, gives, takes, (end, ascii, of_text)) = (
+    took,
+    (
+      mode,
+      asks,
+      reads (λ bytes. IsOutput mode bytes took) (source.rest r) gives.rest given gives.gave end of_text,
+    ),
+    takes.took,
+  )
 
 -- nothing was written where the words request nothing
 pub wrote_nothing : (words : List (List ℕ)) (known taken : Option (List ℕ)) (failure : Failure)

@@ -1,7 +1,7 @@
 use Rattle.std.proofs.Common.{◌≡◌, ◌-◌, ◌^◌, List, ℕ, length}
 use Rattle.ascii_run.specs.Streamed.{IsInput, front, last_after, stream}
 use Rattle.ascii_devices.specs.Buffered.{IsReady}
-use Rattle.ascii_devices.specs.States.{Gives, Takes, sink_state, source_state}
+use Rattle.ascii_devices.specs.States.{Gives, Takes}
 use Rattle.ascii_run.proofs.bounded.bounded_engine.Given as goal
 
 -- the text so far was read, and its front output was written
@@ -11,10 +11,9 @@ invariant-chunks g l =
     × (g.K.Sink.failures l.writer ≡ g.K.Sink.failures l.fn.writer)
     × (l.output.mode ≡ l.fn.mode) × IsReady l.output.buffer
     × ((done : List ℕ) × (length done ≡ l.position)
-    × Gives (source_state g.S.Source l.fn.reader) (source_state g.S.Source l.reader) done
+    × Gives g.S.Source l.fn.reader l.reader done
     × IsInput l.fn.mode done × (l.output.last ≡ last_after 10 done)
-    × Takes (sink_state g.K.Sink l.fn.writer) (sink_state g.K.Sink l.writer)
-    (front (stream l.fn.mode) done))
+    × Takes g.K.Sink l.fn.writer l.writer (front (stream l.fn.mode) done))
 
 -- the room left below the largest position
 abbrev pub decreases-chunks : goal.decreases-chunks

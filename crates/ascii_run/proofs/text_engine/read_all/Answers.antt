@@ -2,70 +2,66 @@ use Rattle.std.proofs.Common.{[], ◌++◌, ◌∙◌, ap, append-nil, refl, rul
 use Rattle.std.specs.Str.{IsAscii}
 use Rattle.std.proofs.lemmas.Str.Ascii.{IsAscii-nil}
 use Rattle.ascii_devices.proofs.HistoryLemmas.{Gives-end, Gives-failed, Gives-nil, Gives-read}
-use Rattle.ascii_devices.specs.States.{Gives, source_state}
+use Rattle.ascii_devices.specs.States.{Gives}
 use Rattle.ascii_run.specs.Reading.{GivesAll}
 use Rattle.ascii_run.proofs.OutputBufferLemmas.{on_error}
 use Rattle.ascii_run.proofs.text_engine.read_all.Goals as goal
 
 pub returns-in_err-room-clause-gave : goal.returns-in_err-room-clause-gave
 returns-in_err-room-clause-gave g c =
-    on_error c.from_residual.result ([], Gives-nil (source_state g.S.Source c.args.reader.now))
+    on_error c.from_residual.result ([], Gives-nil g.S.Source c.args.reader.now)
 
 pub reads-init : goal.reads-init
 reads-init g c =
-    let source = source_state g.S.Source c.args.reader.now in (
-      subst (Gives source source) (sym c.new-input.ensures.items) (Gives-nil source),
+    let source = c.args.reader.now in (
+      subst (Gives g.S.Source source source) (sym c.new-input.ensures.items) (Gives-nil g.S.Source source),
       refl,
       subst IsAscii (sym c.new-input.ensures.items) IsAscii-nil,
     )
 
 pub returns-in_default-clause-gave : goal.returns-in_default-clause-gave
-returns-in_default-clause-gave g c =
-    let source = source_state g.S.Source in (
-      c.reads.input.items,
-      Gives-failed (source c.args.reader.now) (source c.reads.reader) (source c.read.new.self)
-          c.reads.input.items c.reads.invariant.1 c.in_default.ensures.count c.reads.invariant.0
-          c.in_default.ensures.history,
-    )
+returns-in_default-clause-gave g c = (
+  c.reads.input.items,
+  Gives-failed g.S.Source c.args.reader.now c.reads.reader c.read.new.self
+      c.reads.input.items c.reads.invariant.1 c.in_default.ensures.count c.reads.invariant.0
+      c.in_default.ensures.history,
+)
 
 pub returns-then-n-eq0-clause-ok : goal.returns-then-n-eq0-clause-ok
 returns-then-n-eq0-clause-ok g c =
-    let source = source_state g.S.Source in
     let input = c.reads.input.items in
     let part = take c.in-Ok.n c.read.new.buf in
-    let start = source c.args.reader.now in
-    let now = source c.read.new.self in
+    let start = c.args.reader.now in
+    let now = c.read.new.self in
     let gave =
-    Gives-read (source c.args.reader.now) (source c.reads.reader) (source c.read.new.self)
+    Gives-read g.S.Source c.args.reader.now c.reads.reader c.read.new.self
     input part c.reads.invariant.1 c.in-Ok.ensures.count c.reads.invariant.0
     c.in-Ok.ensures.bytes.1 c.in-Ok.ensures.history in
-    subst (GivesAll (source c.args.reader.now) (source c.read.new.self))
+    subst (GivesAll g.S.Source c.args.reader.now c.read.new.self)
     (ap (λ k. input ++ take k c.read.new.buf) c.if-n-eq0.true ∙ append-nil input) (
       gave,
-      Gives-end start now (input ++ part) gave
+      Gives-end g.S.Source start now (input ++ part) gave
           (c.in-Ok.ensures.count ∙ c.reads.invariant.1) (c.in-Ok.ensures.end c.if-n-eq0.true),
     )
 
 pub returns-in_err-extend_from_slice-clause-gave :
     goal.returns-in_err-extend_from_slice-clause-gave
 returns-in_err-extend_from_slice-clause-gave g c =
-    let source = source_state g.S.Source in
     let part = take c.in-Ok.n c.read.new.buf in
     on_error c.from_residual-in_err-extend_from_slice.result (
       c.reads.input.items ++ part,
-      Gives-read (source c.args.reader.now) (source c.reads.reader) (source c.read.new.self)
+      Gives-read g.S.Source c.args.reader.now c.reads.reader c.read.new.self
           c.reads.input.items part c.reads.invariant.1 c.in-Ok.ensures.count c.reads.invariant.0
           c.in-Ok.ensures.bytes.1 c.in-Ok.ensures.history,
     )
 
 pub reads-preserved : goal.reads-preserved
 reads-preserved g c =
-    let source = source_state g.S.Source in
     let part = take c.in-Ok.n c.read.new.buf in (
-      subst (Gives (source c.args.reader.now) (source c.read.new.self))
+      subst (Gives g.S.Source c.args.reader.now c.read.new.self)
           (sym c.in_ok-extend_from_slice.ensures.items)
-          (Gives-read (source c.args.reader.now) (source c.reads.reader)
-          (source c.read.new.self) c.reads.input.items part c.reads.invariant.1
+          (Gives-read g.S.Source c.args.reader.now c.reads.reader
+          c.read.new.self c.reads.input.items part c.reads.invariant.1
           c.in-Ok.ensures.count c.reads.invariant.0 c.in-Ok.ensures.bytes.1
           c.in-Ok.ensures.history),
       c.in-Ok.ensures.count ∙ c.reads.invariant.1,

@@ -1,5 +1,5 @@
 use Rattle.std.proofs.Common.{◌≡◌, ◌-◌, ◌^◌, vec_len}
-use Rattle.ascii_devices.specs.States.{Gives, source_state}
+use Rattle.ascii_devices.specs.States.{Gives}
 use Rattle.ascii_run.specs.Reading.{HasFirstOther}
 use Rattle.ascii_run.proofs.text_engine.read_all.Given as goal
 
@@ -7,7 +7,7 @@ use Rattle.ascii_run.proofs.text_engine.read_all.Given as goal
 -- and no read has failed
 abbrev pub invariant-reads : goal.invariant-reads
 invariant-reads g l =
-    Gives (source_state g.S.Source l.fn.reader) (source_state g.S.Source l.reader) l.input.items
+    Gives g.S.Source l.fn.reader l.reader l.input.items
     × (g.S.Source.failures l.reader ≡ g.S.Source.failures l.fn.reader)
     × HasFirstOther l.input.items l.other
 
