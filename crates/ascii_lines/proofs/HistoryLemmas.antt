@@ -1,18 +1,11 @@
 -- Writes and flushes that a history tells of, one after another.
 use Rattle.std.proofs.Common.{◌≡◌, ℕ, List, [], ◌∷◌, ◌++◌, Option, ap, refl, subst, sym, ◌∙◌}
 use Rattle.std.proofs.Common.{append_assoc, append-nil}
-use Rattle.ascii_devices.proofs.HistoryLemmas.{Grows-nil, Grows-trans}
-use Rattle.ascii_devices.specs.Devices.{Grows, write_of}
+use Rattle.ascii_devices.proofs.HistoryLemmas.{Grows-nil, Grows-trans, sent_of-all, sent_of-append}
+use Rattle.ascii_devices.specs.Devices.{Grows, sent_of, write_of}
 use Rattle.ascii_devices.specs.declared.log.Event.{Event}
 use Rattle.ascii_devices.specs.declared.log.Event.TheVariants.{Flushed, Read, Received, Sent}
-use Rattle.ascii_lines.specs.History.{AreWrites, TellsFlushed, TellsSent, sent_of}
-
-pub sent_of-append : (xs ys : List Event) → sent_of (xs ++ ys) ≡ sent_of xs ++ sent_of ys
-sent_of-append [] ys = refl
-sent_of-append (Sent b ∷ xs) ys = ap (λ zs. b ∷ zs) (sent_of-append xs ys)
-sent_of-append (Read ∷ xs) ys = sent_of-append xs ys
-sent_of-append (Received b ∷ xs) ys = sent_of-append xs ys
-sent_of-append (Flushed ∷ xs) ys = sent_of-append xs ys
+use Rattle.ascii_lines.specs.History.{AreWrites, TellsFlushed, TellsSent}
 
 pub AreWrites-append : (xs ys : List Event) → AreWrites xs → AreWrites ys → AreWrites (xs ++ ys)
 AreWrites-append [] ys first then = then
@@ -24,10 +17,6 @@ AreWrites-append (Flushed ∷ xs) ys first then = AreWrites-append xs ys first t
 AreWrites-sent : (bytes : List ℕ) → AreWrites (write_of bytes)
 AreWrites-sent [] = tt
 AreWrites-sent (b ∷ bytes) = AreWrites-sent bytes
-
-sent_of-write : (bytes : List ℕ) → sent_of (write_of bytes) ≡ bytes
-sent_of-write [] = refl
-sent_of-write (b ∷ bytes) = ap (λ zs. b ∷ zs) (sent_of-write bytes)
 
 -- the bytes that two rows of events sent
 noted_two : (xs ys : List Event) (one two : List ℕ) → sent_of xs ≡ one → sent_of ys ≡ two
@@ -45,7 +34,7 @@ TellsSent-write sent grows = record {
   events = write_of sent;
   grows = grows;
   writes = AreWrites-sent sent;
-  noted = sent_of-write sent;
+  noted = sent_of-all sent;
 }
 
 pub TellsSent-trans : {a b c : Option (List Event)} (sent more : List ℕ)
@@ -64,7 +53,7 @@ TellsSent-flush sent grows = record {
   events = write_of sent ++ Flushed ∷ [];
   grows = grows;
   writes = AreWrites-append (write_of sent) (Flushed ∷ []) (AreWrites-sent sent) tt;
-  noted = noted_two (write_of sent) (Flushed ∷ []) sent [] (sent_of-write sent) refl
+  noted = noted_two (write_of sent) (Flushed ∷ []) sent [] (sent_of-all sent) refl
       ∙ append-nil sent;
 }
 
@@ -76,5 +65,5 @@ TellsFlushed-after {a} {b} {c} sent more one two = record {
   grows = subst (Grows a c) (sym (append_assoc one.events (write_of more) (Flushed ∷ [])))
       (Grows-trans a b c one.events (write_of more ++ Flushed ∷ []) one.grows two);
   writes = AreWrites-append one.events (write_of more) one.writes (AreWrites-sent more);
-  noted = noted_two one.events (write_of more) sent more one.noted (sent_of-write more);
+  noted = noted_two one.events (write_of more) sent more one.noted (sent_of-all more);
 }

@@ -1,15 +1,9 @@
 -- What the history of a sink says of the writes and flushes that came to it.
 use Rattle.std.specs.Prelude.{◌≡◌, ℕ, List, [], ◌∷◌, ◌++◌, ⊤}
 use Rattle.std.specs.declared.option.Option.{Option}
-use Rattle.ascii_devices.specs.Devices.{Grows}
+use Rattle.ascii_devices.specs.Devices.{Grows, sent_of}
 use Rattle.ascii_devices.specs.declared.log.Event.{Event}
 use Rattle.ascii_devices.specs.declared.log.Event.TheVariants.{Flushed, Read, Received, Sent}
-
--- the bytes that the device took
-abbrev pub sent_of : List Event → List ℕ
-sent_of [] = []
-sent_of (Sent b ∷ events) = b ∷ sent_of events
-sent_of (other ∷ events) = sent_of events
 
 -- the device was not asked for bytes and gave none
 abbrev pub AreWrites : List Event → Type 0
