@@ -89,7 +89,7 @@ fn takes_all(mode: usize) -> bool {
     mode >= 6
 }
 
-/// What a mode of the bounded engine has written when it comes to a byte that it does not take, or to the end.
+/// What a mode of the bounded engine has written when an error ends its input, or at the end.
 fn bounded_output(mode: usize, text: &[u8], is_whole: bool) -> Vec<u8> {
     match mode {
         0 => text.to_vec(),
@@ -100,18 +100,8 @@ fn bounded_output(mode: usize, text: &[u8], is_whole: bool) -> Vec<u8> {
         5 => text.to_ascii_lowercase(),
         6 => text.escape_ascii().to_string().into_bytes(),
         7 => text.iter().map(|byte| if byte.is_ascii() { *byte } else { b'?' }).collect(),
-        _ => {
-            let mut out = bodies(text, false);
-            let is_open = text.last().is_some_and(|last| *last != b'\n');
-            if !is_whole && is_open {
-                // An open line may still get its LF, and its last CR waits.
-                out.pop();
-                if text.ends_with(b"\r") {
-                    out.pop();
-                }
-            }
-            out
-        }
+        // An open line is closed.
+        _ => bodies(text, false),
     }
 }
 
@@ -136,7 +126,8 @@ pub fn bounded(random: &mut Random, asked: &mut Asked) {
 }
 
 /// Devices of which one fails: the answer is its error and a prefix of the output, which is empty if `engine` could
-/// not read. If the call that fails is never made, all is as if none failed.
+/// not read; if the bounded engine could not, it is what is written of exactly the bytes before. If the call that fails
+/// is never made, all is as if none failed.
 pub fn failing(random: &mut Random, asked: &mut Asked) {
     let is_bounded = random.below(2) == 0;
     let mode = random.below(if is_bounded { BOUNDED } else { 7 });
@@ -159,9 +150,14 @@ pub fn failing(random: &mut Random, asked: &mut Asked) {
     if device.fails > calls && !(is_bounded && !is_read && asked.differs()) {
         return;
     }
-    let may_write = if is_read && !is_bounded { out.is_empty() } else { all.starts_with(&out) };
     asked.want = Answer::default();
     asked.want.text(if is_read { "read" } else { "write" });
+    if is_read && is_bounded {
+        let given = source.len().min(device.most.saturating_mul(device.fails as usize));
+        asked.want.text(bounded_output(mode, &source[..given], false));
+        return;
+    }
+    let may_write = if is_read { out.is_empty() } else { all.starts_with(&out) };
     asked.want.text(if may_write { &out } else { &b"another prefix"[..] });
 }
 
