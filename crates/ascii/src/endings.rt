@@ -169,20 +169,19 @@ fn find_lf(text: &[u8], from: usize) -> Option<usize>
     }
 }
 
-/// Splits a line into its body and its ending. Constant time.
+/// Splits a line into its body and its ending. The bytes need not be ASCII. Constant time.
 ///
 /// Condition: the line is not empty, only its last byte may end a line, and it has no lone CR or LF
 /// that the endings rule out.
 ///
-///     split_ending(Endings::CrLf, view("a\nb\r\n")) // ("a\nb", CrLf)
-///     split_ending(Endings::Any, view("ab\n")) // ("ab", Lf)
+///     split_ending(Endings::CrLf, b"a\nb\r\n") // ([97, 10, 98], CrLf)
+///     split_ending(Endings::Any, b"ab\n") // ([97, 98], Lf)
 #[inline]
-pub fn split_ending(endings: Endings, line: AsciiStr<'_>) -> (AsciiStr<'_>, Ending)
-    requires { IsOneLine endings (text_of line) }
-    ensures line { LinesEndedBy endings (text_of line.entry)
-        (record { body = text_of result.0; ending = result.1 } ∷ []) }
-    ensures ended { IsFirstStop endings (text_of line.entry) (length (text_of line.entry))
-        → result.1 ≢ Ending.Absent }
+pub fn split_ending(endings: Endings, line: &[u8]) -> (&[u8], Ending)
+    requires { IsOneLine endings line.now }
+    ensures line { LinesEndedBy endings line.now
+        (record { body = result.0.now; ending = result.1 } ∷ []) }
+    ensures ended { IsFirstStop endings line.now (length line.now) → result.1 ≢ Ending.Absent }
 {
     match endings {
         Endings::Any => split_any_ending(line),
@@ -193,43 +192,39 @@ pub fn split_ending(endings: Endings, line: AsciiStr<'_>) -> (AsciiStr<'_>, Endi
 
 /// The body and the ending of a line of which only the last byte may be LF.
 #[inline]
-fn split_any_ending(line: AsciiStr<'_>) -> (AsciiStr<'_>, Ending)
-    requires { IsOneLine Endings.Any (text_of line) }
-    ensures line { LinesEndedBy Endings.Any (text_of line.entry)
-        (record { body = text_of result.0; ending = result.1 } ∷ []) }
-    ensures ended { IsFirstStop Endings.Any (text_of line.entry) (length (text_of line.entry))
-        → result.1 ≢ Ending.Absent }
+fn split_any_ending(line: &[u8]) -> (&[u8], Ending)
+    requires { IsOneLine Endings.Any line.now }
+    ensures line { LinesEndedBy Endings.Any line.now
+        (record { body = result.0.now; ending = result.1 } ∷ []) }
+    ensures ended { IsFirstStop Endings.Any line.now (length line.now) → result.1 ≢ Ending.Absent }
 {
-    match line.bytes {
-        [body @ .., b'\r', b'\n'] => (AsciiStr { bytes: body }, Ending::CrLf),
-        [body @ .., b'\n'] => (AsciiStr { bytes: body }, Ending::Lf),
+    match line {
+        [body @ .., b'\r', b'\n'] => (body, Ending::CrLf),
+        [body @ .., b'\n'] => (body, Ending::Lf),
         _ => (line, Ending::Absent),
     }
 }
 
 /// The body and the ending of a line of which only the last two bytes may be CR or LF, and are then
 /// CR LF.
-fn split_strict_cr_lf(line: AsciiStr<'_>) -> (AsciiStr<'_>, Ending)
-    requires { IsOneLine CrLfStrict (text_of line) }
-    ensures line { LinesEndedBy CrLfStrict (text_of line.entry)
-        (record { body = text_of result.0; ending = result.1 } ∷ []) }
-    ensures ended { IsFirstStop CrLfStrict (text_of line.entry) (length (text_of line.entry))
-        → result.1 ≢ Ending.Absent }
+fn split_strict_cr_lf(line: &[u8]) -> (&[u8], Ending)
+    requires { IsOneLine CrLfStrict line.now }
+    ensures line { LinesEndedBy CrLfStrict line.now
+        (record { body = result.0.now; ending = result.1 } ∷ []) }
+    ensures ended { IsFirstStop CrLfStrict line.now (length line.now) → result.1 ≢ Ending.Absent }
 {
     split_cr_lf(line)
 }
 
 /// The body and the ending of a line of which only the last two bytes may be CR LF.
-fn split_cr_lf(line: AsciiStr<'_>) -> (AsciiStr<'_>, Ending)
-    requires { IsOneLine CrLf (text_of line) }
-    ensures line { LinesEndedBy CrLf (text_of line.entry)
-        (record { body = text_of result.0; ending = result.1 } ∷ []) }
-    ensures ended { IsFirstStop CrLf (text_of line.entry) (length (text_of line.entry))
-        → result.1 ≢ Ending.Absent }
+fn split_cr_lf(line: &[u8]) -> (&[u8], Ending)
+    requires { IsOneLine CrLf line.now }
+    ensures line { LinesEndedBy CrLf line.now
+        (record { body = result.0.now; ending = result.1 } ∷ []) }
+    ensures ended { IsFirstStop CrLf line.now (length line.now) → result.1 ≢ Ending.Absent }
 {
-    if ends_in_cr_lf(line.bytes) {
-        let body = &line.bytes[..line.bytes.len() - 2];
-        return (AsciiStr { bytes: body }, Ending::CrLf);
+    if ends_in_cr_lf(line) {
+        return (&line[..line.len() - 2], Ending::CrLf);
     }
     (line, Ending::Absent)
 }

@@ -39,10 +39,10 @@ impl<'a> Cursor<'a> {
         if lone_break(endings, line.bytes).is_some() {
             return None;
         }
-        let (text, ending) = split_ending(endings, line);
+        let (body, ending) = split_ending(endings, line.bytes);
         let span = LineSpan {
             start: self.start,
-            text,
+            text: AsciiStr { bytes: body },
             ending,
         };
         Some((span, self.from(n)))

@@ -1135,10 +1135,10 @@ fn split_ending_of_endings(rt: HostRuntime) {
     assert_debug!(
         rt;
         (
-            split_ending(Endings::CrLf, view("a\nb\r\n")),
-            split_ending(Endings::Any, view("ab\n")),
+            split_ending(Endings::CrLf, b"a\nb\r\n"),
+            split_ending(Endings::Any, b"ab\n"),
         ),
-        "((\"a\\nb\", CrLf), (\"ab\", Lf))"
+        "(([97, 10, 98], CrLf), ([97, 98], Lf))"
     );
 }
 

@@ -1,24 +1,17 @@
 use Rattle.std.proofs.Common.{◌-◌, length, refl, sym, ◌∙◌}
 use Rattle.std.proofs.lemmas.Bool.{false≢true}
-use Rattle.std.proofs.lemmas.Str.{IsAscii-take}
 use Rattle.std.proofs.Common.{take}
-use Rattle.ascii.specs.View.{text_of}
 use Rattle.ascii.proofs.LinesByLemmas.{closed_line, open_line}
 use Rattle.ascii.proofs.endings.split_cr_lf.Goals as goal
 
-pub invariant_of-result : goal.invariant_of-result
-invariant_of-result c = record {
-  ascii = IsAscii-take (text_of c.args.line) (length (text_of c.args.line) - 2) c.args.line.ascii;
-}
-
 pub returns-then-ends_in_cr_lf-clause-line : goal.returns-then-ends_in_cr_lf-clause-line
 returns-then-ends_in_cr_lf-clause-line c =
-    let text = text_of c.args.line in
+    let text = c.args.line.now in
     (closed_line 0 text (take (length text - 2) text) c.requires refl
     (c.ends_in_cr_lf.ensures.0 c.if-ends_in_cr_lf.true)).lines
 
 pub returns-clause-line : goal.returns-clause-line
 returns-clause-line c =
-    let text = text_of c.args.line in
+    let text = c.args.line.now in
     (open_line 0 text text c.requires refl
     (λ ends. false≢true (sym c.if-ends_in_cr_lf.false ∙ c.ends_in_cr_lf.ensures.1 ends))).lines

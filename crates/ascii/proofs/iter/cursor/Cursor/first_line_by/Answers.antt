@@ -1,8 +1,8 @@
 use Rattle.std.proofs.Common.{◌≢◌, [], ◌∷◌, length, refl, rules, subst, sym, ◌∙◌}
 use Rattle.ascii.specs.Endings.{FindsLoneBreak, IsFirstStop, IsOneLine, IsWhole}
 use Rattle.ascii.specs.Found.{part_in}
-use Rattle.ascii.specs.Lines.{LinesEndedBy}
-use Rattle.ascii.specs.Spans.{line_in}
+use Rattle.ascii.specs.Lines.{Line, LinesEndedBy}
+use Rattle.ascii.specs.Spans.{WithStart}
 use Rattle.ascii.specs.View.{text_of}
 use Rattle.ascii.specs.declared.iter.spans.Ending.TheVariants.{Absent}
 use Rattle.ascii.proofs.LinesLeftLemmas.{left_first, lone_stops, one_line, whole_if_none}
@@ -30,11 +30,13 @@ split_ending-ending-requires c =
 pub returns-clause-lines : goal.returns-clause-lines
 returns-clause-lines c =
     let kind = c.args.endings in
-    let first = line_in (record {
+    let first : WithStart Line = record {
       start = c.args.self.start;
-      text = c.split_ending-ending.result.0;
-      ending = c.split_ending-ending.result.1;
-    }) in
+      item = record {
+        body = c.split_ending-ending.result.0.now;
+        ending = c.split_ending-ending.result.1;
+      };
+    } in
     left_first kind (part_in c.args.self) (part_in c.from.result) c.line_length-n.result first
     c.line_length-n.ensures.within c.line_length-n.ensures.length
     (subst (λ t. LinesEndedBy kind t (first.item ∷ [])) c.to.ensures.text
