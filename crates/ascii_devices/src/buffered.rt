@@ -219,6 +219,7 @@ impl<A: Allocator> BufferedSink<A> {
             (output_state K.Sink writer.new self.new) result }
         ensures ready { OnOk result (IsReady self.new) }
         ensures broken { OnErr result (self.new.is_broken ≡ true) }
+        ensures none { self.new.bytes ≡ [] }
         ensures size { self.new.size ≡ self.old.size }
         ensures aside { K.aside writer.new ≡ K.aside writer.old }
     {
@@ -240,7 +241,8 @@ impl<A: Allocator> BufferedSink<A> {
     ///     BufferedSink::new(alloc, 4)?.is_broken() // false
     #[inline]
     pub fn is_broken(&self) -> bool
-        ensures { result ≡ self.now.is_broken }
+        ensures broken { result ≡ self.now.is_broken }
+        ensures within { length self.now.bytes ≤ self.now.size }
     {
         self.is_broken
     }
@@ -254,6 +256,7 @@ impl<A: Allocator> BufferedSink<A> {
     ///     buffer.finish(&mut output) // Err(DeviceFault)
     pub fn give_up(&mut self)
         ensures broken { self.new.is_broken ≡ true }
+        ensures bytes { self.new.bytes ≡ self.old.bytes }
         ensures size { self.new.size ≡ self.old.size }
     {
         self.is_broken = true;

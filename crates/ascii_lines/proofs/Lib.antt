@@ -1,6 +1,9 @@
+pub mod GathersLemmas
 pub mod HistoryLemmas
 pub mod LineBufferLemmas
 pub mod LineReaderLemmas
 pub mod ServeLemmas
 pub mod RepliesLemmas
+pub mod TakesLemmas
 pub mod WriteBufferLemmas
+pub mod WantedLemmas

@@ -1,19 +1,14 @@
 -- The bytes of a buffer, and those after them after a read.
 use Rattle.std.proofs.Common.{◌≡◌, ℕ, ◌+◌, ◌-◌, ◌<◌, ◌≤◌, List, ◌++◌, length, get_or, take}
-use Rattle.std.proofs.Common.{drop, None, Some, Option, MatchOption, unwrap_or, sym, ap, subst, ◌∙◌}
+use Rattle.std.proofs.Common.{drop, sym, ap, subst, ◌∙◌}
 use Rattle.std.proofs.Common.{arith, inl, inr}
 use Rattle.std.specs.List.{slice_range}
-use Rattle.std.specs.Str.{IsAscii}
 use Rattle.std.proofs.Math.Seq.{take-add}
 use Rattle.std.proofs.lemmas.Bool.{cases_lt}
-use Rattle.std.proofs.lemmas.List.{drop-drop, get_or-take}
+use Rattle.std.proofs.lemmas.List.{drop-drop, drop-take, get_or-take}
 use Rattle.std.proofs.lemmas.Slice.{between_is}
-use Rattle.ascii.specs.Bytes.{FirstOther}
 use Rattle.ascii.proofs.ListLemmas.{length-slice_range, slice_range-at}
-use Rattle.ascii_lines.specs.LineBuffer.{IsLaidOut}
-use Rattle.ascii.specs.declared.iter.spans.Endings.{Endings}
-use Rattle.ascii.specs.Endings.{IsFirstStop, FreeUpTo}
-use Rattle.ascii.proofs.EndingsLemmas.{AgreeUpTo, IsFirstStop-same, FreeUpTo-same}
+use Rattle.ascii_lines.specs.LineBuffer.{IsAsciiLength, IsLaidOut}
 
 -- a byte of a part, by its position in the whole
 at_place : (bytes : List ℕ) (s e k : ℕ) → s ≤ k → k < e
@@ -22,43 +17,39 @@ at_place bytes s e k low high =
     let same : s + (k - s) ≡ k = omega arith in
     slice_range-at bytes s e (k - s) (omega arith) ∙ ap (λ j. get_or bytes j 0) same
 
--- the bytes of a part up to an earlier end are those of the part
-pub agree_part : (bytes : List ℕ) (from checked filled : ℕ) → checked ≤ filled
-    → AgreeUpTo (slice_range bytes from checked) (slice_range bytes from filled) (checked - from)
-agree_part bytes from checked filled low k inside =
-    slice_range-at bytes from checked k inside
-    ∙ sym (slice_range-at bytes from filled k (omega (arith, inside, low)))
+-- ---- bytes taken from the front
 
--- no line ends up to a position in the part up to an earlier end
-pub free_part : (kind : Endings) (bytes : List ℕ) (from checked filled n : ℕ) → checked ≤ filled
-    → n ≤ checked - from → FreeUpTo kind (slice_range bytes from filled) n
-    → FreeUpTo kind (slice_range bytes from checked) n
-free_part kind bytes from checked filled n low within = FreeUpTo-same kind
-    (slice_range bytes from filled) (slice_range bytes from checked) n
-    (λ k inside. sym (agree_part bytes from checked filled low k (omega (arith, inside, within))))
+-- what is held after `n` bytes were taken
+pub held_rest : (bytes : List ℕ) (from filled n : ℕ) → n ≤ filled - from
+    → slice_range bytes (from + n) filled ≡ drop n (slice_range bytes from filled)
+held_rest bytes from filled n low =
+    let size : filled - from ≡ n + (filled - (from + n)) = omega (arith, low) in
+    sym (ap (λ k. drop n (take k (drop from bytes))) size
+    ∙ (drop-take n (filled - (from + n)) (drop from bytes)
+    ∙ ap (take (filled - (from + n))) (drop-drop n from bytes)))
 
--- what is found in the part up to an earlier end is found in the part
-pub found_part : (kind : Endings) (bytes : List ℕ) (from checked filled : ℕ) (r : Option ℕ)
-    → from ≤ checked → checked ≤ filled → filled ≤ length bytes
-    → MatchOption r
-    (FreeUpTo kind (slice_range bytes from checked) (length (slice_range bytes from checked)))
-    (λ n. (n ≤ length (slice_range bytes from checked))
-    × IsFirstStop kind (slice_range bytes from checked) n)
-    → MatchOption r (FreeUpTo kind (slice_range bytes from filled) (checked - from))
-    (λ n. (n ≤ checked - from) × IsFirstStop kind (slice_range bytes from filled) n)
-found_part kind bytes from checked filled None first then inside free =
-    let long = length-slice_range bytes from checked first (omega (arith, then, inside)) in
-    FreeUpTo-same kind (slice_range bytes from checked) (slice_range bytes from filled)
-    (checked - from) (agree_part bytes from checked filled then)
-    (subst (FreeUpTo kind (slice_range bytes from checked)) long free)
-found_part kind bytes from checked filled (Some n) first then inside found =
-    let long = length-slice_range bytes from checked first (omega (arith, then, inside)) in
-    let within : n ≤ checked - from = omega (arith, found.0, long) in (
-      within,
-      IsFirstStop-same kind (slice_range bytes from checked) (slice_range bytes from filled) n
-          (λ k low. agree_part bytes from checked filled then k (omega (arith, low, within)))
-          found.1,
-    )
+-- where the bytes are after `n` were taken, of which one is not less than 128
+pub laid_after : (size : ℕ) (bytes : List ℕ) (given from checked filled n m : ℕ)
+    → IsLaidOut size bytes given from checked filled → from + n ≤ filled
+    → IsAsciiLength (slice_range bytes (from + n) filled) m
+    → IsLaidOut size bytes from (from + n) (from + n + m) filled
+laid_after size bytes given from checked filled n m laid low ascii =
+    let long = length-slice_range bytes (from + n) filled low laid.inside in
+    let within : m ≤ filled - (from + n) = omega (arith, ascii.within, long) in
+    record {
+      given_first = omega arith;
+      then_from = omega arith;
+      then_checked = omega (arith, within, low);
+      inside = laid.inside;
+      ascii = λ k after before. subst (λ x. x < 128)
+          (at_place bytes (from + n) filled k after (omega (arith, before, within, low)))
+          (ascii.ascii (k - (from + n)) (omega (arith, after, before)));
+      other = λ less. subst (λ x. 128 ≤ x)
+          (slice_range-at bytes (from + n) filled m (omega (arith, less, within)))
+          (ascii.other (omega (arith, less, long)));
+      roomy = laid.roomy;
+      two = laid.two;
+    }
 
 -- ---- a read after the bytes
 
@@ -85,52 +76,45 @@ module _ (old new : List ℕ) (filled : ℕ) (front : take filled new ≡ take f
       ∙ (ap (λ xs. xs ++ take n (drop (filled - from) (drop from new))) kept
       ∙ ap (λ xs. slice_range old from filled ++ xs) rest))
 
-  -- how far the bytes that were read are below 128
-  under_first : (n under : ℕ) (r : Option ℕ) → filled + n ≤ length new → under ≡ unwrap_or r n
-      → MatchOption r (IsAscii (slice_range new filled (filled + n)))
-      (FirstOther (slice_range new filled (filled + n)) 0
-      (length (slice_range new filled (filled + n))))
-      → (under ≤ n) × ((k : ℕ) → filled ≤ k → k < filled + under → get_or new k 0 < 128)
-      × (under < n → 128 ≤ get_or new (filled + under) 0)
-  under_first n under None within is all = (
-    omega (arith, is),
-    λ k low high. subst (λ x. x < 128)
-        (at_place new filled (filled + n) k low (omega (arith, high, is))) (all (k - filled)),
-    λ less. absurd (omega (arith, less, is)),
-  )
-  under_first n under (Some place) within is first =
+  -- where the bytes are after a read, if all before it are less than 128
+  pub refilled : (size given from n m : ℕ) → IsLaidOut size old given from filled filled
+      → length new ≡ length old → filled + n ≤ length new
+      → IsAsciiLength (slice_range new filled (filled + n)) m
+      → IsLaidOut size new given from (filled + m) (filled + n)
+  refilled size given from n m laid same within ascii =
       let long = length-slice_range new filled (filled + n) (omega arith) within in
-      let inside : place < n = omega (arith, first.inside, long) in
-      let at : get_or (slice_range new filled (filled + n)) place 0 ≡ get_or new (filled + under)
-      0 =
-      slice_range-at new filled (filled + n) place (omega (arith, inside))
-      ∙ ap (λ j. get_or new (filled + j) 0) (sym is) in (
-        omega (arith, is, inside),
-        λ k low high. subst (λ x. x < 128)
-            (at_place new filled (filled + n) k low (omega (arith, high, is, inside)))
-            (first.least (k - filled) (omega arith) (omega (arith, high, is, low))),
-        λ less. elim (cases_lt (get_or new (filled + under) 0) 128) [
-          | inl small ↦ absurd (first.other (subst (λ x. x < 128) (sym at) small))
-          | inr large ↦ large
-        ],
-      )
-
-  pub refilled : (given from n under : ℕ) (r : Option ℕ)
-      → IsLaidOut old given from filled filled → filled + n ≤ length new
-      → under ≡ unwrap_or r n → MatchOption r (IsAscii (slice_range new filled (filled + n)))
-      (FirstOther (slice_range new filled (filled + n)) 0
-      (length (slice_range new filled (filled + n))))
-      → IsLaidOut new given from (filled + under) (filled + n)
-  refilled given from n under r laid within is first =
-      let found = under_first n under r within is first in
+      let inside : m ≤ n = omega (arith, ascii.within, long) in
       record {
         given_first = laid.given_first;
         then_from = omega (arith, laid.then_from);
-        then_checked = omega (arith, found.0);
+        then_checked = omega (arith, inside);
         inside = within;
         ascii = λ k low high. elim (cases_lt k filled) [
           | inl early ↦ subst (λ x. x < 128) (sym (at_front k early)) (laid.ascii k low early)
-          | inr late ↦ found.1 k late high
+          | inr late ↦ subst (λ x. x < 128)
+              (at_place new filled (filled + n) k late (omega (arith, high, inside)))
+              (ascii.ascii (k - filled) (omega (arith, high, late)))
         ];
-        other = λ less. found.2 (omega (arith, less));
+        other = λ less. subst (λ x. 128 ≤ x)
+            (slice_range-at new filled (filled + n) m (omega (arith, less)))
+            (ascii.other (omega (arith, less, long)));
+        roomy = omega (arith, laid.roomy, same);
+        two = omega (arith, laid.two, same);
       }
+
+  -- and if one before it is not
+  pub refilled_other : (size given from checked n : ℕ)
+      → IsLaidOut size old given from checked filled → checked < filled
+      → length new ≡ length old → filled + n ≤ length new
+      → IsLaidOut size new given from checked (filled + n)
+  refilled_other size given from checked n laid other same within = record {
+    given_first = laid.given_first;
+    then_from = laid.then_from;
+    then_checked = omega (arith, laid.then_checked);
+    inside = within;
+    ascii = λ k low high. subst (λ x. x < 128)
+        (sym (at_front k (omega (arith, high, other)))) (laid.ascii k low high);
+    other = λ less. subst (λ x. 128 ≤ x) (sym (at_front checked other)) (laid.other other);
+    roomy = omega (arith, laid.roomy, same);
+    two = omega (arith, laid.two, same);
+  }

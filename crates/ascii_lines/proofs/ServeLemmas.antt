@@ -1,8 +1,7 @@
 -- One input of a server after another.
-use Rattle.std.proofs.Common.{◌≡◌, ℕ, ◌+◌, List, [], ◌∷◌, ◌++◌, length, Ok, Err, Some, Option}
+use Rattle.std.proofs.Common.{◌≡◌, ℕ, ◌+◌, List, [], ◌∷◌, ◌++◌, length, Ok, Err, None, Some, Option}
 use Rattle.std.proofs.Common.{Result, IfErr, IfOk, append-nil, ap, inl, inr, refl, sym, subst, ◌∙◌}
-use Rattle.std.proofs.Common.{◌<◌, add-zero, append_assoc, arith, length-append}
-use Rattle.std.proofs.KnownBytes.{Consumes-nil, Consumes-trans}
+use Rattle.std.proofs.Common.{◌<◌, append_assoc, arith, length-append}
 use Rattle.std.proofs.lemmas.Grind.{flat_map-append}
 use Rattle.std.proofs.lemmas.List.{map-append}
 use Rattle.std.specs.List.{flat_map}
@@ -16,7 +15,6 @@ use Rattle.ascii.specs.Spans.{WithStart, items_of, line_size, with_starts}
 use Rattle.ascii.specs.View.{text_of}
 use Rattle.ascii_lines.specs.declared.line_reader.LineError.{LineError}
 use Rattle.ascii_lines.specs.declared.line_reader.LineError.TheVariants.{Incomplete}
-use Rattle.ascii_lines.specs.declared.line_reader.LineReader.{LineReader}
 use Rattle.ascii_lines.specs.declared.line_reader.ReadLine.{ReadLine}
 use Rattle.ascii_lines.specs.declared.line_reader.ReadPart.{ReadPart}
 use Rattle.ascii_lines.specs.declared.line_reader.Stage.TheVariants.{Open, Ended}
@@ -24,13 +22,15 @@ use Rattle.ascii_lines.specs.declared.serving.Next.{Next}
 use Rattle.ascii_lines.specs.declared.serving.Next.TheVariants as next
 use Rattle.ascii_lines.specs.declared.serving.Stop.{Stop}
 use Rattle.ascii_lines.specs.declared.serving.Stop.TheVariants as stop
-use Rattle.ascii_lines.specs.LineReader.{IsHeldThenRead, NextFrom, NextPart, NextPartFrom}
+use Rattle.ascii_lines.specs.LineReader.{IsDone, IsHeldThenRead, NextFrom, NextPart, NextPartFrom}
 use Rattle.ascii_lines.specs.LineReader.{ReaderState, ReadsBytes, YieldsLines, read_line_in}
-use Rattle.ascii_lines.specs.LineReader.{state_of_reader}
+use Rattle.ascii_lines.specs.LineReader.{Reading}
 use Rattle.ascii_lines.specs.LineReader as reader
 use Rattle.ascii_lines.specs.Serve.{Conversation, IsAsked, IsGoing, IsRequest, StopsTurn}
 use Rattle.ascii_lines.specs.Serve.{TakesInput, Talks, TurnOutcome}
-use Rattle.ascii_lines.proofs.LineReaderLemmas.{none_is_some, with_starts-append}
+use Rattle.ascii_lines.proofs.LineReaderLemmas.{ReadsBytes-nil, ReadsBytes-trans, none_is_some, one_line, reads_of}
+use Rattle.ascii_lines.proofs.LineReaderLemmas.{with_starts-append}
+use Rattle.ascii_lines.specs.declared.wanted.Wanted.TheVariants as wanted
 
 line_bytes : (body : List ℕ) (ending : Ending) → MayFollow ending body
     → 0 < length (body ++ ending_text ending)
@@ -51,13 +51,7 @@ yields_input old new line yields =
     let same : line ≡ record { start = old.start; item = line.item } = cc in (
       subst (λ text. LinesEndedBy old.endings text (line.item ∷ [])) is yields.exact.lines,
       record {
-        read = record {
-          text = subst (λ text. IsHeldThenRead old.held old.rest new.rest (text ++ new.held)) is
-              yields.text;
-          start = yields.start ∙ ap (λ (text : List ℕ). old.start + length text) is;
-          size = yields.size;
-          endings = yields.endings;
-        };
+        read = subst (λ text. ReadsBytes old text new) is yields.reads;
         start = ap (λ (span : WithStart Line). span.start) same;
         going = elim yields.whole [ inl more ↦ inl more.0 | inr done ↦ inr done ];
       },
@@ -67,54 +61,71 @@ err_is_ok : {T : Type 0} (result : Result T LineError) (error : LineError) (valu
     → result ≡ Err error → result ≡ Ok value → ⊥
 err_is_ok result error value bad good = cc
 
-module _ {S Z : Type 0} (rest : S → Option (List ℕ)) (failures : S → ℕ) where
+module _ {S : Type 0} where
   -- the next line of a reader is an input
-  pub takes_line : (old new : LineReader S Z) (result : Result (Option ReadLine) LineError)
-      (line : ReadLine) → IsGoing (state_of_reader rest failures old)
-      → reader.Next rest failures old result new → result ≡ Ok (Some line)
-      → IsAsked old.endings next.Line (read_line_in line).item
-      × TakesInput (state_of_reader rest failures old) (read_line_in line)
-      (state_of_reader rest failures new)
+  pub takes_line : (old new : Reading S) (result : Result (Option ReadLine) LineError)
+      (line : ReadLine) → IsGoing old.state
+      → reader.Next old result new → result ≡ Ok (Some line)
+      → IsAsked old.state.endings next.Line (read_line_in line).item
+      × TakesInput old.state (read_line_in line)
+      new.state
   takes_line old new result line going next is = elim going [
     | inl more ↦
-        let open_next : NextFrom rest failures Open old (Ok (Some line)) new =
-        subst (λ r. NextFrom rest failures Open old r new) is
-        (subst (λ stage. NextFrom rest failures stage old result new) more next) in
-        yields_input (state_of_reader rest failures old) (state_of_reader rest failures new)
-        (read_line_in line) open_next.0.0
+        let open_next : NextFrom Open old (Ok (Some line)) new =
+        subst (λ r. NextFrom Open old r new) is
+        (subst (λ stage. NextFrom stage old result new) more next) in
+        yields_input old.state new.state (read_line_in line)
+        (one_line (wanted.Line old.state.endings) old.state (read_line_in line) new.state open_next)
     | inr done ↦
-        let ended_next : NextFrom rest failures Ended old result new =
-        subst (λ stage. NextFrom rest failures stage old result new) done.ended next in
+        let ended_next : NextFrom Ended old result new =
+        subst (λ stage. NextFrom stage old result new) done.ended next in
         absurd (none_is_some result line ended_next.0 is)
   ]
 
+  -- there is no next line
+  pub takes_none : (old new : Reading S) (result : Result (Option ReadLine) LineError)
+      → IsGoing old.state → reader.Next old result new → result ≡ Ok None
+      → ReadsBytes old.state [] new.state × IsDone new.state
+  takes_none old new result going next is = elim going [
+    | inl more ↦
+        let open_next : NextFrom Open old (Ok None) new =
+        subst (λ r. NextFrom Open old r new) is
+        (subst (λ stage. NextFrom stage old result new) more next) in
+        (reads_of (wanted.Line old.state.endings) old.state [] new.state open_next.0, open_next.1)
+    | inr done ↦
+        let ended_next : NextFrom Ended old result new =
+        subst (λ stage. NextFrom stage old result new) done.ended next in
+        subst (λ (r : Reading S). ReadsBytes old.state [] r.state × IsDone r.state)
+        (sym ended_next.1) (ReadsBytes-nil old.state, done)
+  ]
+
   -- the next part of a reader is an input
-  pub takes_part : (n : ℕ) (old new : LineReader S Z) (result : Result ReadPart LineError)
-      (part : ReadPart) → IsGoing (state_of_reader rest failures old)
-      → NextPart rest failures n old result new → result ≡ Ok part
-      → IsAsked old.endings (next.Part n) (record { body = text_of part.text; ending = Absent })
-      × TakesInput (state_of_reader rest failures old)
+  pub takes_part : (n : ℕ) (old new : Reading S) (result : Result ReadPart LineError)
+      (part : ReadPart) → IsGoing old.state
+      → NextPart n old result new → result ≡ Ok part
+      → IsAsked old.state.endings (next.Part n) (record { body = text_of part.text; ending = Absent })
+      × TakesInput old.state
       (record { start = part.start; item = record { body = text_of part.text; ending = Absent } })
-      (state_of_reader rest failures new)
+      new.state
   takes_part n old new result part going next is = elim going [
     | inl more ↦
-        let open_next : NextPartFrom rest failures n Open old (Ok part) new =
-        subst (λ r. NextPartFrom rest failures n Open old r new) is
-        (subst (λ stage. NextPartFrom rest failures n stage old result new) more next) in
-        let yields = open_next.0 in (
+        let open_next : NextPartFrom Open n old (Ok part) new =
+        subst (λ r. NextPartFrom Open n old r new) is
+        (subst (λ stage. NextPartFrom stage n old result new) more next) in
+        let yields = open_next in (
           (yields.1, refl),
           record {
             read = subst
-                (λ bytes. ReadsBytes (state_of_reader rest failures old) bytes
-                (state_of_reader rest failures new)) (sym (append-nil (text_of part.text)))
-                yields.0;
+                (λ bytes. ReadsBytes old.state bytes
+                new.state) (sym (append-nil (text_of part.text)))
+                (reads_of (wanted.Part n) old.state (text_of part.text) new.state yields.0);
             start = yields.2;
             going = inl yields.3;
           },
         )
     | inr done ↦
-        let ended_next : NextPartFrom rest failures n Ended old result new =
-        subst (λ stage. NextPartFrom rest failures n stage old result new) done.ended next in
+        let ended_next : NextPartFrom Ended n old result new =
+        subst (λ stage. NextPartFrom stage n old result new) done.ended next in
         absurd (err_is_ok result (Incomplete 0) part ended_next.0 is)
   ]
 
@@ -133,32 +144,6 @@ module _ {H : Type 0} (answers : H → List ℕ → List (List ℕ) → Next →
       (input, takes.0, takes.1)
 
 -- ---- inputs after inputs
-
-pub ReadsBytes-trans : {a b c : ReaderState} (xs ys : List ℕ)
-    → ReadsBytes a xs b → ReadsBytes b ys c → ReadsBytes a (xs ++ ys) c
-ReadsBytes-trans {a} {b} {c} xs ys first then =
-    let t = first.text in let t' = then.text in
-    record {
-      text = (
-        t.0 ++ t'.0,
-        Consumes-trans a.rest b.rest c.rest t.0 t'.0 t.1 t'.1,
-        append_assoc xs ys c.held
-            ∙ (ap (λ zs. xs ++ zs) t'.2
-            ∙ (sym (append_assoc xs b.held t'.0)
-            ∙ (ap (λ zs. zs ++ t'.0) t.2 ∙ append_assoc a.held t.0 t'.0))),
-      );
-      start = omega (arith, first.start, then.start, length-append xs ys);
-      size = then.size ∙ first.size;
-      endings = then.endings ∙ first.endings;
-    }
-
-ReadsBytes-nil : (a : ReaderState) → ReadsBytes a [] a
-ReadsBytes-nil a = record {
-  text = ([], Consumes-nil a.rest, sym (append-nil a.held));
-  start = sym (add-zero a.start);
-  size = refl;
-  endings = refl;
-}
 
 -- an input that was asked for has a byte
 pub some_bytes : (endings : Endings) (asked : Next) (input : Line) → IsRequest asked
@@ -230,14 +215,14 @@ module _ {H : Type 0} (answers : H → List ℕ → List (List ℕ) → Next →
       ap (flat_map line_text) more ∙ (flat_map-append line_text items (input.item ∷ [])
       ∙ ap (λ xs. bytes ++ xs) (append-nil (line_text input.item))) in
       let place : input ≡ record { start = a.start + length bytes; item = input.item } =
-      ap (λ n. record { start = n; item = input.item }) (takes.start ∙ talk.read.start) in
+      ap (λ n. record { start = n; item = input.item }) (takes.start ∙ talk.read.over.start) in
       record {
         inputs = talk.inputs ++ input ∷ [];
         talks = talks_more a.endings old mid new next.Line then last talk.inputs replies now
             input talk.talks
-            (subst (λ kind. IsAsked kind then input.item) talk.read.endings asked) answered;
+            (subst (λ kind. IsAsked kind then input.item) talk.read.over.endings asked) answered;
         read = subst (λ xs. ReadsBytes a xs c) (sym joined)
-            (ReadsBytes-trans bytes (line_text input.item) talk.read takes.read);
+            (ReadsBytes-trans a b c bytes (line_text input.item) talk.read takes.read);
         starts = ap (λ xs. xs ++ input ∷ []) talk.starts
             ∙ (ap (λ (span : WithStart Line). with_starts line_size a.start items ++ span ∷ [])
             place ∙ (sym (with_starts-append a.start items (input.item ∷ []))

@@ -10,8 +10,9 @@ use Rattle.std.specs.List.{All}
 use Rattle.ascii_lines.specs.declared.line_reader.LineError.{LineError}
 use Rattle.ascii_lines.specs.declared.owned_lines.OwnedLine.{OwnedLine}
 use Rattle.ascii_lines.specs.declared.owned_lines.CollectedLines.{CollectedLines}
-use Rattle.ascii_lines.specs.declared.line_reader.Stage.TheVariants.{Refused}
-use Rattle.ascii_lines.specs.LineReader.{YieldsLines, IsDone, ReaderState, IsLineError}
+use Rattle.ascii_lines.specs.declared.line_reader.Stage.TheVariants.{Open}
+use Rattle.ascii_lines.specs.declared.wanted.Wanted.TheVariants as wanted
+use Rattle.ascii_lines.specs.LineReader.{IsDone, ReaderState, StopsAt, YieldsLines}
 
 -- a `OwnedLine` as a line with its start
 abbrev pub owned_line_in : OwnedLine → WithStart Line
@@ -22,20 +23,19 @@ owned_line_in line =
 abbrev pub collected_lines_in : CollectedLines → List (WithStart Line)
 collected_lines_in kept = map owned_line_in kept.lines.items
 
--- from the state `old` to the state `new` the reader yielded `lines`. With no error, that was all.
--- With a error, it then stopped at that error
+-- from the state `old` to the state `new` the reader returned `lines`. With no error, that was all.
+-- With an error it stopped there, at the line after them
 abbrev pub YieldsUntil
     : ReaderState → List (WithStart Line) → Option LineError → ReaderState → Type 0
 YieldsUntil old lines None new = YieldsLines old lines new × IsDone new
-YieldsUntil old lines (Some error) new = (new.stage ≡ Refused error)
-    × ((before : ReaderState) × YieldsLines old lines before
-    × IsLineError before.endings before.start before.size before.held before.rest new.rest error)
+YieldsUntil old lines (Some error) new = (before : ReaderState) × YieldsLines old lines before
+    × (before.stage ≡ Open) × StopsAt (wanted.Line before.endings) before error new
 
 -- if it is known which bytes the source of a reader in the state `old` has yet to give, `lines`
 -- are the first lines of these and of the bytes held, and with no error they are all of their
 -- lines. Their bodies are bodies by the reader's endings
 abbrev pub AreFirstLines : ReaderState → List (WithStart Line) → Option LineError → Type 0
-AreFirstLines old lines error = (told : List ℕ) → old.rest ≡ Some told
+AreFirstLines old lines error = (told : List ℕ) → old.device.rest ≡ Some told
     → (others : List (WithStart Line))
     × LineSpansEndedBy (any_text old.endings) old.start (old.held ++ told) (lines ++ others)
     × (error ≡ None → others ≡ [])

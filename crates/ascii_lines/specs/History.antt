@@ -3,7 +3,7 @@ use Rattle.std.specs.Prelude.{◌≡◌, ℕ, List, [], ◌∷◌, ◌++◌, ⊤
 use Rattle.std.specs.declared.option.Option.{Option}
 use Rattle.ascii_devices.specs.Devices.{Grows, sent_of}
 use Rattle.ascii_devices.specs.declared.log.Event.{Event}
-use Rattle.ascii_devices.specs.declared.log.Event.TheVariants.{Flushed, Read, Received, Sent}
+use Rattle.ascii_devices.specs.declared.log.Event.TheVariants.{Flushed, Read, Received}
 
 -- the device was not asked for bytes and gave none
 abbrev pub AreWrites : List Event → Type 0

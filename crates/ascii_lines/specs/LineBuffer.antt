@@ -1,22 +1,70 @@
 -- What a buffer of fixed size holds between two reads.
-use Rattle.std.specs.Prelude.{ℕ, ◌<◌, ◌≤◌, List, length, slice_index}
+use Rattle.std.specs.Prelude.{◌≡◌, ◌⊎◌, ℕ, ◌+◌, ◌<◌, ◌≤◌, List, [], length, slice_index, take}
+use Rattle.std.specs.Io.KnownBytes.{Consumes, IsAtEnd}
+use Rattle.ascii.specs.Bytes.{FirstOther}
+use Rattle.ascii_devices.specs.Devices.{Grows, read_of}
+use Rattle.ascii_devices.specs.States.{SourceState}
+use Rattle.ascii_lines.specs.Wanted.{MayHave}
+use Rattle.ascii_lines.specs.declared.wanted.Wanted.{Wanted}
+use Rattle.ascii_lines.specs.declared.wanted.Wanted.TheVariants.{Bytes}
 
--- what contracts see of a buffer: its size; the bytes taken last; the bytes that it holds; how many
--- of these, from the first, are known to be less than 128; the room after them
+-- what contracts see of a buffer: how many bytes a line may have; how many it has room for; the
+-- bytes taken last; the bytes that it holds; how many of these, from the first, are known to be
+-- less than 128; the room after them
 pub record WindowState : Type 0 where
   pub size : ℕ
+  pub room : ℕ
   pub given : List ℕ
   pub held : List ℕ
   pub checked : ℕ
   pub spare : ℕ
 
 -- where the bytes of a buffer are: those taken last from `given` to `from`, and those held from
--- `from` to `filled`. All of these bytes before `checked` are less than 128, and the one at
--- `checked` is not, if it is before `filled`
-pub record IsLaidOut (bytes : List ℕ) (given from checked filled : ℕ) : Type 0 where
+-- `from` to `filled`. All held bytes before `checked` are less than 128, and the one at `checked`
+-- is not, if it is before `filled`. There is room for one byte more than a line may have, and for
+-- two at least
+pub record IsLaidOut (size : ℕ) (bytes : List ℕ) (given from checked filled : ℕ) : Type 0 where
   pub given_first : given ≤ from
   pub then_from : from ≤ checked
   pub then_checked : checked ≤ filled
   pub inside : filled ≤ length bytes
-  pub ascii : (k : ℕ) → given ≤ k → k < checked → slice_index bytes k < 128
+  pub ascii : (k : ℕ) → from ≤ k → k < checked → slice_index bytes k < 128
   pub other : checked < filled → 128 ≤ slice_index bytes checked
+  pub roomy : size < length bytes
+  pub two : 1 < length bytes
+
+-- the byte at `i` is the first that is not less than 128, and what is wanted may not have it
+abbrev pub IsBarred : Wanted → List ℕ → ℕ → Type 0
+IsBarred (Bytes endings) held i = ⊥
+IsBarred wanted held i = FirstOther held 0 (length held) i
+
+-- of the bytes that a buffer holds, `part` are the first that may be in what is wanted: as many as
+-- fit, up to the first that it may not have. The buffer has room for more than fit
+pub record IsUsable (wanted : Wanted) (buffer : WindowState) (part : List ℕ) : Type 0 where
+  pub front : part ≡ take (length part) buffer.held
+  pub within : length part ≤ length buffer.held
+  pub fits : length part ≤ buffer.size
+  pub may : MayHave wanted part
+  pub most : (length part ≡ length buffer.held) ⊎ (length part ≡ buffer.size)
+      ⊎ IsBarred wanted buffer.held (length part)
+  pub roomy : buffer.size < buffer.room
+
+-- the first `n` bytes are less than 128, and the one after them is not, if there is one
+pub record IsAsciiLength (bytes : List ℕ) (n : ℕ) : Type 0 where
+  pub within : n ≤ length bytes
+  pub ascii : (k : ℕ) → k < n → slice_index bytes k < 128
+  pub other : n < length bytes → 128 ≤ slice_index bytes n
+
+-- the source was read once and gave these bytes; if there are none, it is at its end
+pub record ReadsOnce (old new : SourceState) (read : List ℕ) : Type 0 where
+  pub gave : Consumes old.rest new.rest read
+  pub end : read ≡ [] → IsAtEnd new.rest
+  pub failures : new.failures ≡ old.failures
+  pub told : Grows old.history new.history (read_of read)
+  pub aside : new.aside ≡ old.aside
+
+-- the source was read once and failed
+pub record FailsOnce (old new : SourceState) : Type 0 where
+  pub failures : new.failures ≡ old.failures + 1
+  pub told : Grows old.history new.history (read_of [])
+  pub aside : new.aside ≡ old.aside

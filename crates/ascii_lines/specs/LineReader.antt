@@ -1,314 +1,289 @@
--- What a line reader reads and yields, and the errors it returns.
-use Rattle.std.specs.Prelude.{◌≡◌, ◌≢◌, ◌⊎◌, ℕ, ◌+◌, ◌-◌, ◌^◌, ◌<◌, ◌≤◌, Bool, true, false, List}
-use Rattle.std.specs.Prelude.{[], ◌∷◌, ◌++◌, ⊤, if◌then◌else◌, nat_lt, length, take, Ok, Err}
-use Rattle.std.specs.Prelude.{slice_index}
-use Rattle.std.specs.Prelude.{None, Some}
-use Rattle.std.specs.Io.KnownBytes.{Consumes, IsAtEnd}
+-- The state of a line reader, and what its calls return and leave.
+use Rattle.std.specs.Prelude.{◌≡◌, ◌≢◌, ◌⊎◌, ℕ, ◌+◌, ◌≤◌, Bool, true, false, List, [], ◌∷◌}
+use Rattle.std.specs.Prelude.{◌++◌, nat_lt, length, take, Ok, Err, None}
+use Rattle.std.specs.Prelude.{Some, ⊤}
+use Rattle.std.specs.Io.KnownBytes.{IsAtEnd}
 use Rattle.std.specs.List.{All}
-use Rattle.std.specs.Str.{IsAscii}
 use Rattle.std.specs.declared.option.Option.{Option}
 use Rattle.std.specs.declared.result.Result.{Result}
+use Rattle.ascii.specs.declared.ascii_str.AsciiStr.{AsciiStr}
 use Rattle.ascii.specs.declared.iter.spans.Ending.TheVariants.{Absent}
-use Rattle.ascii.specs.Lines.{Line}
-use Rattle.ascii.specs.Spans.{LineSpansEndedBy, WithStart, line_size}
-use Rattle.ascii.specs.View.{text_of}
-use Rattle.ascii.specs.Bytes.{FirstOther}
-use Rattle.ascii.specs.Endings.{FreeUpTo, IsFirstStop, IsOneLine, IsWhole}
-use Rattle.ascii_lines.specs.Failures.{one_more}
-use Rattle.ascii_lines.specs.LineBuffer.{WindowState}
 use Rattle.ascii.specs.declared.iter.spans.Endings.{Endings}
-use Rattle.ascii.specs.declared.iter.spans.Endings.TheVariants.{Any, CrLfStrict}
+use Rattle.ascii.specs.Bytes.{FirstOther}
+use Rattle.ascii.specs.Lines.{Line}
+use Rattle.ascii.specs.Spans.{LineSpansEndedBy, WithStart}
+use Rattle.ascii.specs.View.{text_of}
+use Rattle.ascii_devices.specs.States.{GaveBytes, SourceState}
+use Rattle.ascii_lines.specs.LineBuffer.{WindowState}
+use Rattle.ascii_lines.specs.Wanted.{Delivers, EndsAt, IsOne, LacksUpTo, MayHave}
+use Rattle.ascii_lines.specs.Wanted.{MayBeLast, MustRead, Refuses}
 use Rattle.ascii_lines.specs.declared.line_reader.LineError.{LineError}
-use Rattle.ascii_lines.specs.declared.line_reader.LineError.TheVariants.{NotAscii, LoneBreak}
-use Rattle.ascii_lines.specs.declared.line_reader.LineError.TheVariants.{TooLong, TooFar}
-use Rattle.ascii_lines.specs.declared.line_reader.LineError.TheVariants.{Incomplete, Read}
-use Rattle.ascii_lines.specs.declared.line_reader.LineReader.{LineReader}
+use Rattle.ascii_lines.specs.declared.line_reader.LineError.TheVariants.{Incomplete}
+use Rattle.ascii_lines.specs.declared.line_reader.ReadBytes.{ReadBytes}
 use Rattle.ascii_lines.specs.declared.line_reader.ReadLine.{ReadLine}
 use Rattle.ascii_lines.specs.declared.line_reader.ReadPart.{ReadPart}
 use Rattle.ascii_lines.specs.declared.line_reader.Stage.{Stage}
 use Rattle.ascii_lines.specs.declared.line_reader.Stage.TheVariants.{Open, Ended, Refused}
+use Rattle.ascii_lines.specs.declared.wanted.Wanted.{Wanted}
+use Rattle.ascii_lines.specs.declared.wanted.Wanted.TheVariants as wanted
 
--- the state of a reader: the size of its buffer; the position in the input at which the next line
--- starts; the bytes that it has read and not yet yielded; the bytes that its source has yet to
--- give, if it is known which; how many calls of the source have failed; whether the reader goes on;
--- which endings end its lines
+-- the state of a reader: the size of its buffer, in bytes; the position in the input at which the
+-- next line or part starts; the bytes from there on that it has read; whether it goes on; which
+-- endings end its lines; and what its source says of itself
 pub record ReaderState : Type 0 where
   pub size : ℕ
   pub start : ℕ
   pub held : List ℕ
-  pub rest : Option (List ℕ)
-  pub failures : ℕ
   pub stage : Stage
   pub endings : Endings
+  pub device : SourceState
 
--- the state of a reader whose source has yet to give the bytes `rest source`, and has failed
--- `failures source` times
-abbrev pub state_of_reader
-    : {S Z : Type 0} → (S → Option (List ℕ)) → (S → ℕ) → LineReader S Z → ReaderState
-state_of_reader rest failures reader = record {
-  size = reader.buffer.size;
-  start = reader.start;
-  held = reader.buffer.held;
-  rest = rest reader.source;
-  failures = failures reader.source;
-  stage = reader.stage;
-  endings = reader.endings;
+-- what contracts see of a reader: its source; its state; and the bytes of the line or part that it
+-- has lent last, ending included
+pub record Reading (S : Type 0) : Type 0 where
+  pub source : S
+  pub state : ReaderState
+  pub lent : List ℕ
+
+-- the state of a new reader: it has read nothing
+abbrev pub fresh_reader : ℕ → Endings → SourceState → ReaderState
+fresh_reader size endings device = record {
+  size = size;
+  start = 0;
+  held = [];
+  stage = Open;
+  endings = endings;
+  device = device;
 }
 
--- a reader whose lines these endings end, and which is otherwise unchanged
-abbrev pub ended_by : {S Z : Type 0} → Endings → LineReader S Z → LineReader S Z
-ended_by endings reader = record reader { endings = endings }
-
--- the source of a reader
-abbrev pub source_of : {S Z : Type 0} → LineReader S Z → S
-source_of reader = reader.source
-
--- the position in the input at which the next line or part of a reader starts
-abbrev pub start_of_next : {S Z : Type 0} → LineReader S Z → ℕ
-start_of_next reader = reader.start
+-- a state in which these endings end the lines, and which is otherwise unchanged
+abbrev pub ended_by : Endings → ReaderState → ReaderState
+ended_by endings reading = record reading { endings = endings }
 
 -- the reader has returned neither `None` nor an error
-abbrev pub IsOpen : {S Z : Type 0} → LineReader S Z → Type 0
-IsOpen reader = reader.stage ≡ Open
+abbrev pub IsOpen : {S : Type 0} → Reading S → Type 0
+IsOpen reader = reader.state.stage ≡ Open
 
--- the state of a new reader with a buffer of `size` bytes: it has read nothing, and LF and CR LF
--- end its lines
-abbrev pub IsFresh : ℕ → ReaderState → Type 0
-IsFresh size reading = (reading.size ≡ size) × (reading.start ≡ 0) × (reading.held ≡ [])
-    × (reading.stage ≡ Open) × (reading.endings ≡ Any)
-
--- the byte at `i` is a CR without an LF after it, or an LF without a CR before it, and the first
--- such byte of `text`. The bytes up to the one that shows it, which are `n`, fit in `size` bytes
--- and are ASCII: for LF it shows itself; for CR the byte after it does; or, if there is none, the
--- source, which has yet to give `left`, is at its end
-pub record IsLoneBreak (size : ℕ) (text : List ℕ) (left : Option (List ℕ)) (i n : ℕ) : Type 0 where
-  pub fits : n ≤ size
-  pub inside : n ≤ length text
-  pub ascii : IsAscii (take n text)
-  pub first : (k : ℕ) → k < i → (slice_index text k ≢ 10) × (slice_index text k ≢ 13)
-  pub lone : ((n ≡ i + 1) × (slice_index text i ≡ 10))
-      ⊎ ((n ≡ i + 2) × (slice_index text i ≡ 13) × (slice_index text (i + 1) ≢ 10))
-      ⊎ ((n ≡ i + 1) × (n ≡ length text) × (slice_index text i ≡ 13) × IsAtEnd left)
+-- the reader has to read its source before it can return what is wanted, or an error
+abbrev pub Waits : Wanted → ReaderState → Type 0
+Waits wanted reading = (reading.stage ≡ Open)
+    × MustRead wanted reading.start reading.size reading.held
 
 -- a `ReadLine` as a line with its start
 abbrev pub read_line_in : ReadLine → WithStart Line
 read_line_in line =
     record { start = line.start; item = record { body = text_of line.text; ending = line.ending } }
 
--- `text` is the bytes `held`, and after them those that the source gave, which had yet to give
--- `rest` before and `left` after
-abbrev pub IsHeldThenRead : List ℕ → Option (List ℕ) → Option (List ℕ) → List ℕ → Type 0
-IsHeldThenRead held rest left text =
-    (read : List ℕ) × Consumes rest left read × (text ≡ held ++ read)
+-- a `ReadBytes` as a line with its start
+abbrev pub read_bytes_in : ReadBytes → WithStart Line
+read_bytes_in line =
+    record { start = line.start; item = record { body = line.bytes.now; ending = line.ending } }
+
+-- ---- one line or part
 
 -- the reader has ended: it holds no bytes, and its source is at its end
 pub record IsDone (reading : ReaderState) : Type 0 where
   pub ended : reading.stage ≡ Ended
   pub none : reading.held ≡ []
-  pub left : IsAtEnd reading.rest
+  pub left : IsAtEnd reading.device.rest
 
--- from the state `old` to the state `new` the reader yielded `lines`: they are the lines of the
+-- from the state `old` to the state `new` the reader returned `bytes`, which are what was wanted:
+-- of the bytes held before and those read since they are the first, and the others are held. It
+-- stays open; or they were the last of the input, and it has ended
+pub record Takes (wanted : Wanted) (old : ReaderState) (bytes : List ℕ) (new : ReaderState)
+    : Type 0 where
+  pub delivers : Delivers wanted old.start old.size old.held old.device new.device bytes new.held
+  pub start : new.start ≡ old.start + length bytes
+  pub size : new.size ≡ old.size
+  pub endings : new.endings ≡ old.endings
+
+-- the reader stopped at this error in place of what was wanted. It holds all bytes that it has read
+-- from the start of the line or part on, which is still its position; nothing else has changed
+pub record StopsAt (wanted : Wanted) (old : ReaderState) (error : LineError) (new : ReaderState)
+    : Type 0 where
+  pub refuses : Refuses wanted old.start old.size old.held old.device new.device new.held error
+  pub stage : new.stage ≡ Refused error
+  pub start : new.start ≡ old.start
+  pub size : new.size ≡ old.size
+  pub endings : new.endings ≡ old.endings
+
+-- the reader returned one line, of which `bytes` are all, ending included: either the line has an
+-- ending, and the reader is open; or the reader has ended
+pub record TakesLine (wanted : Wanted) (old : ReaderState) (line : WithStart Line)
+    (new : ReaderState) : Type 0 where
+  pub bytes : List ℕ
+  pub takes : Takes wanted old bytes new
+  pub exact : LineSpansEndedBy old.endings old.start bytes (line ∷ [])
+  pub whole : ((new.stage ≡ Open) × (line.item.ending ≢ Absent)) ⊎ IsDone new
+
+-- what an open reader returns. `Some`: the next line, which fits in the buffer. `None`: there are
+-- no more lines, and the reader has ended. `Err`: the reader has stopped, and why
+abbrev pub YieldsLine
+    : Wanted → ReaderState → Result (Option (WithStart Line)) LineError → ReaderState → Type 0
+YieldsLine wanted old (Ok (Some line)) new = TakesLine wanted old line new
+YieldsLine wanted old (Ok None) new = Takes wanted old [] new × IsDone new
+YieldsLine wanted old (Err error) new = StopsAt wanted old error new
+
+-- what an open reader returns for a part of `n` bytes. `Ok`: the next `n` bytes with their start,
+-- and the reader is open. `Err`: the reader has stopped, and why
+abbrev pub YieldsPart : ℕ → ReaderState → Result ReadPart LineError → ReaderState → Type 0
+YieldsPart n old (Ok part) new = Takes (wanted.Part n) old (text_of part.text) new
+    × (length (text_of part.text) ≡ n) × (part.start ≡ old.start) × (new.stage ≡ Open)
+YieldsPart n old (Err error) new = StopsAt (wanted.Part n) old error new
+
+-- a result of `next_line` as a line with its start
+abbrev pub line_result
+    : Result (Option ReadLine) LineError → Result (Option (WithStart Line)) LineError
+line_result (Ok (Some line)) = Ok (Some (read_line_in line))
+line_result (Ok None) = Ok None
+line_result (Err error) = Err error
+
+-- what a reader at a stage returns. At `Open`, `YieldsLine` says what. At `Ended` it returns
+-- `None`, at `Refused` the error that it returned before, and then reader and source are unchanged
+abbrev pub NextFrom : {S : Type 0}
+    → Stage → Reading S → Result (Option ReadLine) LineError → Reading S → Type 0
+NextFrom Open old result new =
+    YieldsLine (wanted.Line old.state.endings) old.state (line_result result) new.state
+NextFrom Ended old result new = (result ≡ Ok None) × (new ≡ old)
+NextFrom (Refused error) old result new = (result ≡ Err error) × (new ≡ old)
+
+-- what a reader returns, by its stage
+abbrev pub Next : {S : Type 0}
+    → Reading S → Result (Option ReadLine) LineError → Reading S → Type 0
+Next old result new = NextFrom old.state.stage old result new
+
+-- a result of `next_bytes` as a line with its start
+abbrev pub bytes_result
+    : Result (Option ReadBytes) LineError → Result (Option (WithStart Line)) LineError
+bytes_result (Ok (Some line)) = Ok (Some (read_bytes_in line))
+bytes_result (Ok None) = Ok None
+bytes_result (Err error) = Err error
+
+-- the text of a line as bytes: a view of them if all are ASCII; otherwise the position in the input
+-- of the first that is not
+abbrev pub TextOf : ℕ → List ℕ → Result AsciiStr ℕ → Type 0
+TextOf start bytes (Ok view) = text_of view ≡ bytes
+TextOf start bytes (Err place) =
+    (i : ℕ) × (place ≡ start + i) × FirstOther bytes 0 (length bytes) i
+
+-- the text of a result of `next_bytes`
+abbrev pub HasText : Result (Option ReadBytes) LineError → Type 0
+HasText (Ok (Some line)) = TextOf line.start line.bytes.now line.text
+HasText other = ⊤
+
+-- what a reader at a stage returns as bytes: as `NextFrom`, where a line may have any bytes
+abbrev pub NextBytesFrom : {S : Type 0}
+    → Stage → Reading S → Result (Option ReadBytes) LineError → Reading S → Type 0
+NextBytesFrom Open old result new =
+    YieldsLine (wanted.Bytes old.state.endings) old.state (bytes_result result) new.state
+    × HasText result
+NextBytesFrom Ended old result new = (result ≡ Ok None) × (new ≡ old)
+NextBytesFrom (Refused error) old result new = (result ≡ Err error) × (new ≡ old)
+
+-- what a reader returns as bytes, by its stage
+abbrev pub NextBytes : {S : Type 0}
+    → Reading S → Result (Option ReadBytes) LineError → Reading S → Type 0
+NextBytes old result new = NextBytesFrom old.state.stage old result new
+
+-- what a reader at a stage returns for a part of `n` bytes. At `Open`, `YieldsPart` says what. At
+-- `Ended` it returns `Incomplete 0`, at `Refused` the error that it returned before, and then
+-- reader and source are unchanged
+abbrev pub NextPartFrom : {S : Type 0}
+    → Stage → ℕ → Reading S → Result ReadPart LineError → Reading S → Type 0
+NextPartFrom Open n old result new = YieldsPart n old.state result new.state
+NextPartFrom Ended n old result new = (result ≡ Err (Incomplete 0)) × (new ≡ old)
+NextPartFrom (Refused error) n old result new = (result ≡ Err error) × (new ≡ old)
+
+-- what a reader returns for a part of `n` bytes, by its stage
+abbrev pub NextPart : {S : Type 0}
+    → ℕ → Reading S → Result ReadPart LineError → Reading S → Type 0
+NextPart n old result new = NextPartFrom old.state.stage n old result new
+
+-- ---- one line after another
+
+-- `text` is the bytes that were held in the state `old`, and after them those that the source has
+-- given up to the state `new`
+abbrev pub IsHeldThenRead : ReaderState → ReaderState → List ℕ → Type 0
+IsHeldThenRead old new text =
+    (read : List ℕ) × GaveBytes old.device new.device read × (text ≡ old.held ++ read)
+
+-- from the state `old` to the state `new` the reader went over `bytes`: of the bytes held before and
+-- those read since they are the first, and the others are held
+pub record PassesOver (old : ReaderState) (bytes : List ℕ) (new : ReaderState) : Type 0 where
+  pub text : IsHeldThenRead old new (bytes ++ new.held)
+  pub start : new.start ≡ old.start + length bytes
+  pub size : new.size ≡ old.size
+  pub endings : new.endings ≡ old.endings
+
+-- the same, and no read failed
+pub record ReadsBytes (old : ReaderState) (bytes : List ℕ) (new : ReaderState) : Type 0 where
+  pub over : PassesOver old bytes new
+  pub failures : new.device.failures ≡ old.device.failures
+
+-- from the state `old` to the state `new` the reader returned `lines`: they are the lines of the
 -- bytes before those that it now holds. Either it is open and every line has an ending, or it has
 -- ended
 pub record YieldsLines (old : ReaderState) (lines : List (WithStart Line)) (new : ReaderState)
     : Type 0 where
   pub handed : List ℕ
-  pub text : IsHeldThenRead old.held old.rest new.rest (handed ++ new.held)
+  pub reads : ReadsBytes old handed new
   pub exact : LineSpansEndedBy old.endings old.start handed lines
-  pub start : new.start ≡ old.start + length handed
   pub whole :
       ((new.stage ≡ Open) × All (λ span. span.item.ending ≢ Absent) lines) ⊎ IsDone new
-  pub size : new.size ≡ old.size
-  pub endings : new.endings ≡ old.endings
-
--- why the first line of `text` by `endings`, which is at the position `start` of the input, is not
--- yielded through a buffer of `size` bytes, if the source has yet to give `left`. `NotAscii`: a
--- byte of the line, among its first `size` bytes, is the first of `text` that is not less than
--- 128; the error holds its position. `LoneBreak`: the error holds the position of the first lone
--- CR or LF, as `IsLoneBreak` says. `TooLong`: the line has more bytes than the buffer, of which
--- the first `size` are ASCII; the error holds its position. `TooFar`: the line has a byte at the
--- position 2 ^ 64 - 1 or after it. `Incomplete` is not an error of a line. `Read` says nothing of
--- `text`
-abbrev pub RejectsLine
-    : Endings → ℕ → ℕ → List ℕ → Option (List ℕ) → LineError → Type 0
-RejectsLine endings start size text left (NotAscii place) = (i : ℕ) × (place ≡ start + i)
-    × (i < size) × FirstOther text 0 (length text) i × FreeUpTo endings text i
-RejectsLine endings start size text left (LoneBreak place) = (endings ≡ CrLfStrict)
-    × ((i n : ℕ) × (place ≡ start + i) × IsLoneBreak size text left i n)
-RejectsLine endings start size text left (TooLong place) = (place ≡ start) × (size < length text)
-    × IsAscii (take size text) × FreeUpTo endings text size
-RejectsLine endings start size text left TooFar =
-    (n : ℕ) × (n ≤ length text) × FreeUpTo endings text (n - 1) × (2 ^ 64 - 1 < start + n)
-RejectsLine endings start size text left (Incomplete count) = ⊥
-RejectsLine endings start size text left Read = ⊤
-
--- why a reader stops that held the bytes `held`. `Read` says nothing of the bytes that the source
--- gave. For another error, `RejectsLine` is true of these and of the bytes held
-abbrev pub IsLineError
-    : Endings → ℕ → ℕ → List ℕ → Option (List ℕ) → Option (List ℕ) → LineError → Type 0
-IsLineError endings start size held rest left Read = ⊤
-IsLineError endings start size held rest left error = (text : List ℕ)
-    × IsHeldThenRead held rest left text × RejectsLine endings start size text left error
-
--- from the state `old` to the state `new` the reader returned `bytes`: of the bytes held before and
--- those that the source gave they are the first, and the others are held
-pub record ReadsBytes (old : ReaderState) (bytes : List ℕ) (new : ReaderState) : Type 0 where
-  pub text : IsHeldThenRead old.held old.rest new.rest (bytes ++ new.held)
-  pub start : new.start ≡ old.start + length bytes
-  pub size : new.size ≡ old.size
-  pub endings : new.endings ≡ old.endings
-
--- why a reader that held the bytes `held` returns no part of `n` bytes. `NotAscii`: one of these
--- bytes is the first that is not less than 128; the error holds its position. `TooLong`: `n` is
--- more than the size of the buffer; the error holds the start. `TooFar`: the part ends after the
--- position 2 ^ 64 - 1. `Incomplete`: the source is at its end, and the bytes held and given are
--- ASCII and fewer than `n`; the error holds their number. `LoneBreak` is not an error of a part.
--- `Read` says nothing of the bytes
-abbrev pub IsPartError
-    : ℕ → ℕ → ℕ → List ℕ → Option (List ℕ) → Option (List ℕ) → LineError → Type 0
-IsPartError start size n held rest left (NotAscii place) = (text : List ℕ)
-    × IsHeldThenRead held rest left text
-    × ((i : ℕ) × (place ≡ start + i) × (i < n) × FirstOther text 0 (length text) i)
-IsPartError start size n held rest left (LoneBreak place) = ⊥
-IsPartError start size n held rest left (TooLong place) = (place ≡ start) × (size < n)
-IsPartError start size n held rest left TooFar = 2 ^ 64 - 1 < start + n
-IsPartError start size n held rest left (Incomplete count) = (text : List ℕ)
-    × IsHeldThenRead held rest left text
-    × (IsAtEnd left × IsAscii text × (count ≡ length text) × (count < n))
-IsPartError start size n held rest left Read = ⊤
-
--- the failures of the source after a call that returns this, of `n` before: one more if the call
--- returns `Read`, unless `n` is 2 ^ 64 - 1
-abbrev pub failures_after : {T : Type 0} → ℕ → Result T LineError → ℕ
-failures_after n (Err Read) = one_more n
-failures_after n other = n
-
--- what an open reader returns. `Some`: the next line, which fits in the buffer. `None`: there are
--- no more lines, and the reader has ended. `Err`: the reader has stopped, and why
-abbrev pub YieldsNext
-    : ReaderState → Result (Option ReadLine) LineError → ReaderState → Type 0
-YieldsNext old (Ok (Some line)) new =
-    YieldsLines old (read_line_in line ∷ []) new × (line_size (read_line_in line).item ≤ old.size)
-YieldsNext old (Ok None) new = YieldsLines old [] new × IsDone new
-YieldsNext old (Err error) new = (new.stage ≡ Refused error)
-    × IsLineError old.endings old.start old.size old.held old.rest new.rest error
-
--- what an open reader returns for a part of `n` bytes. `Ok`: the next `n` bytes with their start,
--- and the reader is open. `Err`: the reader has stopped, and why
-abbrev pub YieldsPart : ℕ → ReaderState → Result ReadPart LineError → ReaderState → Type 0
-YieldsPart n old (Ok part) new = ReadsBytes old (text_of part.text) new
-    × (length (text_of part.text) ≡ n) × (part.start ≡ old.start) × (new.stage ≡ Open)
-YieldsPart n old (Err error) new = (new.stage ≡ Refused error)
-    × IsPartError old.start old.size n old.held old.rest new.rest error
-
-module _ {S Z : Type 0} (rest : S → Option (List ℕ)) (failures : S → ℕ) where
-  -- what a reader at a stage returns. At `Open`, `YieldsNext` says what, and `failures_after` how
-  -- many calls of its source have then failed. At `Ended` it returns `None`, at `Refused` the error
-  -- that it returned before, and then reader and source are unchanged
-  abbrev pub NextFrom
-      : Stage → LineReader S Z → Result (Option ReadLine) LineError → LineReader S Z → Type 0
-  NextFrom Open old result new =
-      YieldsNext (state_of_reader rest failures old) result (state_of_reader rest failures new)
-      × (failures new.source ≡ failures_after (failures old.source) result)
-  NextFrom Ended old result new = (result ≡ Ok None) × (new ≡ old)
-  NextFrom (Refused error) old result new = (result ≡ Err error) × (new ≡ old)
-
-  -- what a reader returns, by its stage
-  abbrev pub Next
-      : LineReader S Z → Result (Option ReadLine) LineError → LineReader S Z → Type 0
-  Next old result new = NextFrom old.stage old result new
-
-module _ {S Z : Type 0} (rest : S → Option (List ℕ)) (failures : S → ℕ) (n : ℕ) where
-  -- what a reader at a stage returns for a part of `n` bytes. At `Open`, `YieldsPart` says what,
-  -- and `failures_after` how many calls of its source have then failed. At `Ended` it returns
-  -- `Incomplete 0`, at `Refused` the error that it returned before, and then reader and source are
-  -- unchanged
-  abbrev pub NextPartFrom
-      : Stage → LineReader S Z → Result ReadPart LineError → LineReader S Z → Type 0
-  NextPartFrom Open old result new =
-      YieldsPart n (state_of_reader rest failures old) result (state_of_reader rest failures new)
-      × (failures new.source ≡ failures_after (failures old.source) result)
-  NextPartFrom Ended old result new = (result ≡ Err (Incomplete 0)) × (new ≡ old)
-  NextPartFrom (Refused error) old result new = (result ≡ Err error) × (new ≡ old)
-
-  -- what a reader returns for a part of `n` bytes, by its stage
-  abbrev pub NextPart
-      : LineReader S Z → Result ReadPart LineError → LineReader S Z → Type 0
-  NextPart old result new = NextPartFrom old.stage old result new
 
 -- ---- cited by private functions only
 
--- the error for a byte that is not less than 128, `i` bytes after the position `start`: its
--- position, or `TooFar` if that does not fit a `u64`
-abbrev pub error_at : ℕ → ℕ → LineError
-error_at start i = if nat_lt (start + i) (2 ^ 64) then NotAscii (start + i) else TooFar
+-- what was taken from a buffer is what is wanted; or all bytes that were left, among which it is
+-- not, and the source is at its end
+abbrev pub IsTaken : Wanted → Bool → WindowState → SourceState → Type 0
+IsTaken wanted true buffer source = (buffer.held ≡ []) × IsAtEnd source.rest
+    × LacksUpTo wanted buffer.given (length buffer.given)
+IsTaken wanted false buffer source = EndsAt wanted buffer.given (length buffer.given)
 
--- what a search for the end of a line finds. `None`: the source is at its end, and no byte of the
--- buffer ends a line or shows a lone CR or LF, and all are ASCII. `Some`: the number of bytes up to
--- the first that does, which are all ASCII
-abbrev pub FindsLineEnd : Endings → WindowState → Option (List ℕ) → Option ℕ → Type 0
-FindsLineEnd endings buffer left None = IsAtEnd left
-    × FreeUpTo endings buffer.held (length buffer.held) × (buffer.checked ≡ length buffer.held)
-FindsLineEnd endings buffer left (Some n) =
-    (n ≤ buffer.checked) × IsFirstStop endings buffer.held n
-
--- the bytes taken last are all that was left, none of them ends a line or shows a lone CR or LF,
--- and the source is at its end (`true`); or the last of them is the first that does (`false`)
-abbrev pub IsLineTaken : Endings → Bool → WindowState → Option (List ℕ) → Type 0
-IsLineTaken endings true buffer left = (buffer.held ≡ []) × IsAtEnd left
-    × FreeUpTo endings buffer.given (length buffer.given)
-IsLineTaken endings false buffer left = IsFirstStop endings buffer.given (length buffer.given)
-
--- the bytes of the line at the position `start` were taken from the buffer. They end at the
--- position `place`, and `is_last` tells whether the source is at its end
-pub record TakesLine (endings : Endings) (start : ℕ) (old new : WindowState)
-    (rest left : Option (List ℕ)) (place : ℕ) (is_last : Bool) : Type 0 where
-  pub text : IsHeldThenRead old.held rest left (new.given ++ new.held)
+-- what is wanted was taken from a buffer, or all that was left. The bytes end at the position
+-- `place`, and `is_last` tells whether the source is at its end
+pub record TakesOff (wanted : Wanted) (start : ℕ) (old new : WindowState) (source now : SourceState)
+    (place : ℕ) (is_last : Bool) : Type 0 where
+  pub delivers : Delivers wanted start old.size old.held source now new.given new.held
   pub place_is : place ≡ start + length new.given
-  pub taken : IsLineTaken endings is_last new left
-  pub whole : IsWhole endings new.given
+  pub taken : IsTaken wanted is_last new now
+  pub last : MayBeLast wanted is_last
+  pub one : new.given ≢ [] → IsOne wanted new.given
 
--- the outcome of taking the bytes of the next line, which are `given`. `true`: they are one line,
--- and fit in the buffer. `false`: there are no more lines. `Err`: the reader has stopped, and why
-abbrev pub Advances : ReaderState → Result Bool LineError → ReaderState → List ℕ → Type 0
-Advances old (Ok true) new given =
-    IsHeldThenRead old.held old.rest new.rest (given ++ new.held)
-    × (new.start ≡ old.start + length given) × (new.size ≡ old.size)
-    × (new.endings ≡ old.endings) × IsOneLine old.endings given × (length given ≤ old.size)
-    × (((new.stage ≡ Open) × IsFirstStop old.endings given (length given)) ⊎ IsDone new)
-Advances old (Ok false) new given = YieldsLines old [] new × IsDone new
-Advances old (Err error) new given = (new.stage ≡ Refused error)
-    × IsLineError old.endings old.start old.size old.held old.rest new.rest error
+-- where a search stops. `true`: at the end of the source, and what is wanted is not among the
+-- bytes. `false`: at its end
+abbrev pub StopsBy : Wanted → WindowState → SourceState → ℕ → Bool → Type 0
+StopsBy wanted buffer source n true =
+    (n ≡ length buffer.held) × IsAtEnd source.rest × LacksUpTo wanted buffer.held n
+StopsBy wanted buffer source n false = EndsAt wanted buffer.held n
 
-module _ {S Z : Type 0} (rest : S → Option (List ℕ)) (failures : S → ℕ) where
-  -- the outcome of taking the bytes of the next line, at a stage. At `Open`, `Advances` says which.
-  -- At `Ended` there are no more lines, at `Refused` the error is the one before, and then reader
-  -- and source are unchanged
-  abbrev pub AdvancesFrom
-      : Stage → LineReader S Z → Result Bool LineError → LineReader S Z → Type 0
-  AdvancesFrom Open old result new =
-      Advances (state_of_reader rest failures old) result (state_of_reader rest failures new)
-      new.buffer.given
-      × (failures new.source ≡ failures_after (failures old.source) result)
-  AdvancesFrom Ended old result new = (result ≡ Ok false) × (new ≡ old)
-  AdvancesFrom (Refused error) old result new = (result ≡ Err error) × (new ≡ old)
+-- what a search finds in a buffer: the number of bytes up to where it stops, which fit and may be in
+-- what is wanted
+pub record FindsEnd (wanted : Wanted) (buffer : WindowState) (source : SourceState) (n : ℕ)
+    (is_last : Bool) : Type 0 where
+  pub within : n ≤ length buffer.held
+  pub fits : n ≤ buffer.size
+  pub may : MayHave wanted (take n buffer.held)
+  pub stops : StopsBy wanted buffer source n is_last
 
--- the outcome of taking the next `n` bytes, which are `given`. `Ok`: the reader is open. `Err`: the
--- reader has stopped, and why
-abbrev pub AdvancesPart
-    : ℕ → ReaderState → Result (Unit {0}) LineError → ReaderState → List ℕ → Type 0
-AdvancesPart n old (Ok _) new given =
-    ReadsBytes old given new × (length given ≡ n) × (new.stage ≡ Open)
-AdvancesPart n old (Err error) new given = (new.stage ≡ Refused error)
-    × IsPartError old.start old.size n old.held old.rest new.rest error
+-- the outcome of taking what is wanted, of which `lent` are the bytes. `true`: they are it, and the
+-- reader is open or has ended. `false`: there are no more lines, or the part has no bytes
+abbrev pub Advances
+    : Wanted → ReaderState → Result Bool LineError → ReaderState → List ℕ → Type 0
+Advances wanted old (Ok is_some) new lent = Takes wanted old lent new
+    × (is_some ≡ nat_lt 0 (length lent)) × (lent ≢ [] → IsOne wanted lent)
+    × (((new.stage ≡ Open) × EndsAt wanted lent (length lent))
+    ⊎ (IsDone new × LacksUpTo wanted lent (length lent) × MayBeLast wanted true))
+Advances wanted old (Err error) new lent = StopsAt wanted old error new
 
-module _ {S Z : Type 0} (rest : S → Option (List ℕ)) (failures : S → ℕ) (n : ℕ) where
-  -- the outcome of taking the next `n` bytes, at a stage
-  abbrev pub AdvancesPartFrom
-      : Stage → LineReader S Z → Result (Unit {0}) LineError → LineReader S Z → Type 0
-  AdvancesPartFrom Open old result new =
-      AdvancesPart n (state_of_reader rest failures old) result
-      (state_of_reader rest failures new) new.buffer.given
-      × (failures new.source ≡ failures_after (failures old.source) result)
-  AdvancesPartFrom Ended old result new = (result ≡ Err (Incomplete 0)) × (new ≡ old)
-  AdvancesPartFrom (Refused error) old result new = (result ≡ Err error) × (new ≡ old)
+-- what a reader that has ended returns for what is wanted
+abbrev pub at_end : Wanted → Result Bool LineError
+at_end (wanted.Part n) = Err (Incomplete 0)
+at_end wanted = Ok false
+
+-- the outcome of taking what is wanted, at a stage
+abbrev pub AdvancesFrom : {S : Type 0}
+    → Stage → Wanted → Reading S → Result Bool LineError → Reading S → Type 0
+AdvancesFrom Open wanted old result new = Advances wanted old.state result new.state new.lent
+AdvancesFrom Ended wanted old result new = (result ≡ at_end wanted) × (new ≡ old)
+AdvancesFrom (Refused error) wanted old result new = (result ≡ Err error) × (new ≡ old)

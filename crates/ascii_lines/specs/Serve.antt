@@ -11,23 +11,20 @@ use Rattle.ascii.specs.Spans.{WithStart, items_of, line_size, with_starts}
 use Rattle.memchr.specs.Find.{IsFirstByte}
 use Rattle.ascii.specs.Lines.{LinesEndedBy}
 use Rattle.ascii_lines.specs.History.{TellsFlushed}
-use Rattle.ascii_lines.specs.LineReader.{IsDone, IsLineError, IsPartError, ReaderState, ReadsBytes}
-use Rattle.ascii_lines.specs.LineWriter.{FailsToWrite, WriterState, is_line_break}
+use Rattle.ascii_devices.specs.Buffered.{OutputState}
+use Rattle.ascii_lines.specs.LineReader.{IsDone, ReaderState, ReadsBytes, StopsAt}
+use Rattle.ascii_lines.specs.LineWriter.{FailsToWrite, is_line_break}
 use Rattle.ascii.specs.declared.iter.spans.Endings.{Endings}
 use Rattle.ascii_lines.specs.declared.line_reader.LineError.{LineError}
 use Rattle.ascii_lines.specs.declared.line_reader.LineError.TheVariants.{Incomplete}
-use Rattle.ascii_lines.specs.declared.line_reader.Stage.TheVariants.{Open, Ended, Refused}
-use Rattle.ascii_lines.specs.declared.line_writer.LineWriter.{LineWriter}
+use Rattle.ascii_lines.specs.declared.line_reader.Stage.TheVariants.{Open, Ended}
 use Rattle.ascii_lines.specs.declared.line_writer.WriteError.{WriteError}
 use Rattle.ascii_lines.specs.declared.line_writer.WriteError.TheVariants.{LineBreak, Write}
+use Rattle.ascii_lines.specs.declared.wanted.Wanted.TheVariants as wanted
 use Rattle.ascii_lines.specs.declared.serving.Next.{Next}
 use Rattle.ascii_lines.specs.declared.serving.Next.TheVariants as next
 use Rattle.ascii_lines.specs.declared.serving.Stop.{Stop}
 use Rattle.ascii_lines.specs.declared.serving.Stop.TheVariants as stop
-
--- no call of the writer has returned `Write`
-abbrev pub IsReady : {K Z : Type 0} → LineWriter K Z → Type 0
-IsReady writer = writer.buffer.is_broken ≡ false
 
 -- the texts of replies
 abbrev pub reply_texts : List StringState → List (List ℕ)
@@ -62,29 +59,27 @@ pub record TakesInput (old : ReaderState) (input : WithStart Line) (new : Reader
 
 -- the error that the reader returned in place of what was asked for
 abbrev pub RefusesInput : Next → ReaderState → LineError → ReaderState → Type 0
-RefusesInput next.Line old error new = (new.stage ≡ Refused error)
-    × IsLineError old.endings old.start old.size old.held old.rest new.rest error
-RefusesInput (next.Part n) old error new = ((new.stage ≡ Refused error)
-    × IsPartError old.start old.size n old.held old.rest new.rest error)
+RefusesInput next.Line old error new = StopsAt (wanted.Line old.endings) old error new
+RefusesInput (next.Part n) old error new = StopsAt (wanted.Part n) old error new
     ⊎ ((old.stage ≡ Ended) × (error ≡ Incomplete 0) × (new ≡ old))
 RefusesInput next.Close old error new = ⊥
 
 -- all bytes that were held and then `bytes` went to the sink, which was then flushed, and no call of
 -- it failed
-pub record SendsBytes (old new : WriterState) (bytes : List ℕ) : Type 0 where
-  pub took : Appends old.taken new.taken (old.held ++ bytes)
-  pub told : TellsFlushed old.history new.history (old.held ++ bytes)
-  pub none : new.held ≡ []
+pub record SendsBytes (old new : OutputState) (bytes : List ℕ) : Type 0 where
+  pub took : Appends old.taken new.taken (old.buffer.bytes ++ bytes)
+  pub told : TellsFlushed old.history new.history (old.buffer.bytes ++ bytes)
+  pub none : new.buffer.bytes ≡ []
   pub failures : new.failures ≡ old.failures
   pub aside : new.aside ≡ old.aside
-  pub stage : new.is_broken ≡ false
-  pub size : new.size ≡ old.size
+  pub stage : new.buffer.is_broken ≡ false
+  pub size : new.buffer.size ≡ old.buffer.size
 
 -- replies were written, as `Writes` says of their bytes. `Write`: a call of the sink failed, and a
 -- prefix went out. `LineBreak`: the replies before one that has CR or LF were written; the error
 -- holds the position of the first one
-abbrev pub WritesReplies : (WriterState → WriterState → List ℕ → Type 0) → Ending → WriterState
-    → List (List ℕ) → Result (Unit {0}) WriteError → WriterState → Type 0
+abbrev pub WritesReplies : (OutputState → OutputState → List ℕ → Type 0) → Ending → OutputState
+    → List (List ℕ) → Result (Unit {0}) WriteError → OutputState → Type 0
 WritesReplies Writes ending old replies (Ok _) new = Writes old new (reply_bytes ending replies)
 WritesReplies Writes ending old replies (Err Write) new =
     FailsToWrite old new (reply_bytes ending replies)
@@ -150,9 +145,9 @@ module _ {H : Type 0} (answers : H → List ℕ → List (List ℕ) → Next →
 
   -- from old states to new ones a conversation was held, and stopped. Its replies were written with
   -- this ending, as `Writes` says
-  pub record Serves (Writes : WriterState → WriterState → List ℕ → Type 0) (ending : Ending)
-      (reader : ReaderState) (writer : WriterState) (handler : H) (why : Stop)
-      (reader_now : ReaderState) (writer_now : WriterState) (handler_now : H) : Type 0 where
+  pub record Serves (Writes : OutputState → OutputState → List ℕ → Type 0) (ending : Ending)
+      (reader : ReaderState) (writer : OutputState) (handler : H) (why : Stop)
+      (reader_now : ReaderState) (writer_now : OutputState) (handler_now : H) : Type 0 where
     pub replies : List (List ℕ)
     pub last : Next
     pub mid : ReaderState

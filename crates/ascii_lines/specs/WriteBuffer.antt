@@ -31,15 +31,12 @@ pub record PassesPrefix (old new : Flow) (bytes : List ℕ) : Type 0 where
   pub told : TellsSent old.history new.history sent
   pub all : sent ++ others ≡ old.held ++ bytes
 
--- a sink that has taken `taken` and has this history, before which `held` is held
-abbrev pub flow : Option (List ℕ) → Option (List Event) → List ℕ → Flow
-flow taken history held = record { taken = taken; history = history; held = held }
-
--- ---- cited by private functions only
-
 -- the flow of a sink with a buffer before it
 abbrev pub flow_of : OutputState → Flow
-flow_of state = flow state.taken state.history state.buffer.bytes
+flow_of state =
+    record { taken = state.taken; history = state.history; held = state.buffer.bytes }
+
+-- ---- cited by private functions only
 
 -- `bytes` were put through a buffer: `Passes`; or a write failed, `PassesPrefix`, and one more
 -- failure is counted

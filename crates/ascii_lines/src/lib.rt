@@ -21,11 +21,12 @@ mod line_reader;
 mod line_writer;
 mod owned_lines;
 mod serving;
+mod wanted;
 
 pub use ascii::iter::{Ending, Endings};
 pub use ascii::{AsciiChar, AsciiStr, AsciiString};
 pub use ascii_devices::{DeviceFault, Input, Output, Sink, Source};
-pub use line_reader::{LineError, LineReader, ReadLine, ReadPart};
+pub use line_reader::{LineError, LineReader, ReadBytes, ReadLine, ReadPart};
 pub use line_writer::{LineWriter, WriteError};
 pub use owned_lines::{CollectedLines, OwnedLine, collect_lines};
 pub use serving::{Handler, Next, Stop, serve};

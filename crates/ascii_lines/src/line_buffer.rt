@@ -1,24 +1,23 @@
 //! A buffer of fixed size between a source and its lines.
 
-ghost use Rattle.std.specs.Prelude.{◌≡◌, ℕ, ◌+◌, ◌-◌, ◌<◌, ◌≤◌, ◌++◌, ◌↔◌, [], IfOk, IsTrue, List};
-ghost use Rattle.std.specs.Prelude.{MatchOption, OnErr, drop, length, slice_range, take};
-ghost use Rattle.std.specs.Io.KnownBytes.{Consumes, IsAtEnd};
-ghost use Rattle.std.specs.Str.{IsAscii};
-ghost use Rattle.ascii.specs.Bytes.{FirstOther};
-ghost use Rattle.ascii_devices.specs.Devices.{CountsFault};
-ghost use Rattle.ascii.specs.Endings.{IsFirstStop, FreeUpTo};
+ghost use Rattle.std.specs.Prelude.{◌≡◌, ◌+◌, ◌<◌, ◌≤◌, ◌++◌, [], IfOk, OnErr, List, ℕ};
+ghost use Rattle.std.specs.Prelude.{drop, length, slice_range, take};
+ghost use Rattle.ascii_devices.specs.States.{source_state};
+ghost use Rattle.ascii_lines.specs.LineBuffer.{FailsOnce, IsAsciiLength, IsUsable, ReadsOnce};
 
-use ascii::endings::find_end;
-use ascii::iter::Endings;
+use crate::wanted::Wanted;
 use ascii::kernels::first_other;
 use ascii_devices::{DeviceFault, Source, zeros};
 use std::alloc::{AllocError, Allocator};
 use std::marker::Model;
 
-/// The bytes that were read and not taken, and those that were taken last. It never grows.
+/// The bytes that were read and not taken, and those that were taken last. It never grows. It has room
+/// for one byte more than a line may have, so that a line that is longer shows, and for two at least.
 #[derive(Drop)]
 pub(crate) struct LineBuffer<A: Allocator> {
     bytes: Vec<u8, A>,
+    // How many bytes a line or part may have, with its ending.
+    size: usize,
     // Where the bytes start that were taken last.
     given: usize,
     // Where they end, and those start that were not taken.
@@ -36,25 +35,30 @@ impl<A: Allocator> Model for LineBuffer<A> {
     ghost Value = { WindowState };
 
     ghost view = { λ w. record {
-      size = vec_len w.bytes;
+      size = w.size;
+      room = vec_len w.bytes;
       given = slice_range w.bytes.items w.given w.from;
       held = slice_range w.bytes.items w.from w.filled;
       checked = w.checked - w.from;
       spare = vec_len w.bytes - w.filled;
     } };
 
-    ghost invariant = { λ w. IsLaidOut w.bytes.items w.given w.from w.checked w.filled };
+    ghost invariant = { λ w. IsLaidOut w.size w.bytes.items w.given w.from w.checked w.filled };
 }
 
 impl<A: Allocator> LineBuffer<A> {
-    /// An empty buffer of this size.
+    /// An empty buffer for lines of up to this number of bytes.
     pub(crate) fn new(alloc: A, size: usize) -> Result<LineBuffer<A>, AllocError>
         ensures size { IfOk result (λ buffer. buffer.size ≡ size) }
         ensures held { IfOk result (λ buffer. buffer.held ≡ []) }
         ensures given { IfOk result (λ buffer. buffer.given ≡ []) }
     {
+        let Some(room) = size.max(1).checked_add(1) else {
+            return Err(AllocError);
+        };
         Ok(LineBuffer {
-            bytes: zeros(alloc, size)?,
+            bytes: zeros(alloc, room)?,
+            size,
             given: 0,
             from: 0,
             checked: 0,
@@ -63,87 +67,73 @@ impl<A: Allocator> LineBuffer<A> {
     }
 
     /// How many bytes it holds.
+    #[inline]
     pub(crate) fn len(&self) -> usize
         ensures { result ≡ length self.now.held }
     {
         self.filled - self.from
     }
 
-    /// How many bytes fit.
+    /// How many bytes a line or part may have.
+    #[inline]
     pub(crate) fn size(&self) -> usize
         ensures { result ≡ self.now.size }
     {
-        self.bytes.len()
+        self.size
     }
 
-    /// How many of the bytes that it holds, from the first, are known to be ASCII.
-    pub(crate) fn checked_len(&self) -> usize
-        ensures checked { result ≡ self.now.checked }
-        ensures within { result ≤ length self.now.held }
-    {
-        self.checked - self.from
-    }
-
-    /// Whether it has no room left.
-    pub(crate) fn is_full(&self) -> bool
-        ensures { IsTrue result ↔ (length self.now.held ≡ self.now.size) }
-    {
-        self.filled - self.from == self.bytes.len()
-    }
-
-    /// The position of the first non-ASCII byte among those that it holds.
+    /// The bytes that may be in what is wanted: of those that it holds, as many as fit, up to the first
+    /// that what is wanted may not have.
     #[inline]
-    pub(crate) fn first_non_ascii(&self) -> Option<usize>
-        ensures place { MatchOption result
-            ((self.now.checked ≡ length self.now.held) × IsAscii self.now.held)
-            (λ place. (place ≡ self.now.checked)
-            × FirstOther self.now.held 0 (length self.now.held) place) }
-        ensures within { length self.now.held ≤ self.now.size }
+    pub(crate) fn usable(&self, wanted: Wanted) -> &[u8]
+        ensures { IsUsable wanted self.now result.now }
     {
-        (self.checked < self.filled).then_some(self.checked - self.from)
+        let end = match wanted {
+            Wanted::Bytes(_) => self.filled,
+            Wanted::Line(_) | Wanted::Part(_) => self.checked,
+        };
+        &self.bytes[self.from..self.from + (end - self.from).min(self.size)]
+    }
+
+    /// The first bytes that it holds.
+    #[inline]
+    pub(crate) fn front(&self, n: usize) -> &[u8]
+        requires { n ≤ length self.now.held }
+        ensures { result.now ≡ take n self.now.held }
+    {
+        &self.bytes[self.from..self.from + n]
     }
 
     /// The bytes that were taken last.
     #[inline]
     pub(crate) fn line_bytes(&self) -> &[u8]
-        ensures value { result.now ≡ self.now.given }
-        ensures ascii { IsAscii self.now.given }
+        ensures { result.now ≡ self.now.given }
     {
         &self.bytes[self.given..self.from]
-    }
-
-    /// The number of bytes up to the end of the first line among those before the first non-ASCII byte.
-    /// None ends in the first `searched` bytes.
-    #[inline]
-    pub(crate) fn find_line(&self, endings: Endings, searched: usize) -> Option<usize>
-        requires within { searched ≤ self.now.checked }
-        requires free { FreeUpTo endings self.now.held searched }
-        ensures found { MatchOption result (FreeUpTo endings self.now.held self.now.checked)
-            (λ n. (n ≤ self.now.checked) × IsFirstStop endings self.now.held n) }
-    {
-        find_end(endings, &self.bytes[self.from..self.checked], searched)
     }
 
     /// Takes bytes from the front.
     #[inline]
     pub(crate) fn take(&mut self, n: usize)
-        requires { n ≤ self.old.checked }
+        requires { n ≤ length self.old.held }
         ensures given { self.new.given ≡ take n self.old.held }
-        ensures len { length self.new.given ≡ n }
         ensures held { self.new.held ≡ drop n self.old.held }
         ensures size { self.new.size ≡ self.old.size }
-        ensures within { length self.new.given ≤ self.new.size }
+        ensures room { self.new.room ≡ self.old.room }
     {
         self.given = self.from;
         self.from += n;
+        if self.checked < self.from {
+            self.checked = self.from + ascii_len(&self.bytes[self.from..self.filled]);
+        }
     }
 
     /// Moves the bytes that it holds to the front of the buffer.
     fn move_to_front(&mut self)
         ensures held { self.new.held ≡ self.old.held }
-        ensures checked { self.new.checked ≡ self.old.checked }
         ensures size { self.new.size ≡ self.old.size }
-        ensures spare { self.new.spare + length self.new.held ≡ self.new.size }
+        ensures room { self.new.room ≡ self.old.room }
+        ensures spare { self.new.spare + length self.new.held ≡ self.new.room }
     {
         if self.from > 0 {
             self.bytes.copy_within(self.from..self.filled, 0);
@@ -154,26 +144,36 @@ impl<A: Allocator> LineBuffer<A> {
         self.given = 0;
     }
 
-    /// Reads more bytes after those that it holds, by one call of the source, and checks them.
+    /// Reads more bytes after those that it holds, by one call of the source.
     pub(crate) fn refill<S: Source>(&mut self, source: &mut S) -> Result<usize, DeviceFault>
-        requires room { length self.old.held < self.old.size }
-        requires checked { self.old.checked ≡ length self.old.held }
+        requires room { length self.old.held < self.old.room }
         requires count { S.failures source.old < u64.MAX }
-        ensures bytes { IfOk result (λ n. (read : List ℕ) × (length read ≡ n)
-            × Consumes (S.rest source.old) (S.rest source.new) read
+        ensures ok { IfOk result (λ n. (read : List ℕ) × (length read ≡ n)
+            × ReadsOnce (source_state S.Source source.old) (source_state S.Source source.new) read
             × (self.new.held ≡ self.old.held ++ read)) }
-        ensures end { IfOk result (λ n.
-            n ≡ 0 → IsAtEnd (S.rest source.new) × (self.new.checked ≡ length self.new.held)) }
-        ensures count { CountsFault (S.failures source.old) (S.failures source.new) result }
-        ensures checked { IfOk result (λ n. self.old.checked ≤ self.new.checked) }
+        ensures err { OnErr result
+            (FailsOnce (source_state S.Source source.old) (source_state S.Source source.new)
+            × (self.new.held ≡ self.old.held)) }
         ensures size { self.new.size ≡ self.old.size }
+        ensures room { self.new.room ≡ self.old.room }
     {
         self.move_to_front();
         let n = read_behind(source, &mut self.bytes, self.filled)?;
-        let read = &self.bytes[self.filled..self.filled + n];
-        self.checked = self.filled + first_other(read).unwrap_or(n);
+        if self.checked == self.filled {
+            self.checked = self.filled + ascii_len(&self.bytes[self.filled..self.filled + n]);
+        }
         self.filled += n;
         Ok(n)
+    }
+}
+
+/// The number of bytes before the first that is not ASCII.
+fn ascii_len(bytes: &[u8]) -> usize
+    ensures { IsAsciiLength bytes.now result }
+{
+    match first_other(bytes) {
+        Some(place) => place,
+        None => bytes.len(),
     }
 }
 
@@ -188,10 +188,11 @@ fn read_behind<S: Source>(
     ensures front { take filled bytes.new ≡ take filled bytes.old }
     ensures len { length bytes.new ≡ length bytes.old }
     ensures within { IfOk result (λ n. filled + n ≤ length bytes.new) }
-    ensures bytes { IfOk result (λ n. Consumes (S.rest source.old) (S.rest source.new)
+    ensures ok { IfOk result (λ n.
+        ReadsOnce (source_state S.Source source.old) (source_state S.Source source.new)
         (slice_range bytes.new filled (filled + n))) }
-    ensures end { IfOk result (λ n. n ≡ 0 → IsAtEnd (S.rest source.new)) }
-    ensures count { CountsFault (S.failures source.old) (S.failures source.new) result }
+    ensures err { OnErr result
+        (FailsOnce (source_state S.Source source.old) (source_state S.Source source.new)) }
 {
     source.read(&mut bytes[filled..])
 }

@@ -1,9 +1,10 @@
 //! A writer of lines over any sink, through one buffer of fixed size.
 
-ghost use Rattle.std.specs.Prelude.{◌≡◌, ◌++◌, [], IfOk, OnErr, OnOk, false, true};
+ghost use Rattle.std.specs.Prelude.{◌≡◌, ◌≤◌, ◌++◌, [], IfOk, OnErr, OnOk, false, length, true};
 ghost use Rattle.ascii.specs.Lines.{ending_text};
-ghost use Rattle.ascii_lines.specs.LineWriter.{FlushesOutcome, IsFreshWriter, WritesLine};
-ghost use Rattle.ascii_lines.specs.LineWriter.{line_with, sink_of, state_of_writer};
+ghost use Rattle.ascii.specs.View.{text_of};
+ghost use Rattle.ascii_lines.specs.LineWriter.{FitsBuffer, FlushesOutcome, WritesLine, WritesPart};
+ghost use Rattle.ascii_lines.specs.LineWriter.{fresh_writer, line_with};
 ghost use Rattle.ascii_devices.specs.Buffered.{Finishes, IsReady, output_state};
 ghost use Rattle.ascii_lines.specs.WriteBuffer.{PutsBytes};
 
@@ -12,6 +13,7 @@ use ascii::iter::Ending;
 use ascii_devices::{BufferedSink, DeviceFault, Sink};
 use memchr::memchr2;
 use std::alloc::{AllocError, Allocator, Global};
+use std::marker::Model;
 
 /// Why a line was not written.
 #[derive(Clone, Copy, PartialEq, Eq, Debug)]
@@ -26,9 +28,18 @@ pub enum WriteError {
 /// A writer of lines. It gathers lines in one buffer, and passes that to its sink when it is full or flushed.
 /// A line that is longer than the buffer goes to the sink in parts.
 #[derive(Drop)]
-pub struct LineWriter<K, A: Allocator = Global> {
+pub struct LineWriter<K: Sink, A: Allocator = Global> {
     sink: K,
     buffer: BufferedSink<A>,
+}
+
+impl<K: Sink, A: Allocator> Model for LineWriter<K, A> {
+    ghost use Rattle.ascii_devices.specs.Buffered.{output_state};
+    ghost use Rattle.ascii_lines.specs.LineWriter.{Writing};
+
+    ghost Value = { Writing K };
+
+    ghost view = { λ w. record { sink = w.sink; state = output_state K.Sink w.sink w.buffer } };
 }
 
 impl<K: Sink, A: Allocator> LineWriter<K, A> {
@@ -44,9 +55,9 @@ impl<K: Sink, A: Allocator> LineWriter<K, A> {
     pub fn new(alloc: A, sink: K, size: usize) -> Result<LineWriter<K, A>, AllocError>
     where
         K: Drop,
-        ensures fresh { IfOk result (λ writer. IsFreshWriter size K.Sink sink
-            (state_of_writer K.Sink writer)) }
-        ensures sink { IfOk result (λ writer. sink_of writer ≡ sink) }
+        ensures fresh { IfOk result (λ writer.
+            writer.state ≡ fresh_writer size K.Sink sink) }
+        ensures sink { IfOk result (λ writer. writer.sink ≡ sink) }
     {
         let buffer = BufferedSink::new(alloc, size)?;
         Ok(LineWriter { sink, buffer })
@@ -58,7 +69,7 @@ impl<K: Sink, A: Allocator> LineWriter<K, A> {
     ///     writer.write_line(view("ab"), Ending::Lf) // Ok(())
     ///     writer.into_sink().into_inner() // []
     pub fn into_sink(self) -> K
-        ensures { result ≡ sink_of self }
+        ensures { result ≡ self.sink }
     {
         self.sink
     }
@@ -81,8 +92,8 @@ impl<K: Sink, A: Allocator> LineWriter<K, A> {
     ///     writer.flush() // Ok(())
     ///     writer.into_sink().into_inner() // [99, 10]
     pub fn write_line(&mut self, body: AsciiStr<'_>, ending: Ending) -> Result<(), WriteError>
-        ensures { WritesLine K.Sink self.old (line_with body.entry ending) result
-            self.new }
+        ensures line { WritesLine self.old (line_with body.entry ending) result self.new }
+        ensures within { FitsBuffer self.new }
     {
         if self.buffer.is_broken() {
             return Err(WriteError::Write);
@@ -98,6 +109,37 @@ impl<K: Sink, A: Allocator> LineWriter<K, A> {
         Ok(())
     }
 
+    /// Writes a text as it is, with each CR and LF in it, or returns `Write`. It is for bodies of an announced
+    /// length, and may be mixed with `write_line` in any order.
+    ///
+    /// `Write` is returned if a call of the sink failed, or `u64::MAX` calls have failed before. Of the bytes
+    /// written so far, this text included, the sink has taken a prefix. Every later call then returns `Write`,
+    /// and leaves the writer and its sink unchanged.
+    ///
+    ///     let mut writer = LineWriter::new(alloc, Output::new(Vec::new(alloc)), 64)?;
+    ///     writer.write_line(view("$3"), Ending::CrLf) // Ok(())
+    ///     writer.write_part(view("a\nb")) // Ok(())
+    ///     writer.flush() // Ok(())
+    ///     writer.into_sink().into_inner() // [36, 51, 13, 10, 97, 10, 98]
+    pub fn write_part(&mut self, part: AsciiStr<'_>) -> Result<(), WriteError>
+        ensures part { WritesPart self.old (text_of part.entry) result self.new }
+        ensures within { FitsBuffer self.new }
+    {
+        if self.buffer.is_broken() {
+            return Err(WriteError::Write);
+        }
+        put_line(
+            &mut self.buffer,
+            &mut self.sink,
+            part.as_bytes(),
+            Ending::Absent,
+        );
+        if self.buffer.is_broken() {
+            return Err(WriteError::Write);
+        }
+        Ok(())
+    }
+
     /// Passes the bytes that the writer holds to the sink and flushes it, or returns `Write` if a call of
     /// the sink failed, or `u64::MAX` calls have failed before; every later call then returns `Write`.
     ///
@@ -107,7 +149,8 @@ impl<K: Sink, A: Allocator> LineWriter<K, A> {
     ///     let mut writer = LineWriter::new(alloc, Output::new(Vec::new(alloc)), 64)?;
     ///     writer.flush() // Ok(())
     pub fn flush(&mut self) -> Result<(), WriteError>
-        ensures { FlushesOutcome K.Sink self.old result self.new }
+        ensures flushed { FlushesOutcome self.old result self.new }
+        ensures within { FitsBuffer self.new }
     {
         if self.buffer.is_broken() {
             return Err(WriteError::Write);
@@ -148,13 +191,15 @@ fn send_all<K: Sink, A: Allocator>(
     buffer: &mut BufferedSink<A>,
     sink: &mut K,
 ) -> Result<(), DeviceFault>
-    requires { buffer.old.is_broken ≡ false }
+    requires ready { buffer.old.is_broken ≡ false }
+    requires within { length buffer.old.bytes ≤ buffer.old.size }
     ensures ok { OnOk result (Finishes (output_state K.Sink sink.old buffer.old)
         (output_state K.Sink sink.new buffer.new) × (K.failures sink.new ≡ K.failures sink.old)) }
     ensures ready { OnOk result (IsReady buffer.new) }
     ensures err { OnErr result (PutsBytes (output_state K.Sink sink.old buffer.old)
         (output_state K.Sink sink.new buffer.new) []) }
     ensures broken { OnErr result (buffer.new.is_broken ≡ true) }
+    ensures within { length buffer.new.bytes ≤ buffer.new.size }
     ensures size { buffer.new.size ≡ buffer.old.size }
     ensures aside { K.aside sink.new ≡ K.aside sink.old }
 {

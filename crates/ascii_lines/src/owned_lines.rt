@@ -1,9 +1,11 @@
 //! The lines of a source as owned text.
 
-ghost use Rattle.std.specs.Prelude.{◌≡◌, IfOk};
+ghost use Rattle.std.specs.Prelude.{◌≡◌, IfOk, List, OnErr};
+ghost use Rattle.ascii.specs.Lines.{Line};
+ghost use Rattle.ascii.specs.Spans.{WithStart};
 ghost use Rattle.ascii_lines.specs.CollectedLines.{AreFirstLines, YieldsUntil, owned_line_in};
 ghost use Rattle.ascii_lines.specs.CollectedLines.{collected_lines_in};
-ghost use Rattle.ascii_lines.specs.LineReader.{IsOpen, read_line_in, state_of_reader};
+ghost use Rattle.ascii_lines.specs.LineReader.{IsOpen, YieldsLines, read_line_in};
 
 use crate::line_reader::{LineError, LineReader, ReadLine};
 use ascii::AsciiString;
@@ -47,10 +49,12 @@ pub fn collect_lines<S: Source, A: Allocator>(
     reader: &mut LineReader<S, A>,
 ) -> Result<CollectedLines, AllocError>
     requires { IsOpen reader.old }
-    ensures runs { IfOk result (λ kept. YieldsUntil (state_of_reader S.rest S.failures reader.old)
-        (collected_lines_in kept) kept.error (state_of_reader S.rest S.failures reader.new)) }
-    ensures first { IfOk result (λ kept. AreFirstLines
-        (state_of_reader S.rest S.failures reader.old) (collected_lines_in kept) kept.error) }
+    ensures runs { IfOk result (λ kept. YieldsUntil reader.old.state
+        (collected_lines_in kept) kept.error reader.new.state) }
+    ensures first { IfOk result (λ kept. AreFirstLines reader.old.state
+        (collected_lines_in kept) kept.error) }
+    ensures lost { OnErr result ((lines : List (WithStart Line))
+        × YieldsLines reader.old.state lines reader.new.state) }
 {
     let mut lines = Vec::new(alloc);
     'lines: loop {

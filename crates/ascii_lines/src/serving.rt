@@ -2,9 +2,9 @@
 
 ghost use Rattle.std.specs.Prelude.{◌≡◌, [], IfErr, IfOk};
 ghost use Rattle.ascii.specs.View.{text_of};
-ghost use Rattle.ascii_lines.specs.LineReader.{IsOpen, state_of_reader};
-ghost use Rattle.ascii_lines.specs.LineWriter.{WritesBytes, state_of_writer};
-ghost use Rattle.ascii_lines.specs.Serve.{IsGoing, IsReady, IsRequest, SendsBytes, Serves};
+ghost use Rattle.ascii_lines.specs.LineReader.{IsOpen};
+ghost use Rattle.ascii_lines.specs.LineWriter.{IsReady, WritesBytes};
+ghost use Rattle.ascii_lines.specs.Serve.{IsGoing, IsRequest, SendsBytes, Serves};
 ghost use Rattle.ascii_lines.specs.Serve.{TurnOutcome, WritesReplies, reply_texts};
 
 use crate::line_reader::{LineError, LineReader};
@@ -97,10 +97,10 @@ pub fn serve<S: Source, K: Sink, H: Handler, A: Allocator, B: Allocator>(
 ) -> Stop
     requires reader { IsOpen reader.old }
     requires writer { IsReady writer.old }
-    ensures { Serves H.answers SendsBytes ending (state_of_reader S.rest S.failures reader.old)
-        (state_of_writer K.Sink writer.old) handler.old result
-        (state_of_reader S.rest S.failures reader.new)
-        (state_of_writer K.Sink writer.new) handler.new }
+    ensures { Serves H.answers SendsBytes ending reader.old.state
+        writer.old.state handler.old result
+        reader.new.state
+        writer.new.state handler.new }
 {
     let stop = converse(alloc, reader, writer, ending, handler);
     match writer.flush() {
@@ -119,10 +119,10 @@ fn converse<S: Source, K: Sink, H: Handler, A: Allocator, B: Allocator>(
 ) -> Stop
     requires reader { IsOpen reader.old }
     requires writer { IsReady writer.old }
-    ensures { Serves H.answers WritesBytes ending (state_of_reader S.rest S.failures reader.old)
-        (state_of_writer K.Sink writer.old) handler.old result
-        (state_of_reader S.rest S.failures reader.new)
-        (state_of_writer K.Sink writer.new) handler.new }
+    ensures { Serves H.answers WritesBytes ending reader.old.state
+        writer.old.state handler.old result
+        reader.new.state
+        writer.new.state handler.new }
 {
     let mut next = Next::Line;
     'turns: loop {
@@ -146,8 +146,8 @@ fn write_replies<K: Sink, B: Allocator>(
     ending: Ending,
 ) -> Result<(), WriteError>
     requires { IsReady writer.old }
-    ensures { WritesReplies WritesBytes ending (state_of_writer K.Sink writer.old)
-        (reply_texts replies.now) result (state_of_writer K.Sink writer.new) }
+    ensures { WritesReplies WritesBytes ending writer.old.state
+        (reply_texts replies.now) result writer.new.state }
 {
     for reply in replies {
         if let Err(error) = writer.write_line(reply.as_ascii_str(), ending) {
@@ -165,59 +165,23 @@ fn turn<S: Source, A: Allocator, H: Handler>(
     next: Next,
     replies: &mut Vec<AsciiString>,
 ) -> Result<Next, Stop>
-    requires going { IsGoing (state_of_reader S.rest S.failures reader.old) }
+    requires going { IsGoing reader.old.state }
     requires empty { replies.old.items ≡ [] }
-    ensures outcome { TurnOutcome H.answers next handler.old
-        (state_of_reader S.rest S.failures reader.old) (reply_texts replies.new.items) result
-        handler.new (state_of_reader S.rest S.failures reader.new) }
+    ensures outcome { TurnOutcome H.answers next handler.old reader.old.state
+        (reply_texts replies.new.items) result handler.new reader.new.state }
     ensures request { IfOk result IsRequest }
 {
     match next {
-        Next::Line => line_turn(alloc, reader, handler, replies),
-        Next::Part(n) => part_turn(alloc, reader, handler, n, replies),
+        Next::Line => match reader.next_line() {
+            Ok(Some(line)) => answer_text(alloc, handler, line.text, replies),
+            Ok(None) => Err(Stop::EndOfInput),
+            Err(error) => Err(Stop::Reader(error)),
+        },
+        Next::Part(n) => match reader.read_exact_part(n) {
+            Ok(part) => answer_text(alloc, handler, part.text, replies),
+            Err(error) => Err(Stop::Reader(error)),
+        },
         Next::Close => Err(Stop::Closed),
-    }
-}
-
-/// Hands the handler a line.
-fn line_turn<S: Source, A: Allocator, H: Handler>(
-    alloc: Global,
-    reader: &mut LineReader<S, A>,
-    handler: &mut H,
-    replies: &mut Vec<AsciiString>,
-) -> Result<Next, Stop>
-    requires going { IsGoing (state_of_reader S.rest S.failures reader.old) }
-    requires empty { replies.old.items ≡ [] }
-    ensures outcome { TurnOutcome H.answers Next.Line handler.old
-        (state_of_reader S.rest S.failures reader.old) (reply_texts replies.new.items) result
-        handler.new (state_of_reader S.rest S.failures reader.new) }
-    ensures request { IfOk result IsRequest }
-{
-    match reader.next_line() {
-        Ok(Some(line)) => answer_text(alloc, handler, line.text, replies),
-        Ok(None) => Err(Stop::EndOfInput),
-        Err(error) => Err(Stop::Reader(error)),
-    }
-}
-
-/// Hands the handler a part.
-fn part_turn<S: Source, A: Allocator, H: Handler>(
-    alloc: Global,
-    reader: &mut LineReader<S, A>,
-    handler: &mut H,
-    n: usize,
-    replies: &mut Vec<AsciiString>,
-) -> Result<Next, Stop>
-    requires going { IsGoing (state_of_reader S.rest S.failures reader.old) }
-    requires empty { replies.old.items ≡ [] }
-    ensures outcome { TurnOutcome H.answers (Next.Part n) handler.old
-        (state_of_reader S.rest S.failures reader.old) (reply_texts replies.new.items) result
-        handler.new (state_of_reader S.rest S.failures reader.new) }
-    ensures request { IfOk result IsRequest }
-{
-    match reader.read_exact_part(n) {
-        Ok(part) => answer_text(alloc, handler, part.text, replies),
-        Err(error) => Err(Stop::Reader(error)),
     }
 }
 

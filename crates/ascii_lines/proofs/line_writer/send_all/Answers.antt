@@ -14,5 +14,5 @@ returns-clause-err g c =
     ) in
     finish_fails (output_state g.K.Sink c.args.sink.now c.args.buffer.now)
     (output_state g.K.Sink c.finish.new.writer c.finish.new.self) c.finish.result
-    c.requires low c.finish.ensures.outcome c.finish.ensures.broken c.finish.ensures.size
+    c.requires.ready low c.finish.ensures.outcome c.finish.ensures.broken c.finish.ensures.size
     c.finish.ensures.aside

@@ -1,0 +1,194 @@
+use Rattle.std.proofs.Common.{◌≡◌, ◌≤◌, ◌++◌, [], ap, length-append, append-nil, arith, length, refl, subst, sym, take, ◌∙◌}
+use Rattle.std.proofs.lemmas.List.{nil_from_length, take-take, take_all, take_at}
+use Rattle.ascii_devices.specs.States.{source_state}
+use Rattle.ascii_lines.specs.Wanted.{EndsAt, IsRefusal, IsSearched, LacksUpTo, MayHave, MustRead}
+use Rattle.ascii_lines.proofs.GathersLemmas.{Gathers-failed, Gathers-nil, Gathers-read}
+use Rattle.ascii_lines.proofs.WantedLemmas.{all_usable, ends_whole, may_front, may_none, must_read}
+use Rattle.ascii_lines.proofs.WantedLemmas.{refusal_counts, rejects, searched_front, searched_lacks, searched_more}
+use Rattle.ascii_lines.proofs.WantedLemmas.{searched_none, usable_least}
+use Rattle.ascii_lines.proofs.wanted.seek.Goals as goal
+
+pub fills-init : goal.fills-init
+fills-init g c = (
+  Gathers-nil (MustRead c.args.wanted c.args.start c.args.buffer.now.size)
+      c.args.buffer.now.held (source_state g.S.Source c.args.source.now),
+  refl,
+  refl,
+  refl,
+  omega arith,
+  omega arith,
+  may_none c.args.wanted,
+  searched_none c.args.wanted c.args.buffer.now.held,
+)
+
+-- the bytes that were searched may be in what is wanted
+reached : (g : _) (c : goal.After-usable-text g)
+    → c.fills.searched ≤ length c.usable-text.result.now
+reached g c = usable_least c.args.wanted c.fills.buffer c.usable-text.result.now
+    c.usable-text.ensures c.fills.searched c.fills.invariant.4 c.fills.invariant.5
+    c.fills.invariant.6
+
+pub find-requires-clause-within : goal.find-requires-clause-within
+find-requires-clause-within g c = reached g c
+
+pub find-requires-clause-searched : goal.find-requires-clause-searched
+find-requires-clause-searched g c =
+    let part = c.usable-text.result.now in
+    subst (λ text. IsSearched c.args.wanted text c.fills.searched)
+    (sym c.usable-text.ensures.front)
+    (searched_front c.fills.buffer.held (length part) c.fills.searched (reached g c)
+    c.args.wanted c.fills.invariant.7)
+
+pub returns-in-Some-clause-found : goal.returns-in-Some-clause-found
+returns-in-Some-clause-found g c =
+    let part = c.usable-text.result.now in
+    let usable = c.usable-text.ensures in
+    let n = c.in-Some.n in
+    let found = c.in-Some.ensures in
+    record {
+      within = omega (arith, found.0, usable.within);
+      fits = omega (arith, found.0, usable.fits);
+      may = subst (MayHave c.args.wanted)
+          (ap (take n) usable.front ∙ take-take n (length part) c.fills.buffer.held found.0)
+          (may_front c.args.wanted part n usable.may);
+      stops = ends_whole c.fills.buffer.held (length part) n found.0 c.args.wanted
+          (subst (λ text. EndsAt c.args.wanted text n) usable.front found.1);
+    }
+
+refusal : (g : _) (c : goal.After-refusal g)
+    → IsRefusal c.args.start (length c.usable-text.result.now) c.args.buffer.now.size
+    c.refusal.result
+refusal g c = subst
+    (λ size. IsRefusal c.args.start (length c.usable-text.result.now) size c.refusal.result)
+    (c.size.ensures ∙ c.fills.invariant.2) c.refusal.ensures
+
+pub returns-then-searched-len-clause-err : goal.returns-then-searched-len-clause-err
+returns-then-searched-len-clause-err g c = record {
+  gathers = c.fills.invariant.0;
+  why = rejects c.args.wanted c.args.start c.args.buffer.now.size c.fills.buffer
+      c.usable-text.result.now c.usable-text.ensures c.fills.invariant.2 c.in_default.ensures
+      (omega (arith, c.if-searched-len.true, c.len.ensures))
+      (g.S.Source.rest c.fills.source) c.refusal.result (refusal g c);
+  failures = c.fills.invariant.1
+      ∙ sym (refusal_counts (g.S.Source.failures c.args.source.now) c.args.start
+      (length c.usable-text.result.now) c.args.buffer.now.size c.refusal.result (refusal g c));
+}
+
+pub refill-requires-clause-room : goal.refill-requires-clause-room
+refill-requires-clause-room g c =
+    let usable = c.usable-text.ensures in
+    omega (arith, usable.fits, usable.roomy, c.if-searched-len.false, c.len.ensures)
+
+pub returns-in_default-refill-clause-err : goal.returns-in_default-refill-clause-err
+returns-in_default-refill-clause-err g c =
+    let Must = MustRead c.args.wanted c.args.start c.args.buffer.now.size in
+    let must : Must c.fills.buffer.held = must_read c.args.wanted c.args.start
+    c.args.buffer.now.size c.fills.buffer c.usable-text.result.now c.usable-text.ensures
+    c.fills.invariant.2 c.in_default.ensures c.requires
+    (omega (arith, c.if-searched-len.false, c.len.ensures)) in
+    let fails = c.in_default-refill.ensures.err in
+    record {
+      gathers = Gathers-failed Must c.args.buffer.now.held
+          (source_state g.S.Source c.args.source.now) (source_state g.S.Source c.fills.source)
+          (source_state g.S.Source c.refill.new.source) c.fills.buffer.held
+          c.refill.new.self.held c.fills.invariant.0 c.fills.invariant.1 must fails.0 fails.1;
+      why = subst Must (sym fails.1) must;
+      failures = omega (
+        arith,
+        fails.0.failures,
+        c.fills.invariant.1,
+        c.failures.ensures,
+        c.failures.type_inv,
+        c.if-failures-eq18446744073709551615.false,
+      );
+    }
+
+pub returns-then-n-eq0-clause-gathers : goal.returns-then-n-eq0-clause-gathers
+returns-then-n-eq0-clause-gathers g c =
+    let Must = MustRead c.args.wanted c.args.start c.args.buffer.now.size in
+    let read = c.in-Ok.ensures.ok in
+    Gathers-read Must c.args.buffer.now.held (source_state g.S.Source c.args.source.now)
+    (source_state g.S.Source c.fills.source) (source_state g.S.Source c.refill.new.source)
+    c.fills.buffer.held read.0 c.fills.invariant.0 c.fills.invariant.1
+    (must_read c.args.wanted c.args.start c.args.buffer.now.size c.fills.buffer
+    c.usable-text.result.now c.usable-text.ensures c.fills.invariant.2 c.in_default.ensures
+    c.requires (omega (arith, c.if-searched-len.false, c.len.ensures)))
+    c.refill.new.self.held read.2 read.3
+
+pub returns-then-n-eq0-clause-found : goal.returns-then-n-eq0-clause-found
+returns-then-n-eq0-clause-found g c =
+    let part = c.usable-text.result.now in
+    let usable = c.usable-text.ensures in
+    let read = c.in-Ok.ensures.ok in
+    let all : part ≡ c.fills.buffer.held =
+    all_usable c.args.wanted c.fills.buffer part usable
+    (omega (arith, c.if-searched-len.false, c.len.ensures)) in
+    let none : read.0 ≡ [] = nil_from_length read.0 (omega (arith, read.1, c.if-n-eq0.true)) in
+    let same : c.refill.new.self.held ≡ part =
+    read.3 ∙ (ap (λ xs. c.fills.buffer.held ++ xs) none
+    ∙ (append-nil c.fills.buffer.held ∙ sym all)) in
+    let long : c.len-then-n-eq0.result ≡ length c.refill.new.self.held = c.len-then-n-eq0.ensures in
+    record {
+      within = omega (arith, long);
+      fits = omega (arith, long, ap length same, usable.fits, c.in-Ok.ensures.size);
+      may = subst (MayHave c.args.wanted)
+          (sym (take_all c.len-then-n-eq0.result c.refill.new.self.held (omega (arith, long)) ∙ same))
+          usable.may;
+      stops = (
+        long,
+        read.2.end none,
+        subst (LacksUpTo c.args.wanted c.refill.new.self.held)
+            (ap length (sym same) ∙ sym long)
+            (subst (λ xs. LacksUpTo c.args.wanted xs (length part)) (sym same)
+            c.in_default.ensures),
+      );
+    }
+
+pub fills-smaller : goal.fills-smaller
+fills-smaller g c =
+    let usable = c.usable-text.ensures in
+    let read = c.in-Ok.ensures.ok in
+    omega (
+      arith,
+      ap length read.3,
+      length-append c.fills.buffer.held read.0,
+      read.1,
+      c.if-n-eq0.false,
+      c.in-Ok.ensures.room,
+      usable.fits,
+      usable.roomy,
+      c.if-searched-len.false,
+      c.len.ensures,
+    )
+
+pub fills-preserved : goal.fills-preserved
+fills-preserved g c =
+    let Must = MustRead c.args.wanted c.args.start c.args.buffer.now.size in
+    let part = c.usable-text.result.now in
+    let usable = c.usable-text.ensures in
+    let read = c.in-Ok.ensures.ok in
+    let held = c.fills.buffer.held in
+    let all : part ≡ held =
+    all_usable c.args.wanted c.fills.buffer part usable
+    (omega (arith, c.if-searched-len.false, c.len.ensures)) in
+    let front : take (length part) c.refill.new.self.held ≡ part =
+    ap (take (length part)) (read.3 ∙ ap (λ xs. xs ++ read.0) (sym all))
+    ∙ take_at part read.0 (length part) refl in (
+      Gathers-read Must c.args.buffer.now.held (source_state g.S.Source c.args.source.now)
+          (source_state g.S.Source c.fills.source) (source_state g.S.Source c.refill.new.source)
+          held read.0 c.fills.invariant.0 c.fills.invariant.1
+          (must_read c.args.wanted c.args.start c.args.buffer.now.size c.fills.buffer part
+          usable c.fills.invariant.2 c.in_default.ensures c.requires
+          (omega (arith, c.if-searched-len.false, c.len.ensures)))
+          c.refill.new.self.held read.2 read.3,
+      read.2.failures ∙ c.fills.invariant.1,
+      c.in-Ok.ensures.size ∙ c.fills.invariant.2,
+      c.in-Ok.ensures.room ∙ c.fills.invariant.3,
+      omega (arith, ap length read.3, length-append held read.0, usable.within),
+      omega (arith, usable.fits, c.in-Ok.ensures.size),
+      subst (MayHave c.args.wanted) (sym front) usable.may,
+      subst (λ text. IsSearched c.args.wanted text (length part))
+          (sym (read.3 ∙ ap (λ xs. xs ++ read.0) (sym all)))
+          (searched_more c.args.wanted part read.0 (length part) (omega arith)
+          (searched_lacks c.args.wanted part (length part) c.in_default.ensures)),
+    )

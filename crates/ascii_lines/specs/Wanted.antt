@@ -1,0 +1,218 @@
+-- What a line reader is asked for, when it reads its source for that, and why it does not give it.
+use Rattle.std.specs.Prelude.{◌≡◌, ◌≢◌, ◌⊎◌, ℕ, ◌+◌, ◌-◌, ◌^◌, ◌<◌, ◌≤◌, List, [], ◌∷◌, ◌++◌, ⊤}
+use Rattle.std.specs.Prelude.{Bool, Err, None, Ok, Some, length, slice_index, take, true}
+use Rattle.std.specs.Io.KnownBytes.{IsAtEnd}
+use Rattle.std.specs.List.{flat_map}
+use Rattle.std.specs.Str.{IsAscii}
+use Rattle.std.specs.declared.option.Option.{Option}
+use Rattle.std.specs.declared.result.Result.{Result}
+use Rattle.ascii.specs.Bytes.{FirstOther}
+use Rattle.ascii.specs.Endings.{FindsLoneBreak, FreeUpTo, IsFirstStop, IsOneLine}
+use Rattle.ascii.specs.declared.iter.spans.Endings.TheVariants.{CrLfStrict}
+use Rattle.ascii_devices.specs.Devices.{Grows, read_of}
+use Rattle.ascii_devices.specs.States.{GaveBytes, SourceState}
+use Rattle.ascii_lines.specs.Failures.{one_more}
+use Rattle.ascii_lines.specs.declared.line_reader.LineError.{LineError}
+use Rattle.ascii_lines.specs.declared.line_reader.LineError.TheVariants.{NotAscii, LoneBreak}
+use Rattle.ascii_lines.specs.declared.line_reader.LineError.TheVariants.{TooLong, TooFar}
+use Rattle.ascii_lines.specs.declared.line_reader.LineError.TheVariants.{Incomplete, Read}
+use Rattle.ascii_lines.specs.declared.wanted.Wanted.{Wanted}
+use Rattle.ascii_lines.specs.declared.wanted.Wanted.TheVariants.{Line, Bytes, Part}
+
+-- ---- what is wanted
+
+-- the bytes may be in what is wanted: in a line and in a part all are ASCII
+abbrev pub MayHave : Wanted → List ℕ → Type 0
+MayHave (Bytes endings) bytes = ⊤
+MayHave wanted bytes = IsAscii bytes
+
+-- what is wanted is not among the first `n` bytes of `text`: none of them ends a line or shows a
+-- lone CR or LF; or the part is longer
+abbrev pub LacksUpTo : Wanted → List ℕ → ℕ → Type 0
+LacksUpTo (Line endings) text n = FreeUpTo endings text n
+LacksUpTo (Bytes endings) text n = FreeUpTo endings text n
+LacksUpTo (Part count) text n = n < count
+
+-- the first `n` bytes of `text` are what is wanted: the last of them is the first that ends a line
+-- or shows a lone CR or LF; or they are as many as the part has
+abbrev pub EndsAt : Wanted → List ℕ → ℕ → Type 0
+EndsAt (Line endings) text n = IsFirstStop endings text n
+EndsAt (Bytes endings) text n = IsFirstStop endings text n
+EndsAt (Part count) text n = n ≡ count
+
+-- the bytes are one line, or a part of this length
+abbrev pub IsOne : Wanted → List ℕ → Type 0
+IsOne (Line endings) bytes = IsOneLine endings bytes
+IsOne (Bytes endings) bytes = IsOneLine endings bytes
+IsOne (Part count) bytes = length bytes ≡ count
+
+-- a lone CR or LF is a fault in what is wanted
+abbrev pub IsStrict : Wanted → Type 0
+IsStrict (Line endings) = endings ≡ CrLfStrict
+IsStrict (Bytes endings) = endings ≡ CrLfStrict
+IsStrict (Part count) = ⊥
+
+-- ---- when the source is read
+
+-- a reader with a buffer of `size` bytes has to read its source for what is wanted, which starts at
+-- the position `start` of the input, if it holds the bytes `held` from there on: they fit and are
+-- without fault, and what is wanted is not among them. A part that is longer than the buffer, or
+-- ends after the position 2 ^ 64 - 1, is not read for
+abbrev pub MustRead : Wanted → ℕ → ℕ → List ℕ → Type 0
+MustRead (Line endings) start size held =
+    (length held ≤ size) × IsAscii held × FreeUpTo endings held (length held)
+MustRead (Bytes endings) start size held =
+    (length held ≤ size) × FreeUpTo endings held (length held)
+MustRead (Part count) start size held = (length held < count) × IsAscii held × (count ≤ size)
+    × (start + count < 2 ^ 64)
+
+-- the pieces that were read, one at a call: before each of them `Must` was true of the bytes held
+-- until then, which were `held` before the first
+abbrev pub Asks : (List ℕ → Type 0) → List ℕ → List (List ℕ) → Type 0
+Asks Must held [] = ⊤
+Asks Must held (read ∷ reads) = Must held × Asks Must (held ++ read) reads
+
+-- the pieces as one list
+abbrev pub all_of : List (List ℕ) → List ℕ
+all_of reads = flat_map (λ read. read) reads
+
+-- `text` is the bytes `held`, and after them those that the source gave. It was read only while
+-- `Must` was true of the bytes held until then; a read that failed has no bytes
+pub record Gathers (Must : List ℕ → Type 0) (held : List ℕ) (old new : SourceState)
+    (text : List ℕ) : Type 0 where
+  pub reads : List (List ℕ)
+  pub asks : Asks Must held reads
+  pub gave : GaveBytes old new (all_of reads)
+  pub told : Grows old.history new.history (flat_map read_of reads)
+  pub all : text ≡ held ++ all_of reads
+  pub unread : reads ≡ [] → new ≡ old
+  pub aside : new.aside ≡ old.aside
+
+-- ---- why it is not given
+
+-- the byte at `i` is a CR without an LF after it, or an LF without a CR before it, and the first
+-- such byte of `text`. The bytes up to the one that shows it, which are `n`, fit in `size` bytes
+-- and may be in what is wanted: for LF it shows itself; for CR the byte after it does; or, if there
+-- is none, the source, which has yet to give `left`, is at its end
+pub record IsLoneBreak (wanted : Wanted) (size : ℕ) (text : List ℕ) (left : Option (List ℕ))
+    (i n : ℕ) : Type 0 where
+  pub fits : n ≤ size
+  pub inside : n ≤ length text
+  pub may : MayHave wanted (take n text)
+  pub first : (k : ℕ) → k < i → (slice_index text k ≢ 10) × (slice_index text k ≢ 13)
+  pub lone : ((n ≡ i + 1) × (slice_index text i ≡ 10))
+      ⊎ ((n ≡ i + 2) × (slice_index text i ≡ 13) × (slice_index text (i + 1) ≢ 10))
+      ⊎ ((n ≡ i + 1) × (n ≡ length text) × (slice_index text i ≡ 13) × IsAtEnd left)
+
+-- the byte at `i` is the first of `text` that is not less than 128, and comes among those that fit
+-- in `size` bytes and in what is wanted, which may not have it
+abbrev pub IsOtherIn : Wanted → ℕ → List ℕ → ℕ → Type 0
+IsOtherIn (Bytes endings) size text i = ⊥
+IsOtherIn wanted size text i =
+    (i < size) × FirstOther text 0 (length text) i × LacksUpTo wanted text i
+
+-- what is wanted does not fit in `size` bytes: the line has more, of which those that fit may be in
+-- it; or the part is longer
+abbrev pub IsOver : Wanted → ℕ → List ℕ → Type 0
+IsOver (Part count) size text = size < count
+IsOver wanted size text =
+    (size < length text) × MayHave wanted (take size text) × LacksUpTo wanted text size
+
+-- what is wanted, which starts at the position `start` of the input, has a byte at the position
+-- 2 ^ 64 - 1 or after it; so it is if its first non-ASCII byte is there
+abbrev pub IsFar : Wanted → ℕ → List ℕ → Type 0
+IsFar (Part count) start text = 2 ^ 64 - 1 < start + count
+IsFar wanted start text =
+    (n : ℕ) × (n ≤ length text) × LacksUpTo wanted text (n - 1) × (2 ^ 64 - 1 < start + n)
+
+-- the source, which has yet to give `left`, is at its end, and `text` is fewer bytes than the part
+-- has
+abbrev pub IsCutOff : Wanted → List ℕ → Option (List ℕ) → Type 0
+IsCutOff (Part count) text left = IsAtEnd left × IsAscii text × (length text < count)
+IsCutOff wanted text left = ⊥
+
+-- why a reader with a buffer of `size` bytes does not give what is wanted, which starts at the
+-- position `start` of the input. The reader holds `text` from there on, and its source has yet to
+-- give `left`. A position in an error is one in the input. `Read`: the source failed, or has failed
+-- 2 ^ 64 - 1 times, and it had to be read
+abbrev pub Rejects : Wanted → ℕ → ℕ → List ℕ → Option (List ℕ) → LineError → Type 0
+Rejects wanted start size text left (NotAscii place) =
+    (i : ℕ) × (place ≡ start + i) × IsOtherIn wanted size text i
+Rejects wanted start size text left (LoneBreak place) =
+    IsStrict wanted × ((i n : ℕ) × (place ≡ start + i) × IsLoneBreak wanted size text left i n)
+Rejects wanted start size text left (TooLong place) = (place ≡ start) × IsOver wanted size text
+Rejects wanted start size text left TooFar = IsFar wanted start text
+Rejects wanted start size text left (Incomplete count) =
+    (count ≡ length text) × IsCutOff wanted text left
+Rejects wanted start size text left Read = MustRead wanted start size text
+
+-- the failures of the source after this error, of `n` before: one more after `Read`, unless `n` is
+-- 2 ^ 64 - 1
+abbrev pub failures_after : ℕ → LineError → ℕ
+failures_after n Read = one_more n
+failures_after n error = n
+
+-- the reader held `held` and has read on to `text`, and this error comes in place of what is wanted
+pub record Refuses (wanted : Wanted) (start size : ℕ) (held : List ℕ) (old new : SourceState)
+    (text : List ℕ) (error : LineError) : Type 0 where
+  pub gathers : Gathers (MustRead wanted start size) held old new text
+  pub why : Rejects wanted start size text new.rest error
+  pub failures : new.failures ≡ failures_after old.failures error
+
+-- the reader held `held` and gives `bytes`, which may be in what is wanted and fit in its buffer;
+-- after them it holds `others`. No read failed
+pub record Delivers (wanted : Wanted) (start size : ℕ) (held : List ℕ) (old new : SourceState)
+    (bytes others : List ℕ) : Type 0 where
+  pub gathers : Gathers (MustRead wanted start size) held old new (bytes ++ others)
+  pub may : MayHave wanted bytes
+  pub fits : length bytes ≤ size
+  pub failures : new.failures ≡ old.failures
+
+-- ---- cited by private functions only
+
+-- a part fits in a buffer of `size` bytes, and ends before the position 2 ^ 64
+abbrev pub MayFit : Wanted → ℕ → ℕ → Type 0
+MayFit (Part count) start size = (count ≤ size) × (start + count < 2 ^ 64)
+MayFit wanted start size = ⊤
+
+-- a part does not fit in a buffer of `size` bytes, or ends too far
+abbrev pub IsUnfit : Wanted → ℕ → ℕ → LineError → Type 0
+IsUnfit (Part count) start size (TooLong place) = (place ≡ start) × (size < count)
+IsUnfit (Part count) start size TooFar = 2 ^ 64 - 1 < start + count
+IsUnfit wanted start size error = ⊥
+
+-- the first `n` bytes of `text` were searched for the end of a line
+abbrev pub IsSearched : Wanted → List ℕ → ℕ → Type 0
+IsSearched (Part count) text n = ⊤
+IsSearched wanted text n = LacksUpTo wanted text n
+
+-- the position of a lone CR or LF that is a fault among the last two of `bytes`, if there is one
+abbrev pub FindsFault : Wanted → List ℕ → Option ℕ → Type 0
+FindsFault (Line endings) bytes found = FindsLoneBreak endings bytes found
+FindsFault (Bytes endings) bytes found = FindsLoneBreak endings bytes found
+FindsFault (Part count) bytes found = found ≡ None
+
+-- the bytes may be the last of the input: a part is not, if it is longer
+abbrev pub MayBeLast : Wanted → Bool → Type 0
+MayBeLast (Part count) true = ⊥
+MayBeLast wanted is_last = ⊤
+
+-- the position after `bytes`, or why they are not what is wanted: a part is longer, but they are
+-- the last; they end too far; or they have a lone CR or LF
+abbrev pub IsEndOf : Wanted → ℕ → List ℕ → Bool → Result ℕ LineError → Type 0
+IsEndOf wanted start bytes is_last (Ok end) = (end ≡ start + length bytes)
+    × FindsFault wanted bytes None × MayBeLast wanted is_last
+IsEndOf wanted start bytes is_last (Err (Incomplete count)) =
+    (count ≡ length bytes) × ¬ (MayBeLast wanted is_last)
+IsEndOf wanted start bytes is_last (Err TooFar) = 2 ^ 64 - 1 < start + length bytes
+IsEndOf wanted start bytes is_last (Err (LoneBreak place)) =
+    (i : ℕ) × (place ≡ start + i) × FindsFault wanted bytes (Some i)
+IsEndOf wanted start bytes is_last (Err error) = ⊥
+
+-- the error at `i` bytes after the position `start`: what is wanted does not fit in `size` bytes, or
+-- the byte there is not less than 128
+abbrev pub IsRefusal : ℕ → ℕ → ℕ → LineError → Type 0
+IsRefusal start i size (TooLong place) = (i ≡ size) × (place ≡ start)
+IsRefusal start i size (NotAscii place) = (i ≢ size) × (place ≡ start + i)
+IsRefusal start i size TooFar = (i ≢ size) × (2 ^ 64 - 1 < start + i)
+IsRefusal start i size error = ⊥

@@ -1,0 +1,166 @@
+//! What a reader is asked for, and the search for it in a buffer.
+
+ghost use Rattle.std.specs.Prelude.{◌≡◌, ◌≤◌, IfErr, IfOk, MatchOption, OnOk, length};
+ghost use Rattle.ascii_devices.specs.States.{source_state};
+ghost use Rattle.ascii_lines.specs.LineReader.{FindsEnd, TakesOff};
+ghost use Rattle.ascii_lines.specs.Wanted.{EndsAt, Gathers, LacksUpTo, MustRead, Refuses};
+ghost use Rattle.ascii_lines.specs.Wanted.{FindsFault, IsEndOf, IsRefusal, IsSearched, IsUnfit};
+ghost use Rattle.ascii_lines.specs.Wanted.{MayFit};
+
+use crate::line_buffer::LineBuffer;
+use crate::line_reader::LineError;
+use ascii::endings::{find_end, lone_break};
+use ascii::iter::Endings;
+use ascii_devices::Source;
+use std::alloc::Allocator;
+
+/// What a reader is asked for.
+#[derive(Clone, Copy)]
+pub(crate) enum Wanted {
+    /// The next line by these endings.
+    Line(Endings),
+    /// The next line by these endings, which may have any bytes.
+    Bytes(Endings),
+    /// The next part, of this number of bytes.
+    Part(usize),
+}
+
+/// Takes what is wanted off the buffer, or all bytes if it is not among them. Returns the position
+/// after them, and whether the source has ended.
+pub(crate) fn take_wanted<S: Source, A: Allocator>(
+    buffer: &mut LineBuffer<A>,
+    source: &mut S,
+    wanted: Wanted,
+    start: u64,
+) -> Result<(u64, bool), LineError>
+    ensures ok { IfOk result (λ taken. TakesOff wanted start buffer.old buffer.new
+        (source_state S.Source source.old) (source_state S.Source source.new) taken.0 taken.1) }
+    ensures err { IfErr result (Refuses wanted start buffer.old.size buffer.old.held
+        (source_state S.Source source.old) (source_state S.Source source.new) buffer.new.held) }
+    ensures size { buffer.new.size ≡ buffer.old.size }
+{
+    may_fit(wanted, start, buffer.size())?;
+    let (n, is_last) = seek(buffer, source, wanted, start)?;
+    let end = end_of(wanted, start, buffer.front(n), is_last)?;
+    buffer.take(n);
+    Ok((end, is_last))
+}
+
+/// Reads the source until what is wanted is in the buffer. Returns the number of its bytes, or of all if it
+/// is not among them, and whether the source has ended. Each byte is searched once.
+fn seek<S: Source, A: Allocator>(
+    buffer: &mut LineBuffer<A>,
+    source: &mut S,
+    wanted: Wanted,
+    start: u64,
+) -> Result<(usize, bool), LineError>
+    requires { MayFit wanted start buffer.old.size }
+    ensures gathers { OnOk result (Gathers (MustRead wanted start buffer.old.size) buffer.old.held
+        (source_state S.Source source.old) (source_state S.Source source.new) buffer.new.held) }
+    ensures found { IfOk result (λ found. FindsEnd wanted buffer.new
+        (source_state S.Source source.new) found.0 found.1) }
+    ensures count { OnOk result (S.failures source.new ≡ S.failures source.old) }
+    ensures err { IfErr result (Refuses wanted start buffer.old.size buffer.old.held
+        (source_state S.Source source.old) (source_state S.Source source.new) buffer.new.held) }
+    ensures size { buffer.new.size ≡ buffer.old.size }
+{
+    let mut searched = 0;
+    'fills: loop {
+        let text = buffer.usable(wanted);
+        if let Some(n) = find(wanted, text, searched) {
+            return Ok((n, false));
+        }
+        searched = text.len();
+        if searched < buffer.len() {
+            return Err(refusal(start, searched, buffer.size()));
+        }
+        if source.failures() == u64::MAX {
+            return Err(LineError::Read);
+        }
+        let Ok(n) = buffer.refill(source) else {
+            return Err(LineError::Read);
+        };
+        if n == 0 {
+            return Ok((buffer.len(), true));
+        }
+    }
+}
+
+/// The number of bytes up to the end of what is wanted. It is not among the first `searched`.
+#[inline]
+pub(crate) fn find(wanted: Wanted, text: &[u8], searched: usize) -> Option<usize>
+    requires within { searched ≤ length text.now }
+    requires searched { IsSearched wanted text.now searched }
+    ensures { MatchOption result (LacksUpTo wanted text.now (length text.now))
+        (λ n. (n ≤ length text.now) × EndsAt wanted text.now n) }
+{
+    match wanted {
+        Wanted::Line(endings) => find_end(endings, text, searched),
+        Wanted::Bytes(endings) => find_end(endings, text, searched),
+        Wanted::Part(count) => (count <= text.len()).then_some(count),
+    }
+}
+
+/// Rejects a part that does not fit in a buffer of this size, or ends too far.
+#[inline]
+fn may_fit(wanted: Wanted, start: u64, size: usize) -> Result<(), LineError>
+    ensures ok { OnOk result (MayFit wanted start size) }
+    ensures err { IfErr result (IsUnfit wanted start size) }
+{
+    let Wanted::Part(count) = wanted else {
+        return Ok(());
+    };
+    if count > size {
+        return Err(LineError::TooLong(start));
+    }
+    match start.checked_add(count as u64) {
+        Some(_) => Ok(()),
+        None => Err(LineError::TooFar),
+    }
+}
+
+/// The position after the bytes of what is wanted, or why they are not given. If it is not among
+/// them, they are the last of the input.
+#[inline]
+fn end_of(wanted: Wanted, start: u64, bytes: &[u8], is_last: bool) -> Result<u64, LineError>
+    ensures { IsEndOf wanted start bytes.now is_last result }
+{
+    if let Wanted::Part(_) = wanted
+        && is_last
+    {
+        return Err(LineError::Incomplete(bytes.len()));
+    }
+    let Some(end) = start.checked_add(bytes.len() as u64) else {
+        return Err(LineError::TooFar);
+    };
+    match find_lone_break(wanted, bytes) {
+        Some(place) => Err(LineError::LoneBreak(start + place as u64)),
+        None => Ok(end),
+    }
+}
+
+/// The position of a lone CR or LF that is a fault among the last two of `bytes`.
+#[inline]
+fn find_lone_break(wanted: Wanted, bytes: &[u8]) -> Option<usize>
+    ensures { FindsFault wanted bytes.now result }
+{
+    match wanted {
+        Wanted::Line(endings) => lone_break(endings, bytes),
+        Wanted::Bytes(endings) => lone_break(endings, bytes),
+        Wanted::Part(_) => None,
+    }
+}
+
+/// The error of bytes that do not fit in a buffer of this size, or of which the one at `place` is not
+/// ASCII.
+fn refusal(start: u64, place: usize, size: usize) -> LineError
+    ensures { IsRefusal start place size result }
+{
+    if place == size {
+        return LineError::TooLong(start);
+    }
+    match start.checked_add(place as u64) {
+        Some(at) => LineError::NotAscii(at),
+        None => LineError::TooFar,
+    }
+}
