@@ -7,3 +7,4 @@ pub mod RepliesLemmas
 pub mod TakesLemmas
 pub mod WriteBufferLemmas
 pub mod WantedLemmas
+pub mod SkippingLemmas

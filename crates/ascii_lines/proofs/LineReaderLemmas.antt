@@ -1,19 +1,20 @@
 -- What a line reader has read and yielded, one call after another.
 use Rattle.std.proofs.Common.{◌≡◌, ◌≢◌, ℕ, ◌+◌, ◌-◌, List, [], ◌∷◌, ◌++◌, length, take, None}
 use Rattle.std.proofs.Common.{Some, Ok, Err, Option, Result, refl, sym, ap, subst, ◌∙◌, arith, inl, inr}
-use Rattle.std.proofs.Common.{add-zero, append_assoc, append-nil, length-append}
+use Rattle.std.proofs.Common.{◌<◌, ◌^◌, add-zero, append_assoc, append-nil, length-append}
 use Rattle.std.specs.Io.KnownBytes.{Consumes, IsAtEnd}
 use Rattle.std.specs.List.{All, flat_map}
 use Rattle.std.proofs.Math.Seq.{take-append-add}
 use Rattle.std.proofs.lemmas.Grind.{flat_map-append}
 use Rattle.std.proofs.lemmas.List.{map-append}
 use Rattle.std.proofs.lemmas.List.Elements.{All-append, All-cons, All-map, All-nil, All-take}
-use Rattle.ascii.specs.declared.iter.spans.Ending.TheVariants.{Absent}
+use Rattle.ascii.specs.declared.iter.spans.Ending.{Ending}
+use Rattle.ascii.specs.declared.iter.spans.Ending.TheVariants.{Absent, CrLf, Lf}
 use Rattle.ascii.specs.declared.iter.spans.Endings.{Endings}
 use Rattle.ascii.specs.Endings.{any_text}
-use Rattle.ascii.specs.Lines.{IsBody, Line, LinesEndedBy, MayEnd, line_text}
+use Rattle.ascii.specs.Lines.{IsBody, Line, LinesEndedBy, MayEnd, MayFollow, ending_text, line_text}
 use Rattle.ascii.specs.Spans.{LineSpansEndedBy, WithStart, items_of, line_size, with_starts}
-use Rattle.ascii.proofs.LinesByLemmas.{any_text_spans, some_spans}
+use Rattle.ascii.proofs.LinesByLemmas.{MayFollow-ended, any_text_spans, some_spans}
 use Rattle.ascii.proofs.LinesLemmas.{LinesEndedBy-nil}
 use Rattle.ascii_devices.proofs.HistoryLemmas.{GaveBytes-nil, GaveBytes-trans}
 use Rattle.ascii_lines.specs.LineReader.{IsDone, Next, NextFrom, PassesOver, ReaderState}
@@ -22,7 +23,8 @@ use Rattle.ascii_lines.specs.LineReader.{read_line_in}
 use Rattle.ascii_lines.specs.Wanted.{all_of}
 use Rattle.ascii_lines.specs.declared.line_reader.LineError.{LineError}
 use Rattle.ascii_lines.specs.declared.line_reader.ReadLine.{ReadLine}
-use Rattle.ascii_lines.specs.declared.line_reader.Stage.TheVariants.{Open, Ended}
+use Rattle.ascii_lines.specs.declared.line_reader.Stage.{Stage}
+use Rattle.ascii_lines.specs.declared.line_reader.Stage.TheVariants.{Open, Ended, Refused}
 use Rattle.ascii_lines.specs.declared.wanted.Wanted.{Wanted}
 use Rattle.ascii_lines.specs.declared.wanted.Wanted.TheVariants as wanted
 
@@ -197,6 +199,26 @@ pub none_is_some : (result : Result (Option ReadLine) LineError) (line : ReadLin
     → result ≡ Ok None → result ≡ Ok (Some line) → ⊥
 none_is_some result line none some = cc
 
+err_is_some : (result : Result (Option ReadLine) LineError) (error : LineError)
+    (line : ReadLine) → result ≡ Err error → result ≡ Ok (Some line) → ⊥
+err_is_some result error line err some = cc
+
+line_bytes : (body : List ℕ) (ending : Ending) → MayFollow ending body
+    → 0 < length (body ++ ending_text ending)
+line_bytes body Lf may = omega (arith, length-append body (10 ∷ []))
+line_bytes body CrLf may = omega (arith, length-append body (13 ∷ 10 ∷ []))
+line_bytes [] Absent may = absurd (may refl)
+line_bytes (b ∷ bs) Absent may = omega (arith, length-append (b ∷ bs) [])
+
+-- a line has a byte
+pub line_has_bytes : (endings : Endings) (bytes : List ℕ) (line : Line)
+    → LinesEndedBy endings bytes (line ∷ []) → 0 < length bytes
+line_has_bytes endings bytes line exact =
+    let some = line_bytes line.body line.ending
+    (MayFollow-ended endings line.ending line.body (exact.endings 0 line (omega arith))) in
+    subst (λ xs. 0 < length xs)
+    (sym (append-nil (line_text line)) ∙ exact.joined) some
+
 none_is_err : (result : Result (Option ReadLine) LineError) (error : LineError)
     → result ≡ Ok None → result ≡ Err error → ⊥
 none_is_err result error none err = cc
@@ -222,6 +244,30 @@ module _ {S : Type 0} where
         subst (λ stage. NextFrom stage old result new) done.ended next in
         absurd (none_is_some result line ended_next.0 is)
   ]
+
+  -- a line that was returned has a byte, and ends at a position that fits a `u64`
+  pub line_advances : (old new : Reading S) (result : Result (Option ReadLine) LineError)
+      (line : ReadLine) → Next old result new → result ≡ Ok (Some line)
+      → (old.state.start < new.state.start) × (new.state.start < 2 ^ 64)
+  line_advances old new result line next is = go old.state.stage refl
+    where
+      go : (stage : Stage) → old.state.stage ≡ stage
+          → (old.state.start < new.state.start) × (new.state.start < 2 ^ 64)
+      go Open at =
+          let takes : NextFrom Open old (Ok (Some line)) new =
+          subst (λ r. NextFrom Open old r new) is
+          (subst (λ stage. NextFrom stage old result new) at next) in
+          let some = line_has_bytes old.state.endings takes.bytes (read_line_in line).item
+          takes.exact.lines in
+          (omega (arith, takes.takes.start, some), takes.takes.in_range)
+      go Ended at =
+          let ended : NextFrom Ended old result new =
+          subst (λ stage. NextFrom stage old result new) at next in
+          absurd (none_is_some result line ended.0 is)
+      go (Refused error) at =
+          let refused : NextFrom (Refused error) old result new =
+          subst (λ stage. NextFrom stage old result new) at next in
+          absurd (err_is_some result error line refused.0 is)
 
   -- the end of the lines of a reader
   pub no_more : (a : ReaderState) (lines : List (WithStart Line)) (old new : Reading S)

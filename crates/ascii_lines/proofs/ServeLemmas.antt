@@ -5,12 +5,10 @@ use Rattle.std.proofs.Common.{◌<◌, append_assoc, arith, length-append}
 use Rattle.std.proofs.lemmas.Grind.{flat_map-append}
 use Rattle.std.proofs.lemmas.List.{map-append}
 use Rattle.std.specs.List.{flat_map}
-use Rattle.ascii.specs.declared.iter.spans.Ending.{Ending}
-use Rattle.ascii.specs.declared.iter.spans.Ending.TheVariants.{Absent, CrLf, Lf}
-use Rattle.ascii.specs.Lines.{Line, MayFollow, ending_text, line_text}
+use Rattle.ascii.specs.declared.iter.spans.Ending.TheVariants.{Absent}
+use Rattle.ascii.specs.Lines.{Line, ending_text, line_text}
 use Rattle.ascii.specs.declared.iter.spans.Endings.{Endings}
 use Rattle.ascii.specs.Lines.{LinesEndedBy}
-use Rattle.ascii.proofs.LinesByLemmas.{MayFollow-ended}
 use Rattle.ascii.specs.Spans.{WithStart, items_of, line_size, with_starts}
 use Rattle.ascii.specs.View.{text_of}
 use Rattle.ascii_lines.specs.declared.line_reader.LineError.{LineError}
@@ -28,16 +26,9 @@ use Rattle.ascii_lines.specs.LineReader.{Reading}
 use Rattle.ascii_lines.specs.LineReader as reader
 use Rattle.ascii_lines.specs.Serve.{Conversation, IsAsked, IsGoing, IsRequest, StopsTurn}
 use Rattle.ascii_lines.specs.Serve.{TakesInput, Talks, TurnOutcome}
-use Rattle.ascii_lines.proofs.LineReaderLemmas.{ReadsBytes-nil, ReadsBytes-trans, none_is_some, one_line, reads_of}
+use Rattle.ascii_lines.proofs.LineReaderLemmas.{ReadsBytes-nil, ReadsBytes-trans, line_has_bytes, none_is_some, one_line, reads_of}
 use Rattle.ascii_lines.proofs.LineReaderLemmas.{with_starts-append}
 use Rattle.ascii_lines.specs.declared.wanted.Wanted.TheVariants as wanted
-
-line_bytes : (body : List ℕ) (ending : Ending) → MayFollow ending body
-    → 0 < length (body ++ ending_text ending)
-line_bytes body Lf may = omega (arith, length-append body (10 ∷ []))
-line_bytes body CrLf may = omega (arith, length-append body (13 ∷ 10 ∷ []))
-line_bytes [] Absent may = absurd (may refl)
-line_bytes (b ∷ bs) Absent may = omega (arith, length-append (b ∷ bs) [])
 
 -- a line that was yielded is an input
 yields_input : (old new : ReaderState) (line : WithStart Line)
@@ -148,8 +139,8 @@ module _ {H : Type 0} (answers : H → List ℕ → List (List ℕ) → Next →
 -- an input that was asked for has a byte
 pub some_bytes : (endings : Endings) (asked : Next) (input : Line) → IsRequest asked
     → IsAsked endings asked input → 0 < length (line_text input)
-some_bytes endings next.Line input request is = line_bytes input.body input.ending
-    (MayFollow-ended endings input.ending input.body (is.endings 0 input (omega arith)))
+some_bytes endings next.Line input request is =
+    line_has_bytes endings (line_text input) input is
 some_bytes endings (next.Part n) input request is =
     omega (arith, length-append input.body (ending_text input.ending), is.0, request)
 some_bytes endings next.Close input request is = absurd is

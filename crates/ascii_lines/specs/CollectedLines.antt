@@ -1,5 +1,5 @@
 -- What a run of a line reader yields.
-use Rattle.std.specs.Prelude.{◌≡◌, ℕ, List, [], ◌++◌, map, None, Some}
+use Rattle.std.specs.Prelude.{◌≡◌, ◌≢◌, ◌≤◌, ℕ, List, [], ◌∷◌, ◌++◌, length, map, None, Some}
 use Rattle.std.specs.declared.option.Option.{Option}
 use Rattle.ascii.specs.Lines.{Line}
 use Rattle.ascii.specs.Spans.{WithStart, items_of}
@@ -8,6 +8,9 @@ use Rattle.ascii.specs.Spans.{LineSpansEndedBy}
 use Rattle.ascii.specs.Endings.{any_text}
 use Rattle.std.specs.List.{All}
 use Rattle.ascii_lines.specs.declared.line_reader.LineError.{LineError}
+use Rattle.ascii_lines.specs.declared.owned_lines.Block.{Block}
+use Rattle.ascii_lines.specs.declared.owned_lines.BlockEnd.{BlockEnd}
+use Rattle.ascii_lines.specs.declared.owned_lines.BlockEnd.TheVariants as end
 use Rattle.ascii_lines.specs.declared.owned_lines.OwnedLine.{OwnedLine}
 use Rattle.ascii_lines.specs.declared.owned_lines.CollectedLines.{CollectedLines}
 use Rattle.ascii_lines.specs.declared.line_reader.Stage.TheVariants.{Open}
@@ -40,3 +43,24 @@ AreFirstLines old lines error = (told : List ℕ) → old.device.rest ≡ Some t
     × LineSpansEndedBy (any_text old.endings) old.start (old.held ++ told) (lines ++ others)
     × (error ≡ None → others ≡ [])
     × All (λ line. IsBody old.endings line.body) (items_of lines)
+
+-- the lines of a `Block`, with their starts
+abbrev pub block_lines_in : Block → List (WithStart Line)
+block_lines_in block = map owned_line_in block.lines.items
+
+-- the lines are not empty, and at most `most`
+abbrev pub IsBlock : ℕ → List (WithStart Line) → Type 0
+IsBlock most lines = All (λ line. line.item.body ≢ []) lines × (length lines ≤ most)
+
+-- from the state `old` to the state `new` the reader returned `lines`, none of them empty, and then
+-- an empty one, or no more; or it stopped at an error; or they are as many as were asked for
+abbrev pub YieldsBlock
+    : ℕ → ReaderState → List (WithStart Line) → BlockEnd → ReaderState → Type 0
+YieldsBlock most old lines end.EmptyLine new = IsBlock most lines
+    × ((empty : WithStart Line) × (empty.item.body ≡ []) × YieldsLines old (lines ++ empty ∷ []) new)
+YieldsBlock most old lines end.EndOfInput new =
+    IsBlock most lines × YieldsLines old lines new × IsDone new
+YieldsBlock most old lines end.Full new =
+    IsBlock most lines × (length lines ≡ most) × YieldsLines old lines new
+YieldsBlock most old lines (end.Reader error) new =
+    IsBlock most lines × YieldsUntil old lines (Some error) new

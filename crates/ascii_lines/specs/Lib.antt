@@ -6,6 +6,7 @@ pub mod LineBuffer
 pub mod LineReader
 pub mod LineWriter
 pub mod Serve
+pub mod Skipping
 pub mod Wanted
 pub mod WriteBuffer
 pub use Rattle.ascii.specs.Endings

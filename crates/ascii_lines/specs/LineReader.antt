@@ -1,5 +1,5 @@
 -- The state of a line reader, and what its calls return and leave.
-use Rattle.std.specs.Prelude.{◌≡◌, ◌≢◌, ◌⊎◌, ℕ, ◌+◌, ◌≤◌, Bool, true, false, List, [], ◌∷◌}
+use Rattle.std.specs.Prelude.{◌<◌, ◌^◌, ◌≡◌, ◌≢◌, ◌⊎◌, ℕ, ◌+◌, ◌≤◌, Bool, true, false, List, [], ◌∷◌}
 use Rattle.std.specs.Prelude.{◌++◌, nat_lt, length, take, Ok, Err, None}
 use Rattle.std.specs.Prelude.{Some, ⊤}
 use Rattle.std.specs.Io.KnownBytes.{IsAtEnd}
@@ -94,6 +94,7 @@ pub record Takes (wanted : Wanted) (old : ReaderState) (bytes : List ℕ) (new :
     : Type 0 where
   pub delivers : Delivers wanted old.start old.size old.held old.device new.device bytes new.held
   pub start : new.start ≡ old.start + length bytes
+  pub in_range : new.start < 2 ^ 64
   pub size : new.size ≡ old.size
   pub endings : new.endings ≡ old.endings
 

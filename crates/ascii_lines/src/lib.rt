@@ -21,6 +21,7 @@ mod line_reader;
 mod line_writer;
 mod owned_lines;
 mod serving;
+mod skipping;
 mod wanted;
 
 pub use ascii::iter::{Ending, Endings};
@@ -28,5 +29,6 @@ pub use ascii::{AsciiChar, AsciiStr, AsciiString};
 pub use ascii_devices::{DeviceFault, Input, Output, Sink, Source};
 pub use line_reader::{LineError, LineReader, ReadBytes, ReadLine, ReadPart};
 pub use line_writer::{LineWriter, WriteError};
-pub use owned_lines::{CollectedLines, OwnedLine, collect_lines};
+pub use owned_lines::{Block, BlockEnd, CollectedLines, OwnedLine, collect_lines, read_block};
 pub use serving::{Handler, Next, Stop, serve};
+pub use skipping::SkippedLine;

@@ -119,7 +119,7 @@ impl<A: Allocator> LineBuffer<A> {
         ensures given { self.new.given ≡ take n self.old.held }
         ensures held { self.new.held ≡ drop n self.old.held }
         ensures size { self.new.size ≡ self.old.size }
-        ensures room { self.new.room ≡ self.old.room }
+        ensures room { (self.new.room ≡ self.old.room) × (1 < self.new.room) }
     {
         self.given = self.from;
         self.from += n;

@@ -8,7 +8,11 @@ ghost use Rattle.ascii_devices.specs.States.{source_state};
 ghost use Rattle.ascii_lines.specs.LineReader.{TextOf, at_end, read_bytes_in, read_line_in};
 
 use crate::line_buffer::LineBuffer;
-use crate::wanted::{Wanted, take_wanted};
+use crate::skipping::{
+    SkippedLine, is_final, nothing_skipped, pass_line, skip_error, skipped, stage_after,
+    whole_endings,
+};
+use crate::wanted::{Wanted, must_read, take_wanted};
 use ascii::endings::split_ending;
 use ascii::iter::{Ending, Endings};
 use ascii::{AsciiStr, bytes};
@@ -72,7 +76,7 @@ pub struct ReadPart<'a> {
 
 /// Whether a reader has further lines.
 #[derive(Clone, Copy)]
-enum Stage {
+pub(crate) enum Stage {
     /// It may have.
     Open,
     /// Every line was returned.
@@ -118,7 +122,9 @@ impl<S: Source, A: Allocator> LineReader<S, A> {
     ghost use Rattle.std.specs.Borrow.{sem};
     ghost use Rattle.std.specs.Io.BufRead.{Rests};
     ghost use Rattle.ascii_lines.specs.LineReader.{AdvancesFrom, Next, NextBytes, NextPart};
-    ghost use Rattle.ascii_lines.specs.LineReader.{ended_by, fresh_reader};
+    ghost use Rattle.std.specs.Prelude.{◌↔◌, IsTrue};
+    ghost use Rattle.ascii_lines.specs.LineReader.{Waits, ended_by, fresh_reader};
+    ghost use Rattle.ascii_lines.specs.Skipping.{Skips, SkipsLine};
     ghost use Rattle.ascii_lines.specs.contracts.line_reader.LineReader.{the_row};
 
     /// Creates a reader over `source` with a buffer for lines of `size` bytes, their endings included, or
@@ -309,6 +315,105 @@ impl<S: Source, A: Allocator> LineReader<S, A> {
             start,
             text: bytes::as_ascii_str_unchecked(self.buffer.line_bytes()),
         })
+    }
+
+    /// Returns `true` if `next_line` can return what it will return without a read of the source: the next line is
+    /// held, or a fault in it is, or the reader has returned `None` or an error. It searches the bytes held.
+    ///
+    ///     let source = Input::new(b"a\nbc".as_slice());
+    ///     let mut reader = LineReader::new(alloc, source, 64, Endings::Any)?;
+    ///     reader.has_buffered_line() // false
+    ///     let _ = reader.next_line();
+    ///     reader.has_buffered_line() // false
+    ///     reader.has_buffered_part(2) // true
+    pub fn has_buffered_line(&self) -> bool
+        ensures { IsTrue result ↔ ¬ (Waits (Wanted.Line self.now.state.endings) self.now.state) }
+    {
+        !self.waits(Wanted::Line(self.endings))
+    }
+
+    /// Returns `true` if `read_exact_part(n)` can return what it will return without a read of the source: these
+    /// bytes are held, or a fault in them is, or the part does not fit in the buffer, or the reader has returned
+    /// `None` or an error.
+    ///
+    ///     let source = Input::new(b"abc".as_slice());
+    ///     let reader = LineReader::new(alloc, source, 64, Endings::Any)?;
+    ///     reader.has_buffered_part(1) // false
+    ///     reader.has_buffered_part(65) // true
+    pub fn has_buffered_part(&self, n: usize) -> bool
+        ensures { IsTrue result ↔ ¬ (Waits (Wanted.Part n) self.now.state) }
+    {
+        !self.waits(Wanted::Part(n))
+    }
+
+    /// Whether the source has to be read for what is wanted.
+    fn waits(&self, wanted: Wanted) -> bool
+        ensures { IsTrue result ↔ Waits wanted self.now.state }
+    {
+        match self.stage {
+            Stage::Open => must_read(&self.buffer, wanted, self.start),
+            Stage::Ended | Stage::Refused(_) => false,
+        }
+    }
+
+    /// Reads over the next line, or over the line at fault after `NotAscii`, `LoneBreak` or `TooLong`, up to its
+    /// ending, and returns what was skipped; the next call then reads on. The line may have any bytes and any
+    /// length up to `most` bytes, its ending included. If the input ends before its ending, it is skipped up to
+    /// there.
+    ///
+    /// With `Endings::Any` a line ends at its first LF, with the other endings at its first CR LF: a CR or an LF
+    /// by itself is skipped.
+    ///
+    /// - `TooLong` if the line has more than `most` bytes. The error has the position at which the call started.
+    ///   These bytes were skipped, except a CR at their end that may belong to the ending; `skip_line` may be
+    ///   called again and goes on from there.
+    /// - `TooFar` if the line has no ending before the position `u64::MAX`.
+    /// - `Read` if a call of the source failed, or `u64::MAX` calls have failed before.
+    ///
+    /// After `None`, or a line without an ending, nothing is skipped. After `Read`, `TooFar` or `Incomplete` that
+    /// error is returned again. Both change nothing.
+    ///
+    ///     let source = Input::new(b"ok\n\xffabcdef\nok2\n".as_slice());
+    ///     let mut reader = LineReader::new(alloc, source, 5, Endings::Any)?;
+    ///     reader.next_line() // Ok(Some(ReadLine { start: 0, text: "ok", ending: Lf }))
+    ///     reader.next_line() // Err(NotAscii(3))
+    ///     reader.skip_line(100) // Ok(SkippedLine { start: 3, length: 8, non_ascii: Some(3) })
+    ///     reader.next_line() // Ok(Some(ReadLine { start: 11, text: "ok2", ending: Lf }))
+    pub fn skip_line(&mut self, most: u64) -> Result<SkippedLine, LineError>
+        ensures { Skips most self.old result self.new }
+    {
+        match self.stage {
+            Stage::Open => self.skip(most),
+            Stage::Ended => Ok(nothing_skipped(self.start)),
+            Stage::Refused(error) => {
+                if is_final(error) {
+                    Err(error)
+                } else {
+                    self.skip(most)
+                }
+            }
+        }
+    }
+
+    /// Reads over a line.
+    fn skip(&mut self, most: u64) -> Result<SkippedLine, LineError>
+        ensures { SkipsLine most self.old.state result self.new.state }
+    {
+        let start = self.start;
+        let limit = most.min(u64::MAX - start);
+        let endings = whole_endings(self.endings);
+        let (passed, why) = pass_line(&mut self.buffer, &mut self.source, endings, limit);
+        self.start = start + passed.count;
+        match skip_error(why, start, limit < most) {
+            Some(error) => {
+                self.stage = Stage::Refused(error);
+                Err(error)
+            }
+            None => {
+                self.stage = stage_after(why);
+                Ok(skipped(start, passed))
+            }
+        }
     }
 
     /// Takes the bytes of what is wanted, and returns whether there are any.

@@ -4,7 +4,7 @@ ghost use Rattle.std.specs.Prelude.{◌≡◌, IfOk, List, OnErr};
 ghost use Rattle.ascii.specs.Lines.{Line};
 ghost use Rattle.ascii.specs.Spans.{WithStart};
 ghost use Rattle.ascii_lines.specs.CollectedLines.{AreFirstLines, YieldsUntil, owned_line_in};
-ghost use Rattle.ascii_lines.specs.CollectedLines.{collected_lines_in};
+ghost use Rattle.ascii_lines.specs.CollectedLines.{YieldsBlock, block_lines_in, collected_lines_in};
 ghost use Rattle.ascii_lines.specs.LineReader.{IsOpen, YieldsLines, read_line_in};
 
 use crate::line_reader::{LineError, LineReader, ReadLine};
@@ -37,10 +37,14 @@ pub struct CollectedLines {
 /// Returns the lines that a reader has yet to return, up to the end of the input or an error, or
 /// `AllocError` if an allocation for them fails.
 ///
-/// They are the first lines of the bytes that the source gives, and all of them if there is no error.
+/// They are the first lines of the bytes that the source gives, and all of them if there is no error. If a read
+/// failed, they are exactly the lines that end in the bytes received before it. After `AllocError` the lines
+/// that were read are lost, the last of them too, and the reader goes on after it.
+///
 /// Condition: the reader has returned neither `None` nor an error.
 ///
-///     let mut reader = LineReader::new(alloc, Input::new(b"ab\n\xff".as_slice()), 64)?;
+///     let source = Input::new(b"ab\n\xff".as_slice());
+///     let mut reader = LineReader::new(alloc, source, 64, Endings::Any)?;
 ///     let kept = collect_lines(alloc, &mut reader)?;
 ///     kept.lines.len() // 1
 ///     kept.error // Some(NotAscii(3))
@@ -69,6 +73,86 @@ pub fn collect_lines<S: Source, A: Allocator>(
             }
         }
     }
+}
+
+/// Why a block ends.
+#[derive(Clone, Copy, PartialEq, Eq, Debug)]
+pub enum BlockEnd {
+    /// An empty line follows, which was read.
+    EmptyLine,
+    /// The input ends.
+    EndOfInput,
+    /// It has as many lines as were asked for.
+    Full,
+    /// The reader returned this error in place of the next line.
+    Reader(LineError),
+}
+
+/// The lines that a reader returned up to an empty one, in order, and why there are no more.
+#[derive(Drop)]
+pub struct Block {
+    /// The lines, of which none is empty.
+    pub lines: Vec<OwnedLine>,
+    /// Why they end.
+    pub end: BlockEnd,
+}
+
+/// Returns the lines up to the first empty one, which is read too, at most `most`; or `AllocError` if an
+/// allocation for them fails. It is for headers, and for records with an empty line between them.
+///
+/// The lines are the next lines of the input. They end before an empty line, at the end of the input, at an error of
+/// the reader, or if there are `most`; then no more is read. After `AllocError` the lines that were read are lost,
+/// the last of them too, and the reader goes on after it.
+///
+/// Condition: the reader has returned neither `None` nor an error.
+///
+///     let source = Input::new(b"a: 1\nb: 2\n\nbody".as_slice());
+///     let mut reader = LineReader::new(alloc, source, 64, Endings::Any)?;
+///     let block = read_block(alloc, &mut reader, 100)?;
+///     block.lines.len() // 2
+///     block.end // EmptyLine
+///     reader.position() // 11
+pub fn read_block<S: Source, A: Allocator>(
+    alloc: Global,
+    reader: &mut LineReader<S, A>,
+    most: usize,
+) -> Result<Block, AllocError>
+    requires { IsOpen reader.old }
+    ensures runs { IfOk result (λ block. YieldsBlock most reader.old.state
+        (block_lines_in block) block.end reader.new.state) }
+    ensures lost { OnErr result ((lines : List (WithStart Line))
+        × YieldsLines reader.old.state lines reader.new.state) }
+{
+    let mut lines = Vec::new(alloc);
+    'lines: while lines.len() < most {
+        match reader.next_line() {
+            Ok(Some(line)) => {
+                if line.text.is_empty() {
+                    return Ok(Block {
+                        lines,
+                        end: BlockEnd::EmptyLine,
+                    });
+                }
+                lines.push(owned_line(alloc, line)?)?;
+            }
+            Ok(None) => {
+                return Ok(Block {
+                    lines,
+                    end: BlockEnd::EndOfInput,
+                });
+            }
+            Err(error) => {
+                return Ok(Block {
+                    lines,
+                    end: BlockEnd::Reader(error),
+                });
+            }
+        }
+    }
+    Ok(Block {
+        lines,
+        end: BlockEnd::Full,
+    })
 }
 
 /// A copy of a line.

@@ -1,0 +1,374 @@
+-- Where a line ends in bytes that come in two parts.
+use Rattle.std.proofs.Common.{◌≡◌, ℕ, ◌+◌, ◌-◌, ◌<◌, ◌≤◌, List, [], ◌++◌, length, get_or, arith, inl}
+use Rattle.std.proofs.Common.{inr, length-append, refl, subst, sym, take, drop, None, Option, Some, ◌∷◌, ap, append_assoc, append-nil, ◌∙◌}
+use Rattle.std.proofs.Math.ListN.{get_or-append}
+use Rattle.std.proofs.Math.Seq.{get_or-append_right}
+use Rattle.std.proofs.lemmas.Bool.{cases_lt}
+use Rattle.std.proofs.lemmas.List.{get_or-append-add, get_or-drop, get_or-take, length-take-le}
+use Rattle.std.proofs.lemmas.List.{nil_from_length, take-append-drop, take_all}
+use Rattle.std.proofs.Math.Seq.{take-nil}
+use Rattle.ascii.specs.Endings.{FreeUpTo, IsFirstStop, StopsAt, any_text}
+use Rattle.ascii.specs.declared.iter.spans.Endings.{Endings}
+use Rattle.ascii.specs.declared.iter.spans.Endings.TheVariants.{Any, CrLf, CrLfStrict}
+use Rattle.ascii.proofs.EndingsLemmas.{FreeUpTo-same, IsFirstStop-same}
+use Rattle.ascii_devices.proofs.HistoryLemmas.{GaveBytes-nil, GaveBytes-trans, read_gives}
+use Rattle.ascii_devices.specs.States.{GaveBytes, SourceState}
+use Rattle.ascii_lines.specs.Failures.{one_more}
+use Rattle.std.proofs.lemmas.Str.Ascii.{IsAscii-nil}
+use Rattle.ascii_lines.specs.LineBuffer.{ReadsOnce, WindowState}
+use Rattle.ascii_lines.specs.Skipping.{Counts, IsCleanCut, PassesLine, TakesPart}
+use Rattle.ascii_lines.specs.declared.skipping.PassEnd.{PassEnd}
+use Rattle.ascii_lines.specs.declared.skipping.PassEnd.TheVariants as end
+use Rattle.ascii_lines.specs.declared.skipping.Passed.{Passed}
+
+-- ---- two parts
+
+module _ (bytes text : List ℕ) where
+  left_at : (k : ℕ) → k < length bytes → get_or (bytes ++ text) k 0 ≡ get_or bytes k 0
+  left_at k low = get_or-append bytes text 0 k low
+
+  right_at : (j : ℕ) → get_or (bytes ++ text) (length bytes + j) 0 ≡ get_or text j 0
+  right_at j = get_or-append-add bytes text j 0
+
+  right_of : (k : ℕ) → length bytes ≤ k → get_or (bytes ++ text) k 0 ≡ get_or text (k - length bytes) 0
+  right_of k high = get_or-append_right bytes text k 0 high
+
+  stop_left : (endings : Endings) → any_text endings ≡ endings → (k : ℕ) → k < length bytes
+      → StopsAt endings (bytes ++ text) k → StopsAt endings bytes k
+  stop_left Any plain k low stop = sym (left_at k low) ∙ stop
+  stop_left CrLf plain k low stop =
+      (sym (left_at (k - 1) (omega (arith, low))) ∙ stop.0, sym (left_at k low) ∙ stop.1)
+  stop_left CrLfStrict plain k low stop = cc
+
+  stop_right : (endings : Endings) → any_text endings ≡ endings → IsCleanCut endings bytes text
+      → (j : ℕ) → StopsAt endings (bytes ++ text) (length bytes + j) → StopsAt endings text j
+  stop_right Any plain clean j stop = sym (right_at j) ∙ stop
+  stop_right CrLf plain clean j stop = (before j stop.0 (sym (right_at j) ∙ stop.1), sym (right_at j) ∙ stop.1)
+    where
+      before : (j : ℕ) → get_or (bytes ++ text) (length bytes + j - 1) 0 ≡ 13
+          → get_or text j 0 ≡ 10 → get_or text (j - 1) 0 ≡ 13
+      before j cr feed = elim (cases_lt 0 j) [
+        | inl some ↦
+            sym (right_at (j - 1))
+            ∙ subst (λ i. get_or (bytes ++ text) i 0 ≡ 13) (omega (arith, some)) cr
+        | inr none ↦ elim (cases_lt 0 (length bytes)) [
+          | inl full ↦
+              let at : get_or bytes (length bytes - 1) 0 ≡ 13 =
+              sym (left_at (length bytes - 1) (omega (arith, full)))
+              ∙ subst (λ i. get_or (bytes ++ text) i 0 ≡ 13) (omega (arith, none)) cr in
+              absurd ((clean refl at).1 (subst (λ i. get_or text i 0 ≡ 10) (omega (arith, none)) feed))
+          | inr empty ↦
+              let here : get_or text 0 0 ≡ 13 =
+              subst (λ i. get_or text i 0 ≡ 13) (omega (arith, empty))
+              (sym (right_of 0 (omega (arith, empty)))
+              ∙ subst (λ i. get_or (bytes ++ text) i 0 ≡ 13) (omega (arith, none, empty)) cr) in
+              let there : get_or text 0 0 ≡ 10 =
+              subst (λ i. get_or text i 0 ≡ 10) (omega (arith, none)) feed in
+              absurd (omega (arith, here, there))
+        ]
+      ]
+  stop_right CrLfStrict plain clean j stop = cc
+
+  stop_back : (endings : Endings) → any_text endings ≡ endings
+      → (j : ℕ) → StopsAt endings text j → StopsAt endings (bytes ++ text) (length bytes + j)
+  stop_back Any plain j stop = right_at j ∙ stop
+  stop_back CrLf plain j stop = elim (cases_lt 0 j) [
+    | inl some ↦ (
+      subst (λ i. get_or (bytes ++ text) i 0 ≡ 13) (omega (arith, some)) (right_at (j - 1) ∙ stop.0),
+      right_at j ∙ stop.1,
+    )
+    | inr none ↦
+        let here : get_or text j 0 ≡ 13 = subst (λ i. get_or text i 0 ≡ 13) (omega (arith, none)) stop.0 in
+        absurd (omega (arith, here, stop.1))
+  ]
+  stop_back CrLfStrict plain j stop = cc
+
+  module _ (endings : Endings) (plain : any_text endings ≡ endings)
+      (free : FreeUpTo endings bytes (length bytes)) (clean : IsCleanCut endings bytes text) where
+    pub free_join : (m : ℕ) → FreeUpTo endings text m
+        → FreeUpTo endings (bytes ++ text) (length bytes + m)
+    free_join m after k low = λ stop. elim (cases_lt k (length bytes)) [
+      | inl early ↦ free k early (stop_left endings plain k early stop)
+      | inr late ↦ after (k - length bytes) (omega (arith, low, late))
+          (stop_right endings plain clean (k - length bytes)
+          (subst (StopsAt endings (bytes ++ text)) (omega (arith, late)) stop))
+    ]
+
+    pub stop_join : (n : ℕ) → IsFirstStop endings text n
+        → IsFirstStop endings (bytes ++ text) (length bytes + n)
+    stop_join n stops = record {
+      some = omega (arith, stops.some);
+      last = subst (StopsAt endings (bytes ++ text)) (omega (arith, stops.some))
+          (stop_back endings plain (n - 1) stops.last);
+      free = subst (FreeUpTo endings (bytes ++ text)) (omega (arith, stops.some))
+          (free_join (n - 1) stops.free);
+    }
+
+-- ---- bytes that were taken, in which no line ends
+
+pub record PassedSoFar (endings : Endings) (limit : ℕ) (old new : WindowState)
+    (source now : SourceState) (passed : Passed) : Type 0 where
+  pub bytes : List ℕ
+  pub read : List ℕ
+  pub gave : GaveBytes source now read
+  pub text : bytes ++ new.held ≡ old.held ++ read
+  pub counts : Counts bytes passed
+  pub within : length bytes ≤ limit
+  pub free : FreeUpTo endings bytes (length bytes)
+  pub clean : IsCleanCut endings bytes new.held
+  pub failures : now.failures ≡ source.failures
+  pub size : new.size ≡ old.size
+
+-- the first of two parts
+pub front_free : (endings : Endings) (xs ys : List ℕ) (n : ℕ) → n ≤ length xs
+    → FreeUpTo endings (xs ++ ys) n → FreeUpTo endings xs n
+front_free endings xs ys n low = FreeUpTo-same endings (xs ++ ys) xs n
+    (λ k less. left_at xs ys k (omega (arith, less, low)))
+
+front_stop : (endings : Endings) (xs ys : List ℕ) → IsFirstStop endings (xs ++ ys) (length xs)
+    → IsFirstStop endings xs (length xs)
+front_stop endings xs ys = IsFirstStop-same endings (xs ++ ys) xs (length xs) (left_at xs ys)
+
+cons_is_nil : (x : ℕ) (xs : List ℕ) → x ∷ xs ≡ [] → ⊥
+cons_is_nil x xs is = cc
+
+-- more bytes are held
+pub clean_more : (endings : Endings) (bytes held read : List ℕ) → IsCleanCut endings bytes held
+    → IsCleanCut endings bytes (held ++ read)
+clean_more endings bytes [] read clean cr_lf cr = absurd ((clean cr_lf cr).0 refl)
+clean_more endings bytes (x ∷ held) read clean cr_lf cr =
+    (λ none. cons_is_nil x (held ++ read) none, (clean cr_lf cr).1)
+
+module _ (endings : Endings) (plain : any_text endings ≡ endings) (limit : ℕ)
+    (old now after : WindowState) (a b : SourceState) (passed passed' : Passed) (n : ℕ)
+    (so_far : PassedSoFar endings limit old now a b passed)
+    (inside : n ≤ length now.held)
+    (counts : (bytes : List ℕ) → Counts bytes passed → Counts (bytes ++ take n now.held) passed')
+    (held : after.held ≡ drop n now.held) (size : after.size ≡ now.size) where
+  abbrev pub taken : List ℕ
+  taken = so_far.bytes ++ take n now.held
+
+  pub all : taken ++ after.held ≡ so_far.bytes ++ now.held
+  all = append_assoc so_far.bytes (take n now.held) after.held
+      ∙ ap (λ xs. so_far.bytes ++ xs)
+      (ap (λ xs. take n now.held ++ xs) held ∙ take-append-drop n now.held)
+
+  long : length taken ≡ length so_far.bytes + n
+  long = length-append so_far.bytes (take n now.held)
+      ∙ ap (λ k. length so_far.bytes + k) (length-take-le n now.held inside)
+
+  -- a line ends, or is too long
+  pub passes_line : (why : PassEnd)
+      → TakesPart endings now.held (limit - passed.count) n (Some why)
+      → PassesLine endings limit old after a b passed' why
+  passes_line end.Ending part = record {
+    bytes = taken;
+    read = so_far.read;
+    gave = so_far.gave;
+    text = all ∙ so_far.text;
+    counts = counts so_far.bytes so_far.counts;
+    within = omega (arith, long, part.0, so_far.counts.count, so_far.within);
+    ends = front_stop endings taken after.held
+        (subst (λ xs. IsFirstStop endings xs (length taken)) (sym all)
+        (subst (IsFirstStop endings (so_far.bytes ++ now.held)) (sym long)
+        (stop_join so_far.bytes now.held endings plain so_far.free so_far.clean n part.1)));
+    failures = so_far.failures;
+    size = size ∙ so_far.size;
+  }
+  passes_line end.Limit part =
+      let reach : length so_far.bytes + (limit - passed.count) ≡ limit =
+      omega (arith, so_far.counts.count, so_far.within) in
+      record {
+        bytes = taken;
+        read = so_far.read;
+        gave = so_far.gave;
+        text = all ∙ so_far.text;
+        counts = counts so_far.bytes so_far.counts;
+        within = omega (arith, long, part.0, so_far.counts.count, so_far.within);
+        ends = (
+          omega (
+            arith,
+            ap length all,
+            length-append so_far.bytes now.held,
+            part.1,
+            reach,
+          ),
+          subst (λ xs. FreeUpTo endings xs limit) (sym all)
+              (subst (FreeUpTo endings (so_far.bytes ++ now.held)) reach
+              (free_join so_far.bytes now.held endings plain so_far.free so_far.clean
+              (limit - passed.count) part.2)),
+        );
+        failures = so_far.failures;
+        size = size ∙ so_far.size;
+      }
+  passes_line end.Input part = absurd part
+  passes_line end.Failed part = absurd part
+
+  module _ (part : TakesPart endings now.held (limit - passed.count) n None) where
+    -- none ends in all bytes
+    pub none_ends : FreeUpTo endings (taken ++ after.held) (length (taken ++ after.held))
+    none_ends = subst (λ xs. FreeUpTo endings xs (length xs)) (sym all)
+        (subst (FreeUpTo endings (so_far.bytes ++ now.held))
+        (sym (length-append so_far.bytes now.held))
+        (free_join so_far.bytes now.held endings plain so_far.free so_far.clean
+        (length now.held) part.2))
+
+    pub reach : length taken + length after.held ≤ limit
+    reach = omega (
+      arith,
+      length-append taken after.held,
+      ap length all,
+      length-append so_far.bytes now.held,
+      part.0,
+      so_far.counts.count,
+      so_far.within,
+    )
+
+    pub clean : IsCleanCut endings taken after.held
+    clean cr_lf cr = elim part.3 [
+      | inl whole ↦ elim (cases_lt 0 n) [
+        | inl some ↦
+            let last : get_or now.held (n - 1) 0 ≡ 13 =
+            sym (get_or-take n now.held (n - 1) 0 (omega (arith, some)))
+            ∙ (sym (get_or-append-add so_far.bytes (take n now.held) (n - 1) 0)
+            ∙ subst (λ i. get_or taken i 0 ≡ 13) (omega (arith, long, some)) cr) in
+            absurd (whole.1 cr_lf last)
+        | inr none ↦
+            let empty : now.held ≡ [] =
+            nil_from_length now.held (omega (arith, none, whole.0)) in
+            let before : get_or so_far.bytes (length so_far.bytes - 1) 0 ≡ 13 =
+            subst (λ xs. get_or xs (length xs - 1) 0 ≡ 13)
+            (ap (λ xs. so_far.bytes ++ take n xs) empty
+            ∙ (ap (λ xs. so_far.bytes ++ xs) (take-nil n) ∙ append-nil so_far.bytes)) cr in
+            absurd ((so_far.clean cr_lf before).0 empty)
+      ]
+      | inr most ↦
+          let first : get_or after.held 0 0 ≡ 13 =
+          ap (λ xs. get_or xs 0 0) held
+          ∙ (get_or-drop n now.held 0 0 ∙ subst (λ i. get_or now.held i 0 ≡ 13) (omega arith) most.1)
+          in (
+            λ none. absurd (omega (arith, sym (ap (λ xs. get_or xs 0 0) none) ∙ first)),
+            λ feed. absurd (omega (arith, sym feed ∙ first)),
+          )
+    ]
+
+    abbrev pub goes_on : PassedSoFar endings limit old after a b passed'
+    goes_on = record {
+      bytes = taken;
+      read = so_far.read;
+      gave = so_far.gave;
+      text = all ∙ so_far.text;
+      counts = counts so_far.bytes so_far.counts;
+      within = omega (arith, reach);
+      free = front_free endings taken after.held (length taken) (omega arith)
+          (λ k low. none_ends k (omega (arith, low, length-append taken after.held)));
+      clean = clean;
+      failures = so_far.failures;
+      size = size ∙ so_far.size;
+    }
+
+-- one read more
+abbrev pub passed_more : (endings : Endings) (limit : ℕ) (old now after : WindowState)
+    (a b c : SourceState) (passed : Passed) (read : List ℕ)
+    → PassedSoFar endings limit old now a b passed → ReadsOnce b c read
+    → after.held ≡ now.held ++ read → after.size ≡ now.size
+    → PassedSoFar endings limit old after a c passed
+passed_more endings limit old now after a b c passed read so_far reads is size = record {
+  bytes = so_far.bytes;
+  read = so_far.read ++ read;
+  gave = GaveBytes-trans a b c so_far.read read so_far.failures so_far.gave
+      (read_gives b c read reads.gave reads.told);
+  text = ap (λ xs. so_far.bytes ++ xs) is
+      ∙ (sym (append_assoc so_far.bytes now.held read)
+      ∙ (ap (λ xs. xs ++ read) so_far.text ∙ append_assoc old.held so_far.read read));
+  counts = so_far.counts;
+  within = so_far.within;
+  free = so_far.free;
+  clean = subst (IsCleanCut endings so_far.bytes) (sym is)
+      (clean_more endings so_far.bytes now.held read so_far.clean);
+  failures = reads.failures ∙ so_far.failures;
+  size = size ∙ so_far.size;
+}
+
+-- nothing was taken yet
+pub passed_none : (endings : Endings) (limit : ℕ) (buffer : WindowState) (a : SourceState)
+    → PassedSoFar endings limit buffer buffer a a (record { count = 0; other = None })
+passed_none endings limit buffer a = record {
+  bytes = [];
+  read = [];
+  gave = GaveBytes-nil a;
+  text = sym (append-nil buffer.held);
+  counts = record { count = refl; other = IsAscii-nil };
+  within = omega arith;
+  free = λ k low. absurd (omega (arith, low));
+  clean = λ cr_lf cr. absurd (omega (arith, cr));
+  failures = refl;
+  size = refl;
+}
+
+-- a read failed, or was not made
+pub pass_fails : (endings : Endings) (limit : ℕ) (old now after : WindowState)
+    (a b c : SourceState) (passed : Passed) (so_far : PassedSoFar endings limit old now a b passed)
+    → FreeUpTo endings (so_far.bytes ++ now.held) (length (so_far.bytes ++ now.held))
+    → GaveBytes b c [] → c.failures ≡ one_more b.failures → after.held ≡ now.held
+    → after.size ≡ now.size → PassesLine endings limit old after a c passed end.Failed
+pass_fails endings limit old now after a b c passed so_far none gave fails is size = record {
+  bytes = so_far.bytes;
+  read = so_far.read ++ [];
+  gave = GaveBytes-trans a b c so_far.read [] so_far.failures so_far.gave gave;
+  text = ap (λ xs. so_far.bytes ++ xs) is
+      ∙ (so_far.text ∙ ap (λ xs. old.held ++ xs) (sym (append-nil so_far.read)));
+  counts = so_far.counts;
+  within = so_far.within;
+  ends = subst
+      (λ xs. FreeUpTo endings (so_far.bytes ++ xs) (length (so_far.bytes ++ xs))) (sym is) none;
+  failures = fails ∙ ap one_more so_far.failures;
+  size = size ∙ so_far.size;
+}
+
+-- the source is at its end, and the bytes that are left are taken
+pub pass_ends : (endings : Endings) (limit : ℕ) (old now mid after : WindowState)
+    (a b c : SourceState) (passed passed' : Passed)
+    (so_far : PassedSoFar endings limit old now a b passed)
+    → FreeUpTo endings (so_far.bytes ++ now.held) (length (so_far.bytes ++ now.held))
+    → length so_far.bytes + length now.held ≤ limit
+    → (read : List ℕ) → length read ≡ 0 → ReadsOnce b c read → mid.held ≡ now.held ++ read
+    → ((bytes : List ℕ) → Counts bytes passed → Counts (bytes ++ mid.held) passed')
+    → after.held ≡ [] → mid.size ≡ now.size → after.size ≡ mid.size
+    → PassesLine endings limit old after a c passed' end.Input
+pass_ends endings limit old now mid after a b c passed passed' so_far free reach read none reads
+    is counts held size same =
+    let empty : read ≡ [] = nil_from_length read none in
+    let all : mid.held ≡ now.held =
+    is ∙ (ap (λ xs. now.held ++ xs) empty ∙ append-nil now.held) in
+    let more = passed_more endings limit old now mid a b c passed read so_far reads is size in
+    record {
+      bytes = so_far.bytes ++ mid.held;
+      read = more.read;
+      gave = more.gave;
+      text = append_assoc so_far.bytes mid.held after.held
+          ∙ (ap (λ xs. so_far.bytes ++ (mid.held ++ xs)) held
+          ∙ (ap (λ xs. so_far.bytes ++ xs) (append-nil mid.held) ∙ more.text));
+      counts = counts so_far.bytes so_far.counts;
+      within = omega (arith, length-append so_far.bytes mid.held, ap length all, reach);
+      ends = (
+        subst (λ xs. FreeUpTo endings (so_far.bytes ++ xs) (length (so_far.bytes ++ xs)))
+            (sym all) free,
+        held,
+        reads.end empty,
+      );
+      failures = reads.failures ∙ so_far.failures;
+      size = same ∙ (size ∙ so_far.size);
+    }
+
+-- the bytes that are held are all that are looked at
+pub front_all : (front held : List ℕ) (n : ℕ) → front ≡ take n held → n ≡ length held
+    → front ≡ held
+front_all front held n is all = is ∙ take_all n held (omega (arith, all))
+
+pub part_of : (endings : Endings) (front held : List ℕ) (left n : ℕ) (result why : Option PassEnd)
+    → front ≡ held → result ≡ why → TakesPart endings front left n result
+    → TakesPart endings held left n why
+part_of endings front held left n result why same is part =
+    subst (λ w. TakesPart endings held left n w) is
+    (subst (λ text. TakesPart endings text left n result) same part)
