@@ -15,6 +15,7 @@ pub mod LinesByLemmas
 pub mod LinesLeftLemmas
 pub mod LinesLemmas
 pub mod ListLemmas
+pub mod MasksLemmas
 pub mod NumbersLemmas
 pub mod OrderLemmas
 pub mod PiecesLemmas

@@ -14,6 +14,7 @@ pub mod Found
 pub mod Json
 pub mod Lines
 pub mod LinesBy
+pub mod Masks
 pub mod Numbers
 pub mod Pieces
 pub mod Placed

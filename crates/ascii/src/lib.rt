@@ -52,6 +52,7 @@ mod replace;
 mod retain;
 mod search;
 mod serde_impls;
+mod short_search;
 mod splits;
 pub mod string;
 pub mod text;

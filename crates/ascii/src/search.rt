@@ -9,9 +9,9 @@ ghost use Rattle.ascii.specs.Search.{ContainsText, EndsWith, IsPrefix, IsSuffix,
 ghost use Rattle.ascii.specs.View.{text_of};
 
 use crate::ascii_str::AsciiStr;
+use crate::short_search;
 use ascii_base::ascii_char::AsciiChar;
 use ascii_base::range::AsciiRange;
-use memchr::memmem;
 
 impl<'a> AsciiStr<'a> {
     /// Returns the position of the first `needle` in the view, or `None` if the view does not contain
@@ -22,7 +22,7 @@ impl<'a> AsciiStr<'a> {
     pub fn find(self, needle: AsciiStr<'_>) -> Option<usize>
         ensures { FindsNeedle (text_of self.entry) (text_of needle.entry) 0 result }
     {
-        memmem::find(self.bytes, needle.bytes)
+        short_search::first_needle(self.bytes, needle.bytes)
     }
 
     /// Returns the position of the last `needle` in the view, or `None` if the view does not contain
@@ -33,7 +33,7 @@ impl<'a> AsciiStr<'a> {
     pub fn rfind(self, needle: AsciiStr<'_>) -> Option<usize>
         ensures { FindsLastNeedle (text_of self.entry) (text_of needle.entry) result }
     {
-        memmem::rfind(self.bytes, needle.bytes)
+        short_search::last_needle(self.bytes, needle.bytes)
     }
 
     /// Returns `true` if the view contains `needle`. Does not allocate.

@@ -1,6 +1,7 @@
 //! Searches and cuts of views, compared with those of std's `str` over the same text.
 
-use ascii::{AsciiChar, AsciiStr};
+use ascii::{AsciiChar, AsciiStr, AsciiString, bytes};
+use std::process::Abort;
 use testing::{ascii, assert_row};
 
 /// A text, and a needle.
@@ -34,6 +35,79 @@ fn a_text_is_found_as_in_str(rt: HostRuntime) {
         assert_row!(rt; view.rfind(text), source.rfind(needle));
         assert_row!(rt; view.contains(text), source.contains(needle));
         assert_row!(rt; view.eq_text(text), source == needle);
+    }
+}
+
+/// Every text of `a` and `b` with 4 characters is a part of it, and so is every shorter one.
+static FOURS: &str = "aaaabaabbababbbbaaa";
+
+/// Every text of `a` and `b` with 8 characters is a part of it, and so is every shorter one.
+static EIGHTS: &str =
+    "aaaaaaaabaaaaaabbaaaaababaaaaabbbaaaabaabaaaababbaaaabbabaaaabbbbaaabaaabaabbaaabab\
+    abaaababbbaaabbaabaaabbabbaaabbbabaaabbbbbaabaababaabaabbbaabababbaababbabaababbbbaabbaabbababaab\
+    babbbaabbbabbaabbbbabaabbbbbbababababbbababbabbababbbbbabbabbbbabbbabbbbbbbbaaaaaaa";
+
+/// Fails the test if a search for `needle` from either end finds another position than that of `str`.
+fn compare_searches(rt: &impl Abort, source: &[u8], needle: AsciiStr<'_>) {
+    let view = bytes::as_ascii_str(source).unwrap_or_default();
+    let (str, text) = (view.as_str(), needle.as_str());
+    assert_row!(rt; view.find(needle), str.find(text));
+    assert_row!(rt; view.rfind(needle), str.rfind(text));
+}
+
+#[test]
+fn every_small_needle_is_found_in_every_small_text(rt: HostRuntime) {
+    for needle_length in 1..5 {
+        for needle in FOURS.as_bytes().windows(needle_length) {
+            let needle = bytes::as_ascii_str(needle).unwrap_or_default();
+            for length in 1..9 {
+                for source in EIGHTS.as_bytes().windows(length) {
+                    compare_searches(&rt, source, needle);
+                }
+            }
+        }
+    }
+}
+
+/// A needle, a filler that is before and after it in a longer text, and the number of fillers on each side.
+/// They have no byte of the needle, its first byte, its first and last byte at few or at many positions, or
+/// all bytes but one.
+static NEEDLES: [(&str, &str, usize); 6] = [
+    ("#", ".", 300),
+    ("-#", "-.", 150),
+    ("(ab)", "(aa)....................", 12),
+    ("(ab)", "(aa)", 75),
+    ("-#-#", "-#.#", 75),
+    ("(a needle of 24 letters)", "(a meedle of 24 letters)", 12),
+];
+
+/// Returns a text with `count` times the filler before the needle and after it.
+fn around<R: Abort + AllocGlobal>(rt: &R, needle: &str, filler: &str, count: usize) -> AsciiString {
+    let mut text = AsciiString::new(rt.alloc());
+    for _ in 0..count {
+        text.push_str(ascii(filler)).expect(rt, "no memory");
+    }
+    let side = text.clone().expect(rt, "no memory");
+    text.push_str(ascii(needle)).expect(rt, "no memory");
+    text.push_str(side.as_ascii_str()).expect(rt, "no memory");
+    text
+}
+
+#[test]
+fn a_needle_is_found_at_each_position(rt: HostRuntime) {
+    for &(needle, filler, count) in &NEEDLES {
+        let text = around(&rt, needle, filler, count);
+        let (text, needle) = (text.as_ascii_str().as_bytes(), ascii(needle));
+        for length in 1..71 {
+            for source in text.windows(length) {
+                compare_searches(&rt, source, needle);
+            }
+        }
+        for &length in &[96, 129, 255, 256, 257, 260, 280] {
+            for source in text.windows(length) {
+                compare_searches(&rt, source, needle);
+            }
+        }
     }
 }
 
