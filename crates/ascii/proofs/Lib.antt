@@ -11,6 +11,7 @@ mod Examples
 pub mod ExtendLemmas
 pub mod FoldLemmas
 pub mod JsonLemmas
+pub mod LastLineLemmas
 pub mod LinesByLemmas
 pub mod LinesLeftLemmas
 pub mod LinesLemmas

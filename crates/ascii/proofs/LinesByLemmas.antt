@@ -12,7 +12,7 @@ use Rattle.ascii.specs.declared.iter.spans.Ending.{Ending}
 use Rattle.ascii.specs.declared.iter.spans.Ending.TheVariants as ending
 use Rattle.ascii.specs.Found.{line_spans}
 use Rattle.ascii.specs.Lines.{Line, MayFollow, ending_text, line_text}
-use Rattle.ascii.specs.Spans.{WithStart, line_size, with_starts}
+use Rattle.ascii.specs.Spans.{WithStart, items_of, line_size, with_starts}
 use Rattle.ascii.proofs.LinesLemmas.{LinesEndedBy-cons, LinesEndedBy-nil}
 use Rattle.ascii.proofs.ListLemmas.{front_is}
 use Rattle.ascii.proofs.SpansLemmas.{items-with_starts, line_spans_found}
@@ -235,17 +235,21 @@ cr_lf_end ending.CrLf body may = may
 cr_lf_end ending.Absent body may = may
 
 -- lines by a kind are lines by the endings by which any text has some
+pub any_text_lines : (kind : Endings) (text : List ℕ) (lines : List Line)
+    → LinesEndedBy kind text lines → LinesEndedBy (any_text kind) text lines
+any_text_lines Any text lines held = held
+any_text_lines CrLf text lines held = held
+any_text_lines CrLfStrict text lines held = record {
+  bodies = λ k d low. cr_lf_body _ (held.bodies k d low);
+  endings = λ k d low. cr_lf_end _ _ (held.endings k d low);
+  ended = held.ended;
+  joined = held.joined;
+}
+
 pub any_text_spans : (kind : Endings) (start : ℕ) (text : List ℕ) (spans : List (WithStart Line))
     → LineSpansEndedBy kind start text spans → LineSpansEndedBy (any_text kind) start text spans
-any_text_spans Any start text spans held = held
-any_text_spans CrLf start text spans held = held
-any_text_spans CrLfStrict start text spans held = record {
-  lines = record {
-    bodies = λ k d low. cr_lf_body _ (held.lines.bodies k d low);
-    endings = λ k d low. cr_lf_end _ _ (held.lines.endings k d low);
-    ended = held.lines.ended;
-    joined = held.lines.joined;
-  };
+any_text_spans kind start text spans held = record {
+  lines = any_text_lines kind text (items_of spans) held.lines;
   starts = held.starts;
 }
 

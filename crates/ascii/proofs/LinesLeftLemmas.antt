@@ -12,7 +12,7 @@ use Rattle.std.proofs.lemmas.List.{get_or-take, get_or_default, length-take-le}
 use Rattle.std.proofs.Common.{take_all}
 use Rattle.std.proofs.lemmas.List.Elements.{All-cons, All-nil, All-tail}
 use Rattle.std.proofs.lemmas.List.Folds.{list_any_at, list_any_none}
-use Rattle.memchr.specs.Find.{IsFirst, OccursAt, Passes, is_byte2}
+use Rattle.memchr.specs.Find.{OccursAt, is_byte2}
 use Rattle.ascii.specs.declared.iter.spans.Ending.{Ending}
 use Rattle.ascii.specs.declared.iter.spans.Ending.TheVariants as ending
 use Rattle.ascii.specs.declared.iter.spans.Endings.{Endings}
@@ -166,14 +166,6 @@ byte_is : (x : ℕ) → is_byte2 13 10 x ≡ true → (x ≡ 13) ⊎ (x ≡ 10)
 byte_is x is = elim (or_cases (eqb x 13) (eqb x 10) is) [
   | inl cr ↦ inl (eqb-true _ _ cr)
   | inr feed ↦ inr (eqb-true _ _ feed)
-]
-
--- the byte at a lone CR or LF is one
-lone_is : (text : List ℕ) (place : ℕ) → IsFirstLoneBreak text place
-    → (get_or text place 0 ≡ 13) ⊎ (get_or text place 0 ≡ 10)
-lone_is text place found = elim found.lone [
-  | inl feed ↦ inr feed
-  | inr cr ↦ inl cr.0
 ]
 
 -- a body with neither CR nor LF
@@ -610,6 +602,7 @@ left_first kind part next n first within length_is held ends start next_start ne
       endings = kind;
       items = record { start = part.start; item = line } ∷ with_starts line_size (part.start + line_size line) others;
       rest = record { start = m; item = rest_by kind next.item };
+      is_cut = false;
     }) (rw (← next_is) at end_is))
 
 -- a first CR or LF that the search shows to be lone
@@ -723,51 +716,6 @@ rest_is_part kind part none =
     ap (λ ls. flat_map line_text ls ++ rest_by kind part.item) (sym no_lines) ∙ joined in
     rw (start_is, item_is)
 
--- ---- the lone CR or LF at which lines stop
-
--- what comes after lines by CR LF strictly begins with it
-pub stop_found : (part : WithStart (List ℕ)) (place : ℕ)
-    → IsFirst (Passes (is_byte2 13 10) ((left_by CrLfStrict part).rest.item)) 0
-    (length ((left_by CrLfStrict part).rest.item)) (Some place)
-    → IsFirstLoneBreak ((left_by CrLfStrict part).rest.item) place
-stop_found part place found = go (rest_by CrLfStrict part.item)
-    ((LinesUpTo-held CrLfStrict part.item).stop) found
-  where
-    go : (rest : List ℕ)
-        → (rest ≢ [] → (CrLfStrict ≡ CrLfStrict) × ((at : ℕ) × IsFirstLoneBreak rest at))
-        → IsFirst (Passes (is_byte2 13 10) rest) 0 (length rest) (Some place)
-        → IsFirstLoneBreak rest place
-    go rest stop found =
-        let some : rest ≢ [] = λ none. let high = found.0.high in
-        omega (arith, high, ap length none) in
-        let lone = (stop some).1 in
-        let same : lone.0 ≡ place = elim (cases_lt lone.0 place) [
-          | inl early ↦ absurd (found.0.before lone.0 (omega arith) early
-              (is_break _ (lone_is rest lone.0 lone.1)))
-          | inr late ↦ elim (cases_lt place lone.0) [
-            | inl sooner ↦ absurd (elim (byte_is _ found.1) [
-              | inl cr ↦ (lone.1.first place sooner).1 cr
-              | inr feed ↦ (lone.1.first place sooner).0 feed
-            ])
-            | inr equal ↦ omega (arith, late, equal)
-          ]
-        ] in
-        subst (IsFirstLoneBreak rest) same lone.1
-
-pub no_stop : (part : WithStart (List ℕ))
-    → IsFirst (Passes (is_byte2 13 10) ((left_by CrLfStrict part).rest.item)) 0
-    (length ((left_by CrLfStrict part).rest.item)) None
-    → (left_by CrLfStrict part).rest.item ≡ []
-no_stop part none = go (rest_by CrLfStrict part.item)
-    ((LinesUpTo-held CrLfStrict part.item).stop) none
-  where
-    go : (rest : List ℕ)
-        → (rest ≢ [] → (CrLfStrict ≡ CrLfStrict) × ((at : ℕ) × IsFirstLoneBreak rest at))
-        → IsFirst (Passes (is_byte2 13 10) rest) 0 (length rest) None → rest ≡ []
-    go rest stop none = is_empty rest (λ some.
-        let lone = (stop some).1 in
-        none lone.0 (omega arith) lone.1.inside (is_break _ (lone_is rest lone.0 lone.1)))
-
 -- ---- what an iterator has yet to yield
 
 pub left_held : (kind : Endings) (part : WithStart (List ℕ))
@@ -781,6 +729,7 @@ left_held kind part =
           (LinesUpTo-held kind part.item);
       starts = ap (with_starts line_size part.start) alone;
       rest = ap (λ ls. part.start + length (flat_map line_text ls)) alone;
+      uncut = refl;
     }
 
 pub left_only : (kind : Endings) (part : WithStart (List ℕ)) (other : RemainingLines (WithStart Line))
@@ -789,18 +738,19 @@ left_only kind part other held =
     let same = LinesUpTo-only kind (items_of other.items) part.item other.rest.item held.lines in
     same_left other kind (lines_by kind part.item) (rest_by kind part.item) held.chosen
     (held.starts ∙ ap (with_starts line_size part.start) same.0)
-    (held.rest ∙ ap (λ ls. part.start + length (flat_map line_text ls)) same.0) same.1
+    (held.rest ∙ ap (λ ls. part.start + length (flat_map line_text ls)) same.0) same.1 held.uncut
   where
     same_left : (other : RemainingLines (WithStart Line)) (kind : Endings) (lines : List Line)
         (rest : List ℕ) → other.endings ≡ kind
         → other.items ≡ with_starts line_size part.start lines
         → other.rest.start ≡ part.start + length (flat_map line_text lines)
-        → other.rest.item ≡ rest → other ≡ record {
+        → other.rest.item ≡ rest → other.is_cut ≡ false → other ≡ record {
           endings = kind;
           items = with_starts line_size part.start lines;
           rest = record { start = part.start + length (flat_map line_text lines); item = rest };
+          is_cut = false;
         }
-    same_left other kind lines rest a b c d = rw (← a, ← b, ← c, ← d)
+    same_left other kind lines rest a b c d e = rw (← a, ← b, ← c, ← d, ← e)
 
 pub left_fit : (kind : Endings) (part : WithStart (List ℕ))
     → length ((left_by kind part).items) ≤ length part.item
@@ -842,9 +792,9 @@ lines_left_only kind text one other first second =
     let lines = b.0 ∙ sym a.0 in
     same one other (second.chosen ∙ sym first.chosen) lines
     (second.rest ∙ (ap (λ ls. length (flat_map line_text ls)) lines ∙ sym first.rest))
-    (b.1 ∙ sym a.1)
+    (b.1 ∙ sym a.1) (second.uncut ∙ sym first.uncut)
   where
     same : (one other : RemainingLines Line) → other.endings ≡ one.endings
         → other.items ≡ one.items → other.rest.start ≡ one.rest.start
-        → other.rest.item ≡ one.rest.item → other ≡ one
-    same one other a b c d = rw (← a, ← b, ← c, ← d)
+        → other.rest.item ≡ one.rest.item → other.is_cut ≡ one.is_cut → other ≡ one
+    same one other a b c d e = rw (← a, ← b, ← c, ← d, ← e)

@@ -1,5 +1,5 @@
 -- The bytes of a line, and where it ends.
-use Rattle.std.specs.Prelude.{◌≡◌, ◌≢◌, ◌⊎◌, ℕ, ◌+◌, ◌-◌, ◌<◌, List, length, slice_index}
+use Rattle.std.specs.Prelude.{◌≡◌, ◌≢◌, ◌⊎◌, ℕ, ◌+◌, ◌-◌, ◌<◌, ◌≤◌, List, length, slice_index}
 use Rattle.std.specs.Prelude.{None, Some, ⊤}
 use Rattle.std.specs.declared.option.Option.{Option}
 use Rattle.ascii.specs.Lines.{IsCrLfAt}
@@ -56,3 +56,9 @@ IsOneLine endings bytes = (0 < length bytes) × FreeUpTo endings bytes (length b
 abbrev pub IsLineLength : Endings → List ℕ → ℕ → Type 0
 IsLineLength endings text n =
     IsFirstStop endings text n ⊎ ((n ≡ length text) × FreeUpTo endings text n)
+
+-- the first `n` bytes are those up to the last CR LF, or none if there is no CR LF
+pub record IsAfterLastCrLf (text : List ℕ) (n : ℕ) : Type 0 where
+  pub within : n ≤ length text
+  pub ended : n ≢ 0 → IsCrLfAt text (n - 1)
+  pub free : (k : ℕ) → n ≤ k → k < length text → ¬ (IsCrLfAt text k)

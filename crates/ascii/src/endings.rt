@@ -15,7 +15,8 @@
 
 ghost use Rattle.std.specs.Prelude.{◌≡◌, ◌≢◌, ◌+◌, ◌-◌, ◌<◌, ◌≤◌, ◌↔◌, ◌∷◌, [], IsTrue};
 ghost use Rattle.std.specs.Prelude.{MatchOption, length, slice_index};
-ghost use Rattle.ascii.specs.Endings.{FindsLoneBreak, FreeUpTo, IsFirstStop, IsOneLine};
+ghost use Rattle.ascii.specs.Endings.{FindsLoneBreak, FreeUpTo, IsAfterLastCrLf, IsFirstStop};
+ghost use Rattle.ascii.specs.Endings.{IsOneLine};
 ghost use Rattle.ascii.specs.Lines.{IsCrLfAt, LinesEndedBy};
 ghost use Rattle.ascii.specs.View.{text_of};
 ghost use Rattle.ascii.specs.declared.iter.spans.Endings.TheVariants.{CrLf, CrLfStrict};
@@ -23,7 +24,7 @@ ghost use Rattle.memchr.specs.Find.{IsFirst, Passes, is_byte, is_byte2};
 
 use crate::ascii_str::AsciiStr;
 use crate::iter::{Ending, Endings};
-use memchr::{memchr, memchr2};
+use memchr::{memchr, memchr2, memrchr};
 
 /// Returns how many bytes of `text` there are up to the first byte that ends a line or shows a lone
 /// CR or LF, that byte included, or `None` if no byte does. With `CrLfStrict`, a CR is shown to be
@@ -154,6 +155,22 @@ fn find_cr_lf(text: &[u8], searched: usize) -> Option<usize>
             return Some(place + 1);
         }
         from = place + 1;
+    }
+}
+
+/// Returns the number of bytes up to the end of the last CR LF of a text, or 0 if there is none.
+pub(crate) fn after_last_cr_lf(text: &[u8]) -> usize
+    ensures { IsAfterLastCrLf text.now result }
+{
+    let mut end = text.len();
+    'feeds: loop {
+        let Some(place) = memrchr(b'\n', &text[..end]) else {
+            return 0;
+        };
+        if follows_cr(text, place) {
+            return place + 1;
+        }
+        end = place;
     }
 }
 

@@ -14,7 +14,7 @@
 //! | words: the longest runs outside a class | `words::<C>()`, `split_whitespace()` | `word_spans::<C>()` | yes |
 //! | runs: the longest runs of a class | `runs::<C>()` | `run_spans::<C>()` | yes |
 //! | lines | `lines()` | `line_spans()`, also with their endings | yes |
-//! | lines by the endings that you choose | `lines_by(endings)` | `line_spans_by(endings)`, also with their endings | no |
+//! | lines by the endings that you choose | `lines_by(endings)` | `line_spans_by(endings)`, also with their endings | yes |
 //!
 //! Take from either end, in any order; `remainder` returns what is left as a view, which can be iterated again:
 //!

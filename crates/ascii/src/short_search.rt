@@ -118,7 +118,8 @@ fn last_by_blocks(hay: &[u8], needle: &[u8]) -> Option<usize>
 fn marks<const N: usize>(on: u8, bytes: &[u8], start: usize) -> u64
     requires lanes { N ≤ 64 }
     requires room { start + N ≤ length bytes.now }
-    ensures { MarksPositions (Passes (is_byte on) bytes.now) (Passes (is_byte on) bytes.now) start N result }
+    ensures { MarksPositions (Passes (is_byte on) bytes.now) (Passes (is_byte on) bytes.now) start
+        N result }
 {
     let lanes = Simd::<u8, N>::from_slice(&bytes[start..]);
     lanes.simd_eq(Simd::splat(on)).to_bitmask()
@@ -130,7 +131,8 @@ fn candidates<const N: usize>(hay: &[u8], needle: &[u8], start: usize) -> u64
     requires lanes { N ≤ 64 }
     requires some { 0 < length needle.now }
     requires room { start + N + length needle.now ≤ length hay.now + 1 }
-    ensures { MarksPositions (OccursAt hay.now needle.now) (Fits hay.now needle.now) start N result }
+    ensures { MarksPositions (OccursAt hay.now needle.now) (Fits hay.now needle.now) start N
+        result }
 {
     let end = needle.len() - 1;
     marks::<N>(needle[0], hay, start) & marks::<N>(needle[end], hay, start + end)
@@ -178,7 +180,8 @@ fn all_candidates(hay: &[u8], needle: &[u8]) -> u64
 /// of them. It is compared at the marked ones.
 #[inline(always)]
 fn first_marked(hay: &[u8], needle: &[u8], start: usize, marked: u64) -> Option<usize>
-    requires { MarksPositions (OccursAt hay.now needle.now) (Fits hay.now needle.now) start 64 marked }
+    requires { MarksPositions (OccursAt hay.now needle.now) (Fits hay.now needle.now) start 64
+        marked }
     ensures { IsFirst (OccursAt hay.now needle.now) start (start + 64) result }
 {
     let mut tested = 0;
@@ -195,7 +198,8 @@ fn first_marked(hay: &[u8], needle: &[u8], start: usize, marked: u64) -> Option<
 /// of them. It is compared at the marked ones.
 #[inline(always)]
 fn last_marked(hay: &[u8], needle: &[u8], start: usize, marked: u64) -> Option<usize>
-    requires { MarksPositions (OccursAt hay.now needle.now) (Fits hay.now needle.now) start 64 marked }
+    requires { MarksPositions (OccursAt hay.now needle.now) (Fits hay.now needle.now) start 64
+        marked }
     ensures { IsLast (OccursAt hay.now needle.now) start (start + 64) result }
 {
     let mut tested = 64;

@@ -77,7 +77,7 @@ impl<'a> Cursor<'a> {
 
     /// The last line, and the part before it.
     #[inline(always)]
-    fn last_line(self) -> Option<(LineSpan<'a>, Cursor<'a>)>
+    pub(crate) fn last_line(self) -> Option<(LineSpan<'a>, Cursor<'a>)>
         ensures lines { MatchOption result (line_spans (part_in self.entry) ≡ []) (λ cut.
             line_spans (part_in self.entry) ≡ line_spans (part_in cut.1) ++ line_in cut.0 ∷ []) }
         ensures fits { IfSome result (λ cut. EndFits cut.0.start cut.0.text) }

@@ -1,21 +1,24 @@
 //! The lines of a view by the endings that end them, with and without their starts and endings.
 
-ghost use Rattle.std.specs.Prelude.{⊤, ◌≡◌, ◌+◌, ◌<◌, ◌≤◌, ◌∷◌, [], IfSome, MatchOption, length};
+ghost use Rattle.std.specs.Prelude.{⊤, ◌≡◌, ◌+◌, ◌<◌, ◌≤◌, ◌∷◌, ◌++◌, [], IfSome, MatchOption, length};
 ghost use Rattle.std.specs.Prelude.{slice_range, take};
 ghost use Rattle.std.specs.Iterator.{item_count};
 ghost use Rattle.ascii.specs.Endings.{IsLineLength};
 ghost use Rattle.ascii.specs.Found.{part_in};
-ghost use Rattle.ascii.specs.LinesBy.{FindsStop, IsRemainderOfLineSpansBy, IsRemainderOfLinesBy};
-ghost use Rattle.ascii.specs.LinesBy.{IteratesLineSpansBy, IteratesLinesBy, LoopsOverLineSpansBy};
-ghost use Rattle.ascii.specs.LinesBy.{LoopsOverLinesBy, StepsLine, StepsLineSpan, bodies_left};
-ghost use Rattle.ascii.specs.LinesBy.{left_by, with_first};
+ghost use Rattle.ascii.specs.LinesBy.{FindsStop, IsCutAfterLines, IsRemainderOfLineSpansBy};
+ghost use Rattle.ascii.specs.LinesBy.{IsRemainderOfLinesBy, IteratesLineSpansBy, IteratesLinesBy};
+ghost use Rattle.ascii.specs.LinesBy.{LoopsBackOverLineSpansBy, LoopsBackOverLinesBy};
+ghost use Rattle.ascii.specs.LinesBy.{LoopsOverLineSpansBy, LoopsOverLinesBy, StepsLastLine};
+ghost use Rattle.ascii.specs.LinesBy.{StepsLastLineSpan, StepsLine, StepsLineSpan, bodies_left};
+ghost use Rattle.ascii.specs.LinesBy.{left_by, rest_by, whole_lines, with_first};
 ghost use Rattle.ascii.specs.Placed.{ArePlacedLines};
 ghost use Rattle.ascii.specs.Spans.{EndFits, line_in};
-ghost use Rattle.ascii.specs.Steps.{YieldsFirstAnd};
+ghost use Rattle.ascii.specs.Steps.{YieldsFirstAnd, YieldsLastAnd};
 ghost use Rattle.ascii.specs.View.{text_of};
+ghost use Rattle.ascii.specs.declared.iter.spans.Endings.TheVariants.{CrLf};
 
 use crate::ascii_str::AsciiStr;
-use crate::endings::{find_end, first_break, lone_break, split_ending};
+use crate::endings::{after_last_cr_lf, find_end, first_break, lone_break, split_ending};
 use crate::iter::cursor::Cursor;
 use crate::iter::spans::{Endings, LineSpan};
 use std::alloc::AllocError;
@@ -25,6 +28,7 @@ use std::marker::Model;
 impl<'a> Cursor<'a> {
     /// The first line by `endings`, and the part after its ending, or `None` if there are no lines,
     /// or the first one has a lone CR or LF that the endings rule out.
+    #[inline(always)]
     fn first_line_by(self, endings: Endings) -> Option<(LineSpan<'a>, Cursor<'a>)>
         ensures lines { MatchOption result ((left_by endings (part_in self.entry)).items ≡ [])
             (λ cut. left_by endings (part_in self.entry)
@@ -48,8 +52,64 @@ impl<'a> Cursor<'a> {
         Some((span, self.from(n)))
     }
 
+    /// The last line by `endings`, and the part before it, or `None` if there are no lines. Nothing
+    /// comes after the lines.
+    fn last_line_by(self, endings: Endings) -> Option<(LineSpan<'a>, Cursor<'a>)>
+        requires { rest_by endings (text_of self.view) ≡ [] }
+        ensures lines { MatchOption result ((left_by endings (part_in self.entry)).items ≡ [])
+            (λ cut. ((left_by endings (part_in self.entry)).items
+            ≡ (left_by endings (part_in cut.1)).items ++ line_in cut.0 ∷ [])
+            × (rest_by endings (text_of cut.1.view) ≡ [])) }
+        ensures fits { IfSome result (λ cut. EndFits cut.0.start cut.0.text) }
+    {
+        match endings {
+            Endings::Any => self.last_line(),
+            Endings::CrLf | Endings::CrLfStrict => self.last_cr_lf_line(),
+        }
+    }
+
+    /// The last line by CR LF, and the part before it, or `None` if there are no lines.
+    fn last_cr_lf_line(self) -> Option<(LineSpan<'a>, Cursor<'a>)>
+        ensures lines { MatchOption result (whole_lines CrLf (part_in self.entry) ≡ []) (λ cut.
+            whole_lines CrLf (part_in self.entry)
+            ≡ whole_lines CrLf (part_in cut.1) ++ line_in cut.0 ∷ []) }
+        ensures fits { IfSome result (λ cut. EndFits cut.0.start cut.0.text) }
+    {
+        if self.view.is_empty() {
+            return None;
+        }
+        let n = after_last_cr_lf(&self.view.bytes[..self.view.len() - 1]);
+        let line = self.from(n);
+        let (body, ending) = split_ending(Endings::CrLf, line.view.bytes);
+        let span = LineSpan {
+            start: line.start,
+            text: AsciiStr { bytes: body },
+            ending,
+        };
+        Some((span, self.to(n)))
+    }
+
+    /// The lines by `endings`, and what comes after them.
+    fn cut_after_lines(self, endings: Endings) -> (Cursor<'a>, Cursor<'a>)
+        ensures { IsCutAfterLines endings (part_in self.entry) (part_in result.0)
+            (part_in result.1) }
+    {
+        let rest = self.after_lines_by(endings);
+        (self.to(rest.start - self.start), rest)
+    }
+
     /// What comes after the lines by `endings`.
     fn after_lines_by(self, endings: Endings) -> Cursor<'a>
+        ensures { part_in result ≡ (left_by endings (part_in self.entry)).rest }
+    {
+        match endings {
+            Endings::Any | Endings::CrLf => self.from(self.view.len()),
+            Endings::CrLfStrict => self.walk_lines_by(endings),
+        }
+    }
+
+    /// What comes after the lines by `endings`, found by a walk over them.
+    fn walk_lines_by(self, endings: Endings) -> Cursor<'a>
         ensures { part_in result ≡ (left_by endings (part_in self.entry)).rest }
     {
         let mut rest = self;
@@ -75,23 +135,32 @@ fn line_length(endings: Endings, text: &[u8]) -> usize
 }
 
 /// An iterator over the lines of a view by the endings that end them, each with its start and its
-/// ending.
+/// ending, from both ends.
 #[derive(Drop)]
 pub struct LineSpansBy<'a> {
     endings: Endings,
-    // The lines that are left, with their endings, and what comes after them.
+    // The lines that are left, with their endings, and what comes after them, unless that was cut off.
     cursor: Cursor<'a>,
+    // What a step from the back has cut off after the lines.
+    rest: Option<Cursor<'a>>,
 }
 
 impl<'a> Model for LineSpansBy<'a> {
+    ghost use Rattle.std.specs.Prelude.{IfSome};
+    ghost use Rattle.std.specs.Option.{option_map};
     ghost use Rattle.ascii.specs.Found.{part_in};
     ghost use Rattle.ascii.specs.Lines.{Line};
-    ghost use Rattle.ascii.specs.LinesBy.{RemainingLines, left_by};
+    ghost use Rattle.ascii.specs.LinesBy.{IsCutFrom, RemainingLines, left_with};
     ghost use Rattle.ascii.specs.Spans.{WithStart};
+    ghost use Rattle.ascii.specs.View.{text_of};
 
     ghost Value = { RemainingLines (WithStart Line) };
 
-    ghost view = { λ lines. left_by lines.endings (part_in lines.cursor) };
+    ghost view = { λ lines.
+        left_with lines.endings (part_in lines.cursor) (option_map part_in lines.rest) };
+
+    ghost invariant = { λ lines. IfSome lines.rest (λ rest.
+        IsCutFrom lines.endings (text_of lines.cursor.view) (text_of rest.view)) };
 }
 
 impl Clone for LineSpansBy<'_> {
@@ -107,6 +176,7 @@ impl Clone for LineSpansBy<'_> {
         Ok(LineSpansBy {
             endings: self.endings,
             cursor: self.cursor,
+            rest: self.rest,
         })
     }
 }
@@ -129,12 +199,38 @@ impl<'a> Iterator for LineSpansBy<'a> {
     }
 }
 
+impl<'a> DoubleEndedIterator for LineSpansBy<'a> {
+    ghost next_back_gives = { YieldsLastAnd line_in (λ left. left.items) StepsLastLineSpan };
+
+    /// Returns the last of the remaining lines with its start and its ending, or `None` if there are
+    /// none left; it then keeps returning `None`. With `CrLfStrict` that is the last line before the
+    /// first lone CR or LF. What comes after the lines is cut off: `remainder` then ends with them.
+    ///
+    /// Searches the last line. With `CrLfStrict` the first call searches all that remains.
+    ///
+    ///     let mut spans = view("x\r\ny\r\nz\n").line_spans_by(Endings::CrLfStrict);
+    ///     spans.next_back() // Some(LineSpan { start: 3, text: "y", ending: CrLf })
+    ///     spans.remainder() // Some((0, "x\r\n"))
+    ///     spans.lone_break() // Some(7)
+    fn next_back(&mut self) -> Option<LineSpan<'a>> {
+        if self.rest.is_none() {
+            let (lines, rest) = self.cursor.cut_after_lines(self.endings);
+            self.cursor = lines;
+            self.rest = Some(rest);
+        }
+        let (last, others) = self.cursor.last_line_by(self.endings)?;
+        self.cursor = others;
+        Some(last)
+    }
+}
+
 impl FusedIterator for LineSpansBy<'_> {}
 
 impl<'a> LineSpansBy<'a> {
     /// Returns what remains of the view, with its start, or `None` if nothing does: the remaining
     /// lines with their endings, and after them the line with a lone CR or LF, if there is one, and
-    /// what comes after that line. The iterator is unchanged. Constant time.
+    /// what comes after that line. A step from the back cuts off what comes after the lines. The
+    /// iterator is unchanged. Constant time.
     ///
     ///     let mut spans = view("x\r\ny\nz").line_spans_by(Endings::CrLfStrict);
     ///     spans.next() // Some(LineSpan { start: 0, text: "x", ending: CrLf })
@@ -154,16 +250,16 @@ impl<'a> LineSpansBy<'a> {
     /// the end of the view. Only with `CrLfStrict` can they stop, at the first CR or LF that is not
     /// part of a CR LF. The iterator is unchanged.
     ///
-    /// Searches the remaining lines, so it is fast after the last of them.
+    /// Searches the remaining lines, so it is fast after the last of them, or a step from the back.
     ///
     ///     view("x\r\ny\nz").line_spans_by(Endings::CrLfStrict).lone_break() // Some(4)
     ///     view("x\r\ny\nz").line_spans_by(Endings::CrLf).lone_break() // None
     pub fn lone_break(&self) -> Option<usize>
         ensures { FindsStop self.now.rest result }
     {
-        let rest = match self.endings {
-            Endings::Any | Endings::CrLf => return None,
-            Endings::CrLfStrict => self.cursor.after_lines_by(Endings::CrLfStrict),
+        let rest = match self.rest {
+            Some(rest) => rest,
+            None => self.cursor.cut_after_lines(self.endings).1,
         };
         match first_break(rest.view.bytes, 0) {
             Some(place) => Some(rest.start + place),
@@ -172,7 +268,8 @@ impl<'a> LineSpansBy<'a> {
     }
 }
 
-/// An iterator over the lines of a view by the endings that end them, without the endings.
+/// An iterator over the lines of a view by the endings that end them, without the endings, from both
+/// ends.
 #[derive(Drop)]
 pub struct LinesBy<'a> {
     spans: LineSpansBy<'a>,
@@ -189,6 +286,7 @@ impl<'a> Model for LinesBy<'a> {
       endings = lines.spans.endings;
       items = items_of lines.spans.items;
       rest = lines.spans.rest;
+      is_cut = lines.spans.is_cut;
     } };
 }
 
@@ -225,12 +323,32 @@ impl<'a> Iterator for LinesBy<'a> {
     }
 }
 
+impl<'a> DoubleEndedIterator for LinesBy<'a> {
+    ghost next_back_gives = { YieldsLastAnd text_of bodies_left StepsLastLine };
+
+    /// Returns the last of the remaining lines without its ending, or `None` if there are none left;
+    /// it then keeps returning `None`. With `CrLfStrict` that is the last line before the first lone
+    /// CR or LF. What comes after the lines is cut off: `remainder` then ends with them.
+    ///
+    /// Searches the last line. With `CrLfStrict` the first call searches all that remains.
+    ///
+    ///     let mut lines = view("x\r\ny\r\nz\n").lines_by(Endings::CrLfStrict);
+    ///     lines.next_back() // Some("y")
+    ///     lines.remainder() // Some("x\r\n")
+    ///     lines.lone_break() // Some(7)
+    fn next_back(&mut self) -> Option<AsciiStr<'a>> {
+        let span = self.spans.next_back()?;
+        Some(span.text)
+    }
+}
+
 impl FusedIterator for LinesBy<'_> {}
 
 impl<'a> LinesBy<'a> {
     /// Returns what remains of the view, or `None` if nothing does: the remaining lines with their
     /// endings, and after them the line with a lone CR or LF, if there is one, and what comes after
-    /// that line. The iterator is unchanged. Constant time.
+    /// that line. A step from the back cuts off what comes after the lines. The iterator is unchanged.
+    /// Constant time.
     ///
     ///     let mut lines = view("x\r\ny\nz").lines_by(Endings::CrLfStrict);
     ///     lines.next() // Some("x")
@@ -247,7 +365,7 @@ impl<'a> LinesBy<'a> {
     /// they go on to the end. Only with `CrLfStrict` can they stop, at the first CR or LF that is not
     /// part of a CR LF. The iterator is unchanged.
     ///
-    /// Searches the remaining lines, so it is fast after the last of them.
+    /// Searches the remaining lines, so it is fast after the last of them, or a step from the back.
     ///
     ///     view("x\r\ny\nz").lines_by(Endings::CrLfStrict).lone_break() // Some(4)
     ///     view("x\r\ny\nz").lines_by(Endings::CrLf).lone_break() // None
@@ -259,12 +377,12 @@ impl<'a> LinesBy<'a> {
 }
 
 impl<'a> AsciiStr<'a> {
-    /// Returns an iterator over the lines of the view without their endings, which end as `endings`
-    /// says: with `Any` in LF or CR LF, as for `lines`; with `CrLf` in CR LF only, so that another CR
-    /// or LF belongs to its line. With `CrLfStrict` they end in CR LF too, and they stop at the first
-    /// CR or LF that is not part of one: the line that has it is not yielded, `lone_break` returns
-    /// its position, and `remainder` the view from that line on. An ending at the end of the view
-    /// makes no further line.
+    /// Returns an iterator over the lines of the view without their endings, from both ends, which end
+    /// as `endings` says: with `Any` in LF or CR LF, as for `lines`; with `CrLf` in CR LF only, so that
+    /// another CR or LF belongs to its line. With `CrLfStrict` they end in CR LF too, and they stop at
+    /// the first CR or LF that is not part of one: the line that has it is not yielded, `lone_break`
+    /// returns its position, and `remainder` the view from that line on. An ending at the end of the
+    /// view makes no further line.
     ///
     /// Constant time; a full walk searches the view once. Does not allocate.
     ///
@@ -275,14 +393,15 @@ impl<'a> AsciiStr<'a> {
     pub fn lines_by(self, endings: Endings) -> LinesBy<'a>
         ensures iterates { IteratesLinesBy endings (text_of self.entry) result }
         ensures loops { LoopsOverLinesBy }
+        ensures loops_back { LoopsBackOverLinesBy }
     {
         LinesBy {
             spans: self.line_spans_by(endings),
         }
     }
 
-    /// Returns an iterator over the lines of the view that end as `endings` says, like `lines_by`,
-    /// each with its ending and the position in the view at which it starts.
+    /// Returns an iterator over the lines of the view that end as `endings` says, like `lines_by`, from
+    /// both ends, each with its ending and the position in the view at which it starts.
     ///
     /// Constant time; a full walk searches the view once. Does not allocate.
     ///
@@ -293,6 +412,7 @@ impl<'a> AsciiStr<'a> {
         ensures iterates { IteratesLineSpansBy endings 0 (text_of self.entry) result }
         ensures placed { ArePlacedLines 0 (text_of self.entry) result.items }
         ensures loops { LoopsOverLineSpansBy }
+        ensures loops_back { LoopsBackOverLineSpansBy }
     {
         LineSpansBy {
             endings,
@@ -300,6 +420,7 @@ impl<'a> AsciiStr<'a> {
                 start: 0,
                 view: self,
             },
+            rest: None,
         }
     }
 }

@@ -226,6 +226,23 @@ fn lines_by_each_kind(rt: HostRuntime) {
 }
 
 #[test]
+fn a_line_from_the_back_cuts_off_what_comes_after_the_lines(rt: HostRuntime) {
+    let view = ascii("a\r\nb\r\nc\nd\r\n");
+    let mut lines = view.lines_by(Endings::CrLfStrict);
+    assert_row!(rt; lines.next_back(), Some(ascii("b")));
+    assert_row!(rt; lines.remainder(), Some(ascii("a\r\n")));
+    assert_row!(rt; lines.lone_break(), Some(7));
+    assert_row!(rt; lines.next(), Some(ascii("a")));
+    assert_row!(rt; lines.next_back(), None);
+    assert_row!(rt; lines.remainder(), None);
+    assert_row!(rt; lines.lone_break(), Some(7));
+    let mut spans = view.line_spans_by(Endings::CrLf);
+    spans.next_back();
+    assert_row!(rt; spans.remainder(), Some((0, ascii("a\r\nb\r\n"))));
+    assert_row!(rt; spans.lone_break(), None);
+}
+
+#[test]
 fn the_end_of_a_line_by_each_kind(rt: HostRuntime) {
     let text = b"a\rb\nc\r\n";
     assert_row!(rt; find_end(Endings::Any, text, 0), Some(4));

@@ -1841,6 +1841,15 @@ fn next_of_line_spans_by(rt: HostRuntime) {
     );
 }
 
+// DoubleEndedIterator for LineSpansBy::next_back
+#[test]
+fn next_back_of_line_spans_by(rt: HostRuntime) {
+    let mut spans = view("x\r\ny\r\nz\n").line_spans_by(Endings::CrLfStrict);
+    assert_debug!(rt; spans.next_back(), "Some(LineSpan { start: 3, text: \"y\", ending: CrLf })");
+    assert_debug!(rt; spans.remainder(), "Some((0, \"x\\r\\n\"))");
+    assert_debug!(rt; spans.lone_break(), "Some(7)");
+}
+
 // LineSpansBy::remainder
 #[test]
 fn remainder_of_line_spans_by(rt: HostRuntime) {
@@ -1877,6 +1886,15 @@ fn clone_of_lines_by(rt: HostRuntime) {
 #[test]
 fn next_of_lines_by(rt: HostRuntime) {
     assert_debug!(rt; view("x\ny\r\nz").lines_by(Endings::CrLf).next(), "Some(\"x\\ny\")");
+}
+
+// DoubleEndedIterator for LinesBy::next_back
+#[test]
+fn next_back_of_lines_by(rt: HostRuntime) {
+    let mut lines = view("x\r\ny\r\nz\n").lines_by(Endings::CrLfStrict);
+    assert_debug!(rt; lines.next_back(), "Some(\"y\")");
+    assert_debug!(rt; lines.remainder(), "Some(\"x\\r\\n\")");
+    assert_debug!(rt; lines.lone_break(), "Some(7)");
 }
 
 // LinesBy::remainder

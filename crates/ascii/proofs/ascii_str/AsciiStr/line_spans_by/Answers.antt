@@ -4,7 +4,7 @@ use Rattle.ascii.specs.Spans.{WithStart}
 use Rattle.ascii.specs.View.{text_of}
 use Rattle.ascii.proofs.LinesLeftLemmas.{LinesUpTo-held, left_fit, left_held, left_only}
 use Rattle.ascii.proofs.PlacedLemmas.{first_lines_placed}
-use Rattle.ascii.proofs.StepsLemmas.{runs_in_order}
+use Rattle.ascii.proofs.StepsLemmas.{runs_in_order, runs_in_reverse}
 use Rattle.ascii.proofs.ascii_str.AsciiStr.line_spans_by.Goals as goal
 
 pub returns-clause-iterates : goal.returns-clause-iterates
@@ -24,3 +24,6 @@ returns-clause-placed c =
 
 pub returns-clause-loops : goal.returns-clause-loops
 returns-clause-loops c = runs_in_order _ _ _
+
+pub returns-clause-loops_back : goal.returns-clause-loops_back
+returns-clause-loops_back c = runs_in_reverse _ _ _

@@ -1,9 +1,14 @@
-use Rattle.std.proofs.Common.{◌∙◌, sym}
+use Rattle.std.proofs.Common.{◌+◌, drop, ap, ◌∙◌}
+use Rattle.std.proofs.Math.Seq.{drop-length}
 use Rattle.ascii.specs.Found.{part_in}
-use Rattle.ascii.proofs.LinesLeftLemmas.{rest_is_part}
+use Rattle.ascii.specs.View.{text_of}
+use Rattle.ascii.proofs.LastLineLemmas.{no_rest, rest_at_end}
 use Rattle.ascii.proofs.iter.cursor.Cursor.after_lines_by.Goals as goal
 
-pub returns-in_default : goal.returns-in_default
-returns-in_default c =
-    sym (rest_is_part c.args.endings (part_in c.lines.rest) c.in_default.ensures.lines)
-    ∙ c.lines.invariant
+pub returns-in-Any : goal.returns-in-Any
+returns-in-Any c =
+    let text = text_of c.args.self.view in
+    rest_at_end c.args.endings (part_in c.args.self) (part_in c.from.result)
+    (no_rest c.args.endings text c.in-Any.is)
+    (c.from.ensures.start ∙ ap (λ n. c.args.self.start + n) c.len.ensures)
+    (c.from.ensures.text ∙ (ap (λ n. drop n text) c.len.ensures ∙ drop-length text))

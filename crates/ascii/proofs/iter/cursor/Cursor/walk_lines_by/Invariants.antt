@@ -1,7 +1,7 @@
 use Rattle.std.proofs.Common.{◌≡◌, length}
 use Rattle.ascii.specs.Found.{part_in}
 use Rattle.ascii.specs.LinesBy.{left_by}
-use Rattle.ascii.proofs.iter.cursor.Cursor.after_lines_by.Given as goal
+use Rattle.ascii.proofs.iter.cursor.Cursor.walk_lines_by.Given as goal
 
 -- what comes after the lines of the part is what comes after those that are left
 abbrev pub invariant-lines : goal.invariant-lines
