@@ -1,8 +1,8 @@
 //! A conversation with a client: a session over the lines and words of an input.
 
-ghost use Rattle.ascii_lines.specs.LineReader.{IsOpen, state_of_reader};
-ghost use Rattle.ascii_lines.specs.LineWriter.{state_of_writer};
-ghost use Rattle.ascii_lines.specs.Serve.{IsReady, SendsBytes, Serves};
+ghost use Rattle.ascii_lines.specs.LineReader.{IsOpen};
+ghost use Rattle.ascii_lines.specs.LineWriter.{IsReady};
+ghost use Rattle.ascii_lines.specs.Serve.{SendsBytes, Serves};
 ghost use Rattle.ascii_lines.specs.declared.line_writer.WriteError.TheVariants.{LineBreak};
 ghost use Rattle.example_resp.specs.Conversations.{HasNoBrokenReply, session_answers};
 ghost use Rattle.example_resp.specs.Session.{IsFresh, state_of};
@@ -26,10 +26,8 @@ pub fn converse<S: Source, K: Sink, A: Allocator, B: Allocator>(
     requires writer { IsReady writer.old }
     requires session { IsFresh (state_of session.old) }
     ensures serves { Serves session_answers SendsBytes Ending.CrLf
-        (state_of_reader S.rest S.failures reader.old)
-        (state_of_writer K.Sink writer.old) session.old result
-        (state_of_reader S.rest S.failures reader.new)
-        (state_of_writer K.Sink writer.new) session.new }
+        reader.old.state writer.old.state session.old result
+        reader.new.state writer.new.state session.new }
     ensures lines { HasNoBrokenReply result }
 {
     serve(alloc, reader, writer, Ending::CrLf, session)

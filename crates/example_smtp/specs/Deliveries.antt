@@ -3,8 +3,8 @@ use Rattle.std.specs.List.{AllZip, flat_map}
 use Rattle.std.specs.Prelude.{◌≡◌, ◌≢◌, ◌⊎◌, ℕ, List, [], ◌∷◌, ◌++◌, All, codes, map}
 use Rattle.ascii.specs.Spans.{items_of}
 use Rattle.ascii.specs.declared.iter.spans.Ending.TheVariants.{CrLf}
-use Rattle.ascii_lines.specs.LineReader.{ReaderState}
-use Rattle.ascii_lines.specs.LineWriter.{WriterState}
+use Rattle.ascii_lines.specs.LineReader.{Reading}
+use Rattle.ascii_lines.specs.LineWriter.{Writing}
 use Rattle.ascii_lines.specs.Serve.{SendsBytes, Serves}
 use Rattle.ascii_lines.specs.declared.serving.Next.{Next}
 use Rattle.ascii_lines.specs.declared.serving.Stop.{Stop}
@@ -85,10 +85,10 @@ session_answers old line replies next new = Answers (state_of old) line replies 
 -- lines were served as `Serves` says: `served.state` is the session after the last answer. The
 -- exchanges are those lines with the replies to them, and they deliver the messages that this
 -- session has received
-pub record ServesMail (reader : ReaderState) (writer : WriterState) (old : Session) (why : Stop)
-    (reader_now : ReaderState) (writer_now : WriterState) (new : Session) : Type 0 where
-  pub served
-      : Serves session_answers SendsBytes CrLf reader writer old why reader_now writer_now new
+pub record ServesMail {S K : Type 0} (reader : Reading S) (writer : Writing K) (old : Session)
+    (why : Stop) (reader_now : Reading S) (writer_now : Writing K) (new : Session) : Type 0 where
+  pub served : Serves session_answers SendsBytes CrLf reader.state writer.state old why
+      reader_now.state writer_now.state new
   pub exchanges : List Exchange
   pub lines : map (λ exchange. exchange.line) exchanges
       ≡ map (λ line. line.body) (items_of served.talk.inputs)

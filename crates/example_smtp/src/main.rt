@@ -6,14 +6,14 @@ mod commands;
 mod receiving;
 mod session;
 
-use ascii_lines::{AsciiStr, Ending, Input, LineReader, LineWriter, Output};
+use ascii_lines::{AsciiStr, Ending, Endings, Input, LineReader, LineWriter, Output};
 use receiving::receive;
 use session::Session;
 use std::io;
 
 fn main(rt: HostRuntime) -> io::Result<()> {
     let alloc = rt.alloc();
-    let mut reader = LineReader::new(alloc, Input::new(rt.stdin()), 4096)?;
+    let mut reader = LineReader::new(alloc, Input::new(rt.stdin()), 4096, Endings::Any)?;
     let mut writer = LineWriter::new(alloc, Output::new(rt.stdout()), 4096)?;
     let mut session = Session::new(alloc);
     if let Err(error) = writer.write_line(AsciiStr::literal("220 ready"), Ending::CrLf) {

@@ -1,8 +1,7 @@
 //! Receiving mail from a client: a session over the lines of an input.
 
-ghost use Rattle.ascii_lines.specs.LineReader.{IsOpen, state_of_reader};
-ghost use Rattle.ascii_lines.specs.LineWriter.{state_of_writer};
-ghost use Rattle.ascii_lines.specs.Serve.{IsReady};
+ghost use Rattle.ascii_lines.specs.LineReader.{IsOpen};
+ghost use Rattle.ascii_lines.specs.LineWriter.{IsReady};
 ghost use Rattle.example_smtp.specs.Deliveries.{ServesMail};
 ghost use Rattle.example_smtp.specs.Mail.{IsFresh, state_of};
 
@@ -24,10 +23,8 @@ pub fn receive<S: Source, K: Sink, A: Allocator, B: Allocator>(
     requires reader { IsOpen reader.old }
     requires writer { IsReady writer.old }
     requires session { IsFresh (state_of session.old) }
-    ensures { ServesMail (state_of_reader S.rest S.failures reader.old)
-        (state_of_writer K.Sink writer.old) session.old result
-        (state_of_reader S.rest S.failures reader.new)
-        (state_of_writer K.Sink writer.new) session.new }
+    ensures { ServesMail reader.old writer.old session.old result reader.new writer.new
+        session.new }
 {
     serve(alloc, reader, writer, Ending::CrLf, session)
 }

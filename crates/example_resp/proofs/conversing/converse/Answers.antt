@@ -1,6 +1,5 @@
 use Rattle.std.proofs.Common.{subst}
 use Rattle.ascii.specs.declared.iter.spans.Ending.TheVariants.{CrLf}
-use Rattle.ascii_lines.specs.LineWriter.{state_of_writer}
 use Rattle.ascii_lines.specs.Serve.{SendsBytes, WritesReplies, writing_of}
 use Rattle.ascii_lines.specs.declared.serving.Next.TheVariants as next
 use Rattle.example_resp.proofs.LineBreakLemmas.{fresh_plain, not_broken, talks_plain}
@@ -9,8 +8,8 @@ use Rattle.example_resp.proofs.conversing.converse.Goals as goal
 pub returns-clause-lines : goal.returns-clause-lines
 returns-clause-lines g c = λ k is.
     let served = c.serve.ensures in
-    let old = state_of_writer g.K.Sink c.args.writer.now in
-    let new = state_of_writer g.K.Sink c.serve.new.writer in
+    let old = c.args.writer.now.state in
+    let new = c.serve.new.writer.state in
     let plain = talks_plain _ c.args.session.now served.state next.Line served.last
     served.talk.inputs served.replies served.talk.talks (fresh_plain _ c.requires.session) in
     let stops = subst
