@@ -4,6 +4,7 @@
 mod endings;
 mod line_reader;
 mod line_writer;
+mod next_bytes;
 mod of_ascii_lines;
 mod serving;
 

@@ -19,6 +19,17 @@ fn compare<R: Abort, S: Source>(rt: &R, reader: &mut LineReader<S>, want: Found<
     assert_row!(rt; got, want);
 }
 
+/// Compares what a reader of ASCII bytes returns next as bytes.
+fn compare_bytes<R: Abort, S: Source>(rt: &R, reader: &mut LineReader<S>, want: Found<'_>) {
+    let got = reader.next_bytes().map(|line| line.map(|line| (
+        line.start,
+        line.text.map(|text| text.as_str()),
+        line.ending,
+    )));
+    let want = want.map(|line| line.map(|(start, body, ending)| (start, Ok(body), ending)));
+    assert_row!(rt; got, want);
+}
+
 /// The first line of a text, without and with its ending: up to the first LF or CR LF, or all of it.
 fn first_line(text: &str, endings: Endings) -> (&str, &str) {
     let mark = match endings {
@@ -65,16 +76,35 @@ fn expected(text: &str, start: u64, endings: Endings, size: usize) -> Found<'_> 
     }))
 }
 
+/// Compares what a reader of ASCII bytes returns next, as text or as bytes.
+fn compare_by<R: Abort, S: Source>(
+    rt: &R,
+    reader: &mut LineReader<S>,
+    as_bytes: bool,
+    want: Found<'_>,
+) {
+    if as_bytes {
+        compare_bytes(rt, reader, want);
+    } else {
+        compare(rt, reader, want);
+    }
+}
+
 /// The reader returns what is expected of each line, and then keeps returning `None` or the error.
-fn agrees<R: Abort>(rt: &R, alloc: Global, text: &str, endings: Endings, size: usize, most: usize) {
+fn agrees<R: Abort>(
+    rt: &R,
+    alloc: Global,
+    text: &str,
+    (endings, size): (Endings, usize),
+    (most, as_bytes): (usize, bool),
+) {
     let source = giving(text.as_bytes(), most);
-    let mut reader = LineReader::new(alloc, source, size).expect(rt, "refused");
-    reader.lines_ended_by(endings);
+    let mut reader = LineReader::new(alloc, source, size, endings).expect(rt, "refused");
     let mut rest = text;
     for _ in 0..9 {
         let start = text.len().saturating_sub(rest.len()) as u64;
         let want = expected(rest, start, endings, size);
-        compare(rt, &mut reader, want);
+        compare_by(rt, &mut reader, as_bytes, want);
         if let Ok(Some(_)) = want {
             let (body, mark) = first_line(rest, endings);
             let n = body.len().saturating_add(mark.len());
@@ -94,8 +124,9 @@ fn all_short_texts_by_each_kind(rt: HostRuntime) {
             let text = str::from_utf8(&text).expect(&rt, "text");
             for endings in KINDS {
                 for size in 1..8 {
-                    agrees(&rt, rt.alloc(), text, endings, size, 1);
-                    agrees(&rt, rt.alloc(), text, endings, size, 100);
+                    for by in [(1, false), (100, false), (1, true), (100, true)] {
+                        agrees(&rt, rt.alloc(), text, (endings, size), by);
+                    }
                 }
             }
         }
@@ -111,8 +142,9 @@ fn compare_lines<R: Abort>(
     endings: Endings,
     want: &[Found<'_>],
 ) {
-    let mut reader = LineReader::new(alloc, giving(text, most), size).expect(rt, "refused");
-    reader.lines_ended_by(endings);
+    let mut reader = LineReader::new(alloc, giving(text, most), size, endings).expect(
+        rt, "refused",
+    );
     for &line in want {
         compare(rt, &mut reader, line);
     }
@@ -188,8 +220,9 @@ fn the_first_fault_by_its_byte(rt: HostRuntime) {
 #[test]
 fn a_failure_after_a_cr(rt: HostRuntime) {
     let source = failing(b"a\rb", 1, 2);
-    let mut reader = LineReader::new(rt.alloc(), source, 9).expect(&rt, "refused");
-    reader.lines_ended_by(Endings::CrLfStrict);
+    let mut reader = LineReader::new(rt.alloc(), source, 9, Endings::CrLfStrict).expect(
+        &rt, "refused",
+    );
     compare(&rt, &mut reader, Err(LineError::Read));
     compare(&rt, &mut reader, Err(LineError::Read));
 }
@@ -197,8 +230,9 @@ fn a_failure_after_a_cr(rt: HostRuntime) {
 #[test]
 fn parts_and_a_change_of_endings(rt: HostRuntime) {
     let source = Input::new(b"3\r\n\r\nx\r\ny\nz\r".as_slice());
-    let mut reader = LineReader::new(rt.alloc(), source, 9).expect(&rt, "refused");
-    reader.lines_ended_by(Endings::CrLfStrict);
+    let mut reader = LineReader::new(rt.alloc(), source, 9, Endings::CrLfStrict).expect(
+        &rt, "refused",
+    );
     compare(&rt, &mut reader, Ok(Some((0, "3", Ending::CrLf))));
     let part = reader.read_exact_part(3);
     assert_row!(rt; part.map(|part| (part.start, part.text.as_str())), Ok((3, "\r\nx")));

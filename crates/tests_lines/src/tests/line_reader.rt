@@ -1,7 +1,8 @@
 //! A line reader over sources that give little at a call, that fail, and that hold what it rejects.
 
 use ascii_lines::{
-    CollectedLines, Ending, Input, LineError, LineReader, OwnedLine, ReadPart, collect_lines,
+    CollectedLines, Ending, Endings, Input, LineError, LineReader, OwnedLine, ReadPart,
+    collect_lines,
 };
 use std::alloc::{AllocError, Global};
 use std::io::{self, ErrorKind};
@@ -53,7 +54,7 @@ fn kept(
     source: Input<Counted<'_>>,
     size: usize,
 ) -> Result<CollectedLines, AllocError> {
-    let mut reader = LineReader::new(alloc, source, size)?;
+    let mut reader = LineReader::new(alloc, source, size, Endings::Any)?;
     collect_lines(alloc, &mut reader)
 }
 
@@ -207,15 +208,16 @@ fn a_failure_at_each_call(rt: HostRuntime) {
     assert_row!(rt; last.error, Some(LineError::Read));
 }
 
-/// The source is called this often before the first answer other than a line, and not once after it.
+/// The source is called this often before the first answer other than a line, and not once after it; and the
+/// position stays.
 fn stays<R: Abort>(
     rt: &R,
     alloc: Global,
     source: Input<Counted<'_>>,
-    calls: u64,
+    (calls, position): (u64, u64),
     error: Option<LineError>,
 ) {
-    let mut reader = LineReader::new(alloc, source, 3).expect(rt, "refused");
+    let mut reader = LineReader::new(alloc, source, 3, Endings::Any).expect(rt, "refused");
     assert_row!(rt; collect_lines(alloc, &mut reader)
             .expect(rt, "refused")
             .error, error);
@@ -227,6 +229,10 @@ fn stays<R: Abort>(
             }
             Err(again) => assert_row!(rt; Some(again), error),
         }
+        assert_row!(rt; reader.next_bytes().err(), error);
+        let part = reader.read_exact_part(1).err();
+        assert_row!(rt; part, Some(error.unwrap_or(LineError::Incomplete(0))));
+        assert_row!(rt; reader.position(), position);
     }
     assert_row!(rt; reader.into_source().into_inner().calls, calls);
 }
@@ -234,28 +240,34 @@ fn stays<R: Abort>(
 #[test]
 fn an_answer_for_good(rt: HostRuntime) {
     let alloc = rt.alloc();
-    stays(&rt, alloc, giving(b"a\nb", 1), 4, None);
-    stays(&rt, alloc, giving(b"a\n", 1), 3, None);
+    stays(&rt, alloc, giving(b"a\nb", 1), (4, 3), None);
+    stays(&rt, alloc, giving(b"a\n", 1), (3, 2), None);
     stays(
         &rt,
         alloc,
         giving(b"a\nb\xffc", 1),
-        4,
+        (4, 2),
         Some(LineError::NotAscii(3)),
     );
     stays(
         &rt,
         alloc,
         giving(b"a\nbcdef", 1),
-        6,
+        (6, 2),
         Some(LineError::TooLong(2)),
     );
-    stays(&rt, alloc, failing(b"a\nb", 1, 2), 3, Some(LineError::Read));
+    stays(
+        &rt,
+        alloc,
+        failing(b"a\nb", 1, 2),
+        (3, 2),
+        Some(LineError::Read),
+    );
     stays(
         &rt,
         alloc,
         failing(b"abcdef", 1, 3),
-        4,
+        (4, 0),
         Some(LineError::Read),
     );
 }
@@ -263,7 +275,7 @@ fn an_answer_for_good(rt: HostRuntime) {
 #[test]
 fn one_line_at_a_time(rt: HostRuntime) {
     let source = Input::new(b"GET / \r\n\r\nbody".as_slice());
-    let mut reader = LineReader::new(rt.alloc(), source, 16).expect(&rt, "refused");
+    let mut reader = LineReader::new(rt.alloc(), source, 16, Endings::Any).expect(&rt, "refused");
     let first = reader
         .next_line()
         .ok()
@@ -294,7 +306,7 @@ fn one_line_at_a_time(rt: HostRuntime) {
 #[test]
 fn no_memory_for_the_buffer(rt: HostRuntime) {
     let source = Input::new(b"abc".as_slice());
-    assert!(rt; LineReader::new(rt.alloc(), source, usize::MAX).is_err());
+    assert!(rt; LineReader::new(rt.alloc(), source, usize::MAX, Endings::Any).is_err());
 }
 
 /// Compares what a reader returns for a part with a text and its start.
@@ -311,7 +323,9 @@ fn parts_and_lines_in_turn(rt: HostRuntime) {
     for most in [1, 2, 100] {
         for size in [5, 6, 64] {
             let source = giving(b"$5\r\na\nb\rc\r\nxyz", most);
-            let mut reader = LineReader::new(rt.alloc(), source, size).expect(&rt, "refused");
+            let mut reader = LineReader::new(rt.alloc(), source, size, Endings::Any).expect(
+                &rt, "refused",
+            );
             let line = reader
                 .next_line()
                 .map(|line| line.map(|line| line.text.len()));
@@ -340,18 +354,24 @@ fn parts_and_lines_in_turn(rt: HostRuntime) {
 fn a_part_with_bad_input(rt: HostRuntime) {
     let alloc = rt.alloc();
     for most in [1, 100] {
-        let mut other = LineReader::new(alloc, giving(b"a\nbc\xffd", most), 4).expect(
+        let mut other = LineReader::new(alloc, giving(b"a\nbc\xffd", most), 4, Endings::Any).expect(
             &rt, "refused",
         );
         compare_part(&rt, other.read_exact_part(4), Ok((0, "a\nbc")));
         compare_part(&rt, other.read_exact_part(2), Err(LineError::NotAscii(4)));
-        let mut long = LineReader::new(alloc, giving(b"abcdef", most), 4).expect(&rt, "refused");
+        let mut long = LineReader::new(alloc, giving(b"abcdef", most), 4, Endings::Any).expect(
+            &rt, "refused",
+        );
         compare_part(&rt, long.read_exact_part(1), Ok((0, "a")));
         compare_part(&rt, long.read_exact_part(5), Err(LineError::TooLong(1)));
-        let mut failed = LineReader::new(alloc, failing(b"abc", 1, 2), 4).expect(&rt, "refused");
+        let mut failed = LineReader::new(alloc, failing(b"abc", 1, 2), 4, Endings::Any).expect(
+            &rt, "refused",
+        );
         compare_part(&rt, failed.read_exact_part(3), Err(LineError::Read));
         compare_part(&rt, failed.read_exact_part(1), Err(LineError::Read));
-        let mut ended = LineReader::new(alloc, giving(b"ab", most), 4).expect(&rt, "refused");
+        let mut ended = LineReader::new(alloc, giving(b"ab", most), 4, Endings::Any).expect(
+            &rt, "refused",
+        );
         assert!(rt; ended.next_line().is_ok());
         compare_part(&rt, ended.read_exact_part(1), Err(LineError::Incomplete(0)));
         assert_row!(rt; ended.next_line(), Ok(None));

@@ -104,6 +104,43 @@ fn a_failure_at_each_call_leaves_a_prefix(rt: HostRuntime) {
     }
 }
 
+static BYTES_WITH_A_PART: &str = "$5\r\na\nb\r\n\r\n";
+
+/// Writes a part between two lines and flushes, up to the first error.
+fn write_with_a_part(writer: &mut LineWriter<Output<Counted>>) -> Result<(), WriteError> {
+    writer.write_line(ascii("$5"), Ending::CrLf)?;
+    writer.write_part(ascii("a\nb\r\n"))?;
+    writer.write_line(ascii(""), Ending::CrLf)?;
+    writer.flush()
+}
+
+#[test]
+fn a_part_goes_out_as_it_is(rt: HostRuntime) {
+    for size in 0..13 {
+        for most in [1, 3, 100] {
+            let sink = sink(rt.alloc(), most, u64::MAX);
+            let mut writer = LineWriter::new(rt.alloc(), sink, size).expect(&rt, "refused");
+            assert_row!(rt; write_with_a_part(&mut writer), Ok(()));
+            let sink = writer.into_sink().into_inner();
+            assert!(rt; sink.taken.as_slice() == BYTES_WITH_A_PART.as_bytes());
+        }
+    }
+}
+
+#[test]
+fn a_failure_with_a_part_leaves_a_prefix(rt: HostRuntime) {
+    for size in [0, 1, 4, 64] {
+        for fails in 0..12 {
+            let sink = sink(rt.alloc(), 1, fails);
+            let mut writer = LineWriter::new(rt.alloc(), sink, size).expect(&rt, "refused");
+            assert_row!(rt; write_with_a_part(&mut writer), Err(WriteError::Write));
+            assert_row!(rt; writer.write_part(ascii("x")), Err(WriteError::Write));
+            let taken = BYTES_WITH_A_PART.as_bytes().get(..fails as usize);
+            compare(&rt, writer, taken.unwrap_or_default(), fails + 1);
+        }
+    }
+}
+
 #[test]
 fn a_line_break_in_the_body_changes_nothing(rt: HostRuntime) {
     let sink = sink(rt.alloc(), 100, u64::MAX);

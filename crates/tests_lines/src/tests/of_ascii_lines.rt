@@ -45,24 +45,15 @@ fn fmt_of_write_error(rt: HostRuntime) {
 #[test]
 fn new_of_line_reader(rt: HostRuntime) {
     let alloc = rt.alloc();
-    let mut reader = LineReader::new(alloc, Input::new(b"ab\r\ncd".as_slice()), 64).expect(
-        &rt, "refused",
-    );
+    let source = Input::new(b"ab\r\ncd".as_slice());
+    let mut reader = LineReader::new(alloc, source, 64, Endings::Any).expect(&rt, "refused");
     assert_debug!(
         rt;
         reader.next_line(),
         "Ok(Some(ReadLine { start: 0, text: \"ab\", ending: CrLf }))"
     );
-}
-
-// LineReader::lines_ended_by
-#[test]
-fn lines_ended_by_of_line_reader(rt: HostRuntime) {
-    let alloc = rt.alloc();
-    let mut reader = LineReader::new(alloc, Input::new(b"a\nb\r\nc".as_slice()), 64).expect(
-        &rt, "refused",
-    );
-    reader.lines_ended_by(Endings::CrLf);
+    let source = Input::new(b"a\nb\r\nc".as_slice());
+    let mut reader = LineReader::new(alloc, source, 64, Endings::CrLf).expect(&rt, "refused");
     assert_debug!(
         rt;
         reader.next_line(),
@@ -73,10 +64,8 @@ fn lines_ended_by_of_line_reader(rt: HostRuntime) {
         reader.next_line(),
         "Ok(Some(ReadLine { start: 5, text: \"c\", ending: Absent }))"
     );
-    let mut reader = LineReader::new(alloc, Input::new(b"a\r\nb\nc\r\n".as_slice()), 64).expect(
-        &rt, "refused",
-    );
-    reader.lines_ended_by(Endings::CrLfStrict);
+    let source = Input::new(b"a\r\nb\nc\r\n".as_slice());
+    let mut reader = LineReader::new(alloc, source, 64, Endings::CrLfStrict).expect(&rt, "refused");
     assert_debug!(
         rt;
         reader.next_line(),
@@ -85,11 +74,26 @@ fn lines_ended_by_of_line_reader(rt: HostRuntime) {
     assert_debug!(rt; reader.next_line(), "Err(LoneBreak(4))");
 }
 
+// LineReader::lines_ended_by
+#[test]
+fn lines_ended_by_of_line_reader(rt: HostRuntime) {
+    let alloc = rt.alloc();
+    let source = Input::new(b"a\nb\r\nc".as_slice());
+    let mut reader = LineReader::new(alloc, source, 64, Endings::Any).expect(&rt, "refused");
+    reader.lines_ended_by(Endings::CrLf);
+    assert_debug!(
+        rt;
+        reader.next_line(),
+        "Ok(Some(ReadLine { start: 0, text: \"a\\nb\", ending: CrLf }))"
+    );
+}
+
 // LineReader::into_source
 #[test]
 fn into_source_of_line_reader(rt: HostRuntime) {
     let alloc = rt.alloc();
-    let reader = LineReader::new(alloc, Input::new(b"ab\n".as_slice()), 64).expect(&rt, "refused");
+    let source = Input::new(b"ab\n".as_slice());
+    let reader = LineReader::new(alloc, source, 64, Endings::Any).expect(&rt, "refused");
     assert_debug!(rt; reader.into_source().into_inner(), "[97, 98, 10]");
 }
 
@@ -97,9 +101,8 @@ fn into_source_of_line_reader(rt: HostRuntime) {
 #[test]
 fn position_of_line_reader(rt: HostRuntime) {
     let alloc = rt.alloc();
-    let mut reader = LineReader::new(alloc, Input::new(b"ab\r\ncd".as_slice()), 64).expect(
-        &rt, "refused",
-    );
+    let source = Input::new(b"ab\r\ncd".as_slice());
+    let mut reader = LineReader::new(alloc, source, 64, Endings::Any).expect(&rt, "refused");
     assert_debug!(rt; reader.position(), "0");
     let _ = reader.next_line();
     assert_debug!(rt; reader.position(), "4");
@@ -109,9 +112,8 @@ fn position_of_line_reader(rt: HostRuntime) {
 #[test]
 fn next_line_of_line_reader(rt: HostRuntime) {
     let alloc = rt.alloc();
-    let mut reader = LineReader::new(alloc, Input::new(b"\nc".as_slice()), 64).expect(
-        &rt, "refused",
-    );
+    let source = Input::new(b"\nc".as_slice());
+    let mut reader = LineReader::new(alloc, source, 64, Endings::Any).expect(&rt, "refused");
     assert_debug!(
         rt;
         reader.next_line(),
@@ -123,9 +125,8 @@ fn next_line_of_line_reader(rt: HostRuntime) {
         "Ok(Some(ReadLine { start: 1, text: \"c\", ending: Absent }))"
     );
     assert_debug!(rt; reader.next_line(), "Ok(None)");
-    let mut reader = LineReader::new(alloc, Input::new(b"a\nbcd\n".as_slice()), 3).expect(
-        &rt, "refused",
-    );
+    let source = Input::new(b"a\nbcd\n".as_slice());
+    let mut reader = LineReader::new(alloc, source, 3, Endings::Any).expect(&rt, "refused");
     assert_debug!(
         rt;
         reader.next_line(),
@@ -134,13 +135,30 @@ fn next_line_of_line_reader(rt: HostRuntime) {
     assert_debug!(rt; reader.next_line(), "Err(TooLong(2))");
 }
 
+// LineReader::next_bytes
+#[test]
+fn next_bytes_of_line_reader(rt: HostRuntime) {
+    let alloc = rt.alloc();
+    let source = Input::new(b"ab\n\xffc\n".as_slice());
+    let mut reader = LineReader::new(alloc, source, 64, Endings::Any).expect(&rt, "refused");
+    assert_debug!(
+        rt;
+        reader.next_bytes(),
+        "Ok(Some(ReadBytes { start: 0, bytes: [97, 98], text: Ok(\"ab\"), ending: Lf }))"
+    );
+    assert_debug!(
+        rt;
+        reader.next_bytes(),
+        "Ok(Some(ReadBytes { start: 3, bytes: [255, 99], text: Err(3), ending: Lf }))"
+    );
+}
+
 // LineReader::read_exact_part
 #[test]
 fn read_exact_part_of_line_reader(rt: HostRuntime) {
     let alloc = rt.alloc();
-    let mut reader = LineReader::new(alloc, Input::new(b"$4\na\nbc\nd".as_slice()), 64).expect(
-        &rt, "refused",
-    );
+    let source = Input::new(b"$4\na\nbc\nd".as_slice());
+    let mut reader = LineReader::new(alloc, source, 64, Endings::Any).expect(&rt, "refused");
     assert_debug!(
         rt;
         reader.next_line(),
@@ -191,6 +209,19 @@ fn write_line_of_line_writer(rt: HostRuntime) {
     assert_debug!(rt; writer.into_sink().into_inner(), "[99, 10]");
 }
 
+// LineWriter::write_part
+#[test]
+fn write_part_of_line_writer(rt: HostRuntime) {
+    let alloc = rt.alloc();
+    let mut writer = LineWriter::new(alloc, Output::new(Vec::new(alloc)), 64).expect(
+        &rt, "refused",
+    );
+    assert_debug!(rt; writer.write_line(view("$3"), Ending::CrLf), "Ok(())");
+    assert_debug!(rt; writer.write_part(view("a\nb")), "Ok(())");
+    assert_debug!(rt; writer.flush(), "Ok(())");
+    assert_debug!(rt; writer.into_sink().into_inner(), "[36, 51, 13, 10, 97, 10, 98]");
+}
+
 // LineWriter::flush
 #[test]
 fn flush_of_line_writer(rt: HostRuntime) {
@@ -205,9 +236,8 @@ fn flush_of_line_writer(rt: HostRuntime) {
 #[test]
 fn collect_lines_of_ascii_lines(rt: HostRuntime) {
     let alloc = rt.alloc();
-    let mut reader = LineReader::new(alloc, Input::new(b"ab\n\xff".as_slice()), 64).expect(
-        &rt, "refused",
-    );
+    let source = Input::new(b"ab\n\xff".as_slice());
+    let mut reader = LineReader::new(alloc, source, 64, Endings::Any).expect(&rt, "refused");
     let kept = collect_lines(alloc, &mut reader).expect(&rt, "refused");
     assert_debug!(rt; kept.lines.len(), "1");
     assert_debug!(rt; kept.error, "Some(NotAscii(3))");
@@ -226,9 +256,8 @@ fn answer_of_handler(rt: HostRuntime) {
 #[test]
 fn serve_of_ascii_lines(rt: HostRuntime) {
     let alloc = rt.alloc();
-    let mut reader = LineReader::new(alloc, Input::new(b"a\r\nb".as_slice()), 64).expect(
-        &rt, "refused",
-    );
+    let source = Input::new(b"a\r\nb".as_slice());
+    let mut reader = LineReader::new(alloc, source, 64, Endings::Any).expect(&rt, "refused");
     let mut writer = LineWriter::new(alloc, Output::new(Vec::new(alloc)), 64).expect(
         &rt, "refused",
     );

@@ -4,8 +4,8 @@ ghost use Rattle.ascii_lines.specs.Serve.{IsRequest};
 
 use super::line_writer::{Counted, sink};
 use ascii_lines::{
-    AsciiStr, AsciiString, Ending, Handler, Input, LineError, LineReader, LineWriter, Next, Output,
-    Stop, WriteError, serve,
+    AsciiStr, AsciiString, Ending, Endings, Handler, Input, LineError, LineReader, LineWriter,
+    Next, Output, Stop, WriteError, serve,
 };
 use std::alloc::{AllocError, Global};
 use std::process::Abort;
@@ -98,7 +98,9 @@ fn served<R: Abort>(
     sink: Output<Counted>,
     stop: Stop,
 ) -> Output<Counted> {
-    let mut reader = LineReader::new(alloc, Input::new(input), 8).expect(rt, "refused");
+    let mut reader = LineReader::new(alloc, Input::new(input), 8, Endings::Any).expect(
+        rt, "refused",
+    );
     let mut writer = LineWriter::new(alloc, sink, 5).expect(rt, "refused");
     let mut words = Words { count: 0 };
     let got = serve(alloc, &mut reader, &mut writer, Ending::CrLf, &mut words);
