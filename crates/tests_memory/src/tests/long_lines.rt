@@ -2,7 +2,7 @@
 
 use super::repeated;
 use ascii_devices::Input;
-use ascii_lines::{LineReader, collect_lines};
+use ascii_lines::{Endings, LineReader, collect_lines};
 use testing::assert_row;
 
 #[test]
@@ -12,7 +12,10 @@ fn lines_of_20000_characters(rt: HostRuntime) {
         .expect(&rt, "no memory");
     let input = repeated(&rt, text.as_ascii_str().as_str(), 3);
     let source = Input::new(input.as_ascii_str().as_bytes());
-    let mut reader = LineReader::new(rt.alloc(), source, 20_002).expect(&rt, "no memory");
+    let mut reader = LineReader::new(rt.alloc(), source, 20_002, Endings::Any).expect(
+        &rt,
+        "no memory",
+    );
     for number in 0u64..3 {
         let line = reader
             .next_line()
@@ -28,7 +31,7 @@ fn lines_of_20000_characters(rt: HostRuntime) {
 fn lines_are_collected(rt: HostRuntime) {
     let input = repeated(&rt, "0123456789\n", 2_000);
     let source = Input::new(input.as_ascii_str().as_bytes());
-    let mut reader = LineReader::new(rt.alloc(), source, 64).expect(&rt, "no memory");
+    let mut reader = LineReader::new(rt.alloc(), source, 64, Endings::Any).expect(&rt, "no memory");
     let collected = collect_lines(rt.alloc(), &mut reader).expect(&rt, "no memory");
     assert_row!(rt; collected.lines.len(), 2_000);
     assert_row!(rt; collected.error, None);
