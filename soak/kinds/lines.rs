@@ -25,16 +25,20 @@ impl<'a> Model<'a> {
         Model { source, size, fails: usize::MAX, start: 0, endings: 0, has_ended: false, error: None }
     }
 
-    /// The next line: its start, its body and its ending. Goes through the bytes once, so the first byte that shows a
-    /// fault decides.
+    /// The next line: its start, its body and its ending.
     fn next_line(&mut self) -> Result<(usize, &'a [u8], &'static str), Stop> {
+        self.next(true)
+    }
+
+    /// The next line, which is ASCII or may have any bytes.
+    fn next(&mut self, is_ascii: bool) -> Result<(usize, &'a [u8], &'static str), Stop> {
         if let Some(error) = self.error {
             return Err(error);
         }
         if self.has_ended {
             return Err(None);
         }
-        match self.line_at() {
+        match self.line_at(is_ascii) {
             Ok((body, ending, next)) => {
                 let start = std::mem::replace(&mut self.start, next);
                 self.has_ended = ending == "none";
@@ -51,7 +55,8 @@ impl<'a> Model<'a> {
         }
     }
 
-    fn line_at(&self) -> Result<(&'a [u8], &'static str, usize), Stop> {
+    /// Goes through the bytes once, so the first byte that shows a fault decides.
+    fn line_at(&self, is_ascii: bool) -> Result<(&'a [u8], &'static str, usize), Stop> {
         let (start, is_strict) = (self.start, self.endings == 2);
         let rest = &self.source[start..];
         let mut follows_cr = false;
@@ -60,7 +65,7 @@ impl<'a> Model<'a> {
             match byte {
                 _ if place == self.fails => return Err(Some(("read", None))),
                 _ if at == self.size => return Err(Some(("long", Some(start)))),
-                128.. => return Err(Some(("ascii", Some(place)))),
+                128.. if is_ascii => return Err(Some(("ascii", Some(place)))),
                 b'\n' if follows_cr => return Ok((&rest[..at - 1], "crlf", place + 1)),
                 b'\n' if self.endings == 0 => return Ok((&rest[..at], "lf", place + 1)),
                 b'\n' if is_strict => return Err(Some(("lone", Some(place)))),
@@ -122,6 +127,22 @@ fn put_line(line: Result<(usize, &[u8], &'static str), Stop>, want: &mut Answer)
     }
 }
 
+/// A line with its body as text, or the position of its first byte that is not ASCII.
+fn put_line_of_bytes(line: Result<(usize, &[u8], &'static str), Stop>, want: &mut Answer) {
+    match line {
+        Ok((start, body, ending)) => {
+            want.number(start);
+            want.text(body);
+            match non_ascii(body) {
+                Some(at) => want.fault("ascii", start + at),
+                None => want.text(body),
+            }
+            want.text(ending);
+        }
+        Err(stop) => put_stop(stop, want),
+    }
+}
+
 /// A source of lines whose bodies are up to 300 codes, and a buffer.
 fn source_and_size(random: &mut Random) -> (Vec<u8>, usize) {
     let source = match random.below(4) {
@@ -174,7 +195,8 @@ pub fn reader(random: &mut Random, asked: &mut Asked) {
 fn mixed_steps(random: &mut Random, size: usize) -> Vec<Step> {
     let step = |random: &mut Random| match random.below(8) {
         0 => Step { kind: 1 + random.below(3) as u8, ..Step::default() },
-        1..=3 => Step { kind: 4, at: random.part_length(size), ..Step::default() },
+        1 | 2 => Step { kind: 4, at: random.part_length(size), ..Step::default() },
+        3 | 4 => Step { kind: 5, ..Step::default() },
         _ => Step::default(),
     };
     (0..1 + random.count(12)).map(|_| step(random)).collect()
@@ -202,6 +224,7 @@ fn run_steps(model: &mut Model<'_>, steps: &[Step], want: &mut Answer) {
                 }
                 Err(stop) => put_stop(stop, want),
             },
+            5 => put_line_of_bytes(model.next(false), want),
             kind => model.endings = kind - 1,
         }
         want.number(model.start);
@@ -249,16 +272,17 @@ fn lines_to_write(random: &mut Random) -> (Vec<u8>, Vec<Step>, Vec<Answer>, Vec<
         if random.below(4) > 0 {
             text.retain(|byte| break_in(&[*byte]).is_none());
         }
-        let (kind, start) = (random.below(4) as u8, texts.len());
+        let (kind, start) = (random.below(5) as u8, texts.len());
         texts.extend(&text);
         steps.push(Step { kind, start, end: texts.len(), ..Step::default() });
         let mut answer = Answer::default();
-        match break_in(&text) {
-            Some(at) if kind < 3 => answer.fault("break", at),
-            _ => answer.text("done"),
-        }
-        if kind < 3 && break_in(&text).is_none() {
-            sent.extend([&text, ["\n", "\r\n", ""][usize::from(kind)].as_bytes()].concat());
+        match (kind, break_in(&text)) {
+            (0..=2, Some(at)) => answer.fault("break", at),
+            (3, _) => answer.text("done"),
+            _ => {
+                sent.extend([&text, ["\n", "\r\n", "", "", ""][usize::from(kind)].as_bytes()].concat());
+                answer.text("done");
+            }
         }
         answers.push(answer);
     }

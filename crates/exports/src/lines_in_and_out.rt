@@ -15,7 +15,8 @@ use ascii_lines::{
 use std::alloc::{AllocError, Global};
 
 /// What a reader with a buffer of `size` bytes returns to each step, and its position after it. The kinds are 0
-/// for the next line, 1 to 3 for the endings of `Endings` from now on, and 4 for a part of `at` bytes.
+/// for the next line, 1 to 3 for the endings of `Endings` from now on, 4 for a part of `at` bytes, and 5 for the next
+/// line as bytes.
 pub fn ask_reader(
     alloc: Global,
     source: &[u8],
@@ -25,7 +26,8 @@ pub fn ask_reader(
     room: &mut [u8],
 ) -> usize {
     let mut answer = Answer::new(alloc);
-    if let Ok(mut reader) = LineReader::new(alloc, Input::new(Given::new(source, *device)), size) {
+    let source = Input::new(Given::new(source, *device));
+    if let Ok(mut reader) = LineReader::new(alloc, source, size, Endings::Any) {
         for step in steps {
             read(&mut reader, *step, &mut answer);
             answer.long(reader.position());
@@ -40,19 +42,36 @@ fn read(reader: &mut LineReader<Input<Given<'_>>>, step: Step, answer: &mut Answ
         1 => reader.lines_ended_by(Endings::Any),
         2 => reader.lines_ended_by(Endings::CrLf),
         3 => reader.lines_ended_by(Endings::CrLfStrict),
-        _ => match reader.read_exact_part(step.at) {
+        4 => match reader.read_exact_part(step.at) {
             Ok(part) => {
                 answer.long(part.start);
                 answer.text(part.text);
             }
             Err(error) => put_error(error, answer),
         },
+        _ => put_next_bytes(reader, answer),
     }
 }
 
 fn put_next_line(reader: &mut LineReader<Input<Given<'_>>>, answer: &mut Answer) {
     match reader.next_line() {
         Ok(Some(line)) => put_line(line.start, line.text, line.ending, answer),
+        Ok(None) => answer.none(),
+        Err(error) => put_error(error, answer),
+    }
+}
+
+fn put_next_bytes(reader: &mut LineReader<Input<Given<'_>>>, answer: &mut Answer) {
+    match reader.next_bytes() {
+        Ok(Some(line)) => {
+            answer.long(line.start);
+            answer.bytes(line.bytes);
+            match line.text {
+                Ok(text) => answer.text(text),
+                Err(position) => put_error_at("ascii", position, answer),
+            }
+            answer.name(ending_name(line.ending));
+        }
         Ok(None) => answer.none(),
         Err(error) => put_error(error, answer),
     }
@@ -89,7 +108,8 @@ pub fn ask_collected_lines(
     room: &mut [u8],
 ) -> usize {
     let mut answer = Answer::new(alloc);
-    if let Ok(mut reader) = LineReader::new(alloc, Input::new(Given::new(source, *device)), size) {
+    let source = Input::new(Given::new(source, *device));
+    if let Ok(mut reader) = LineReader::new(alloc, source, size, Endings::Any) {
         if let Ok(kept) = collect_lines(alloc, &mut reader) {
             for line in &kept.lines {
                 put_line(
@@ -109,7 +129,7 @@ pub fn ask_collected_lines(
 }
 
 /// What a writer with a buffer of `size` bytes returns to each step, and what its sink has taken. The kinds are 0
-/// to 2 for a text with an ending, in the order of `Ending`, and 3 for a flush.
+/// to 2 for a text with an ending, in the order of `Ending`, 3 for a flush, and 4 for a text as it is.
 pub fn ask_writer(
     alloc: Global,
     texts: &[u8],
@@ -144,7 +164,8 @@ fn write(
         0 => writer.write_line(text, Ending::Lf),
         1 => writer.write_line(text, Ending::CrLf),
         2 => writer.write_line(text, Ending::Absent),
-        _ => writer.flush(),
+        3 => writer.flush(),
+        _ => writer.write_part(text),
     }
 }
 
@@ -165,7 +186,8 @@ pub fn ask_conversation(
     room: &mut [u8],
 ) -> usize {
     let mut answer = Answer::new(alloc);
-    let reader = LineReader::new(alloc, Input::new(Given::new(source, *reads)), size);
+    let source = Input::new(Given::new(source, *reads));
+    let reader = LineReader::new(alloc, source, size, Endings::Any);
     let writer = LineWriter::new(alloc, Output::new(Taken::new(alloc, *writes)), size);
     if let (Ok(mut reader), Ok(mut writer)) = (reader, writer) {
         let mut echo = Echo { awaits_part: false };

@@ -8,7 +8,7 @@ ghost use Rattle.ascii.specs.Class.{IsWhitespace};
 ghost use Rattle.ascii.specs.Trim.{Trims};
 
 use ascii::{AsciiChar, AsciiStr, AsciiString, bytes};
-use ascii_lines::{LineReader, LineWriter};
+use ascii_lines::{Endings, LineReader, LineWriter};
 use ascii_run::{AsciiBuf, Input, Output, SmallAsciiString};
 use std::alloc::{AllocError, Global};
 use std::io;
@@ -67,7 +67,7 @@ pub fn bench_lines(source: &[u8], from_back: bool) -> usize
 /// The lengths of the lines of an input, mixed in their order, read through a buffer of 64 KiB; 0 if a
 /// line is rejected or an allocation fails.
 pub fn bench_read_lines(alloc: Global, source: &[u8]) -> usize {
-    let Ok(reader) = LineReader::new(alloc, Input::new(source), 65_536) else {
+    let Ok(reader) = LineReader::new(alloc, Input::new(source), 65_536, Endings::Any) else {
         return 0;
     };
     let mut reader = reader;
@@ -85,7 +85,7 @@ pub fn bench_read_lines(alloc: Global, source: &[u8]) -> usize {
 /// The lengths of the lines of an input, mixed in their order, each written again through a buffer of
 /// 64 KiB to an output that drops it; 0 if a line is rejected or an allocation fails.
 pub fn bench_echo_lines(alloc: Global, source: &[u8]) -> usize {
-    let Ok(reader) = LineReader::new(alloc, Input::new(source), 65_536) else {
+    let Ok(reader) = LineReader::new(alloc, Input::new(source), 65_536, Endings::Any) else {
         return 0;
     };
     let Ok(writer) = LineWriter::new(alloc, Output::new(io::sink()), 65_536) else {
