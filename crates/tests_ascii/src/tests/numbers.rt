@@ -1,7 +1,9 @@
 //! Numbers that views write, compared with those that std's `parse` reads.
 
-use ascii::AsciiString;
 use ascii::numbers::NumberError;
+use ascii::{NewBuffer, Text};
+use std::alloc::{AllocError, Global};
+use std::process::Abort;
 use testing::{ascii, assert_row};
 
 /// The most and one more of each type, among others.
@@ -79,10 +81,14 @@ fn the_digits_at_the_start_are_taken(rt: HostRuntime) {
 
 #[test]
 fn digits_are_appended(rt: HostRuntime) {
-    let mut string = AsciiString::new(rt.alloc());
-    string.push_decimal(0u8).expect(&rt, "refused");
-    string.push_decimal(u64::MAX).expect(&rt, "refused");
-    string.push_decimal(-128i8).expect(&rt, "refused");
-    string.push_decimal(u128::MAX).expect(&rt, "refused");
+    digits_over::<Vec<u8>, HostRuntime>(&rt);
+}
+
+fn digits_over<B: NewBuffer<Alloc = Global, Refusal = AllocError>, R: Abort + AllocGlobal>(rt: &R) {
+    let mut string = Text::<B>::new(rt.alloc());
+    string.push_decimal(0u8).expect(rt, "refused");
+    string.push_decimal(u64::MAX).expect(rt, "refused");
+    string.push_decimal(-128i8).expect(rt, "refused");
+    string.push_decimal(u128::MAX).expect(rt, "refused");
     assert_row!(rt; string.as_ascii_str().as_str(), "018446744073709551615-128340282366920938463463374607431768211455");
 }

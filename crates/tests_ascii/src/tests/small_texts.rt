@@ -8,6 +8,8 @@ use ascii::iter::{
     walk_split_spans,
 };
 use ascii::{AsciiChar, AsciiStr, bytes};
+use std::alloc::AllocError;
+use std::fmt::Debug;
 use std::process::Abort;
 use testing::assert_row;
 
@@ -84,6 +86,16 @@ fn taken<T: Copy + Drop, R: Abort + AllocGlobal>(
     answers
 }
 
+/// Fails the test if a walk did not take a list from the ends of a script.
+fn assert_taken<T: Copy + PartialEq + Debug + Drop, R: Abort + AllocGlobal>(
+    rt: &R,
+    walk: Result<Vec<Option<T>>, AllocError>,
+    script: &[End],
+    list: &[T],
+) {
+    assert_row!(rt; walk.expect(rt, "refused"), taken(rt, script, list));
+}
+
 /// The text of a length over CR, LF and `a` that a number stands for.
 fn small_text<R: Abort + AllocGlobal>(rt: &R, length: u32, number: u32) -> Vec<u8> {
     let mut text = Vec::new(rt.alloc());
@@ -122,10 +134,8 @@ fn compare_lines<R: Abort + AllocGlobal>(rt: &R, text: &[u8], scripts: &[Vec<End
     let bodies = lines.iter().map(|line| line.text);
     let bodies: Vec<AsciiStr<'_>> = bodies.collect(alloc).expect(rt, "refused");
     for script in scripts {
-        let spans = walk_line_spans(alloc, view, script).expect(rt, "refused");
-        assert_row!(rt; spans, taken(rt, script, &lines));
-        let texts = walk_lines(alloc, view, script).expect(rt, "refused");
-        assert_row!(rt; texts, taken(rt, script, &bodies));
+        assert_taken(rt, walk_line_spans(alloc, view, script), script, &lines);
+        assert_taken(rt, walk_lines(alloc, view, script), script, &bodies);
     }
 }
 
@@ -139,10 +149,13 @@ fn compare_pieces<R: Abort + AllocGlobal>(rt: &R, text: &[u8], scripts: &[Vec<En
     let bodies = pieces.iter().map(|piece| piece.text);
     let bodies: Vec<AsciiStr<'_>> = bodies.collect(alloc).expect(rt, "refused");
     for script in scripts {
-        let spans = walk_split_spans(alloc, view, on, script).expect(rt, "refused");
-        assert_row!(rt; spans, taken(rt, script, &pieces));
-        let texts = walk_split(alloc, view, on, script).expect(rt, "refused");
-        assert_row!(rt; texts, taken(rt, script, &bodies));
+        assert_taken(
+            rt,
+            walk_split_spans(alloc, view, on, script),
+            script,
+            &pieces,
+        );
+        assert_taken(rt, walk_split(alloc, view, on, script), script, &bodies);
     }
 }
 
