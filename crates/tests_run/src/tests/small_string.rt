@@ -1,6 +1,8 @@
 //! Each call of the form that keeps short texts inline.
 
-use ascii_run::{AsciiBuf, SmallAsciiString};
+use ascii::{Buffer, NewBuffer, Text};
+use ascii_run::{Inline, SmallAsciiString};
+use std::alloc::{AllocError, Global};
 use std::cmp::Ordering;
 use std::collections::HashSet;
 use std::fmt::Write;
@@ -13,7 +15,7 @@ fn small<R: Abort + AllocGlobal>(rt: &R, source: &str) -> SmallAsciiString {
 }
 
 /// The text of a string.
-fn shown(string: &SmallAsciiString) -> &str {
+fn shown<B: Buffer>(string: &Text<B>) -> &str {
     string.as_ascii_str().as_str()
 }
 
@@ -56,8 +58,7 @@ fn conversions(rt: HostRuntime) {
 static RISING: [&str; 7] = ["", "Z", "a", "ab", "abc", "abcdefghijklmnopqrstuvwxyz", "b"];
 
 /// How two texts compare, and whether they are equal.
-fn compared<R: Abort + AllocGlobal>(rt: &R, first: &str, second: &str) -> (Ordering, bool) {
-    let (first, second) = (small(rt, first), small(rt, second));
+fn compared<T: Ord + Drop>(first: T, second: T) -> (Ordering, bool) {
     let order = first.cmp(&second);
     let is_equal = first == second && first.partial_cmp(&second) == Some(order);
     (order, is_equal)
@@ -67,7 +68,8 @@ fn compared<R: Abort + AllocGlobal>(rt: &R, first: &str, second: &str) -> (Order
 fn comparisons(rt: HostRuntime) {
     for (i, first) in RISING.iter().enumerate() {
         for (j, second) in RISING.iter().enumerate() {
-            assert_row!(rt; compared(&rt, *first, *second), (i.cmp(&j), i == j));
+            let order = compared(small(&rt, *first), small(&rt, *second));
+            assert_row!(rt; order, (i.cmp(&j), i == j));
         }
     }
 }
@@ -99,12 +101,18 @@ fn printed(rt: HostRuntime) {
 
 #[test]
 fn written(rt: HostRuntime) {
-    let mut string = SmallAsciiString::new(rt.alloc());
+    written_over::<Inline<24>, HostRuntime>(&rt);
+}
+
+fn written_over<B: NewBuffer<Alloc = Global, Refusal = AllocError>, R: Abort + AllocGlobal>(
+    rt: &R,
+) {
+    let mut string = Text::<B>::new(rt.alloc());
     assert!(rt; string.write_str("ab").is_ok());
     assert!(rt; string.write_str("cé").is_err());
     assert!(rt; string.write_char('λ').is_err());
     assert_row!(rt; shown(&string), "ab");
     assert!(rt; string.write_char('-').is_ok());
-    write!(string, "{} of {:>3}", 1, 20).expect(&rt, "refused");
+    write!(string, "{} of {:>3}", 1, 20).expect(rt, "refused");
     assert_row!(rt; shown(&string), "ab-1 of  20");
 }

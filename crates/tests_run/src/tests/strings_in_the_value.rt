@@ -1,8 +1,13 @@
 //! The string of a fixed capacity, and inline strings of another size than 24.
+//!
+//! Tests with many calls are functions over the buffer, which are called with a fixed or an inline one.
 
-use ascii::{AsciiString, Text};
+use ascii::{AsciiString, CloneBuffer, NewBuffer, Text};
+use ascii_run::buf::Array;
 use ascii_run::{ArrayAsciiString, Full, Inline, SmallAsciiString};
+use std::alloc::{AllocError, Global};
 use std::fmt::Write;
+use std::process::Abort;
 use testing::{ascii, assert_row, view};
 
 /// An inline string of up to 40 characters.
@@ -24,7 +29,11 @@ fn eight_characters_fit_eight(rt: HostRuntime) {
 
 #[test]
 fn what_half_fits_is_refused(rt: HostRuntime) {
-    let mut string = ArrayAsciiString::<8>::from_ascii_str((), view("abcdef")).expect(&rt, "full");
+    half_fits_over::<Array<8>, HostRuntime>(&rt);
+}
+
+fn half_fits_over<B: NewBuffer<Alloc = (), Refusal = Full>, R: Abort>(rt: &R) {
+    let mut string = Text::<B>::from_ascii_str((), view("abcdef")).expect(rt, "full");
     assert_row!(rt; string.insert_str(1, view("xyz")), Err(Full));
     assert_row!(rt; string.push_str(view("xyz")), Err(Full));
     assert_row!(rt; string.reserve(3), Err(Full));
@@ -59,7 +68,11 @@ fn made_of_too_much(rt: HostRuntime) {
     assert!(rt; ArrayAsciiString::<4>::with_capacity((), 4).is_ok());
     assert!(rt; ArrayAsciiString::<4>::with_capacity((), 5).is_err());
     assert!(rt; ArrayAsciiString::<4>::collect_chars((), view("abcd").chars()).is_ok());
-    let mut string = ArrayAsciiString::<4>::new(());
+    extended_over::<Array<4>, HostRuntime>(&rt);
+}
+
+fn extended_over<B: NewBuffer<Alloc = (), Refusal = Full>, R: Abort>(rt: &R) {
+    let mut string = Text::<B>::new(());
     assert_row!(rt; string.extend_chars(view("abcde").chars()), Err(Full));
     assert_row!(rt; string.as_ascii_str().as_str(), "abcd");
     string.clear();
@@ -69,9 +82,13 @@ fn made_of_too_much(rt: HostRuntime) {
 
 #[test]
 fn cut_copied_and_changed(rt: HostRuntime) {
-    let mut string = ArrayAsciiString::<8>::from_ascii_str((), view("foobar")).expect(&rt, "full");
-    let copy = string.clone().expect(&rt, "refused");
-    let tail = string.split_off(3).expect(&rt, "full");
+    changed_over::<Array<8>, HostRuntime>(&rt);
+}
+
+fn changed_over<B: NewBuffer<Alloc = (), Refusal = Full> + CloneBuffer, R: Abort>(rt: &R) {
+    let mut string = Text::<B>::from_ascii_str((), view("foobar")).expect(rt, "full");
+    let copy = string.clone().expect(rt, "refused");
+    let tail = string.split_off(3).expect(rt, "full");
     assert_row!(rt; string.as_ascii_str().as_str(), "foo");
     assert_row!(rt; tail.as_ascii_str().as_str(), "bar");
     assert_row!(rt; copy.as_ascii_str().as_str(), "foobar");
@@ -82,7 +99,7 @@ fn cut_copied_and_changed(rt: HostRuntime) {
     assert_row!(rt; string.as_ascii_str().as_str(), "/O");
     string.make_ascii_lowercase();
     string.truncate(1);
-    write!(string, "{}", 17).expect(&rt, "full");
+    write!(string, "{}", 17).expect(rt, "full");
     assert_row!(rt; string.as_ascii_str().as_str(), "/17");
 }
 
@@ -100,8 +117,15 @@ fn forty_characters_are_inline(rt: HostRuntime) {
 
 #[test]
 fn small_strings_have_the_calls_of_the_large(rt: HostRuntime) {
+    calls_over::<Inline<24>, HostRuntime>(&rt);
+}
+
+fn calls_over<
+    B: NewBuffer<Alloc = Global, Refusal = AllocError> + CloneBuffer,
+    R: Abort + AllocGlobal,
+>(rt: &R) {
     let alloc = rt.alloc();
-    let mut string = SmallAsciiString::with_capacity(alloc, 30).expect(&rt, "refused");
+    let mut string = Text::<B>::with_capacity(alloc, 30).expect(rt, "refused");
     assert!(rt; 30 <= string.capacity() && !string.is_inline());
     assert_row!(rt; string.push_decimal(-17), Ok(()));
     assert_row!(rt; string.extend_chars(view("a-b-c").chars()), Ok(()));
@@ -110,13 +134,13 @@ fn small_strings_have_the_calls_of_the_large(rt: HostRuntime) {
     string.retain(|ch| ch != ascii::AsciiChar::Minus);
     assert_row!(rt; string.as_ascii_str().as_str(), "17abcde");
     assert_row!(rt; string.reserve_exact(40), Ok(()));
-    let tail = string.split_off(2).expect(&rt, "refused");
+    let tail = string.split_off(2).expect(rt, "refused");
     assert_row!(rt; (tail.as_ascii_str().as_str(), tail.is_inline()), ("abcde", true));
     assert_row!(rt; string.as_ascii_str().as_str(), "17");
-    let one = SmallAsciiString::from_char(alloc, ascii::AsciiChar::a).expect(&rt, "refused");
-    assert_row!(rt; one.into_chars(alloc).expect(&rt, "refused").len(), 1);
+    let one = Text::<B>::from_char(alloc, ascii::AsciiChar::a).expect(rt, "refused");
+    assert_row!(rt; one.into_chars(alloc).expect(rt, "refused").len(), 1);
     let split = view("b,c").split(ascii::AsciiChar::Comma);
-    let joined = SmallAsciiString::collect_strs(alloc, split).expect(&rt, "refused");
+    let joined = Text::<B>::collect_strs(alloc, split).expect(rt, "refused");
     assert_row!(rt; joined.as_ascii_str().as_str(), "bc");
 }
 
