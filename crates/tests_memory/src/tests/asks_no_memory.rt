@@ -3,7 +3,7 @@
 use super::each_allocation::{Heap, right, shown, view};
 use ascii::iter::{End, walk_line_spans, walk_lines, walk_split, walk_split_spans};
 use ascii::json::string_from_json;
-use ascii::{AsciiChar, AsciiStr, AsciiString, bytes, text, vec};
+use ascii::{AsciiChar, AsciiStr, AsciiString, NewBuffer, Text, bytes, text, vec};
 use ascii_run::run;
 use serde_json::Value;
 use std::alloc::{AllocError, Global};
@@ -12,7 +12,20 @@ use testing::FailNth;
 
 /// A call on the empty string.
 fn on_empty(alloc: Global, heap: &Heap, call: &str) -> Result<String, AllocError> {
-    let mut string = AsciiString::new(heap);
+    if call == "run" {
+        let mut string = AsciiString::new(heap);
+        return shown(alloc, run(heap, &mut string, &[]));
+    }
+    on_empty_over::<Vec<u8, &Heap>>(alloc, heap, call)
+}
+
+/// A call on the empty string with any buffer.
+fn on_empty_over<B: NewBuffer<Refusal = AllocError>>(
+    alloc: Global,
+    heap: B::Alloc,
+    call: &str,
+) -> Result<String, AllocError> {
+    let mut string = Text::<B>::new(heap);
     let none: AsciiStr<'_> = view("");
     match call {
         "push_str" => shown(alloc, string.push_str(none)),
@@ -25,7 +38,6 @@ fn on_empty(alloc: Global, heap: &Heap, call: &str) -> Result<String, AllocError
         "write_char of more" => shown(alloc, string.write_char('ø')),
         "extend_chars" => shown(alloc, string.extend_chars(none.chars())),
         "extend_strs" => shown(alloc, string.extend_strs(none.split(AsciiChar::a))),
-        "run" => shown(alloc, run(heap, &mut string, &[])),
         _ => Err(AllocError),
     }
 }

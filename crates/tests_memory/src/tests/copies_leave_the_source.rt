@@ -4,23 +4,38 @@ use super::each_allocation::{
     Heap, shown, view, with_each_allocation_failing, with_each_two_allocations_failing,
 };
 use ascii::iter::{End, walk_line_spans, walk_lines, walk_split, walk_split_spans};
-use ascii::{AsciiChar, AsciiStr, AsciiString, BoxedAsciiStr, RcAsciiStr};
+use ascii::{AsciiChar, AsciiStr, BoxedAsciiStr, NewBuffer, RcAsciiStr, Text};
 use std::alloc::{AllocError, Global};
+
+/// A call that makes a string with any buffer.
+fn made_over<B: NewBuffer<Refusal = AllocError>>(
+    alloc: Global,
+    heap: B::Alloc,
+    call: &str,
+) -> Result<String, AllocError> {
+    let source = view("aB,c");
+    match call {
+        "with_capacity" => shown(alloc, Text::<B>::with_capacity(heap, 10)),
+        "from_char" => shown(alloc, Text::<B>::from_char(heap, AsciiChar::a)),
+        "from_chars" => {
+            let chars = [AsciiChar::a, AsciiChar::B];
+            shown(alloc, Text::<B>::from_chars(heap, &chars))
+        }
+        "collect_chars" => shown(alloc, Text::<B>::collect_chars(heap, source.chars())),
+        "collect_strs" => {
+            let pieces = source.split(AsciiChar::Comma);
+            shown(alloc, Text::<B>::collect_strs(heap, pieces))
+        }
+        _ => Err(AllocError),
+    }
+}
 
 /// A call that makes a text.
 fn made(alloc: Global, heap: &Heap, call: &str) -> Result<String, AllocError> {
     let source = view("aB,c");
     match call {
-        "with_capacity" => shown(alloc, AsciiString::with_capacity(heap, 10)),
-        "from_char" => shown(alloc, AsciiString::from_char(heap, AsciiChar::a)),
-        "from_chars" => {
-            let chars = [AsciiChar::a, AsciiChar::B];
-            shown(alloc, AsciiString::from_chars(heap, &chars))
-        }
-        "collect_chars" => shown(alloc, AsciiString::collect_chars(heap, source.chars())),
-        "collect_strs" => {
-            let pieces = source.split(AsciiChar::Comma);
-            shown(alloc, AsciiString::collect_strs(heap, pieces))
+        "with_capacity" | "from_char" | "from_chars" | "collect_chars" | "collect_strs" => {
+            made_over::<Vec<u8, &Heap>>(alloc, heap, call)
         }
         "to_ascii_string" => shown(alloc, source.to_ascii_string(heap)),
         "to_ascii_uppercase" => shown(alloc, source.to_ascii_uppercase(heap)),

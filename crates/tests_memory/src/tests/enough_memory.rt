@@ -2,8 +2,11 @@
 //! `tests_ascii` and `tests_run`.
 
 use ascii::iter::{End, walk_line_spans, walk_split_spans};
-use ascii::{AsciiChar, AsciiRange, AsciiStr, AsciiString, CowAsciiStr, bytes};
-use ascii_run::{AsciiBuf, Cmd, Input, Mode, Output, Reply, SmallAsciiString, engine, run_both};
+use ascii::{
+    AsciiChar, AsciiRange, AsciiStr, CloneBuffer, CowAsciiStr, InlineBuffer, NewBuffer, Text, bytes,
+};
+use ascii_run::{Cmd, Inline, Input, Mode, Output, Reply, engine, run_both};
+use std::alloc::{AllocError, Global};
 use std::fmt::Write;
 use std::process::Abort;
 use testing::assert_row;
@@ -11,9 +14,12 @@ use testing::assert_row;
 const LENGTHS: [usize; 4] = [0, 1, 33, 5_000];
 
 /// Makes room in a string of the view, and gives it back.
-fn room<R: Abort + AllocGlobal>(rt: &R, source: AsciiStr<'_>) {
+fn room<B: NewBuffer<Alloc = Global, Refusal = AllocError>, R: Abort + AllocGlobal>(
+    rt: &R,
+    source: AsciiStr<'_>,
+) {
     let length = source.len();
-    let mut string = AsciiString::with_capacity(rt.alloc(), length).expect(rt, "refused");
+    let mut string = Text::<B>::with_capacity(rt.alloc(), length).expect(rt, "refused");
     string.push_str(source).expect(rt, "refused");
     assert!(rt; length <= 5_000);
     string.reserve(length).expect(rt, "refused");
@@ -25,9 +31,12 @@ fn room<R: Abort + AllocGlobal>(rt: &R, source: AsciiStr<'_>) {
 }
 
 /// Lets a string of the view grow by each of the edits.
-fn grown<R: Abort + AllocGlobal>(rt: &R, source: AsciiStr<'_>) {
+fn grown<B: NewBuffer<Alloc = Global, Refusal = AllocError>, R: Abort + AllocGlobal>(
+    rt: &R,
+    source: AsciiStr<'_>,
+) {
     let length = source.len();
-    let mut string = source.to_ascii_string(rt.alloc()).expect(rt, "refused");
+    let mut string = Text::<B>::from_ascii_str(rt.alloc(), source).expect(rt, "refused");
     string.shrink_to_fit().expect(rt, "refused");
     string.push(AsciiChar::b).expect(rt, "refused");
     string.insert(0, AsciiChar::b).expect(rt, "refused");
@@ -78,10 +87,13 @@ fn spans<R: Abort + AllocGlobal>(rt: &R, source: AsciiStr<'_>) {
 }
 
 /// Lets an inline string of the view grow by each of the edits, and converts it into an `AsciiString`.
-fn small<R: Abort + AllocGlobal>(rt: &R, source: AsciiStr<'_>) {
+fn small<B, R: Abort + AllocGlobal>(rt: &R, source: AsciiStr<'_>)
+where
+    B: NewBuffer<Alloc = Global, Refusal = AllocError> + CloneBuffer + InlineBuffer,
+{
     let length = source.len();
     assert!(rt; length <= 5_000);
-    let mut string = SmallAsciiString::from_ascii_str(rt.alloc(), source).expect(rt, "refused");
+    let mut string = Text::<B>::from_ascii_str(rt.alloc(), source).expect(rt, "refused");
     string.push(AsciiChar::b).expect(rt, "refused");
     string.push_str(source).expect(rt, "refused");
     string.insert(0, AsciiChar::b).expect(rt, "refused");
@@ -92,8 +104,8 @@ fn small<R: Abort + AllocGlobal>(rt: &R, source: AsciiStr<'_>) {
     assert_row!(rt; grown, 4 * length + 3);
     string.reserve(length).expect(rt, "refused");
     assert!(rt; grown + length <= string.capacity());
-    let copy: SmallAsciiString = string.clone().expect(rt, "refused");
-    let owned = copy.into_ascii_string().expect(rt, "refused");
+    let copy: Text<B> = string.clone().expect(rt, "refused");
+    let owned = copy.into_ascii_string().ok().expect(rt, "refused");
     assert_row!(rt; owned.as_ascii_str(), string.as_ascii_str());
 }
 
@@ -125,11 +137,11 @@ fn nothing_is_refused(rt: HostRuntime) {
         let source = vec![in rt.alloc(); b'a'; length].expect(&rt, "refused");
         let view = bytes::as_ascii_str(&source).unwrap_or_default();
         assert_row!(rt; view.len(), length);
-        room(&rt, view);
-        grown(&rt, view);
+        room::<Vec<u8>, HostRuntime>(&rt, view);
+        grown::<Vec<u8>, HostRuntime>(&rt, view);
         turned(&rt, view);
         spans(&rt, view);
-        small(&rt, view);
+        small::<Inline<24>, HostRuntime>(&rt, view);
         both(&rt, view);
     }
 }
