@@ -1,6 +1,7 @@
 //! Each public call of `ascii_lines` over devices that give or take little at a call, or fail. `bin/docs examples`
 //! writes `of_ascii_lines.rt`, the examples in the documentation of the calls.
 
+mod all_texts;
 mod endings;
 mod line_reader;
 mod line_writer;
