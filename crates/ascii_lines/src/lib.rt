@@ -1,18 +1,24 @@
 //! Lines of an input, read and written in bounded memory.
 //!
-//! `LineReader` reads any `Source` through one buffer of a size that the caller chooses, and lends each
-//! line out of it, with the position where it starts and how it ends. `collect_lines` keeps all lines.
-//! A byte that is not ASCII and a line that is longer than the buffer are errors with their position,
-//! returned after the lines before them. `LineWriter` writes lines into any `Sink` through one buffer.
+//! `LineReader` reads any `Source` through one buffer of a size that the caller chooses, and lends each line out of
+//! it, with the position where it starts and how it ends. A byte that is not ASCII, a line that is longer than the
+//! buffer and, if the caller asks for it, a CR or an LF by itself are errors with their position, returned after the
+//! lines before them; `skip_line` reads over such a line. `LineWriter` writes lines into any `Sink` through one buffer.
 //!
 //! | To | Use |
 //! |---|---|
 //! | read lines one after another | `LineReader::next_line` |
-//! | choose which endings end a line | `LineReader::lines_ended_by`, with `Endings` |
+//! | read lines that may have other bytes than ASCII | `LineReader::next_bytes` |
+//! | choose which endings end a line | `Endings`, an argument of `LineReader::new` |
 //! | read a part of an announced length | `LineReader::read_exact_part` |
-//! | keep all lines | `collect_lines` |
-//! | write lines | `LineWriter` |
+//! | go on after a line that was rejected | `LineReader::skip_line` |
+//! | know whether the next call reads the source | `LineReader::has_buffered_line`, `has_buffered_part` |
+//! | keep all lines, or those up to an empty one | `collect_lines`, `read_block` |
+//! | write lines, and texts with line breaks in them | `LineWriter::write_line`, `write_part` |
 //! | answer each line of an input with lines | `serve`, with a `Handler` |
+//!
+//! After an error, `position` of a reader is that of the line or part at fault, and the reader holds all bytes that it has
+//! read from there on.
 #![tactic(auto)]
 
 mod errors;

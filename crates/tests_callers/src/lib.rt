@@ -13,3 +13,4 @@ pub mod remainders;
 pub mod spans;
 pub mod strings;
 pub mod texts;
+pub mod writers;
