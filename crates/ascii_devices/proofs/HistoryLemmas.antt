@@ -6,7 +6,7 @@ use Rattle.std.proofs.KnownBytes.{Appends-kept, Appends-nil, Appends-trans, Cons
 use Rattle.std.proofs.KnownBytes.{Consumes-trans}
 use Rattle.std.specs.Io.KnownBytes.{Appends, Consumes, IsAtEnd, Keeps}
 use Rattle.ascii_devices.specs.Devices.{Grows, read_of, received_of, sent_of, write_of}
-use Rattle.ascii_devices.specs.States.{GaveBytes, Gives, SourceState, Takes, source_state}
+use Rattle.ascii_devices.specs.States.{Gives, Takes}
 use Rattle.ascii_devices.specs.declared.Sink as sink
 use Rattle.ascii_devices.specs.declared.Source as source
 use Rattle.ascii_devices.specs.declared.log.Event.{Event}
@@ -88,59 +88,56 @@ sent-flushed bytes = sent_of-append (write_of bytes) (Flushed ∷ [])
 
 -- ---- what a source gave
 
-pub GaveBytes-nil : (a : SourceState) → GaveBytes a a []
-GaveBytes-nil a = record {
-  rest = a.rest;
-  gave = Consumes-nil a.rest;
-  left = λ same. refl;
-  told = tells-nil received_of refl a.history;
-}
-
--- some bytes, none of its calls failed, and then more
-pub GaveBytes-trans : (a b c : SourceState) (bytes more : List ℕ) → b.failures ≡ a.failures
-    → GaveBytes a b bytes → GaveBytes b c more → GaveBytes a c (bytes ++ more)
-GaveBytes-trans a b c bytes more kept first then = record {
-  rest = then.rest;
-  gave = Consumes-trans a.rest b.rest then.rest bytes more
-      (subst (λ r. Consumes a.rest r bytes) (sym (first.left kept)) first.gave) then.gave;
-  left = λ same. then.left (same ∙ sym kept);
-  told = tells-more received_of received_of-append a.history b.history c.history bytes more
-      first.told then.told;
-}
-
--- one read
-pub read_gives : (a b : SourceState) (bytes : List ℕ) → Consumes a.rest b.rest bytes
-    → Grows a.history b.history (read_of bytes) → GaveBytes a b bytes
-read_gives a b bytes gave grows = record {
-  rest = b.rest;
-  gave = gave;
-  left = λ same. refl;
-  told = tells-by received_of a.history b.history (read_of bytes) bytes grows
-      (received-read bytes);
-}
-
--- a read that failed
-pub read_fails : (a b : SourceState) → b.failures ≡ a.failures + 1
-    → Grows a.history b.history (read_of []) → GaveBytes a b []
-read_fails a b failed grows = record {
-  rest = a.rest;
-  gave = Consumes-nil a.rest;
-  left = λ same. absurd (omega (arith, failed, same));
-  told = tells-by received_of a.history b.history (read_of []) [] grows refl;
-}
-
 module _ {S : Type 0} (says : source.Ghosts S) where
   pub Gives-nil : (a : S) → Gives says a a []
-  Gives-nil a = GaveBytes-nil (source_state says a)
+  Gives-nil a = record {
+    rest = says.rest a;
+    gave = Consumes-nil (says.rest a);
+    left = λ same. refl;
+    told = tells-nil received_of refl (says.history a);
+  }
 
   -- some bytes, none of its calls failed, and then more
+  pub Gives-trans : (a b c : S) (bytes more : List ℕ) → says.failures b ≡ says.failures a
+      → Gives says a b bytes → Gives says b c more → Gives says a c (bytes ++ more)
+  Gives-trans a b c bytes more kept first then = record {
+    rest = then.rest;
+    gave = Consumes-trans (says.rest a) (says.rest b) then.rest bytes more
+        (subst (λ r. Consumes (says.rest a) r bytes) (sym (first.left kept)) first.gave)
+        then.gave;
+    left = λ same. then.left (same ∙ sym kept);
+    told = tells-more received_of received_of-append (says.history a) (says.history b)
+        (says.history c) bytes more first.told then.told;
+  }
+
+  -- one read
+  pub read_gives : (a b : S) (bytes : List ℕ) → Consumes (says.rest a) (says.rest b) bytes
+      → Grows (says.history a) (says.history b) (read_of bytes) → Gives says a b bytes
+  read_gives a b bytes gave grows = record {
+    rest = says.rest b;
+    gave = gave;
+    left = λ same. refl;
+    told = tells-by received_of (says.history a) (says.history b) (read_of bytes) bytes grows
+        (received-read bytes);
+  }
+
+  -- a read that failed
+  pub read_fails : (a b : S) → says.failures b ≡ says.failures a + 1
+      → Grows (says.history a) (says.history b) (read_of []) → Gives says a b []
+  read_fails a b failed grows = record {
+    rest = says.rest a;
+    gave = Consumes-nil (says.rest a);
+    left = λ same. absurd (omega (arith, failed, same));
+    told = tells-by received_of (says.history a) (says.history b) (read_of []) [] grows refl;
+  }
+
+  -- some bytes, none of its calls failed, and then more by one read
   pub Gives-read : (a b c : S) (bytes more : List ℕ) → says.failures b ≡ says.failures a
       → says.failures c ≡ says.failures b → Gives says a b bytes
       → Consumes (says.rest b) (says.rest c) more
       → Grows (says.history b) (says.history c) (read_of more) → Gives says a c (bytes ++ more)
   Gives-read a b c bytes more kept still gives then grows =
-      GaveBytes-trans (source_state says a) (source_state says b) (source_state says c) bytes more
-      kept gives (read_gives (source_state says b) (source_state says c) more then grows)
+      Gives-trans a b c bytes more kept gives (read_gives b c more then grows)
 
   -- if no call failed, what is left is what the source says of itself
   pub Gives-end : (a b : S) (bytes : List ℕ) (gives : Gives says a b bytes)
@@ -151,10 +148,8 @@ module _ {S : Type 0} (says : source.Ghosts S) where
   pub Gives-failed : (a b c : S) (bytes : List ℕ) → says.failures b ≡ says.failures a
       → says.failures c ≡ says.failures b + 1 → Gives says a b bytes
       → Grows (says.history b) (says.history c) (read_of []) → Gives says a c bytes
-  Gives-failed a b c bytes kept failed gives grows =
-      subst (Gives says a c) (append-nil bytes)
-      (GaveBytes-trans (source_state says a) (source_state says b) (source_state says c) bytes []
-      kept gives (read_fails (source_state says b) (source_state says c) failed grows))
+  Gives-failed a b c bytes kept failed gives grows = subst (Gives says a c) (append-nil bytes)
+      (Gives-trans a b c bytes [] kept gives (read_fails b c failed grows))
 
 -- ---- what a sink took
 

@@ -7,6 +7,15 @@ use Rattle.ascii_devices.specs.declared.Sink as sink
 use Rattle.ascii_devices.specs.declared.Source as source
 use Rattle.ascii_devices.specs.declared.log.Event.{Event}
 
+-- the source gave exactly these bytes, by its history too, if that is kept. After them it has `rest`
+-- yet to give, of which nothing is known once a call has failed.
+pub record Gives {S : Type 0} (says : source.Ghosts S) (old new : S) (bytes : List ℕ) : Type 0 where
+  pub rest : Option (List ℕ)
+  pub gave : Consumes (says.rest old) rest bytes
+  pub left : says.failures new ≡ says.failures old → says.rest new ≡ rest
+  pub told : IfSome (says.history old) (λ before. (events : List Event)
+      × (says.history new ≡ Some (before ++ events)) × (received_of events ≡ bytes))
+
 -- what a source says of itself: the bytes that it has yet to give, if they are known; how many of
 -- its calls have failed; what has happened at it, if that is kept; and its other direction
 pub record SourceState : Type 0 where
@@ -24,18 +33,14 @@ source_state says device = record {
   aside = says.aside device;
 }
 
--- the source gave exactly these bytes, by its history too, if that is kept. After them it has `rest`
--- yet to give, of which nothing is known once a call has failed.
-pub record GaveBytes (old new : SourceState) (bytes : List ℕ) : Type 0 where
-  pub rest : Option (List ℕ)
-  pub gave : Consumes old.rest rest bytes
-  pub left : new.failures ≡ old.failures → new.rest ≡ rest
-  pub told : IfSome old.history (λ before. (events : List Event)
-      × (new.history ≡ Some (before ++ events)) × (received_of events ≡ bytes))
-
--- `GaveBytes` of a source, as it was and as it is now
-abbrev pub Gives : {S : Type 0} → source.Ghosts S → S → S → List ℕ → Type 0
-Gives says old new bytes = GaveBytes (source_state says old) (source_state says new) bytes
+-- a state says of itself what it is
+abbrev pub of_state : source.Ghosts SourceState
+of_state = record {
+  rest = λ state. state.rest;
+  failures = λ state. state.failures;
+  history = λ state. state.history;
+  aside = λ state. state.aside;
+}
 
 -- the sink took exactly these bytes, by its history too, if that is kept
 pub record Takes {K : Type 0} (says : sink.Ghosts K) (old new : K) (bytes : List ℕ) : Type 0 where

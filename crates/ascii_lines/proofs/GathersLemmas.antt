@@ -3,10 +3,10 @@ use Rattle.std.proofs.Common.{◌≡◌, List, [], ◌∷◌, ◌++◌, ℕ, ap,
 use Rattle.std.proofs.Common.{subst, sym, ◌∙◌}
 use Rattle.std.specs.List.{flat_map}
 use Rattle.std.proofs.lemmas.Grind.{flat_map-append}
-use Rattle.ascii_devices.proofs.HistoryLemmas.{GaveBytes-nil, GaveBytes-trans, Grows-nil}
+use Rattle.ascii_devices.proofs.HistoryLemmas.{Gives-nil, Gives-trans, Grows-nil}
 use Rattle.ascii_devices.proofs.HistoryLemmas.{Grows-trans, read_fails, read_gives}
 use Rattle.ascii_devices.specs.Devices.{Grows, read_of}
-use Rattle.ascii_devices.specs.States.{GaveBytes, SourceState}
+use Rattle.ascii_devices.specs.States.{Gives, SourceState, of_state}
 use Rattle.ascii_lines.specs.LineBuffer.{FailsOnce, ReadsOnce}
 use Rattle.ascii_lines.specs.Wanted.{Asks, Gathers, all_of}
 
@@ -34,7 +34,7 @@ pub Gathers-nil : (Must : List ℕ → Type 0) (held : List ℕ) (a : SourceStat
 Gathers-nil Must held a = record {
   reads = [];
   asks = tt;
-  gave = GaveBytes-nil a;
+  gave = Gives-nil of_state a;
   told = Grows-nil a.history;
   all = sym (append-nil held);
   unread = λ none. refl;
@@ -44,15 +44,15 @@ Gathers-nil Must held a = record {
 module _ (Must : List ℕ → Type 0) (held : List ℕ) (a b c : SourceState) (text read : List ℕ)
     (so_far : Gathers Must held a b text) (kept : b.failures ≡ a.failures) (must : Must text)
   where
-    once : GaveBytes b c read → Grows b.history c.history (read_of read) → c.aside ≡ b.aside
+    once : Gives of_state b c read → Grows b.history c.history (read_of read) → c.aside ≡ b.aside
         → Gathers Must held a c (text ++ read)
     once gave told aside =
         let reads = so_far.reads in
         record {
           reads = reads ++ read ∷ [];
           asks = Asks-snoc Must held reads read so_far.asks (subst Must so_far.all must);
-          gave = subst (GaveBytes a c) (sym (all_of-snoc reads read))
-              (GaveBytes-trans a b c (all_of reads) read kept so_far.gave gave);
+          gave = subst (Gives of_state a c) (sym (all_of-snoc reads read))
+              (Gives-trans of_state a b c (all_of reads) read kept so_far.gave gave);
           told = subst (Grows a.history c.history)
               (ap (λ xs. flat_map read_of reads ++ xs) (sym (append-nil (read_of read)))
               ∙ sym (flat_map-append read_of reads (read ∷ [])))
@@ -69,7 +69,7 @@ module _ (Must : List ℕ → Type 0) (held : List ℕ) (a b c : SourceState) (t
     pub Gathers-read : (new : List ℕ) → ReadsOnce b c read → new ≡ text ++ read
         → Gathers Must held a c new
     Gathers-read new reads is = subst (Gathers Must held a c) (sym is)
-        (once (read_gives b c read reads.gave reads.told) reads.told reads.aside)
+        (once (read_gives of_state b c read reads.gave reads.told) reads.told reads.aside)
 
 -- a read more, which failed
 pub Gathers-failed : (Must : List ℕ → Type 0) (held : List ℕ) (a b c : SourceState)
@@ -77,5 +77,5 @@ pub Gathers-failed : (Must : List ℕ → Type 0) (held : List ℕ) (a b c : Sou
     → FailsOnce b c → new ≡ text → Gathers Must held a c new
 Gathers-failed Must held a b c text new so_far kept must fails is =
     subst (Gathers Must held a c) (append-nil text ∙ sym is)
-    (once Must held a b c text [] so_far kept must (read_fails b c fails.failures fails.told)
+    (once Must held a b c text [] so_far kept must (read_fails of_state b c fails.failures fails.told)
     fails.told fails.aside)

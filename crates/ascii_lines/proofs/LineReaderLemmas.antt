@@ -16,7 +16,8 @@ use Rattle.ascii.specs.Lines.{IsBody, Line, LinesEndedBy, MayEnd, MayFollow, end
 use Rattle.ascii.specs.Spans.{LineSpansEndedBy, WithStart, items_of, line_size, with_starts}
 use Rattle.ascii.proofs.LinesByLemmas.{MayFollow-ended, any_text_spans, some_spans}
 use Rattle.ascii.proofs.LinesLemmas.{LinesEndedBy-nil}
-use Rattle.ascii_devices.proofs.HistoryLemmas.{GaveBytes-nil, GaveBytes-trans}
+use Rattle.ascii_devices.proofs.HistoryLemmas.{Gives-nil, Gives-trans}
+use Rattle.ascii_devices.specs.States.{of_state}
 use Rattle.ascii_lines.specs.LineReader.{IsDone, Next, NextFrom, PassesOver, ReaderState}
 use Rattle.ascii_lines.specs.LineReader.{Reading, ReadsBytes, StopsAt, Takes, TakesLine, YieldsLines}
 use Rattle.ascii_lines.specs.LineReader.{read_line_in}
@@ -115,7 +116,7 @@ PassesOver-trans a b c bytes more first then =
     record {
       text = (
         t.0 ++ t'.0,
-        GaveBytes-trans a.device b.device c.device t.0 t'.0 first.failures t.1 t'.1,
+        Gives-trans of_state a.device b.device c.device t.0 t'.0 first.failures t.1 t'.1,
         append_assoc bytes more c.held
             ∙ (ap (λ zs. bytes ++ zs) t'.2
             ∙ (sym (append_assoc bytes b.held t'.0)
@@ -179,7 +180,7 @@ no_line wanted old new takes done = record {
 pub ReadsBytes-nil : (a : ReaderState) → ReadsBytes a [] a
 ReadsBytes-nil a = record {
   over = record {
-    text = ([], GaveBytes-nil a.device, sym (append-nil a.held));
+    text = ([], Gives-nil of_state a.device, sym (append-nil a.held));
     start = sym (add-zero a.start);
     size = refl;
     endings = refl;

@@ -16,7 +16,6 @@ use Rattle.ascii_lines.specs.LineWriter.{FailsToWrite, Flushes, FlushesFrom, Flu
 use Rattle.ascii_lines.specs.LineWriter.{WritesBytes, WritesLine, WritesLineFrom}
 use Rattle.ascii_devices.specs.Buffered.{OutputState}
 use Rattle.ascii_lines.specs.LineWriter.{Writing}
-use Rattle.ascii_lines.specs.WriteBuffer.{flow_of}
 use Rattle.ascii_lines.specs.Failures.{one_more}
 use Rattle.ascii_lines.specs.History.{TellsFlushed}
 use Rattle.ascii_lines.proofs.HistoryLemmas.{TellsFlushed-after, TellsSent-flush}
@@ -28,7 +27,7 @@ use Rattle.ascii_lines.proofs.WriteBufferLemmas.{PassesPrefix-more}
 
 pub WritesBytes-nil : (a : OutputState) → a.buffer.is_broken ≡ false → WritesBytes a a []
 WritesBytes-nil a is = record {
-  passed = Passes-nil (flow_of a);
+  passed = Passes-nil a;
   failures = refl;
   aside = refl;
   stage = is;

@@ -11,8 +11,8 @@ use Rattle.ascii.specs.Endings.{FreeUpTo, IsFirstStop, StopsAt, any_text}
 use Rattle.ascii.specs.declared.iter.spans.Endings.{Endings}
 use Rattle.ascii.specs.declared.iter.spans.Endings.TheVariants.{Any, CrLf, CrLfStrict}
 use Rattle.ascii.proofs.EndingsLemmas.{FreeUpTo-same, IsFirstStop-same}
-use Rattle.ascii_devices.proofs.HistoryLemmas.{GaveBytes-nil, GaveBytes-trans, read_gives}
-use Rattle.ascii_devices.specs.States.{GaveBytes, SourceState}
+use Rattle.ascii_devices.proofs.HistoryLemmas.{Gives-nil, Gives-trans, read_gives}
+use Rattle.ascii_devices.specs.States.{Gives, SourceState, of_state}
 use Rattle.ascii_lines.specs.Failures.{one_more}
 use Rattle.std.proofs.lemmas.Str.Ascii.{IsAscii-nil}
 use Rattle.ascii_lines.specs.LineBuffer.{ReadsOnce, WindowState}
@@ -110,7 +110,7 @@ pub record PassedSoFar (endings : Endings) (limit : ℕ) (old new : WindowState)
     (source now : SourceState) (passed : Passed) : Type 0 where
   pub bytes : List ℕ
   pub read : List ℕ
-  pub gave : GaveBytes source now read
+  pub gave : Gives of_state source now read
   pub text : bytes ++ new.held ≡ old.held ++ read
   pub counts : Counts bytes passed
   pub within : length bytes ≤ limit
@@ -276,8 +276,8 @@ abbrev pub passed_more : (endings : Endings) (limit : ℕ) (old now after : Wind
 passed_more endings limit old now after a b c passed read so_far reads is size = record {
   bytes = so_far.bytes;
   read = so_far.read ++ read;
-  gave = GaveBytes-trans a b c so_far.read read so_far.failures so_far.gave
-      (read_gives b c read reads.gave reads.told);
+  gave = Gives-trans of_state a b c so_far.read read so_far.failures so_far.gave
+      (read_gives of_state b c read reads.gave reads.told);
   text = ap (λ xs. so_far.bytes ++ xs) is
       ∙ (sym (append_assoc so_far.bytes now.held read)
       ∙ (ap (λ xs. xs ++ read) so_far.text ∙ append_assoc old.held so_far.read read));
@@ -296,7 +296,7 @@ pub passed_none : (endings : Endings) (limit : ℕ) (buffer : WindowState) (a : 
 passed_none endings limit buffer a = record {
   bytes = [];
   read = [];
-  gave = GaveBytes-nil a;
+  gave = Gives-nil of_state a;
   text = sym (append-nil buffer.held);
   counts = record { count = refl; other = IsAscii-nil };
   within = omega arith;
@@ -310,12 +310,12 @@ passed_none endings limit buffer a = record {
 pub pass_fails : (endings : Endings) (limit : ℕ) (old now after : WindowState)
     (a b c : SourceState) (passed : Passed) (so_far : PassedSoFar endings limit old now a b passed)
     → FreeUpTo endings (so_far.bytes ++ now.held) (length (so_far.bytes ++ now.held))
-    → GaveBytes b c [] → c.failures ≡ one_more b.failures → after.held ≡ now.held
+    → Gives of_state b c [] → c.failures ≡ one_more b.failures → after.held ≡ now.held
     → after.size ≡ now.size → PassesLine endings limit old after a c passed end.Failed
 pass_fails endings limit old now after a b c passed so_far none gave fails is size = record {
   bytes = so_far.bytes;
   read = so_far.read ++ [];
-  gave = GaveBytes-trans a b c so_far.read [] so_far.failures so_far.gave gave;
+  gave = Gives-trans of_state a b c so_far.read [] so_far.failures so_far.gave gave;
   text = ap (λ xs. so_far.bytes ++ xs) is
       ∙ (so_far.text ∙ ap (λ xs. old.held ++ xs) (sym (append-nil so_far.read)));
   counts = so_far.counts;

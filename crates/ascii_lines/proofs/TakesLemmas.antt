@@ -215,7 +215,7 @@ module _ (wanted : Wanted) (start : ℕ) (buffer : WindowState) (source : Source
   lone_break i fault = subst
       (λ text. IsStrict wanted × ((j n : ℕ) × (start + i ≡ start + j)
       × IsLoneBreak wanted buffer.size text source.rest j n)) whole
-      (go wanted fits finds.may finds.stops fault)
+      (go wanted finds.may finds.stops fault)
     where
       line : (wanted : Wanted) (endings : Endings) (is_last' : Bool) → MayHave wanted bytes
           → StopsBy (Line endings) buffer source n is_last' → FindsLoneBreak endings bytes (Some i)
@@ -239,15 +239,22 @@ module _ (wanted : Wanted) (start : ℕ) (buffer : WindowState) (source : Source
       as_line endings true stops = stops
       as_line endings false stops = stops
 
-      go : (wanted : Wanted) → length bytes ≤ buffer.size → MayHave wanted bytes
+      go : (wanted : Wanted) → MayHave wanted bytes
           → StopsBy wanted buffer source n is_last → FindsFault wanted bytes (Some i)
           → IsStrict wanted × ((j n : ℕ) × (start + i ≡ start + j)
           × IsLoneBreak wanted buffer.size (bytes ++ others) source.rest j n)
-      go (Line endings) fits may stops lone =
+      go (Line endings) may stops lone =
           (lone.0, (i, length bytes, refl, line (Line endings) endings is_last may stops lone))
-      go (Bytes endings) fits may stops lone =
-          (lone.0, (i, length bytes, refl, line (Bytes endings) endings is_last may (as_line endings is_last stops) lone))
-      go (Part count) fits may stops none = absurd (none-some i (sym none))
+      go (Bytes endings) may stops lone = (
+        lone.0,
+        (
+          i,
+          length bytes,
+          refl,
+          line (Bytes endings) endings is_last may (as_line endings is_last stops) lone,
+        ),
+      )
+      go (Part count) may stops none = absurd (none-some i (sym none))
 
   -- why it is not given
   pub end_rejects : (k : ℕ) (error : LineError) → IsEndOf wanted start bytes is_last (Err error)

@@ -8,42 +8,42 @@ use Rattle.ascii_devices.specs.Buffered.{AppendsBy, AppendsBytes, FinishOutcome,
 use Rattle.ascii_devices.specs.Buffered.{SendsFront}
 use Rattle.ascii_devices.specs.declared.DeviceFault.{DeviceFault}
 use Rattle.ascii_devices.proofs.ListLemmas.{append_two}
-use Rattle.ascii_lines.specs.WriteBuffer.{Flow, Passes, PassesPrefix, PutsBytes, flow_of}
+use Rattle.ascii_lines.specs.WriteBuffer.{Passes, PassesPrefix, PutsBytes}
 use Rattle.ascii_lines.specs.Failures.{one_more}
 use Rattle.ascii_lines.proofs.HistoryLemmas.{TellsSent-nil, TellsSent-trans, TellsSent-write}
 
 -- nothing was written
-pub Passes-nil : (a : Flow) → Passes a a []
+pub Passes-nil : (a : OutputState) → Passes a a []
 Passes-nil a = record {
   sent = [];
   took = Appends-nil a.taken;
   told = TellsSent-nil a.history;
-  all = sym (append-nil a.held);
+  all = sym (append-nil a.buffer.bytes);
 }
 
 -- one piece and then another
-pub Passes-trans : {a b c : Flow} (first second : List ℕ)
+pub Passes-trans : {a b c : OutputState} (first second : List ℕ)
     → Passes a b first → Passes b c second → Passes a c (first ++ second)
 Passes-trans {a} {b} {c} first second one two = record {
   sent = one.sent ++ two.sent;
   took = Appends-trans a.taken b.taken c.taken one.sent two.sent one.took two.took;
   told = TellsSent-trans one.sent two.sent one.told two.told;
-  all = append_two one.sent two.sent c.held b.held a.held first second one.all two.all;
+  all = append_two one.sent two.sent c.buffer.bytes b.buffer.bytes a.buffer.bytes first second one.all two.all;
 }
 
 -- one piece, and then a part of another
-pub Passes-prefix : {a b c : Flow} (first second : List ℕ)
+pub Passes-prefix : {a b c : OutputState} (first second : List ℕ)
     → Passes a b first → PassesPrefix b c second → PassesPrefix a c (first ++ second)
 Passes-prefix {a} {b} {c} first second one two = record {
   sent = one.sent ++ two.sent;
   others = two.others;
   took = Appends-trans a.taken b.taken c.taken one.sent two.sent one.took two.took;
   told = TellsSent-trans one.sent two.sent one.told two.told;
-  all = append_two one.sent two.sent two.others b.held a.held first second one.all two.all;
+  all = append_two one.sent two.sent two.others b.buffer.bytes a.buffer.bytes first second one.all two.all;
 }
 
 -- a part of one piece is a part of it and more
-pub PassesPrefix-more : {a b : Flow} (first second : List ℕ)
+pub PassesPrefix-more : {a b : OutputState} (first second : List ℕ)
     → PassesPrefix a b first → PassesPrefix a b (first ++ second)
 PassesPrefix-more {a} {b} first second one = record {
   sent = one.sent;
@@ -51,14 +51,14 @@ PassesPrefix-more {a} {b} first second one = record {
   took = one.took;
   told = one.told;
   all = sym (append_assoc one.sent one.others second)
-      ∙ (ap (λ xs. xs ++ second) one.all ∙ append_assoc a.held first second);
+      ∙ (ap (λ xs. xs ++ second) one.all ∙ append_assoc a.buffer.bytes first second);
 }
 
 -- ---- through the buffer of a sink
 
 -- the sink took a prefix
 front_of : (a b : OutputState) (bytes : List ℕ) → SendsFront a b (a.buffer.bytes ++ bytes)
-    → PassesPrefix (flow_of a) (flow_of b) bytes
+    → PassesPrefix a b bytes
 front_of a b bytes (sent, others, sends, is) = record {
   sent = sent;
   others = others;
@@ -72,7 +72,7 @@ counted : (n m : ℕ) → n < 2 ^ 64 - 1 → m ≡ n + 1 → m ≡ one_more n
 counted n m low is = omega (arith, low, is)
 
 whole_by : (q : Bool) (a b : OutputState) (bytes : List ℕ) → AppendsBy false q a b bytes
-    → q ≡ false → Passes (flow_of a) (flow_of b) bytes × (b.failures ≡ a.failures)
+    → q ≡ false → Passes a b bytes × (b.failures ≡ a.failures)
 whole_by false a b bytes (sent, sends, is, same) none = (
   record { sent = sent; took = sends.0; told = TellsSent-write sent sends.1; all = is },
   same,
@@ -81,7 +81,7 @@ whole_by true a b bytes appends none = absurd (false≢true (sym none))
 
 broken_by : (q : Bool) (a b : OutputState) (bytes : List ℕ) → AppendsBy false q a b bytes
     → a.failures < 2 ^ 64 - 1 → q ≡ true
-    → PassesPrefix (flow_of a) (flow_of b) bytes × (b.failures ≡ one_more a.failures)
+    → PassesPrefix a b bytes × (b.failures ≡ one_more a.failures)
 broken_by false a b bytes appends low some = absurd (false≢true some)
 broken_by true a b bytes (front, count) low some =
     (front_of a b bytes front, counted a.failures b.failures low count)

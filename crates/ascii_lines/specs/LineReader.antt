@@ -13,7 +13,7 @@ use Rattle.ascii.specs.Bytes.{FirstOther}
 use Rattle.ascii.specs.Lines.{Line}
 use Rattle.ascii.specs.Spans.{LineSpansEndedBy, WithStart}
 use Rattle.ascii.specs.View.{text_of}
-use Rattle.ascii_devices.specs.States.{GaveBytes, SourceState}
+use Rattle.ascii_devices.specs.States.{Gives, SourceState, of_state}
 use Rattle.ascii_lines.specs.LineBuffer.{WindowState}
 use Rattle.ascii_lines.specs.Wanted.{Delivers, EndsAt, IsOne, LacksUpTo, MayHave}
 use Rattle.ascii_lines.specs.Wanted.{MayBeLast, MustRead, Refuses}
@@ -206,7 +206,7 @@ NextPart n old result new = NextPartFrom old.state.stage n old result new
 -- given up to the state `new`
 abbrev pub IsHeldThenRead : ReaderState → ReaderState → List ℕ → Type 0
 IsHeldThenRead old new text =
-    (read : List ℕ) × GaveBytes old.device new.device read × (text ≡ old.held ++ read)
+    (read : List ℕ) × Gives of_state old.device new.device read × (text ≡ old.held ++ read)
 
 -- from the state `old` to the state `new` the reader went over `bytes`: of the bytes held before and
 -- those read since they are the first, and the others are held

@@ -13,7 +13,7 @@ use Rattle.ascii_devices.specs.Devices.{Grows, write_of}
 use Rattle.ascii_devices.specs.declared.Sink.{Ghosts}
 use Rattle.ascii_devices.specs.declared.log.Event.TheVariants.{Flushed}
 use Rattle.ascii_lines.specs.Failures.{one_more}
-use Rattle.ascii_lines.specs.WriteBuffer.{Passes, PassesPrefix, flow_of}
+use Rattle.ascii_lines.specs.WriteBuffer.{Passes, PassesPrefix}
 use Rattle.ascii_lines.specs.declared.line_writer.WriteError.{WriteError}
 use Rattle.ascii_lines.specs.declared.line_writer.WriteError.TheVariants.{LineBreak, Write}
 
@@ -51,7 +51,7 @@ is_line_break = is_byte2 13 10
 -- of the bytes held before and then `bytes`, the sink took a prefix, and the writer holds the
 -- others; its history has that prefix as sent
 pub record WritesBytes (old new : OutputState) (bytes : List ℕ) : Type 0 where
-  pub passed : Passes (flow_of old) (flow_of new) bytes
+  pub passed : Passes old new bytes
   pub failures : new.failures ≡ old.failures
   pub aside : new.aside ≡ old.aside
   pub stage : new.buffer.is_broken ≡ false
@@ -60,7 +60,7 @@ pub record WritesBytes (old new : OutputState) (bytes : List ℕ) : Type 0 where
 -- a call of the sink failed while the bytes were written: of the bytes held before and then
 -- `bytes`, the sink took a prefix. One more failure is counted, unless there were 2 ^ 64 - 1
 pub record FailsToWrite (old new : OutputState) (bytes : List ℕ) : Type 0 where
-  pub passed : PassesPrefix (flow_of old) (flow_of new) bytes
+  pub passed : PassesPrefix old new bytes
   pub failures : new.failures ≡ one_more old.failures
   pub aside : new.aside ≡ old.aside
   pub stage : new.buffer.is_broken ≡ true

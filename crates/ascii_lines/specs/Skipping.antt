@@ -8,7 +8,7 @@ use Rattle.ascii.specs.Bytes.{FirstOther}
 use Rattle.ascii.specs.Endings.{FreeUpTo, IsFirstStop, any_text}
 use Rattle.ascii.specs.declared.iter.spans.Endings.{Endings}
 use Rattle.ascii.specs.declared.iter.spans.Endings.TheVariants.{CrLf}
-use Rattle.ascii_devices.specs.States.{GaveBytes, SourceState}
+use Rattle.ascii_devices.specs.States.{Gives, SourceState, of_state}
 use Rattle.ascii_lines.specs.Failures.{one_more}
 use Rattle.ascii_lines.specs.LineBuffer.{WindowState}
 use Rattle.ascii_lines.specs.LineReader.{IsDone, PassesOver, ReaderState, Reading, ReadsBytes}
@@ -126,7 +126,7 @@ pub record PassesLine (endings : Endings) (limit : ℕ) (old new : WindowState)
     (source now : SourceState) (passed : Passed) (why : PassEnd) : Type 0 where
   pub bytes : List ℕ
   pub read : List ℕ
-  pub gave : GaveBytes source now read
+  pub gave : Gives of_state source now read
   pub text : bytes ++ new.held ≡ old.held ++ read
   pub counts : Counts bytes passed
   pub within : length bytes ≤ limit

@@ -10,7 +10,7 @@ use Rattle.ascii.specs.Bytes.{FirstOther}
 use Rattle.ascii.specs.Endings.{FindsLoneBreak, FreeUpTo, IsFirstStop, IsOneLine}
 use Rattle.ascii.specs.declared.iter.spans.Endings.TheVariants.{CrLfStrict}
 use Rattle.ascii_devices.specs.Devices.{Grows, read_of}
-use Rattle.ascii_devices.specs.States.{GaveBytes, SourceState}
+use Rattle.ascii_devices.specs.States.{Gives, SourceState, of_state}
 use Rattle.ascii_lines.specs.Failures.{one_more}
 use Rattle.ascii_lines.specs.declared.line_reader.LineError.{LineError}
 use Rattle.ascii_lines.specs.declared.line_reader.LineError.TheVariants.{NotAscii, LoneBreak}
@@ -82,7 +82,7 @@ pub record Gathers (Must : List ℕ → Type 0) (held : List ℕ) (old new : Sou
     (text : List ℕ) : Type 0 where
   pub reads : List (List ℕ)
   pub asks : Asks Must held reads
-  pub gave : GaveBytes old new (all_of reads)
+  pub gave : Gives of_state old new (all_of reads)
   pub told : Grows old.history new.history (flat_map read_of reads)
   pub all : text ≡ held ++ all_of reads
   pub unread : reads ≡ [] → new ≡ old

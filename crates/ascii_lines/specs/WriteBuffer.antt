@@ -1,40 +1,26 @@
 -- What a buffer of fixed size holds before a sink, and what writing bytes through it does.
 use Rattle.std.specs.Prelude.{◌≡◌, ℕ, List, ◌++◌, true, false}
 use Rattle.std.specs.Io.KnownBytes.{Appends}
-use Rattle.std.specs.declared.option.Option.{Option}
 use Rattle.ascii_devices.specs.Buffered.{OutputState}
-use Rattle.ascii_devices.specs.declared.log.Event.{Event}
 use Rattle.ascii_lines.specs.Failures.{one_more}
 use Rattle.ascii_lines.specs.History.{TellsSent}
 
--- a sink with the buffer before it: the bytes that the sink has taken, if they are known; its
--- history, if it is kept; the bytes that the buffer holds
-pub record Flow : Type 0 where
-  pub taken : Option (List ℕ)
-  pub history : Option (List Event)
-  pub held : List ℕ
-
 -- `bytes` were written: of the bytes held before and then `bytes`, the sink took a prefix, and the
 -- buffer holds the others
-pub record Passes (old new : Flow) (bytes : List ℕ) : Type 0 where
+pub record Passes (old new : OutputState) (bytes : List ℕ) : Type 0 where
   pub sent : List ℕ
   pub took : Appends old.taken new.taken sent
   pub told : TellsSent old.history new.history sent
-  pub all : sent ++ new.held ≡ old.held ++ bytes
+  pub all : sent ++ new.buffer.bytes ≡ old.buffer.bytes ++ bytes
 
 -- the sink failed while `bytes` were written: of the bytes held before and then `bytes`, it took a
 -- prefix
-pub record PassesPrefix (old new : Flow) (bytes : List ℕ) : Type 0 where
+pub record PassesPrefix (old new : OutputState) (bytes : List ℕ) : Type 0 where
   pub sent : List ℕ
   pub others : List ℕ
   pub took : Appends old.taken new.taken sent
   pub told : TellsSent old.history new.history sent
-  pub all : sent ++ others ≡ old.held ++ bytes
-
--- the flow of a sink with a buffer before it
-abbrev pub flow_of : OutputState → Flow
-flow_of state =
-    record { taken = state.taken; history = state.history; held = state.buffer.bytes }
+  pub all : sent ++ others ≡ old.buffer.bytes ++ bytes
 
 -- ---- cited by private functions only
 
@@ -42,8 +28,8 @@ flow_of state =
 -- failure is counted
 pub record PutsBytes (old new : OutputState) (bytes : List ℕ) : Type 0 where
   pub whole : new.buffer.is_broken ≡ false
-      → Passes (flow_of old) (flow_of new) bytes × (new.failures ≡ old.failures)
+      → Passes old new bytes × (new.failures ≡ old.failures)
   pub broken : new.buffer.is_broken ≡ true
-      → PassesPrefix (flow_of old) (flow_of new) bytes × (new.failures ≡ one_more old.failures)
+      → PassesPrefix old new bytes × (new.failures ≡ one_more old.failures)
   pub size : new.buffer.size ≡ old.buffer.size
   pub aside : new.aside ≡ old.aside
