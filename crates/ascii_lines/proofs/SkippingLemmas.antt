@@ -1,12 +1,11 @@
 -- Where a line ends in bytes that come in two parts.
-use Rattle.std.proofs.Common.{◌≡◌, ℕ, ◌+◌, ◌-◌, ◌<◌, ◌≤◌, List, [], ◌++◌, length, get_or, arith, inl}
+use Rattle.std.proofs.Common.{◌≢◌, ◌≡◌, ℕ, ◌+◌, ◌-◌, ◌<◌, ◌≤◌, List, [], ◌++◌, length, get_or, arith, inl}
 use Rattle.std.proofs.Common.{inr, length-append, refl, subst, sym, take, drop, None, Option, Some, ◌∷◌, ap, append_assoc, append-nil, ◌∙◌}
 use Rattle.std.proofs.Math.ListN.{get_or-append}
 use Rattle.std.proofs.Math.Seq.{get_or-append_right}
 use Rattle.std.proofs.lemmas.Bool.{cases_lt}
-use Rattle.std.proofs.lemmas.List.{get_or-append-add, get_or-drop, get_or-take, length-take-le}
+use Rattle.std.proofs.lemmas.List.{get_or-append-add, get_or-drop, length-drop, length-take-le}
 use Rattle.std.proofs.lemmas.List.{nil_from_length, take-append-drop, take_all}
-use Rattle.std.proofs.Math.Seq.{take-nil}
 use Rattle.ascii.specs.Endings.{FreeUpTo, IsFirstStop, StopsAt, any_text}
 use Rattle.ascii.specs.declared.iter.spans.Endings.{Endings}
 use Rattle.ascii.specs.declared.iter.spans.Endings.TheVariants.{Any, CrLf, CrLfStrict}
@@ -16,7 +15,7 @@ use Rattle.ascii_devices.specs.States.{Gives, SourceState, of_state}
 use Rattle.ascii_lines.specs.Failures.{one_more}
 use Rattle.std.proofs.lemmas.Str.Ascii.{IsAscii-nil}
 use Rattle.ascii_lines.specs.LineBuffer.{ReadsOnce, WindowState}
-use Rattle.ascii_lines.specs.Skipping.{Counts, IsCleanCut, PassesLine, TakesPart}
+use Rattle.ascii_lines.specs.Skipping.{Counts, IsCleanCut, IsKept, PassesLine, TakesPart}
 use Rattle.ascii_lines.specs.declared.skipping.PassEnd.{PassEnd}
 use Rattle.ascii_lines.specs.declared.skipping.PassEnd.TheVariants as end
 use Rattle.ascii_lines.specs.declared.skipping.Passed.{Passed}
@@ -157,6 +156,33 @@ module _ (endings : Endings) (plain : any_text endings ≡ endings) (limit : ℕ
   long = length-append so_far.bytes (take n now.held)
       ∙ ap (λ k. length so_far.bytes + k) (length-take-le n now.held inside)
 
+  pub clean : IsKept endings now.held n → IsCleanCut endings taken after.held
+  clean kept cr_lf cr = elim kept [
+    | inl none ↦ elim (cases_lt 0 n) [
+      | inl some ↦
+          let last : get_or (take n now.held) (n - 1) 0 ≡ 13 =
+          sym (get_or-append-add so_far.bytes (take n now.held) (n - 1) 0)
+          ∙ subst (λ i. get_or taken i 0 ≡ 13) (omega (arith, long, some)) cr in
+          absurd (none cr_lf last)
+      | inr empty ↦
+          let zero : n ≡ 0 = omega (arith, empty) in
+          let same : taken ≡ so_far.bytes =
+          ap (λ k. so_far.bytes ++ take k now.held) zero ∙ append-nil so_far.bytes in
+          let before : get_or so_far.bytes (length so_far.bytes - 1) 0 ≡ 13 =
+          subst (λ xs. get_or xs (length xs - 1) 0 ≡ 13) same cr in
+          subst (λ xs. (xs ≢ []) × (get_or xs 0 0 ≢ 10))
+          (ap (λ k. drop k now.held) (sym zero) ∙ sym held) (so_far.clean cr_lf before)
+    ]
+    | inr kept ↦
+        let first : get_or after.held 0 0 ≡ 13 =
+        ap (λ xs. get_or xs 0 0) held
+        ∙ (get_or-drop n now.held 0 0 ∙ subst (λ i. get_or now.held i 0 ≡ 13) (omega arith) kept)
+        in (
+          λ none. absurd (omega (arith, sym (ap (λ xs. get_or xs 0 0) none) ∙ first)),
+          λ feed. absurd (omega (arith, sym feed ∙ first)),
+        )
+  ]
+
   -- a line ends, or is too long
   pub passes_line : (why : PassEnd)
       → TakesPart endings now.held (limit - passed.count) n (Some why)
@@ -197,6 +223,8 @@ module _ (endings : Endings) (plain : any_text endings ≡ endings) (limit : ℕ
               (subst (FreeUpTo endings (so_far.bytes ++ now.held)) reach
               (free_join so_far.bytes now.held endings plain so_far.free so_far.clean
               (limit - passed.count) part.2)),
+          omega (arith, long, part.3, reach),
+          clean part.4,
         );
         failures = so_far.failures;
         size = size ∙ so_far.size;
@@ -213,6 +241,14 @@ module _ (endings : Endings) (plain : any_text endings ≡ endings) (limit : ℕ
         (free_join so_far.bytes now.held endings plain so_far.free so_far.clean
         (length now.held) part.2))
 
+    pub kept_one : length after.held ≤ 1
+    kept_one = omega (
+      arith,
+      ap length held,
+      length-drop n now.held,
+      part.1,
+    )
+
     pub reach : length taken + length after.held ≤ limit
     reach = omega (
       arith,
@@ -224,34 +260,6 @@ module _ (endings : Endings) (plain : any_text endings ≡ endings) (limit : ℕ
       so_far.within,
     )
 
-    pub clean : IsCleanCut endings taken after.held
-    clean cr_lf cr = elim part.3 [
-      | inl whole ↦ elim (cases_lt 0 n) [
-        | inl some ↦
-            let last : get_or now.held (n - 1) 0 ≡ 13 =
-            sym (get_or-take n now.held (n - 1) 0 (omega (arith, some)))
-            ∙ (sym (get_or-append-add so_far.bytes (take n now.held) (n - 1) 0)
-            ∙ subst (λ i. get_or taken i 0 ≡ 13) (omega (arith, long, some)) cr) in
-            absurd (whole.1 cr_lf last)
-        | inr none ↦
-            let empty : now.held ≡ [] =
-            nil_from_length now.held (omega (arith, none, whole.0)) in
-            let before : get_or so_far.bytes (length so_far.bytes - 1) 0 ≡ 13 =
-            subst (λ xs. get_or xs (length xs - 1) 0 ≡ 13)
-            (ap (λ xs. so_far.bytes ++ take n xs) empty
-            ∙ (ap (λ xs. so_far.bytes ++ xs) (take-nil n) ∙ append-nil so_far.bytes)) cr in
-            absurd ((so_far.clean cr_lf before).0 empty)
-      ]
-      | inr most ↦
-          let first : get_or after.held 0 0 ≡ 13 =
-          ap (λ xs. get_or xs 0 0) held
-          ∙ (get_or-drop n now.held 0 0 ∙ subst (λ i. get_or now.held i 0 ≡ 13) (omega arith) most.1)
-          in (
-            λ none. absurd (omega (arith, sym (ap (λ xs. get_or xs 0 0) none) ∙ first)),
-            λ feed. absurd (omega (arith, sym feed ∙ first)),
-          )
-    ]
-
     abbrev pub goes_on : PassedSoFar endings limit old after a b passed'
     goes_on = record {
       bytes = taken;
@@ -262,7 +270,7 @@ module _ (endings : Endings) (plain : any_text endings ≡ endings) (limit : ℕ
       within = omega (arith, reach);
       free = front_free endings taken after.held (length taken) (omega arith)
           (λ k low. none_ends k (omega (arith, low, length-append taken after.held)));
-      clean = clean;
+      clean = clean part.3;
       failures = so_far.failures;
       size = size ∙ so_far.size;
     }
@@ -310,9 +318,9 @@ passed_none endings limit buffer a = record {
 pub pass_fails : (endings : Endings) (limit : ℕ) (old now after : WindowState)
     (a b c : SourceState) (passed : Passed) (so_far : PassedSoFar endings limit old now a b passed)
     → FreeUpTo endings (so_far.bytes ++ now.held) (length (so_far.bytes ++ now.held))
-    → Gives of_state b c [] → c.failures ≡ one_more b.failures → after.held ≡ now.held
+    → length now.held ≤ 1 → Gives of_state b c [] → c.failures ≡ one_more b.failures → after.held ≡ now.held
     → after.size ≡ now.size → PassesLine endings limit old after a c passed end.Failed
-pass_fails endings limit old now after a b c passed so_far none gave fails is size = record {
+pass_fails endings limit old now after a b c passed so_far none one gave fails is size = record {
   bytes = so_far.bytes;
   read = so_far.read ++ [];
   gave = Gives-trans of_state a b c so_far.read [] so_far.failures so_far.gave gave;
@@ -321,7 +329,8 @@ pass_fails endings limit old now after a b c passed so_far none gave fails is si
   counts = so_far.counts;
   within = so_far.within;
   ends = subst
-      (λ xs. FreeUpTo endings (so_far.bytes ++ xs) (length (so_far.bytes ++ xs))) (sym is) none;
+      (λ xs. FreeUpTo endings (so_far.bytes ++ xs) (length (so_far.bytes ++ xs))
+      × (length xs ≤ 1) × IsCleanCut endings so_far.bytes xs) (sym is) (none, one, so_far.clean);
   failures = fails ∙ ap one_more so_far.failures;
   size = size ∙ so_far.size;
 }

@@ -1,5 +1,5 @@
 -- What a line reader skips, and how the bytes of a line are taken that is skipped.
-use Rattle.std.specs.Prelude.{◌≡◌, ◌≢◌, ◌⊎◌, ℕ, ◌+◌, ◌-◌, ◌^◌, ◌<◌, ◌≤◌, List, [], ◌++◌, ⊤, length}
+use Rattle.std.specs.Prelude.{take, ◌≡◌, ◌≢◌, ◌⊎◌, ℕ, ◌+◌, ◌-◌, ◌^◌, ◌<◌, ◌≤◌, List, [], ◌++◌, ⊤, length}
 use Rattle.std.specs.Prelude.{Bool, Err, MatchOption, false, true, None, Ok, Option, Some, slice_index}
 use Rattle.std.specs.Io.KnownBytes.{IsAtEnd}
 use Rattle.std.specs.Str.{IsAscii}
@@ -30,20 +30,30 @@ pub record IsSkipped (start : ℕ) (bytes : List ℕ) (skipped : SkippedLine) : 
   pub other : MatchOption skipped.non_ascii (IsAscii bytes)
       (λ place. (i : ℕ) × (place ≡ start + i) × FirstOther bytes 0 (length bytes) i)
 
--- why a line from the position `start` on was not skipped, of which `text` was read. `TooLong`: it
--- has no ending among its first `most` bytes, and has more. `TooFar`: it has none before the
--- position 2 ^ 64 - 1. `Read`: none was read
-abbrev pub WhyNotSkipped : Endings → ℕ → ℕ → List ℕ → LineError → Type 0
-WhyNotSkipped endings most start text (TooLong place) =
-    (place ≡ start) × (most < length text) × FreeUpTo endings text most
-WhyNotSkipped endings most start text TooFar =
-    (2 ^ 64 - 1 < start + length text) × FreeUpTo endings text (2 ^ 64 - 1 - start)
-WhyNotSkipped endings most start text Read = FreeUpTo endings text (length text)
-WhyNotSkipped endings most start text error = ⊥
+-- a CR LF that ends a line does not lie across two lists
+abbrev pub IsCleanCut : Endings → List ℕ → List ℕ → Type 0
+IsCleanCut endings bytes held = endings ≡ CrLf → slice_index bytes (length bytes - 1) ≡ 13
+    → (held ≢ []) × (slice_index held 0 ≢ 10)
+
+-- why a line from the position `start` on was not skipped, of which `bytes` were read over and
+-- `held` are held. `TooLong`: it has no ending among its first `most` bytes, and has more; these
+-- were skipped, or all but one. `TooFar`: it has none before the position 2 ^ 64 - 1, and the bytes
+-- before that were skipped, or all but one. `Read`: it has none among those read, which were
+-- skipped, or all but one
+abbrev pub WhyNotSkipped : Endings → ℕ → ℕ → List ℕ → List ℕ → LineError → Type 0
+WhyNotSkipped endings most start bytes held (TooLong place) = (place ≡ start)
+    × (most < length (bytes ++ held)) × FreeUpTo endings (bytes ++ held) most
+    × (most ≤ length bytes + 1)
+WhyNotSkipped endings most start bytes held TooFar = (2 ^ 64 - 1 < start + length (bytes ++ held))
+    × FreeUpTo endings (bytes ++ held) (2 ^ 64 - 1 - start)
+    × (2 ^ 64 - 1 - start ≤ length bytes + 1)
+WhyNotSkipped endings most start bytes held Read =
+    FreeUpTo endings (bytes ++ held) (length (bytes ++ held)) × (length held ≤ 1)
+WhyNotSkipped endings most start bytes held error = ⊥
 
 -- what skipping a line does. `Ok`: the bytes up to its ending were skipped, at most `most`, and the
 -- reader is open; or all bytes of the input were, and it has ended. `Err`: the reader has stopped,
--- and why; the bytes before those that it holds were skipped
+-- and why; the bytes before those that it holds were skipped, and no CR LF was cut in two
 abbrev pub SkipsLine
     : ℕ → ReaderState → Result SkippedLine LineError → ReaderState → Type 0
 SkipsLine most old (Ok skipped) new = (bytes : List ℕ) × ReadsBytes old bytes new
@@ -53,7 +63,8 @@ SkipsLine most old (Ok skipped) new = (bytes : List ℕ) × ReadsBytes old bytes
 SkipsLine most old (Err error) new = (new.stage ≡ Refused error)
     × ((bytes : List ℕ) × PassesOver old bytes new × (length bytes ≤ most)
     × (new.device.failures ≡ failures_after old.device.failures error)
-    × WhyNotSkipped (any_text old.endings) most old.start (bytes ++ new.held) error)
+    × IsCleanCut (any_text old.endings) bytes new.held
+    × WhyNotSkipped (any_text old.endings) most old.start bytes new.held error)
 
 -- an error after which no line can be skipped
 abbrev pub IsFinal : LineError → Type 0
@@ -95,8 +106,10 @@ EndsPass endings limit bytes held left end.Input =
     FreeUpTo endings bytes (length bytes) × (held ≡ []) × IsAtEnd left
 EndsPass endings limit bytes held left end.Limit =
     (limit < length (bytes ++ held)) × FreeUpTo endings (bytes ++ held) limit
+    × (limit ≤ length bytes + 1) × IsCleanCut endings bytes held
 EndsPass endings limit bytes held left end.Failed =
-    FreeUpTo endings (bytes ++ held) (length (bytes ++ held))
+    FreeUpTo endings (bytes ++ held) (length (bytes ++ held)) × (length held ≤ 1)
+    × IsCleanCut endings bytes held
 
 -- the failures of a source after that, of `n` before
 abbrev pub failures_by : ℕ → PassEnd → ℕ
@@ -110,10 +123,11 @@ error_of end.Limit start false = Some (TooLong start)
 error_of end.Failed start is_far = Some Read
 error_of other start is_far = None
 
--- whether a reader goes on after a line was skipped
-abbrev pub stage_by : PassEnd → Stage
-stage_by end.Input = Ended
-stage_by other = Open
+-- whether a reader goes on after a line was skipped, or was not for this error
+abbrev pub stage_by : PassEnd → Option LineError → Stage
+stage_by why (Some error) = Refused error
+stage_by end.Input None = Ended
+stage_by other None = Open
 
 -- `bytes` were taken: how many they are, and the first of them that is not less than 128
 pub record Counts (bytes : List ℕ) (passed : Passed) : Type 0 where
@@ -134,23 +148,21 @@ pub record PassesLine (endings : Endings) (limit : ℕ) (old new : WindowState)
   pub failures : now.failures ≡ failures_by source.failures why
   pub size : new.size ≡ old.size
 
--- a line that ends in CR LF does not end between two lists
-abbrev pub IsCleanCut : Endings → List ℕ → List ℕ → Type 0
-IsCleanCut endings bytes held = endings ≡ CrLf → slice_index bytes (length bytes - 1) ≡ 13
-    → (held ≢ []) × (slice_index held 0 ≢ 10)
+-- a CR at `n` may begin an ending, or there is none before it
+abbrev pub IsKept : Endings → List ℕ → ℕ → Type 0
+IsKept endings text n = (endings ≡ CrLf → slice_index (take n text) (n - 1) ≢ 13)
+    ⊎ (slice_index text n ≡ 13)
 
 -- how many bytes of `text` are taken, of which at most `left` may be: up to the end of the line
--- (`Ending`); some of those that may be, if the line does not end in these and goes on (`Limit`);
--- or all but a CR at the end that may begin an ending
+-- (`Ending`); those that may be but a CR at their end, if the line does not end in them and goes
+-- on (`Limit`); or all but a CR at their end
 abbrev pub TakesPart : Endings → List ℕ → ℕ → ℕ → Option PassEnd → Type 0
 TakesPart endings text left n (Some end.Ending) = (n ≤ left) × IsFirstStop endings text n
-TakesPart endings text left n (Some end.Limit) =
-    (n ≤ left) × (left < length text) × FreeUpTo endings text left
+TakesPart endings text left n (Some end.Limit) = (n ≤ left) × (left < length text)
+    × FreeUpTo endings text left × (left ≤ n + 1) × IsKept endings text n
 TakesPart endings text left n (Some other) = ⊥
 TakesPart endings text left n None = (length text ≤ left) × (length text ≤ n + 1)
-    × FreeUpTo endings text (length text)
-    × (((n ≡ length text) × (endings ≡ CrLf → slice_index text (n - 1) ≢ 13))
-    ⊎ ((n + 1 ≡ length text) × (slice_index text n ≡ 13)))
+    × FreeUpTo endings text (length text) × IsKept endings text n
 
 -- one for a CR at the end of `text` that may begin an ending, zero if there is none
 abbrev pub IsCrAtEnd : Endings → List ℕ → ℕ → Type 0

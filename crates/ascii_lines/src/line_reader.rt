@@ -366,7 +366,7 @@ impl<S: Source, A: Allocator> LineReader<S, A> {
     ///
     /// - `TooLong` if the line has more than `most` bytes. The error has the position at which the call started.
     ///   These bytes were skipped, except a CR at their end that may belong to the ending; `skip_line` may be
-    ///   called again and goes on from there.
+    ///   called again and goes on from there. With a `most` of 0, or of 1 at a CR, nothing is skipped.
     /// - `TooFar` if the line has no ending before the position `u64::MAX`.
     /// - `Read` if a call of the source failed, or `u64::MAX` calls have failed before.
     ///
@@ -404,15 +404,11 @@ impl<S: Source, A: Allocator> LineReader<S, A> {
         let endings = whole_endings(self.endings);
         let (passed, why) = pass_line(&mut self.buffer, &mut self.source, endings, limit);
         self.start = start + passed.count;
-        match skip_error(why, start, limit < most) {
-            Some(error) => {
-                self.stage = Stage::Refused(error);
-                Err(error)
-            }
-            None => {
-                self.stage = stage_after(why);
-                Ok(skipped(start, passed))
-            }
+        let error = skip_error(why, start, limit < most);
+        self.stage = stage_after(why, error);
+        match error {
+            Some(error) => Err(error),
+            None => Ok(skipped(start, passed)),
         }
     }
 

@@ -84,7 +84,8 @@ pub trait Handler {
 ///
 /// In the example, `Echo` is a handler that replies with the text that it is handed.
 ///
-///     let mut reader = LineReader::new(alloc, Input::new(b"a\r\nb".as_slice()), 64)?;
+///     let source = Input::new(b"a\r\nb".as_slice());
+///     let mut reader = LineReader::new(alloc, source, 64, Endings::Any)?;
 ///     let mut writer = LineWriter::new(alloc, Output::new(Vec::new(alloc)), 64)?;
 ///     serve(alloc, &mut reader, &mut writer, Ending::Lf, &mut Echo) // EndOfInput
 ///     writer.into_sink().into_inner() // [97, 10, 98, 10]

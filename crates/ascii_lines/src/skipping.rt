@@ -60,13 +60,14 @@ pub(crate) fn skip_error(why: PassEnd, start: u64, is_far: bool) -> Option<LineE
     }
 }
 
-/// Whether a reader goes on after a line was skipped.
-pub(crate) fn stage_after(why: PassEnd) -> Stage
-    ensures { result ≡ stage_by why }
+/// Whether a reader goes on after a line was skipped, or was not for this error.
+pub(crate) fn stage_after(why: PassEnd, error: Option<LineError>) -> Stage
+    ensures { result ≡ stage_by why error }
 {
-    match why {
-        PassEnd::Input => Stage::Ended,
-        _ => Stage::Open,
+    match (error, why) {
+        (Some(error), _) => Stage::Refused(error),
+        (None, PassEnd::Input) => Stage::Ended,
+        (None, _) => Stage::Open,
     }
 }
 

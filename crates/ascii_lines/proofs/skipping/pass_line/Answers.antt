@@ -4,7 +4,7 @@ use Rattle.std.proofs.lemmas.List.{take_all}
 use Rattle.ascii_devices.proofs.HistoryLemmas.{Gives-nil, read_fails}
 use Rattle.ascii_devices.specs.States.{of_state, source_state}
 use Rattle.ascii_lines.specs.Skipping.{Counts}
-use Rattle.ascii_lines.proofs.SkippingLemmas.{front_all, goes_on, none_ends, part_of, pass_ends}
+use Rattle.ascii_lines.proofs.SkippingLemmas.{front_all, goes_on, kept_one, none_ends, part_of, pass_ends}
 use Rattle.ascii_lines.proofs.SkippingLemmas.{pass_fails, passed_more, passed_none, passes_line}
 use Rattle.ascii_lines.proofs.SkippingLemmas.{reach}
 use Rattle.ascii_lines.proofs.skipping.pass_line.Goals as goal
@@ -52,6 +52,10 @@ returns-then-failures-eq18446744073709551615 g c =
     (none_ends c.args.endings c.requires c.args.limit c.args.buffer.now c.fills.buffer
     c.pass-passed.new.buffer a b c.fills.passed c.pass-passed.result c.part_of_line-n.result.0
     c.fills.invariant inside c.pass-passed.ensures.counts c.pass-passed.ensures.held
+    c.pass-passed.ensures.size part)
+    (kept_one c.args.endings c.requires c.args.limit c.args.buffer.now c.fills.buffer
+    c.pass-passed.new.buffer a b c.fills.passed c.pass-passed.result c.part_of_line-n.result.0
+    c.fills.invariant inside c.pass-passed.ensures.counts c.pass-passed.ensures.held
     c.pass-passed.ensures.size part) (Gives-nil of_state b)
     (omega (arith, c.failures.ensures, c.if-failures-eq18446744073709551615.true)) refl refl
 
@@ -76,6 +80,10 @@ returns-in-Err g c =
     c.fills.invariant inside c.pass-passed.ensures.counts c.pass-passed.ensures.held
     c.pass-passed.ensures.size part)
     (none_ends c.args.endings c.requires c.args.limit c.args.buffer.now c.fills.buffer
+    c.pass-passed.new.buffer a b c.fills.passed c.pass-passed.result c.part_of_line-n.result.0
+    c.fills.invariant inside c.pass-passed.ensures.counts c.pass-passed.ensures.held
+    c.pass-passed.ensures.size part)
+    (kept_one c.args.endings c.requires c.args.limit c.args.buffer.now c.fills.buffer
     c.pass-passed.new.buffer a b c.fills.passed c.pass-passed.result c.part_of_line-n.result.0
     c.fills.invariant inside c.pass-passed.ensures.counts c.pass-passed.ensures.held
     c.pass-passed.ensures.size part) (read_fails of_state b now fails.0.failures fails.0.told)
