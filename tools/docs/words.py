@@ -29,6 +29,11 @@ def prose(file):
             yield number, re.sub(r"`[^`]*`", "``", next(filter(None, comment.groups()), ""))
 
 
+def is_script(file):
+    """Whether a file without a suffix is a script: its first bytes say so, and the others may be any."""
+    return not file.suffix and file.read_bytes().startswith(b"#!")
+
+
 def faults():
     """The words that read badly, each with its file and line."""
     patterns, exceptions = [], []
@@ -40,7 +45,7 @@ def faults():
             patterns.append((re.compile(pattern.strip(), re.IGNORECASE), better.strip()))
     listed = subprocess.run(["git", "ls-files"], cwd=TOP, capture_output=True, text=True, check=True).stdout.split()
     files = [TOP / name for name in listed if not name.endswith(("CALLING.md", "words.txt"))]
-    files = [f for f in files if f.is_file() and (f.suffix in COMMENTS or not f.suffix and read(f).startswith("#!"))]
+    files = [f for f in files if f.is_file() and (f.suffix in COMMENTS or is_script(f))]
     wrong = []
     for file in files:
         for number, line in prose(file):

@@ -4,7 +4,7 @@ use super::Echo;
 use ascii_devices::Sink;
 use ascii_lines::{
     Ending, Endings, Handler, Input, LineError, LineReader, LineWriter, Output, WriteError,
-    collect_lines, serve,
+    collect_lines, read_block, serve,
 };
 use std::convert::AsSlice;
 use testing::{assert_debug, view};
@@ -173,6 +173,52 @@ fn read_exact_part_of_line_reader(rt: HostRuntime) {
     assert_debug!(rt; reader.read_exact_part(2), "Err(Incomplete(1))");
 }
 
+// LineReader::has_buffered_line
+#[test]
+fn has_buffered_line_of_line_reader(rt: HostRuntime) {
+    let alloc = rt.alloc();
+    let source = Input::new(b"a\nbc".as_slice());
+    let mut reader = LineReader::new(alloc, source, 64, Endings::Any).expect(&rt, "refused");
+    assert_debug!(rt; reader.has_buffered_line(), "false");
+    let _ = reader.next_line();
+    assert_debug!(rt; reader.has_buffered_line(), "false");
+    assert_debug!(rt; reader.has_buffered_part(2), "true");
+}
+
+// LineReader::has_buffered_part
+#[test]
+fn has_buffered_part_of_line_reader(rt: HostRuntime) {
+    let alloc = rt.alloc();
+    let source = Input::new(b"abc".as_slice());
+    let reader = LineReader::new(alloc, source, 64, Endings::Any).expect(&rt, "refused");
+    assert_debug!(rt; reader.has_buffered_part(1), "false");
+    assert_debug!(rt; reader.has_buffered_part(65), "true");
+}
+
+// LineReader::skip_line
+#[test]
+fn skip_line_of_line_reader(rt: HostRuntime) {
+    let alloc = rt.alloc();
+    let source = Input::new(b"ok\n\xffabcdef\nok2\n".as_slice());
+    let mut reader = LineReader::new(alloc, source, 5, Endings::Any).expect(&rt, "refused");
+    assert_debug!(
+        rt;
+        reader.next_line(),
+        "Ok(Some(ReadLine { start: 0, text: \"ok\", ending: Lf }))"
+    );
+    assert_debug!(rt; reader.next_line(), "Err(NotAscii(3))");
+    assert_debug!(
+        rt;
+        reader.skip_line(100),
+        "Ok(SkippedLine { start: 3, length: 8, non_ascii: Some(3) })"
+    );
+    assert_debug!(
+        rt;
+        reader.next_line(),
+        "Ok(Some(ReadLine { start: 11, text: \"ok2\", ending: Lf }))"
+    );
+}
+
 // LineWriter::new
 #[test]
 fn new_of_line_writer(rt: HostRuntime) {
@@ -241,6 +287,18 @@ fn collect_lines_of_ascii_lines(rt: HostRuntime) {
     let kept = collect_lines(alloc, &mut reader).expect(&rt, "refused");
     assert_debug!(rt; kept.lines.len(), "1");
     assert_debug!(rt; kept.error, "Some(NotAscii(3))");
+}
+
+// read_block
+#[test]
+fn read_block_of_ascii_lines(rt: HostRuntime) {
+    let alloc = rt.alloc();
+    let source = Input::new(b"a: 1\nb: 2\n\nbody".as_slice());
+    let mut reader = LineReader::new(alloc, source, 64, Endings::Any).expect(&rt, "refused");
+    let block = read_block(alloc, &mut reader, 100).expect(&rt, "refused");
+    assert_debug!(rt; block.lines.len(), "2");
+    assert_debug!(rt; block.end, "EmptyLine");
+    assert_debug!(rt; reader.position(), "11");
 }
 
 // Handler::answer
