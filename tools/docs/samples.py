@@ -1,16 +1,16 @@
 """Compares the samples of the pages with the sources.
 
-Each block of Rust or antt of README.md, docs/MODEL.md, docs/START.md and docs/PROTOCOLS.md is in a source of a crate word for
-word. A block that begins with `// FILE`, `-- FILE` or `# FILE` is in that file; one of docs/START.md or docs/PROTOCOLS.md, from
-which a reader makes the file, is the whole file. A line of crates.txt that a page quotes is in crates.txt, and the tests that
-docs/BESIDE.md names exist."""
+Each block of Rust or antt of README.md, docs/MODEL.md, docs/LINES.md, docs/START.md and docs/PROTOCOLS.md is in a source
+of a crate word for word. A block that begins with `// FILE`, `-- FILE` or `# FILE` is in that file, which may be the
+`stdout` of a stored run; one of docs/START.md or docs/PROTOCOLS.md, from which a reader makes the file, is the whole
+file. A line of crates.txt that a page quotes is in crates.txt, and the tests that docs/BESIDE.md names exist."""
 import re
 
 from made import TOP
 from sources import read
 
-PAGES = ["README.md", "docs/MODEL.md", "docs/START.md", "docs/PROTOCOLS.md"]
-FOLLOWED = PAGES[2:]
+FOLLOWED = ["docs/START.md", "docs/PROTOCOLS.md"]
+PAGES = ["README.md", "docs/MODEL.md", "docs/LINES.md", *FOLLOWED]
 BLOCK = re.compile(r"^```(\w+)\n(.*?)^```$", re.MULTILINE | re.DOTALL)
 
 
@@ -44,7 +44,8 @@ def is_sample(page, file, code, sources):
 def faults():
     """The samples that differ from the sources."""
     files = [f for f in TOP.glob("crates/**/*") if f.suffix in (".rt", ".antt") and "out" not in f.parts]
-    sources = {str(file.relative_to(TOP)): read(file) for file in [*sorted(files), TOP / "crates.txt", TOP / "HANDLES"]}
+    others = [*TOP.glob("crates/*/stdout"), TOP / "crates.txt", TOP / "HANDLES"]
+    sources = {str(file.relative_to(TOP)): read(file) for file in sorted(files) + others}
     wrong = []
     for page in PAGES:
         for language, text in blocks(page):

@@ -24,7 +24,7 @@ try:
 except ImportError:
     markdown = None
 
-PAGES = ["README.md", "docs/START.md", "docs/PROTOCOLS.md", "docs/MODEL.md", "docs/PROVED.md", "docs/BESIDE.md",
+PAGES = ["README.md", "docs/START.md", "docs/LINES.md", "docs/PROTOCOLS.md", "docs/MODEL.md", "docs/PROVED.md", "docs/BESIDE.md",
          "docs/DIFFERENCES.md", "docs/ARCHITECTURE.md", "docs/DECISIONS.md", "docs/PERFORMANCE.md", "CONTRIBUTING.md", "CHANGELOG.md",
          "bench/README.md", "tools/mutants/README.md", *(f"crates/{name}/CALLING.md" for name in LIBRARIES)]
 
