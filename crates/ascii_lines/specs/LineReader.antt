@@ -60,7 +60,8 @@ fresh_reader size endings device = record {
 abbrev pub ended_by : Endings → ReaderState → ReaderState
 ended_by endings reading = record reading { endings = endings }
 
--- the reader has returned neither `None` nor an error
+-- the reader goes on: it has not returned `None`, a line without an ending, or an error; or, after
+-- the error, a line was skipped up to its ending
 abbrev pub IsOpen : {S : Type 0} → Reading S → Type 0
 IsOpen reader = reader.state.stage ≡ Open
 
@@ -87,9 +88,9 @@ pub record IsDone (reading : ReaderState) : Type 0 where
   pub none : reading.held ≡ []
   pub left : IsAtEnd reading.device.rest
 
--- from the state `old` to the state `new` the reader returned `bytes`, which are what was wanted:
--- of the bytes held before and those read since they are the first, and the others are held. It
--- stays open; or they were the last of the input, and it has ended
+-- from the state `old` to the state `new` the reader returned `bytes`, which may be in what was
+-- wanted and fit in its buffer: of the bytes held before and those read since they are the first,
+-- and the others are held
 pub record Takes (wanted : Wanted) (old : ReaderState) (bytes : List ℕ) (new : ReaderState)
     : Type 0 where
   pub delivers : Delivers wanted old.start old.size old.held old.device new.device bytes new.held

@@ -17,8 +17,8 @@
 //! | write lines, and texts with line breaks in them | `LineWriter::write_line`, `write_part` |
 //! | answer each line of an input with lines | `serve`, with a `Handler` |
 //!
-//! After an error, `position` of a reader is that of the line or part at fault, and the reader holds all bytes that it has
-//! read from there on.
+//! After an error, `position` of a reader is that of the line or part at fault; after an error of `skip_line` it is the
+//! one after the bytes that were skipped. The reader holds all bytes that it has read from there on.
 #![tactic(auto)]
 
 mod errors;

@@ -30,7 +30,8 @@ pub enum LineError {
     /// without a CR before it, in a line that `Endings::CrLfStrict` end.
     LoneBreak(u64),
     /// The line that starts at this position of the input, counted from 0, is longer than the buffer, with
-    /// its ending; or the part that starts there is longer than the buffer.
+    /// its ending; or the part that starts there is longer than the buffer. By `skip_line`: the line has
+    /// more bytes from there on than may be skipped.
     TooLong(u64),
     /// The next line or part ends after the position `u64::MAX`, or its first non-ASCII byte is there.
     TooFar,
@@ -199,7 +200,8 @@ impl<S: Source, A: Allocator> LineReader<S, A> {
     }
 
     /// Returns the position in the input at which the next line or part starts, counted from 0. After an
-    /// error it is that of the line or part at fault.
+    /// error it is that of the line or part at fault; after an error of `skip_line`, the one after the
+    /// bytes that were skipped.
     ///
     ///     let source = Input::new(b"ab\r\ncd".as_slice());
     ///     let mut reader = LineReader::new(alloc, source, 64, Endings::Any)?;

@@ -79,8 +79,9 @@ pub trait Handler {
 /// lines and parts of the input, all of them unless the writer failed; then it is a prefix of them. If a
 /// reply has CR or LF, it is the replies before that one. The handler's `answers` holds of each of them.
 ///
-/// Condition: the reader has returned neither `None` nor an error, and no call of the writer has
-/// returned `Write`.
+/// Condition: the reader is open: it has not returned `None`, a line without an ending, or an error; or `skip_line`
+/// has read over the line of that error up to its ending.
+/// No call of the writer has returned `Write`.
 ///
 /// In the example, `Echo` is a handler that replies with the text that it is handed.
 ///
