@@ -1,9 +1,12 @@
 -- What a buffer of fixed size holds between two reads.
-use Rattle.std.specs.Prelude.{◌≡◌, ◌⊎◌, ℕ, ◌+◌, ◌<◌, ◌≤◌, List, [], length, slice_index, take}
+use Rattle.std.specs.Prelude.{◌≡◌, ◌⊎◌, ℕ, ◌+◌, ◌<◌, ◌≤◌, ◌++◌, List, [], MatchResult, length}
+use Rattle.std.specs.Prelude.{slice_index, slice_range, take}
 use Rattle.std.specs.Io.KnownBytes.{Consumes, IsAtEnd}
+use Rattle.std.specs.declared.result.Result.{Result}
 use Rattle.ascii.specs.Bytes.{FirstOther}
 use Rattle.ascii_devices.specs.Devices.{Grows, read_of}
 use Rattle.ascii_devices.specs.States.{SourceState}
+use Rattle.ascii_devices.specs.declared.DeviceFault.{DeviceFault}
 use Rattle.ascii_lines.specs.Wanted.{MayHave}
 use Rattle.ascii_lines.specs.declared.wanted.Wanted.{Wanted}
 use Rattle.ascii_lines.specs.declared.wanted.Wanted.TheVariants.{Bytes}
@@ -68,3 +71,24 @@ pub record FailsOnce (old new : SourceState) : Type 0 where
   pub failures : new.failures ≡ old.failures + 1
   pub told : Grows old.history new.history (read_of [])
   pub aside : new.aside ≡ old.aside
+
+-- what a read after the first `filled` bytes does: these and the length are unchanged, and what was
+-- read follows them; or the source failed
+pub record ReadsBehind (filled : ℕ) (old new : List ℕ) (source now : SourceState)
+    (result : Result ℕ DeviceFault) : Type 0 where
+  pub front : take filled new ≡ take filled old
+  pub len : length new ≡ length old
+  pub outcome : MatchResult result
+      (λ n. (filled + n ≤ length new)
+      × ReadsOnce source now (slice_range new filled (filled + n)))
+      (λ _. FailsOnce source now)
+
+-- what filling a buffer does: the bytes that were read follow those held; or the source failed
+pub record Refills (old new : WindowState) (source now : SourceState)
+    (result : Result ℕ DeviceFault) : Type 0 where
+  pub outcome : MatchResult result
+      (λ n. (read : List ℕ) × (length read ≡ n) × ReadsOnce source now read
+      × (new.held ≡ old.held ++ read))
+      (λ _. FailsOnce source now × (new.held ≡ old.held))
+  pub size : new.size ≡ old.size
+  pub room : new.room ≡ old.room

@@ -1,5 +1,5 @@
 -- The state of a line reader, and what its calls return and leave.
-use Rattle.std.specs.Prelude.{◌<◌, ◌^◌, ◌≡◌, ◌≢◌, ◌⊎◌, ℕ, ◌+◌, ◌≤◌, Bool, true, false, List, [], ◌∷◌}
+use Rattle.std.specs.Prelude.{MatchResult, ◌<◌, ◌^◌, ◌≡◌, ◌≢◌, ◌⊎◌, ℕ, ◌+◌, ◌≤◌, Bool, true, false, List, [], ◌∷◌}
 use Rattle.std.specs.Prelude.{◌++◌, nat_lt, length, take, Ok, Err, None}
 use Rattle.std.specs.Prelude.{Some, ⊤}
 use Rattle.std.specs.Io.KnownBytes.{IsAtEnd}
@@ -10,13 +10,14 @@ use Rattle.ascii.specs.declared.ascii_str.AsciiStr.{AsciiStr}
 use Rattle.ascii.specs.declared.iter.spans.Ending.TheVariants.{Absent}
 use Rattle.ascii.specs.declared.iter.spans.Endings.{Endings}
 use Rattle.ascii.specs.Bytes.{FirstOther}
+use Rattle.ascii.specs.Endings.{IsFirstStop}
 use Rattle.ascii.specs.Lines.{Line}
 use Rattle.ascii.specs.Spans.{LineSpansEndedBy, WithStart}
 use Rattle.ascii.specs.View.{text_of}
 use Rattle.ascii_devices.specs.States.{Gives, SourceState, of_state}
 use Rattle.ascii_lines.specs.LineBuffer.{WindowState}
 use Rattle.ascii_lines.specs.Wanted.{Delivers, EndsAt, IsOne, LacksUpTo, MayHave}
-use Rattle.ascii_lines.specs.Wanted.{MayBeLast, MustRead, Refuses}
+use Rattle.ascii_lines.specs.Wanted.{Gathers, MayBeLast, MustRead, Refuses}
 use Rattle.ascii_lines.specs.declared.line_reader.LineError.{LineError}
 use Rattle.ascii_lines.specs.declared.line_reader.LineError.TheVariants.{Incomplete}
 use Rattle.ascii_lines.specs.declared.line_reader.ReadBytes.{ReadBytes}
@@ -235,6 +236,13 @@ pub record YieldsLines (old : ReaderState) (lines : List (WithStart Line)) (new 
 
 -- ---- cited by private functions only
 
+-- the line of `bytes` as bytes, from the position `start` of the input on
+pub record IsBytesAt (endings : Endings) (start : ℕ) (bytes : List ℕ) (line : ReadBytes) : Type 0
+  where
+    pub exact : LineSpansEndedBy endings start bytes (read_bytes_in line ∷ [])
+    pub ended : IsFirstStop endings bytes (length bytes) → line.ending ≢ Absent
+    pub text : TextOf start line.bytes.now line.text
+
 -- what was taken from a buffer is what is wanted; or all bytes that were left, among which it is
 -- not, and the source is at its end
 abbrev pub IsTaken : Wanted → Bool → WindowState → SourceState → Type 0
@@ -267,6 +275,20 @@ pub record FindsEnd (wanted : Wanted) (buffer : WindowState) (source : SourceSta
   pub fits : n ≤ buffer.size
   pub may : MayHave wanted (take n buffer.held)
   pub stops : StopsBy wanted buffer source n is_last
+
+-- a search has stopped: what was read until then, and where
+pub record Stops (wanted : Wanted) (start : ℕ) (old new : WindowState) (source now : SourceState)
+    (found : ℕ × Bool) : Type 0 where
+  pub gathers : Gathers (MustRead wanted start old.size) old.held source now new.held
+  pub found_is : FindsEnd wanted new now found.0 found.1
+  pub failures : now.failures ≡ source.failures
+
+-- what a search for what is wanted does: it stops; or that is refused
+pub record Seeks (wanted : Wanted) (start : ℕ) (old new : WindowState) (source now : SourceState)
+    (result : Result (ℕ × Bool) LineError) : Type 0 where
+  pub outcome : MatchResult result (Stops wanted start old new source now)
+      (Refuses wanted start old.size old.held source now new.held)
+  pub size : new.size ≡ old.size
 
 -- the outcome of taking what is wanted, of which `lent` are the bytes. `true`: they are it, and the
 -- reader is open or has ended. `false`: there are no more lines, or the part has no bytes

@@ -1,5 +1,5 @@
 -- What a line reader skips, and how the bytes of a line are taken that is skipped.
-use Rattle.std.specs.Prelude.{take, ◌≡◌, ◌≢◌, ◌⊎◌, ℕ, ◌+◌, ◌-◌, ◌^◌, ◌<◌, ◌≤◌, List, [], ◌++◌, ⊤, length}
+use Rattle.std.specs.Prelude.{drop, take, ◌≡◌, ◌≢◌, ◌⊎◌, ℕ, ◌+◌, ◌-◌, ◌^◌, ◌<◌, ◌≤◌, List, [], ◌++◌, ⊤, length}
 use Rattle.std.specs.Prelude.{Bool, Err, MatchOption, false, true, None, Ok, Option, Some, slice_index}
 use Rattle.std.specs.Io.KnownBytes.{IsAtEnd}
 use Rattle.std.specs.Str.{IsAscii}
@@ -134,6 +134,13 @@ pub record Counts (bytes : List ℕ) (passed : Passed) : Type 0 where
   pub count : passed.count ≡ length bytes
   pub other : MatchOption passed.other (IsAscii bytes)
       (λ i. FirstOther bytes 0 (length bytes) i)
+
+-- `n` bytes were taken off a buffer, after those of `before`
+pub record PassesBytes (n : ℕ) (old new : WindowState) (before after : Passed) : Type 0 where
+  pub counts : (bytes : List ℕ) → Counts bytes before → Counts (bytes ++ take n old.held) after
+  pub held : new.held ≡ drop n old.held
+  pub size : new.size ≡ old.size
+  pub room : (new.room ≡ old.room) × (1 < new.room)
 
 -- the bytes of a line were taken off a buffer and its source, at most `limit`
 pub record PassesLine (endings : Endings) (limit : ℕ) (old new : WindowState)

@@ -3,7 +3,7 @@
 ghost use Rattle.std.specs.Prelude.{◌≡◌, ◌+◌, ◌<◌, ◌≤◌, ◌++◌, [], IfOk, OnErr, List, ℕ};
 ghost use Rattle.std.specs.Prelude.{drop, length, slice_range, take};
 ghost use Rattle.ascii_devices.specs.States.{source_state};
-ghost use Rattle.ascii_lines.specs.LineBuffer.{FailsOnce, IsAsciiLength, IsUsable, ReadsOnce};
+ghost use Rattle.ascii_lines.specs.LineBuffer.{IsAsciiLength, IsUsable, ReadsBehind, Refills};
 
 use crate::wanted::Wanted;
 use ascii::kernels::first_other;
@@ -148,14 +148,8 @@ impl<A: Allocator> LineBuffer<A> {
     pub(crate) fn refill<S: Source>(&mut self, source: &mut S) -> Result<usize, DeviceFault>
         requires room { length self.old.held < self.old.room }
         requires count { S.failures source.old < u64.MAX }
-        ensures ok { IfOk result (λ n. (read : List ℕ) × (length read ≡ n)
-            × ReadsOnce (source_state S.Source source.old) (source_state S.Source source.new) read
-            × (self.new.held ≡ self.old.held ++ read)) }
-        ensures err { OnErr result
-            (FailsOnce (source_state S.Source source.old) (source_state S.Source source.new)
-            × (self.new.held ≡ self.old.held)) }
-        ensures size { self.new.size ≡ self.old.size }
-        ensures room { self.new.room ≡ self.old.room }
+        ensures { Refills self.old self.new (source_state S.Source source.old)
+            (source_state S.Source source.new) result }
     {
         self.move_to_front();
         let n = read_behind(source, &mut self.bytes, self.filled)?;
@@ -185,14 +179,8 @@ fn read_behind<S: Source>(
 ) -> Result<usize, DeviceFault>
     requires room { filled < length bytes.old }
     requires count { S.failures source.old < u64.MAX }
-    ensures front { take filled bytes.new ≡ take filled bytes.old }
-    ensures len { length bytes.new ≡ length bytes.old }
-    ensures within { IfOk result (λ n. filled + n ≤ length bytes.new) }
-    ensures ok { IfOk result (λ n.
-        ReadsOnce (source_state S.Source source.old) (source_state S.Source source.new)
-        (slice_range bytes.new filled (filled + n))) }
-    ensures err { OnErr result
-        (FailsOnce (source_state S.Source source.old) (source_state S.Source source.new)) }
+    ensures { ReadsBehind filled bytes.old bytes.new (source_state S.Source source.old)
+        (source_state S.Source source.new) result }
 {
     source.read(&mut bytes[filled..])
 }

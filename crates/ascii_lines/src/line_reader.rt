@@ -5,7 +5,7 @@ ghost use Rattle.std.specs.Str.{IsAscii};
 ghost use Rattle.ascii.specs.Endings.{IsFirstStop, IsOneLine};
 ghost use Rattle.ascii.specs.Spans.{LineSpansEndedBy};
 ghost use Rattle.ascii_devices.specs.States.{source_state};
-ghost use Rattle.ascii_lines.specs.LineReader.{TextOf, at_end, read_bytes_in, read_line_in};
+ghost use Rattle.ascii_lines.specs.LineReader.{IsBytesAt, at_end, read_line_in};
 
 use crate::line_buffer::LineBuffer;
 use crate::skipping::{
@@ -471,11 +471,7 @@ fn line_at(endings: Endings, start: u64, line: &[u8]) -> ReadLine<'_>
 fn bytes_at(endings: Endings, end: u64, line: &[u8]) -> ReadBytes<'_>
     requires one { IsOneLine endings line.now }
     requires inside { length line.now ≤ end }
-    ensures line { LineSpansEndedBy endings (end - length line.now) line.now
-        (read_bytes_in result ∷ []) }
-    ensures ended { IsFirstStop endings line.now (length line.now)
-        → result.ending ≢ Ending.Absent }
-    ensures text { TextOf (end - length line.now) result.bytes.now result.text }
+    ensures { IsBytesAt endings (end - length line.now) line.now result }
 {
     let start = end - line.len() as u64;
     let (body, ending) = split_ending(endings, line);

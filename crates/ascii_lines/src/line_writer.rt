@@ -5,8 +5,8 @@ ghost use Rattle.ascii.specs.Lines.{ending_text};
 ghost use Rattle.ascii.specs.View.{text_of};
 ghost use Rattle.ascii_lines.specs.LineWriter.{FitsBuffer, FlushesOutcome, WritesLine, WritesPart};
 ghost use Rattle.ascii_lines.specs.LineWriter.{fresh_writer, line_with};
-ghost use Rattle.ascii_devices.specs.Buffered.{Finishes, IsReady, output_state};
-ghost use Rattle.ascii_lines.specs.WriteBuffer.{PutsBytes};
+ghost use Rattle.ascii_devices.specs.Buffered.{output_state};
+ghost use Rattle.ascii_lines.specs.WriteBuffer.{PutsBytes, SendsAll};
 
 use ascii::AsciiStr;
 use ascii::iter::Ending;
@@ -193,15 +193,8 @@ fn send_all<K: Sink, A: Allocator>(
 ) -> Result<(), DeviceFault>
     requires ready { buffer.old.is_broken ≡ false }
     requires within { length buffer.old.bytes ≤ buffer.old.size }
-    ensures ok { OnOk result (Finishes (output_state K.Sink sink.old buffer.old)
-        (output_state K.Sink sink.new buffer.new) × (K.failures sink.new ≡ K.failures sink.old)) }
-    ensures ready { OnOk result (IsReady buffer.new) }
-    ensures err { OnErr result (PutsBytes (output_state K.Sink sink.old buffer.old)
-        (output_state K.Sink sink.new buffer.new) []) }
-    ensures broken { OnErr result (buffer.new.is_broken ≡ true) }
-    ensures within { length buffer.new.bytes ≤ buffer.new.size }
-    ensures size { buffer.new.size ≡ buffer.old.size }
-    ensures aside { K.aside sink.new ≡ K.aside sink.old }
+    ensures { SendsAll (output_state K.Sink sink.old buffer.old)
+        (output_state K.Sink sink.new buffer.new) result }
 {
     if sink.failures() == u64::MAX {
         buffer.give_up();

@@ -99,10 +99,8 @@ pub fn serve<S: Source, K: Sink, H: Handler, A: Allocator, B: Allocator>(
 ) -> Stop
     requires reader { IsOpen reader.old }
     requires writer { IsReady writer.old }
-    ensures { Serves H.answers SendsBytes ending reader.old.state
-        writer.old.state handler.old result
-        reader.new.state
-        writer.new.state handler.new }
+    ensures { Serves H.answers SendsBytes ending reader.old.state writer.old.state
+        handler.old result reader.new.state writer.new.state handler.new }
 {
     let stop = converse(alloc, reader, writer, ending, handler);
     match writer.flush() {
@@ -121,10 +119,8 @@ fn converse<S: Source, K: Sink, H: Handler, A: Allocator, B: Allocator>(
 ) -> Stop
     requires reader { IsOpen reader.old }
     requires writer { IsReady writer.old }
-    ensures { Serves H.answers WritesBytes ending reader.old.state
-        writer.old.state handler.old result
-        reader.new.state
-        writer.new.state handler.new }
+    ensures { Serves H.answers WritesBytes ending reader.old.state writer.old.state
+        handler.old result reader.new.state writer.new.state handler.new }
 {
     let mut next = Next::Line;
     'turns: loop {

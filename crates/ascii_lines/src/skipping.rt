@@ -4,7 +4,8 @@ ghost use Rattle.std.specs.Prelude.{◌≡◌, ◌+◌, ◌<◌, ◌≤◌, ◌^
 ghost use Rattle.std.specs.Prelude.{drop, length, take, ℕ};
 ghost use Rattle.ascii.specs.Endings.{any_text};
 ghost use Rattle.ascii_devices.specs.States.{source_state};
-ghost use Rattle.ascii_lines.specs.Skipping.{Counts, IsCrAtEnd, IsFinal, IsSkipped, PassesLine};
+ghost use Rattle.ascii_lines.specs.Skipping.{Counts, IsCrAtEnd, IsFinal, IsSkipped, PassesBytes};
+ghost use Rattle.ascii_lines.specs.Skipping.{PassesLine};
 ghost use Rattle.ascii_lines.specs.Skipping.{TakesPart, error_of, skipped_nothing, stage_by};
 
 use crate::line_buffer::LineBuffer;
@@ -183,11 +184,7 @@ fn cr_at_end(endings: Endings, text: &[u8]) -> usize
 fn pass<A: Allocator>(buffer: &mut LineBuffer<A>, passed: Passed, n: usize) -> Passed
     requires within { n ≤ length buffer.old.held }
     requires fits { passed.count + n < 2 ^ 64 }
-    ensures counts { (bytes : List ℕ) → Counts bytes passed
-        → Counts (bytes ++ take n buffer.old.held) result }
-    ensures held { buffer.new.held ≡ drop n buffer.old.held }
-    ensures size { buffer.new.size ≡ buffer.old.size }
-    ensures room { (buffer.new.room ≡ buffer.old.room) × (1 < buffer.new.room) }
+    ensures { PassesBytes n buffer.old buffer.new passed result }
 {
     let other = match passed.other {
         Some(place) => Some(place),

@@ -2,8 +2,8 @@
 
 ghost use Rattle.std.specs.Prelude.{◌≡◌, ◌≤◌, ◌↔◌, IfErr, IfOk, IsTrue, MatchOption, OnOk, length};
 ghost use Rattle.ascii_devices.specs.States.{source_state};
-ghost use Rattle.ascii_lines.specs.LineReader.{FindsEnd, TakesOff};
-ghost use Rattle.ascii_lines.specs.Wanted.{EndsAt, Gathers, LacksUpTo, MustRead, Refuses};
+ghost use Rattle.ascii_lines.specs.LineReader.{Seeks, TakesOff};
+ghost use Rattle.ascii_lines.specs.Wanted.{EndsAt, LacksUpTo, MustRead, Refuses};
 ghost use Rattle.ascii_lines.specs.Wanted.{FindsFault, IsEndOf, IsRefusal, IsSearched, IsUnfit};
 ghost use Rattle.ascii_lines.specs.Wanted.{MayFit};
 
@@ -65,14 +65,8 @@ fn seek<S: Source, A: Allocator>(
     start: u64,
 ) -> Result<(usize, bool), LineError>
     requires { MayFit wanted start buffer.old.size }
-    ensures gathers { OnOk result (Gathers (MustRead wanted start buffer.old.size) buffer.old.held
-        (source_state S.Source source.old) (source_state S.Source source.new) buffer.new.held) }
-    ensures found { IfOk result (λ found. FindsEnd wanted buffer.new
-        (source_state S.Source source.new) found.0 found.1) }
-    ensures count { OnOk result (S.failures source.new ≡ S.failures source.old) }
-    ensures err { IfErr result (Refuses wanted start buffer.old.size buffer.old.held
-        (source_state S.Source source.old) (source_state S.Source source.new) buffer.new.held) }
-    ensures size { buffer.new.size ≡ buffer.old.size }
+    ensures { Seeks wanted start buffer.old buffer.new (source_state S.Source source.old)
+        (source_state S.Source source.new) result }
 {
     let mut searched = 0;
     'fills: loop {

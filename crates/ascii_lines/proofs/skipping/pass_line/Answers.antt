@@ -72,7 +72,7 @@ returns-in-Err g c =
     c.part_of_line-n.result.0 c.part_of_line-n.result.1 None same c.in_default.is
     c.part_of_line-n.ensures.part in
     let now = source_state g.S.Source c.refill.new.source in
-    let fails = c.in-Err.ensures.err in
+    let fails = c.in-Err.ensures.outcome in
     pass_fails c.args.endings c.args.limit c.args.buffer.now c.pass-passed.new.buffer
     c.refill.new.self a b now c.pass-passed.result
     (goes_on c.args.endings c.requires c.args.limit c.args.buffer.now c.fills.buffer
@@ -108,7 +108,7 @@ returns-in-Ok-eq0 g c =
     c.part_of_line-n.result.0 c.part_of_line-n.result.1 None same c.in_default.is
     c.part_of_line-n.ensures.part in
     let now = source_state g.S.Source c.refill.new.source in
-    let read = c.in-Ok-eq0.ensures.ok in
+    let read = c.in-Ok-eq0.ensures.outcome in
     pass_ends c.args.endings c.args.limit c.args.buffer.now c.pass-passed.new.buffer
     c.refill.new.self c.pass.new.buffer a b now c.pass-passed.result c.pass.result
     (goes_on c.args.endings c.requires c.args.limit c.args.buffer.now c.fills.buffer
@@ -142,7 +142,7 @@ fills-preserved g c =
     let part = part_of c.args.endings c.front.result.now held (c.args.limit - c.fills.passed.count)
     c.part_of_line-n.result.0 c.part_of_line-n.result.1 None same c.in_default.is
     c.part_of_line-n.ensures.part in
-    let read = c.in-Ok.ensures.ok in
+    let read = c.in-Ok.ensures.outcome in
     passed_more c.args.endings c.args.limit c.args.buffer.now c.pass-passed.new.buffer
     c.refill.new.self a b (source_state g.S.Source c.refill.new.source) c.pass-passed.result read.0
     (goes_on c.args.endings c.requires c.args.limit c.args.buffer.now c.fills.buffer

@@ -1,6 +1,7 @@
-use Rattle.std.proofs.Common.{◌≡◌, ◌≤◌, ◌++◌, [], ap, length-append, append-nil, arith, length, refl, subst, sym, take, ◌∙◌}
+use Rattle.std.proofs.Common.{true, false, ◌≡◌, ◌≤◌, ◌++◌, [], ap, length-append, append-nil, arith, length, refl, subst, sym, take, ◌∙◌}
 use Rattle.std.proofs.lemmas.List.{nil_from_length, take-take, take_all, take_at}
 use Rattle.ascii_devices.specs.States.{source_state}
+use Rattle.ascii_lines.specs.LineReader.{FindsEnd}
 use Rattle.ascii_lines.specs.Wanted.{EndsAt, IsRefusal, IsSearched, LacksUpTo, MayHave, MustRead}
 use Rattle.ascii_lines.proofs.GathersLemmas.{Gathers-failed, Gathers-nil, Gathers-read}
 use Rattle.ascii_lines.proofs.WantedLemmas.{all_usable, ends_whole, may_front, may_none, must_read}
@@ -39,13 +40,14 @@ find-requires-clause-searched g c =
     (searched_front c.fills.buffer.held (length part) c.fills.searched (reached g c)
     c.args.wanted c.fills.invariant.7)
 
-pub returns-in-Some-clause-found : goal.returns-in-Some-clause-found
-returns-in-Some-clause-found g c =
+pub returns-in-Some : goal.returns-in-Some
+returns-in-Some g c =
     let part = c.usable-text.result.now in
     let usable = c.usable-text.ensures in
     let n = c.in-Some.n in
     let found = c.in-Some.ensures in
-    record {
+    let found_is : FindsEnd c.args.wanted c.fills.buffer (source_state g.S.Source c.fills.source)
+    n false = record {
       within = omega (arith, found.0, usable.within);
       fits = omega (arith, found.0, usable.fits);
       may = subst (MayHave c.args.wanted)
@@ -53,6 +55,14 @@ returns-in-Some-clause-found g c =
           (may_front c.args.wanted part n usable.may);
       stops = ends_whole c.fills.buffer.held (length part) n found.0 c.args.wanted
           (subst (λ text. EndsAt c.args.wanted text n) usable.front found.1);
+    } in
+    record {
+      outcome = record {
+        gathers = c.fills.invariant.0;
+        found_is = found_is;
+        failures = c.fills.invariant.1;
+      };
+      size = c.fills.invariant.2;
     }
 
 refusal : (g : _) (c : goal.After-refusal g)
@@ -62,16 +72,19 @@ refusal g c = subst
     (λ size. IsRefusal c.args.start (length c.usable-text.result.now) size c.refusal.result)
     (c.size.ensures ∙ c.fills.invariant.2) c.refusal.ensures
 
-pub returns-then-searched-len-clause-err : goal.returns-then-searched-len-clause-err
-returns-then-searched-len-clause-err g c = record {
-  gathers = c.fills.invariant.0;
-  why = rejects c.args.wanted c.args.start c.args.buffer.now.size c.fills.buffer
-      c.usable-text.result.now c.usable-text.ensures c.fills.invariant.2 c.in_default.ensures
-      (omega (arith, c.if-searched-len.true, c.len.ensures))
-      (g.S.Source.rest c.fills.source) c.refusal.result (refusal g c);
-  failures = c.fills.invariant.1
-      ∙ sym (refusal_counts (g.S.Source.failures c.args.source.now) c.args.start
-      (length c.usable-text.result.now) c.args.buffer.now.size c.refusal.result (refusal g c));
+pub returns-then-searched-len : goal.returns-then-searched-len
+returns-then-searched-len g c = record {
+  outcome = record {
+    gathers = c.fills.invariant.0;
+    why = rejects c.args.wanted c.args.start c.args.buffer.now.size c.fills.buffer
+        c.usable-text.result.now c.usable-text.ensures c.fills.invariant.2 c.in_default.ensures
+        (omega (arith, c.if-searched-len.true, c.len.ensures))
+        (g.S.Source.rest c.fills.source) c.refusal.result (refusal g c);
+    failures = c.fills.invariant.1
+        ∙ sym (refusal_counts (g.S.Source.failures c.args.source.now) c.args.start
+        (length c.usable-text.result.now) c.args.buffer.now.size c.refusal.result (refusal g c));
+  };
+  size = c.fills.invariant.2;
 }
 
 pub refill-requires-clause-room : goal.refill-requires-clause-room
@@ -79,47 +92,38 @@ refill-requires-clause-room g c =
     let usable = c.usable-text.ensures in
     omega (arith, usable.fits, usable.roomy, c.if-searched-len.false, c.len.ensures)
 
-pub returns-in_default-refill-clause-err : goal.returns-in_default-refill-clause-err
-returns-in_default-refill-clause-err g c =
+pub returns-in_default-refill : goal.returns-in_default-refill
+returns-in_default-refill g c =
     let Must = MustRead c.args.wanted c.args.start c.args.buffer.now.size in
     let must : Must c.fills.buffer.held = must_read c.args.wanted c.args.start
     c.args.buffer.now.size c.fills.buffer c.usable-text.result.now c.usable-text.ensures
     c.fills.invariant.2 c.in_default.ensures c.requires
     (omega (arith, c.if-searched-len.false, c.len.ensures)) in
-    let fails = c.in_default-refill.ensures.err in
+    let fails = c.in_default-refill.ensures.outcome in
     record {
-      gathers = Gathers-failed Must c.args.buffer.now.held
-          (source_state g.S.Source c.args.source.now) (source_state g.S.Source c.fills.source)
-          (source_state g.S.Source c.refill.new.source) c.fills.buffer.held
-          c.refill.new.self.held c.fills.invariant.0 c.fills.invariant.1 must fails.0 fails.1;
-      why = subst Must (sym fails.1) must;
-      failures = omega (
-        arith,
-        fails.0.failures,
-        c.fills.invariant.1,
-        c.failures.ensures,
-        c.failures.type_inv,
-        c.if-failures-eq18446744073709551615.false,
-      );
+      outcome = record {
+        gathers = Gathers-failed Must c.args.buffer.now.held
+            (source_state g.S.Source c.args.source.now) (source_state g.S.Source c.fills.source)
+            (source_state g.S.Source c.refill.new.source) c.fills.buffer.held
+            c.refill.new.self.held c.fills.invariant.0 c.fills.invariant.1 must fails.0 fails.1;
+        why = subst Must (sym fails.1) must;
+        failures = omega (
+          arith,
+          fails.0.failures,
+          c.fills.invariant.1,
+          c.failures.ensures,
+          c.failures.type_inv,
+          c.if-failures-eq18446744073709551615.false,
+        );
+      };
+      size = c.in_default-refill.ensures.size ∙ c.fills.invariant.2;
     }
 
-pub returns-then-n-eq0-clause-gathers : goal.returns-then-n-eq0-clause-gathers
-returns-then-n-eq0-clause-gathers g c =
-    let Must = MustRead c.args.wanted c.args.start c.args.buffer.now.size in
-    let read = c.in-Ok.ensures.ok in
-    Gathers-read Must c.args.buffer.now.held (source_state g.S.Source c.args.source.now)
-    (source_state g.S.Source c.fills.source) (source_state g.S.Source c.refill.new.source)
-    c.fills.buffer.held read.0 c.fills.invariant.0 c.fills.invariant.1
-    (must_read c.args.wanted c.args.start c.args.buffer.now.size c.fills.buffer
-    c.usable-text.result.now c.usable-text.ensures c.fills.invariant.2 c.in_default.ensures
-    c.requires (omega (arith, c.if-searched-len.false, c.len.ensures)))
-    c.refill.new.self.held read.2 read.3
-
-pub returns-then-n-eq0-clause-found : goal.returns-then-n-eq0-clause-found
-returns-then-n-eq0-clause-found g c =
+pub returns-then-n-eq0 : goal.returns-then-n-eq0
+returns-then-n-eq0 g c =
     let part = c.usable-text.result.now in
     let usable = c.usable-text.ensures in
-    let read = c.in-Ok.ensures.ok in
+    let read = c.in-Ok.ensures.outcome in
     let all : part ≡ c.fills.buffer.held =
     all_usable c.args.wanted c.fills.buffer part usable
     (omega (arith, c.if-searched-len.false, c.len.ensures)) in
@@ -128,7 +132,9 @@ returns-then-n-eq0-clause-found g c =
     read.3 ∙ (ap (λ xs. c.fills.buffer.held ++ xs) none
     ∙ (append-nil c.fills.buffer.held ∙ sym all)) in
     let long : c.len-then-n-eq0.result ≡ length c.refill.new.self.held = c.len-then-n-eq0.ensures in
-    record {
+    let Must = MustRead c.args.wanted c.args.start c.args.buffer.now.size in
+    let found_is : FindsEnd c.args.wanted c.refill.new.self
+    (source_state g.S.Source c.refill.new.source) c.len-then-n-eq0.result true = record {
       within = omega (arith, long);
       fits = omega (arith, long, ap length same, usable.fits, c.in-Ok.ensures.size);
       may = subst (MayHave c.args.wanted)
@@ -142,12 +148,26 @@ returns-then-n-eq0-clause-found g c =
             (subst (λ xs. LacksUpTo c.args.wanted xs (length part)) (sym same)
             c.in_default.ensures),
       );
+    } in
+    record {
+      outcome = record {
+        gathers = Gathers-read Must c.args.buffer.now.held (source_state g.S.Source c.args.source.now)
+            (source_state g.S.Source c.fills.source) (source_state g.S.Source c.refill.new.source)
+            c.fills.buffer.held read.0 c.fills.invariant.0 c.fills.invariant.1
+            (must_read c.args.wanted c.args.start c.args.buffer.now.size c.fills.buffer
+            c.usable-text.result.now c.usable-text.ensures c.fills.invariant.2 c.in_default.ensures
+            c.requires (omega (arith, c.if-searched-len.false, c.len.ensures)))
+            c.refill.new.self.held read.2 read.3;
+        found_is = found_is;
+        failures = read.2.failures ∙ c.fills.invariant.1;
+      };
+      size = c.in-Ok.ensures.size ∙ c.fills.invariant.2;
     }
 
 pub fills-smaller : goal.fills-smaller
 fills-smaller g c =
     let usable = c.usable-text.ensures in
-    let read = c.in-Ok.ensures.ok in
+    let read = c.in-Ok.ensures.outcome in
     omega (
       arith,
       ap length read.3,
@@ -166,7 +186,7 @@ fills-preserved g c =
     let Must = MustRead c.args.wanted c.args.start c.args.buffer.now.size in
     let part = c.usable-text.result.now in
     let usable = c.usable-text.ensures in
-    let read = c.in-Ok.ensures.ok in
+    let read = c.in-Ok.ensures.outcome in
     let held = c.fills.buffer.held in
     let all : part ≡ held =
     all_usable c.args.wanted c.fills.buffer part usable
@@ -192,3 +212,21 @@ fills-preserved g c =
           (searched_more c.args.wanted part read.0 (length part) (omega arith)
           (searched_lacks c.args.wanted part (length part) c.in_default.ensures)),
     )
+
+pub returns-then-failures-eq18446744073709551615 :
+    goal.returns-then-failures-eq18446744073709551615
+returns-then-failures-eq18446744073709551615 g c = record {
+  outcome = record {
+    gathers = c.fills.invariant.0;
+    why = must_read c.args.wanted c.args.start c.args.buffer.now.size c.fills.buffer
+        c.usable-text.result.now c.usable-text.ensures c.fills.invariant.2 c.in_default.ensures
+        c.requires (omega (arith, c.if-searched-len.false, c.len.ensures));
+    failures = omega (
+      arith,
+      c.fills.invariant.1,
+      c.failures.ensures,
+      c.if-failures-eq18446744073709551615.true,
+    );
+  };
+  size = c.fills.invariant.2;
+}

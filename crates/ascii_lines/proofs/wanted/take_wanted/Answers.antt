@@ -20,9 +20,9 @@ returns-in_err-end-clause-err g c =
     let a = source_state g.S.Source c.args.source.now in
     let b = source_state g.S.Source c.seek.new.source in
     let error = c.in_err-end.field-0.0 in
-    let found = c.in_ok-n.ensures in
+    let found = c.in_ok-n.ensures.outcome in
     let rejects = end_rejects c.args.wanted c.args.start c.seek.new.buffer b c.in_ok-n.n
-    c.in_ok-n.is_last found.found (g.S.Source.failures c.args.source.now) error
+    c.in_ok-n.is_last found.found_is (g.S.Source.failures c.args.source.now) error
     (subst (λ bytes. IsEndOf c.args.wanted c.args.start bytes c.in_ok-n.is_last (Err error))
     c.front.ensures c.in_err-end.ensures) in
     same_err c.from_residual-in_err-end.result error
@@ -31,17 +31,17 @@ returns-in_err-end-clause-err g c =
     (record {
       gathers = found.gathers;
       why = subst (λ size. Rejects c.args.wanted c.args.start size c.seek.new.buffer.held b.rest error)
-          found.size rejects.0;
-      failures = found.count ∙ sym rejects.1;
+          c.in_ok-n.ensures.size rejects.0;
+      failures = found.failures ∙ sym rejects.1;
     })
 
 pub returns-clause-ok : goal.returns-clause-ok
 returns-clause-ok g c =
     let a = source_state g.S.Source c.args.source.now in
     let b = source_state g.S.Source c.seek.new.source in
-    let found = c.in_ok-n.ensures in
+    let found = c.in_ok-n.ensures.outcome in
     takes_off c.args.wanted c.args.start c.args.buffer.now c.seek.new.buffer c.take.new.self a b
-    c.in_ok-n.n c.in_ok-n.is_last found.found found.gathers found.size found.count
+    c.in_ok-n.n c.in_ok-n.is_last found.found_is found.gathers c.in_ok-n.ensures.size found.failures
     c.take.ensures.given c.take.ensures.held c.in_ok-end.end
     (subst
     (λ bytes. IsEndOf c.args.wanted c.args.start bytes c.in_ok-n.is_last (Ok c.in_ok-end.end))

@@ -1,4 +1,4 @@
-use Rattle.std.proofs.Common.{◌≡◌, ◌+◌, ◌++◌, ap, arith, drop, length, subst, take, ◌∙◌}
+use Rattle.std.proofs.Common.{rules, ◌≡◌, ◌+◌, ◌++◌, ap, arith, drop, length, subst, take, ◌∙◌}
 use Rattle.std.specs.List.{slice_range}
 use Rattle.std.proofs.lemmas.List.{take_at}
 use Rattle.ascii.proofs.ListLemmas.{length-slice_range}
@@ -34,16 +34,16 @@ invariant_of-self-2 g c =
           (refilled i.bytes.items new i.filled (front g c) i.size i.given i.from c.in_ok-n.n
           w.ascii_len.result
           (subst (λ k. IsLaidOut i.size i.bytes.items i.given i.from k i.filled) all
-          c.self.invariant) same c.in_ok-n.ensures.within
+          c.self.invariant) same c.in_ok-n.ensures.outcome.0
           (rw (w.deref.ensures.value, put_back g c) at w.ascii_len.ensures))
       | else-self w ↦
           rw (w.self-inside-is, put_back g c)
           (refilled_other i.bytes.items new i.filled (front g c) i.size i.given i.from i.checked
-          c.in_ok-n.n c.self.invariant (omega (arith, c.self.invariant.then_checked, w.if-self.false)) same c.in_ok-n.ensures.within)
+          c.in_ok-n.n c.self.invariant (omega (arith, c.self.invariant.then_checked, w.if-self.false)) same c.in_ok-n.ensures.outcome.0)
     ]
 
-pub returns-clause-ok : goal.returns-clause-ok
-returns-clause-ok g c =
+pub returns : goal.returns
+returns g c =
     let i = c.self.inside in
     let n = c.in_ok-n.n in
     let new = c.read_behind.new.bytes in
@@ -53,15 +53,21 @@ returns-clause-ok g c =
     held_more i.bytes.items new i.filled (front g c) i.from n
     (omega (arith, laid.then_from, laid.then_checked))
     ∙ ap (λ xs. xs ++ read)
-    (ap (λ (w : WindowState). w.held) c.self.view_is ∙ c.move_to_front.ensures.held) in (
-      read,
-      omega (
-        arith,
-        length-slice_range new i.filled (i.filled + n) (omega arith) c.in_ok-n.ensures.within,
-      ),
-      c.in_ok-n.ensures.ok,
-      elim c.if-self.branch [
-        | then-self w ↦ rw (w.self-inside-is, put_back g c) held
-        | else-self w ↦ rw (w.self-inside-is, put_back g c) held
-      ],
-    )
+    (ap (λ (w : WindowState). w.held) c.self.view_is ∙ c.move_to_front.ensures.held) in
+    record {
+      outcome = (
+        read,
+        omega (
+          arith,
+          length-slice_range new i.filled (i.filled + n) (omega arith)
+              c.in_ok-n.ensures.outcome.0,
+        ),
+        c.in_ok-n.ensures.outcome.1,
+        elim c.if-self.branch [
+          | then-self w ↦ rw (w.self-inside-is, put_back g c) held
+          | else-self w ↦ rw (w.self-inside-is, put_back g c) held
+        ],
+      );
+      size = search rules;
+      room = search rules;
+    }
