@@ -77,5 +77,6 @@ pub Gathers-failed : (Must : List ℕ → Type 0) (held : List ℕ) (a b c : Sou
     → FailsOnce b c → new ≡ text → Gathers Must held a c new
 Gathers-failed Must held a b c text new so_far kept must fails is =
     subst (Gathers Must held a c) (append-nil text ∙ sym is)
-    (once Must held a b c text [] so_far kept must (read_fails of_state b c fails.failures fails.told)
+    (once Must held a b c text [] so_far kept must
+    (read_fails of_state b c fails.failures fails.told)
     fails.told fails.aside)

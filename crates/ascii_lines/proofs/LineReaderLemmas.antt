@@ -1,6 +1,7 @@
 -- What a line reader has read and yielded, one call after another.
 use Rattle.std.proofs.Common.{◌≡◌, ◌≢◌, ℕ, ◌+◌, ◌-◌, List, [], ◌∷◌, ◌++◌, length, take, None}
-use Rattle.std.proofs.Common.{Some, Ok, Err, Option, Result, refl, sym, ap, subst, ◌∙◌, arith, inl, inr}
+use Rattle.std.proofs.Common.{Some, Ok, Err, Option, Result, refl, sym, ap, subst, ◌∙◌, arith}
+use Rattle.std.proofs.Common.{inl, inr}
 use Rattle.std.proofs.Common.{◌<◌, ◌^◌, add-zero, append_assoc, append-nil, length-append}
 use Rattle.std.specs.Io.KnownBytes.{Consumes, IsAtEnd}
 use Rattle.std.specs.List.{All, flat_map}
@@ -19,7 +20,8 @@ use Rattle.ascii.proofs.LinesLemmas.{LinesEndedBy-nil}
 use Rattle.ascii_devices.proofs.HistoryLemmas.{Gives-nil, Gives-trans}
 use Rattle.ascii_devices.specs.States.{of_state}
 use Rattle.ascii_lines.specs.LineReader.{IsDone, Next, NextFrom, PassesOver, ReaderState}
-use Rattle.ascii_lines.specs.LineReader.{Reading, ReadsBytes, StopsAt, Takes, TakesLine, YieldsLines}
+use Rattle.ascii_lines.specs.LineReader.{Reading, ReadsBytes, StopsAt, Takes, TakesLine}
+use Rattle.ascii_lines.specs.LineReader.{YieldsLines}
 use Rattle.ascii_lines.specs.LineReader.{read_line_in}
 use Rattle.ascii_lines.specs.Wanted.{all_of}
 use Rattle.ascii_lines.specs.declared.line_reader.LineError.{LineError}
@@ -348,7 +350,8 @@ first_lines old new lines told is hands =
     let kind = any_text old.endings in
     let all_done : IsDone new → LineSpansEndedBy kind old.start (old.held ++ told) (lines ++ [])
     = λ done.
-    let none : new.held ++ more ≡ [] = ap (λ zs. zs ++ more) done.none ∙ parts.2 (subst IsAtEnd (gave.left hands.reads.failures) done.left) in
+    let none : new.held ++ more ≡ [] = ap (λ zs. zs ++ more) done.none ∙ parts.2
+    (subst IsAtEnd (gave.left hands.reads.failures) done.left) in
     subst (λ zs. LineSpansEndedBy kind old.start (old.held ++ told) zs) (sym (append-nil lines))
     (subst (λ zs. LineSpansEndedBy kind old.start zs lines)
     (sym (whole ∙ (ap (λ zs. hands.handed ++ zs) none ∙ append-nil hands.handed)))

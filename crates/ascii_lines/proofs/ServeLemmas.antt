@@ -26,7 +26,8 @@ use Rattle.ascii_lines.specs.LineReader.{Reading}
 use Rattle.ascii_lines.specs.LineReader as reader
 use Rattle.ascii_lines.specs.Serve.{Conversation, IsAsked, IsGoing, IsRequest, StopsTurn}
 use Rattle.ascii_lines.specs.Serve.{TakesInput, Talks, TurnOutcome}
-use Rattle.ascii_lines.proofs.LineReaderLemmas.{ReadsBytes-nil, ReadsBytes-trans, line_has_bytes, none_is_some, one_line, reads_of}
+use Rattle.ascii_lines.proofs.LineReaderLemmas.{ReadsBytes-nil, ReadsBytes-trans, line_has_bytes}
+use Rattle.ascii_lines.proofs.LineReaderLemmas.{none_is_some, one_line, reads_of}
 use Rattle.ascii_lines.proofs.LineReaderLemmas.{with_starts-append}
 use Rattle.ascii_lines.specs.declared.wanted.Wanted.TheVariants as wanted
 
@@ -94,7 +95,8 @@ module _ {S : Type 0} where
   pub takes_part : (n : ℕ) (old new : Reading S) (result : Result ReadPart LineError)
       (part : ReadPart) → IsGoing old.state
       → NextPart n old result new → result ≡ Ok part
-      → IsAsked old.state.endings (next.Part n) (record { body = text_of part.text; ending = Absent })
+      → IsAsked old.state.endings (next.Part n)
+      (record { body = text_of part.text; ending = Absent })
       × TakesInput old.state
       (record { start = part.start; item = record { body = text_of part.text; ending = Absent } })
       new.state

@@ -1,6 +1,8 @@
 -- Where a line ends in bytes that come in two parts.
-use Rattle.std.proofs.Common.{◌≢◌, ◌≡◌, ℕ, ◌+◌, ◌-◌, ◌<◌, ◌≤◌, List, [], ◌++◌, length, get_or, arith, inl}
-use Rattle.std.proofs.Common.{inr, length-append, refl, subst, sym, take, drop, None, Option, Some, ◌∷◌, ap, append_assoc, append-nil, ◌∙◌}
+use Rattle.std.proofs.Common.{◌≢◌, ◌≡◌, ℕ, ◌+◌, ◌-◌, ◌<◌, ◌≤◌, List, [], ◌++◌, length, get_or}
+use Rattle.std.proofs.Common.{arith, inl}
+use Rattle.std.proofs.Common.{inr, length-append, refl, subst, sym, take, drop, None, Option}
+use Rattle.std.proofs.Common.{Some, ◌∷◌, ap, append_assoc, append-nil, ◌∙◌}
 use Rattle.std.proofs.Math.ListN.{get_or-append}
 use Rattle.std.proofs.Math.Seq.{get_or-append_right}
 use Rattle.std.proofs.lemmas.Bool.{cases_lt}
@@ -29,7 +31,8 @@ module _ (bytes text : List ℕ) where
   right_at : (j : ℕ) → get_or (bytes ++ text) (length bytes + j) 0 ≡ get_or text j 0
   right_at j = get_or-append-add bytes text j 0
 
-  right_of : (k : ℕ) → length bytes ≤ k → get_or (bytes ++ text) k 0 ≡ get_or text (k - length bytes) 0
+  right_of : (k : ℕ) → length bytes ≤ k → get_or (bytes ++ text) k 0 ≡ get_or text
+      (k - length bytes) 0
   right_of k high = get_or-append_right bytes text k 0 high
 
   stop_left : (endings : Endings) → any_text endings ≡ endings → (k : ℕ) → k < length bytes
@@ -42,7 +45,11 @@ module _ (bytes text : List ℕ) where
   stop_right : (endings : Endings) → any_text endings ≡ endings → IsCleanCut endings bytes text
       → (j : ℕ) → StopsAt endings (bytes ++ text) (length bytes + j) → StopsAt endings text j
   stop_right Any plain clean j stop = sym (right_at j) ∙ stop
-  stop_right CrLf plain clean j stop = (before j stop.0 (sym (right_at j) ∙ stop.1), sym (right_at j) ∙ stop.1)
+  stop_right CrLf plain clean j stop = (
+    before j stop.0 (sym (right_at j) ∙ stop.1),
+    sym
+        (right_at j) ∙ stop.1,
+  )
     where
       before : (j : ℕ) → get_or (bytes ++ text) (length bytes + j - 1) 0 ≡ 13
           → get_or text j 0 ≡ 10 → get_or text (j - 1) 0 ≡ 13
@@ -55,7 +62,8 @@ module _ (bytes text : List ℕ) where
               let at : get_or bytes (length bytes - 1) 0 ≡ 13 =
               sym (left_at (length bytes - 1) (omega (arith, full)))
               ∙ subst (λ i. get_or (bytes ++ text) i 0 ≡ 13) (omega (arith, none)) cr in
-              absurd ((clean refl at).1 (subst (λ i. get_or text i 0 ≡ 10) (omega (arith, none)) feed))
+              absurd ((clean refl at).1 (subst (λ i. get_or text i 0 ≡ 10) (omega
+              (arith, none)) feed))
           | inr empty ↦
               let here : get_or text 0 0 ≡ 13 =
               subst (λ i. get_or text i 0 ≡ 13) (omega (arith, empty))
@@ -73,11 +81,13 @@ module _ (bytes text : List ℕ) where
   stop_back Any plain j stop = right_at j ∙ stop
   stop_back CrLf plain j stop = elim (cases_lt 0 j) [
     | inl some ↦ (
-      subst (λ i. get_or (bytes ++ text) i 0 ≡ 13) (omega (arith, some)) (right_at (j - 1) ∙ stop.0),
+      subst (λ i. get_or (bytes ++ text) i 0 ≡ 13) (omega (arith, some)) (right_at (j - 1)
+          ∙ stop.0),
       right_at j ∙ stop.1,
     )
     | inr none ↦
-        let here : get_or text j 0 ≡ 13 = subst (λ i. get_or text i 0 ≡ 13) (omega (arith, none)) stop.0 in
+        let here : get_or text j 0 ≡ 13 = subst (λ i. get_or text i 0 ≡ 13) (omega
+        (arith, none)) stop.0 in
         absurd (omega (arith, here, stop.1))
   ]
   stop_back CrLfStrict plain j stop = cc
@@ -318,7 +328,8 @@ passed_none endings limit buffer a = record {
 pub pass_fails : (endings : Endings) (limit : ℕ) (old now after : WindowState)
     (a b c : SourceState) (passed : Passed) (so_far : PassedSoFar endings limit old now a b passed)
     → FreeUpTo endings (so_far.bytes ++ now.held) (length (so_far.bytes ++ now.held))
-    → length now.held ≤ 1 → Gives of_state b c [] → c.failures ≡ one_more b.failures → after.held ≡ now.held
+    → length now.held ≤ 1 → Gives of_state b c [] → c.failures ≡ one_more b.failures
+    → after.held ≡ now.held
     → after.size ≡ now.size → PassesLine endings limit old after a c passed end.Failed
 pass_fails endings limit old now after a b c passed so_far none one gave fails is size = record {
   bytes = so_far.bytes;

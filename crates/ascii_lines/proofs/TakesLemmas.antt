@@ -1,6 +1,8 @@
 -- Taking what is wanted off a buffer in which a search has found it, or has not.
-use Rattle.std.proofs.Common.{Bool, true, false, drop, ◌≤◌, take-append-drop, Err, IfErr, None, Ok, OnErr, Option, Result, Some, ◌∷◌}
-use Rattle.std.proofs.Common.{◌≡◌, ◌≢◌, ◌⊎◌, ℕ, ◌+◌, ◌-◌, ◌<◌, ◌^◌, List, [], ◌++◌, length, take, get_or}
+use Rattle.std.proofs.Common.{Bool, true, false, drop, ◌≤◌, take-append-drop, Err, IfErr, None}
+use Rattle.std.proofs.Common.{Ok, OnErr, Option, Result, Some, ◌∷◌}
+use Rattle.std.proofs.Common.{◌≡◌, ◌≢◌, ◌⊎◌, ℕ, ◌+◌, ◌-◌, ◌<◌, ◌^◌, List, [], ◌++◌, length, take}
+use Rattle.std.proofs.Common.{get_or}
 use Rattle.std.proofs.Common.{arith, inl, inr, length-append, append-nil, refl, sym, ap, subst, ◌∙◌}
 use Rattle.std.specs.Io.KnownBytes.{IsAtEnd}
 use Rattle.std.specs.Result.{IsErrAnd}
@@ -19,11 +21,13 @@ use Rattle.ascii_devices.specs.States.{SourceState}
 use Rattle.ascii_lines.specs.LineBuffer.{WindowState}
 use Rattle.ascii_lines.specs.LineReader.{FindsEnd, IsTaken, StopsBy, TakesOff}
 use Rattle.ascii_lines.specs.Wanted.{FindsFault, IsCutOff, IsEndOf, IsFar, IsLoneBreak, IsSearched}
-use Rattle.ascii_lines.specs.Wanted.{EndsAt, Gathers, IsOne, IsStrict, IsUnfit, LacksUpTo, MayBeLast}
+use Rattle.ascii_lines.specs.Wanted.{EndsAt, Gathers, IsOne, IsStrict, IsUnfit, LacksUpTo}
+use Rattle.ascii_lines.specs.Wanted.{MayBeLast}
 use Rattle.ascii_lines.specs.Wanted.{MayHave, MustRead, Refuses, Rejects, failures_after}
 use Rattle.ascii_lines.specs.declared.line_reader.LineError.{LineError}
 use Rattle.ascii_lines.specs.declared.line_reader.LineError.TheVariants.{Incomplete, LoneBreak}
-use Rattle.ascii_lines.specs.declared.line_reader.LineError.TheVariants.{NotAscii, Read, TooFar, TooLong}
+use Rattle.ascii_lines.specs.declared.line_reader.LineError.TheVariants.{NotAscii, Read, TooFar}
+use Rattle.ascii_lines.specs.declared.line_reader.LineError.TheVariants.{TooLong}
 use Rattle.ascii_lines.specs.declared.wanted.Wanted.{Wanted}
 use Rattle.ascii_lines.specs.declared.wanted.Wanted.TheVariants.{Line, Bytes, Part}
 use Rattle.ascii_lines.proofs.GathersLemmas.{Gathers-nil}
@@ -190,7 +194,8 @@ module _ (wanted : Wanted) (start : ℕ) (buffer : WindowState) (source : Source
           part false stops = omega (arith, beyond, long, stops)
 
   -- a part is longer than all bytes
-  cut_off : ¬ (MayBeLast wanted is_last) → IsCutOff wanted buffer.held source.rest × (n ≡ length buffer.held)
+  cut_off : ¬ (MayBeLast wanted is_last) → IsCutOff wanted buffer.held source.rest × (n
+      ≡ length buffer.held)
   cut_off not_last = go wanted is_last not_last finds.may finds.stops
     where
       go : (wanted' : Wanted) (is_last' : Bool) → ¬ (MayBeLast wanted' is_last')
@@ -226,7 +231,8 @@ module _ (wanted : Wanted) (start : ℕ) (buffer : WindowState) (source : Source
           lone_at_end wanted buffer.size bytes others source.rest i fits may
           (subst (λ kind. FreeUpTo kind bytes (length bytes)) lone.0
           (subst (FreeUpTo endings bytes) (sym long)
-          (searched_front buffer.held n n (omega arith) (Line endings) stops.2))) none stops.1 lone.1
+          (searched_front buffer.held n n (omega arith)
+          (Line endings) stops.2))) none stops.1 lone.1
       line wanted endings false may stops lone =
           lone_at_stop wanted buffer.size bytes others source.rest i fits may
           (subst (λ kind. IsFirstStop kind bytes (length bytes)) lone.0

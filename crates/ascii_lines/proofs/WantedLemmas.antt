@@ -64,7 +64,8 @@ searched_lacks (Part count) text n lacks = tt
 pub searched_more : (wanted : Wanted) (text more : List ℕ) (n : ℕ) → n ≤ length text
     → IsSearched wanted text n → IsSearched wanted (text ++ more) n
 searched_more (Line endings) text more n within free = FreeUpTo-more endings text more n within free
-searched_more (Bytes endings) text more n within free = FreeUpTo-more endings text more n within free
+searched_more
+    (Bytes endings) text more n within free = FreeUpTo-more endings text more n within free
 searched_more (Part count) text more n within free = tt
 
 pub searched_none : (wanted : Wanted) (text : List ℕ) → IsSearched wanted text 0

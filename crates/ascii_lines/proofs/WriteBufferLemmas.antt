@@ -28,7 +28,8 @@ Passes-trans {a} {b} {c} first second one two = record {
   sent = one.sent ++ two.sent;
   took = Appends-trans a.taken b.taken c.taken one.sent two.sent one.took two.took;
   told = TellsSent-trans one.sent two.sent one.told two.told;
-  all = append_two one.sent two.sent c.buffer.bytes b.buffer.bytes a.buffer.bytes first second one.all two.all;
+  all = append_two one.sent two.sent c.buffer.bytes b.buffer.bytes a.buffer.bytes first second
+      one.all two.all;
 }
 
 -- one piece, and then a part of another
@@ -39,7 +40,8 @@ Passes-prefix {a} {b} {c} first second one two = record {
   others = two.others;
   took = Appends-trans a.taken b.taken c.taken one.sent two.sent one.took two.took;
   told = TellsSent-trans one.sent two.sent one.told two.told;
-  all = append_two one.sent two.sent two.others b.buffer.bytes a.buffer.bytes first second one.all two.all;
+  all = append_two one.sent two.sent two.others b.buffer.bytes a.buffer.bytes first second
+      one.all two.all;
 }
 
 -- a part of one piece is a part of it and more

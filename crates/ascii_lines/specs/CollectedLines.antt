@@ -57,7 +57,8 @@ IsBlock most lines = All (λ line. line.item.body ≢ []) lines × (length lines
 abbrev pub YieldsBlock
     : ℕ → ReaderState → List (WithStart Line) → BlockEnd → ReaderState → Type 0
 YieldsBlock most old lines end.EmptyLine new = IsBlock most lines
-    × ((empty : WithStart Line) × (empty.item.body ≡ []) × YieldsLines old (lines ++ empty ∷ []) new)
+    × ((empty : WithStart Line) × (empty.item.body ≡ []) × YieldsLines old
+    (lines ++ empty ∷ []) new)
 YieldsBlock most old lines end.EndOfInput new =
     IsBlock most lines × YieldsLines old lines new × IsDone new
 YieldsBlock most old lines end.Full new =

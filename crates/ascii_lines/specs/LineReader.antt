@@ -1,5 +1,6 @@
 -- The state of a line reader, and what its calls return and leave.
-use Rattle.std.specs.Prelude.{MatchResult, ◌<◌, ◌^◌, ◌≡◌, ◌≢◌, ◌⊎◌, ℕ, ◌+◌, ◌≤◌, Bool, true, false, List, [], ◌∷◌}
+use Rattle.std.specs.Prelude.{MatchResult, ◌<◌, ◌^◌, ◌≡◌, ◌≢◌, ◌⊎◌, ℕ, ◌+◌, ◌≤◌, Bool, true}
+use Rattle.std.specs.Prelude.{false, List, [], ◌∷◌}
 use Rattle.std.specs.Prelude.{◌++◌, nat_lt, length, take, Ok, Err, None}
 use Rattle.std.specs.Prelude.{Some, ⊤}
 use Rattle.std.specs.Io.KnownBytes.{IsAtEnd}
@@ -39,8 +40,8 @@ pub record ReaderState : Type 0 where
   pub endings : Endings
   pub device : SourceState
 
--- what contracts see of a reader: its source; its state; and the bytes of the line or part that it
--- has lent last, ending included
+-- what contracts see of a reader: its source; its state; and the bytes that it has given up last:
+-- those of the line or part that it lent, ending included, or some that were skipped
 pub record Reading (S : Type 0) : Type 0 where
   pub source : S
   pub state : ReaderState
@@ -210,15 +211,15 @@ abbrev pub IsHeldThenRead : ReaderState → ReaderState → List ℕ → Type 0
 IsHeldThenRead old new text =
     (read : List ℕ) × Gives of_state old.device new.device read × (text ≡ old.held ++ read)
 
--- from the state `old` to the state `new` the reader went over `bytes`: of the bytes held before and
--- those read since they are the first, and the others are held
+-- from the state `old` to the state `new` the reader went over `bytes`: of the bytes held before
+-- and those read since they are the first, and the others are held
 pub record PassesOver (old : ReaderState) (bytes : List ℕ) (new : ReaderState) : Type 0 where
   pub text : IsHeldThenRead old new (bytes ++ new.held)
   pub start : new.start ≡ old.start + length bytes
   pub size : new.size ≡ old.size
   pub endings : new.endings ≡ old.endings
 
--- the same, and no read failed
+-- `PassesOver`, and no read failed
 pub record ReadsBytes (old : ReaderState) (bytes : List ℕ) (new : ReaderState) : Type 0 where
   pub over : PassesOver old bytes new
   pub failures : new.device.failures ≡ old.device.failures
@@ -267,8 +268,8 @@ StopsBy wanted buffer source n true =
     (n ≡ length buffer.held) × IsAtEnd source.rest × LacksUpTo wanted buffer.held n
 StopsBy wanted buffer source n false = EndsAt wanted buffer.held n
 
--- what a search finds in a buffer: the number of bytes up to where it stops, which fit and may be in
--- what is wanted
+-- what a search finds in a buffer: the number of bytes up to where it stops, which fit and may be
+-- in what is wanted
 pub record FindsEnd (wanted : Wanted) (buffer : WindowState) (source : SourceState) (n : ℕ)
     (is_last : Bool) : Type 0 where
   pub within : n ≤ length buffer.held
@@ -283,7 +284,7 @@ pub record Stops (wanted : Wanted) (start : ℕ) (old new : WindowState) (source
   pub found_is : FindsEnd wanted new now found.0 found.1
   pub failures : now.failures ≡ source.failures
 
--- what a search for what is wanted does: it stops; or that is refused
+-- what a search for what is wanted does: it stops; or there is an error in its place
 pub record Seeks (wanted : Wanted) (start : ℕ) (old new : WindowState) (source now : SourceState)
     (result : Result (ℕ × Bool) LineError) : Type 0 where
   pub outcome : MatchResult result (Stops wanted start old new source now)

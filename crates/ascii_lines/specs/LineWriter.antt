@@ -1,5 +1,6 @@
 -- What a line writer writes, and the errors it returns.
-use Rattle.std.specs.Prelude.{◌≡◌, ◌≤◌, ℕ, Bool, List, [], ◌∷◌, ◌++◌, length, Ok, Err, None, Some, true, false}
+use Rattle.std.specs.Prelude.{◌≡◌, ◌≤◌, ℕ, Bool, List, [], ◌∷◌, ◌++◌, length, Ok, Err, None, Some}
+use Rattle.std.specs.Prelude.{true, false}
 use Rattle.std.specs.Io.KnownBytes.{Appends}
 use Rattle.std.specs.List.{flat_map}
 use Rattle.std.specs.declared.result.Result.{Result}
@@ -82,7 +83,8 @@ pub record Flushes (old new : OutputState) : Type 0 where
 abbrev pub WritesLines : OutputState → List Line → OutputState → Type 0
 WritesLines old lines new = WritesBytes old new (flat_map line_text lines)
 
--- what writing bytes does. `Ok`: they were written. `Err`, always `Write`: a call of the sink failed
+-- what writing bytes does. `Ok`: they were written. `Err`, always `Write`: a call of the sink
+-- failed
 abbrev pub Writes : OutputState → List ℕ → Result (Unit {0}) WriteError → OutputState → Type 0
 Writes old bytes (Ok _) new = WritesBytes old new bytes
 Writes old bytes (Err error) new = (error ≡ Write) × FailsToWrite old new bytes

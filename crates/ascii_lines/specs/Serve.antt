@@ -1,5 +1,6 @@
 -- What a server reads, what its handler replies, and why it stops.
-use Rattle.std.specs.Prelude.{◌≡◌, ◌⊎◌, ◌<◌, ℕ, List, [], ◌∷◌, ◌++◌, length, map, ⊤, Ok, Err, Some, false}
+use Rattle.std.specs.Prelude.{◌≡◌, ◌⊎◌, ◌<◌, ℕ, List, [], ◌∷◌, ◌++◌, length, map, ⊤, Ok, Err}
+use Rattle.std.specs.Prelude.{Some, false}
 use Rattle.std.specs.Io.KnownBytes.{Appends}
 use Rattle.std.specs.List.{flat_map}
 use Rattle.std.specs.declared.result.Result.{Result}
@@ -64,8 +65,8 @@ RefusesInput (next.Part n) old error new = StopsAt (wanted.Part n) old error new
     ⊎ ((old.stage ≡ Ended) × (error ≡ Incomplete 0) × (new ≡ old))
 RefusesInput next.Close old error new = ⊥
 
--- all bytes that were held and then `bytes` went to the sink, which was then flushed, and no call of
--- it failed
+-- all bytes that were held and then `bytes` went to the sink, which was then flushed, and no call
+-- of it failed
 pub record SendsBytes (old new : OutputState) (bytes : List ℕ) : Type 0 where
   pub took : Appends old.taken new.taken (old.buffer.bytes ++ bytes)
   pub told : TellsFlushed old.history new.history (old.buffer.bytes ++ bytes)

@@ -1,6 +1,8 @@
 -- What a line reader skips, and how the bytes of a line are taken that is skipped.
-use Rattle.std.specs.Prelude.{drop, take, ◌≡◌, ◌≢◌, ◌⊎◌, ℕ, ◌+◌, ◌-◌, ◌^◌, ◌<◌, ◌≤◌, List, [], ◌++◌, ⊤, length}
-use Rattle.std.specs.Prelude.{Bool, Err, MatchOption, false, true, None, Ok, Option, Some, slice_index}
+use Rattle.std.specs.Prelude.{drop, take, ◌≡◌, ◌≢◌, ◌⊎◌, ℕ, ◌+◌, ◌-◌, ◌^◌, ◌<◌, ◌≤◌, List, []}
+use Rattle.std.specs.Prelude.{◌++◌, ⊤, length}
+use Rattle.std.specs.Prelude.{Bool, Err, MatchOption, false, true, None, Ok, Option, Some}
+use Rattle.std.specs.Prelude.{slice_index}
 use Rattle.std.specs.Io.KnownBytes.{IsAtEnd}
 use Rattle.std.specs.Str.{IsAscii}
 use Rattle.std.specs.declared.result.Result.{Result}
@@ -96,10 +98,8 @@ Skips most old result new = SkipsFrom old.state.stage most old result new
 
 -- ---- cited by private functions only
 
--- ---- cited by private functions only
-
--- why no more bytes of a line are taken off a buffer, after `bytes`: the line ends, the source is at
--- its end, the line is longer than `limit`, or a read failed
+-- why no more bytes of a line are taken off a buffer, after `bytes`: the line ends, the source is
+-- at its end, the line is longer than `limit`, or a read failed
 abbrev pub EndsPass : Endings → ℕ → List ℕ → List ℕ → Option (List ℕ) → PassEnd → Type 0
 EndsPass endings limit bytes held left end.Ending = IsFirstStop endings bytes (length bytes)
 EndsPass endings limit bytes held left end.Input =

@@ -209,8 +209,8 @@ IsEndOf wanted start bytes is_last (Err (LoneBreak place)) =
     (i : ℕ) × (place ≡ start + i) × FindsFault wanted bytes (Some i)
 IsEndOf wanted start bytes is_last (Err error) = ⊥
 
--- the error at `i` bytes after the position `start`: what is wanted does not fit in `size` bytes, or
--- the byte there is not less than 128
+-- the error at `i` bytes after the position `start`: what is wanted does not fit in `size` bytes,
+-- or the byte there is not less than 128
 abbrev pub IsRefusal : ℕ → ℕ → ℕ → LineError → Type 0
 IsRefusal start i size (TooLong place) = (i ≡ size) × (place ≡ start)
 IsRefusal start i size (NotAscii place) = (i ≢ size) × (place ≡ start + i)

@@ -86,8 +86,8 @@ pub(crate) enum Stage {
     Refused(LineError),
 }
 
-/// A reader of lines. It reads its source into one buffer and lends each line out of it. Each byte is
-/// checked once and searched once. When the buffer is filled again, the part of an unfinished line
+/// A reader of lines. It reads its source into one buffer and lends each line out of it. `next_line`
+/// checks and searches each byte once. When the buffer is filled again, the part of an unfinished line
 /// moves to its start, and nothing else is copied.
 #[derive(Drop)]
 pub struct LineReader<S: Source, A: Allocator = Global> {
@@ -322,12 +322,13 @@ impl<S: Source, A: Allocator> LineReader<S, A> {
     /// Returns `true` if `next_line` can return what it will return without a read of the source: the next line is
     /// held, or a fault in it is, or the reader has returned `None` or an error. It searches the bytes held.
     ///
-    ///     let source = Input::new(b"a\nbc".as_slice());
+    ///     let source = Input::new(b"a\nb\nc".as_slice());
     ///     let mut reader = LineReader::new(alloc, source, 64, Endings::Any)?;
     ///     reader.has_buffered_line() // false
     ///     let _ = reader.next_line();
+    ///     reader.has_buffered_line() // true
+    ///     let _ = reader.next_line();
     ///     reader.has_buffered_line() // false
-    ///     reader.has_buffered_part(2) // true
     pub fn has_buffered_line(&self) -> bool
         ensures { IsTrue result ↔ ¬ (Waits (Wanted.Line self.now.state.endings) self.now.state) }
     {
@@ -369,8 +370,9 @@ impl<S: Source, A: Allocator> LineReader<S, A> {
     /// - `TooLong` if the line has more than `most` bytes. The error has the position at which the call started.
     ///   These bytes were skipped, except a CR at their end that may belong to the ending; `skip_line` may be
     ///   called again and goes on from there. With a `most` of 0, or of 1 at a CR, nothing is skipped.
-    /// - `TooFar` if the line has no ending before the position `u64::MAX`.
-    /// - `Read` if a call of the source failed, or `u64::MAX` calls have failed before.
+    /// - `TooFar` if the line has no ending before the position `u64::MAX`. The bytes before it were skipped.
+    /// - `Read` if a call of the source failed, or `u64::MAX` calls have failed before. The bytes that had been
+    ///   read of the line were skipped, except a CR at their end.
     ///
     /// After `None`, or a line without an ending, nothing is skipped. After `Read`, `TooFar` or `Incomplete` that
     /// error is returned again. Both change nothing.

@@ -102,8 +102,8 @@ pub struct Block {
 /// allocation for them fails. It is for headers, and for records with an empty line between them.
 ///
 /// The lines are the next lines of the input. They end before an empty line, at the end of the input, at an error of
-/// the reader, or if there are `most`; then no more is read. After `AllocError` the lines that were read are lost,
-/// the last of them too, and the reader goes on after it.
+/// the reader, or if there are `most`. After `AllocError` the lines that were read are lost, the last of them too, and
+/// the reader goes on after it.
 ///
 /// Condition: the reader is open: it has not returned `None`, a line without an ending, or an error; or `skip_line`
 /// has read over the line of that error up to its ending.

@@ -19,11 +19,12 @@ use std::alloc::Allocator;
 /// What `skip_line` has read over.
 #[derive(Clone, Copy, PartialEq, Eq, Debug)]
 pub struct SkippedLine {
-    /// The position of the first byte in the input, counted from 0.
+    /// The position in the input of its first byte, counted from 0.
     pub start: u64,
-    /// The number of bytes, ending included.
+    /// The number of its bytes, ending included.
     pub length: u64,
-    /// The position in the input of the first byte that is not ASCII, counted from 0, or `None` if all are.
+    /// The position in the input of its first byte that is not ASCII, counted from 0, or `None` if all its
+    /// bytes are ASCII.
     pub non_ascii: Option<u64>,
 }
 

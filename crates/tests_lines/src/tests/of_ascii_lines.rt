@@ -177,12 +177,13 @@ fn read_exact_part_of_line_reader(rt: HostRuntime) {
 #[test]
 fn has_buffered_line_of_line_reader(rt: HostRuntime) {
     let alloc = rt.alloc();
-    let source = Input::new(b"a\nbc".as_slice());
+    let source = Input::new(b"a\nb\nc".as_slice());
     let mut reader = LineReader::new(alloc, source, 64, Endings::Any).expect(&rt, "refused");
     assert_debug!(rt; reader.has_buffered_line(), "false");
     let _ = reader.next_line();
+    assert_debug!(rt; reader.has_buffered_line(), "true");
+    let _ = reader.next_line();
     assert_debug!(rt; reader.has_buffered_line(), "false");
-    assert_debug!(rt; reader.has_buffered_part(2), "true");
 }
 
 // LineReader::has_buffered_part

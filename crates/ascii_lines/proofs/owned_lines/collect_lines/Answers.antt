@@ -3,7 +3,8 @@ use Rattle.std.proofs.lemmas.List.{map-append}
 use Rattle.std.proofs.lemmas.Option.{none-some}
 use Rattle.ascii_lines.specs.CollectedLines.{owned_line_in}
 use Rattle.ascii_lines.specs.LineReader.{YieldsLines, read_line_in}
-use Rattle.ascii_lines.proofs.LineReaderLemmas.{an_error, first_lines, no_more, one_more, yields_nil}
+use Rattle.ascii_lines.proofs.LineReaderLemmas.{an_error, first_lines, no_more, one_more}
+use Rattle.ascii_lines.proofs.LineReaderLemmas.{yields_nil}
 use Rattle.ascii_lines.proofs.TakesLemmas.{on_error}
 use Rattle.ascii_lines.proofs.owned_lines.collect_lines.Goals as goal
 

@@ -1,4 +1,5 @@
-use Rattle.std.proofs.Common.{Ok, ◌≡◌, ◌≢◌, ◌++◌, ◌∷◌, [], map, ap, arith, length-append, refl, sym, subst, ◌∙◌}
+use Rattle.std.proofs.Common.{Ok, ◌≡◌, ◌≢◌, ◌++◌, ◌∷◌, [], map, ap, arith, length-append, refl}
+use Rattle.std.proofs.Common.{sym, subst, ◌∙◌}
 use Rattle.std.proofs.lemmas.Bool.{false≢true}
 use Rattle.std.proofs.lemmas.List.{length-map, map-append}
 use Rattle.std.proofs.lemmas.List.Elements.{All-append, All-cons, All-nil}

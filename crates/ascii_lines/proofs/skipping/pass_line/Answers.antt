@@ -1,10 +1,12 @@
-use Rattle.std.proofs.Common.{◌≡◌, ◌≤◌, ◌-◌, ◌++◌, Some, None, ap, arith, drop, length, refl, subst, ◌∙◌}
+use Rattle.std.proofs.Common.{◌≡◌, ◌≤◌, ◌-◌, ◌++◌, Some, None, ap, arith, drop, length, refl}
+use Rattle.std.proofs.Common.{subst, ◌∙◌}
 use Rattle.std.proofs.Math.Seq.{drop-length}
 use Rattle.std.proofs.lemmas.List.{take_all}
 use Rattle.ascii_devices.proofs.HistoryLemmas.{Gives-nil, read_fails}
 use Rattle.ascii_devices.specs.States.{of_state, source_state}
 use Rattle.ascii_lines.specs.Skipping.{Counts}
-use Rattle.ascii_lines.proofs.SkippingLemmas.{front_all, goes_on, kept_one, none_ends, part_of, pass_ends}
+use Rattle.ascii_lines.proofs.SkippingLemmas.{front_all, goes_on, kept_one, none_ends, part_of}
+use Rattle.ascii_lines.proofs.SkippingLemmas.{pass_ends}
 use Rattle.ascii_lines.proofs.SkippingLemmas.{pass_fails, passed_more, passed_none, passes_line}
 use Rattle.ascii_lines.proofs.SkippingLemmas.{reach}
 use Rattle.ascii_lines.proofs.skipping.pass_line.Goals as goal
@@ -125,7 +127,8 @@ returns-in-Ok-eq0 g c =
     c.pass-passed.ensures.size part)
     read.0 (omega (arith, read.1, c.in-Ok-eq0.field-0-test)) read.2 read.3
     (λ bytes counts. subst (λ xs. Counts (bytes ++ xs) c.pass.result)
-    (take_all c.len-n.result c.refill.new.self.held (omega (arith, c.len-n.ensures))) (c.pass.ensures.counts bytes counts))
+    (take_all c.len-n.result c.refill.new.self.held (omega (arith, c.len-n.ensures)))
+    (c.pass.ensures.counts bytes counts))
     (c.pass.ensures.held
     ∙ (ap (λ k. drop k c.refill.new.self.held) c.len-n.ensures
     ∙ drop-length c.refill.new.self.held)) c.in-Ok-eq0.ensures.size c.pass.ensures.size

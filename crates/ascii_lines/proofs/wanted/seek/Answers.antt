@@ -1,11 +1,13 @@
-use Rattle.std.proofs.Common.{true, false, ◌≡◌, ◌≤◌, ◌++◌, [], ap, length-append, append-nil, arith, length, refl, subst, sym, take, ◌∙◌}
+use Rattle.std.proofs.Common.{true, false, ◌≡◌, ◌≤◌, ◌++◌, [], ap, length-append, append-nil}
+use Rattle.std.proofs.Common.{arith, length, refl, subst, sym, take, ◌∙◌}
 use Rattle.std.proofs.lemmas.List.{nil_from_length, take-take, take_all, take_at}
 use Rattle.ascii_devices.specs.States.{source_state}
 use Rattle.ascii_lines.specs.LineReader.{FindsEnd}
 use Rattle.ascii_lines.specs.Wanted.{EndsAt, IsRefusal, IsSearched, LacksUpTo, MayHave, MustRead}
 use Rattle.ascii_lines.proofs.GathersLemmas.{Gathers-failed, Gathers-nil, Gathers-read}
 use Rattle.ascii_lines.proofs.WantedLemmas.{all_usable, ends_whole, may_front, may_none, must_read}
-use Rattle.ascii_lines.proofs.WantedLemmas.{refusal_counts, rejects, searched_front, searched_lacks, searched_more}
+use Rattle.ascii_lines.proofs.WantedLemmas.{refusal_counts, rejects, searched_front}
+use Rattle.ascii_lines.proofs.WantedLemmas.{searched_lacks, searched_more}
 use Rattle.ascii_lines.proofs.WantedLemmas.{searched_none, usable_least}
 use Rattle.ascii_lines.proofs.wanted.seek.Goals as goal
 
@@ -138,7 +140,8 @@ returns-then-n-eq0 g c =
       within = omega (arith, long);
       fits = omega (arith, long, ap length same, usable.fits, c.in-Ok.ensures.size);
       may = subst (MayHave c.args.wanted)
-          (sym (take_all c.len-then-n-eq0.result c.refill.new.self.held (omega (arith, long)) ∙ same))
+          (sym (take_all c.len-then-n-eq0.result c.refill.new.self.held (omega (arith, long))
+          ∙ same))
           usable.may;
       stops = (
         long,
@@ -151,7 +154,8 @@ returns-then-n-eq0 g c =
     } in
     record {
       outcome = record {
-        gathers = Gathers-read Must c.args.buffer.now.held (source_state g.S.Source c.args.source.now)
+        gathers = Gathers-read Must c.args.buffer.now.held
+            (source_state g.S.Source c.args.source.now)
             (source_state g.S.Source c.fills.source) (source_state g.S.Source c.refill.new.source)
             c.fills.buffer.held read.0 c.fills.invariant.0 c.fills.invariant.1
             (must_read c.args.wanted c.args.start c.args.buffer.now.size c.fills.buffer

@@ -30,7 +30,8 @@ returns-in_err-end-clause-err g c =
     c.seek.new.buffer.held) c.from_residual-in_err-end.ensures.1
     (record {
       gathers = found.gathers;
-      why = subst (λ size. Rejects c.args.wanted c.args.start size c.seek.new.buffer.held b.rest error)
+      why = subst
+          (λ size. Rejects c.args.wanted c.args.start size c.seek.new.buffer.held b.rest error)
           c.in_ok-n.ensures.size rejects.0;
       failures = found.failures ∙ sym rejects.1;
     })

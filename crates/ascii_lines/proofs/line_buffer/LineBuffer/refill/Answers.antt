@@ -39,7 +39,8 @@ invariant_of-self-2 g c =
       | else-self w ↦
           rw (w.self-inside-is, put_back g c)
           (refilled_other i.bytes.items new i.filled (front g c) i.size i.given i.from i.checked
-          c.in_ok-n.n c.self.invariant (omega (arith, c.self.invariant.then_checked, w.if-self.false)) same c.in_ok-n.ensures.outcome.0)
+          c.in_ok-n.n c.self.invariant (omega
+          (arith, c.self.invariant.then_checked, w.if-self.false)) same c.in_ok-n.ensures.outcome.0)
     ]
 
 pub returns : goal.returns
