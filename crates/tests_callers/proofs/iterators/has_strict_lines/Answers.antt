@@ -32,11 +32,13 @@ module _ (text : List ℕ) (left : RemainingLines Line) (held : LinesLeft CrLfSt
         endings = CrLfStrict;
         items = lines;
         rest = record { start = length (flat_map line_text lines); item = [] };
+        is_cut = false;
       } in
       let same = only other (record {
         chosen = refl;
         lines = (lines_to_end CrLfStrict text lines).1 ended;
         rest = refl;
+        uncut = refl;
       }) in
       let none : [] ≡ left.rest.item = ap (λ l. l.rest.item) same in
       let inside = stop.1.inside in
