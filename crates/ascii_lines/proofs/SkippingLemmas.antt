@@ -4,7 +4,7 @@ use Rattle.std.proofs.Common.{arith, inl}
 use Rattle.std.proofs.Common.{inr, length-append, refl, subst, sym, take, drop, None, Option}
 use Rattle.std.proofs.Common.{Some, ◌∷◌, ap, append_assoc, append-nil, ◌∙◌}
 use Rattle.std.proofs.Math.ListN.{get_or-append}
-use Rattle.std.proofs.Math.Seq.{get_or-append_right}
+use Rattle.std.proofs.Math.Seq.{drop-length, get_or-append_right}
 use Rattle.std.proofs.lemmas.Bool.{cases_lt}
 use Rattle.std.proofs.lemmas.List.{get_or-append-add, get_or-drop, length-drop, length-take-le}
 use Rattle.std.proofs.lemmas.List.{nil_from_length, take-append-drop, take_all}
@@ -17,7 +17,8 @@ use Rattle.ascii_devices.specs.States.{Gives, SourceState, of_state}
 use Rattle.ascii_lines.specs.Failures.{one_more}
 use Rattle.std.proofs.lemmas.Str.Ascii.{IsAscii-nil}
 use Rattle.ascii_lines.specs.LineBuffer.{ReadsOnce, WindowState}
-use Rattle.ascii_lines.specs.Skipping.{Counts, IsCleanCut, IsKept, PassesLine, TakesPart}
+use Rattle.ascii_lines.specs.Skipping.{Counts, IsCleanCut, IsKept, PassesBytes, PassesLine}
+use Rattle.ascii_lines.specs.Skipping.{TakesPart}
 use Rattle.ascii_lines.specs.declared.skipping.PassEnd.{PassEnd}
 use Rattle.ascii_lines.specs.declared.skipping.PassEnd.TheVariants as end
 use Rattle.ascii_lines.specs.declared.skipping.Passed.{Passed}
@@ -128,6 +129,14 @@ pub record PassedSoFar (endings : Endings) (limit : ℕ) (old new : WindowState)
   pub failures : now.failures ≡ source.failures
   pub size : new.size ≡ old.size
 
+-- no line ends in the bytes that were taken or in those held, of which there is at most one
+pub record PassedAll (endings : Endings) (limit : ℕ) (old new : WindowState)
+    (source now : SourceState) (passed : Passed) : Type 0 where
+  pub so_far : PassedSoFar endings limit old new source now passed
+  pub none : FreeUpTo endings (so_far.bytes ++ new.held) (length (so_far.bytes ++ new.held))
+  pub one : length new.held ≤ 1
+  pub reach : length so_far.bytes + length new.held ≤ limit
+
 -- the first of two parts
 pub front_free : (endings : Endings) (xs ys : List ℕ) (n : ℕ) → n ≤ length xs
     → FreeUpTo endings (xs ++ ys) n → FreeUpTo endings xs n
@@ -151,22 +160,34 @@ clean_more endings bytes (x ∷ held) read clean cr_lf cr =
 module _ (endings : Endings) (plain : any_text endings ≡ endings) (limit : ℕ)
     (old now after : WindowState) (a b : SourceState) (passed passed' : Passed) (n : ℕ)
     (so_far : PassedSoFar endings limit old now a b passed)
-    (inside : n ≤ length now.held)
-    (counts : (bytes : List ℕ) → Counts bytes passed → Counts (bytes ++ take n now.held) passed')
-    (held : after.held ≡ drop n now.held) (size : after.size ≡ now.size) where
-  abbrev pub taken : List ℕ
+    (front : List ℕ) (m : ℕ) (view : front ≡ take m now.held) (whole : m ≡ length now.held)
+    (within : n ≤ length front) (pass : PassesBytes n now after passed passed') where
+  same : front ≡ now.held
+  same = view ∙ take_all m now.held (omega (arith, whole))
+
+  inside : n ≤ length now.held
+  inside = omega (arith, within, ap length same)
+
+  part_of : (result why : Option PassEnd) → result ≡ why
+      → TakesPart endings front (limit - passed.count) n result
+      → TakesPart endings now.held (limit - passed.count) n why
+  part_of result why is part =
+      subst (λ w. TakesPart endings now.held (limit - passed.count) n w) is
+      (subst (λ text. TakesPart endings text (limit - passed.count) n result) same part)
+
+  abbrev taken : List ℕ
   taken = so_far.bytes ++ take n now.held
 
-  pub all : taken ++ after.held ≡ so_far.bytes ++ now.held
+  all : taken ++ after.held ≡ so_far.bytes ++ now.held
   all = append_assoc so_far.bytes (take n now.held) after.held
       ∙ ap (λ xs. so_far.bytes ++ xs)
-      (ap (λ xs. take n now.held ++ xs) held ∙ take-append-drop n now.held)
+      (ap (λ xs. take n now.held ++ xs) pass.held ∙ take-append-drop n now.held)
 
   long : length taken ≡ length so_far.bytes + n
   long = length-append so_far.bytes (take n now.held)
       ∙ ap (λ k. length so_far.bytes + k) (length-take-le n now.held inside)
 
-  pub clean : IsKept endings now.held n → IsCleanCut endings taken after.held
+  clean : IsKept endings now.held n → IsCleanCut endings taken after.held
   clean kept cr_lf cr = elim kept [
     | inl none ↦ elim (cases_lt 0 n) [
       | inl some ↦
@@ -181,11 +202,11 @@ module _ (endings : Endings) (plain : any_text endings ≡ endings) (limit : ℕ
           let before : get_or so_far.bytes (length so_far.bytes - 1) 0 ≡ 13 =
           subst (λ xs. get_or xs (length xs - 1) 0 ≡ 13) same cr in
           subst (λ xs. (xs ≢ []) × (get_or xs 0 0 ≢ 10))
-          (ap (λ k. drop k now.held) (sym zero) ∙ sym held) (so_far.clean cr_lf before)
+          (ap (λ k. drop k now.held) (sym zero) ∙ sym pass.held) (so_far.clean cr_lf before)
     ]
     | inr kept ↦
         let first : get_or after.held 0 0 ≡ 13 =
-        ap (λ xs. get_or xs 0 0) held
+        ap (λ xs. get_or xs 0 0) pass.held
         ∙ (get_or-drop n now.held 0 0 ∙ subst (λ i. get_or now.held i 0 ≡ 13) (omega arith) kept)
         in (
           λ none. absurd (omega (arith, sym (ap (λ xs. get_or xs 0 0) none) ∙ first)),
@@ -194,24 +215,23 @@ module _ (endings : Endings) (plain : any_text endings ≡ endings) (limit : ℕ
   ]
 
   -- a line ends, or is too long
-  pub passes_line : (why : PassEnd)
-      → TakesPart endings now.held (limit - passed.count) n (Some why)
+  stops : (why : PassEnd) → TakesPart endings now.held (limit - passed.count) n (Some why)
       → PassesLine endings limit old after a b passed' why
-  passes_line end.Ending part = record {
+  stops end.Ending part = record {
     bytes = taken;
     read = so_far.read;
     gave = so_far.gave;
     text = all ∙ so_far.text;
-    counts = counts so_far.bytes so_far.counts;
+    counts = pass.counts so_far.bytes so_far.counts;
     within = omega (arith, long, part.0, so_far.counts.count, so_far.within);
     ends = front_stop endings taken after.held
         (subst (λ xs. IsFirstStop endings xs (length taken)) (sym all)
         (subst (IsFirstStop endings (so_far.bytes ++ now.held)) (sym long)
         (stop_join so_far.bytes now.held endings plain so_far.free so_far.clean n part.1)));
     failures = so_far.failures;
-    size = size ∙ so_far.size;
+    size = pass.size ∙ so_far.size;
   }
-  passes_line end.Limit part =
+  stops end.Limit part =
       let reach : length so_far.bytes + (limit - passed.count) ≡ limit =
       omega (arith, so_far.counts.count, so_far.within) in
       record {
@@ -219,7 +239,7 @@ module _ (endings : Endings) (plain : any_text endings ≡ endings) (limit : ℕ
         read = so_far.read;
         gave = so_far.gave;
         text = all ∙ so_far.text;
-        counts = counts so_far.bytes so_far.counts;
+        counts = pass.counts so_far.bytes so_far.counts;
         within = omega (arith, long, part.0, so_far.counts.count, so_far.within);
         ends = (
           omega (
@@ -237,29 +257,34 @@ module _ (endings : Endings) (plain : any_text endings ≡ endings) (limit : ℕ
           clean part.4,
         );
         failures = so_far.failures;
-        size = size ∙ so_far.size;
+        size = pass.size ∙ so_far.size;
       }
-  passes_line end.Input part = absurd part
-  passes_line end.Failed part = absurd part
+  stops end.Input part = absurd part
+  stops end.Failed part = absurd part
+
+  pub passes_line : (result : Option PassEnd) (why : PassEnd) → result ≡ Some why
+      → TakesPart endings front (limit - passed.count) n result
+      → PassesLine endings limit old after a b passed' why
+  passes_line result why is part = stops why (part_of result (Some why) is part)
 
   module _ (part : TakesPart endings now.held (limit - passed.count) n None) where
     -- none ends in all bytes
-    pub none_ends : FreeUpTo endings (taken ++ after.held) (length (taken ++ after.held))
+    none_ends : FreeUpTo endings (taken ++ after.held) (length (taken ++ after.held))
     none_ends = subst (λ xs. FreeUpTo endings xs (length xs)) (sym all)
         (subst (FreeUpTo endings (so_far.bytes ++ now.held))
         (sym (length-append so_far.bytes now.held))
         (free_join so_far.bytes now.held endings plain so_far.free so_far.clean
         (length now.held) part.2))
 
-    pub kept_one : length after.held ≤ 1
+    kept_one : length after.held ≤ 1
     kept_one = omega (
       arith,
-      ap length held,
+      ap length pass.held,
       length-drop n now.held,
       part.1,
     )
 
-    pub reach : length taken + length after.held ≤ limit
+    reach : length taken + length after.held ≤ limit
     reach = omega (
       arith,
       length-append taken after.held,
@@ -270,20 +295,33 @@ module _ (endings : Endings) (plain : any_text endings ≡ endings) (limit : ℕ
       so_far.within,
     )
 
-    abbrev pub goes_on : PassedSoFar endings limit old after a b passed'
+    abbrev goes_on : PassedSoFar endings limit old after a b passed'
     goes_on = record {
       bytes = taken;
       read = so_far.read;
       gave = so_far.gave;
       text = all ∙ so_far.text;
-      counts = counts so_far.bytes so_far.counts;
+      counts = pass.counts so_far.bytes so_far.counts;
       within = omega (arith, reach);
       free = front_free endings taken after.held (length taken) (omega arith)
           (λ k low. none_ends k (omega (arith, low, length-append taken after.held)));
       clean = clean part.3;
       failures = so_far.failures;
-      size = size ∙ so_far.size;
+      size = pass.size ∙ so_far.size;
     }
+
+  pub passes_on : (result : Option PassEnd) → result ≡ None
+      → TakesPart endings front (limit - passed.count) n result
+      → PassedAll endings limit old after a b passed'
+  passes_on result is part =
+      let none : TakesPart endings now.held (limit - passed.count) n None =
+      part_of result None is part in
+      record {
+        so_far = goes_on none;
+        none = none_ends none;
+        one = kept_one none;
+        reach = reach none;
+      }
 
 -- one read more
 abbrev pub passed_more : (endings : Endings) (limit : ℕ) (old now after : WindowState)
@@ -326,38 +364,38 @@ passed_none endings limit buffer a = record {
 
 -- a read failed, or was not made
 pub pass_fails : (endings : Endings) (limit : ℕ) (old now after : WindowState)
-    (a b c : SourceState) (passed : Passed) (so_far : PassedSoFar endings limit old now a b passed)
-    → FreeUpTo endings (so_far.bytes ++ now.held) (length (so_far.bytes ++ now.held))
-    → length now.held ≤ 1 → Gives of_state b c [] → c.failures ≡ one_more b.failures
-    → after.held ≡ now.held
+    (a b c : SourceState) (passed : Passed) → PassedAll endings limit old now a b passed
+    → Gives of_state b c [] → c.failures ≡ one_more b.failures → after.held ≡ now.held
     → after.size ≡ now.size → PassesLine endings limit old after a c passed end.Failed
-pass_fails endings limit old now after a b c passed so_far none one gave fails is size = record {
-  bytes = so_far.bytes;
-  read = so_far.read ++ [];
-  gave = Gives-trans of_state a b c so_far.read [] so_far.failures so_far.gave gave;
-  text = ap (λ xs. so_far.bytes ++ xs) is
-      ∙ (so_far.text ∙ ap (λ xs. old.held ++ xs) (sym (append-nil so_far.read)));
-  counts = so_far.counts;
-  within = so_far.within;
+pass_fails endings limit old now after a b c passed all gave fails is size = record {
+  bytes = all.so_far.bytes;
+  read = all.so_far.read ++ [];
+  gave = Gives-trans of_state a b c all.so_far.read [] all.so_far.failures all.so_far.gave gave;
+  text = ap (λ xs. all.so_far.bytes ++ xs) is
+      ∙ (all.so_far.text ∙ ap (λ xs. old.held ++ xs) (sym (append-nil all.so_far.read)));
+  counts = all.so_far.counts;
+  within = all.so_far.within;
   ends = subst
-      (λ xs. FreeUpTo endings (so_far.bytes ++ xs) (length (so_far.bytes ++ xs))
-      × (length xs ≤ 1) × IsCleanCut endings so_far.bytes xs) (sym is) (none, one, so_far.clean);
-  failures = fails ∙ ap one_more so_far.failures;
-  size = size ∙ so_far.size;
+      (λ xs. FreeUpTo endings (all.so_far.bytes ++ xs) (length (all.so_far.bytes ++ xs))
+      × (length xs ≤ 1) × IsCleanCut endings all.so_far.bytes xs) (sym is)
+      (all.none, all.one, all.so_far.clean);
+  failures = fails ∙ ap one_more all.so_far.failures;
+  size = size ∙ all.so_far.size;
 }
 
 -- the source is at its end, and the bytes that are left are taken
 pub pass_ends : (endings : Endings) (limit : ℕ) (old now mid after : WindowState)
     (a b c : SourceState) (passed passed' : Passed)
-    (so_far : PassedSoFar endings limit old now a b passed)
-    → FreeUpTo endings (so_far.bytes ++ now.held) (length (so_far.bytes ++ now.held))
-    → length so_far.bytes + length now.held ≤ limit
-    → (read : List ℕ) → length read ≡ 0 → ReadsOnce b c read → mid.held ≡ now.held ++ read
-    → ((bytes : List ℕ) → Counts bytes passed → Counts (bytes ++ mid.held) passed')
-    → after.held ≡ [] → mid.size ≡ now.size → after.size ≡ mid.size
+    → PassedAll endings limit old now a b passed → (read : List ℕ) → length read ≡ 0
+    → ReadsOnce b c read → mid.held ≡ now.held ++ read
+    → mid.size ≡ now.size → (k : ℕ) → k ≡ length mid.held → PassesBytes k mid after passed passed'
     → PassesLine endings limit old after a c passed' end.Input
-pass_ends endings limit old now mid after a b c passed passed' so_far free reach read none reads
-    is counts held size same =
+pass_ends endings limit old now mid after a b c passed passed' passed_all read none reads is size k
+    whole pass =
+    let so_far = passed_all.so_far in
+    let taken : take k mid.held ≡ mid.held = take_all k mid.held (omega (arith, whole)) in
+    let held : after.held ≡ [] =
+    pass.held ∙ (ap (λ n. drop n mid.held) whole ∙ drop-length mid.held) in
     let empty : read ≡ [] = nil_from_length read none in
     let all : mid.held ≡ now.held =
     is ∙ (ap (λ xs. now.held ++ xs) empty ∙ append-nil now.held) in
@@ -369,26 +407,15 @@ pass_ends endings limit old now mid after a b c passed passed' so_far free reach
       text = append_assoc so_far.bytes mid.held after.held
           ∙ (ap (λ xs. so_far.bytes ++ (mid.held ++ xs)) held
           ∙ (ap (λ xs. so_far.bytes ++ xs) (append-nil mid.held) ∙ more.text));
-      counts = counts so_far.bytes so_far.counts;
-      within = omega (arith, length-append so_far.bytes mid.held, ap length all, reach);
+      counts = subst (λ xs. Counts (so_far.bytes ++ xs) passed') taken
+          (pass.counts so_far.bytes so_far.counts);
+      within = omega (arith, length-append so_far.bytes mid.held, ap length all, passed_all.reach);
       ends = (
         subst (λ xs. FreeUpTo endings (so_far.bytes ++ xs) (length (so_far.bytes ++ xs)))
-            (sym all) free,
+            (sym all) passed_all.none,
         held,
         reads.end empty,
       );
       failures = reads.failures ∙ so_far.failures;
-      size = same ∙ (size ∙ so_far.size);
+      size = pass.size ∙ (size ∙ so_far.size);
     }
-
--- the bytes that are held are all that are looked at
-pub front_all : (front held : List ℕ) (n : ℕ) → front ≡ take n held → n ≡ length held
-    → front ≡ held
-front_all front held n is all = is ∙ take_all n held (omega (arith, all))
-
-pub part_of : (endings : Endings) (front held : List ℕ) (left n : ℕ) (result why : Option PassEnd)
-    → front ≡ held → result ≡ why → TakesPart endings front left n result
-    → TakesPart endings held left n why
-part_of endings front held left n result why same is part =
-    subst (λ w. TakesPart endings held left n w) is
-    (subst (λ text. TakesPart endings text left n result) same part)
