@@ -1,5 +1,7 @@
 //! A register: `GET` replies with the line that is kept, `QUIT` closes, and any other line is kept.
 
+ghost use Rattle.std.specs.Prelude.{◌≡◌, []};
+
 use ascii::{AsciiStr, AsciiString, bytes};
 use ascii_lines::{Handler, Next};
 use std::alloc::{AllocError, Global};
@@ -12,7 +14,9 @@ pub struct Register {
 
 impl Register {
     /// Creates a register that keeps an empty line.
-    pub fn new(alloc: Global) -> Register {
+    pub fn new(alloc: Global) -> Register
+        ensures { result.kept.text ≡ [] }
+    {
         Register {
             kept: AsciiString::new(alloc),
         }
