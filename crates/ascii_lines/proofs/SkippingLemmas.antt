@@ -12,12 +12,14 @@ use Rattle.ascii.specs.Endings.{FreeUpTo, IsFirstStop, StopsAt, any_text}
 use Rattle.ascii.specs.declared.iter.spans.Endings.{Endings}
 use Rattle.ascii.specs.declared.iter.spans.Endings.TheVariants.{Any, CrLf, CrLfStrict}
 use Rattle.ascii.proofs.EndingsLemmas.{FreeUpTo-same, IsFirstStop-same}
-use Rattle.ascii_devices.proofs.HistoryLemmas.{Gives-nil, Gives-trans, read_gives}
-use Rattle.ascii_devices.specs.States.{Gives, SourceState, of_state}
+use Rattle.ascii_devices.specs.States.{SourceState}
+use Rattle.ascii_lines.proofs.GathersLemmas.{Gathers-failed, Gathers-nil, Gathers-read}
 use Rattle.ascii_lines.specs.Failures.{one_more}
 use Rattle.std.proofs.lemmas.Str.Ascii.{IsAscii-nil}
-use Rattle.ascii_lines.specs.LineBuffer.{ReadsOnce, WindowState}
-use Rattle.ascii_lines.specs.Skipping.{Counts, IsCleanCut, IsKept, PassesBytes, PassesLine}
+use Rattle.ascii_lines.specs.LineBuffer.{FailsOnce, ReadsOnce, WindowState}
+use Rattle.ascii_lines.specs.Skipping.{Counts, HasNoEnd, IsCleanCut, IsKept, PassesBytes}
+use Rattle.ascii_lines.specs.Skipping.{PassesLine}
+use Rattle.ascii_lines.specs.Wanted.{Gathers}
 use Rattle.ascii_lines.specs.Skipping.{TakesPart}
 use Rattle.ascii_lines.specs.declared.skipping.PassEnd.{PassEnd}
 use Rattle.ascii_lines.specs.declared.skipping.PassEnd.TheVariants as end
@@ -119,9 +121,7 @@ module _ (bytes text : List ℕ) where
 pub record PassedSoFar (endings : Endings) (limit : ℕ) (old new : WindowState)
     (source now : SourceState) (passed : Passed) : Type 0 where
   pub bytes : List ℕ
-  pub read : List ℕ
-  pub gave : Gives of_state source now read
-  pub text : bytes ++ new.held ≡ old.held ++ read
+  pub gathers : Gathers (HasNoEnd endings) old.held source now (bytes ++ new.held)
   pub counts : Counts bytes passed
   pub within : length bytes ≤ limit
   pub free : FreeUpTo endings bytes (length bytes)
@@ -133,7 +133,7 @@ pub record PassedSoFar (endings : Endings) (limit : ℕ) (old new : WindowState)
 pub record PassedAll (endings : Endings) (limit : ℕ) (old new : WindowState)
     (source now : SourceState) (passed : Passed) : Type 0 where
   pub so_far : PassedSoFar endings limit old new source now passed
-  pub none : FreeUpTo endings (so_far.bytes ++ new.held) (length (so_far.bytes ++ new.held))
+  pub none : HasNoEnd endings (so_far.bytes ++ new.held)
   pub one : length new.held ≤ 1
   pub reach : length so_far.bytes + length new.held ≤ limit
 
@@ -183,6 +183,9 @@ module _ (endings : Endings) (plain : any_text endings ≡ endings) (limit : ℕ
       ∙ ap (λ xs. so_far.bytes ++ xs)
       (ap (λ xs. take n now.held ++ xs) pass.held ∙ take-append-drop n now.held)
 
+  gathered : Gathers (HasNoEnd endings) old.held a b (taken ++ after.held)
+  gathered = subst (Gathers (HasNoEnd endings) old.held a b) (sym all) so_far.gathers
+
   long : length taken ≡ length so_far.bytes + n
   long = length-append so_far.bytes (take n now.held)
       ∙ ap (λ k. length so_far.bytes + k) (length-take-le n now.held inside)
@@ -219,9 +222,7 @@ module _ (endings : Endings) (plain : any_text endings ≡ endings) (limit : ℕ
       → PassesLine endings limit old after a b passed' why
   stops end.Ending part = record {
     bytes = taken;
-    read = so_far.read;
-    gave = so_far.gave;
-    text = all ∙ so_far.text;
+    gathers = gathered;
     counts = pass.counts so_far.bytes so_far.counts;
     within = omega (arith, long, part.0, so_far.counts.count, so_far.within);
     ends = front_stop endings taken after.held
@@ -236,9 +237,7 @@ module _ (endings : Endings) (plain : any_text endings ≡ endings) (limit : ℕ
       omega (arith, so_far.counts.count, so_far.within) in
       record {
         bytes = taken;
-        read = so_far.read;
-        gave = so_far.gave;
-        text = all ∙ so_far.text;
+        gathers = gathered;
         counts = pass.counts so_far.bytes so_far.counts;
         within = omega (arith, long, part.0, so_far.counts.count, so_far.within);
         ends = (
@@ -298,9 +297,7 @@ module _ (endings : Endings) (plain : any_text endings ≡ endings) (limit : ℕ
     abbrev goes_on : PassedSoFar endings limit old after a b passed'
     goes_on = record {
       bytes = taken;
-      read = so_far.read;
-      gave = so_far.gave;
-      text = all ∙ so_far.text;
+      gathers = gathered;
       counts = pass.counts so_far.bytes so_far.counts;
       within = omega (arith, reach);
       free = front_free endings taken after.held (length taken) (omega arith)
@@ -326,34 +323,31 @@ module _ (endings : Endings) (plain : any_text endings ≡ endings) (limit : ℕ
 -- one read more
 abbrev pub passed_more : (endings : Endings) (limit : ℕ) (old now after : WindowState)
     (a b c : SourceState) (passed : Passed) (read : List ℕ)
-    → PassedSoFar endings limit old now a b passed → ReadsOnce b c read
+    → PassedAll endings limit old now a b passed → ReadsOnce b c read
     → after.held ≡ now.held ++ read → after.size ≡ now.size
     → PassedSoFar endings limit old after a c passed
-passed_more endings limit old now after a b c passed read so_far reads is size = record {
-  bytes = so_far.bytes;
-  read = so_far.read ++ read;
-  gave = Gives-trans of_state a b c so_far.read read so_far.failures so_far.gave
-      (read_gives of_state b c read reads.gave reads.told);
-  text = ap (λ xs. so_far.bytes ++ xs) is
-      ∙ (sym (append_assoc so_far.bytes now.held read)
-      ∙ (ap (λ xs. xs ++ read) so_far.text ∙ append_assoc old.held so_far.read read));
-  counts = so_far.counts;
-  within = so_far.within;
-  free = so_far.free;
-  clean = subst (IsCleanCut endings so_far.bytes) (sym is)
-      (clean_more endings so_far.bytes now.held read so_far.clean);
-  failures = reads.failures ∙ so_far.failures;
-  size = size ∙ so_far.size;
-}
+passed_more endings limit old now after a b c passed read all reads is size =
+    let so_far = all.so_far in
+    record {
+      bytes = so_far.bytes;
+      gathers = Gathers-read (HasNoEnd endings) old.held a b c (so_far.bytes ++ now.held) read
+          so_far.gathers so_far.failures all.none (so_far.bytes ++ after.held) reads
+          (ap (λ xs. so_far.bytes ++ xs) is ∙ sym (append_assoc so_far.bytes now.held read));
+      counts = so_far.counts;
+      within = so_far.within;
+      free = so_far.free;
+      clean = subst (IsCleanCut endings so_far.bytes) (sym is)
+          (clean_more endings so_far.bytes now.held read so_far.clean);
+      failures = reads.failures ∙ so_far.failures;
+      size = size ∙ so_far.size;
+    }
 
 -- nothing was taken yet
 pub passed_none : (endings : Endings) (limit : ℕ) (buffer : WindowState) (a : SourceState)
     → PassedSoFar endings limit buffer buffer a a (record { count = 0; other = None })
 passed_none endings limit buffer a = record {
   bytes = [];
-  read = [];
-  gave = Gives-nil of_state a;
-  text = sym (append-nil buffer.held);
+  gathers = Gathers-nil (HasNoEnd endings) buffer.held a;
   counts = record { count = refl; other = IsAscii-nil };
   within = omega arith;
   free = λ k low. absurd (omega (arith, low));
@@ -364,24 +358,34 @@ passed_none endings limit buffer a = record {
 
 -- a read failed, or was not made
 pub pass_fails : (endings : Endings) (limit : ℕ) (old now after : WindowState)
-    (a b c : SourceState) (passed : Passed) → PassedAll endings limit old now a b passed
-    → Gives of_state b c [] → c.failures ≡ one_more b.failures → after.held ≡ now.held
+    (a b c : SourceState) (passed : Passed) (all : PassedAll endings limit old now a b passed)
+    → Gathers (HasNoEnd endings) old.held a c (all.so_far.bytes ++ now.held)
+    → c.failures ≡ one_more b.failures → after.held ≡ now.held
     → after.size ≡ now.size → PassesLine endings limit old after a c passed end.Failed
-pass_fails endings limit old now after a b c passed all gave fails is size = record {
+pass_fails endings limit old now after a b c passed all gathers fails is size = record {
   bytes = all.so_far.bytes;
-  read = all.so_far.read ++ [];
-  gave = Gives-trans of_state a b c all.so_far.read [] all.so_far.failures all.so_far.gave gave;
-  text = ap (λ xs. all.so_far.bytes ++ xs) is
-      ∙ (all.so_far.text ∙ ap (λ xs. old.held ++ xs) (sym (append-nil all.so_far.read)));
+  gathers = subst (λ xs. Gathers (HasNoEnd endings) old.held a c (all.so_far.bytes ++ xs)) (sym is)
+      gathers;
   counts = all.so_far.counts;
   within = all.so_far.within;
   ends = subst
-      (λ xs. FreeUpTo endings (all.so_far.bytes ++ xs) (length (all.so_far.bytes ++ xs))
+      (λ xs. HasNoEnd endings (all.so_far.bytes ++ xs)
       × (length xs ≤ 1) × IsCleanCut endings all.so_far.bytes xs) (sym is)
       (all.none, all.one, all.so_far.clean);
   failures = fails ∙ ap one_more all.so_far.failures;
   size = size ∙ all.so_far.size;
 }
+
+-- a read failed
+pub pass_failed : (endings : Endings) (limit : ℕ) (old now after : WindowState)
+    (a b c : SourceState) (passed : Passed) → PassedAll endings limit old now a b passed
+    → FailsOnce b c → c.failures ≡ one_more b.failures → after.held ≡ now.held
+    → after.size ≡ now.size → PassesLine endings limit old after a c passed end.Failed
+pass_failed endings limit old now after a b c passed all fails count is size =
+    pass_fails endings limit old now after a b c passed all
+    (Gathers-failed (HasNoEnd endings) old.held a b c (all.so_far.bytes ++ now.held)
+    (all.so_far.bytes ++ now.held) all.so_far.gathers all.so_far.failures all.none fails refl)
+    count is size
 
 -- the source is at its end, and the bytes that are left are taken
 pub pass_ends : (endings : Endings) (limit : ℕ) (old now mid after : WindowState)
@@ -399,20 +403,17 @@ pass_ends endings limit old now mid after a b c passed passed' passed_all read n
     let empty : read ≡ [] = nil_from_length read none in
     let all : mid.held ≡ now.held =
     is ∙ (ap (λ xs. now.held ++ xs) empty ∙ append-nil now.held) in
-    let more = passed_more endings limit old now mid a b c passed read so_far reads is size in
+    let more = passed_more endings limit old now mid a b c passed read passed_all reads is size in
+    let text : (so_far.bytes ++ mid.held) ++ after.held ≡ so_far.bytes ++ mid.held =
+    ap (λ xs. (so_far.bytes ++ mid.held) ++ xs) held ∙ append-nil (so_far.bytes ++ mid.held) in
     record {
       bytes = so_far.bytes ++ mid.held;
-      read = more.read;
-      gave = more.gave;
-      text = append_assoc so_far.bytes mid.held after.held
-          ∙ (ap (λ xs. so_far.bytes ++ (mid.held ++ xs)) held
-          ∙ (ap (λ xs. so_far.bytes ++ xs) (append-nil mid.held) ∙ more.text));
+      gathers = subst (Gathers (HasNoEnd endings) old.held a c) (sym text) more.gathers;
       counts = subst (λ xs. Counts (so_far.bytes ++ xs) passed') taken
           (pass.counts so_far.bytes so_far.counts);
       within = omega (arith, length-append so_far.bytes mid.held, ap length all, passed_all.reach);
       ends = (
-        subst (λ xs. FreeUpTo endings (so_far.bytes ++ xs) (length (so_far.bytes ++ xs)))
-            (sym all) passed_all.none,
+        subst (λ xs. HasNoEnd endings (so_far.bytes ++ xs)) (sym all) passed_all.none,
         held,
         reads.end empty,
       );

@@ -15,7 +15,8 @@ use Rattle.ascii.specs.Endings.{IsFirstStop}
 use Rattle.ascii.specs.Lines.{Line}
 use Rattle.ascii.specs.Spans.{LineSpansEndedBy, WithStart}
 use Rattle.ascii.specs.View.{text_of}
-use Rattle.ascii_devices.specs.States.{Gives, SourceState, of_state}
+use Rattle.ascii_devices.specs.States.{Gives, SourceState, of_state, source_state}
+use Rattle.ascii_devices.specs.declared.Source.{Ghosts}
 use Rattle.ascii_lines.specs.LineBuffer.{WindowState}
 use Rattle.ascii_lines.specs.Wanted.{Delivers, EndsAt, IsOne, LacksUpTo, MayHave}
 use Rattle.ascii_lines.specs.Wanted.{Gathers, MayBeLast, MustRead, Refuses}
@@ -47,16 +48,49 @@ pub record Reading (S : Type 0) : Type 0 where
   pub state : ReaderState
   pub lent : List ℕ
 
--- the state of a new reader: it has read nothing
-abbrev pub fresh_reader : ℕ → Endings → SourceState → ReaderState
-fresh_reader size endings device = record {
+-- where a reader is in its input: `ReaderState` without its source, and the bytes that it has given
+-- up last
+pub record CursorState : Type 0 where
+  pub size : ℕ
+  pub start : ℕ
+  pub held : List ℕ
+  pub stage : Stage
+  pub endings : Endings
+  pub lent : List ℕ
+
+-- the state of a reader, by where it is and by what its source says of itself
+abbrev pub state_at : CursorState → SourceState → ReaderState
+state_at cursor device = record {
+  size = cursor.size;
+  start = cursor.start;
+  held = cursor.held;
+  stage = cursor.stage;
+  endings = cursor.endings;
+  device = device;
+}
+
+-- what contracts see of a reader, by where it is and by its source
+abbrev pub reading_at : {S : Type 0} → Ghosts S → CursorState → S → Reading S
+reading_at says cursor source = record {
+  source = source;
+  state = state_at cursor (source_state says source);
+  lent = cursor.lent;
+}
+
+-- where a new reader is
+abbrev pub fresh_cursor : ℕ → Endings → CursorState
+fresh_cursor size endings = record {
   size = size;
   start = 0;
   held = [];
   stage = Open;
   endings = endings;
-  device = device;
+  lent = [];
 }
+
+-- the state of a new reader: it has read nothing
+abbrev pub fresh_reader : ℕ → Endings → SourceState → ReaderState
+fresh_reader size endings device = state_at (fresh_cursor size endings) device
 
 -- a state in which these endings end the lines, and which is otherwise unchanged
 abbrev pub ended_by : Endings → ReaderState → ReaderState

@@ -10,11 +10,11 @@ use Rattle.ascii.specs.Bytes.{FirstOther}
 use Rattle.ascii.specs.Endings.{FreeUpTo, IsFirstStop, any_text}
 use Rattle.ascii.specs.declared.iter.spans.Endings.{Endings}
 use Rattle.ascii.specs.declared.iter.spans.Endings.TheVariants.{CrLf}
-use Rattle.ascii_devices.specs.States.{Gives, SourceState, of_state}
+use Rattle.ascii_devices.specs.States.{SourceState}
 use Rattle.ascii_lines.specs.Failures.{one_more}
 use Rattle.ascii_lines.specs.LineBuffer.{WindowState}
-use Rattle.ascii_lines.specs.LineReader.{IsDone, PassesOver, ReaderState, Reading, ReadsBytes}
-use Rattle.ascii_lines.specs.Wanted.{failures_after}
+use Rattle.ascii_lines.specs.LineReader.{IsDone, ReaderState, Reading}
+use Rattle.ascii_lines.specs.Wanted.{Gathers, failures_after}
 use Rattle.ascii_lines.specs.declared.line_reader.LineError.{LineError}
 use Rattle.ascii_lines.specs.declared.line_reader.LineError.TheVariants.{Incomplete, Read, TooFar}
 use Rattle.ascii_lines.specs.declared.line_reader.LineError.TheVariants.{TooLong}
@@ -53,17 +53,32 @@ WhyNotSkipped endings most start bytes held Read =
     FreeUpTo endings (bytes ++ held) (length (bytes ++ held)) × (length held ≤ 1)
 WhyNotSkipped endings most start bytes held error = ⊥
 
+-- no line ends in the bytes
+abbrev pub HasNoEnd : Endings → List ℕ → Type 0
+HasNoEnd endings text = FreeUpTo endings text (length text)
+
+-- from the state `old` to the state `new` the reader read over `bytes`: of the bytes held before
+-- and those read since they are the first, and the others are held. The source was read only while
+-- no line ended in all of them
+pub record SkipsBytes (old : ReaderState) (bytes : List ℕ) (new : ReaderState) : Type 0 where
+  pub gathers : Gathers (HasNoEnd (any_text old.endings)) old.held old.device new.device
+      (bytes ++ new.held)
+  pub start : new.start ≡ old.start + length bytes
+  pub size : new.size ≡ old.size
+  pub endings : new.endings ≡ old.endings
+
 -- what skipping a line does. `Ok`: the bytes up to its ending were skipped, at most `most`, and the
 -- reader is open; or all bytes of the input were, and it has ended. `Err`: the reader has stopped,
 -- and why; the bytes before those that it holds were skipped, and no CR LF was cut in two
 abbrev pub SkipsLine
     : ℕ → ReaderState → Result SkippedLine LineError → ReaderState → Type 0
-SkipsLine most old (Ok skipped) new = (bytes : List ℕ) × ReadsBytes old bytes new
+SkipsLine most old (Ok skipped) new = (bytes : List ℕ) × SkipsBytes old bytes new
+    × (new.device.failures ≡ old.device.failures)
     × (length bytes ≤ most) × IsSkipped old.start bytes skipped
     × (((new.stage ≡ Open) × IsFirstStop (any_text old.endings) bytes (length bytes))
     ⊎ (IsDone new × FreeUpTo (any_text old.endings) bytes (length bytes)))
 SkipsLine most old (Err error) new = (new.stage ≡ Refused error)
-    × ((bytes : List ℕ) × PassesOver old bytes new × (length bytes ≤ most)
+    × ((bytes : List ℕ) × SkipsBytes old bytes new × (length bytes ≤ most)
     × (new.device.failures ≡ failures_after old.device.failures error)
     × IsCleanCut (any_text old.endings) bytes new.held
     × WhyNotSkipped (any_text old.endings) most old.start bytes new.held error)
@@ -146,9 +161,7 @@ pub record PassesBytes (n : ℕ) (old new : WindowState) (before after : Passed)
 pub record PassesLine (endings : Endings) (limit : ℕ) (old new : WindowState)
     (source now : SourceState) (passed : Passed) (why : PassEnd) : Type 0 where
   pub bytes : List ℕ
-  pub read : List ℕ
-  pub gave : Gives of_state source now read
-  pub text : bytes ++ new.held ≡ old.held ++ read
+  pub gathers : Gathers (HasNoEnd endings) old.held source now (bytes ++ new.held)
   pub counts : Counts bytes passed
   pub within : length bytes ≤ limit
   pub ends : EndsPass endings limit bytes new.held now.rest why

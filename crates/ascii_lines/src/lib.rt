@@ -23,6 +23,7 @@
 
 mod errors;
 mod line_buffer;
+mod line_cursor;
 mod line_reader;
 mod line_writer;
 mod owned_lines;

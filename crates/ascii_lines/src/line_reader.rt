@@ -5,14 +5,11 @@ ghost use Rattle.std.specs.Str.{IsAscii};
 ghost use Rattle.ascii.specs.Endings.{IsFirstStop, IsOneLine};
 ghost use Rattle.ascii.specs.Spans.{LineSpansEndedBy};
 ghost use Rattle.ascii_devices.specs.States.{source_state};
-ghost use Rattle.ascii_lines.specs.LineReader.{IsBytesAt, at_end, read_line_in};
+ghost use Rattle.ascii_lines.specs.LineReader.{IsBytesAt, read_line_in};
 
-use crate::line_buffer::LineBuffer;
-use crate::skipping::{
-    SkippedLine, is_final, nothing_skipped, pass_line, skip_error, skipped, stage_after,
-    whole_endings,
-};
-use crate::wanted::{Wanted, must_read, take_wanted};
+use crate::line_cursor::LineCursor;
+use crate::skipping::SkippedLine;
+use crate::wanted::Wanted;
 use ascii::endings::split_ending;
 use ascii::iter::{Ending, Endings};
 use ascii::{AsciiStr, bytes};
@@ -92,40 +89,24 @@ pub(crate) enum Stage {
 #[derive(Drop)]
 pub struct LineReader<S: Source, A: Allocator = Global> {
     source: S,
-    buffer: LineBuffer<A>,
-    // Where the next line starts.
-    start: u64,
-    stage: Stage,
-    endings: Endings,
+    cursor: LineCursor<A>,
 }
 
 impl<S: Source, A: Allocator> Model for LineReader<S, A> {
-    ghost use Rattle.ascii_devices.specs.States.{source_state};
-    ghost use Rattle.ascii_lines.specs.LineReader.{Reading};
+    ghost use Rattle.ascii_lines.specs.LineReader.{Reading, reading_at};
 
     ghost Value = { Reading S };
 
-    ghost view = { λ r. record {
-      source = r.source;
-      lent = r.buffer.given;
-      state = record {
-        size = r.buffer.size;
-        start = r.start;
-        held = r.buffer.held;
-        stage = r.stage;
-        endings = r.endings;
-        device = source_state S.Source r.source;
-      };
-    } };
+    ghost view = { λ r. reading_at S.Source r.cursor r.source };
 }
 
 impl<S: Source, A: Allocator> LineReader<S, A> {
     ghost use Rattle.std.specs.Borrow.{sem};
     ghost use Rattle.std.specs.Io.BufRead.{Rests};
-    ghost use Rattle.ascii_lines.specs.LineReader.{AdvancesFrom, Next, NextBytes, NextPart};
+    ghost use Rattle.ascii_lines.specs.LineReader.{Next, NextBytes, NextPart};
     ghost use Rattle.std.specs.Prelude.{◌↔◌, IsTrue};
     ghost use Rattle.ascii_lines.specs.LineReader.{Waits, ended_by, fresh_reader};
-    ghost use Rattle.ascii_lines.specs.Skipping.{Skips, SkipsLine};
+    ghost use Rattle.ascii_lines.specs.Skipping.{Skips};
     ghost use Rattle.ascii_lines.specs.contracts.line_reader.LineReader.{the_row};
 
     /// Creates a reader over `source` with a buffer for lines of `size` bytes, their endings included, or
@@ -163,14 +144,8 @@ impl<S: Source, A: Allocator> LineReader<S, A> {
             reader.state ≡ fresh_reader size endings (source_state S.Source source)) }
         ensures source { IfOk result (λ reader. reader.source ≡ source) }
     {
-        let buffer = LineBuffer::new(alloc, size)?;
-        Ok(LineReader {
-            source,
-            buffer,
-            start: 0,
-            stage: Stage::Open,
-            endings,
-        })
+        let cursor = LineCursor::new(alloc, size, endings)?;
+        Ok(LineReader { source, cursor })
     }
 
     /// Sets which endings end the lines that are returned from now on. Nothing else changes: the next line
@@ -185,7 +160,7 @@ impl<S: Source, A: Allocator> LineReader<S, A> {
         ensures state { self.new.state ≡ ended_by endings self.old.state }
         ensures source { self.new.source ≡ self.old.source }
     {
-        self.endings = endings;
+        self.cursor.lines_ended_by(endings);
     }
 
     /// Returns the source. Bytes that the reader has read of it are lost.
@@ -211,7 +186,7 @@ impl<S: Source, A: Allocator> LineReader<S, A> {
     pub fn position(&self) -> u64
         ensures { result ≡ self.now.state.start }
     {
-        self.start
+        self.cursor.start()
     }
 
     /// Returns the next line with its start and its ending, or `None` if there are no more lines, or
@@ -259,9 +234,12 @@ impl<S: Source, A: Allocator> LineReader<S, A> {
         ensures* next { sem 𝓛 (Rests (the_row S.row A.row S.Source A.Allocator) self.entry
             (Next self.old result)) }
     {
-        let start = self.start;
-        if self.advance(Wanted::Line(self.endings))? {
-            Ok(Some(line_at(self.endings, start, self.buffer.line_bytes())))
+        let (start, endings) = (self.cursor.start(), self.cursor.endings());
+        if self
+            .cursor
+            .advance(&mut self.source, Wanted::Line(endings))?
+        {
+            Ok(Some(line_at(endings, start, self.cursor.line_bytes())))
         } else {
             Ok(None)
         }
@@ -281,9 +259,13 @@ impl<S: Source, A: Allocator> LineReader<S, A> {
         ensures* next { sem 𝓛 (Rests (the_row S.row A.row S.Source A.Allocator) self.entry
             (NextBytes self.old result)) }
     {
-        if self.advance(Wanted::Bytes(self.endings))? {
-            let end = self.position();
-            Ok(Some(bytes_at(self.endings, end, self.buffer.line_bytes())))
+        let endings = self.cursor.endings();
+        if self
+            .cursor
+            .advance(&mut self.source, Wanted::Bytes(endings))?
+        {
+            let end = self.cursor.start();
+            Ok(Some(bytes_at(endings, end, self.cursor.line_bytes())))
         } else {
             Ok(None)
         }
@@ -311,11 +293,11 @@ impl<S: Source, A: Allocator> LineReader<S, A> {
         ensures* part { sem 𝓛 (Rests (the_row S.row A.row S.Source A.Allocator) self.entry
             (NextPart n self.old result)) }
     {
-        let start = self.start;
-        self.advance(Wanted::Part(n))?;
+        let start = self.cursor.start();
+        self.cursor.advance(&mut self.source, Wanted::Part(n))?;
         Ok(ReadPart {
             start,
-            text: bytes::as_ascii_str_unchecked(self.buffer.line_bytes()),
+            text: bytes::as_ascii_str_unchecked(self.cursor.line_bytes()),
         })
     }
 
@@ -332,7 +314,7 @@ impl<S: Source, A: Allocator> LineReader<S, A> {
     pub fn has_buffered_line(&self) -> bool
         ensures { IsTrue result ↔ ¬ (Waits (Wanted.Line self.now.state.endings) self.now.state) }
     {
-        !self.waits(Wanted::Line(self.endings))
+        !self.cursor.waits(Wanted::Line(self.cursor.endings()))
     }
 
     /// Returns `true` if `read_exact_part(n)` can return what it will return without a read of the source: these
@@ -346,17 +328,7 @@ impl<S: Source, A: Allocator> LineReader<S, A> {
     pub fn has_buffered_part(&self, n: usize) -> bool
         ensures { IsTrue result ↔ ¬ (Waits (Wanted.Part n) self.now.state) }
     {
-        !self.waits(Wanted::Part(n))
-    }
-
-    /// Whether the source has to be read for what is wanted.
-    fn waits(&self, wanted: Wanted) -> bool
-        ensures { IsTrue result ↔ Waits wanted self.now.state }
-    {
-        match self.stage {
-            Stage::Open => must_read(&self.buffer, wanted, self.start),
-            Stage::Ended | Stage::Refused(_) => false,
-        }
+        !self.cursor.waits(Wanted::Part(n))
     }
 
     /// Reads over the next line, or over the line at fault after `NotAscii`, `LoneBreak` or `TooLong`, up to its
@@ -365,7 +337,7 @@ impl<S: Source, A: Allocator> LineReader<S, A> {
     /// there.
     ///
     /// With `Endings::Any` a line ends at its first LF, with the other endings at its first CR LF: a CR or an LF
-    /// by itself is skipped.
+    /// by itself is skipped. The source is read only while no line ends in the bytes held.
     ///
     /// - `TooLong` if the line has more than `most` bytes. The error has the position at which the call started.
     ///   These bytes were skipped, except a CR at their end that may belong to the ending; `skip_line` may be
@@ -386,75 +358,13 @@ impl<S: Source, A: Allocator> LineReader<S, A> {
     pub fn skip_line(&mut self, most: u64) -> Result<SkippedLine, LineError>
         ensures { Skips most self.old result self.new }
     {
-        match self.stage {
-            Stage::Open => self.skip(most),
-            Stage::Ended => Ok(nothing_skipped(self.start)),
-            Stage::Refused(error) => {
-                if is_final(error) {
-                    Err(error)
-                } else {
-                    self.skip(most)
-                }
-            }
-        }
-    }
-
-    /// Reads over a line.
-    fn skip(&mut self, most: u64) -> Result<SkippedLine, LineError>
-        ensures { SkipsLine most self.old.state result self.new.state }
-    {
-        let start = self.start;
-        let limit = most.min(u64::MAX - start);
-        let endings = whole_endings(self.endings);
-        let (passed, why) = pass_line(&mut self.buffer, &mut self.source, endings, limit);
-        self.start = start + passed.count;
-        let error = skip_error(why, start, limit < most);
-        self.stage = stage_after(why, error);
-        match error {
-            Some(error) => Err(error),
-            None => Ok(skipped(start, passed)),
-        }
-    }
-
-    /// Takes the bytes of what is wanted, and returns whether there are any.
-    fn advance(&mut self, wanted: Wanted) -> Result<bool, LineError>
-        ensures { AdvancesFrom self.old.state.stage wanted self.old result self.new }
-    {
-        match self.stage {
-            Stage::Open => {}
-            Stage::Ended => return nothing_left(wanted),
-            Stage::Refused(error) => return Err(error),
-        }
-        match take_wanted(&mut self.buffer, &mut self.source, wanted, self.start) {
-            Ok((end, is_last)) => {
-                if is_last {
-                    self.stage = Stage::Ended;
-                }
-                let is_some = self.start < end;
-                self.start = end;
-                Ok(is_some)
-            }
-            Err(error) => {
-                self.stage = Stage::Refused(error);
-                Err(error)
-            }
-        }
-    }
-}
-
-/// What a reader that has ended returns.
-fn nothing_left(wanted: Wanted) -> Result<bool, LineError>
-    ensures { result ≡ at_end wanted }
-{
-    match wanted {
-        Wanted::Line(_) | Wanted::Bytes(_) => Ok(false),
-        Wanted::Part(_) => Err(LineError::Incomplete(0)),
+        self.cursor.skip_line(&mut self.source, most)
     }
 }
 
 /// The line of bytes of which only the last one may end a line.
 #[inline]
-fn line_at(endings: Endings, start: u64, line: &[u8]) -> ReadLine<'_>
+pub(crate) fn line_at(endings: Endings, start: u64, line: &[u8]) -> ReadLine<'_>
     requires ascii { IsAscii line.now }
     requires one { IsOneLine endings line.now }
     ensures line { LineSpansEndedBy endings start line.now (read_line_in result ∷ []) }

@@ -1,7 +1,6 @@
-use Rattle.ascii_devices.proofs.HistoryLemmas.{Gives-nil, read_fails}
-use Rattle.ascii_devices.specs.States.{of_state, source_state}
-use Rattle.ascii_lines.proofs.SkippingLemmas.{pass_ends, pass_fails, passed_more, passed_none}
-use Rattle.ascii_lines.proofs.SkippingLemmas.{passes_line, passes_on}
+use Rattle.ascii_devices.specs.States.{source_state}
+use Rattle.ascii_lines.proofs.SkippingLemmas.{pass_ends, pass_failed, pass_fails, passed_more}
+use Rattle.ascii_lines.proofs.SkippingLemmas.{passed_none, passes_line, passes_on}
 use Rattle.ascii_lines.proofs.skipping.pass_line.Goals as goal
 use Rattle.std.proofs.Common.{arith, refl}
 
@@ -18,10 +17,11 @@ pub returns-then-failures-eq18446744073709551615 :
     goal.returns-then-failures-eq18446744073709551615
 returns-then-failures-eq18446744073709551615 g c =
     let b = source_state g.S.Source c.fills.source in
-    pass_fails _ _ _ c.pass-passed.new.buffer c.pass-passed.new.buffer _ b b _
-    (passes_on _ c.requires _ _ _ _ _ _ _ _ _ c.fills.invariant _ _ c.front.ensures
+    let all = passes_on _ c.requires _ _ _ _ _ _ _ _ _ c.fills.invariant _ _ c.front.ensures
     c.len.ensures c.part_of_line-n.ensures.within c.pass-passed.ensures _ c.in_default.is
-    c.part_of_line-n.ensures.part) (Gives-nil of_state b)
+    c.part_of_line-n.ensures.part in
+    pass_fails _ _ _ c.pass-passed.new.buffer c.pass-passed.new.buffer _ b b _ all
+    all.so_far.gathers
     (omega (arith, c.failures.ensures, c.if-failures-eq18446744073709551615.true)) refl refl
 
 pub returns-in-Err : goal.returns-in-Err
@@ -29,10 +29,10 @@ returns-in-Err g c =
     let b = source_state g.S.Source c.fills.source in
     let now = source_state g.S.Source c.refill.new.source in
     let fails = c.in-Err.ensures.outcome in
-    pass_fails _ _ _ c.pass-passed.new.buffer c.refill.new.self _ b now _
+    pass_failed _ _ _ c.pass-passed.new.buffer c.refill.new.self _ b now _
     (passes_on _ c.requires _ _ _ _ _ _ _ _ _ c.fills.invariant _ _ c.front.ensures
     c.len.ensures c.part_of_line-n.ensures.within c.pass-passed.ensures _ c.in_default.is
-    c.part_of_line-n.ensures.part) (read_fails of_state b now fails.0.failures fails.0.told)
+    c.part_of_line-n.ensures.part) fails.0
     (omega (
       arith,
       fails.0.failures,
@@ -60,4 +60,4 @@ fills-preserved g c =
     passed_more _ _ _ c.pass-passed.new.buffer c.refill.new.self _ b now _ _
     (passes_on _ c.requires _ _ _ _ _ _ _ _ _ c.fills.invariant _ _ c.front.ensures
     c.len.ensures c.part_of_line-n.ensures.within c.pass-passed.ensures _ c.in_default.is
-    c.part_of_line-n.ensures.part).so_far read.2 read.3 c.in-Ok.ensures.size
+    c.part_of_line-n.ensures.part) read.2 read.3 c.in-Ok.ensures.size
