@@ -56,14 +56,14 @@ abbrev pub Tells : (List Event → List ℕ) → Option (List Event) → Option 
 Tells of old new bytes = IfSome old (λ before. (events : List Event)
     × (new ≡ Some (before ++ events)) × (of events ≡ bytes))
 
-tells-by : (of : List Event → List ℕ) (a b : Option (List Event)) (events : List Event)
+pub tells-by : (of : List Event → List ℕ) (a b : Option (List Event)) (events : List Event)
     (bytes : List ℕ) → Grows a b events → of events ≡ bytes → Tells of a b bytes
 tells-by of None b events bytes grows is = tt
 tells-by of (Some xs) None events bytes grows is = absurd grows
 tells-by of (Some xs) (Some ys) events bytes grows is = (events, ap Some grows, is)
 
 -- events before and after
-tells-more : (of : List Event → List ℕ)
+pub tells-more : (of : List Event → List ℕ)
     → ((xs ys : List Event) → of (xs ++ ys) ≡ of xs ++ of ys)
     → (a b c : Option (List Event)) (bytes more : List ℕ)
     → Tells of a b bytes → Tells of b c more → Tells of a c (bytes ++ more)

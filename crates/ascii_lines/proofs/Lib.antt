@@ -2,8 +2,12 @@ pub mod GathersLemmas
 pub mod HistoryLemmas
 pub mod LineBufferLemmas
 pub mod LineReaderLemmas
+pub mod MovesLemmas
+pub mod ReplyLemmas
 pub mod ServeLemmas
-pub mod RepliesLemmas
+pub mod StepLemmas
+pub mod InputLemmas
+pub mod FinishLemmas
 pub mod TakesLemmas
 pub mod WriteBufferLemmas
 pub mod WantedLemmas

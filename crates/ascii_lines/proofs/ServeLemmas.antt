@@ -1,145 +1,463 @@
--- One input of a server after another.
-use Rattle.std.proofs.Common.{◌≡◌, ℕ, ◌+◌, List, [], ◌∷◌, ◌++◌, length, Ok, Err, None, Some, Option}
-use Rattle.std.proofs.Common.{Result, IfErr, IfOk, append-nil, ap, inl, inr, refl, sym, subst, ◌∙◌}
-use Rattle.std.proofs.Common.{◌<◌, append_assoc, arith, length-append}
-use Rattle.std.proofs.lemmas.Grind.{flat_map-append}
-use Rattle.std.proofs.lemmas.List.{map-append}
+-- One step of a server after another.
+use Rattle.std.proofs.Common.{◌≡◌, ℕ, ◌+◌, ◌-◌, ◌*◌, ◌^◌, ◌<◌, List, [], ◌∷◌, ◌++◌, Bool, true, false}
+use Rattle.std.proofs.Common.{append_assoc, append-nil, ap, arith, inl, inr, length, refl, subst}
+use Rattle.std.proofs.Common.{add-zero, length-append, sym, ◌∙◌}
 use Rattle.std.specs.List.{flat_map}
-use Rattle.ascii.specs.declared.iter.spans.Ending.TheVariants.{Absent}
+use Rattle.std.specs.Io.KnownBytes.{Appends}
+use Rattle.std.proofs.KnownBytes.{Appends-nil, Appends-trans}
+use Rattle.std.proofs.lemmas.Grind.{flat_map-append}
 use Rattle.ascii.specs.Lines.{Line, ending_text, line_text}
+use Rattle.ascii.specs.declared.iter.spans.Ending.{Ending}
 use Rattle.ascii.specs.declared.iter.spans.Endings.{Endings}
-use Rattle.ascii.specs.Lines.{LinesEndedBy}
-use Rattle.ascii.specs.Spans.{WithStart, items_of, line_size, with_starts}
-use Rattle.ascii.specs.View.{text_of}
+use Rattle.ascii_devices.proofs.HistoryLemmas.{Gives-nil, Gives-trans, Grows-nil, Grows-trans}
+use Rattle.ascii_devices.proofs.HistoryLemmas.{received_of-append, sent_of-append}
+use Rattle.ascii_devices.proofs.ListLemmas.{append_two}
+use Rattle.ascii_devices.specs.Devices.{Grows, read_of, received_of, sent_of}
+use Rattle.ascii_devices.specs.States.{Gives, of_state}
+use Rattle.ascii_devices.specs.declared.log.Event.{Event}
+use Rattle.ascii_lines.specs.Serve.{AtEachRead, ChannelState, CountsBy, Explains}
+use Rattle.ascii_lines.specs.Serve.{Halts, IsAnswered, IsAsked, IsRequest, IsStep, IsUp}
+use Rattle.ascii_lines.specs.Serve.{Lacks, MayStep}
+use Rattle.ascii_lines.specs.Serve.{Moves, ReadsWell, Reply, SentBy, Stopped, Talks, Step, Stepped}
+use Rattle.ascii_lines.specs.Serve.{bytes_of, read_side, replies_of, reply_bytes, step_bytes}
+use Rattle.ascii_lines.specs.Serve.{step_replies, rejected, skipped, took}
+use Rattle.ascii_lines.specs.Wanted.{all_of}
 use Rattle.ascii_lines.specs.declared.line_reader.LineError.{LineError}
-use Rattle.ascii_lines.specs.declared.line_reader.LineError.TheVariants.{Incomplete}
-use Rattle.ascii_lines.specs.declared.line_reader.ReadLine.{ReadLine}
-use Rattle.ascii_lines.specs.declared.line_reader.ReadPart.{ReadPart}
-use Rattle.ascii_lines.specs.declared.line_reader.Stage.TheVariants.{Open, Ended}
+use Rattle.ascii_lines.specs.declared.serving.Awaited.{Awaited}
+use Rattle.ascii_lines.specs.declared.serving.Awaited.TheVariants.{Input, LineEnd}
 use Rattle.ascii_lines.specs.declared.serving.Next.{Next}
 use Rattle.ascii_lines.specs.declared.serving.Next.TheVariants as next
 use Rattle.ascii_lines.specs.declared.serving.Stop.{Stop}
-use Rattle.ascii_lines.specs.declared.serving.Stop.TheVariants as stop
-use Rattle.ascii_lines.specs.LineReader.{IsDone, IsHeldThenRead, NextFrom, NextPart, NextPartFrom}
-use Rattle.ascii_lines.specs.LineReader.{ReaderState, ReadsBytes, YieldsLines, read_line_in}
-use Rattle.ascii_lines.specs.LineReader.{Reading}
-use Rattle.ascii_lines.specs.LineReader as reader
-use Rattle.ascii_lines.specs.Serve.{Conversation, IsAsked, IsGoing, IsRequest, StopsTurn}
-use Rattle.ascii_lines.specs.Serve.{TakesInput, Talks, TurnOutcome}
-use Rattle.ascii_lines.proofs.LineReaderLemmas.{ReadsBytes-nil, ReadsBytes-trans, line_has_bytes}
-use Rattle.ascii_lines.proofs.LineReaderLemmas.{none_is_some, one_line, reads_of}
-use Rattle.ascii_lines.proofs.LineReaderLemmas.{with_starts-append}
-use Rattle.ascii_lines.specs.declared.wanted.Wanted.TheVariants as wanted
+use Rattle.ascii_lines.proofs.HistoryLemmas.{AtEachRead-append, AtEachRead-reads, AtEachRead-writes}
+use Rattle.ascii_lines.proofs.HistoryLemmas.{IsFlushed-after, IsSettled, received_of-reads}
+use Rattle.ascii_lines.proofs.HistoryLemmas.{received_of-writes, sent_of-reads}
+use Rattle.ascii_lines.proofs.LineReaderLemmas.{line_has_bytes}
 
--- a line that was yielded is an input
-yields_input : (old new : ReaderState) (line : WithStart Line)
-    → YieldsLines old (line ∷ []) new
-    → IsAsked old.endings next.Line line.item × TakesInput old line new
-yields_input old new line yields =
-    let bytes = line_text line.item in
-    let is : yields.handed ≡ bytes = sym yields.exact.lines.joined ∙ append-nil bytes in
-    let first : line ∷ [] ≡ record { start = old.start; item = line.item } ∷ [] =
-    yields.exact.starts in
-    let same : line ≡ record { start = old.start; item = line.item } = cc in (
-      subst (λ text. LinesEndedBy old.endings text (line.item ∷ [])) is yields.exact.lines,
-      record {
-        read = subst (λ text. ReadsBytes old text new) is yields.reads;
-        start = ap (λ (span : WithStart Line). span.start) same;
-        going = elim yields.whole [ inl more ↦ inl more.0 | inr done ↦ inr done ];
-      },
+-- ---- steps after steps
+
+pub bytes_of-append : (xs ys : List Step) → bytes_of (xs ++ ys) ≡ bytes_of xs ++ bytes_of ys
+bytes_of-append xs ys = flat_map-append step_bytes xs ys
+
+pub replies_of-append : (ending : Ending) (xs ys : List Step)
+    → replies_of ending (xs ++ ys) ≡ replies_of ending xs ++ replies_of ending ys
+replies_of-append ending xs ys = flat_map-append (step_replies ending) xs ys
+
+module _ {H : Type 0} (answers : H → Line → List Reply → Next → H → Type 0)
+    (refuses : H → LineError → List Reply → Next → H → Type 0) (endings : Endings) where
+  pub Talks-append : (a b c : Awaited) (x y z : H) (xs ys : List Step)
+      → Talks answers refuses endings a x xs b y → Talks answers refuses endings b y ys c z
+      → Talks answers refuses endings a x (xs ++ ys) c z
+  Talks-append a b c x y z [] ys (same, is) then =
+      subst (λ h. Talks answers refuses endings a h ys c z) is
+      (subst (λ w. Talks answers refuses endings w y ys c z) same then)
+  Talks-append a b c x y z (step ∷ xs) ys (after, mid, is_step, talks) then =
+      (after, mid, is_step, Talks-append after b c mid y z xs ys talks then)
+
+  pub Talks-one : (a b : Awaited) (x y : H) (step : Step)
+      → IsStep answers refuses endings a x step b y
+      → Talks answers refuses endings a x (step ∷ []) b y
+  Talks-one a b x y step is_step = (b, y, is_step, (refl, refl))
+
+-- what explains errors explains them when more is known
+pub Explains-append : (endings : Endings) (size start : ℕ) (xs ys : List Step) (tail after : List ℕ)
+    → tail ≡ bytes_of ys ++ after → Explains endings size start xs tail
+    → Explains endings size (start + length (bytes_of xs)) ys after
+    → Explains endings size start (xs ++ ys) after
+Explains-append endings size start [] ys tail after is first then =
+    subst (λ n. Explains endings size n ys after) (add-zero start) then
+Explains-append endings size start (took input replies ∷ xs) ys tail after is first then =
+    Explains-append endings size (start + length (line_text input)) xs ys tail after is first
+    (subst (λ n. Explains endings size n ys after)
+    (omega (arith, length-append (line_text input) (bytes_of xs))) then)
+Explains-append endings size start (rejected error replies ∷ xs) ys tail after is
+    ((text, others, left, all, why), first) then = (
+      (
+        text,
+        others,
+        left,
+        ap (λ zs. zs ++ after) (bytes_of-append xs ys)
+            ∙ (append_assoc (bytes_of xs) (bytes_of ys) after
+            ∙ (ap (λ zs. bytes_of xs ++ zs) (sym is) ∙ all)),
+        why,
+      ),
+      Explains-append endings size start xs ys tail after is first then,
     )
+Explains-append endings size start (skipped bytes ∷ xs) ys tail after is first then =
+    Explains-append endings size (start + length bytes) xs ys tail after is first
+    (subst (λ n. Explains endings size n ys after)
+    (omega (arith, length-append bytes (bytes_of xs))) then)
 
-err_is_ok : {T : Type 0} (result : Result T LineError) (error : LineError) (value : T)
-    → result ≡ Err error → result ≡ Ok value → ⊥
-err_is_ok result error value bad good = cc
+-- the tail may grow
+pub Explains-more : (endings : Endings) (size start : ℕ) (steps : List Step) (tail more : List ℕ)
+    → Explains endings size start steps tail → Explains endings size start steps (tail ++ more)
+Explains-more endings size start [] tail more first = tt
+Explains-more endings size start (took input replies ∷ steps) tail more first =
+    Explains-more endings size (start + length (line_text input)) steps tail more first
+Explains-more endings size start (rejected error replies ∷ steps) tail more
+    ((text, others, left, all, why), first) = (
+      (
+        text,
+        others ++ more,
+        left,
+        sym (append_assoc (bytes_of steps) tail more)
+            ∙ (ap (λ zs. zs ++ more) all ∙ append_assoc text others more),
+        why,
+      ),
+      Explains-more endings size start steps tail more first,
+    )
+Explains-more endings size start (skipped bytes ∷ steps) tail more first =
+    Explains-more endings size (start + length bytes) steps tail more first
 
-module _ {S : Type 0} where
-  -- the next line of a reader is an input
-  pub takes_line : (old new : Reading S) (result : Result (Option ReadLine) LineError)
-      (line : ReadLine) → IsGoing old.state
-      → reader.Next old result new → result ≡ Ok (Some line)
-      → IsAsked old.state.endings next.Line (read_line_in line).item
-      × TakesInput old.state (read_line_in line)
-      new.state
-  takes_line old new result line going next is = elim going [
-    | inl more ↦
-        let open_next : NextFrom Open old (Ok (Some line)) new =
-        subst (λ r. NextFrom Open old r new) is
-        (subst (λ stage. NextFrom stage old result new) more next) in
-        yields_input old.state new.state (read_line_in line)
-        (one_line (wanted.Line old.state.endings) old.state (read_line_in line) new.state open_next)
-    | inr done ↦
-        let ended_next : NextFrom Ended old result new =
-        subst (λ stage. NextFrom stage old result new) done.ended next in
-        absurd (none_is_some result line ended_next.0 is)
-  ]
+-- ---- between two steps
 
-  -- there is no next line
-  pub takes_none : (old new : Reading S) (result : Result (Option ReadLine) LineError)
-      → IsGoing old.state → reader.Next old result new → result ≡ Ok None
-      → ReadsBytes old.state [] new.state × IsDone new.state
-  takes_none old new result going next is = elim going [
-    | inl more ↦
-        let open_next : NextFrom Open old (Ok None) new =
-        subst (λ r. NextFrom Open old r new) is
-        (subst (λ stage. NextFrom stage old result new) more next) in
-        (reads_of (wanted.Line old.state.endings) old.state [] new.state open_next.0, open_next.1)
-    | inr done ↦
-        let ended_next : NextFrom Ended old result new =
-        subst (λ stage. NextFrom stage old result new) done.ended next in
-        subst (λ (r : Reading S). ReadsBytes old.state [] r.state × IsDone r.state)
-        (sym ended_next.1) (ReadsBytes-nil old.state, done)
-  ]
+-- a step that takes no byte leads from what the handler asked for to the end of a line
+abbrev pub rank : Awaited → ℕ
+rank (Input asked) = 1
+rank (LineEnd then) = 0
 
-  -- the next part of a reader is an input
-  pub takes_part : (n : ℕ) (old new : Reading S) (result : Result ReadPart LineError)
-      (part : ReadPart) → IsGoing old.state
-      → NextPart n old result new → result ≡ Ok part
-      → IsAsked old.state.endings (next.Part n)
-      (record { body = text_of part.text; ending = Absent })
-      × TakesInput old.state
-      (record { start = part.start; item = record { body = text_of part.text; ending = Absent } })
-      new.state
-  takes_part n old new result part going next is = elim going [
-    | inl more ↦
-        let open_next : NextPartFrom Open n old (Ok part) new =
-        subst (λ r. NextPartFrom Open n old r new) is
-        (subst (λ stage. NextPartFrom stage n old result new) more next) in
-        let yields = open_next in (
-          (yields.1, refl),
-          record {
-            read = subst
-                (λ bytes. ReadsBytes old.state bytes
-                new.state) (sym (append-nil (text_of part.text)))
-                (reads_of (wanted.Part n) old.state (text_of part.text) new.state yields.0);
-            start = yields.2;
-            going = inl yields.3;
-          },
-        )
-    | inr done ↦
-        let ended_next : NextPartFrom Ended n old result new =
-        subst (λ stage. NextPartFrom stage n old result new) done.ended next in
-        absurd (err_is_ok result (Incomplete 0) part ended_next.0 is)
-  ]
+module _ {H : Type 0} (answers : H → Line → List Reply → Next → H → Type 0)
+    (refuses : H → LineError → List Reply → Next → H → Type 0) (old : ChannelState) (handler : H)
+  where
+    -- steps were held, and the conversation goes on
+    pub record Progress (awaited : Awaited) (now : ChannelState) (state : H) : Type 0 where
+      pub steps : List Step
+      pub talks : Talks answers refuses old.cursor.endings (Input next.Line) handler steps awaited
+          state
+      pub events : List Event
+      pub grows : Grows old.output.history now.output.history events
+      pub prompt : AtEachRead (IsAnswered answers refuses old handler) [] events
+      pub received : old.cursor.held ++ received_of events ≡ bytes_of steps ++ now.cursor.held
+      pub explains : Explains old.cursor.endings old.cursor.size old.cursor.start steps
+          now.cursor.held
+      pub sent : sent_of events ++ now.output.buffer.bytes
+          ≡ old.output.buffer.bytes ++ replies_of old.ending steps
+      pub start : now.cursor.start ≡ old.cursor.start + length (bytes_of steps)
+      pub gave : Gives of_state (read_side old.output) (read_side now.output)
+          (received_of events)
+      pub well : ReadsWell old now
+      pub took : Appends old.output.taken now.output.taken (sent_of events)
+      pub failures : now.output.failures ≡ old.output.failures
+      pub size : now.cursor.size ≡ old.cursor.size
+      pub endings : now.cursor.endings ≡ old.cursor.endings
+      pub ending : now.ending ≡ old.ending
+      pub may : MayStep awaited now
 
--- the outcome of an input that the handler was given
-module _ {H : Type 0} (answers : H → List ℕ → List (List ℕ) → Next → H → Type 0) where
-  pub given_to_handler : (asked : Next) (handler after : H) (old new : ReaderState)
-      (replies : List (List ℕ)) (result : Result Next Stop) (input : WithStart Line)
-      → IsAsked old.endings asked input.item × TakesInput old input new
-      → IfOk result (λ then. answers handler input.item.body replies then after)
-      → IfErr result (λ why. why ≡ stop.Memory)
-      → TurnOutcome answers asked handler old replies result after new
-  given_to_handler asked handler after old new replies (Ok then) input takes answered memory =
-      (input, takes.0, takes.1, answered)
-  given_to_handler asked handler after old new replies (Err why) input takes answered memory =
-      subst (λ s. StopsTurn answers s asked handler old after new) (sym memory)
-      (input, takes.0, takes.1)
+    pub Progress-first : IsUp old → Progress (Input next.Line) old handler
+    Progress-first up = record {
+      steps = [];
+      talks = (refl, refl);
+      events = [];
+      grows = Grows-nil old.output.history;
+      prompt = tt;
+      received = append-nil old.cursor.held;
+      explains = tt;
+      sent = sym (append-nil old.output.buffer.bytes);
+      start = sym (add-zero old.cursor.start);
+      gave = Gives-nil of_state (read_side old.output);
+      well = refl;
+      took = Appends-nil old.output.taken;
+      failures = refl;
+      size = refl;
+      endings = refl;
+      ending = refl;
+      may = (up, tt);
+    }
 
--- ---- inputs after inputs
+    -- a move after that
+    module _ (awaited : Awaited) (now : ChannelState) (state : H) (p : Progress awaited now state)
+        (bytes replies : List ℕ) (new : ChannelState)
+        (m : Moves (Lacks now.cursor.endings now.cursor.start now.cursor.size awaited) now bytes
+        replies new) where
+      abbrev more : List Event
+      more = m.before ++ (flat_map read_of m.reads ++ m.after)
+
+      received_more : received_of more ≡ all_of m.reads
+      received_more = received_of-append m.before (flat_map read_of m.reads ++ m.after)
+          ∙ (ap (λ xs. xs ++ received_of (flat_map read_of m.reads ++ m.after))
+          (received_of-writes m.before m.first)
+          ∙ (received_of-append (flat_map read_of m.reads) m.after
+          ∙ (ap (λ xs. received_of (flat_map read_of m.reads) ++ xs)
+          (received_of-writes m.after m.then)
+          ∙ (append-nil (received_of (flat_map read_of m.reads))
+          ∙ received_of-reads m.reads))))
+
+      sent_more : sent_of more ≡ sent_of m.before ++ sent_of m.after
+      sent_more = sent_of-append m.before (flat_map read_of m.reads ++ m.after)
+          ∙ ap (λ xs. sent_of m.before ++ xs)
+          (sent_of-append (flat_map read_of m.reads) m.after
+          ∙ ap (λ xs. xs ++ sent_of m.after) (sent_of-reads m.reads))
+
+      abbrev all : List Event
+      all = p.events ++ more
+
+      -- while the device was read, all was answered
+      answered : (past : List Event) (held : List ℕ)
+          → IsSettled old.cursor.held (bytes_of p.steps)
+          (old.output.buffer.bytes ++ replies_of old.ending p.steps) past held
+          → Lacks now.cursor.endings now.cursor.start now.cursor.size awaited held
+          → IsAnswered answers refuses old handler past
+      answered past held settled lacks = record {
+        steps = p.steps;
+        awaited = awaited;
+        state = state;
+        talks = p.talks;
+        held = held;
+        received = settled.received;
+        lacks = subst (λ n. Lacks old.cursor.endings n old.cursor.size awaited held) p.start
+            (subst (λ n. Lacks old.cursor.endings now.cursor.start n awaited held) p.size
+            (subst (λ e. Lacks e now.cursor.start now.cursor.size awaited held) p.endings
+            lacks));
+        sent = settled.sent;
+        flushed = settled.flushed;
+      }
+
+      at_reads : AtEachRead (IsAnswered answers refuses old handler) (p.events ++ m.before)
+          (flat_map read_of m.reads)
+      at_reads = elim m.ready [
+        | inl none ↦
+            subst
+            (λ reads. AtEachRead (IsAnswered answers refuses old handler) (p.events ++ m.before)
+            (flat_map read_of reads)) (sym none) tt
+        | inr (noted, flushed) ↦
+            AtEachRead-reads old.cursor.held (bytes_of p.steps)
+            (old.output.buffer.bytes ++ replies_of old.ending p.steps)
+            (IsAnswered answers refuses old handler)
+            (Lacks now.cursor.endings now.cursor.start now.cursor.size awaited) answered
+            (p.events ++ m.before) now.cursor.held m.reads
+            (record {
+              received = ap (λ xs. old.cursor.held ++ xs)
+                  (received_of-append p.events m.before
+                  ∙ (ap (λ xs. received_of p.events ++ xs)
+                  (received_of-writes m.before m.first)
+                  ∙ append-nil (received_of p.events))) ∙ p.received;
+              sent = sent_of-append p.events m.before
+                  ∙ (ap (λ xs. sent_of p.events ++ xs) noted ∙ p.sent);
+              flushed = IsFlushed-after p.events m.before flushed;
+            }) m.asks
+      ]
+
+      prompt_more : AtEachRead (IsAnswered answers refuses old handler) [] all
+      prompt_more =
+          let P = IsAnswered answers refuses old handler in
+          AtEachRead-append P [] p.events more p.prompt
+          (AtEachRead-append P p.events m.before (flat_map read_of m.reads ++ m.after)
+          (AtEachRead-writes P p.events m.before m.first)
+          (AtEachRead-append P (p.events ++ m.before) (flat_map read_of m.reads) m.after
+          at_reads
+          (AtEachRead-writes P ((p.events ++ m.before) ++ flat_map read_of m.reads) m.after
+          m.then)))
+
+      grows_more : Grows old.output.history new.output.history all
+      grows_more = Grows-trans old.output.history now.output.history new.output.history p.events
+          more p.grows m.grows
+
+      received_all : old.cursor.held ++ received_of all
+          ≡ bytes_of p.steps ++ (bytes ++ new.cursor.held)
+      received_all = ap (λ xs. old.cursor.held ++ xs)
+          (received_of-append p.events more
+          ∙ ap (λ xs. received_of p.events ++ xs) received_more)
+          ∙ (sym (append_assoc old.cursor.held (received_of p.events) (all_of m.reads))
+          ∙ (ap (λ xs. xs ++ all_of m.reads) p.received
+          ∙ (append_assoc (bytes_of p.steps) now.cursor.held (all_of m.reads)
+          ∙ ap (λ xs. bytes_of p.steps ++ xs) m.text)))
+
+      gave_all : Gives of_state (read_side old.output) (read_side new.output) (received_of all)
+      gave_all = subst (Gives of_state (read_side old.output) (read_side new.output))
+          (ap (λ xs. received_of p.events ++ xs) (sym received_more)
+          ∙ sym (received_of-append p.events more))
+          (Gives-trans of_state (read_side old.output) (read_side now.output)
+          (read_side new.output) (received_of p.events) (all_of m.reads) p.well p.gave m.gave)
+
+      took_all : Appends old.output.taken new.output.taken (sent_of all)
+      took_all = subst (Appends old.output.taken new.output.taken)
+          (ap (λ xs. sent_of p.events ++ xs) (sym sent_more)
+          ∙ sym (sent_of-append p.events more))
+          (Appends-trans old.output.taken now.output.taken new.output.taken (sent_of p.events)
+          (sent_of m.before ++ sent_of m.after) p.took m.took)
+
+      sent_all : SentBy new.output.buffer.is_broken (sent_of all) new.output.buffer.bytes
+          (old.output.buffer.bytes ++ (replies_of old.ending p.steps ++ replies))
+      sent_all = subst
+          (λ xs. SentBy new.output.buffer.is_broken xs new.output.buffer.bytes
+          (old.output.buffer.bytes ++ (replies_of old.ending p.steps ++ replies)))
+          (ap (λ xs. sent_of p.events ++ xs) (sym sent_more)
+          ∙ sym (sent_of-append p.events more))
+          (sent_by new.output.buffer.is_broken m.sent)
+        where
+          sent_by : (b : Bool)
+              → SentBy b (sent_of m.before ++ sent_of m.after) new.output.buffer.bytes
+              (now.output.buffer.bytes ++ replies)
+              → SentBy b (sent_of p.events ++ (sent_of m.before ++ sent_of m.after))
+              new.output.buffer.bytes
+              (old.output.buffer.bytes ++ (replies_of old.ending p.steps ++ replies))
+          sent_by false is = append_two (sent_of p.events) (sent_of m.before ++ sent_of m.after)
+              new.output.buffer.bytes now.output.buffer.bytes old.output.buffer.bytes
+              (replies_of old.ending p.steps) replies p.sent is
+          sent_by true (others, is) = (
+            others,
+            append_two (sent_of p.events) (sent_of m.before ++ sent_of m.after) others
+                now.output.buffer.bytes old.output.buffer.bytes (replies_of old.ending p.steps) replies
+                p.sent is,
+          )
+
+      count_all : CountsBy new.output.buffer.is_broken old.output.failures new.output.failures
+      count_all = subst (λ n. CountsBy new.output.buffer.is_broken n new.output.failures)
+          p.failures m.count
+
+      start_all : (steps : List Step) (over : List ℕ) → bytes ≡ bytes_of steps ++ over
+          → new.cursor.start ≡ old.cursor.start + length (bytes_of (p.steps ++ steps) ++ over)
+      start_all steps over is =
+          let parts : bytes_of (p.steps ++ steps) ++ over ≡ bytes_of p.steps ++ bytes =
+          ap (λ xs. xs ++ over) (bytes_of-append p.steps steps)
+          ∙ (append_assoc (bytes_of p.steps) (bytes_of steps) over
+          ∙ ap (λ xs. bytes_of p.steps ++ xs) (sym is)) in
+          omega (
+            arith,
+            m.start,
+            p.start,
+            ap length parts,
+            length-append (bytes_of p.steps) bytes,
+          )
+
+      -- what is known of the errors of the steps before
+      explained : (steps : List Step) (tail : List ℕ)
+          → now.cursor.held ++ all_of m.reads ≡ bytes_of steps ++ tail
+          → Explains now.cursor.endings now.cursor.size now.cursor.start steps tail
+          → Explains old.cursor.endings old.cursor.size old.cursor.start (p.steps ++ steps) tail
+      explained steps tail is explains =
+          Explains-append old.cursor.endings old.cursor.size old.cursor.start p.steps steps
+          (now.cursor.held ++ all_of m.reads) tail is
+          (Explains-more old.cursor.endings old.cursor.size old.cursor.start p.steps
+          now.cursor.held (all_of m.reads) p.explains)
+          (subst (λ n. Explains old.cursor.endings old.cursor.size n steps tail) p.start
+          (subst (λ n. Explains old.cursor.endings n now.cursor.start steps tail) p.size
+          (subst (λ e. Explains e now.cursor.size now.cursor.start steps tail) p.endings
+          explains)))
+
+    -- one step more
+    pub Progress-more : (awaited after : Awaited) (now new : ChannelState) (state last : H)
+        → Progress awaited now state → Stepped answers refuses awaited state now after last new
+        → Progress after new last
+    Progress-more awaited after now new state last p t =
+        let m = subst
+        (λ e. Moves (Lacks now.cursor.endings now.cursor.start now.cursor.size awaited) now
+        (step_bytes t.step) (step_replies e t.step) new) p.ending t.moves in
+        let steps = p.steps ++ t.step ∷ [] in
+        let one : step_bytes t.step ≡ bytes_of (t.step ∷ []) = sym (append-nil (step_bytes t.step))
+        in
+        let whole = not_broken after new t.may in
+        let text : bytes_of steps ≡ bytes_of p.steps ++ step_bytes t.step =
+        bytes_of-append p.steps (t.step ∷ [])
+        ∙ ap (λ xs. bytes_of p.steps ++ xs) (append-nil (step_bytes t.step)) in
+        let said : replies_of old.ending steps ≡ replies_of old.ending p.steps ++ step_replies old.ending t.step =
+        replies_of-append old.ending p.steps (t.step ∷ [])
+        ∙ ap (λ xs. replies_of old.ending p.steps ++ xs) (append-nil (step_replies old.ending t.step)) in
+        record {
+          steps = steps;
+          talks = Talks-append answers refuses old.cursor.endings (Input next.Line) awaited after
+              handler state last p.steps (t.step ∷ []) p.talks
+              (Talks-one answers refuses old.cursor.endings awaited after state last t.step
+              (subst (λ e. IsStep answers refuses e awaited state t.step after last) p.endings
+              t.is_step));
+          events = all awaited now state p (step_bytes t.step) (step_replies old.ending t.step) new m;
+          grows = grows_more awaited now state p (step_bytes t.step) (step_replies old.ending t.step) new m;
+          prompt = prompt_more awaited now state p (step_bytes t.step) (step_replies old.ending t.step) new
+              m;
+          received = received_all awaited now state p (step_bytes t.step) (step_replies old.ending t.step)
+              new m
+              ∙ (sym (append_assoc (bytes_of p.steps) (step_bytes t.step) new.cursor.held)
+              ∙ ap (λ xs. xs ++ new.cursor.held) (sym text));
+          explains = explained awaited now state p (step_bytes t.step) (step_replies old.ending t.step) new m
+              (t.step ∷ []) new.cursor.held
+              (m.text ∙ ap (λ xs. xs ++ new.cursor.held) one) t.explains;
+          sent = subst
+              (λ b. SentBy b (sent_of (all awaited now state p (step_bytes t.step)
+              (step_replies old.ending t.step) new m)) new.output.buffer.bytes
+              (old.output.buffer.bytes ++ (replies_of old.ending p.steps ++ step_replies old.ending t.step))) whole
+              (sent_all awaited now state p (step_bytes t.step) (step_replies old.ending t.step) new m)
+              ∙ ap (λ xs. old.output.buffer.bytes ++ xs) (sym said);
+          start = m.start
+              ∙ (ap (λ n. n + length (step_bytes t.step)) p.start
+              ∙ omega (
+                arith,
+                ap length text,
+                length-append (bytes_of p.steps) (step_bytes t.step),
+              ));
+          gave = gave_all awaited now state p (step_bytes t.step) (step_replies old.ending t.step) new m;
+          well = t.well ∙ p.well;
+          took = took_all awaited now state p (step_bytes t.step) (step_replies old.ending t.step) new m;
+          failures = subst (λ b. CountsBy b old.output.failures new.output.failures) whole
+              (count_all awaited now state p (step_bytes t.step) (step_replies old.ending t.step) new m);
+          size = m.size ∙ p.size;
+          endings = m.endings ∙ p.endings;
+          ending = m.ending ∙ p.ending;
+          may = t.may;
+        }
+      where
+        not_broken : (after : Awaited) (lines : ChannelState) → MayStep after lines
+            → lines.output.buffer.is_broken ≡ false
+        not_broken (Input asked) lines may = may.0.1
+        not_broken (LineEnd then) lines may = may.0.1
+
+    -- the conversation stops
+    pub Progress-stop : (awaited : Awaited) (now new : ChannelState) (state last : H) (why : Stop)
+        → Progress awaited now state → Stopped answers refuses awaited state now why last new
+        → Halts answers refuses old handler why new last
+    Progress-stop awaited now new state last why p t =
+        let m = subst
+        (λ e. Moves (Lacks now.cursor.endings now.cursor.start now.cursor.size awaited) now
+        (bytes_of t.steps ++ t.over) (replies_of e t.steps ++ reply_bytes e t.extra) new) p.ending
+        t.moves in
+        let bytes = bytes_of t.steps ++ t.over in
+        let replies = replies_of old.ending t.steps ++ reply_bytes old.ending t.extra in
+        let steps = p.steps ++ t.steps in
+        let text : bytes_of steps ≡ bytes_of p.steps ++ bytes_of t.steps =
+        bytes_of-append p.steps t.steps in
+        let said : replies_of old.ending steps ++ reply_bytes old.ending t.extra ≡ replies_of old.ending p.steps ++ replies =
+        ap (λ xs. xs ++ reply_bytes old.ending t.extra) (replies_of-append old.ending p.steps t.steps)
+        ∙ append_assoc (replies_of old.ending p.steps) (replies_of old.ending t.steps) (reply_bytes old.ending t.extra) in
+        record {
+          talk = record {
+            steps = steps;
+            awaited = t.then;
+            state = t.state;
+            talks = Talks-append answers refuses old.cursor.endings (Input next.Line) awaited
+                t.then handler state t.state p.steps t.steps p.talks
+                (subst (λ e. Talks answers refuses e awaited state t.steps t.then t.state)
+                p.endings t.talks);
+            extra = t.extra;
+            over = t.over;
+            stops = t.stops;
+            events = all awaited now state p bytes replies new m;
+            grows = grows_more awaited now state p bytes replies new m;
+            prompt = prompt_more awaited now state p bytes replies new m;
+            received = received_all awaited now state p bytes replies new m
+                ∙ (ap (λ xs. bytes_of p.steps ++ xs)
+                (append_assoc (bytes_of t.steps) t.over new.cursor.held)
+                ∙ (sym (append_assoc (bytes_of p.steps) (bytes_of t.steps)
+                (t.over ++ new.cursor.held))
+                ∙ ap (λ xs. xs ++ (t.over ++ new.cursor.held)) (sym text)));
+            explains = explained awaited now state p bytes replies new m t.steps
+                (t.over ++ new.cursor.held)
+                (m.text ∙ append_assoc (bytes_of t.steps) t.over new.cursor.held) t.explains;
+            start = start_all awaited now state p bytes replies new m t.steps t.over refl;
+            gave = gave_all awaited now state p bytes replies new m;
+            took = took_all awaited now state p bytes replies new m;
+            size = m.size ∙ p.size;
+            endings = m.endings ∙ p.endings;
+            ending = m.ending ∙ p.ending;
+          };
+          sent = subst
+              (λ xs. SentBy new.output.buffer.is_broken
+              (sent_of (all awaited now state p bytes replies new m)) new.output.buffer.bytes
+              (old.output.buffer.bytes ++ xs)) (sym said)
+              (sent_all awaited now state p bytes replies new m);
+          count = count_all awaited now state p bytes replies new m;
+          broken = t.broken;
+        }
 
 -- an input that was asked for has a byte
-pub some_bytes : (endings : Endings) (asked : Next) (input : Line) → IsRequest asked
+some_bytes : (endings : Endings) (asked : Next) (input : Line) → IsRequest asked
     → IsAsked endings asked input → 0 < length (line_text input)
 some_bytes endings next.Line input request is =
     line_has_bytes endings (line_text input) input is
@@ -147,78 +465,39 @@ some_bytes endings (next.Part n) input request is =
     omega (arith, length-append input.body (ending_text input.ending), is.0, request)
 some_bytes endings next.Close input request is = absurd is
 
-module _ {H : Type 0} (answers : H → List ℕ → List (List ℕ) → Next → H → Type 0) where
-  -- one more input was answered
-  talks_more : (endings : Endings) (old mid new : H) (first then last : Next)
-      (inputs : List (WithStart Line))
-      (replies now : List (List ℕ)) (input : WithStart Line)
-      → Talks answers endings old first inputs replies then mid
-      → IsAsked endings then input.item
-      → answers mid input.item.body now last new
-      → Talks answers endings old first (inputs ++ input ∷ []) (replies ++ now) last new
-  talks_more endings old mid new first then last [] replies now input talks asked answered = (
-    subst (λ n. IsAsked endings n input.item) talks.1 asked,
-    (
-      new,
-      now,
-      [],
-      last,
-      subst (λ h. answers h input.item.body now last new) talks.2 answered,
-      ap (λ xs. xs ++ now) talks.0 ∙ sym (append-nil now),
-      (refl, refl, refl),
-    ),
-  )
-  talks_more endings old mid new first then last (i ∷ inputs) replies now input talks asked
-      answered =
-      let t = talks.1 in (
-        talks.0,
-        (
-          t.0,
-          t.1,
-          t.2 ++ now,
-          t.3,
-          t.4,
-          ap (λ xs. xs ++ now) t.5 ∙ append_assoc t.1 t.2 now,
-          talks_more endings t.0 mid new t.3 then last inputs t.2 now input t.6 asked answered,
-        ),
-      )
-
-  pub Conversation-nil : (old : ReaderState) (handler : H) → IsGoing old
-      → Conversation answers old handler [] next.Line old handler
-  Conversation-nil old handler going = record {
-    inputs = [];
-    talks = (refl, refl, refl);
-    read = ReadsBytes-nil old;
-    starts = refl;
-    going = going;
-  }
-
-  pub Conversation-more : (a b c : ReaderState) (old mid new : H) (then last : Next)
-      (replies now : List (List ℕ)) (input : WithStart Line)
-      → Conversation answers a old replies then b mid → IsAsked b.endings then input.item
-      → TakesInput b input c → answers mid input.item.body now last new
-      → Conversation answers a old (replies ++ now) last c new
-  Conversation-more a b c old mid new then last replies now input talk asked takes answered =
-      let items = items_of talk.inputs in
-      let bytes = flat_map line_text items in
-      let more : items_of (talk.inputs ++ input ∷ []) ≡ items ++ input.item ∷ [] =
-      map-append (λ (span : WithStart Line). span.item) talk.inputs (input ∷ []) in
-      let joined : flat_map line_text (items_of (talk.inputs ++ input ∷ []))
-      ≡ bytes ++ line_text input.item =
-      ap (flat_map line_text) more ∙ (flat_map-append line_text items (input.item ∷ [])
-      ∙ ap (λ xs. bytes ++ xs) (append-nil (line_text input.item))) in
-      let place : input ≡ record { start = a.start + length bytes; item = input.item } =
-      ap (λ n. record { start = n; item = input.item }) (takes.start ∙ talk.read.over.start) in
-      record {
-        inputs = talk.inputs ++ input ∷ [];
-        talks = talks_more a.endings old mid new next.Line then last talk.inputs replies now
-            input talk.talks
-            (subst (λ kind. IsAsked kind then input.item) talk.read.over.endings asked) answered;
-        read = subst (λ xs. ReadsBytes a xs c) (sym joined)
-            (ReadsBytes-trans a b c bytes (line_text input.item) talk.read takes.read);
-        starts = ap (λ xs. xs ++ input ∷ []) talk.starts
-            ∙ (ap (λ (span : WithStart Line). with_starts line_size a.start items ++ span ∷ [])
-            place ∙ (sym (with_starts-append a.start items (input.item ∷ []))
-            ∙ ap (with_starts line_size a.start) (sym more)));
-        going = takes.going;
-      }
+-- each step takes bytes, or leads to the end of a line
+pub progresses : {H : Type 0} (answers : H → Line → List Reply → Next → H → Type 0)
+    (refuses : H → LineError → List Reply → Next → H → Type 0) (awaited after : Awaited)
+    (handler last : H) (old new : ChannelState) → MayStep awaited old
+    → Stepped answers refuses awaited handler old after last new → old.cursor.start < 2 ^ 64
+    → 2 * (2 ^ 64 - new.cursor.start) + rank after < 2 * (2 ^ 64 - old.cursor.start) + rank awaited
+progresses answers refuses awaited after handler last old new may t low =
+    go awaited may t.step t.is_step t.moves.start
+  where
+    go : (awaited : Awaited) → MayStep awaited old → (step : Step)
+        → IsStep answers refuses old.cursor.endings awaited handler step after last
+        → new.cursor.start ≡ old.cursor.start + length (step_bytes step)
+        → 2 * (2 ^ 64 - new.cursor.start) + rank after
+        < 2 * (2 ^ 64 - old.cursor.start) + rank awaited
+    go (Input asked) may (took input replies) (sequel, is, is_asked, told) start = omega (
+      arith,
+      start,
+      low,
+      some_bytes old.cursor.endings asked input may.1 is_asked,
+      ap rank is,
+    )
+    go (Input asked) may (rejected error replies) (sequel, is, line, more, goes, told) start = omega (
+      arith,
+      start,
+      ap rank is,
+    )
+    go (Input asked) may (skipped bytes) is_step start = absurd is_step
+    go (LineEnd asked) may (skipped bytes) (is, same, stops) start = omega (
+      arith,
+      start,
+      low,
+      stops.some,
+      ap rank is,
+    )
+    go (LineEnd asked) may (took input replies) is_step start = absurd is_step
+    go (LineEnd asked) may (rejected error replies) is_step start = absurd is_step

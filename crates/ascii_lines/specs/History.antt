@@ -1,9 +1,9 @@
 -- What the history of a sink says of the writes and flushes that came to it.
-use Rattle.std.specs.Prelude.{◌≡◌, ℕ, List, [], ◌∷◌, ◌++◌, ⊤}
+use Rattle.std.specs.Prelude.{◌≡◌, ℕ, List, [], ◌∷◌, ⊤}
 use Rattle.std.specs.declared.option.Option.{Option}
 use Rattle.ascii_devices.specs.Devices.{Grows, sent_of}
 use Rattle.ascii_devices.specs.declared.log.Event.{Event}
-use Rattle.ascii_devices.specs.declared.log.Event.TheVariants.{Flushed, Read, Received}
+use Rattle.ascii_devices.specs.declared.log.Event.TheVariants.{Read, Received}
 
 -- the device was not asked for bytes and gave none
 abbrev pub AreWrites : List Event → Type 0
@@ -16,13 +16,5 @@ AreWrites (other ∷ events) = AreWrites events
 pub record TellsSent (old new : Option (List Event)) (sent : List ℕ) : Type 0 where
   pub events : List Event
   pub grows : Grows old new events
-  pub writes : AreWrites events
-  pub noted : sent_of events ≡ sent
-
--- the history, if it is kept, grew by writes and flushes only, the last one a flush, and `sent` is
--- what was written
-pub record TellsFlushed (old new : Option (List Event)) (sent : List ℕ) : Type 0 where
-  pub events : List Event
-  pub grows : Grows old new (events ++ Flushed ∷ [])
   pub writes : AreWrites events
   pub noted : sent_of events ≡ sent

@@ -33,9 +33,9 @@ mod wanted;
 
 pub use ascii::iter::{Ending, Endings};
 pub use ascii::{AsciiChar, AsciiStr, AsciiString};
-pub use ascii_devices::{DeviceFault, Input, Output, Sink, Source};
+pub use ascii_devices::{Channel, DeviceFault, Duplex, Input, Output, Sink, Source};
 pub use line_reader::{LineError, LineReader, ReadBytes, ReadLine, ReadPart};
 pub use line_writer::{LineWriter, WriteError};
 pub use owned_lines::{Block, BlockEnd, CollectedLines, OwnedLine, collect_lines, read_block};
-pub use serving::{Handler, Next, Stop, serve};
+pub use serving::{Handler, LineChannel, Next, Replies, Stop, serve};
 pub use skipping::SkippedLine;

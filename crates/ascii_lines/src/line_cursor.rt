@@ -3,7 +3,8 @@
 
 ghost use Rattle.std.specs.Prelude.{◌≡◌, ◌↔◌, IfOk, IsTrue, false};
 ghost use Rattle.ascii_lines.specs.LineReader.{AdvancesFrom, at_end, reading_at, state_at};
-ghost use Rattle.ascii_lines.specs.Skipping.{Skips, SkipsLine};
+ghost use Rattle.ascii.specs.Endings.{any_text};
+ghost use Rattle.ascii_lines.specs.Skipping.{HasNoEnd, Skips, SkipsLine};
 ghost use Rattle.ascii_lines.specs.Wanted.{MustRead};
 ghost use Rattle.ascii_devices.specs.States.{source_state};
 
@@ -14,6 +15,7 @@ use crate::skipping::{
     whole_endings,
 };
 use crate::wanted::{Wanted, must_read, take_wanted};
+use ascii::endings::find_end;
 use ascii::iter::Endings;
 use ascii_devices::Source;
 use std::alloc::{AllocError, Allocator};
@@ -97,6 +99,21 @@ impl<A: Allocator> LineCursor<A> {
             Stage::Open => must_read(&self.buffer, wanted, self.start),
             Stage::Ended | Stage::Refused(_) => false,
         }
+    }
+
+    /// Whether no line ends in the bytes that were read and not taken. A CR or an LF by itself does not end one.
+    pub(crate) fn lacks_line_end(&self) -> bool
+        ensures { IsTrue result ↔ HasNoEnd (any_text self.now.endings) self.now.held }
+    {
+        let text = self.buffer.front(self.buffer.len());
+        find_end(whole_endings(self.endings), text, 0).is_none()
+    }
+
+    /// Whether every line was taken.
+    pub(crate) fn has_ended(&self) -> bool
+        ensures { IsTrue result ↔ (self.now.stage ≡ Stage.Ended) }
+    {
+        matches!(self.stage, Stage::Ended)
     }
 
     /// Takes the bytes of what is wanted, and returns whether there are any.

@@ -8,9 +8,13 @@ ghost use Rattle.ascii_lines.specs.LineWriter.{fresh_writer, line_with};
 ghost use Rattle.ascii_devices.specs.Buffered.{output_state};
 ghost use Rattle.ascii_lines.specs.WriteBuffer.{PutsBytes, SendsAll};
 
+use crate::line_cursor::LineCursor;
+use crate::line_reader::LineError;
+use crate::skipping::SkippedLine;
+use crate::wanted::Wanted;
 use ascii::AsciiStr;
 use ascii::iter::Ending;
-use ascii_devices::{BufferedSink, DeviceFault, Sink};
+use ascii_devices::{BufferedSink, Channel, DeviceFault, Sink};
 use memchr::memchr2;
 use std::alloc::{AllocError, Allocator, Global};
 use std::marker::Model;
@@ -140,6 +144,13 @@ impl<K: Sink, A: Allocator> LineWriter<K, A> {
         Ok(())
     }
 
+    /// Whether a call has returned `Write`.
+    pub(crate) fn is_broken(&self) -> bool
+        ensures { result ≡ self.now.state.buffer.is_broken }
+    {
+        self.buffer.is_broken()
+    }
+
     /// Passes the bytes that the writer holds to the sink and flushes it, or returns `Write` if a call of
     /// the sink failed, or `u64::MAX` calls have failed before; every later call then returns `Write`.
     ///
@@ -159,6 +170,41 @@ impl<K: Sink, A: Allocator> LineWriter<K, A> {
             Ok(()) => Ok(()),
             Err(_) => Err(WriteError::Write),
         }
+    }
+}
+
+impl<C: Channel, A: Allocator> LineWriter<C, A> {
+    ghost use Rattle.ascii_devices.specs.States.{of_state};
+    ghost use Rattle.ascii_lines.specs.LineReader.{AdvancesFrom, reading_at};
+    ghost use Rattle.ascii_lines.specs.Serve.{read_side};
+    ghost use Rattle.ascii_lines.specs.Skipping.{Skips};
+
+    /// Takes what is wanted from the other direction of the device.
+    pub(crate) fn advance<B: Allocator>(
+        &mut self,
+        cursor: &mut LineCursor<B>,
+        wanted: Wanted,
+    ) -> Result<bool, LineError>
+        ensures advances { AdvancesFrom cursor.old.stage wanted
+            (reading_at of_state cursor.old (read_side self.old.state)) result
+            (reading_at of_state cursor.new (read_side self.new.state)) }
+        ensures buffer { self.new.state.buffer ≡ self.old.state.buffer }
+    {
+        cursor.advance(&mut self.sink, wanted)
+    }
+
+    /// Reads over a line that comes from the other direction of the device.
+    pub(crate) fn skip_line<B: Allocator>(
+        &mut self,
+        cursor: &mut LineCursor<B>,
+        most: u64,
+    ) -> Result<SkippedLine, LineError>
+        ensures skips { Skips most
+            (reading_at of_state cursor.old (read_side self.old.state)) result
+            (reading_at of_state cursor.new (read_side self.new.state)) }
+        ensures buffer { self.new.state.buffer ≡ self.old.state.buffer }
+    {
+        cursor.skip_line(&mut self.sink, most)
     }
 }
 

@@ -1,18 +1,32 @@
-//! A server over lines: a handler answers each line of an input with lines.
+//! A server over lines: a handler answers each line of a channel with lines.
+//!
+//! A `LineChannel` reads lines from a device of both directions and writes replies to it. `serve` hands each line, or
+//! each part that the handler has asked for, to a `Handler`, which writes its replies and says what it asks for next.
+//! Replies are sent when the channel has to read its device before it can go on: so no reply waits for bytes that a
+//! client sends only after it, and requests that come together are answered by one write.
 
-ghost use Rattle.std.specs.Prelude.{◌≡◌, [], IfErr, IfOk};
+ghost use Rattle.std.specs.Prelude.{if◌then◌else◌, ◌≡◌, ◌-◌, ◌^◌, ◌∷◌, [], IfOk, IsTrue, List};
+ghost use Rattle.std.specs.Prelude.{Err, Ok, false};
+ghost use Rattle.std.specs.Str.{IsAscii};
 ghost use Rattle.ascii.specs.View.{text_of};
-ghost use Rattle.ascii_lines.specs.LineReader.{IsOpen};
-ghost use Rattle.ascii_lines.specs.LineWriter.{IsReady, WritesBytes};
-ghost use Rattle.ascii_lines.specs.Serve.{IsGoing, IsRequest, SendsBytes, Serves};
-ghost use Rattle.ascii_lines.specs.Serve.{TurnOutcome, WritesReplies, reply_texts};
+ghost use Rattle.ascii_lines.specs.LineWriter.{line_with};
+ghost use Rattle.ascii_lines.specs.LineReader.{read_line_in};
+ghost use Rattle.ascii_lines.specs.Serve.{GoesOn, Halts, IsInputOf, IsRequest, IsUp, Reply, Says};
+ghost use Rattle.ascii_lines.specs.Serve.{SaysLine, is_unbroken, line_reply};
+ghost use Rattle.ascii_lines.specs.Serve.{SaysPart, SendsOut, Serves, asked_by};
+ghost use Rattle.ascii_lines.specs.Wanted.{IsOne};
 
-use crate::line_reader::{LineError, LineReader};
+use crate::line_cursor::LineCursor;
+use crate::line_reader::{LineError, ReadLine, line_at};
 use crate::line_writer::{LineWriter, WriteError};
-use ascii::iter::Ending;
-use ascii::{AsciiStr, AsciiString};
-use ascii_devices::{Sink, Source};
+use crate::skipping::{SkippedLine, is_final};
+use crate::wanted::Wanted;
+use ascii::iter::{Ending, Endings};
+use ascii::{AsciiStr, bytes};
+use ascii_devices::{Channel, Sink};
+use memchr::memchr2;
 use std::alloc::{AllocError, Allocator, Global};
+use std::marker::Model;
 
 /// What a handler asks for after an answer.
 #[derive(Clone, Copy, PartialEq, Eq, Debug)]
@@ -31,173 +45,543 @@ pub enum Next {
 pub enum Stop {
     /// The handler closed it.
     Closed,
-    /// The handler asked for a line, and there are no more.
+    /// The handler asked for a line, and there are no more; or the input ended in a line that was rejected.
     EndOfInput,
-    /// The reader returned this error in place of the line or part that the handler asked for.
+    /// The input had this error. The handler was told of it, and closed or cannot go on; or it had asked for the
+    /// next line after one that was rejected, and the rest of that line had this error.
     Reader(LineError),
-    /// The writer returned this error.
-    Writer(WriteError),
-    /// An allocation of the handler failed.
-    Memory,
+    /// The device failed to take the replies, or has failed `u64::MAX` times before.
+    Writer,
 }
 
-/// What answers the lines of an input.
+/// What a conversation awaits.
+#[derive(Clone, Copy)]
+pub(crate) enum Awaited {
+    /// What the handler has asked for.
+    Input(Next),
+    /// The end of a line that was rejected, and then what the handler has asked for.
+    LineEnd(Next),
+}
+
+/// What was taken of the input.
+pub(crate) enum Taken {
+    /// The bytes of what was wanted.
+    Input,
+    /// Nothing: there are no more lines.
+    End,
+    /// Nothing: there is this error in place of what was wanted.
+    Fault(LineError),
+}
+
+/// Where a handler writes its replies: lines with the ending of the conversation, and parts. If the
+/// device fails, nothing more is written, and the conversation stops after the answer.
+#[derive(Drop)]
+pub struct Replies<K: Sink, A: Allocator = Global> {
+    writer: LineWriter<K, A>,
+    ending: Ending,
+}
+
+impl<K: Sink, A: Allocator> Model for Replies<K, A> {
+    ghost use Rattle.ascii_lines.specs.Serve.{Saying};
+
+    ghost Value = { Saying K };
+
+    ghost view = { λ r. record {
+      sink = r.writer.sink;
+      state = r.writer.state;
+      ending = r.ending;
+    } };
+}
+
+impl<K: Sink, A: Allocator> Replies<K, A> {
+    /// Returns replies that go to this writer, of which the lines have this ending. `serve` makes them; it is for
+    /// handlers that are asked without a server.
+    ///
+    ///     let writer = LineWriter::new(alloc, Output::new(Vec::new(alloc)), 64)?;
+    ///     let mut replies = Replies::new(writer, Ending::Lf);
+    ///     Echo.answer(view("ab"), Ending::Lf, &mut replies) // Line
+    ///     let mut writer = replies.into_writer();
+    ///     writer.flush() // Ok(())
+    ///     writer.into_sink().into_inner() // [97, 98, 10]
+    pub fn new(writer: LineWriter<K, A>, ending: Ending) -> Replies<K, A>
+        ensures state { result.state ≡ writer.state }
+        ensures sink { result.sink ≡ writer.sink }
+        ensures ending { result.ending ≡ ending }
+    {
+        Replies { writer, ending }
+    }
+
+    /// Returns the writer, which may hold replies.
+    ///
+    ///     let writer = LineWriter::new(alloc, Output::new(Vec::new(alloc)), 64)?;
+    ///     Replies::new(writer, Ending::Lf).into_writer().into_sink().into_inner() // []
+    pub fn into_writer(self) -> LineWriter<K, A>
+        ensures state { result.state ≡ self.state }
+        ensures sink { result.sink ≡ self.sink }
+    {
+        self.writer
+    }
+
+    /// Writes a reply as a line, or returns the index of its first CR or LF, counted from 0; then nothing is
+    /// written. If the device has failed, nothing is written either, and the result is the same.
+    ///
+    ///     let writer = LineWriter::new(alloc, Output::new(Vec::new(alloc)), 64)?;
+    ///     let mut replies = Replies::new(writer, Ending::Lf);
+    ///     replies.line(view("ab")) // Ok(())
+    ///     replies.line(view("a\nb")) // Err(1)
+    pub fn line(&mut self, body: AsciiStr<'_>) -> Result<(), usize>
+        ensures { SaysLine self.old (text_of body.entry) result self.new }
+    {
+        match self.writer.write_line(body, self.ending) {
+            Ok(()) => Ok(()),
+            Err(WriteError::LineBreak(place)) => Err(place),
+            Err(WriteError::Write) => match memchr2(b'\r', b'\n', body.as_bytes()) {
+                Some(place) => Err(place),
+                None => Ok(()),
+            },
+        }
+    }
+
+    /// Writes a reply as a line. If the device has failed, nothing is written. It is for replies that are written down
+    /// in the program, of which the check sees that they have no break.
+    ///
+    /// Condition: the body has no CR and no LF.
+    ///
+    ///     let writer = LineWriter::new(alloc, Output::new(Vec::new(alloc)), 64)?;
+    ///     let mut replies = Replies::new(writer, Ending::CrLf);
+    ///     replies.fixed_line(AsciiStr::literal("ok"));
+    ///     let mut writer = replies.into_writer();
+    ///     writer.flush() // Ok(())
+    ///     writer.into_sink().into_inner() // [111, 107, 13, 10]
+    pub fn fixed_line(&mut self, body: AsciiStr<'_>)
+        requires { IsTrue (is_unbroken (text_of body)) }
+        ensures { Says self.old (line_reply (text_of body.entry) ∷ []) self.new }
+    {
+        let _ = self.line(body);
+    }
+
+    /// Writes a reply as it is, with each CR and LF in it. If the device has failed, nothing is written.
+    ///
+    ///     let writer = LineWriter::new(alloc, Output::new(Vec::new(alloc)), 64)?;
+    ///     let mut replies = Replies::new(writer, Ending::CrLf);
+    ///     replies.part(view("a\nb"));
+    ///     let mut writer = replies.into_writer();
+    ///     writer.flush() // Ok(())
+    ///     writer.into_sink().into_inner() // [97, 10, 98]
+    pub fn part(&mut self, text: AsciiStr<'_>)
+        ensures { SaysPart self.old (text_of text.entry) self.new }
+    {
+        let _ = self.writer.write_part(text);
+    }
+
+    /// Writes a reply as a line, with each CR and LF in it, as a protocol does that announces the length. If the device
+    /// has failed, nothing is written.
+    ///
+    ///     let writer = LineWriter::new(alloc, Output::new(Vec::new(alloc)), 64)?;
+    ///     let mut replies = Replies::new(writer, Ending::CrLf);
+    ///     replies.text(view("a\nb"));
+    ///     let mut writer = replies.into_writer();
+    ///     writer.flush() // Ok(())
+    ///     writer.into_sink().into_inner() // [97, 10, 98, 13, 10]
+    pub fn text(&mut self, text: AsciiStr<'_>)
+        ensures { Says self.old (line_reply (text_of text.entry) ∷ []) self.new }
+    {
+        self.part(text);
+        self.fixed_line(AsciiStr::literal(""));
+    }
+
+    /// Whether the device has failed.
+    fn is_broken(&self) -> bool
+        ensures { result ≡ self.now.state.buffer.is_broken }
+    {
+        self.writer.is_broken()
+    }
+
+    /// Sends what was written.
+    fn flush(&mut self) -> Result<(), WriteError>
+        ensures { SendsOut self.old result self.new }
+    {
+        self.writer.flush()
+    }
+}
+
+impl<C: Channel, A: Allocator> Replies<C, A> {
+    ghost use Rattle.ascii_devices.specs.States.{of_state};
+    ghost use Rattle.ascii_lines.specs.LineReader.{AdvancesFrom, reading_at};
+    ghost use Rattle.ascii_lines.specs.Serve.{ReadsBeside, read_side};
+    ghost use Rattle.ascii_lines.specs.Skipping.{Skips};
+
+    /// Takes what is wanted from the device.
+    fn advance<B: Allocator>(
+        &mut self,
+        cursor: &mut LineCursor<B>,
+        wanted: Wanted,
+    ) -> Result<bool, LineError>
+        ensures advances { AdvancesFrom cursor.old.stage wanted
+            (reading_at of_state cursor.old (read_side self.old.state)) result
+            (reading_at of_state cursor.new (read_side self.new.state)) }
+        ensures beside { ReadsBeside self.old self.new }
+    {
+        self.writer.advance(cursor, wanted)
+    }
+
+    /// Reads over a line that comes from the device.
+    fn skip_line<B: Allocator>(
+        &mut self,
+        cursor: &mut LineCursor<B>,
+    ) -> Result<SkippedLine, LineError>
+        ensures skips { Skips (2 ^ 64 - 1)
+            (reading_at of_state cursor.old (read_side self.old.state)) result
+            (reading_at of_state cursor.new (read_side self.new.state)) }
+        ensures beside { ReadsBeside self.old self.new }
+    {
+        self.writer.skip_line(cursor, u64::MAX)
+    }
+}
+
+/// What answers the lines of a channel.
 pub trait Handler {
     ghost use Rattle.std.specs.Prelude.{List, ℕ};
+    ghost use Rattle.ascii.specs.Lines.{Line};
+    ghost use Rattle.ascii_lines.specs.declared.line_reader.LineError.{LineError};
     ghost use Rattle.ascii_lines.specs.declared.serving.Next.{Next};
+    ghost use Rattle.ascii_lines.specs.Serve.{Reply};
 
-    // In a state, to a text, these replies may be given, this asked for next, and this state left.
-    ghost answers: { Self → List ℕ → List (List ℕ) → Next → Self → Type 0 };
+    // In a state, to a line or a part, which has no ending, these replies may be given, this asked for next, and
+    // this state left.
+    ghost answers: { Self → Line → List Reply → Next → Self → Type 0 };
 
-    /// Answers a line without its ending, or a part: appends the replies, each a line without its ending,
-    /// and returns what it asks for next. Returns an error if an allocation fails.
+    // In a state, to an error in place of what was asked for, these replies may be given, this asked for next, and
+    // this state left.
+    ghost refuses: { Self → LineError → List Reply → Next → Self → Type 0 };
+
+    /// Answers a line without its ending, or a part, and returns what it asks for next. The last line of the input
+    /// may have the ending `Absent`, as each part has. A part that is asked for has at least one byte.
     ///
-    /// Condition: `replies` is empty. A part that is asked for has at least one byte.
+    /// In the examples, `Echo` is a handler that replies with the text that it is handed, and to an error with `no`.
     ///
-    /// In the example, `Echo` is a handler that replies with the text that it is handed.
-    ///
-    ///     let mut replies = Vec::new(alloc);
-    ///     Echo.answer(alloc, view("ab"), &mut replies) // Ok(Line)
-    ///     replies.len() // 1
-    fn answer(
+    ///     let writer = LineWriter::new(alloc, Output::new(Vec::new(alloc)), 64)?;
+    ///     let mut replies = Replies::new(writer, Ending::CrLf);
+    ///     Echo.answer(view("ab"), Ending::CrLf, &mut replies) // Line
+    ///     let mut writer = replies.into_writer();
+    ///     writer.flush() // Ok(())
+    ///     writer.into_sink().into_inner() // [97, 98, 13, 10]
+    fn answer<K: Sink, A: Allocator>(
         &mut self,
-        alloc: Global,
         text: AsciiStr<'_>,
-        replies: &mut Vec<AsciiString>,
-    ) -> Result<Next, AllocError>
-        requires { replies.old.items ≡ [] }
-        ensures answers { IfOk result (λ next. answers self.old (text_of text.entry)
-            (reply_texts replies.new.items) next self.new) }
-        ensures request { IfOk result IsRequest };
+        ending: Ending,
+        replies: &mut Replies<K, A>,
+    ) -> Next
+        ensures answers { (said : List Reply) × Says replies.old said replies.new
+            × answers self.old (line_with text.entry ending) said result self.new }
+        ensures request { IsRequest result };
+
+    /// Answers an error that came in place of what was asked for, and returns what it asks for next. After
+    /// `NotAscii`, `LoneBreak` or `TooLong` in place of a line, the rest of that line is skipped, and the conversation
+    /// goes on unless the handler closes it. After any other error, and after an error in place of a part, it ends.
+    ///
+    ///     let device = Duplex::new(b"a\n\xff\n".as_slice(), Vec::new(alloc));
+    ///     let mut lines = LineChannel::new(alloc, device, 64, Endings::Any, Ending::Lf)?;
+    ///     serve(&mut lines, &mut Echo) // Reader(NotAscii(2))
+    ///     let (_, output) = lines.into_device().into_parts();
+    ///     output.into_inner() // [97, 10, 110, 111, 10]
+    fn refuse<K: Sink, A: Allocator>(
+        &mut self,
+        error: LineError,
+        replies: &mut Replies<K, A>,
+    ) -> Next
+        ensures refuses { (said : List Reply) × Says replies.old said replies.new
+            × refuses self.old error said result self.new }
+        ensures request { IsRequest result };
 }
 
-/// Answers an input line by line, up to its end, an error, or until the handler closes; and returns why it
-/// stopped. The handler is asked for an answer to each line, or to each part that it has asked for; its
-/// replies are written with this ending, in order, and flushed after each answer.
-///
-/// What went to the sink, after the bytes that the writer held before, is the replies to the first
-/// lines and parts of the input, all of them unless the writer failed; then it is a prefix of them. If a
-/// reply has CR or LF, it is the replies before that one. The handler's `answers` holds of each of them.
-///
-/// Condition: the reader is open: it has not returned `None`, a line without an ending, or an error; or `skip_line`
-/// has read over the line of that error up to its ending.
-/// No call of the writer has returned `Write`.
-///
-/// In the example, `Echo` is a handler that replies with the text that it is handed.
-///
-///     let source = Input::new(b"a\r\nb".as_slice());
-///     let mut reader = LineReader::new(alloc, source, 64, Endings::Any)?;
-///     let mut writer = LineWriter::new(alloc, Output::new(Vec::new(alloc)), 64)?;
-///     serve(alloc, &mut reader, &mut writer, Ending::Lf, &mut Echo) // EndOfInput
-///     writer.into_sink().into_inner() // [97, 10, 98, 10]
-pub fn serve<S: Source, K: Sink, H: Handler, A: Allocator, B: Allocator>(
-    alloc: Global,
-    reader: &mut LineReader<S, A>,
-    writer: &mut LineWriter<K, B>,
-    ending: Ending,
-    handler: &mut H,
-) -> Stop
-    requires reader { IsOpen reader.old }
-    requires writer { IsReady writer.old }
-    ensures { Serves H.answers SendsBytes ending reader.old.state writer.old.state
-        handler.old result reader.new.state writer.new.state handler.new }
-{
-    let stop = converse(alloc, reader, writer, ending, handler);
-    match writer.flush() {
-        Ok(()) => stop,
-        Err(error) => Stop::Writer(error),
+/// Lines over a device of both directions, through one buffer of fixed size for each direction.
+#[derive(Drop)]
+pub struct LineChannel<C: Channel, A: Allocator = Global> {
+    cursor: LineCursor<A>,
+    replies: Replies<C, A>,
+}
+
+impl<C: Channel, A: Allocator> Model for LineChannel<C, A> {
+    ghost use Rattle.ascii_lines.specs.Serve.{Conversing};
+
+    ghost Value = { Conversing C };
+
+    ghost view = { λ c. record {
+      device = c.replies.sink;
+      state = record {
+        cursor = c.cursor;
+        output = c.replies.state;
+        ending = c.replies.ending;
+      };
+    } };
+}
+
+impl<C: Channel> LineChannel<C> {
+    ghost use Rattle.ascii_lines.specs.Serve.{fresh_channel};
+
+    /// Creates a channel of lines over a device, with a buffer of `size` bytes for each direction, or returns an
+    /// error if an allocation fails; the device is then dropped. No later call allocates. These endings end the
+    /// lines that come, and this ending the lines that go.
+    ///
+    ///     let device = Duplex::new(b"ab\r\n".as_slice(), Vec::new(alloc));
+    ///     let lines = LineChannel::new(alloc, device, 64, Endings::CrLfStrict, Ending::CrLf)?;
+    ///     lines.position() // 0
+    pub fn new(
+        alloc: Global,
+        device: C,
+        size: usize,
+        endings: Endings,
+        ending: Ending,
+    ) -> Result<LineChannel<C>, AllocError>
+    where
+        C: Drop,
+        ensures fresh { IfOk result (λ lines.
+            lines.state ≡ fresh_channel size endings ending C.Sink device) }
+        ensures device { IfOk result (λ lines. lines.device ≡ device) }
+    {
+        let cursor = LineCursor::new(alloc, size, endings)?;
+        let writer = LineWriter::new(alloc, device, size)?;
+        Ok(LineChannel {
+            cursor,
+            replies: Replies::new(writer, ending),
+        })
     }
 }
 
-/// Answers an input line by line, and writes the replies.
-fn converse<S: Source, K: Sink, H: Handler, A: Allocator, B: Allocator>(
-    alloc: Global,
-    reader: &mut LineReader<S, A>,
-    writer: &mut LineWriter<K, B>,
-    ending: Ending,
+impl<C: Channel, A: Allocator> LineChannel<C, A> {
+    ghost use Rattle.ascii_lines.specs.Serve.{Finishes, Greets, IsWantedAt, MaySkip, MayStep};
+    ghost use Rattle.ascii_lines.specs.Serve.{Prepares, SkipOutcome, TakeOutcome, StepOutcome};
+
+    /// Writes a line before a conversation, or returns an error as `LineWriter::write_line` does. `serve` sends it
+    /// before it reads.
+    ///
+    ///     let device = Duplex::new(b"".as_slice(), Vec::new(alloc));
+    ///     let mut lines = LineChannel::new(alloc, device, 64, Endings::Any, Ending::Lf)?;
+    ///     lines.greet(view("hi")) // Ok(())
+    ///     serve(&mut lines, &mut Echo) // EndOfInput
+    ///     let (_, output) = lines.into_device().into_parts();
+    ///     output.into_inner() // [104, 105, 10]
+    pub fn greet(&mut self, body: AsciiStr<'_>) -> Result<(), WriteError>
+        ensures { Greets self.old (text_of body.entry) result self.new }
+    {
+        self.replies.writer.write_line(body, self.replies.ending)
+    }
+
+    /// Returns the device. Bytes that the channel has read, and replies that it has not sent, are lost.
+    ///
+    ///     let device = Duplex::new(b"ab".as_slice(), Vec::new(alloc));
+    ///     let lines = LineChannel::new(alloc, device, 64, Endings::Any, Ending::Lf)?;
+    ///     let (input, _) = lines.into_device().into_parts();
+    ///     input.into_inner() // [97, 98]
+    pub fn into_device(self) -> C
+        ensures { result ≡ self.device }
+    {
+        self.replies.writer.into_sink()
+    }
+
+    /// Returns the position in the input at which the next line or part starts, counted from 0. After an
+    /// error it is that of the line or part at fault; after an error in the rest of a line that was rejected, the
+    /// one after the bytes of it that were skipped.
+    ///
+    ///     let device = Duplex::new(b"a\r\nb".as_slice(), Vec::new(alloc));
+    ///     let mut lines = LineChannel::new(alloc, device, 64, Endings::Any, Ending::Lf)?;
+    ///     serve(&mut lines, &mut Echo) // EndOfInput
+    ///     lines.position() // 4
+    pub fn position(&self) -> u64
+        ensures { result ≡ self.now.state.cursor.start }
+    {
+        self.cursor.start()
+    }
+
+    /// Hands the handler what is awaited.
+    fn step<H: Handler>(&mut self, handler: &mut H, awaited: Awaited) -> Result<Awaited, Stop>
+        requires { MayStep awaited self.old.state }
+        ensures { StepOutcome H.answers H.refuses awaited handler.old self.old.state result
+            handler.new self.new.state }
+    {
+        match awaited {
+            Awaited::Input(next) => self.asked_step(handler, next),
+            Awaited::LineEnd(next) => self.skip_step(next),
+        }
+    }
+
+    /// Hands the handler what it asks for.
+    fn asked_step<H: Handler>(&mut self, handler: &mut H, next: Next) -> Result<Awaited, Stop>
+        requires up { IsUp self.old.state }
+        requires request { IsRequest next }
+        ensures { StepOutcome H.answers H.refuses (Awaited.Input next) handler.old self.old.state
+            result handler.new self.new.state }
+    {
+        match next {
+            Next::Line => {
+                let endings = self.cursor.endings();
+                self.input_step(handler, Wanted::Line(endings))
+            }
+            Next::Part(n) => self.input_step(handler, Wanted::Part(n)),
+            Next::Close => Err(Stop::Closed),
+        }
+    }
+
+    /// Hands the handler what is wanted, or tells it of the error in its place.
+    fn input_step<H: Handler>(&mut self, handler: &mut H, wanted: Wanted) -> Result<Awaited, Stop>
+        requires up { IsUp self.old.state }
+        requires wanted { IsWantedAt self.old.state wanted }
+        ensures { StepOutcome H.answers H.refuses (Awaited.Input (asked_by wanted)) handler.old
+            self.old.state result handler.new self.new.state }
+    {
+        let start = self.cursor.start();
+        match self.take(wanted)? {
+            Taken::Input => {
+                let input = input_at(wanted, start, self.cursor.line_bytes());
+                let next = handler.answer(input.text, input.ending, &mut self.replies);
+                unless_broken(self.replies.is_broken(), Awaited::Input(next))
+            }
+            Taken::End => Err(Stop::EndOfInput),
+            Taken::Fault(error) => {
+                let next = handler.refuse(error, &mut self.replies);
+                let awaited = after_error(wanted, error, next)?;
+                unless_broken(self.replies.is_broken(), awaited)
+            }
+        }
+    }
+
+    /// Takes the bytes of what is wanted. Replies are sent before the device is read. The only error is
+    /// `Writer`.
+    fn take(&mut self, wanted: Wanted) -> Result<Taken, Stop>
+        requires up { IsUp self.old.state }
+        requires wanted { IsWantedAt self.old.state wanted }
+        ensures { TakeOutcome wanted self.old.state result self.new.state }
+    {
+        let waits = self.cursor.waits(wanted);
+        self.prepare(waits)?;
+        Ok(match self.replies.advance(&mut self.cursor, wanted) {
+            Ok(true) => Taken::Input,
+            Ok(false) => Taken::End,
+            Err(error) => Taken::Fault(error),
+        })
+    }
+
+    /// Reads over a line that was rejected. Replies are sent before the device is read.
+    fn skip_step(&mut self, next: Next) -> Result<Awaited, Stop>
+        requires { MaySkip self.old.state }
+        ensures { SkipOutcome next self.old.state result self.new.state }
+    {
+        let waits = self.cursor.lacks_line_end();
+        self.prepare(waits)?;
+        match self.replies.skip_line(&mut self.cursor) {
+            Ok(_) if self.cursor.has_ended() => Err(Stop::EndOfInput),
+            Ok(_) => Ok(Awaited::Input(next)),
+            Err(error) => Err(Stop::Reader(error)),
+        }
+    }
+
+    /// Sends the replies if the device will be read.
+    fn prepare(&mut self, waits: bool) -> Result<(), Stop>
+        requires { self.old.state.output.buffer.is_broken ≡ false }
+        ensures { Prepares waits self.old.state result self.new.state }
+    {
+        if waits && self.replies.flush().is_err() {
+            return Err(Stop::Writer);
+        }
+        Ok(())
+    }
+
+    /// Sends the replies after a conversation that stopped for this reason, and returns why it did.
+    fn finish(&mut self, stop: Stop) -> Stop
+        ensures { Finishes stop self.old.state result self.new.state }
+    {
+        match self.replies.flush() {
+            Ok(()) => stop,
+            Err(_) => Stop::Writer,
+        }
+    }
+}
+
+/// Answers the lines of a channel one by one, up to the end of its input, an error, or until the handler
+/// closes; and returns why it stopped.
+///
+/// The handler is asked for an answer to each line, or to each part that it has asked for, and is told of each error in
+/// their place. Replies go out in order. At each read of the device, every complete line, part and fault that came
+/// before has been answered, and every reply, with what the channel held before, has been sent and flushed; so it is
+/// when the conversation stops, unless the device failed to take them. Then the device has taken a prefix of the
+/// replies, nothing more is read, and the handler is not asked again.
+///
+/// Condition: the channel has not stopped at an error.
+///
+/// In the example, `Echo` is a handler that replies with the text that it is handed, and to an error with `no`.
+///
+///     let device = Duplex::new(b"a\r\nb".as_slice(), Vec::new(alloc));
+///     let mut lines = LineChannel::new(alloc, device, 64, Endings::Any, Ending::Lf)?;
+///     serve(&mut lines, &mut Echo) // EndOfInput
+///     let (_, output) = lines.into_device().into_parts();
+///     output.into_inner() // [97, 10, 98, 10]
+pub fn serve<C: Channel, H: Handler, A: Allocator>(
+    lines: &mut LineChannel<C, A>,
     handler: &mut H,
 ) -> Stop
-    requires reader { IsOpen reader.old }
-    requires writer { IsReady writer.old }
-    ensures { Serves H.answers WritesBytes ending reader.old.state writer.old.state
-        handler.old result reader.new.state writer.new.state handler.new }
+    requires { IsUp lines.old.state }
+    ensures { Serves H.answers H.refuses lines.old.state handler.old result lines.new.state
+        handler.new }
 {
-    let mut next = Next::Line;
-    'turns: loop {
-        let _position = reader.position();
-        let mut replies = Vec::new(alloc);
-        let then = match turn(alloc, reader, handler, next, &mut replies) {
-            Ok(then) => then,
+    let stop = converse(lines, handler);
+    lines.finish(stop)
+}
+
+/// Answers the lines of a channel one by one. The last replies may not have been sent.
+fn converse<C: Channel, H: Handler, A: Allocator>(
+    lines: &mut LineChannel<C, A>,
+    handler: &mut H,
+) -> Stop
+    requires { IsUp lines.old.state }
+    ensures { Halts H.answers H.refuses lines.old.state handler.old result lines.new.state
+        handler.new }
+{
+    let mut awaited = Awaited::Input(Next::Line);
+    'steps: loop {
+        let _start = lines.position();
+        match lines.step(handler, awaited) {
+            Ok(then) => awaited = then,
             Err(stop) => return stop,
-        };
-        if let Err(error) = write_replies(writer, &replies, ending) {
-            return Stop::Writer(error);
-        }
-        next = then;
-    }
-}
-
-/// Writes replies and flushes the writer.
-fn write_replies<K: Sink, B: Allocator>(
-    writer: &mut LineWriter<K, B>,
-    replies: &[AsciiString],
-    ending: Ending,
-) -> Result<(), WriteError>
-    requires { IsReady writer.old }
-    ensures { WritesReplies WritesBytes ending writer.old.state
-        (reply_texts replies.now) result writer.new.state }
-{
-    for reply in replies {
-        if let Err(error) = writer.write_line(reply.as_ascii_str(), ending) {
-            return Err(error);
         }
     }
-    writer.flush()
 }
 
-/// Hands the handler what it asks for.
-fn turn<S: Source, A: Allocator, H: Handler>(
-    alloc: Global,
-    reader: &mut LineReader<S, A>,
-    handler: &mut H,
-    next: Next,
-    replies: &mut Vec<AsciiString>,
-) -> Result<Next, Stop>
-    requires going { IsGoing reader.old.state }
-    requires empty { replies.old.items ≡ [] }
-    ensures outcome { TurnOutcome H.answers next handler.old reader.old.state
-        (reply_texts replies.new.items) result handler.new reader.new.state }
-    ensures request { IfOk result IsRequest }
+/// The line or part of these bytes.
+fn input_at(wanted: Wanted, start: u64, bytes: &[u8]) -> ReadLine<'_>
+    requires ascii { IsAscii bytes.now }
+    requires one { IsOne wanted bytes.now }
+    ensures { IsInputOf wanted bytes.now (read_line_in result).item }
 {
-    match next {
-        Next::Line => match reader.next_line() {
-            Ok(Some(line)) => answer_text(alloc, handler, line.text, replies),
-            Ok(None) => Err(Stop::EndOfInput),
-            Err(error) => Err(Stop::Reader(error)),
+    match wanted {
+        Wanted::Line(endings) | Wanted::Bytes(endings) => line_at(endings, start, bytes),
+        Wanted::Part(_) => ReadLine {
+            start,
+            text: bytes::as_ascii_str_unchecked(bytes),
+            ending: Ending::Absent,
         },
-        Next::Part(n) => match reader.read_exact_part(n) {
-            Ok(part) => answer_text(alloc, handler, part.text, replies),
-            Err(error) => Err(Stop::Reader(error)),
-        },
-        Next::Close => Err(Stop::Closed),
     }
 }
 
-/// Hands the handler a text. The only error is `Memory`.
-fn answer_text<H: Handler>(
-    alloc: Global,
-    handler: &mut H,
-    text: AsciiStr<'_>,
-    replies: &mut Vec<AsciiString>,
-) -> Result<Next, Stop>
-    requires { replies.old.items ≡ [] }
-    ensures answers { IfOk result (λ next. H.answers handler.old (text_of text.entry)
-        (reply_texts replies.new.items) next handler.new) }
-    ensures request { IfOk result IsRequest }
-    ensures memory { IfErr result (λ stop. stop ≡ Stop.Memory) }
+/// What is awaited after an error in place of what was wanted, or why the conversation stops.
+fn after_error(wanted: Wanted, error: LineError, next: Next) -> Result<Awaited, Stop>
+    ensures { GoesOn wanted error next result }
 {
-    match handler.answer(alloc, text, replies) {
-        Ok(next) => Ok(next),
-        Err(AllocError) => Err(Stop::Memory),
+    match (wanted, next) {
+        (Wanted::Line(_) | Wanted::Bytes(_), Next::Line | Next::Part(_)) if !is_final(error) => {
+            Ok(Awaited::LineEnd(next))
+        }
+        _ => Err(Stop::Reader(error)),
+    }
+}
+
+/// What is awaited, unless the device has failed.
+fn unless_broken(is_broken: bool, awaited: Awaited) -> Result<Awaited, Stop>
+    ensures { result ≡ if is_broken then Err Stop.Writer else Ok awaited }
+{
+    if is_broken {
+        Err(Stop::Writer)
+    } else {
+        Ok(awaited)
     }
 }

@@ -3,16 +3,16 @@
 
 mod register;
 
-use ascii_lines::{Ending, Endings, Input, LineReader, LineWriter, Output, serve};
+use ascii_lines::{Duplex, Ending, Endings, LineChannel, serve};
 use register::Register;
 use std::io;
 
 fn main(rt: HostRuntime) -> io::Result<()> {
     let alloc = rt.alloc();
-    let mut reader = LineReader::new(alloc, Input::new(rt.stdin()), 4096, Endings::Any)?;
-    let mut writer = LineWriter::new(alloc, Output::new(rt.stdout()), 4096)?;
+    let device = Duplex::new(rt.stdin(), rt.stdout());
+    let mut lines = LineChannel::new(alloc, device, 4096, Endings::Any, Ending::Lf)?;
     let mut register = Register::new(alloc);
-    let stop = serve(alloc, &mut reader, &mut writer, Ending::Lf, &mut register);
+    let stop = serve(&mut lines, &mut register);
     eprintln!(rt; "{stop:?}")?;
     Ok(())
 }

@@ -1,14 +1,38 @@
 //! A register: `GET` replies with the line that is kept, `QUIT` closes, and any other line is kept.
 
-ghost use Rattle.std.specs.Prelude.{◌≡◌, []};
+ghost use Rattle.std.specs.Prelude.{◌≡◌, [], ◌∷◌};
+ghost use Rattle.ascii.specs.View.{text_of};
+ghost use Rattle.ascii_lines.specs.Serve.{IsRequest, Says, line_reply};
+ghost use Rattle.example_register.specs.Register.{Answers, replies_to};
 
-use ascii::{AsciiStr, AsciiString, bytes};
-use ascii_lines::{Handler, Next};
-use std::alloc::{AllocError, Global};
+use ascii::{AsciiStr, AsciiString};
+use ascii_lines::{Ending, Handler, LineError, Next, Replies, Sink};
+use std::alloc::{Allocator, Global};
+
+/// A reply to a line.
+#[derive(Clone, Copy)]
+enum Reply {
+    /// The line that is kept.
+    Kept,
+    /// The line is kept from now on.
+    Done,
+    /// There is no memory for the line.
+    Busy,
+    /// The conversation is over.
+    Bye,
+}
+
+/// What is done with a line: the reply to it, and what is asked for next.
+#[derive(Clone, Copy)]
+struct Plan {
+    reply: Reply,
+    next: Next,
+}
 
 /// The line that is kept.
 #[derive(Drop)]
 pub struct Register {
+    alloc: Global,
     kept: AsciiString,
 }
 
@@ -18,33 +42,79 @@ impl Register {
         ensures { result.kept.text ≡ [] }
     {
         Register {
+            alloc,
             kept: AsciiString::new(alloc),
+        }
+    }
+
+    /// Takes a line, and says what to do.
+    fn plan(&mut self, text: AsciiStr<'_>) -> Plan
+        ensures plan { Answers self.old.kept.text (text_of text.entry)
+            (replies_to result.reply self.new.kept.text) result.next self.new.kept.text }
+        ensures request { IsRequest result.next }
+    {
+        if text.eq_bytes(b"GET") {
+            return Plan {
+                reply: Reply::Kept,
+                next: Next::Line,
+            };
+        }
+        if text.eq_bytes(b"QUIT") {
+            return Plan {
+                reply: Reply::Bye,
+                next: Next::Close,
+            };
+        }
+        let mut reply = Reply::Busy;
+        if let Ok(line) = text.to_ascii_string(self.alloc) {
+            self.kept = line;
+            reply = Reply::Done;
+        }
+        Plan {
+            reply,
+            next: Next::Line,
+        }
+    }
+
+    /// Writes a reply.
+    fn say<K: Sink, A: Allocator>(&self, reply: Reply, replies: &mut Replies<K, A>)
+        ensures { Says replies.old (replies_to reply self.now.kept.text) replies.new }
+    {
+        match reply {
+            Reply::Kept => replies.text(self.kept.as_ascii_str()),
+            Reply::Done => replies.fixed_line(AsciiStr::literal("OK")),
+            Reply::Busy => replies.fixed_line(AsciiStr::literal("BUSY")),
+            Reply::Bye => replies.fixed_line(AsciiStr::literal("BYE")),
         }
     }
 }
 
 impl Handler for Register {
-    ghost use Rattle.example_register.specs.Register.{Answers};
+    ghost use Rattle.example_register.specs.Register.{Answers, Refuses};
 
-    ghost answers = { λ old text replies next new.
-        Answers old.kept.text text replies next new.kept.text };
+    ghost answers = { λ old input replies next new.
+        Answers old.kept.text input.body replies next new.kept.text };
 
-    fn answer(
+    ghost refuses = { λ old error replies next new.
+        Refuses old.kept.text replies next new.kept.text };
+
+    fn answer<K: Sink, A: Allocator>(
         &mut self,
-        alloc: Global,
         text: AsciiStr<'_>,
-        replies: &mut Vec<AsciiString>,
-    ) -> Result<Next, AllocError> {
-        if text.eq_bytes(b"GET") {
-            replies.push(self.kept.as_ascii_str().to_ascii_string(alloc)?)?;
-            Ok(Next::Line)
-        } else if text.eq_bytes(b"QUIT") {
-            replies.push(bytes::as_ascii_str_unchecked(b"BYE").to_ascii_string(alloc)?)?;
-            Ok(Next::Close)
-        } else {
-            self.kept = text.to_ascii_string(alloc)?;
-            replies.push(bytes::as_ascii_str_unchecked(b"OK").to_ascii_string(alloc)?)?;
-            Ok(Next::Line)
-        }
+        _ending: Ending,
+        replies: &mut Replies<K, A>,
+    ) -> Next {
+        let plan = self.plan(text);
+        self.say(plan.reply, replies);
+        plan.next
+    }
+
+    fn refuse<K: Sink, A: Allocator>(
+        &mut self,
+        _error: LineError,
+        replies: &mut Replies<K, A>,
+    ) -> Next {
+        replies.fixed_line(AsciiStr::literal("BAD"));
+        Next::Line
     }
 }

@@ -1,4 +1,4 @@
 pub mod LengthLemmas
-pub mod LineBreakLemmas
 pub mod LiteralLemmas
 pub mod StoreLemmas
+pub mod SayingLemmas

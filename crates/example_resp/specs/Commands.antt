@@ -1,10 +1,11 @@
 -- The commands of a store: the words that say each, its reply, and the store after it.
 use Rattle.std.specs.Map.{update}
-use Rattle.std.specs.Prelude.{◌≡◌, ◌≢◌, ◌⊎◌, ℕ, List, [], ◌∷◌, ◌++◌, None, Option, Some, codes}
-use Rattle.std.specs.Prelude.{MatchResult, Any, decimal, if◌then◌else◌, is_some, length, map}
+use Rattle.std.specs.Prelude.{◌≡◌, ◌≢◌, ℕ, List, [], ◌∷◌, ◌++◌, None, Option, Some, codes}
+use Rattle.std.specs.Prelude.{MatchResult, decimal, if◌then◌else◌, is_some, length, map}
 use Rattle.std.specs.Str.{bytes_eq}
 use Rattle.std.specs.declared.result.Result.{Result}
 use Rattle.ascii.specs.Case.{lower_image}
+use Rattle.ascii.specs.StringState.{StringState}
 use Rattle.ascii.specs.View.{text_of}
 use Rattle.example_resp.specs.Store.{Contents}
 use Rattle.example_resp.specs.declared.commands.Command.{Command}
@@ -12,8 +13,8 @@ use Rattle.example_resp.specs.declared.commands.Command.TheVariants.{SetValue, G
 use Rattle.example_resp.specs.declared.commands.Command.TheVariants.{DeleteValue, Reply}
 use Rattle.example_resp.specs.declared.commands.Rejection.{Rejection}
 use Rattle.example_resp.specs.declared.commands.Rejection.TheVariants.{UnknownCommand, BadLength}
-use Rattle.example_resp.specs.declared.commands.Rejection.TheVariants.{WrongArguments, LineBreak}
-use Rattle.example_resp.specs.declared.commands.Rejection.TheVariants.{BadEnding}
+use Rattle.example_resp.specs.declared.commands.Rejection.TheVariants.{WrongArguments, BadEnding}
+use Rattle.example_resp.specs.declared.commands.Rejection.TheVariants.{BadInput, NoMemory}
 use Rattle.example_resp.specs.declared.commands.Verb.{Verb}
 use Rattle.example_resp.specs.declared.commands.Verb.TheVariants.{Set, Get, Del, Ping}
 
@@ -37,28 +38,22 @@ argument_count Ping = 0
 abbrev pub IsNameOf : Verb → List ℕ → Type 0
 IsNameOf verb word = map lower_image word ≡ name_of verb
 
--- `text` contains CR or LF
-abbrev pub HasLineBreak : List ℕ → Type 0
-HasLineBreak text = Any (λ code. (code ≡ 13) ⊎ (code ≡ 10)) text
+-- the texts of strings
+abbrev pub string_texts : List StringState → List (List ℕ)
+string_texts strings = map (λ string. string.text) strings
 
--- `command` is the verb `verb` with the arguments `arguments`, and the value of `SetValue` has no
--- CR or LF
+-- `command` is the verb `verb` with the arguments `arguments`
 abbrev pub HasParts : Verb → List (List ℕ) → Command → Type 0
-HasParts verb arguments (SetValue key value) = (verb ≡ Set)
-    × (arguments ≡ text_of key ∷ text_of value ∷ []) × ¬ (HasLineBreak (text_of value))
+HasParts verb arguments (SetValue key value) =
+    (verb ≡ Set) × (arguments ≡ text_of key ∷ text_of value ∷ [])
 HasParts verb arguments (GetValue key) = (verb ≡ Get) × (arguments ≡ text_of key ∷ [])
 HasParts verb arguments (DeleteValue key) = (verb ≡ Del) × (arguments ≡ text_of key ∷ [])
 HasParts verb arguments Reply = (verb ≡ Ping) × (arguments ≡ [])
 
--- why `verb` with the arguments `arguments` is not a command. `WrongArguments`: their number is not
--- that of the verb. `LineBreak`: the value to be set has CR or LF
+-- why `verb` with the arguments `arguments` is not a command: their number is not that of the verb
 abbrev pub IsPartsFault : Verb → List (List ℕ) → Rejection → Type 0
-IsPartsFault verb arguments WrongArguments = length arguments ≢ argument_count verb
-IsPartsFault verb arguments LineBreak = (key : List ℕ) × (value : List ℕ) × (verb ≡ Set)
-    × (arguments ≡ key ∷ value ∷ []) × HasLineBreak value
-IsPartsFault verb arguments UnknownCommand = ⊥
-IsPartsFault verb arguments BadLength = ⊥
-IsPartsFault verb arguments BadEnding = ⊥
+IsPartsFault verb arguments fault =
+    (fault ≡ WrongArguments) × (length arguments ≢ argument_count verb)
 
 -- `words` are the name of `verb` and then `arguments`
 abbrev pub IsCall : List (List ℕ) → Verb → List (List ℕ) → Type 0
@@ -107,6 +102,7 @@ after contents Reply = contents
 abbrev pub error_line : Rejection → List ℕ
 error_line UnknownCommand = codes "-ERR unknown command"
 error_line WrongArguments = codes "-ERR wrong number of arguments"
-error_line LineBreak = codes "-ERR the value has CR or LF"
 error_line BadLength = codes "-ERR the length is not a number or too large"
 error_line BadEnding = codes "-ERR the word is longer than its length"
+error_line BadInput = codes "-ERR Protocol error: bad input"
+error_line NoMemory = codes "-OOM out of memory"

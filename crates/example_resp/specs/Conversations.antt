@@ -1,18 +1,30 @@
 -- What a session does in a whole conversation.
-use Rattle.std.specs.Prelude.{◌≢◌, ℕ, List}
-use Rattle.ascii_lines.specs.declared.line_writer.WriteError.TheVariants.{LineBreak}
+use Rattle.std.specs.Prelude.{◌≡◌, ◌⊎◌, ℕ, List, [], ◌∷◌, map}
+use Rattle.ascii.specs.Lines.{Line}
+use Rattle.ascii_lines.specs.Serve.{Reply, line_reply}
+use Rattle.ascii_lines.specs.declared.line_reader.LineError.{LineError}
 use Rattle.ascii_lines.specs.declared.serving.Next.{Next}
-use Rattle.ascii_lines.specs.declared.serving.Stop.{Stop}
-use Rattle.ascii_lines.specs.declared.serving.Stop.TheVariants.{Writer}
+use Rattle.ascii_lines.specs.declared.serving.Next.TheVariants as next
+use Rattle.example_resp.specs.Commands.{error_line}
 use Rattle.example_resp.specs.Requests.{Answers}
 use Rattle.example_resp.specs.Session.{state_of}
+use Rattle.example_resp.specs.declared.commands.Rejection.{Rejection}
+use Rattle.example_resp.specs.declared.commands.Rejection.TheVariants.{BadInput, NoMemory}
 use Rattle.example_resp.specs.declared.session.Session.{Session}
 
--- what a session answers, as the relation of a handler
-abbrev pub session_answers : Session → List ℕ → List (List ℕ) → Next → Session → Type 0
-session_answers old text replies next new = Answers (state_of old) text
-    (record { replies = replies; next = next; state = state_of new })
+-- the session gives up: there is no memory for what was asked for, or the input ends in a line
+abbrev pub GivesUp : List (List ℕ) → Next → Type 0
+GivesUp texts asked = (fault : Rejection) × ((fault ≡ NoMemory) ⊎ (fault ≡ BadInput))
+    × (texts ≡ error_line fault ∷ []) × (asked ≡ next.Close)
 
--- the conversation did not stop at a reply with CR or LF
-abbrev pub HasNoBrokenReply : Stop → Type 0
-HasNoBrokenReply why = (k : ℕ) → why ≢ Writer (LineBreak k)
+-- what a session answers, as the relation of a handler
+abbrev pub session_answers : Session → Line → List Reply → Next → Session → Type 0
+session_answers old input replies asked new = (texts : List (List ℕ))
+    × (replies ≡ map line_reply texts)
+    × (Answers (state_of old) input.body
+    (record { replies = texts; next = asked; state = state_of new }) ⊎ GivesUp texts asked)
+
+-- what it replies to an error of the input: one line, and it closes
+abbrev pub session_refuses : Session → LineError → List Reply → Next → Session → Type 0
+session_refuses old error replies asked new = (replies ≡ map line_reply (error_line BadInput ∷ []))
+    × (asked ≡ next.Close) × (new ≡ old)

@@ -2,10 +2,10 @@
 use Rattle.std.specs.Prelude.{◌≡◌, ℕ, List, [], ◌∷◌, MatchResult, None}
 use Rattle.std.specs.declared.result.Result.{Result}
 use Rattle.ascii.specs.StringState.{StringState}
-use Rattle.ascii_lines.specs.Serve.{reply_texts}
 use Rattle.ascii_lines.specs.declared.serving.Next.{Next}
 use Rattle.ascii_lines.specs.declared.serving.Next.TheVariants as next
-use Rattle.example_resp.specs.Commands.{ReadsCommand, after, error_line, reply}
+use Rattle.example_resp.specs.Commands.{ReadsCommand, after, error_line, reply, string_texts}
+use Rattle.example_resp.specs.declared.commands.Rejection.TheVariants.{UnknownCommand, WrongArguments}
 use Rattle.example_resp.specs.Store.{Contents, contents_of}
 use Rattle.example_resp.specs.declared.commands.Command.{Command}
 use Rattle.example_resp.specs.declared.commands.Rejection.{Rejection}
@@ -30,14 +30,14 @@ pub record Answer : Type 0 where
 abbrev pub state_of : Session → State
 state_of session = record {
   contents = contents_of session.store;
-  words = reply_texts session.words.items;
+  words = string_texts session.words.items;
   stage = session.stage;
 }
 
 -- an answer of these replies that asks for `next` and leaves `session`
 abbrev pub answer_of : List StringState → Next → Session → Answer
 answer_of replies next session =
-    record { replies = reply_texts replies; next = next; state = state_of session }
+    record { replies = string_texts replies; next = next; state = state_of session }
 
 -- a request is awaited, and no words of an array are kept
 abbrev pub IsIdle : State → Type 0
@@ -58,10 +58,18 @@ pub record Awaits (held : Contents) (words : List (List ℕ)) (stage : Stage) (a
   pub awaited : answer.state.stage ≡ stage
   pub contents : (key : List ℕ) → answer.state.contents key ≡ held key
 
--- the answer is the line of the rejection, and asks for a request; it leaves the contents `held`
+-- what is asked for after a rejection: the next request; or nothing, if it is not known where that
+-- starts
+abbrev pub asked_after : Rejection → Next
+asked_after UnknownCommand = next.Line
+asked_after WrongArguments = next.Line
+asked_after other = next.Close
+
+-- the answer is the line of the rejection, and asks for what comes after it; it leaves the contents
+-- `held`
 pub record Rejects (held : Contents) (rejection : Rejection) (answer : Answer) : Type 0 where
   pub replies : answer.replies ≡ error_line rejection ∷ []
-  pub asks : answer.next ≡ next.Line
+  pub asks : answer.next ≡ asked_after rejection
   pub idle : IsIdle answer.state
   pub contents : (key : List ℕ) → answer.state.contents key ≡ held key
 

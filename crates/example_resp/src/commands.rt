@@ -1,10 +1,9 @@
 //! The commands of a store, and the words that say them.
 
-ghost use Rattle.std.specs.Prelude.{◌↔◌, ◌≡◌, IsTrue, MatchOption, MatchResult};
+ghost use Rattle.std.specs.Prelude.{MatchOption, MatchResult};
 ghost use Rattle.ascii.specs.View.{text_of};
-ghost use Rattle.ascii_lines.specs.Serve.{reply_texts};
-ghost use Rattle.example_resp.specs.Commands.{HasLineBreak, HasParts, IsNameOf, IsPartsFault};
-ghost use Rattle.example_resp.specs.Commands.{ReadsCommand};
+ghost use Rattle.example_resp.specs.Commands.{HasParts, IsNameOf, IsPartsFault, ReadsCommand};
+ghost use Rattle.example_resp.specs.Commands.{string_texts};
 
 use ascii::{AsciiStr, AsciiString};
 
@@ -48,17 +47,19 @@ pub enum Rejection {
     UnknownCommand,
     /// The verb takes another number of arguments.
     WrongArguments,
-    /// The value to be set has CR or LF, which no reply line can have.
-    LineBreak,
     /// A length is missing, is not a number, or is too large.
     BadLength,
     /// A word of an array is longer than its length says.
     BadEnding,
+    /// The input is not ASCII, has a line that is too long or a CR or LF by itself, or ends too early.
+    BadInput,
+    /// There is no memory for what was asked for.
+    NoMemory,
 }
 
 /// Returns the command that the words say, or why they do not say one.
 pub fn read_command<'a>(words: &'a [AsciiString]) -> Result<Command<'a>, Rejection>
-    ensures { ReadsCommand (reply_texts words.now) result }
+    ensures { ReadsCommand (string_texts words.now) result }
 {
     let Some((name, arguments)) = words.split_first() else {
         return Err(Rejection::UnknownCommand);
@@ -89,17 +90,14 @@ fn read_verb(name: AsciiStr<'_>) -> Option<Verb>
 
 /// Returns the command of a verb with these arguments, or why there is none.
 fn command_of<'a>(verb: Verb, arguments: &'a [AsciiString]) -> Result<Command<'a>, Rejection>
-    ensures { MatchResult result (HasParts verb (reply_texts arguments.now))
-        (IsPartsFault verb (reply_texts arguments.now)) }
+    ensures { MatchResult result (HasParts verb (string_texts arguments.now))
+        (IsPartsFault verb (string_texts arguments.now)) }
 {
     match (verb, arguments) {
-        (Verb::Set, [key, value]) => {
-            let (key, value) = (key.as_ascii_str(), value.as_ascii_str());
-            if has_line_break(value) {
-                return Err(Rejection::LineBreak);
-            }
-            Ok(Command::SetValue { key, value })
-        }
+        (Verb::Set, [key, value]) => Ok(Command::SetValue {
+            key: key.as_ascii_str(),
+            value: value.as_ascii_str(),
+        }),
         (Verb::Get, [key]) => Ok(Command::GetValue {
             key: key.as_ascii_str(),
         }),
@@ -109,13 +107,4 @@ fn command_of<'a>(verb: Verb, arguments: &'a [AsciiString]) -> Result<Command<'a
         (Verb::Ping, []) => Ok(Command::Reply),
         _ => Err(Rejection::WrongArguments),
     }
-}
-
-/// Returns `true` if the text contains CR or LF.
-fn has_line_break(text: AsciiStr<'_>) -> bool
-    ensures { IsTrue result ↔ HasLineBreak (text_of text.entry) }
-{
-    text.as_bytes()
-        .iter()
-        .any(|&byte| byte == b'\r' || byte == b'\n')
 }

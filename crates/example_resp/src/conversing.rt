@@ -1,34 +1,25 @@
-//! A conversation with a client: a session over the lines and words of an input.
+//! A conversation with a client: a session over the lines and words of a channel.
 
-ghost use Rattle.ascii_lines.specs.LineReader.{IsOpen};
-ghost use Rattle.ascii_lines.specs.LineWriter.{IsReady};
-ghost use Rattle.ascii_lines.specs.Serve.{SendsBytes, Serves};
-ghost use Rattle.ascii_lines.specs.declared.line_writer.WriteError.TheVariants.{LineBreak};
-ghost use Rattle.example_resp.specs.Conversations.{HasNoBrokenReply, session_answers};
+ghost use Rattle.ascii_lines.specs.Serve.{IsUp, Serves};
+ghost use Rattle.example_resp.specs.Conversations.{session_answers, session_refuses};
 ghost use Rattle.example_resp.specs.Session.{IsFresh, state_of};
 
 use crate::session::Session;
-use ascii_lines::{Ending, LineReader, LineWriter, Sink, Source, Stop, serve};
-use std::alloc::{Allocator, Global};
+use ascii_lines::{Channel, LineChannel, Stop, serve};
+use std::alloc::Allocator;
 
-/// Answers the requests of a client until the input ends or an error occurs, and returns why it stopped.
-/// No reply has CR or LF, so it never stops at a reply that the writer rejects.
+/// Answers the requests of a client until the input ends or an error occurs, and returns why it stopped. At each
+/// read of the device, every request that came before has been answered, and every reply sent.
 ///
-/// Condition: the reader has returned neither `None` nor an error, no call of the writer has returned
-/// `Write`, and the session is a new one.
-pub fn converse<S: Source, K: Sink, A: Allocator, B: Allocator>(
-    alloc: Global,
-    reader: &mut LineReader<S, A>,
-    writer: &mut LineWriter<K, B>,
+/// Condition: the channel has not stopped at an error, and the session is a new one.
+pub fn converse<C: Channel, A: Allocator>(
+    lines: &mut LineChannel<C, A>,
     session: &mut Session,
 ) -> Stop
-    requires reader { IsOpen reader.old }
-    requires writer { IsReady writer.old }
+    requires lines { IsUp lines.old.state }
     requires session { IsFresh (state_of session.old) }
-    ensures serves { Serves session_answers SendsBytes Ending.CrLf
-        reader.old.state writer.old.state session.old result
-        reader.new.state writer.new.state session.new }
-    ensures lines { HasNoBrokenReply result }
+    ensures { Serves session_answers session_refuses lines.old.state session.old result
+        lines.new.state session.new }
 {
-    serve(alloc, reader, writer, Ending::CrLf, session)
+    serve(lines, session)
 }

@@ -8,17 +8,17 @@ mod replies;
 mod session;
 mod store;
 
-use ascii_lines::{Endings, Input, LineReader, LineWriter, Output};
+use ascii_lines::{Duplex, Ending, Endings, LineChannel};
 use conversing::converse;
 use session::Session;
 use std::io;
 
 fn main(rt: HostRuntime) -> io::Result<()> {
     let alloc = rt.alloc();
-    let mut reader = LineReader::new(alloc, Input::new(rt.stdin()), 4096, Endings::Any)?;
-    let mut writer = LineWriter::new(alloc, Output::new(rt.stdout()), 4096)?;
+    let device = Duplex::new(rt.stdin(), rt.stdout());
+    let mut lines = LineChannel::new(alloc, device, 4096, Endings::CrLfStrict, Ending::CrLf)?;
     let mut session = Session::new(alloc);
-    let stop = converse(alloc, &mut reader, &mut writer, &mut session);
+    let stop = converse(&mut lines, &mut session);
     eprintln!(rt; "{stop:?}")?;
     Ok(())
 }

@@ -3,8 +3,7 @@
 ghost use Rattle.std.specs.Option.{option_map};
 ghost use Rattle.std.specs.Prelude.{if◌then◌else◌, ◌≡◌, [], ◌∷◌, ◌++◌, List, OnOk, ℕ, codes};
 ghost use Rattle.ascii.specs.View.{text_of};
-ghost use Rattle.ascii_lines.specs.Serve.{reply_texts};
-ghost use Rattle.example_resp.specs.Commands.{after, error_line, reply, value_reply};
+ghost use Rattle.example_resp.specs.Commands.{after, error_line, reply, string_texts, value_reply};
 ghost use Rattle.example_resp.specs.Store.{contents_of};
 
 use crate::commands::{Command, Rejection};
@@ -22,7 +21,7 @@ pub fn follow(
     replies: &mut Vec<AsciiString>,
 ) -> Result<(), AllocError>
     requires { replies.old.items ≡ [] }
-    ensures replies { OnOk result (reply_texts replies.new.items
+    ensures replies { OnOk result (string_texts replies.new.items
         ≡ reply (contents_of store.old) command.entry) }
     ensures store { OnOk result ((key : List ℕ) →
         contents_of store.new key ≡ after (contents_of store.old) command.entry key) }
@@ -51,23 +50,24 @@ pub fn reject(
     replies: &mut Vec<AsciiString>,
 ) -> Result<(), AllocError>
     requires { replies.old.items ≡ [] }
-    ensures { OnOk result (reply_texts replies.new.items ≡ error_line rejection ∷ []) }
+    ensures { OnOk result (string_texts replies.new.items ≡ error_line rejection ∷ []) }
 {
     push_line(alloc, line_of(rejection), replies)
 }
 
 /// Returns the line that says why a request was rejected.
-fn line_of(rejection: Rejection) -> AsciiStr<'static>
+pub fn line_of(rejection: Rejection) -> AsciiStr<'static>
     ensures { text_of result ≡ error_line rejection }
 {
     match rejection {
         Rejection::UnknownCommand => AsciiStr::literal("-ERR unknown command"),
         Rejection::WrongArguments => AsciiStr::literal("-ERR wrong number of arguments"),
-        Rejection::LineBreak => AsciiStr::literal("-ERR the value has CR or LF"),
         Rejection::BadLength => {
             AsciiStr::literal("-ERR the length is not a number or too large")
         }
         Rejection::BadEnding => AsciiStr::literal("-ERR the word is longer than its length"),
+        Rejection::BadInput => AsciiStr::literal("-ERR Protocol error: bad input"),
+        Rejection::NoMemory => AsciiStr::literal("-OOM out of memory"),
     }
 }
 
@@ -91,7 +91,7 @@ fn push_value(
     replies: &mut Vec<AsciiString>,
 ) -> Result<(), AllocError>
     requires { replies.old.items ≡ [] }
-    ensures { OnOk result (reply_texts replies.new.items ≡ value_reply
+    ensures { OnOk result (string_texts replies.new.items ≡ value_reply
         (option_map (λ found. found.now.text) value.entry)) }
 {
     let Some(value) = value else {
@@ -109,8 +109,8 @@ fn push_line(
     line: AsciiStr<'_>,
     replies: &mut Vec<AsciiString>,
 ) -> Result<(), AllocError>
-    ensures { OnOk result (reply_texts replies.new.items
-        ≡ reply_texts replies.old.items ++ text_of line.entry ∷ []) }
+    ensures { OnOk result (string_texts replies.new.items
+        ≡ string_texts replies.old.items ++ text_of line.entry ∷ []) }
 {
     replies.push(line.to_ascii_string(alloc)?)?;
     Ok(())

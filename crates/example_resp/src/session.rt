@@ -1,19 +1,21 @@
 //! A session with one client: the lines and words that it sends, and the replies.
 
-ghost use Rattle.std.specs.Prelude.{◌≡◌, [], IfOk};
+ghost use Rattle.std.specs.Prelude.{◌≡◌, ◌∷◌, [], IfOk, map};
 ghost use Rattle.ascii.specs.ByClass.{words_by};
 ghost use Rattle.ascii.specs.Tests.{is_blank};
 ghost use Rattle.ascii.specs.View.{text_of};
-ghost use Rattle.ascii_lines.specs.Serve.{IsRequest, reply_texts};
+ghost use Rattle.ascii_lines.specs.Serve.{IsRequest, Says, line_reply};
+ghost use Rattle.example_resp.specs.Commands.{error_line, string_texts};
+ghost use Rattle.example_resp.specs.Session.{asked_after};
 ghost use Rattle.example_resp.specs.Requests.{IsLength};
 
 use crate::commands::{Rejection, read_command};
-use crate::replies::{follow, reject};
+use crate::replies::{follow, line_of, reject};
 use crate::store::Store;
 use ascii::classes::Blank;
 use ascii::{AsciiStr, AsciiString};
-use ascii_lines::{Handler, Next};
-use std::alloc::{AllocError, Global};
+use ascii_lines::{Ending, Handler, LineError, Next, Replies, Sink};
+use std::alloc::{AllocError, Allocator, Global};
 
 /// The largest number of words of an array.
 const MOST_WORDS: usize = 64;
@@ -48,13 +50,14 @@ pub enum Length {
 /// A store, the words of an array that have been read, and what is awaited.
 #[derive(Drop)]
 pub struct Session {
+    alloc: Global,
     store: Store,
     words: Vec<AsciiString>,
     stage: Stage,
 }
 
 impl Session {
-    ghost use Rattle.example_resp.specs.Requests.{AnswersEnd, AnswersLength, AnswersRequest};
+    ghost use Rattle.example_resp.specs.Requests.{Answers, AnswersEnd, AnswersLength, AnswersRequest};
     ghost use Rattle.example_resp.specs.Requests.{AnswersWord, Continues};
     ghost use Rattle.example_resp.specs.Session.{CarriesOut, IsFresh, Rejects, answer_of, state_of};
 
@@ -63,6 +66,7 @@ impl Session {
         ensures { IsFresh (state_of result) }
     {
         Session {
+            alloc,
             store: Store::new(alloc),
             words: Vec::new(alloc),
             stage: Stage::Request,
@@ -197,13 +201,17 @@ impl Session {
             (state_of self.old).words (answer_of replies.new.items next self.new)) }
         ensures request { IfOk result IsRequest }
     {
+        let mut next = Next::Line;
         match read_command(&self.words) {
             Ok(command) => follow(&mut self.store, alloc, command, replies)?,
-            Err(rejection) => reject(alloc, rejection, replies)?,
+            Err(rejection) => {
+                next = next_after(rejection);
+                reject(alloc, rejection, replies)?;
+            }
         }
         self.words.clear();
         self.stage = Stage::Request;
-        Ok(Next::Line)
+        Ok(next)
     }
 
     /// Rejects a request, and awaits the next one.
@@ -223,29 +231,97 @@ impl Session {
         reject(alloc, rejection, replies)?;
         self.words.clear();
         self.stage = Stage::Request;
-        Ok(Next::Line)
+        Ok(next_after(rejection))
     }
-}
 
-impl Handler for Session {
-    ghost use Rattle.example_resp.specs.Requests.{Answers};
-    ghost use Rattle.example_resp.specs.Session.{Answer, state_of};
-
-    ghost answers = { λ old text replies next new. Answers (state_of old) text
-        (record { replies = replies; next = next; state = state_of new }) };
-
-    fn answer(
+    /// Takes a line or a word, appends the lines of the replies, and returns what is asked for next; or an error if
+    /// an allocation fails.
+    ///
+    /// Condition: `replies` is empty.
+    fn respond(
         &mut self,
-        alloc: Global,
         text: AsciiStr<'_>,
         replies: &mut Vec<AsciiString>,
-    ) -> Result<Next, AllocError> {
+    ) -> Result<Next, AllocError>
+        requires { replies.old.items ≡ [] }
+        ensures answers { IfOk result (λ next. Answers (state_of self.old) (text_of text.entry)
+            (answer_of replies.new.items next self.new)) }
+        ensures request { IfOk result IsRequest }
+    {
+        let alloc = self.alloc;
         match self.stage {
             Stage::Request => self.answer_request(alloc, text, replies),
             Stage::Length(count) => self.answer_length(alloc, count, text, replies),
             Stage::Word(count) => self.answer_word(alloc, count, text),
             Stage::End(count) => self.answer_end(alloc, count, text, replies),
         }
+    }
+}
+
+impl Handler for Session {
+    ghost use Rattle.example_resp.specs.Conversations.{session_answers, session_refuses};
+
+    ghost answers = { session_answers };
+
+    ghost refuses = { session_refuses };
+
+    fn answer<K: Sink, A: Allocator>(
+        &mut self,
+        text: AsciiStr<'_>,
+        ending: Ending,
+        replies: &mut Replies<K, A>,
+    ) -> Next {
+        if ending == Ending::Absent && !matches!(self.stage, Stage::Word(_)) {
+            say(Rejection::BadInput, replies);
+            return Next::Close;
+        }
+        let mut lines = Vec::new(self.alloc);
+        match self.respond(text, &mut lines) {
+            Ok(next) => {
+                say_lines(&lines, replies);
+                next
+            }
+            Err(AllocError) => {
+                say(Rejection::NoMemory, replies);
+                Next::Close
+            }
+        }
+    }
+
+    fn refuse<K: Sink, A: Allocator>(
+        &mut self,
+        _error: LineError,
+        replies: &mut Replies<K, A>,
+    ) -> Next {
+        say(Rejection::BadInput, replies);
+        Next::Close
+    }
+}
+
+/// Returns what is asked for after a rejection. If it is not known where the next request starts, nothing is.
+fn next_after(rejection: Rejection) -> Next
+    ensures next { result ≡ asked_after rejection }
+    ensures request { IsRequest result }
+{
+    match rejection {
+        Rejection::UnknownCommand | Rejection::WrongArguments => Next::Line,
+        _ => Next::Close,
+    }
+}
+
+/// Writes the line that says why a request was rejected.
+fn say<K: Sink, A: Allocator>(rejection: Rejection, replies: &mut Replies<K, A>)
+    ensures { Says replies.old (map line_reply (error_line rejection ∷ [])) replies.new }
+{
+    replies.text(line_of(rejection));
+}
+
+/// Writes texts as lines.
+fn say_lines<K: Sink, A: Allocator>(lines: &[AsciiString], replies: &mut Replies<K, A>)
+    ensures { Says replies.old (map line_reply (string_texts lines.now)) replies.new }
+{
+    for line in lines {
+        replies.text(line.as_ascii_str());
     }
 }
 
@@ -267,7 +343,7 @@ fn read_length(line: AsciiStr<'_>, mark: AsciiStr<'_>, most: usize) -> Length
 /// Returns the words of a line, which have blanks between them.
 fn words_of(alloc: Global, line: AsciiStr<'_>) -> Result<Vec<AsciiString>, AllocError>
     ensures { IfOk result (λ words.
-        reply_texts words.items ≡ words_by is_blank (text_of line.entry)) }
+        string_texts words.items ≡ words_by is_blank (text_of line.entry)) }
 {
     let mut words = Vec::new(alloc);
     for word in line.words::<Blank>() {

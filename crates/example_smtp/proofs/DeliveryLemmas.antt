@@ -5,18 +5,19 @@ use Rattle.std.proofs.Common.{append-nil, append_assoc, arith, inl, inr, length,
 use Rattle.std.proofs.Common.{lit≤, map, refl, subst, sym}
 use Rattle.std.proofs.lemmas.List.{length-map, map-append}
 use Rattle.std.proofs.lemmas.List.Elements.{All-cons, All-nil}
-use Rattle.std.specs.List.{flat_map}
+use Rattle.std.specs.List.{AllZip}
 use Rattle.std.specs.Prelude.{MatchResult, codes}
 use Rattle.ascii.specs.Case.{lower_image}
-use Rattle.ascii.specs.Lines.{Line}
-use Rattle.ascii.specs.Spans.{WithStart, items_of}
-use Rattle.ascii_lines.specs.Serve.{Talks}
+use Rattle.ascii_lines.specs.Serve.{Awaits, Talks, Step, awaits_input, line_reply}
+use Rattle.ascii_lines.specs.Serve.{skipped, took}
+use Rattle.ascii_lines.specs.Serve as serve
+use Rattle.ascii_lines.specs.declared.serving.Next.TheVariants as next
 use Rattle.ascii.specs.declared.iter.spans.Endings.{Endings}
 use Rattle.ascii_lines.specs.declared.serving.Next.{Next}
 use Rattle.example_smtp.specs.Commands.{IsFault, ReadsCommand, Says, name_of, reply_line}
-use Rattle.example_smtp.specs.Deliveries.{Delivers, Exchange}
-use Rattle.example_smtp.specs.Deliveries.{IsOutside, IsText, answered, lines_of, session_answers}
-use Rattle.example_smtp.specs.Deliveries.{unanswered}
+use Rattle.example_smtp.specs.Deliveries.{Delivers, Exchange, GivesUp}
+use Rattle.example_smtp.specs.Deliveries.{IsExchange, IsLast, IsOutside, IsText, answered, lines_of}
+use Rattle.example_smtp.specs.Deliveries.{session_answers, session_refuses, unanswered}
 use Rattle.example_smtp.specs.Mail.{IsFresh, Mail, State, state_of}
 use Rattle.example_smtp.specs.Session.{Answers, AnswersAt, AnswersCommand, AnswersLine, CarriesOut}
 use Rattle.example_smtp.specs.Session.{Follows, Keeps, Receives, Rejects, after, reply_to}
@@ -27,9 +28,9 @@ use Rattle.example_smtp.specs.declared.commands.Command.TheVariants.{Introduce, 
 use Rattle.example_smtp.specs.declared.commands.Command.TheVariants.{SetSender}
 use Rattle.example_smtp.specs.declared.commands.Command.TheVariants as command
 use Rattle.example_smtp.specs.declared.commands.Reply.{Reply}
-use Rattle.example_smtp.specs.declared.commands.Reply.TheVariants.{BadArgument, BadSequence, Bye}
-use Rattle.example_smtp.specs.declared.commands.Reply.TheVariants.{Done, SendLines}
-use Rattle.example_smtp.specs.declared.commands.Reply.TheVariants.{UnknownCommand}
+use Rattle.example_smtp.specs.declared.commands.Reply.TheVariants.{BadArgument, BadLine, BadSequence}
+use Rattle.example_smtp.specs.declared.commands.Reply.TheVariants.{Bye, Done, LongLine, NoMemory}
+use Rattle.example_smtp.specs.declared.commands.Reply.TheVariants.{SendLines, UnknownCommand}
 use Rattle.example_smtp.specs.declared.commands.Verb.{Verb}
 use Rattle.example_smtp.specs.declared.commands.Verb.TheVariants as verb
 use Rattle.example_smtp.specs.declared.session.Session.{Session}
@@ -45,30 +46,79 @@ Runs old [] new = new ≡ old
 Runs old (exchange ∷ exchanges) new = (mid : State) × (asked : Next)
     × Answers old exchange.line exchange.replies asked mid × Runs mid exchanges new
 
--- the exchanges of a conversation: its inputs, with the replies to them
-pub record Transcript (old : Session) (inputs : List (WithStart Line)) (replies : List (List ℕ))
-    (new : Session) : Type 0 where
+-- the exchanges of a conversation
+pub record Transcript (old : Session) (steps : List Step) (new : Session) : Type 0 where
   pub exchanges : List Exchange
-  pub lines : map (λ exchange. exchange.line) exchanges ≡ map (λ line. line.body) (items_of inputs)
-  pub says : flat_map (λ exchange. exchange.replies) exchanges ≡ replies
-  pub runs : Runs (state_of old) exchanges (state_of new)
+  pub given_up : List Exchange
+  pub is_last : IsLast given_up
+  pub zipped : AllZip IsExchange steps (exchanges ++ given_up)
+  pub mid : State
+  pub runs : Runs (state_of old) exchanges mid
+  pub kept : (state_of new).received ≡ mid.received
+
+-- nothing follows the end of a conversation
+closed_ends : (endings : Endings) (old new : Session) (last : Awaits) (steps : List Step)
+    → Talks session_answers session_refuses endings (awaits_input next.Close) old steps last new
+    → (steps ≡ []) × (new ≡ old)
+closed_ends endings old new last [] talks = (refl, talks.1)
+closed_ends endings old new last (took input replies ∷ steps) (after, mid, is_step, talks) =
+    absurd is_step.2
+closed_ends endings old new last (serve.rejected error replies ∷ steps) (after, mid, is_step, talks) =
+    absurd (let e : next.Close ≡ next.Line = is_step.2 in cc)
+closed_ends endings old new last (skipped bytes ∷ steps) (after, mid, is_step, talks) =
+    absurd is_step
 
 -- a conversation has a transcript
-pub transcript : (endings : Endings) (old new : Session) (first last : Next)
-    (inputs : List (WithStart Line)) (replies : List (List ℕ))
-    → Talks session_answers endings old first inputs replies last new
-    → Transcript old inputs replies new
-transcript endings old new first last [] replies talks =
-    record { exchanges = []; lines = refl; says = sym talks.0; runs = ap state_of talks.2 }
-transcript endings old new first last (input ∷ inputs) replies talks =
-    let step = talks.1 in
-    let others = transcript endings step.0 new step.3 last inputs step.2 step.6 in
-    record {
-      exchanges = record { line = input.item.body; replies = step.1 } ∷ others.exchanges;
-      lines = ap (λ xs. input.item.body ∷ xs) others.lines;
-      says = ap (λ xs. step.1 ++ xs) others.says ∙ sym step.5;
-      runs = (state_of step.0, step.3, step.4, others.runs);
-    }
+pub transcript : (endings : Endings) (old new : Session) (asked : Next) (last : Awaits)
+    (steps : List Step)
+    → Talks session_answers session_refuses endings (awaits_input asked) old steps last new
+    → Transcript old steps new
+transcript endings old new asked last [] (same, is) = record {
+  exchanges = [];
+  given_up = [];
+  is_last = inl refl;
+  zipped = tt;
+  mid = state_of old;
+  runs = refl;
+  kept = ap (λ (s : Session). (state_of s).received) is;
+}
+transcript endings old new asked last (took input replies ∷ steps) (after, mid, is_step, talks) =
+    let (sequel, is, is_asked, (texts, said, answers)) = is_step in
+    let on = subst
+    (λ a. Talks session_answers session_refuses endings a mid steps last new) is talks in
+    elim answers [
+      | inl answered_it ↦
+          let others = transcript endings mid new sequel last steps on in
+          record {
+            exchanges = record { line = input.body; replies = texts } ∷ others.exchanges;
+            given_up = others.given_up;
+            is_last = others.is_last;
+            zipped = ((refl, said), others.zipped);
+            mid = others.mid;
+            runs = (state_of mid, sequel, answered_it, others.runs);
+            kept = others.kept;
+          }
+      | inr gives ↦
+          let ends = closed_ends endings mid new last steps
+          (subst
+          (λ n. Talks session_answers session_refuses endings (awaits_input n) mid steps last new)
+          gives.closes on) in
+          subst (λ ts. Transcript old (took input replies ∷ ts) new) (sym ends.0)
+          (record {
+            exchanges = [];
+            given_up = answered input.body gives.fault ∷ [];
+            is_last = inr (input.body, gives.fault, gives.why, refl);
+            zipped = ((refl, said ∙ ap (map line_reply) gives.says), tt);
+            mid = state_of old;
+            runs = refl;
+            kept = ap (λ (s : Session). (state_of s).received) ends.1 ∙ gives.kept;
+          })
+    ]
+transcript endings old new asked last (serve.rejected error replies ∷ steps)
+    (after, mid, (sequel, is, line, more, goes, (said, closes, same)), talks) =
+    absurd (goes closes)
+transcript endings old new asked last (skipped bytes ∷ steps) (after, mid, is_step, talks) =
+    absurd is_step
 
 -- ---- replies
 
@@ -87,6 +137,9 @@ not_begin Done apart is = omega (arith, ap first_codes is)
 not_begin UnknownCommand apart is = omega (arith, ap first_codes is)
 not_begin BadArgument apart is = omega (arith, ap first_codes is)
 not_begin BadSequence apart is = omega (arith, ap first_codes is)
+not_begin LongLine apart is = omega (arith, ap first_codes is)
+not_begin BadLine apart is = omega (arith, ap first_codes is)
+not_begin NoMemory apart is = omega (arith, ap first_codes is)
 
 -- a reply other than 250 is another line
 not_end : (reply : Reply) → reply ≢ Done → reply_line reply ∷ [] ≢ reply_line Done ∷ []
@@ -96,6 +149,9 @@ not_end SendLines apart is = omega (arith, ap first_codes is)
 not_end UnknownCommand apart is = omega (arith, ap first_codes is)
 not_end BadArgument apart is = omega (arith, ap first_codes is)
 not_end BadSequence apart is = omega (arith, ap first_codes is)
+not_end LongLine apart is = omega (arith, ap first_codes is)
+not_end BadLine apart is = omega (arith, ap first_codes is)
+not_end NoMemory apart is = omega (arith, ap first_codes is)
 
 -- an exchange with another reply is outside a message
 outside_by : (exchange : Exchange) (reply : Reply) → exchange.replies ≡ reply_line reply ∷ []
@@ -166,6 +222,9 @@ fault_apart line Done is = absurd (let same : Done ≡ BadArgument = is.3.0 in c
 fault_apart line SendLines is = absurd (let same : SendLines ≡ BadArgument = is.3.0 in cc)
 fault_apart line BadArgument is = (λ same. cc, λ same. cc)
 fault_apart line BadSequence is = absurd (let same : BadSequence ≡ BadArgument = is.3.0 in cc)
+fault_apart line LongLine is = absurd (let same : LongLine ≡ BadArgument = is.3.0 in cc)
+fault_apart line BadLine is = absurd (let same : BadLine ≡ BadArgument = is.3.0 in cc)
+fault_apart line NoMemory is = absurd (let same : NoMemory ≡ BadArgument = is.3.0 in cc)
 
 module _ (old new : State) (exchange : Exchange) (asked : Next) (apart : old.stage ≢ Lines) where
   -- a command whose reply is not 354 leaves the session outside a message
@@ -522,3 +581,14 @@ delivers_all exchanges old new fresh runs =
     let all : follow.messages ≡ lines_of new =
     sym (follow.received ∙ ap (λ (state : State). lines_of state ++ follow.messages) fresh) in
     subst (Delivers exchanges) all follow.delivers
+
+-- the session gives up at a line
+pub gives_up : (old new : State) (fault : Reply) → (fault ≡ NoMemory) ⊎ (fault ≡ BadLine)
+    → new.received ≡ old.received → GivesUp old (reply_line fault ∷ []) next.Close new
+gives_up old new fault why kept = record {
+  fault = fault;
+  why = why;
+  says = refl;
+  closes = refl;
+  kept = kept;
+}

@@ -1,19 +1,20 @@
 -- The messages that a whole session delivers, told from its lines and the replies to them.
-use Rattle.std.specs.List.{AllZip, flat_map}
+use Rattle.std.specs.List.{AllZip}
 use Rattle.std.specs.Prelude.{◌≡◌, ◌≢◌, ◌⊎◌, ℕ, List, [], ◌∷◌, ◌++◌, All, codes, map}
-use Rattle.ascii.specs.Spans.{items_of}
-use Rattle.ascii.specs.declared.iter.spans.Ending.TheVariants.{CrLf}
-use Rattle.ascii_lines.specs.LineReader.{Reading}
-use Rattle.ascii_lines.specs.LineWriter.{Writing}
-use Rattle.ascii_lines.specs.Serve.{SendsBytes, Serves}
+use Rattle.ascii.specs.Lines.{Line}
+use Rattle.ascii_lines.specs.Serve as serve
+use Rattle.ascii_lines.specs.Serve.{ChannelState, Serves, Step, line_reply, took}
+use Rattle.ascii_lines.specs.declared.line_reader.LineError.{LineError}
 use Rattle.ascii_lines.specs.declared.serving.Next.{Next}
+use Rattle.ascii_lines.specs.declared.serving.Next.TheVariants as next
 use Rattle.ascii_lines.specs.declared.serving.Stop.{Stop}
 use Rattle.example_smtp.specs.Commands.{Says, reply_line}
 use Rattle.example_smtp.specs.Mail.{State, Unstuffs, state_of}
-use Rattle.example_smtp.specs.Session.{Answers}
+use Rattle.example_smtp.specs.Session.{Answers, refusal_of}
 use Rattle.example_smtp.specs.declared.commands.Command.TheVariants.{BeginLines}
 use Rattle.example_smtp.specs.declared.commands.Reply.{Reply}
-use Rattle.example_smtp.specs.declared.commands.Reply.TheVariants.{Done, SendLines}
+use Rattle.example_smtp.specs.declared.commands.Reply.TheVariants.{BadLine, Done, NoMemory}
+use Rattle.example_smtp.specs.declared.commands.Reply.TheVariants.{SendLines}
 use Rattle.example_smtp.specs.declared.session.Session.{Session}
 
 -- a line and the replies to it
@@ -78,19 +79,45 @@ Delivers exchanges (lines ∷ messages) = (rest : List Exchange)
 abbrev pub lines_of : State → List (List (List ℕ))
 lines_of state = map (λ mail. mail.lines) state.received
 
--- what a session answers, as the relation of a handler
-abbrev pub session_answers : Session → List ℕ → List (List ℕ) → Next → Session → Type 0
-session_answers old line replies next new = Answers (state_of old) line replies next (state_of new)
+-- the session gives up at a line, since there is no memory for it, or the input ends in it: it gives
+-- one reply, closes, and the messages that were received are unchanged
+pub record GivesUp (old : State) (texts : List (List ℕ)) (asked : Next) (new : State) : Type 0 where
+  pub fault : Reply
+  pub why : (fault ≡ NoMemory) ⊎ (fault ≡ BadLine)
+  pub says : texts ≡ reply_line fault ∷ []
+  pub closes : asked ≡ next.Close
+  pub kept : new.received ≡ old.received
 
--- lines were served as `Serves` says: `served.state` is the session after the last answer. The
--- exchanges are those lines with the replies to them, and they deliver the messages that this
--- session has received
-pub record ServesMail {S K : Type 0} (reader : Reading S) (writer : Writing K) (old : Session)
-    (why : Stop) (reader_now : Reading S) (writer_now : Writing K) (new : Session) : Type 0 where
-  pub served : Serves session_answers SendsBytes CrLf reader.state writer.state old why
-      reader_now.state writer_now.state new
+-- what a session answers, as the relation of a handler
+abbrev pub session_answers : Session → Line → List serve.Reply → Next → Session → Type 0
+session_answers old input replies asked new = (texts : List (List ℕ))
+    × (replies ≡ map line_reply texts)
+    × (Answers (state_of old) input.body texts asked (state_of new)
+    ⊎ GivesUp (state_of old) texts asked (state_of new))
+
+-- what it replies to an error of the input: one line, and it closes
+abbrev pub session_refuses : Session → LineError → List serve.Reply → Next → Session → Type 0
+session_refuses old error replies asked new =
+    (replies ≡ line_reply (reply_line (refusal_of error)) ∷ []) × (asked ≡ next.Close) × (new ≡ old)
+
+-- the step of a conversation is the exchange
+abbrev pub IsExchange : Step → Exchange → Type 0
+IsExchange (took input replies) exchange =
+    (exchange.line ≡ input.body) × (replies ≡ map line_reply exchange.replies)
+IsExchange other exchange = ⊥
+
+-- the session gave up at a last line, or did not
+abbrev pub IsLast : List Exchange → Type 0
+IsLast exchanges = (exchanges ≡ []) ⊎ ((line : List ℕ) × (fault : Reply)
+    × ((fault ≡ NoMemory) ⊎ (fault ≡ BadLine)) × (exchanges ≡ answered line fault ∷ []))
+
+-- a conversation was held as `Serves` says. Its steps are exchanges, which deliver the messages that
+-- the session has received, and maybe a last one at which it gave up
+pub record ServesMail (old : ChannelState) (session : Session) (why : Stop) (new : ChannelState)
+    (last : Session) : Type 0 where
+  pub served : Serves session_answers session_refuses old session why new last
   pub exchanges : List Exchange
-  pub lines : map (λ exchange. exchange.line) exchanges
-      ≡ map (λ line. line.body) (items_of served.talk.inputs)
-  pub replies : flat_map (λ exchange. exchange.replies) exchanges ≡ served.replies
-  pub delivers : Delivers exchanges (lines_of (state_of served.state))
+  pub given_up : List Exchange
+  pub is_last : IsLast given_up
+  pub steps : AllZip IsExchange served.talk.steps (exchanges ++ given_up)
+  pub delivers : Delivers exchanges (lines_of (state_of served.talk.state))

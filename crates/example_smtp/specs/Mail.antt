@@ -1,7 +1,7 @@
 -- A message, and the state of the session that receives it.
 use Rattle.std.specs.Prelude.{◌≡◌, ℕ, List, [], ◌∷◌, map}
-use Rattle.ascii_lines.specs.Serve.{reply_texts}
 use Rattle.ascii.specs.Search.{StartsWith}
+use Rattle.ascii.specs.StringState.{StringState}
 use Rattle.example_smtp.specs.declared.session.Message.{Message}
 use Rattle.example_smtp.specs.declared.session.Session.{Session}
 use Rattle.example_smtp.specs.declared.session.Stage.{Stage}
@@ -20,12 +20,16 @@ pub record State : Type 0 where
   pub draft : Mail
   pub received : List Mail
 
+-- the texts of strings
+abbrev pub string_texts : List StringState → List (List ℕ)
+string_texts strings = map (λ string. string.text) strings
+
 -- the texts of a message
 abbrev pub mail_of : Message → Mail
 mail_of message = record {
   sender = message.sender.text;
-  recipients = reply_texts message.recipients.items;
-  lines = reply_texts message.lines.items;
+  recipients = string_texts message.recipients.items;
+  lines = string_texts message.lines.items;
 }
 
 -- the state of a session, without its layout

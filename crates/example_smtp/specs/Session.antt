@@ -1,7 +1,10 @@
 -- What a session answers to a line.
-use Rattle.std.specs.Prelude.{◌≡◌, ◌≢◌, ◌⊎◌, ℕ, List, [], ◌∷◌, ◌++◌, MatchResult, ⊤, codes}
+use Rattle.std.specs.Prelude.{◌≡◌, ◌≢◌, ◌⊎◌, ℕ, List, [], ◌∷◌, ◌++◌, MatchResult, None, Some, ⊤, codes}
+use Rattle.std.specs.declared.option.Option.{Option}
 use Rattle.std.specs.declared.result.Result.{Result}
 use Rattle.ascii.specs.View.{text_of}
+use Rattle.ascii_lines.specs.declared.line_reader.LineError.{LineError}
+use Rattle.ascii_lines.specs.declared.line_reader.LineError.TheVariants.{TooLong}
 use Rattle.ascii_lines.specs.declared.serving.Next.{Next}
 use Rattle.ascii_lines.specs.declared.serving.Next.TheVariants as next
 use Rattle.example_smtp.specs.Commands.{ReadsCommand, reply_line}
@@ -116,3 +119,13 @@ AnswersAt other old line replies asked new = AnswersCommand old line replies ask
 -- the answer of a session in the state `old` to a line
 abbrev pub Answers : State → List ℕ → List (List ℕ) → Next → State → Type 0
 Answers old line replies asked new = AnswersAt old.stage old line replies asked new
+
+-- the lines of a reply, if there is one
+abbrev pub texts_of : Option Reply → List (List ℕ)
+texts_of None = []
+texts_of (Some said) = reply_line said ∷ []
+
+-- the reply to an error of the input
+abbrev pub refusal_of : LineError → Reply
+refusal_of (TooLong start) = reply.LongLine
+refusal_of other = reply.BadLine

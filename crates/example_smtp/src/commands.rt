@@ -77,6 +77,12 @@ pub enum Reply {
     BadArgument,
     /// The command is not allowed at this point.
     BadSequence,
+    /// The line is longer than the buffer.
+    LongLine,
+    /// The line is not ASCII, has a CR or an LF by itself, or was cut off.
+    BadLine,
+    /// There is no memory for what the line asks for.
+    NoMemory,
 }
 
 impl Reply {
@@ -91,6 +97,9 @@ impl Reply {
             Reply::UnknownCommand => AsciiStr::literal("500 unknown command"),
             Reply::BadArgument => AsciiStr::literal("501 bad argument"),
             Reply::BadSequence => AsciiStr::literal("503 bad sequence"),
+            Reply::LongLine => AsciiStr::literal("500 line too long"),
+            Reply::BadLine => AsciiStr::literal("554 bad line"),
+            Reply::NoMemory => AsciiStr::literal("452 out of memory"),
         }
     }
 }

@@ -6,19 +6,19 @@ mod commands;
 mod receiving;
 mod session;
 
-use ascii_lines::{AsciiStr, Ending, Endings, Input, LineReader, LineWriter, Output};
+use ascii_lines::{AsciiStr, Duplex, Ending, Endings, LineChannel};
 use receiving::receive;
 use session::Session;
 use std::io;
 
 fn main(rt: HostRuntime) -> io::Result<()> {
     let alloc = rt.alloc();
-    let mut reader = LineReader::new(alloc, Input::new(rt.stdin()), 4096, Endings::Any)?;
-    let mut writer = LineWriter::new(alloc, Output::new(rt.stdout()), 4096)?;
+    let device = Duplex::new(rt.stdin(), rt.stdout());
+    let mut lines = LineChannel::new(alloc, device, 4096, Endings::CrLfStrict, Ending::CrLf)?;
     let mut session = Session::new(alloc);
-    if let Err(error) = writer.write_line(AsciiStr::literal("220 ready"), Ending::CrLf) {
+    if let Err(error) = lines.greet(AsciiStr::literal("220 ready")) {
         return eprintln!(rt; "{error}");
     }
-    let stop = receive(alloc, &mut reader, &mut writer, &mut session);
+    let stop = receive(&mut lines, &mut session);
     eprintln!(rt; "{stop:?}, {} messages", session.message_count())
 }

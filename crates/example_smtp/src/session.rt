@@ -1,15 +1,15 @@
 //! A session with one client: the message that it sends, and the messages that were received.
 
-ghost use Rattle.std.specs.Prelude.{◌↔◌, ◌≡◌, [], ◌∷◌, IfOk, IsTrue, OnOk, length};
+ghost use Rattle.std.specs.Prelude.{◌↔◌, ◌≡◌, IfOk, IsTrue, OnErr, OnOk, length, map};
 ghost use Rattle.ascii.specs.View.{text_of};
-ghost use Rattle.ascii_lines.specs.Serve.{IsRequest, reply_texts};
-ghost use Rattle.example_smtp.specs.Commands.{reply_line};
+ghost use Rattle.ascii_lines.specs.Serve.{IsRequest, Says, line_reply};
 ghost use Rattle.example_smtp.specs.Mail.{Unstuffs};
-ghost use Rattle.example_smtp.specs.Session.{IsAllowed, next_after, reply_to, reset_stage};
+ghost use Rattle.example_smtp.specs.Session.{IsAllowed, next_after, refusal_of, reply_to};
+ghost use Rattle.example_smtp.specs.Session.{reset_stage, texts_of};
 
 use crate::commands::{Command, Reply, read_command};
-use ascii_lines::{AsciiStr, AsciiString, Handler, Next};
-use std::alloc::{AllocError, Global};
+use ascii_lines::{AsciiStr, AsciiString, Ending, Handler, LineError, Next, Replies, Sink};
+use std::alloc::{AllocError, Allocator, Global};
 use std::mem::replace;
 
 /// What a session awaits.
@@ -50,9 +50,17 @@ impl Message {
     }
 }
 
+/// What a session does with a line: its reply, if it gives one, and what it asks for next.
+#[derive(Clone, Copy, PartialEq, Eq, Debug)]
+pub struct Plan {
+    reply: Option<Reply>,
+    next: Next,
+}
+
 /// What is awaited, the message that was begun, and the messages that were received.
 #[derive(Drop)]
 pub struct Session {
+    alloc: Global,
     stage: Stage,
     draft: Message,
     received: Vec<Message>,
@@ -60,13 +68,15 @@ pub struct Session {
 
 impl Session {
     ghost use Rattle.example_smtp.specs.Mail.{IsFresh, no_mail, state_of};
-    ghost use Rattle.example_smtp.specs.Session.{AnswersCommand, AnswersLine, Follows, after};
+    ghost use Rattle.example_smtp.specs.Session.{Answers, AnswersCommand, AnswersLine, Follows};
+    ghost use Rattle.example_smtp.specs.Session.{after, texts_of};
 
     /// Creates a session that has received nothing. Does not allocate.
     pub fn new(alloc: Global) -> Session
         ensures { IsFresh (state_of result) }
     {
         Session {
+            alloc,
             stage: Stage::Greeting,
             draft: Message::new(alloc),
             received: Vec::new(alloc),
@@ -80,71 +90,80 @@ impl Session {
         self.received.len()
     }
 
-    /// Answers a line that is to say a command.
-    ///
-    /// Condition: `replies` is empty.
-    fn answer_command(
-        &mut self,
-        alloc: Global,
-        line: AsciiStr<'_>,
-        replies: &mut Vec<AsciiString>,
-    ) -> Result<Next, AllocError>
-        requires { replies.old.items ≡ [] }
-        ensures answers { IfOk result (λ next. AnswersCommand (state_of self.old)
-            (text_of line.entry) (reply_texts replies.new.items) next (state_of self.new)) }
-        ensures request { IfOk result IsRequest }
+    /// Takes a line, and returns what to do; or an error if an allocation fails, and then the messages that
+    /// were received are unchanged.
+    fn plan(&mut self, line: AsciiStr<'_>) -> Result<Plan, AllocError>
+        ensures answers { IfOk result (λ plan. Answers (state_of self.old) (text_of line.entry)
+            (texts_of plan.reply) plan.next (state_of self.new)) }
+        ensures request { IfOk result (λ plan. IsRequest plan.next) }
+        ensures kept { OnErr result
+            ((state_of self.new).received ≡ (state_of self.old).received) }
+    {
+        match self.stage {
+            Stage::Lines => self.plan_line(line),
+            _ => self.plan_command(line),
+        }
+    }
+
+    /// Takes a line that is to say a command.
+    fn plan_command(&mut self, line: AsciiStr<'_>) -> Result<Plan, AllocError>
+        ensures answers { IfOk result (λ plan. AnswersCommand (state_of self.old)
+            (text_of line.entry) (texts_of plan.reply) plan.next (state_of self.new)) }
+        ensures request { IfOk result (λ plan. IsRequest plan.next) }
+        ensures kept { OnErr result
+            ((state_of self.new).received ≡ (state_of self.old).received) }
     {
         match read_command(line) {
-            Ok(command) => self.follow(alloc, command, replies),
-            Err(fault) => {
-                say(alloc, fault, replies)?;
-                Ok(Next::Line)
-            }
+            Ok(command) => self.follow(command),
+            Err(fault) => Ok(Plan {
+                reply: Some(fault),
+                next: Next::Line,
+            }),
         }
     }
 
     /// Carries out a command if it is allowed, and otherwise rejects it.
-    ///
-    /// Condition: `replies` is empty.
-    fn follow(
-        &mut self,
-        alloc: Global,
-        command: Command<'_>,
-        replies: &mut Vec<AsciiString>,
-    ) -> Result<Next, AllocError>
-        requires { replies.old.items ≡ [] }
-        ensures answers { IfOk result (λ next. Follows (state_of self.old) command.entry
-            (reply_texts replies.new.items) next (state_of self.new)) }
-        ensures request { IfOk result IsRequest }
+    fn follow(&mut self, command: Command<'_>) -> Result<Plan, AllocError>
+        ensures answers { IfOk result (λ plan. Follows (state_of self.old) command.entry
+            (texts_of plan.reply) plan.next (state_of self.new)) }
+        ensures request { IfOk result (λ plan. IsRequest plan.next) }
+        ensures kept { OnErr result
+            ((state_of self.new).received ≡ (state_of self.old).received) }
     {
         if !is_allowed(self.stage, command) {
-            say(alloc, Reply::BadSequence, replies)?;
-            return Ok(Next::Line);
+            return Ok(Plan {
+                reply: Some(Reply::BadSequence),
+                next: Next::Line,
+            });
         }
-        self.carry_out(alloc, command)?;
-        say(alloc, reply_of(command), replies)?;
-        Ok(next_of(command))
+        self.carry_out(command)?;
+        Ok(Plan {
+            reply: Some(reply_of(command)),
+            next: next_of(command),
+        })
     }
 
     /// Carries out a command.
-    fn carry_out(&mut self, alloc: Global, command: Command<'_>) -> Result<(), AllocError>
-        ensures { OnOk result (state_of self.new ≡ after (state_of self.old) command.entry) }
+    fn carry_out(&mut self, command: Command<'_>) -> Result<(), AllocError>
+        ensures done { OnOk result (state_of self.new ≡ after (state_of self.old) command.entry) }
+        ensures kept { OnErr result
+            ((state_of self.new).received ≡ (state_of self.old).received) }
     {
         match command {
             Command::Introduce { .. } => {
-                self.draft = Message::new(alloc);
+                self.draft = Message::new(self.alloc);
                 self.stage = Stage::Ready;
                 Ok(())
             }
             Command::SetSender { address } => {
-                let sender = address.to_ascii_string(alloc)?;
-                self.draft = Message::new(alloc);
+                let sender = address.to_ascii_string(self.alloc)?;
+                self.draft = Message::new(self.alloc);
                 self.draft.sender = sender;
                 self.stage = Stage::Sender;
                 Ok(())
             }
             Command::AddRecipient { address } => {
-                let recipient = address.to_ascii_string(alloc)?;
+                let recipient = address.to_ascii_string(self.alloc)?;
                 self.draft.recipients.push(recipient)?;
                 self.stage = Stage::Recipients;
                 Ok(())
@@ -155,7 +174,7 @@ impl Session {
                 Ok(())
             }
             Command::Reset => {
-                self.draft = Message::new(alloc);
+                self.draft = Message::new(self.alloc);
                 self.stage = stage_after_reset(self.stage);
                 Ok(())
             }
@@ -163,50 +182,86 @@ impl Session {
         }
     }
 
-    /// Answers a line of a message: a dot alone ends the message.
-    ///
-    /// Condition: `replies` is empty.
-    fn answer_line(
-        &mut self,
-        alloc: Global,
-        sent: AsciiStr<'_>,
-        replies: &mut Vec<AsciiString>,
-    ) -> Result<Next, AllocError>
-        requires { replies.old.items ≡ [] }
-        ensures answers { IfOk result (λ next. AnswersLine (state_of self.old) (text_of sent.entry)
-            (reply_texts replies.new.items) next (state_of self.new)) }
-        ensures request { IfOk result IsRequest }
+    /// Takes a line of a message: a dot alone ends the message.
+    fn plan_line(&mut self, sent: AsciiStr<'_>) -> Result<Plan, AllocError>
+        ensures answers { IfOk result (λ plan. AnswersLine (state_of self.old)
+            (text_of sent.entry) (texts_of plan.reply) plan.next (state_of self.new)) }
+        ensures request { IfOk result (λ plan. IsRequest plan.next) }
+        ensures kept { OnErr result
+            ((state_of self.new).received ≡ (state_of self.old).received) }
     {
+        let mut reply = None;
         if sent.eq_str(".") {
-            let draft = replace(&mut self.draft, Message::new(alloc));
+            let draft = replace(&mut self.draft, Message::new(self.alloc));
             self.received.push(draft)?;
             self.stage = Stage::Ready;
-            say(alloc, Reply::Done, replies)?;
+            reply = Some(Reply::Done);
         } else {
-            let line = unstuffed(sent).to_ascii_string(alloc)?;
+            let line = unstuffed(sent).to_ascii_string(self.alloc)?;
             self.draft.lines.push(line)?;
         }
-        Ok(Next::Line)
+        Ok(Plan {
+            reply,
+            next: Next::Line,
+        })
     }
 }
 
 impl Handler for Session {
-    ghost use Rattle.example_smtp.specs.Mail.{state_of};
-    ghost use Rattle.example_smtp.specs.Session.{Answers};
+    ghost use Rattle.example_smtp.specs.Deliveries.{session_answers, session_refuses};
 
-    ghost answers = { λ old line replies next new.
-        Answers (state_of old) line replies next (state_of new) };
+    ghost answers = { session_answers };
 
-    fn answer(
+    ghost refuses = { session_refuses };
+
+    fn answer<K: Sink, A: Allocator>(
         &mut self,
-        alloc: Global,
         text: AsciiStr<'_>,
-        replies: &mut Vec<AsciiString>,
-    ) -> Result<Next, AllocError> {
-        match self.stage {
-            Stage::Lines => self.answer_line(alloc, text, replies),
-            _ => self.answer_command(alloc, text, replies),
+        ending: Ending,
+        replies: &mut Replies<K, A>,
+    ) -> Next {
+        if ending == Ending::Absent {
+            say(Some(Reply::BadLine), replies);
+            return Next::Close;
         }
+        match self.plan(text) {
+            Ok(plan) => {
+                say(plan.reply, replies);
+                plan.next
+            }
+            Err(AllocError) => {
+                say(Some(Reply::NoMemory), replies);
+                Next::Close
+            }
+        }
+    }
+
+    fn refuse<K: Sink, A: Allocator>(
+        &mut self,
+        error: LineError,
+        replies: &mut Replies<K, A>,
+    ) -> Next {
+        say(Some(refusal(error)), replies);
+        Next::Close
+    }
+}
+
+/// Returns the reply to an error of the input.
+fn refusal(error: LineError) -> Reply
+    ensures { result ≡ refusal_of error }
+{
+    match error {
+        LineError::TooLong(_) => Reply::LongLine,
+        _ => Reply::BadLine,
+    }
+}
+
+/// Writes a reply, if there is one.
+fn say<K: Sink, A: Allocator>(reply: Option<Reply>, replies: &mut Replies<K, A>)
+    ensures { Says replies.old (map line_reply (texts_of reply)) replies.new }
+{
+    if let Some(reply) = reply {
+        replies.fixed_line(reply.line());
     }
 }
 
@@ -262,15 +317,4 @@ fn unstuffed<'a>(sent: AsciiStr<'a>) -> AsciiStr<'a>
         Some(line) => line,
         None => sent,
     }
-}
-
-/// Appends the line of a reply.
-///
-/// Condition: `replies` is empty.
-fn say(alloc: Global, reply: Reply, replies: &mut Vec<AsciiString>) -> Result<(), AllocError>
-    requires { replies.old.items ≡ [] }
-    ensures { OnOk result (reply_texts replies.new.items ≡ reply_line reply ∷ []) }
-{
-    replies.push(reply.line().to_ascii_string(alloc)?)?;
-    Ok(())
 }

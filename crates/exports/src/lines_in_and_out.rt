@@ -1,18 +1,19 @@
 //! Lines that are read, written and answered, over devices that give and take little or fail.
 
 ghost use Rattle.std.specs.Str.{IsAscii};
+ghost use Rattle.ascii_lines.specs.Serve.{IsRequest};
 
 use crate::answer::Answer;
 use crate::devices::{Device, Given, Taken};
 use crate::steps::Step;
 use crate::walks::ending_name;
 use ascii::iter::Ending;
-use ascii::{AsciiChar, AsciiStr, AsciiString, bytes};
+use ascii::{AsciiChar, AsciiStr, bytes};
 use ascii_lines::{
-    Endings, Handler, Input, LineError, LineReader, LineWriter, Next, Output, Stop, WriteError,
-    collect_lines, serve,
+    Duplex, Endings, Handler, Input, LineChannel, LineError, LineReader, LineWriter, Next, Output,
+    Replies, Sink, Stop, WriteError, collect_lines, serve,
 };
-use std::alloc::{AllocError, Global};
+use std::alloc::{Allocator, Global};
 
 /// What a reader with a buffer of `size` bytes returns to each step, and its position after it. The kinds are 0
 /// for the next line, 1 to 3 for the endings of `Endings` from now on, 4 for a part of `at` bytes, and 5 for the next
@@ -186,28 +187,50 @@ pub fn ask_conversation(
     room: &mut [u8],
 ) -> usize {
     let mut answer = Answer::new(alloc);
-    let source = Input::new(Given::new(source, *reads));
-    let reader = LineReader::new(alloc, source, size, Endings::Any);
-    let writer = LineWriter::new(alloc, Output::new(Taken::new(alloc, *writes)), size);
-    if let (Ok(mut reader), Ok(mut writer)) = (reader, writer) {
-        let mut echo = Echo { awaits_part: false };
-        match serve(alloc, &mut reader, &mut writer, Ending::CrLf, &mut echo) {
-            Stop::Closed => answer.name("closed"),
-            Stop::EndOfInput => answer.none(),
-            Stop::Reader(error) => put_error(error, &mut answer),
-            Stop::Writer(error) => put_write_error(error, &mut answer),
-            Stop::Memory => answer.failed(),
+    let device = Duplex::new(Given::new(source, *reads), Taken::new(alloc, *writes));
+    if let Ok(mut lines) = LineChannel::new(alloc, device, size, Endings::Any, Ending::CrLf) {
+        let mut echo = Echo {
+            alloc,
+            awaits_part: false,
+            fault: None,
+        };
+        match (serve(&mut lines, &mut echo), echo.fault) {
+            (Stop::Closed, Some(error)) => put_write_error(error, &mut answer),
+            (Stop::Closed, None) => answer.name("closed"),
+            (Stop::EndOfInput, _) => answer.none(),
+            (Stop::Reader(error), _) => put_error(error, &mut answer),
+            (Stop::Writer, _) => put_write_error(WriteError::Write, &mut answer),
         }
-        answer.bytes(&writer.into_sink().into_inner().bytes);
+        let (_, output) = lines.into_device().into_parts();
+        answer.bytes(&output.into_inner().bytes);
     }
     answer.finish(room)
 }
 
 /// A handler. It replies to a line or a part in upper case. After a line that starts with `p` it asks for a
-/// part of three bytes, and after the line `q` it closes.
+/// part of three bytes, and after the line `q` it closes; so it does if a reply has a break.
 #[derive(Drop)]
 struct Echo {
+    alloc: Global,
     awaits_part: bool,
+    fault: Option<WriteError>,
+}
+
+impl Echo {
+    /// What is asked for after a text.
+    fn next(&mut self, text: AsciiStr<'_>) -> Next
+        ensures { IsRequest result }
+    {
+        let is_part = self.awaits_part;
+        self.awaits_part = !is_part && text.first() == Some(AsciiChar::p);
+        if self.awaits_part {
+            Next::Part(3)
+        } else if !is_part && text.as_bytes() == b"q".as_slice() {
+            Next::Close
+        } else {
+            Next::Line
+        }
+    }
 }
 
 impl Handler for Echo {
@@ -215,21 +238,32 @@ impl Handler for Echo {
 
     ghost answers = { λ _ _ _ _ _. ⊤ };
 
-    fn answer(
+    ghost refuses = { λ _ _ _ _ _. ⊤ };
+
+    fn answer<K: Sink, A: Allocator>(
         &mut self,
-        alloc: Global,
         text: AsciiStr<'_>,
-        replies: &mut Vec<AsciiString>,
-    ) -> Result<Next, AllocError> {
-        replies.push(text.to_ascii_uppercase(alloc)?)?;
-        let is_part = self.awaits_part;
-        self.awaits_part = !is_part && text.first() == Some(AsciiChar::p);
-        if self.awaits_part {
-            Ok(Next::Part(3))
-        } else if !is_part && text.as_bytes() == b"q".as_slice() {
-            Ok(Next::Close)
-        } else {
-            Ok(Next::Line)
+        _ending: Ending,
+        replies: &mut Replies<K, A>,
+    ) -> Next {
+        let Ok(reply) = text.to_ascii_uppercase(self.alloc) else {
+            self.fault = Some(WriteError::Write);
+            return Next::Close;
+        };
+        match replies.line(reply.as_ascii_str()) {
+            Ok(()) => self.next(text),
+            Err(place) => {
+                self.fault = Some(WriteError::LineBreak(place));
+                Next::Close
+            }
         }
+    }
+
+    fn refuse<K: Sink, A: Allocator>(
+        &mut self,
+        _error: LineError,
+        _replies: &mut Replies<K, A>,
+    ) -> Next {
+        Next::Close
     }
 }

@@ -9,10 +9,10 @@ mod next_bytes;
 mod of_ascii_lines;
 mod serving;
 
-ghost use Rattle.std.specs.Prelude.{◌≡◌, ◌∷◌, [], IsTrue};
+ghost use Rattle.std.specs.Prelude.{IsTrue};
 
-use ascii_lines::{AsciiStr, AsciiString, Handler, Next};
-use std::alloc::{AllocError, Global};
+use ascii_lines::{AsciiStr, Ending, Handler, LineError, Next, Replies, Sink};
+use std::alloc::{Allocator, Global};
 use std::fmt::Debug;
 use std::process::Abort;
 
@@ -28,22 +28,32 @@ fn assert_shows<T: Debug>(rt: &impl Abort, alloc: Global, got: &T, want: &str) {
     testing::compare_debug(alloc, got, want).expect(rt, "the output of {:?} differs")
 }
 
-/// A handler that replies with the text that it is handed.
+/// A handler that replies with the text that it is handed, and closes after a fault.
 #[derive(Drop)]
 struct Echo;
 
 impl Handler for Echo {
-    ghost use Rattle.ascii_lines.specs.declared.serving.Next.TheVariants.{Line};
+    ghost answers = { λ old input replies next new. Unit {0} };
 
-    ghost answers = { λ old text replies next new. (replies ≡ text ∷ []) × (next ≡ Line) };
+    ghost refuses = { λ old error replies next new. Unit {0} };
 
-    fn answer(
+    fn answer<K: Sink, A: Allocator>(
         &mut self,
-        alloc: Global,
         text: AsciiStr<'_>,
-        replies: &mut Vec<AsciiString>,
-    ) -> Result<Next, AllocError> {
-        replies.push(text.to_ascii_string(alloc)?)?;
-        Ok(Next::Line)
+        _ending: Ending,
+        replies: &mut Replies<K, A>,
+    ) -> Next {
+        replies.part(text);
+        replies.fixed_line(AsciiStr::literal(""));
+        Next::Line
+    }
+
+    fn refuse<K: Sink, A: Allocator>(
+        &mut self,
+        _error: LineError,
+        replies: &mut Replies<K, A>,
+    ) -> Next {
+        replies.fixed_line(AsciiStr::literal("no"));
+        Next::Close
     }
 }

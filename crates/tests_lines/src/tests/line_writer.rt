@@ -16,13 +16,18 @@ pub struct Counted {
 }
 
 /// A sink that fails at this call, from 0. A flush is a call.
-pub fn sink(alloc: Global, most: usize, fails: u64) -> Output<Counted> {
-    Output::new(Counted {
+fn sink(alloc: Global, most: usize, fails: u64) -> Output<Counted> {
+    Output::new(make_counted(alloc, most, fails))
+}
+
+/// A writer that takes `most` bytes a call, and fails at this call, from 0. A flush is a call.
+pub fn make_counted(alloc: Global, most: usize, fails: u64) -> Counted {
+    Counted {
         taken: Vec::new(alloc),
         most,
         fails,
         calls: 0,
-    })
+    }
 }
 
 impl Counted {

@@ -3,8 +3,8 @@
 use super::Echo;
 use ascii_devices::Sink;
 use ascii_lines::{
-    Ending, Endings, Handler, Input, LineError, LineReader, LineWriter, Output, WriteError,
-    collect_lines, read_block, serve,
+    AsciiStr, Duplex, Ending, Endings, Handler, Input, LineChannel, LineError, LineReader,
+    LineWriter, Output, Replies, WriteError, collect_lines, read_block, serve,
 };
 use std::convert::AsSlice;
 use testing::{assert_debug, view};
@@ -302,24 +302,159 @@ fn read_block_of_ascii_lines(rt: HostRuntime) {
     assert_debug!(rt; reader.position(), "11");
 }
 
+// Replies::new
+#[test]
+fn new_of_replies(rt: HostRuntime) {
+    let alloc = rt.alloc();
+    let writer = LineWriter::new(alloc, Output::new(Vec::new(alloc)), 64).expect(&rt, "refused");
+    let mut replies = Replies::new(writer, Ending::Lf);
+    assert_debug!(rt; Echo.answer(view("ab"), Ending::Lf, &mut replies), "Line");
+    let mut writer = replies.into_writer();
+    assert_debug!(rt; writer.flush(), "Ok(())");
+    assert_debug!(rt; writer.into_sink().into_inner(), "[97, 98, 10]");
+}
+
+// Replies::into_writer
+#[test]
+fn into_writer_of_replies(rt: HostRuntime) {
+    let alloc = rt.alloc();
+    let writer = LineWriter::new(alloc, Output::new(Vec::new(alloc)), 64).expect(&rt, "refused");
+    assert_debug!(
+        rt;
+        Replies::new(writer, Ending::Lf).into_writer().into_sink().into_inner(),
+        "[]"
+    );
+}
+
+// Replies::line
+#[test]
+fn line_of_replies(rt: HostRuntime) {
+    let alloc = rt.alloc();
+    let writer = LineWriter::new(alloc, Output::new(Vec::new(alloc)), 64).expect(&rt, "refused");
+    let mut replies = Replies::new(writer, Ending::Lf);
+    assert_debug!(rt; replies.line(view("ab")), "Ok(())");
+    assert_debug!(rt; replies.line(view("a\nb")), "Err(1)");
+}
+
+// Replies::fixed_line
+#[test]
+fn fixed_line_of_replies(rt: HostRuntime) {
+    let alloc = rt.alloc();
+    let writer = LineWriter::new(alloc, Output::new(Vec::new(alloc)), 64).expect(&rt, "refused");
+    let mut replies = Replies::new(writer, Ending::CrLf);
+    replies.fixed_line(AsciiStr::literal("ok"));
+    let mut writer = replies.into_writer();
+    assert_debug!(rt; writer.flush(), "Ok(())");
+    assert_debug!(rt; writer.into_sink().into_inner(), "[111, 107, 13, 10]");
+}
+
+// Replies::part
+#[test]
+fn part_of_replies(rt: HostRuntime) {
+    let alloc = rt.alloc();
+    let writer = LineWriter::new(alloc, Output::new(Vec::new(alloc)), 64).expect(&rt, "refused");
+    let mut replies = Replies::new(writer, Ending::CrLf);
+    replies.part(view("a\nb"));
+    let mut writer = replies.into_writer();
+    assert_debug!(rt; writer.flush(), "Ok(())");
+    assert_debug!(rt; writer.into_sink().into_inner(), "[97, 10, 98]");
+}
+
+// Replies::text
+#[test]
+fn text_of_replies(rt: HostRuntime) {
+    let alloc = rt.alloc();
+    let writer = LineWriter::new(alloc, Output::new(Vec::new(alloc)), 64).expect(&rt, "refused");
+    let mut replies = Replies::new(writer, Ending::CrLf);
+    replies.text(view("a\nb"));
+    let mut writer = replies.into_writer();
+    assert_debug!(rt; writer.flush(), "Ok(())");
+    assert_debug!(rt; writer.into_sink().into_inner(), "[97, 10, 98, 13, 10]");
+}
+
 // Handler::answer
 #[test]
 fn answer_of_handler(rt: HostRuntime) {
     let alloc = rt.alloc();
-    let mut replies = Vec::new(alloc);
-    assert_debug!(rt; Echo.answer(alloc, view("ab"), &mut replies), "Ok(Line)");
-    assert_debug!(rt; replies.len(), "1");
+    let writer = LineWriter::new(alloc, Output::new(Vec::new(alloc)), 64).expect(&rt, "refused");
+    let mut replies = Replies::new(writer, Ending::CrLf);
+    assert_debug!(rt; Echo.answer(view("ab"), Ending::CrLf, &mut replies), "Line");
+    let mut writer = replies.into_writer();
+    assert_debug!(rt; writer.flush(), "Ok(())");
+    assert_debug!(rt; writer.into_sink().into_inner(), "[97, 98, 13, 10]");
+}
+
+// Handler::refuse
+#[test]
+fn refuse_of_handler(rt: HostRuntime) {
+    let alloc = rt.alloc();
+    let device = Duplex::new(b"a\n\xff\n".as_slice(), Vec::new(alloc));
+    let mut lines = LineChannel::new(alloc, device, 64, Endings::Any, Ending::Lf).expect(
+        &rt, "refused",
+    );
+    assert_debug!(rt; serve(&mut lines, &mut Echo), "Reader(NotAscii(2))");
+    let (_, output) = lines.into_device().into_parts();
+    assert_debug!(rt; output.into_inner(), "[97, 10, 110, 111, 10]");
+}
+
+// LineChannel::new
+#[test]
+fn new_of_line_channel(rt: HostRuntime) {
+    let alloc = rt.alloc();
+    let device = Duplex::new(b"ab\r\n".as_slice(), Vec::new(alloc));
+    let lines = LineChannel::new(alloc, device, 64, Endings::CrLfStrict, Ending::CrLf).expect(
+        &rt, "refused",
+    );
+    assert_debug!(rt; lines.position(), "0");
+}
+
+// LineChannel::greet
+#[test]
+fn greet_of_line_channel(rt: HostRuntime) {
+    let alloc = rt.alloc();
+    let device = Duplex::new(b"".as_slice(), Vec::new(alloc));
+    let mut lines = LineChannel::new(alloc, device, 64, Endings::Any, Ending::Lf).expect(
+        &rt, "refused",
+    );
+    assert_debug!(rt; lines.greet(view("hi")), "Ok(())");
+    assert_debug!(rt; serve(&mut lines, &mut Echo), "EndOfInput");
+    let (_, output) = lines.into_device().into_parts();
+    assert_debug!(rt; output.into_inner(), "[104, 105, 10]");
+}
+
+// LineChannel::into_device
+#[test]
+fn into_device_of_line_channel(rt: HostRuntime) {
+    let alloc = rt.alloc();
+    let device = Duplex::new(b"ab".as_slice(), Vec::new(alloc));
+    let lines = LineChannel::new(alloc, device, 64, Endings::Any, Ending::Lf).expect(
+        &rt, "refused",
+    );
+    let (input, _) = lines.into_device().into_parts();
+    assert_debug!(rt; input.into_inner(), "[97, 98]");
+}
+
+// LineChannel::position
+#[test]
+fn position_of_line_channel(rt: HostRuntime) {
+    let alloc = rt.alloc();
+    let device = Duplex::new(b"a\r\nb".as_slice(), Vec::new(alloc));
+    let mut lines = LineChannel::new(alloc, device, 64, Endings::Any, Ending::Lf).expect(
+        &rt, "refused",
+    );
+    assert_debug!(rt; serve(&mut lines, &mut Echo), "EndOfInput");
+    assert_debug!(rt; lines.position(), "4");
 }
 
 // serve
 #[test]
 fn serve_of_ascii_lines(rt: HostRuntime) {
     let alloc = rt.alloc();
-    let source = Input::new(b"a\r\nb".as_slice());
-    let mut reader = LineReader::new(alloc, source, 64, Endings::Any).expect(&rt, "refused");
-    let mut writer = LineWriter::new(alloc, Output::new(Vec::new(alloc)), 64).expect(
+    let device = Duplex::new(b"a\r\nb".as_slice(), Vec::new(alloc));
+    let mut lines = LineChannel::new(alloc, device, 64, Endings::Any, Ending::Lf).expect(
         &rt, "refused",
     );
-    assert_debug!(rt; serve(alloc, &mut reader, &mut writer, Ending::Lf, &mut Echo), "EndOfInput");
-    assert_debug!(rt; writer.into_sink().into_inner(), "[97, 10, 98, 10]");
+    assert_debug!(rt; serve(&mut lines, &mut Echo), "EndOfInput");
+    let (_, output) = lines.into_device().into_parts();
+    assert_debug!(rt; output.into_inner(), "[97, 10, 98, 10]");
 }

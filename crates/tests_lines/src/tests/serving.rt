@@ -1,13 +1,14 @@
 //! A server over inputs of lines and parts, with bad input, and over sinks that fail.
 
-ghost use Rattle.ascii_lines.specs.Serve.{IsRequest};
+ghost use Rattle.std.specs.Prelude.{List};
+ghost use Rattle.ascii_lines.specs.Serve.{IsRequest, Reply, Says};
 
-use super::line_writer::{Counted, sink};
+use super::line_writer::{Counted, make_counted};
 use ascii_lines::{
-    AsciiStr, AsciiString, Ending, Endings, Handler, Input, LineError, LineReader, LineWriter,
-    Next, Output, Stop, WriteError, serve,
+    AsciiStr, Duplex, Ending, Endings, Handler, LineChannel, LineError, Next, Replies, Sink, Stop,
+    serve,
 };
-use std::alloc::{AllocError, Global};
+use std::alloc::{Allocator, Global};
 use std::process::Abort;
 use testing::{ascii, assert_row};
 
@@ -26,7 +27,6 @@ impl Words {
             "quit" => (&["bye"], Next::Close),
             "part" => (&[], Next::Part(4)),
             "two" => (&["one", "two"], Next::Line),
-            "bad" => (&["good", "x\ny", "z"], Next::Line),
             _ if count > 9 => (&["many"], Next::Line),
             _ => (&["ok"], Next::Line),
         }
@@ -34,100 +34,182 @@ impl Words {
 }
 
 impl Handler for Words {
-    ghost answers = { λ old text replies next new. Unit {0} };
+    ghost answers = { λ old input replies next new. Unit {0} };
 
-    fn answer(
+    ghost refuses = { λ old error replies next new. Unit {0} };
+
+    fn answer<K: Sink, A: Allocator>(
         &mut self,
-        alloc: Global,
         text: AsciiStr<'_>,
-        replies: &mut Vec<AsciiString>,
-    ) -> Result<Next, AllocError> {
+        ending: Ending,
+        replies: &mut Replies<K, A>,
+    ) -> Next {
         self.count = self.count.saturating_add(1);
-        let (bodies, next) = Words::reply(self.count, text);
-        for body in bodies {
-            replies.push(ascii(body).to_ascii_string(alloc)?)?;
+        if ending == Ending::Absent && text.as_str() == "cut" {
+            replies.part(ascii("cut off"));
+            return Next::Close;
         }
-        Ok(next)
+        let (bodies, next) = Words::reply(self.count, text);
+        say_all(bodies, replies);
+        next
+    }
+
+    fn refuse<K: Sink, A: Allocator>(
+        &mut self,
+        error: LineError,
+        replies: &mut Replies<K, A>,
+    ) -> Next {
+        match error {
+            LineError::NotAscii(_) => {
+                replies.part(ascii("bad byte\n"));
+                Next::Line
+            }
+            LineError::LoneBreak(_) => {
+                replies.part(ascii("bad break\n"));
+                Next::Line
+            }
+            LineError::TooLong(_) => {
+                replies.part(ascii("too long\n"));
+                Next::Part(2)
+            }
+            _ => {
+                replies.part(ascii("closed\n"));
+                Next::Close
+            }
+        }
     }
 }
 
-/// An input, why it stops, and what is written.
-static ROWS: [(&[u8], Stop, &str); 11] = [
-    (b"", Stop::EndOfInput, ""),
-    (b"a\nb", Stop::EndOfInput, "ok\r\nok\r\n"),
-    (b"two\r\nquit\nz\n", Stop::Closed, "one\r\ntwo\r\nbye\r\n"),
-    (
-        b"part\na\nb\nc\nquit\n",
-        Stop::Closed,
-        "ok\r\nok\r\nbye\r\n",
-    ),
+/// Writes texts as lines.
+fn say_all<K: Sink, A: Allocator>(bodies: &[&'static str], replies: &mut Replies<K, A>)
+    ensures { (said : List Reply) × Says replies.old said replies.new }
+{
+    for body in bodies {
+        replies.part(ascii(body));
+        replies.fixed_line(ascii(""));
+    }
+}
+
+/// An input, which endings end its lines, why it stops, and what is written.
+static ROWS: [(&[u8], Endings, Stop, &str); 20] = [
+    (b"", Endings::Any, Stop::EndOfInput, ""),
+    (b"a\nb", Endings::Any, Stop::EndOfInput, "ok\r\nok\r\n"),
+    (b"two\r\nquit\nz\n", Endings::Any, Stop::Closed, "one\r\ntwo\r\nbye\r\n"),
+    (b"part\na\nb\nc\nquit\n", Endings::Any, Stop::Closed, "ok\r\nok\r\nbye\r\n"),
+    (b"\r\n\n", Endings::Any, Stop::EndOfInput, "ok\r\nok\r\n"),
+    (b"a\ncut", Endings::Any, Stop::Closed, "ok\r\ncut off"),
+    // A fault in a part, and one that no line can be skipped after, end the conversation.
     (
         b"a\npart\nbc",
+        Endings::Any,
         Stop::Reader(LineError::Incomplete(2)),
-        "ok\r\n",
+        "ok\r\nclosed\n",
     ),
-    (b"part", Stop::Reader(LineError::Incomplete(0)), ""),
+    (b"part", Endings::Any, Stop::Reader(LineError::Incomplete(0)), "closed\n"),
     (
-        b"a\npart\nbc\xff",
+        b"a\npart\nbc\xffd\na\n",
+        Endings::Any,
         Stop::Reader(LineError::NotAscii(9)),
-        "ok\r\n",
+        "ok\r\nbad byte\n",
+    ),
+    // A line that is rejected is skipped, and the conversation goes on.
+    (b"a\nb\xff\nc\n", Endings::Any, Stop::EndOfInput, "ok\r\nbad byte\nok\r\n"),
+    (b"\xff\nquit\n\xff\n", Endings::Any, Stop::Closed, "bad byte\nbye\r\n"),
+    (b"\xff", Endings::Any, Stop::EndOfInput, "bad byte\n"),
+    (b"a\nabcdefgh\nxyquit\n", Endings::Any, Stop::Closed, "ok\r\ntoo long\nok\r\nbye\r\n"),
+    (
+        b"abcdefghijklmnopqrstuvwxyz\nxyquit\n",
+        Endings::Any,
+        Stop::Closed,
+        "too long\nok\r\nbye\r\n",
     ),
     (
-        b"a\nb\xff\n",
-        Stop::Reader(LineError::NotAscii(3)),
-        "ok\r\n",
+        b"abcdefghijkl",
+        Endings::Any,
+        Stop::EndOfInput,
+        "too long\n",
     ),
     (
-        b"a\nabcdefgh\n",
-        Stop::Reader(LineError::TooLong(2)),
-        "ok\r\n",
+        b"abcdefgh\nx",
+        Endings::Any,
+        Stop::Reader(LineError::Incomplete(1)),
+        "too long\nclosed\n",
     ),
-    (
-        b"a\nbad\na\n",
-        Stop::Writer(WriteError::LineBreak(1)),
-        "ok\r\ngood\r\n",
-    ),
-    (b"\r\n\n", Stop::EndOfInput, "ok\r\nok\r\n"),
+    (b"a\nb\r\nquit\r\n", Endings::CrLfStrict, Stop::Closed, "bad break\nbye\r\n"),
+    (b"a\nquit\r\nb\r\n", Endings::CrLfStrict, Stop::EndOfInput, "bad break\nok\r\n"),
+    (b"a\rb\r\nquit\r\n", Endings::CrLfStrict, Stop::Closed, "bad break\nbye\r\n"),
+    (b"a\r", Endings::CrLfStrict, Stop::EndOfInput, "bad break\n"),
 ];
 
-/// Serves an input with a reader's buffer of 8 bytes, and compares why it stopped.
+/// Serves an input through buffers of this size, and compares why it stopped.
 fn served<R: Abort>(
     rt: &R,
     alloc: Global,
     input: &[u8],
-    sink: Output<Counted>,
+    endings: Endings,
+    size: usize,
+    sink: Counted,
     stop: Stop,
-) -> Output<Counted> {
-    let mut reader = LineReader::new(alloc, Input::new(input), 8, Endings::Any).expect(
+) -> Counted {
+    let device = Duplex::new(input, sink);
+    let mut lines = LineChannel::new(alloc, device, size, endings, Ending::CrLf).expect(
         rt, "refused",
     );
-    let mut writer = LineWriter::new(alloc, sink, 5).expect(rt, "refused");
     let mut words = Words { count: 0 };
-    let got = serve(alloc, &mut reader, &mut writer, Ending::CrLf, &mut words);
+    let got = serve(&mut lines, &mut words);
     assert_row!(rt; got, stop);
-    writer.into_sink()
+    let (_, output) = lines.into_device().into_parts();
+    output.into_inner()
 }
 
 #[test]
 fn replies_to_all_inputs_go_out(rt: HostRuntime) {
-    for &(input, stop, written) in &ROWS {
+    for &(input, endings, stop, written) in &ROWS {
         for most in [1, 100] {
-            let sink = sink(rt.alloc(), most, u64::MAX);
-            let sink = served(&rt, rt.alloc(), input, sink, stop).into_inner();
+            let sink = make_counted(rt.alloc(), most, u64::MAX);
+            let sink = served(&rt, rt.alloc(), input, endings, 8, sink, stop);
             assert!(rt; sink.taken.as_slice() == written.as_bytes());
         }
     }
 }
 
+/// A session of which all lines come in one read, whose replies are 19 bytes.
+static TOGETHER: &[u8] = b"a\ntwo\nquit\n";
+
 #[test]
 fn a_sink_that_fails_has_taken_a_prefix(rt: HostRuntime) {
-    for fails in 0..8 {
-        let sink = sink(rt.alloc(), 100, fails);
-        let stop = Stop::Writer(WriteError::Write);
-        let sink = served(&rt, rt.alloc(), b"a\ntwo\nquit\n", sink, stop).into_inner();
-        assert!(rt; b"ok\r\none\r\ntwo\r\nbye\r\n".starts_with(&sink.taken));
-        assert_row!(rt; sink.calls, fails + 1);
+    for size in [8, 100] {
+        for fails in 0..2 {
+            let sink = make_counted(rt.alloc(), 100, fails);
+            let stop = Stop::Writer;
+            let sink = served(&rt, rt.alloc(), TOGETHER, Endings::Any, size, sink, stop);
+            assert!(rt; b"ok\r\none\r\ntwo\r\nbye\r\n".starts_with(&sink.taken));
+            assert_row!(rt; sink.calls, fails + 1);
+        }
     }
+}
+
+#[test]
+fn replies_that_come_together_are_one_write(rt: HostRuntime) {
+    let sink = make_counted(rt.alloc(), 100, u64::MAX);
+    let sink = served(&rt, rt.alloc(), TOGETHER, Endings::Any, 100, sink, Stop::Closed);
+    // A flush before the only read, and then a write with its flush.
+    assert_row!(rt; sink.calls, 3);
+}
+
+#[test]
+fn a_handler_is_not_asked_after_the_sink_has_failed(rt: HostRuntime) {
+    let device = Duplex::new(TOGETHER, make_counted(rt.alloc(), 100, 0));
+    let lines = LineChannel::new(rt.alloc(), device, 100, Endings::Any, Ending::CrLf);
+    let mut lines = lines.expect(&rt, "refused");
+    let mut words = Words { count: 0 };
+    assert_row!(rt; serve(&mut lines, &mut words), Stop::Writer);
+    assert_row!(rt; words.count, 0);
+    let device = Duplex::new(TOGETHER, make_counted(rt.alloc(), 100, 1));
+    let lines = LineChannel::new(rt.alloc(), device, 8, Endings::Any, Ending::CrLf);
+    let mut lines = lines.expect(&rt, "refused");
+    assert_row!(rt; serve(&mut lines, &mut words), Stop::Writer);
+    assert_row!(rt; words.count, 2);
 }
 
 /// A session of 200 bytes.
@@ -152,8 +234,9 @@ fn each_cut_of_a_session_is_answered(rt: HostRuntime) {
             };
             want.push_str(replies).expect(&rt, "no memory");
         }
-        let sink = sink(rt.alloc(), 100, u64::MAX);
-        let sink = served(&rt, rt.alloc(), text.as_bytes(), sink, Stop::EndOfInput).into_inner();
+        let sink = make_counted(rt.alloc(), 100, u64::MAX);
+        let stop = Stop::EndOfInput;
+        let sink = served(&rt, rt.alloc(), text.as_bytes(), Endings::Any, 8, sink, stop);
         assert!(rt; sink.taken.as_slice() == want.as_bytes());
     }
 }

@@ -1,18 +1,13 @@
-use Rattle.std.proofs.Common.{◌-◌, ◌^◌, List, ℕ}
-use Rattle.ascii_lines.specs.LineWriter.{WritesBytes}
-use Rattle.ascii_lines.specs.Serve.{Conversation, IsRequest, reply_bytes}
+use Rattle.std.proofs.Common.{◌+◌, ◌-◌, ◌*◌, ◌^◌}
+use Rattle.ascii_lines.proofs.ServeLemmas.{Progress}
+use Rattle.ascii_lines.proofs.ServeLemmas.{rank}
 use Rattle.ascii_lines.proofs.serving.converse.Given as goal
 
--- a conversation was held so far, and its replies were written
-abbrev pub invariant-turns : goal.invariant-turns
-invariant-turns g l =
-    (replies : List (List ℕ)) × Conversation g.H.Handler.answers
-    l.fn.reader.state l.fn.handler replies l.next
-    l.reader.state l.handler
-    × WritesBytes l.fn.writer.state
-    l.writer.state (reply_bytes l.ending replies)
-    × IsRequest l.next
+-- steps were held so far
+abbrev pub invariant-steps : goal.invariant-steps
+invariant-steps g l = Progress g.H.Handler.answers g.H.Handler.refuses l.fn.lines.state
+    l.fn.handler l.awaited l.lines.state l.handler
 
--- the positions that are left
-abbrev pub decreases-turns : goal.decreases-turns
-decreases-turns g l = 2 ^ 64 - l.reader.state.start
+-- the positions that are left, and whether a line is to be read over: each takes two steps at most
+abbrev pub decreases-steps : goal.decreases-steps
+decreases-steps g l = 2 * (2 ^ 64 - l.lines.state.cursor.start) + rank l.awaited

@@ -1,18 +1,24 @@
+use Rattle.std.proofs.Common.{List, map, subst, sym}
 use Rattle.ascii_lines.specs.declared.serving.Next.TheVariants as next
-use Rattle.example_smtp.specs.Mail.{state_of}
+use Rattle.example_smtp.specs.Deliveries.{Delivers}
+use Rattle.example_smtp.specs.Mail.{Mail, state_of}
 use Rattle.example_smtp.proofs.DeliveryLemmas.{delivers_all, transcript}
 use Rattle.example_smtp.proofs.receiving.receive.Goals as goal
 
 pub returns : goal.returns
 returns g c =
     let served = c.serve.ensures in
-    let told = transcript _ c.args.session.now served.state next.Line served.last
-    served.talk.inputs served.replies served.talk.talks in
+    let told = transcript _ c.args.session.now served.talk.state next.Line served.talk.awaited
+    served.talk.steps served.talk.talks in
     record {
       served = served;
       exchanges = told.exchanges;
-      lines = told.lines;
-      replies = told.says;
-      delivers = delivers_all told.exchanges (state_of c.args.session.now)
-          (state_of served.state) c.requires.session told.runs;
+      given_up = told.given_up;
+      is_last = told.is_last;
+      steps = told.zipped;
+      delivers = subst
+          (λ (received : List Mail).
+          Delivers told.exchanges (map (λ (mail : Mail). mail.lines) received)) (sym told.kept)
+          (delivers_all told.exchanges (state_of c.args.session.now) told.mid c.requires.session
+          told.runs);
     }

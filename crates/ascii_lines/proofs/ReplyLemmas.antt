@@ -1,0 +1,119 @@
+-- Replies of a handler, one after another.
+use Rattle.std.proofs.Common.{◌≡◌, ℕ, List, [], ◌∷◌, ◌++◌, Bool, true, false, IsTrue, append_assoc}
+use Rattle.std.proofs.Common.{Err, Ok, Result, ap, inl, inr, refl, subst, sym, ◌∙◌}
+use Rattle.std.specs.Prelude.{not}
+use Rattle.std.proofs.lemmas.Bool.{false≢true}
+use Rattle.std.proofs.lemmas.Grind.{flat_map-append}
+use Rattle.std.proofs.lemmas.List.Folds.{list_all_at}
+use Rattle.ascii.specs.Lines.{ending_text}
+use Rattle.ascii_devices.specs.Buffered.{OutputState}
+use Rattle.ascii_lines.specs.Failures.{one_more}
+use Rattle.ascii_lines.specs.LineWriter.{FailsToWrite, WritesBytes, is_line_break}
+use Rattle.ascii_lines.specs.Serve.{Reply, Says, SaysBytes, SaysLine, Saying, is_unbroken}
+use Rattle.ascii_lines.specs.Serve.{line_reply, part_reply, reply_bytes}
+use Rattle.ascii_lines.specs.Serve.{reply_text}
+use Rattle.ascii_lines.proofs.WriteBufferLemmas.{Passes-nil, Passes-prefix, Passes-trans}
+use Rattle.ascii_lines.proofs.WriteBufferLemmas.{PassesPrefix-more}
+
+-- ---- bytes after bytes
+
+WritesBytes-nil : (a : OutputState) → a.buffer.is_broken ≡ false → WritesBytes a a []
+WritesBytes-nil a is = record {
+  passed = Passes-nil a;
+  failures = refl;
+  aside = refl;
+  stage = is;
+  size = refl;
+}
+
+WritesBytes-trans : {a b c : OutputState} (xs ys : List ℕ)
+    → WritesBytes a b xs → WritesBytes b c ys → WritesBytes a c (xs ++ ys)
+WritesBytes-trans {a} {b} {c} xs ys first then = record {
+  passed = Passes-trans xs ys first.passed then.passed;
+  failures = then.failures ∙ first.failures;
+  aside = then.aside ∙ first.aside;
+  stage = then.stage;
+  size = then.size ∙ first.size;
+}
+
+FailsToWrite-after : {a b c : OutputState} (xs ys : List ℕ)
+    → WritesBytes a b xs → FailsToWrite b c ys → FailsToWrite a c (xs ++ ys)
+FailsToWrite-after {a} {b} {c} xs ys first then = record {
+  passed = Passes-prefix xs ys first.passed then.passed;
+  failures = then.failures ∙ ap one_more first.failures;
+  aside = then.aside ∙ first.aside;
+  stage = then.stage;
+  size = then.size ∙ first.size;
+}
+
+FailsToWrite-more : {a b : OutputState} (xs ys : List ℕ)
+    → FailsToWrite a b xs → FailsToWrite a b (xs ++ ys)
+FailsToWrite-more {a} {b} xs ys fails = record {
+  passed = PassesPrefix-more xs ys fails.passed;
+  failures = fails.failures;
+  aside = fails.aside;
+  stage = fails.stage;
+  size = fails.size;
+}
+
+-- nothing was written
+SaysBytes-nil : (broken : Bool) (a : OutputState) → a.buffer.is_broken ≡ broken
+    → SaysBytes broken a [] a
+SaysBytes-nil false a whole = inl (WritesBytes-nil a whole)
+SaysBytes-nil true a is = refl
+
+-- bytes, and then more
+SaysBytes-trans : (p q : Bool) (a b c : OutputState) (xs ys : List ℕ)
+    → a.buffer.is_broken ≡ p → b.buffer.is_broken ≡ q → SaysBytes p a xs b → SaysBytes q b ys c
+    → SaysBytes p a (xs ++ ys) c
+SaysBytes-trans false false a b c xs ys was is (inl first) (inl then) =
+    inl (WritesBytes-trans xs ys first then)
+SaysBytes-trans false false a b c xs ys was is (inl first) (inr then) =
+    inr (FailsToWrite-after xs ys first then)
+SaysBytes-trans false false a b c xs ys was is (inr first) then =
+    absurd (false≢true (sym is ∙ first.stage))
+SaysBytes-trans false true a b c xs ys was is (inl first) then =
+    absurd (false≢true (sym first.stage ∙ is))
+SaysBytes-trans false true a b c xs ys was is (inr first) then =
+    inr (subst (λ d. FailsToWrite a d (xs ++ ys)) (sym then) (FailsToWrite-more xs ys first))
+SaysBytes-trans true false a b c xs ys was is first then = absurd (false≢true
+    (sym is ∙ (ap (λ (out : OutputState). out.buffer.is_broken) first ∙ was)))
+SaysBytes-trans true true a b c xs ys was is first then = then ∙ first
+
+-- ---- replies after replies
+
+module _ {K : Type 0} where
+  -- no reply was given
+  pub Says-nil : (a : Saying K) → Says a [] a
+  Says-nil a = (SaysBytes-nil a.state.buffer.is_broken a.state refl, refl)
+
+  -- replies, and then more
+  pub Says-trans : (a b c : Saying K) (first after : List Reply) → Says a first b
+      → Says b after c → Says a (first ++ after) c
+  Says-trans a b c first after one two = (
+    subst (λ bytes. SaysBytes a.state.buffer.is_broken a.state bytes c.state)
+        (sym (flat_map-append (reply_text a.ending) first after))
+        (SaysBytes-trans a.state.buffer.is_broken b.state.buffer.is_broken a.state b.state c.state
+        (reply_bytes a.ending first) (reply_bytes a.ending after) refl refl one.0
+        (subst (λ e. SaysBytes b.state.buffer.is_broken b.state (reply_bytes e after) c.state)
+        one.1 two.0)),
+    two.1 ∙ one.1,
+  )
+
+  -- a line without a break was given
+  pub said_line : (a b : Saying K) (body : List ℕ) (result : Result (Unit {0}) ℕ)
+      → IsTrue (is_unbroken body) → SaysLine a body result b → Says a (line_reply body ∷ []) b
+  said_line a b body (Ok done) clean says = says.1
+  said_line a b body (Err k) clean says = absurd (false≢true
+      (sym (list_all_at (λ code. not (is_line_break code)) body k 0 says.0.0.high
+      (ap not says.0.1)) ∙ clean))
+
+  -- a part, and then an empty line, are a line
+  pub said_text : (a b c : Saying K) (text : List ℕ) → Says a (part_reply text ∷ []) b
+      → Says b (line_reply [] ∷ []) c → Says a (line_reply text ∷ []) c
+  said_text a b c text one two =
+      let both = Says-trans a b c (part_reply text ∷ []) (line_reply [] ∷ []) one two in (
+        subst (λ bytes. SaysBytes a.state.buffer.is_broken a.state bytes c.state)
+            (sym (append_assoc text (ending_text a.ending) [])) both.0,
+        both.1,
+      )
