@@ -1,0 +1,148 @@
+"""Dialogues of real clients with the example servers: a connection is the standard input and output of the program."""
+import smtplib
+import socket
+import subprocess
+import threading
+import unittest
+from pathlib import Path
+from typing import NamedTuple
+
+TOP = Path(__file__).resolve().parents[2]
+WAIT = 10  # seconds for a reply
+
+
+class Dialogue(NamedTuple):
+    """What a client sends, and what it has to get before it sends more. At the end it sends no more; `then` comes after."""
+
+    name: str
+    program: str
+    steps: list
+    then: bytes = b""
+
+
+BEGUN = (b"HELO c\r\nMAIL FROM:<a@b>\r\nRCPT TO:<c@d>\r\nDATA\r\n", b"250 OK\r\n" * 3 + b"354 send the lines\r\n")
+MAIL = BEGUN[0] + b"Subject: x\r\n\r\n..dot\r\n.\r\nQUIT\r\n"
+MAILED = BEGUN[1] + b"250 OK\r\n221 bye\r\n"
+HELLO = (b"", b"220 ready\r\n")
+BAD = b"554 bad line\r\n"
+
+
+def mail(name, *steps, then=b""):
+    return Dialogue(name, "example_smtp", [HELLO, *steps], then)
+
+
+def store(name, *steps, then=b""):
+    return Dialogue(name, "example_resp", list(steps), then)
+
+
+def smuggled(name, end):
+    """An end of a message that is none by RFC 5321, with a second mail after it: it is answered once, and no more is read."""
+    return mail(f"a message with {name}", BEGUN, (b"hi" + end + BEGUN[0] + b"two\r\n.\r\n", BAD))
+
+
+DIALOGUES = [
+    mail("the greeting comes first", then=b""),
+    mail("a mail in one packet", (MAIL, MAILED)),
+    mail("each byte a packet of its own", *[(MAIL[i : i + 1], b"") for i in range(len(MAIL))], then=MAILED),
+    mail("a reply before more is sent", (b"HELO c\r\n", b"250 OK\r\n"), (b"NOOP\r", b""), (b"\nQUIT\r\n", b"250 OK\r\n221 bye\r\n")),
+    mail("1,000 recipients in one packet", (BEGUN[0][:-6] + b"RCPT TO:<c@d>\r\n" * 999, b"250 OK\r\n" * 1002)),
+    mail("the client leaves after a command", (b"NOOP\r\n", b"250 OK\r\n")),
+    mail("an input that ends in a command", (b"NOOP\r\nQUIT", b"250 OK\r\n"), then=BAD),
+    mail("an input that ends in a message", BEGUN, (b"line\r\n.", b""), then=BAD),
+    mail("dots", BEGUN, (b"..\r\n...\r\n. \r\n.x\r\n.\r\n", b"250 OK\r\n")),
+    mail("a byte above 127", (b"NOOP\xc4\r\nQUIT\r\n", BAD)),
+    mail("a long line is answered before it ends", (b"x" * 5000, b"500 line too long\r\n")),
+    smuggled("LF . LF", b"\n.\n"),
+    smuggled("LF . CR LF", b"\n.\r\n"),
+    smuggled("CR LF . LF", b"\r\n.\n"),
+    smuggled("CR . CR", b"\r.\r"),
+    store("a request in two packets", (b"*1\r\n$4\r\nPI", b""), (b"NG\r\n", b"+PONG\r\n")),
+    store("a reply before more is sent", (b"SET a 1\r\n", b"+OK\r\n"), (b"GET a\r\n", b"$1\r\n1\r\n")),
+    store("2,000 requests in one packet", (b"PING\r\n" * 2000, b"+PONG\r\n" * 2000)),
+    store("a value with breaks", (b"*3\r\n$3\r\nSET\r\n$1\r\nk\r\n$5\r\na\r\n\nb\r\nGET k\r\n", b"+OK\r\n$5\r\na\r\n\nb\r\n")),
+    store("a refused length, and requests in its payload", (b"*2\r\n$3\r\nGET\r\n$9999\r\nSET a 1\r\nGET a\r\n", b"-ERR the length is not a number or too large\r\n")),
+    store("a byte above 127", (b"PING\r\n\xff\r\nPING\r\n", b"+PONG\r\n-ERR Protocol error: bad input\r\n")),
+    store("an input that ends in a value", (b"*1\r\n$4\r\nPI", b""), then=b"-ERR Protocol error: bad input\r\n"),
+]
+
+
+def start(program, connection):
+    path = TOP / "crates" / program / "out" / program
+    return subprocess.Popen([path], stdin=connection, stdout=connection, stderr=subprocess.DEVNULL)
+
+
+def received(connection, size):
+    """The next bytes of a connection, fewer at its end or if no more come in time."""
+    got = b""
+    while len(got) < size and (more := connection.recv(size - len(got))):
+        got += more
+    return got
+
+
+class Talks(unittest.TestCase):
+    """A dialogue with a program."""
+
+    def __init__(self, dialogue):
+        super().__init__()
+        self.dialogue = dialogue
+
+    def __str__(self):
+        return f"{self.dialogue.program}: {self.dialogue.name}"
+
+    def runTest(self):
+        client, server = socket.socketpair()
+        with client, start(self.dialogue.program, server):
+            server.close()
+            client.settimeout(WAIT)
+            client.setsockopt(socket.SOL_SOCKET, socket.SO_SNDBUF, 1 << 20)
+            for sent, wanted in self.dialogue.steps:
+                try:
+                    client.sendall(sent)
+                except (BrokenPipeError, ConnectionResetError):
+                    pass
+                self.assertEqual(received(client, len(wanted)), wanted)
+            try:
+                client.shutdown(socket.SHUT_WR)
+            except OSError:
+                pass
+            try:
+                rest = received(client, 1 << 16)
+            except ConnectionResetError:
+                rest = b""
+            self.assertEqual(rest, self.dialogue.then)
+
+
+class SendsMail(unittest.TestCase):
+    """Python's smtplib sends a mail."""
+
+    def __str__(self):
+        return "example_smtp: smtplib sends a mail"
+
+    def runTest(self):
+        with socket.create_server(("127.0.0.1", 0)) as listener:
+            def serve():
+                connection, _ = listener.accept()
+                with connection, start("example_smtp", connection):
+                    pass
+
+            server = threading.Thread(target=serve)
+            server.start()
+            with smtplib.SMTP(timeout=WAIT) as client:
+                self.assertEqual(client.connect(*listener.getsockname()), (220, b"ready"))
+                self.assertEqual(client.helo("client"), (250, b"OK"))
+                self.assertEqual(client.sendmail("a@b", ["c@d", "e@f"], "Subject: x\n\n.dot\nbye\n"), {})
+                self.assertEqual(client.quit(), (221, b"bye"))
+            server.join()
+
+
+def tests():
+    return [*map(Talks, DIALOGUES), SendsMail()]
+
+
+def faults(chosen=None):
+    """Runs the dialogues; returns the name of each, with what was wrong or None."""
+    rows, result = tests(), unittest.TestResult()
+    rows = [row for row in rows if chosen in (None, str(row))]
+    unittest.TestSuite(rows).run(result)
+    wrong = {str(test): text for test, text in result.failures + result.errors}
+    return {str(row): wrong.get(str(row)) for row in tests() if chosen in (None, str(row))}
