@@ -1,15 +1,25 @@
--- One more answer in the output of a script of ends.
+-- The output of a script of ends: one more answer, and the output of a mode.
 use Rattle.std.proofs.Common.{◌≡◌, ℕ, ◌+◌, ◌-◌, ◌<◌, ◌≤◌, List, [], ◌∷◌, ◌++◌, length, get_or, take, drop}
-use Rattle.std.proofs.Common.{Option, Some, None, sym, subst, ap, ◌∙◌, append-nil, refl, arith}
+use Rattle.std.proofs.Common.{Option, Some, None, map, sym, subst, ap, ◌∙◌, append-nil, refl, arith}
 use Rattle.std.specs.List.{flat_map}
+use Rattle.std.specs.Option.{option_map}
+use Rattle.std.specs.Borrow.{Bor}
 use Rattle.std.specs.Prelude.{slice_get}
 use Rattle.std.proofs.lemmas.Grind.{flat_map-append}
-use Rattle.std.proofs.lemmas.List.{take_at, length_push}
+use Rattle.std.proofs.lemmas.List.{drop-map, length-map, take-map, take_at, length_push}
+use Rattle.std.proofs.lemmas.List.Folds.{flat_map-map}
+use Rattle.std.proofs.lemmas.Option.{slice_get-map}
+use Rattle.std.proofs.lemmas.Simd.{map-map}
+use Rattle.ascii.specs.Lines.{Line}
+use Rattle.ascii.specs.Spans.{LineSpansOf, WithStart, items_of}
 use Rattle.ascii.specs.declared.iter.walks.End.{End}
 use Rattle.ascii.specs.declared.iter.walks.End.TheVariants.{Front, Back}
 use Rattle.ascii.specs.Walks.{ListAnswers, ListAnswersTo, TakesEnd}
 use Rattle.ascii.proofs.EndsLemmas.{AnswersTo-all, AnswersTo-step}
-use Rattle.ascii_run.specs.Modes.Ends.{answers}
+use Rattle.ascii_run.specs.Modes.{IsOutput}
+use Rattle.ascii_run.specs.Modes.Ends.{answer_text, answers, mode_of, shown_text, span_text}
+use Rattle.ascii_run.specs.declared.modes.ends.Shown.{Shown}
+use Rattle.ascii_run.specs.declared.modes.ends.Shown.TheVariants.{Body, Span}
 
 -- the last item of a list, and what is left before it
 pub last_item : {A : Type 0} (front : List A) (x : A)
@@ -115,3 +125,38 @@ answers_are items (Back ∷ script) =
     let left = take (length items - 1) items in
     let later = answers_are left script in
     (later.0, (left, takes_back items, later.1))
+
+-- ---- the output of a mode
+
+-- the answers of the images of a list are the images of its answers
+answers-map : {A B : Type 0} (f : A → B) (script : List End) (items : List A)
+    → answers script (map f items) ≡ map (option_map f) (answers script items)
+answers-map f [] items = refl
+answers-map f (Front ∷ script) items = rw (slice_get-map f items 0, drop-map f 1 items)
+    (ap (λ xs. option_map f (slice_get items 0) ∷ xs) (answers-map f script (drop 1 items)))
+answers-map f (Back ∷ script) items =
+    let last = length items - 1 in
+    rw (length-map items f, slice_get-map f items last, take-map f last items)
+    (ap (λ xs. option_map f (slice_get items last) ∷ xs) (answers-map f script (take last items)))
+
+-- what is shown of the answers of the lines with their starts is the output of the mode
+pub output_of_mode : (shown : Shown) (script : Bor (List End)) (text : List ℕ)
+    (spans : List (WithStart Line)) (output : List ℕ)
+    → LineSpansOf 0 text spans → output ≡ flat_map (shown_text shown) (answers script.now spans)
+    → IsOutput (mode_of shown script) text output
+output_of_mode Body script text spans output found is =
+    let body : WithStart Line → List ℕ = λ span. span.item.body in (
+      items_of spans,
+      found.lines,
+      is
+          ∙ (sym (flat_map-map answer_text (option_map body) (answers script.now spans))
+          ∙ ap (flat_map answer_text)
+          (sym (answers-map body script.now spans)
+          ∙ ap (answers script.now)
+          (sym (map-map (λ line. line.body) (λ span. span.item) spans)))),
+    )
+output_of_mode Span script text spans output found is = (
+  items_of spans,
+  found.lines,
+  is ∙ ap (λ xs. flat_map span_text (answers script.now xs)) found.starts,
+)

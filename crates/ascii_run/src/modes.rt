@@ -26,7 +26,7 @@ use ascii::iter::End;
 use ascii::{AsciiString, bytes};
 use ascii_devices::{BufferedSink, Sink};
 use edit::put_edit;
-use ends::{put_ends, put_ends_spans};
+use ends::{Shown, put_ends};
 use std::alloc::Allocator;
 use tac::put_tac;
 
@@ -138,10 +138,12 @@ pub(crate) fn render_output<K: Sink, A: Allocator + Copy>(
         Mode::Json => put_streamed(alloc, BoundedMode::Json, text, buffer, writer)?,
         Mode::Tac => put_tac(bytes::as_ascii_str_unchecked(text), buffer, writer),
         Mode::Ends(script) => {
-            put_ends(bytes::as_ascii_str_unchecked(text), script, buffer, writer);
+            let text = bytes::as_ascii_str_unchecked(text);
+            put_ends(text, script, Shown::Body, buffer, writer);
         }
         Mode::EndsSpans(script) => {
-            put_ends_spans(bytes::as_ascii_str_unchecked(text), script, buffer, writer);
+            let text = bytes::as_ascii_str_unchecked(text);
+            put_ends(text, script, Shown::Span, buffer, writer);
         }
         Mode::Edit(cmds) => {
             let text = AsciiString::from_ascii_unchecked(input);

@@ -1,12 +1,18 @@
 -- The modes `Ends` and `EndsSpans`: what one iterator of lines yields to a script of ends.
 use Rattle.std.specs.Prelude.{ℕ, ◌-◌, List, [], ◌∷◌, ◌++◌, Option, Some, None, codes, decimal, drop}
 use Rattle.std.specs.Prelude.{length, slice_get, take}
+use Rattle.std.specs.Borrow.{Bor}
+use Rattle.std.specs.Option.{option_map}
 use Rattle.ascii.specs.Lines.{Line}
 use Rattle.ascii.specs.Spans.{WithStart}
 use Rattle.ascii.specs.declared.iter.spans.Ending.{Ending}
 use Rattle.ascii.specs.declared.iter.spans.Ending.TheVariants.{Lf, CrLf, Absent}
 use Rattle.ascii.specs.declared.iter.walks.End.{End}
 use Rattle.ascii.specs.declared.iter.walks.End.TheVariants.{Front, Back}
+use Rattle.ascii_run.specs.declared.modes.Mode.{Mode}
+use Rattle.ascii_run.specs.declared.modes.Mode.TheVariants as mode
+use Rattle.ascii_run.specs.declared.modes.ends.Shown.{Shown}
+use Rattle.ascii_run.specs.declared.modes.ends.Shown.TheVariants.{Body, Span}
 
 -- the answers of the list to the script: to `Front` its first item, to `Back` its last, which it
 -- then has no more; `None` if it is empty
@@ -34,3 +40,15 @@ span_text None = codes "-\n"
 span_text (Some span) =
     codes "+" ++ (decimal span.start ++ (codes " " ++ (ending_word span.item.ending
     ++ (codes " " ++ (span.item.body ++ codes "\n")))))
+
+-- ---- cited by private functions only
+
+-- the mode that shows this of each line that the ends of the script take
+abbrev pub mode_of : Shown → Bor (List End) → Mode
+mode_of Body script = mode.Ends script
+mode_of Span script = mode.EndsSpans script
+
+-- what is shown of an answer: of a line its body, or also its start and its ending
+abbrev pub shown_text : Shown → Option (WithStart Line) → List ℕ
+shown_text Body answer = answer_text (option_map (λ span. span.item.body) answer)
+shown_text Span answer = span_text answer
