@@ -35,13 +35,11 @@ impl fmt::Display for EngineFault {
     ///     EngineFault::Memory.to_string(alloc)? // "no memory"
     fn fmt<W: fmt::Write>(&self, f: &mut fmt::Formatter<W>) -> fmt::Result {
         match *self {
-            EngineFault::NotAscii(position) => {
-                write!(f, "the byte at index {position} is not ASCII")
-            }
+            EngineFault::NotAscii(position) => BoundedFault::NotAscii(position as u64).fmt(f),
             EngineFault::Position(index) => write!(f, "bad position in command {index}"),
-            EngineFault::Memory => f.write_str("no memory"),
-            EngineFault::Read => f.write_str("read failed"),
-            EngineFault::Write => f.write_str("write failed"),
+            EngineFault::Memory => BoundedFault::Memory.fmt(f),
+            EngineFault::Read => BoundedFault::Read.fmt(f),
+            EngineFault::Write => BoundedFault::Write.fmt(f),
         }
     }
 }
