@@ -1,23 +1,46 @@
 -- The letter that the argument of a command begins with, and what comes after it.
-use Rattle.std.proofs.Common.{◌≡◌, ◌≤◌, ℕ, List, [], ◌∷◌, ◌++◌, Option, Some, None, MatchOption, get_or}
+use Rattle.std.proofs.Common.{◌≡◌, ◌≢◌, ◌<◌, ◌+◌, ◌^◌, Result, Ok, Err, length}
+use Rattle.std.proofs.Common.{◌≤◌, ℕ, List, [], ◌∷◌, ◌++◌, Option, Some, None, MatchOption, get_or}
 use Rattle.std.proofs.Common.{drop, refl, sym, ap, subst, arith}
+use Rattle.std.specs.Prelude.{MatchResult}
+use Rattle.std.specs.Result.{result_ok}
 use Rattle.std.specs.Str.{IsAscii}
 use Rattle.std.specs.Str.Parse.{AllDigits}
 use Rattle.std.proofs.lemmas.Str.{IsAscii-append}
 use Rattle.std.proofs.lemmas.Str.Ascii.{IsAscii-cons, IsAscii-nil}
 use Rattle.std.proofs.lemmas.Str.Parse.{digit_from_value}
+use Rattle.ascii.proofs.NumbersLemmas.{no_fault}
+use Rattle.ascii.specs.Numbers.{IsNumberFault, WritesNumber}
 use Rattle.ascii.specs.View.{text_of}
 use Rattle.ascii.specs.declared.ascii_str.AsciiStr.{AsciiStr}
+use Rattle.ascii.specs.declared.numbers.NumberError.{NumberError}
 use Rattle.ascii_run.specs.declared.commands.Cmd.{Cmd}
 use Rattle.ascii_run.specs.declared.commands.Cmd.TheVariants.{PushStr, InsertStr, Remove, Pop}
 use Rattle.ascii_run.specs.declared.commands.Cmd.TheVariants.{Truncate, Upper, Lower}
-use Rattle.ascii_show.specs.Words.{IsInsertion, IsWord, IsWordOf}
+use Rattle.ascii_show.specs.Words.{AreDigitsOf, IsInsertion, IsWord, IsWordOf}
+
+has_some : (text : List ℕ) → text ≢ [] → 0 < length text
+has_some [] none = absurd (none refl)
+has_some (code ∷ codes) some = omega arith
 
 digits_ascii : (digits : List ℕ) → AllDigits 10 digits → IsAscii digits
 digits_ascii [] all = IsAscii-nil
 digits_ascii (digit ∷ digits) all =
     IsAscii-cons digit digits (omega (arith, digit_from_value digit all.0))
     (digits_ascii digits all.1)
+
+-- digits are read as the number that they write, and nothing else is read
+pub number_read : (most : ℕ) (text : List ℕ) (result : Result ℕ NumberError)
+    → most + 1 ≡ 2 ^ 64
+    → MatchResult result (WritesNumber most text) (IsNumberFault most text)
+    → MatchOption (result_ok result) (¬ ((n : ℕ) × AreDigitsOf text n)) (AreDigitsOf text)
+number_read most text (Ok n) all writes = (
+  (has_some text writes.some, writes.number.0),
+  sym writes.value,
+  omega (arith, writes.number.1, writes.value, all),
+)
+number_read most text (Err e) all fault =
+    λ of. no_fault most text e of.1.0 (omega (arith, of.1.1, of.1.2, all)) fault
 
 -- a word that stands for a command is ASCII
 word_ascii : (word : List ℕ) (cmd : Cmd) → IsWordOf word cmd → IsAscii word

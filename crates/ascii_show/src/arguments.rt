@@ -171,8 +171,5 @@ fn parse_number(digits: AsciiStr<'_>) -> Option<usize>
     ensures { MatchOption result (¬ ((n : ℕ) × AreDigitsOf (text_of digits.entry) n))
         (AreDigitsOf (text_of digits.entry)) }
 {
-    if digits.as_bytes().first() == Some(&b'+') {
-        return None;
-    }
-    usize::from_str_radix(digits.as_str(), 10).ok()
+    digits.to_number().ok()
 }

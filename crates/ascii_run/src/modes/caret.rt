@@ -6,6 +6,7 @@ ghost use Rattle.ascii_run.specs.Modes.Caret.{IsShown, caret_text, is_shown, is_
 ghost use Rattle.ascii_run.specs.Modes.Caret.{caret_plain};
 
 use super::mapped::Show;
+use ascii::caret_encode;
 use ascii::classes::{Class, ClassBy};
 use ascii::kernels::first_not;
 use ascii_devices::{BufferedSink, Sink};
@@ -64,7 +65,8 @@ impl Show for Caret {
         buffer: &mut BufferedSink<A>,
         writer: &mut K,
     ) {
-        let letter = if code < 32 { code + 64 } else { b'?' };
-        buffer.put(writer, &[b'^', letter]);
+        // This is `Some`: the code is a control character.
+        let letter = caret_encode(code).unwrap();
+        buffer.put(writer, &[b'^', letter.as_byte()]);
     }
 }
