@@ -18,6 +18,7 @@ mod hashes;
 mod known_runs;
 mod long_inputs;
 mod many_lines;
+mod mode_names;
 mod of_ascii_devices;
 mod of_ascii_run;
 mod output_buffer;
