@@ -11,4 +11,5 @@ pub mod OutputBufferLemmas
 pub mod PlainRunLemmas
 mod RunExamples
 pub mod RunsLemmas
+pub mod StateLemmas
 pub mod StreamedLemmas

@@ -1,2 +1,3 @@
+pub mod EngineLemmas
 pub mod Relent
 pub mod TakenLemmas

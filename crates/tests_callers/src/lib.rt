@@ -4,6 +4,7 @@
 
 pub mod both_types;
 pub mod cuts;
+pub mod engines;
 pub mod folded;
 pub mod in_place;
 pub mod iterators;

@@ -2,6 +2,7 @@
 
 mod both_types;
 mod cuts;
+mod engines;
 mod in_place;
 mod iterators;
 mod spans;
