@@ -5,7 +5,9 @@ ghost use Rattle.std.specs.Iterator.{UpTo, item_count};
 ghost use Rattle.std.specs.Iterator.SizeHint.{IsWithinCount};
 ghost use Rattle.std.specs.Slice.Iter.{iter_rest};
 
-use ascii::{AsciiChar, AsciiStr, AsciiString};
+use ascii::{AsciiChar, AsciiStr, NewBuffer, Text};
+use std::alloc::{AllocError, Global};
+use std::process::Abort;
 use std::slice;
 use testing::{ascii, assert_row};
 
@@ -35,47 +37,69 @@ const TEXT: &str = "abcdefghijklmnopqrstuvwxyz0123456";
 
 const PIECES: &str = "a,b,c,d,e,f,g,h,i,j,k,l,m,n,o,p,q,r,s,t,u,v,w,x,y,z,0,1,2,3,4,5,6";
 
+/// Fails the test if a string is not what the first `length` characters are collected to, or not
+/// `TEXT` after the others are appended.
+fn compare_chars<B: NewBuffer<Alloc = Global, Refusal = AllocError>, R: Abort + AllocGlobal>(
+    rt: &R,
+    chars: &[AsciiChar],
+    length: usize,
+    most: Option<usize>,
+) {
+    let (front, others) = chars.split_at(length.min(chars.len()));
+    let items = front.iter();
+    let mut string = Text::<B>::collect_chars(rt.alloc(), Loose { items, most }).expect(
+        rt, "refused",
+    );
+    assert_row!(rt; Some(string.as_ascii_str().as_str()), TEXT.get(..length));
+    let items = others.iter();
+    string
+        .extend_chars(Loose { items, most })
+        .expect(rt, "refused");
+    assert_row!(rt; string.as_ascii_str().as_str(), TEXT);
+}
+
 #[test]
 fn all_characters_come(rt: HostRuntime) {
-    let alloc = rt.alloc();
-    let chars = ascii(TEXT).to_chars(alloc).expect(&rt, "refused");
-    assert_eq!(rt; chars.len(), 33);
+    let chars = ascii(TEXT).to_chars(rt.alloc()).expect(&rt, "refused");
+    assert_row!(rt; chars.len(), 33);
     for most in [None, Some(usize::MAX)] {
         for length in [0, 3, 33] {
-            let items = chars[..length].iter();
-            let mut string = AsciiString::collect_chars(alloc, Loose { items, most }).expect(
-                &rt, "refused",
-            );
-            assert_row!(rt; string.as_ascii_str().as_str(), &TEXT[..length]);
-            let items = chars[length..].iter();
-            string
-                .extend_chars(Loose { items, most })
-                .expect(&rt, "refused");
-            assert_row!(rt; string.as_ascii_str().as_str(), TEXT);
+            compare_chars::<Vec<u8>, HostRuntime>(&rt, &chars, length, most);
         }
     }
 }
 
+/// Fails the test if a string is not what the first `length` views are collected to, or not `TEXT`
+/// after the others are appended.
+fn compare_views<B: NewBuffer<Alloc = Global, Refusal = AllocError>, R: Abort + AllocGlobal>(
+    rt: &R,
+    views: &[AsciiStr<'_>],
+    length: usize,
+    most: Option<usize>,
+) {
+    let (front, others) = views.split_at(length.min(views.len()));
+    let items = front.iter();
+    let mut string = Text::<B>::collect_strs(rt.alloc(), Loose { items, most }).expect(
+        rt, "refused",
+    );
+    assert_row!(rt; Some(string.as_ascii_str().as_str()), TEXT.get(..length));
+    let items = others.iter();
+    string
+        .extend_strs(Loose { items, most })
+        .expect(rt, "refused");
+    assert_row!(rt; string.as_ascii_str().as_str(), TEXT);
+}
+
 #[test]
 fn all_views_come(rt: HostRuntime) {
-    let alloc = rt.alloc();
     let views: Vec<AsciiStr<'_>> = ascii(PIECES)
         .split(AsciiChar::Comma)
-        .collect(alloc)
+        .collect(rt.alloc())
         .expect(&rt, "refused");
-    assert_eq!(rt; views.len(), 33);
+    assert_row!(rt; views.len(), 33);
     for most in [None, Some(usize::MAX)] {
         for length in [0, 3, 33] {
-            let items = views[..length].iter();
-            let mut string = AsciiString::collect_strs(alloc, Loose { items, most }).expect(
-                &rt, "refused",
-            );
-            assert_row!(rt; string.as_ascii_str().as_str(), &TEXT[..length]);
-            let items = views[length..].iter();
-            string
-                .extend_strs(Loose { items, most })
-                .expect(&rt, "refused");
-            assert_row!(rt; string.as_ascii_str().as_str(), TEXT);
+            compare_views::<Vec<u8>, HostRuntime>(&rt, &views, length, most);
         }
     }
 }
