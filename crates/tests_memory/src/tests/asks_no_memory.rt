@@ -1,6 +1,6 @@
 //! Calls that ask for no memory, with none to be had.
 
-use super::each_allocation::{Heap, right, shown, view};
+use super::each_allocation::{Heap, right, shown, shown_string, view};
 use ascii::iter::{End, walk_line_spans, walk_lines, walk_split, walk_split_spans};
 use ascii::json::string_from_json;
 use ascii::{AsciiChar, AsciiStr, AsciiString, NewBuffer, Text, bytes, text, vec};
@@ -68,22 +68,30 @@ fn nothing_to_add(rt: HostRuntime) {
     }
 }
 
-/// A call that makes a value out of nothing, or that rejects its source.
+/// A call that makes a string out of nothing, or that rejects its source.
 fn made(alloc: Global, heap: &Heap, call: &str) -> Result<String, AllocError> {
+    let none: AsciiStr<'_> = view("");
+    match call {
+        "with_capacity" => shown_string(alloc, AsciiString::with_capacity(heap, 0)),
+        "to_ascii_string" => shown_string(alloc, none.to_ascii_string(heap)),
+        "bytes" => shown_string(alloc, bytes::to_ascii_string(heap, b"")),
+        "text" => shown_string(alloc, text::to_ascii_string(heap, "")),
+        "bytes of more" => shown_string(alloc, bytes::to_ascii_string(heap, "bø!".as_bytes())),
+        "text of more" => shown_string(alloc, text::to_ascii_string(heap, "bø!")),
+        "string_from_json" => shown_string(alloc, string_from_json(heap, &Value::from(7u64))),
+        _ => walked(alloc, heap, call),
+    }
+}
+
+/// A walk that takes no step.
+fn walked(alloc: Global, heap: &Heap, call: &str) -> Result<String, AllocError> {
     let none: AsciiStr<'_> = view("");
     let script: [End; 0] = [];
     match call {
-        "with_capacity" => shown(alloc, AsciiString::with_capacity(heap, 0)),
-        "to_ascii_string" => shown(alloc, none.to_ascii_string(heap)),
-        "bytes" => shown(alloc, bytes::to_ascii_string(heap, b"")),
-        "text" => shown(alloc, text::to_ascii_string(heap, "")),
-        "bytes of more" => shown(alloc, bytes::to_ascii_string(heap, "bø!".as_bytes())),
-        "text of more" => shown(alloc, text::to_ascii_string(heap, "bø!")),
         "walk_lines" => shown(alloc, walk_lines(heap, none, &script)),
         "walk_line_spans" => shown(alloc, walk_line_spans(heap, none, &script)),
         "walk_split" => shown(alloc, walk_split(heap, none, AsciiChar::a, &script)),
         "walk_split_spans" => shown(alloc, walk_split_spans(heap, none, AsciiChar::a, &script)),
-        "string_from_json" => shown(alloc, string_from_json(heap, &Value::from(7u64))),
         _ => Err(AllocError),
     }
 }

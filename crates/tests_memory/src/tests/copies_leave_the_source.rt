@@ -1,10 +1,11 @@
 //! Calls that make a text, a list of characters or a list of answers: the source stays.
 
 use super::each_allocation::{
-    Heap, shown, view, with_each_allocation_failing, with_each_two_allocations_failing,
+    Heap, shown, shown_string, view, with_each_allocation_failing,
+    with_each_two_allocations_failing,
 };
 use ascii::iter::{End, walk_line_spans, walk_lines, walk_split, walk_split_spans};
-use ascii::{AsciiChar, AsciiStr, BoxedAsciiStr, NewBuffer, RcAsciiStr, Text};
+use ascii::{AsciiChar, AsciiStr, BoxedAsciiStr, CloneBuffer, NewBuffer, RcAsciiStr, Text};
 use std::alloc::{AllocError, Global};
 
 /// A call that makes a string with any buffer.
@@ -34,20 +35,13 @@ fn made_over<B: NewBuffer<Refusal = AllocError>>(
 fn made(alloc: Global, heap: &Heap, call: &str) -> Result<String, AllocError> {
     let source = view("aB,c");
     match call {
-        "with_capacity" | "from_char" | "from_chars" | "collect_chars" | "collect_strs" => {
-            made_over::<Vec<u8, &Heap>>(alloc, heap, call)
-        }
-        "to_ascii_string" => shown(alloc, source.to_ascii_string(heap)),
-        "to_ascii_uppercase" => shown(alloc, source.to_ascii_uppercase(heap)),
-        "to_ascii_lowercase" => shown(alloc, source.to_ascii_lowercase(heap)),
+        "to_ascii_string" => shown_string(alloc, source.to_ascii_string(heap)),
+        "to_ascii_uppercase" => shown_string(alloc, source.to_ascii_uppercase(heap)),
+        "to_ascii_lowercase" => shown_string(alloc, source.to_ascii_lowercase(heap)),
         "replace" => replaced(alloc, heap, source),
         "to_chars" => shown(alloc, source.to_chars(heap)),
-        "clone" => {
-            let string = source.to_ascii_string(heap)?;
-            let copy: Result<_, _> = string.clone();
-            format!(in alloc; "{copy:?} of {string}")
-        }
-        _ => Err(AllocError),
+        "clone" => cloned_over::<Vec<u8, &Heap>>(alloc, heap, source),
+        _ => made_over::<Vec<u8, &Heap>>(alloc, heap, call),
     }
 }
 
@@ -57,7 +51,18 @@ fn replaced(alloc: Global, heap: &Heap, source: AsciiStr<'_>) -> Result<String, 
     if comma.is_empty() {
         return Err(AllocError);
     }
-    shown(alloc, source.replace(heap, comma, view("--")))
+    shown_string(alloc, source.replace(heap, comma, view("--")))
+}
+
+/// The copy of a string, and the string after it.
+fn cloned_over<B: NewBuffer<Refusal = AllocError> + CloneBuffer>(
+    alloc: Global,
+    heap: B::Alloc,
+    source: AsciiStr<'_>,
+) -> Result<String, AllocError> {
+    let string = Text::<B>::from_ascii_str(heap, source)?;
+    let copy: Result<_, _> = string.clone();
+    format!(in alloc; "{copy:?} of {string}")
 }
 
 /// A call that makes a text, and its answers.

@@ -96,6 +96,14 @@ pub fn shown<T: fmt::Debug + Drop>(alloc: Global, answer: T) -> Result<String, A
     format!(in alloc; "{answer:?}")
 }
 
+/// What a call that makes a string answered.
+pub fn shown_string<E: fmt::Debug + Drop>(
+    alloc: Global,
+    answer: Result<AsciiString<&Heap>, E>,
+) -> Result<String, AllocError> {
+    shown(alloc, answer)
+}
+
 /// What a call returned, the text after it, and that text again after one more allocation.
 pub fn told<T: fmt::Debug + Drop, A: Allocator>(
     alloc: Global,
