@@ -143,15 +143,6 @@ abbrev pub IsRequest : Next → Type 0
 IsRequest (next.Part n) = 0 < n
 IsRequest other = ⊤
 
--- what a conversation awaits: what the handler has asked for; or the end of a line that was
--- rejected, and then that
-abbrev pub Awaits : Type 0
-Awaits = Awaited
-
--- what the handler has asked for
-abbrev pub awaits_input : Next → Awaits
-awaits_input asked = Input asked
-
 -- what happened in a conversation at one time. `took`: the handler was given a line or a part, and
 -- gave replies. `rejected`: it was told of an error in place of a line, and gave replies.
 -- `skipped`: the bytes of the line that was rejected were read over

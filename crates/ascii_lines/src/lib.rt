@@ -37,5 +37,5 @@ pub use ascii_devices::{Channel, DeviceFault, Duplex, Input, Output, Sink, Sourc
 pub use line_reader::{LineError, LineReader, ReadBytes, ReadLine, ReadPart};
 pub use line_writer::{LineWriter, WriteError};
 pub use owned_lines::{Block, BlockEnd, CollectedLines, OwnedLine, collect_lines, read_block};
-pub use serving::{Handler, LineChannel, Next, Replies, Stop, serve};
+pub use serving::{Awaited, Handler, LineChannel, Next, Replies, Stop, serve};
 pub use skipping::SkippedLine;

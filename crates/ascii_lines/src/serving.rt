@@ -54,9 +54,9 @@ pub enum Stop {
     Writer,
 }
 
-/// What a conversation awaits.
-#[derive(Clone, Copy)]
-pub(crate) enum Awaited {
+/// What a conversation awaits. No call takes or returns it: contracts of handlers and servers speak of it.
+#[derive(Clone, Copy, PartialEq, Eq, Debug)]
+pub enum Awaited {
     /// What the handler has asked for.
     Input(Next),
     /// The end of a line that was rejected, and then what the handler has asked for.
@@ -358,7 +358,7 @@ impl<C: Channel, A: Allocator> LineChannel<C, A> {
     ///
     ///     let device = Duplex::new(b"".as_slice(), Vec::new(alloc));
     ///     let mut lines = LineChannel::new(alloc, device, 64, Endings::Any, Ending::Lf)?;
-    ///     lines.greet(view("hi")) // Ok(())
+    ///     lines.greet(view("hi"))?;
     ///     serve(&mut lines, &mut Echo) // EndOfInput
     ///     let (_, output) = lines.into_device().into_parts();
     ///     output.into_inner() // [104, 105, 10]

@@ -43,8 +43,7 @@ impl Handler for Echo {
         _ending: Ending,
         replies: &mut Replies<K, A>,
     ) -> Next {
-        replies.part(text);
-        replies.fixed_line(AsciiStr::literal(""));
+        replies.text(text);
         Next::Line
     }
 

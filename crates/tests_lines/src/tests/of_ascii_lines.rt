@@ -416,7 +416,7 @@ fn greet_of_line_channel(rt: HostRuntime) {
     let mut lines = LineChannel::new(alloc, device, 64, Endings::Any, Ending::Lf).expect(
         &rt, "refused",
     );
-    assert_debug!(rt; lines.greet(view("hi")), "Ok(())");
+    lines.greet(view("hi")).expect(&rt, "refused");
     assert_debug!(rt; serve(&mut lines, &mut Echo), "EndOfInput");
     let (_, output) = lines.into_device().into_parts();
     assert_debug!(rt; output.into_inner(), "[104, 105, 10]");

@@ -1,7 +1,6 @@
 //! A server over inputs of lines and parts, with bad input, and over sinks that fail.
 
-ghost use Rattle.std.specs.Prelude.{List};
-ghost use Rattle.ascii_lines.specs.Serve.{IsRequest, Reply, Says};
+ghost use Rattle.ascii_lines.specs.Serve.{IsRequest};
 
 use super::line_writer::{Counted, make_counted};
 use ascii_lines::{
@@ -19,16 +18,16 @@ struct Words {
 }
 
 impl Words {
-    /// The replies to a text, and what comes next. After `part` comes a part, which is answered as a line is.
-    fn reply(count: u8, text: AsciiStr<'_>) -> (&'static [&'static str], Next)
+    /// The lines that reply to a text, and what comes next. After `part` comes a part, which is answered as a line is.
+    fn reply(count: u8, text: AsciiStr<'_>) -> (&'static str, Next)
         ensures { IsRequest result.1 }
     {
         match text.as_str() {
-            "quit" => (&["bye"], Next::Close),
-            "part" => (&[], Next::Part(4)),
-            "two" => (&["one", "two"], Next::Line),
-            _ if count > 9 => (&["many"], Next::Line),
-            _ => (&["ok"], Next::Line),
+            "quit" => ("bye\r\n", Next::Close),
+            "part" => ("", Next::Part(4)),
+            "two" => ("one\r\ntwo\r\n", Next::Line),
+            _ if count > 9 => ("many\r\n", Next::Line),
+            _ => ("ok\r\n", Next::Line),
         }
     }
 }
@@ -49,8 +48,8 @@ impl Handler for Words {
             replies.part(ascii("cut off"));
             return Next::Close;
         }
-        let (bodies, next) = Words::reply(self.count, text);
-        say_all(bodies, replies);
+        let (reply, next) = Words::reply(self.count, text);
+        replies.part(ascii(reply));
         next
     }
 
@@ -77,16 +76,6 @@ impl Handler for Words {
                 Next::Close
             }
         }
-    }
-}
-
-/// Writes texts as lines.
-fn say_all<K: Sink, A: Allocator>(bodies: &[&'static str], replies: &mut Replies<K, A>)
-    ensures { (said : List Reply) × Says replies.old said replies.new }
-{
-    for body in bodies {
-        replies.part(ascii(body));
-        replies.fixed_line(ascii(""));
     }
 }
 
