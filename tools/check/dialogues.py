@@ -25,6 +25,7 @@ MAIL = BEGUN[0] + b"Subject: x\r\n\r\n..dot\r\n.\r\nQUIT\r\n"
 MAILED = BEGUN[1] + b"250 OK\r\n221 bye\r\n"
 HELLO = (b"", b"220 ready\r\n")
 BAD = b"554 bad line\r\n"
+DROPPED = b"554 bad message\r\n221 bye\r\n"
 
 
 def mail(name, *steps, then=b""):
@@ -36,8 +37,8 @@ def store(name, *steps, then=b""):
 
 
 def smuggled(name, end):
-    """An end of a message that is none by RFC 5321, with a second mail after it: it is answered once, and no more is read."""
-    return mail(f"a message with {name}", BEGUN, (b"hi" + end + BEGUN[0] + b"two\r\n.\r\n", BAD))
+    """An end of a message that is none by RFC 5321, with a second mail after it: one bad message, answered at its end."""
+    return mail(f"a message with {name}", BEGUN, (b"hi" + end + BEGUN[0], b""), (b"two\r\n.\r\nQUIT\r\n", DROPPED))
 
 
 DIALOGUES = [
@@ -50,8 +51,11 @@ DIALOGUES = [
     mail("an input that ends in a command", (b"NOOP\r\nQUIT", b"250 OK\r\n"), then=BAD),
     mail("an input that ends in a message", BEGUN, (b"line\r\n.", b""), then=BAD),
     mail("dots", BEGUN, (b"..\r\n...\r\n. \r\n.x\r\n.\r\n", b"250 OK\r\n")),
-    mail("a byte above 127", (b"NOOP\xc4\r\nQUIT\r\n", BAD)),
-    mail("a long line is answered before it ends", (b"x" * 5000, b"500 line too long\r\n")),
+    mail("a client that asks for extensions", (b"EHLO c\r\nEHLO \r\n", b"250 OK\r\n501 bad argument\r\n")),
+    mail("a byte above 127", (b"NOOP\xc4\r\nQUIT\r\n", BAD + b"221 bye\r\n")),
+    mail("a byte above 127 in a message", BEGUN, (b"caf\xc3\xa9\r\nline\r\n", b""), (b".\r\nQUIT\r\n", DROPPED)),
+    mail("a mail after one that was dropped", BEGUN, (b"\xff\r\n.\r\n" + MAIL, b"554 bad message\r\n" + MAILED)),
+    mail("a long line is answered before it ends", (b"x" * 5000, b"500 line too long\r\n"), (b"x\r\nNOOP\r\n", b"250 OK\r\n")),
     smuggled("LF . LF", b"\n.\n"),
     smuggled("LF . CR LF", b"\n.\r\n"),
     smuggled("CR LF . LF", b"\r\n.\n"),

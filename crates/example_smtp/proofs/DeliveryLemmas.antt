@@ -1,36 +1,41 @@
 -- The messages that a session delivers, exchange by exchange.
-use Rattle.std.proofs.Common.{◌≡◌, ◌≢◌, ◌⊎◌, ◌∙◌, ◌+◌, ◌*◌, ◌≤◌, ℕ}
+use Rattle.std.proofs.Common.{◌≡◌, ◌≢◌, ◌⊎◌, ◌∙◌, ◌+◌, ◌*◌, ◌≤◌, ℕ, Bool, None, Option, Some, false, true}
 use Rattle.std.proofs.Common.{List, [], ◌∷◌, ◌++◌, Err, Ok, Result, ap}
 use Rattle.std.proofs.Common.{append-nil, append_assoc, arith, inl, inr, length, length-append}
 use Rattle.std.proofs.Common.{lit≤, map, refl, subst, sym}
 use Rattle.std.proofs.lemmas.List.{length-map, map-append}
-use Rattle.std.proofs.lemmas.List.Elements.{All-cons, All-nil}
-use Rattle.std.specs.List.{AllZip}
-use Rattle.std.specs.Prelude.{MatchResult, codes}
+use Rattle.std.proofs.lemmas.List.Elements.{All-append, All-cons, All-nil}
+use Rattle.std.specs.List.{AllZip, flat_map}
+use Rattle.std.specs.Prelude.{All, MatchResult, codes}
 use Rattle.ascii.specs.Case.{lower_image}
-use Rattle.ascii_lines.specs.Serve.{Awaits, Talks, Step, awaits_input, line_reply}
-use Rattle.ascii_lines.specs.Serve.{skipped, took}
+use Rattle.ascii_lines.specs.Serve.{Step, Talks, line_reply, skipped, took}
+use Rattle.ascii_lines.specs.declared.serving.Awaited.{Awaited}
+use Rattle.ascii_lines.specs.declared.serving.Awaited.TheVariants.{Input, LineEnd}
 use Rattle.ascii_lines.specs.Serve as serve
+use Rattle.ascii_lines.specs.declared.line_reader.LineError.{LineError}
+use Rattle.ascii_lines.specs.declared.line_reader.LineError.TheVariants as error
 use Rattle.ascii_lines.specs.declared.serving.Next.TheVariants as next
 use Rattle.ascii.specs.declared.iter.spans.Endings.{Endings}
 use Rattle.ascii_lines.specs.declared.serving.Next.{Next}
 use Rattle.example_smtp.specs.Commands.{IsFault, ReadsCommand, Says, name_of, reply_line}
-use Rattle.example_smtp.specs.Deliveries.{Delivers, Exchange, GivesUp}
-use Rattle.example_smtp.specs.Deliveries.{IsExchange, IsLast, IsOutside, IsText, answered, lines_of}
+use Rattle.example_smtp.specs.Deliveries.{AreExchanges, Delivers, Exchange, GivesUp, Group, IsBadText}
+use Rattle.example_smtp.specs.Deliveries.{IsGroup, IsLast, IsOutside, IsText, answered, dropped}
+use Rattle.example_smtp.specs.Deliveries.{group_exchanges, group_messages, lines_of, message, single}
 use Rattle.example_smtp.specs.Deliveries.{session_answers, session_refuses, unanswered}
-use Rattle.example_smtp.specs.Mail.{IsFresh, Mail, State, state_of}
+use Rattle.example_smtp.specs.Mail.{IsFresh, Mail, State, Unstuffs, no_mail, state_of}
 use Rattle.example_smtp.specs.Session.{Answers, AnswersAt, AnswersCommand, AnswersLine, CarriesOut}
-use Rattle.example_smtp.specs.Session.{Follows, Keeps, Receives, Rejects, after, reply_to}
-use Rattle.example_smtp.specs.Session.{reset_stage}
+use Rattle.example_smtp.specs.Session.{EndsBy, Follows, Refuses, RefusesAt, Rejects, TakesLine}
+use Rattle.example_smtp.specs.Session.{after, refusal_of, reply_to, reset_stage}
 use Rattle.example_smtp.specs.declared.commands.Command.{Command}
 use Rattle.example_smtp.specs.declared.commands.Command.TheVariants.{AddRecipient, BeginLines}
 use Rattle.example_smtp.specs.declared.commands.Command.TheVariants.{Introduce, Leave, Reset}
 use Rattle.example_smtp.specs.declared.commands.Command.TheVariants.{SetSender}
 use Rattle.example_smtp.specs.declared.commands.Command.TheVariants as command
 use Rattle.example_smtp.specs.declared.commands.Reply.{Reply}
-use Rattle.example_smtp.specs.declared.commands.Reply.TheVariants.{BadArgument, BadLine, BadSequence}
-use Rattle.example_smtp.specs.declared.commands.Reply.TheVariants.{Bye, Done, LongLine, NoMemory}
-use Rattle.example_smtp.specs.declared.commands.Reply.TheVariants.{SendLines, UnknownCommand}
+use Rattle.example_smtp.specs.declared.commands.Reply.TheVariants.{BadArgument, BadLine, BadMessage}
+use Rattle.example_smtp.specs.declared.commands.Reply.TheVariants.{BadSequence, Bye, Closing, Done}
+use Rattle.example_smtp.specs.declared.commands.Reply.TheVariants.{LongLine, NoMemory, SendLines}
+use Rattle.example_smtp.specs.declared.commands.Reply.TheVariants.{UnknownCommand}
 use Rattle.example_smtp.specs.declared.commands.Verb.{Verb}
 use Rattle.example_smtp.specs.declared.commands.Verb.TheVariants as verb
 use Rattle.example_smtp.specs.declared.session.Session.{Session}
@@ -40,85 +45,121 @@ use Rattle.example_smtp.specs.declared.session.Stage.TheVariants.{Recipients, Se
 
 -- ---- the exchanges of a conversation
 
+-- a line, or one that was rejected, is answered
+abbrev pub AnswersTo : Option (List ℕ) → State → List (List ℕ) → Next → State → Type 0
+AnswersTo (Some line) old replies asked new = Answers old line replies asked new
+AnswersTo None old replies asked new = (error : LineError) × Refuses old error replies new
+
 -- a session goes from the state `old` to the state `new` by these exchanges
 abbrev pub Runs : State → List Exchange → State → Type 0
 Runs old [] new = new ≡ old
 Runs old (exchange ∷ exchanges) new = (mid : State) × (asked : Next)
-    × Answers old exchange.line exchange.replies asked mid × Runs mid exchanges new
+    × AnswersTo exchange.line old exchange.replies asked mid × Runs mid exchanges new
 
 -- the exchanges of a conversation
 pub record Transcript (old : Session) (steps : List Step) (new : Session) : Type 0 where
   pub exchanges : List Exchange
   pub given_up : List Exchange
   pub is_last : IsLast given_up
-  pub zipped : AllZip IsExchange steps (exchanges ++ given_up)
+  pub are : AreExchanges steps (exchanges ++ given_up)
   pub mid : State
   pub runs : Runs (state_of old) exchanges mid
   pub kept : (state_of new).received ≡ mid.received
 
 -- nothing follows the end of a conversation
-closed_ends : (endings : Endings) (old new : Session) (last : Awaits) (steps : List Step)
-    → Talks session_answers session_refuses endings (awaits_input next.Close) old steps last new
+closed_ends : (endings : Endings) (old new : Session) (last : Awaited) (steps : List Step)
+    → Talks session_answers session_refuses endings (Input next.Close) old steps last new
     → (steps ≡ []) × (new ≡ old)
 closed_ends endings old new last [] talks = (refl, talks.1)
 closed_ends endings old new last (took input replies ∷ steps) (after, mid, is_step, talks) =
     absurd is_step.2
-closed_ends endings old new last (serve.rejected error replies ∷ steps) (after, mid, is_step, talks) =
+closed_ends endings old new last (serve.rejected error replies ∷ steps)
+    (after, mid, is_step, talks) =
     absurd (let e : next.Close ≡ next.Line = is_step.2 in cc)
 closed_ends endings old new last (skipped bytes ∷ steps) (after, mid, is_step, talks) =
     absurd is_step
 
--- a conversation has a transcript
-pub transcript : (endings : Endings) (old new : Session) (asked : Next) (last : Awaits)
-    (steps : List Step)
-    → Talks session_answers session_refuses endings (awaits_input asked) old steps last new
+-- a conversation has a transcript, whatever it awaits first: to read over a line changes nothing
+pub transcript : (endings : Endings) (old new : Session) (first last : Awaited)
+    (steps : List Step) → Talks session_answers session_refuses endings first old steps last new
     → Transcript old steps new
-transcript endings old new asked last [] (same, is) = record {
+transcript endings old new first last [] (same, is) = record {
   exchanges = [];
   given_up = [];
   is_last = inl refl;
-  zipped = tt;
+  are = refl;
   mid = state_of old;
   runs = refl;
   kept = ap (λ (s : Session). (state_of s).received) is;
 }
-transcript endings old new asked last (took input replies ∷ steps) (after, mid, is_step, talks) =
-    let (sequel, is, is_asked, (texts, said, answers)) = is_step in
-    let on = subst
-    (λ a. Talks session_answers session_refuses endings a mid steps last new) is talks in
-    elim answers [
-      | inl answered_it ↦
-          let others = transcript endings mid new sequel last steps on in
-          record {
-            exchanges = record { line = input.body; replies = texts } ∷ others.exchanges;
-            given_up = others.given_up;
-            is_last = others.is_last;
-            zipped = ((refl, said), others.zipped);
-            mid = others.mid;
-            runs = (state_of mid, sequel, answered_it, others.runs);
-            kept = others.kept;
-          }
-      | inr gives ↦
-          let ends = closed_ends endings mid new last steps
-          (subst
-          (λ n. Talks session_answers session_refuses endings (awaits_input n) mid steps last new)
-          gives.closes on) in
-          subst (λ ts. Transcript old (took input replies ∷ ts) new) (sym ends.0)
-          (record {
-            exchanges = [];
-            given_up = answered input.body gives.fault ∷ [];
-            is_last = inr (input.body, gives.fault, gives.why, refl);
-            zipped = ((refl, said ∙ ap (map line_reply) gives.says), tt);
-            mid = state_of old;
-            runs = refl;
-            kept = ap (λ (s : Session). (state_of s).received) ends.1 ∙ gives.kept;
-          })
-    ]
-transcript endings old new asked last (serve.rejected error replies ∷ steps)
-    (after, mid, (sequel, is, line, more, goes, (said, closes, same)), talks) =
-    absurd (goes closes)
-transcript endings old new asked last (skipped bytes ∷ steps) (after, mid, is_step, talks) =
-    absurd is_step
+transcript endings old new first last (step ∷ steps) (after, mid, is_step, talks) =
+    go first step (transcript endings mid new after last steps talks) is_step
+  where
+    go : (first : Awaited) (step : Step) → Transcript mid steps new
+        → serve.IsStep session_answers session_refuses endings first old step after mid
+        → Transcript old (step ∷ steps) new
+    go (Input asked) (took input replies) others (sequel, is, is_asked, (texts, said, answers)) =
+        elim answers [
+          | inl answered_it ↦
+              record {
+                exchanges = record { line = Some input.body; replies = texts }
+                    ∷ others.exchanges;
+                given_up = others.given_up;
+                is_last = others.is_last;
+                are = (texts, others.exchanges ++ others.given_up, said, refl, others.are);
+                mid = others.mid;
+                runs = (state_of mid, sequel, answered_it, others.runs);
+                kept = others.kept;
+              }
+          | inr gives ↦
+              let ends = closed_ends endings mid new last steps
+              (subst
+              (λ n. Talks session_answers session_refuses endings (Input n) mid steps last
+              new) gives.closes
+              (subst
+              (λ a. Talks session_answers session_refuses endings a mid steps last new) is
+              talks)) in
+              subst (λ ss. Transcript old (took input replies ∷ ss) new) (sym ends.0)
+              (record {
+                exchanges = [];
+                given_up = answered input.body gives.fault ∷ [];
+                is_last = inr (input.body, gives.fault, gives.why, refl);
+                are = (
+                  reply_line gives.fault ∷ [],
+                  [],
+                  said ∙ ap (map line_reply) gives.says,
+                  refl,
+                  refl,
+                );
+                mid = state_of old;
+                runs = refl;
+                kept = ap (λ (s : Session). (state_of s).received) ends.1 ∙ gives.kept;
+              })
+        ]
+    go (Input asked) (serve.rejected error replies) others
+        (sequel, is, line, more, goes, (texts, said, refuses, asks)) =
+        record {
+          exchanges = record { line = None; replies = texts } ∷ others.exchanges;
+          given_up = others.given_up;
+          is_last = others.is_last;
+          are = (texts, others.exchanges ++ others.given_up, said, refl, others.are);
+          mid = others.mid;
+          runs = (state_of mid, sequel, (error, refuses), others.runs);
+          kept = others.kept;
+        }
+    go (Input asked) (skipped bytes) others none = absurd none
+    go (LineEnd asked) (skipped bytes) others (is, same, stops) =
+        record {
+          exchanges = others.exchanges;
+          given_up = others.given_up;
+          is_last = others.is_last;
+          are = others.are;
+          mid = others.mid;
+          runs = subst (λ s. Runs (state_of s) others.exchanges others.mid) same others.runs;
+          kept = others.kept;
+        }
+    go (LineEnd asked) (took input replies) others none = absurd none
+    go (LineEnd asked) (serve.rejected error replies) others none = absurd none
 
 -- ---- replies
 
@@ -140,6 +181,8 @@ not_begin BadSequence apart is = omega (arith, ap first_codes is)
 not_begin LongLine apart is = omega (arith, ap first_codes is)
 not_begin BadLine apart is = omega (arith, ap first_codes is)
 not_begin NoMemory apart is = omega (arith, ap first_codes is)
+not_begin BadMessage apart is = omega (arith, ap first_codes is)
+not_begin Closing apart is = omega (arith, ap first_codes is)
 
 -- a reply other than 250 is another line
 not_end : (reply : Reply) → reply ≢ Done → reply_line reply ∷ [] ≢ reply_line Done ∷ []
@@ -152,10 +195,12 @@ not_end BadSequence apart is = omega (arith, ap first_codes is)
 not_end LongLine apart is = omega (arith, ap first_codes is)
 not_end BadLine apart is = omega (arith, ap first_codes is)
 not_end NoMemory apart is = omega (arith, ap first_codes is)
+not_end BadMessage apart is = omega (arith, ap first_codes is)
+not_end Closing apart is = omega (arith, ap first_codes is)
 
 -- an exchange with another reply is outside a message
 outside_by : (exchange : Exchange) (reply : Reply) → exchange.replies ≡ reply_line reply ∷ []
-    → reply ≢ SendLines → (exchange.line ≡ codes "." → reply ≢ Done) → IsOutside exchange
+    → reply ≢ SendLines → (exchange.line ≡ Some (codes ".") → reply ≢ Done) → IsOutside exchange
 outside_by exchange reply is begins ends = record {
   begins = λ same. not_begin reply begins (sym is ∙ same);
   ends = λ dot same. not_end reply (ends dot) (sym is ∙ same);
@@ -166,6 +211,7 @@ outside_by exchange reply is begins ends = record {
 -- the name of a verb is longer than a dot
 long_name : (verb : Verb) → 4 ≤ length (name_of verb)
 long_name verb.Helo = lit≤ tt
+long_name verb.Ehlo = lit≤ tt
 long_name verb.Mail = lit≤ tt
 long_name verb.Rcpt = lit≤ tt
 long_name verb.Data = lit≤ tt
@@ -189,6 +235,11 @@ dot_says_nothing command says =
 
 -- ---- an exchange outside a message
 
+-- the text of a line
+abbrev text_in : Option (List ℕ) → List ℕ
+text_in None = []
+text_in (Some text) = text
+
 -- the exchange leaves the session outside a message
 pub record StaysOutside (old : State) (exchange : Exchange) (new : State) : Type 0 where
   pub outside : IsOutside exchange
@@ -197,17 +248,19 @@ pub record StaysOutside (old : State) (exchange : Exchange) (new : State) : Type
 
 -- the exchange begins the lines of a message
 pub record BeginsMessage (old : State) (exchange : Exchange) (new : State) : Type 0 where
-  pub begins : Says exchange.line BeginLines
-  pub says : exchange.replies ≡ reply_line SendLines ∷ []
+  pub start : List ℕ
+  pub begins : Says start BeginLines
+  pub is : exchange ≡ answered start SendLines
   pub stage : new.stage ≡ Lines
   pub empty : new.draft.lines ≡ []
+  pub good : new.is_bad ≡ false
   pub received : new.received ≡ old.received
 
--- a line that is rejected leaves the session outside a message
-rejected : (old new : State) (exchange : Exchange) (fault : Reply) → old.stage ≢ Lines
+-- a line at fault leaves the session outside a message
+faulty : (old new : State) (exchange : Exchange) (fault : Reply) → old.stage ≢ Lines
     → fault ≢ SendLines → fault ≢ Done → exchange.replies ≡ reply_line fault ∷ [] → new ≡ old
     → StaysOutside old exchange new
-rejected old new exchange fault apart begins ends says same = record {
+faulty old new exchange fault apart begins ends says same = record {
   outside = outside_by exchange fault says begins (λ dot. ends);
   stage = λ is. apart (ap (λ (state : State). state.stage) (sym same) ∙ is);
   received = ap (λ (state : State). state.received) same;
@@ -225,16 +278,32 @@ fault_apart line BadSequence is = absurd (let same : BadSequence ≡ BadArgument
 fault_apart line LongLine is = absurd (let same : LongLine ≡ BadArgument = is.3.0 in cc)
 fault_apart line BadLine is = absurd (let same : BadLine ≡ BadArgument = is.3.0 in cc)
 fault_apart line NoMemory is = absurd (let same : NoMemory ≡ BadArgument = is.3.0 in cc)
+fault_apart line BadMessage is = absurd (let same : BadMessage ≡ BadArgument = is.3.0 in cc)
+fault_apart line Closing is = absurd (let same : Closing ≡ BadArgument = is.3.0 in cc)
 
-module _ (old new : State) (exchange : Exchange) (asked : Next) (apart : old.stage ≢ Lines) where
+-- neither is the reply to an error of the input
+refusal_apart : (error : LineError) → (refusal_of error ≢ SendLines) × (refusal_of error ≢ Done)
+refusal_apart (error.NotAscii place) = (λ same. cc, λ same. cc)
+refusal_apart (error.LoneBreak place) = (λ same. cc, λ same. cc)
+refusal_apart (error.TooLong start) = (λ same. cc, λ same. cc)
+refusal_apart error.TooFar = (λ same. cc, λ same. cc)
+refusal_apart (error.Incomplete count) = (λ same. cc, λ same. cc)
+refusal_apart error.Read = (λ same. cc, λ same. cc)
+
+module _ (old new : State) (line : List ℕ) (replies : List (List ℕ)) (asked : Next)
+    (apart : old.stage ≢ Lines) where
+  abbrev said_here : Exchange
+  said_here = record { line = Some line; replies = replies }
+
   -- a command whose reply is not 354 leaves the session outside a message
-  stays : (command : Command) → Says exchange.line command
-      → CarriesOut old command exchange.replies asked new → reply_to command ≢ SendLines
+  stays : (command : Command) → Says line command
+      → CarriesOut old command replies asked new → reply_to command ≢ SendLines
       → (after old command).stage ≢ Lines → (after old command).received ≡ old.received
-      → StaysOutside old exchange new
+      → StaysOutside old said_here new
   stays command says carried other stage_apart same = record {
-    outside = outside_by exchange (reply_to command) carried.says other
-        (λ dot is. dot_says_nothing command (subst (λ line. Says line command) dot says));
+    outside = outside_by said_here (reply_to command) carried.says other
+        (λ dot is. dot_says_nothing command
+        (subst (λ text. Says text command) (ap text_in dot) says));
     stage = λ is. stage_apart (ap (λ (state : State). state.stage) (sym carried.state) ∙ is);
     received = ap (λ (state : State). state.received) carried.state ∙ same;
   }
@@ -248,9 +317,9 @@ module _ (old new : State) (exchange : Exchange) (asked : Next) (apart : old.sta
   reset_apart Lines is = cc
 
   -- a command that is carried out begins a message, or leaves the session outside one
-  followed : (command : Command) → Says exchange.line command
-      → CarriesOut old command exchange.replies asked new
-      → StaysOutside old exchange new ⊎ BeginsMessage old exchange new
+  followed : (command : Command) → Says line command
+      → CarriesOut old command replies asked new
+      → StaysOutside old said_here new ⊎ BeginsMessage old said_here new
   followed (Introduce domain) says carried =
       inl (stays (Introduce domain) says carried (λ is. cc) (λ is. cc) refl)
   followed (SetSender address) says carried =
@@ -258,10 +327,12 @@ module _ (old new : State) (exchange : Exchange) (asked : Next) (apart : old.sta
   followed (AddRecipient address) says carried =
       inl (stays (AddRecipient address) says carried (λ is. cc) (λ is. cc) refl)
   followed BeginLines says carried = inr (record {
+    start = line;
     begins = says;
-    says = carried.says;
+    is = ap (λ (said : List (List ℕ)). record { line = Some line; replies = said }) carried.says;
     stage = ap (λ (state : State). state.stage) carried.state;
     empty = ap (λ (state : State). state.draft.lines) carried.state;
+    good = ap (λ (state : State). state.is_bad) carried.state;
     received = ap (λ (state : State). state.received) carried.state;
   })
   followed Reset says carried =
@@ -271,316 +342,404 @@ module _ (old new : State) (exchange : Exchange) (asked : Next) (apart : old.sta
   followed Leave says carried = inl (stays Leave says carried (λ is. cc) apart refl)
 
   -- the answer to a line begins a message, or leaves the session outside one
-  by_outcome : (outcome : Result Command Reply) → ReadsCommand exchange.line outcome
-      → MatchResult outcome (λ command. Follows old command exchange.replies asked new)
-      (λ fault. Rejects old fault exchange.replies asked new)
-      → StaysOutside old exchange new ⊎ BeginsMessage old exchange new
+  by_outcome : (outcome : Result Command Reply) → ReadsCommand line outcome
+      → MatchResult outcome (λ command. Follows old command replies asked new)
+      (λ fault. Rejects old fault replies asked new)
+      → StaysOutside old said_here new ⊎ BeginsMessage old said_here new
   by_outcome (Ok command) says follows = elim follows [
     | inl allowed ↦ followed command says allowed.1
     | inr early ↦
-        inl (rejected old new exchange BadSequence apart (λ is. cc) (λ is. cc) early.1.says
+        inl (faulty old new said_here BadSequence apart (λ is. cc) (λ is. cc) early.1.says
         early.1.state)
   ]
   by_outcome (Err fault) is rejects =
-      let other = fault_apart exchange.line fault is in
-      inl (rejected old new exchange fault apart other.0 other.1 rejects.says rejects.state)
+      let other = fault_apart line fault is in
+      inl (faulty old new said_here fault apart other.0 other.1 rejects.says rejects.state)
 
   -- outside a message, a line is to say a command
   answers_command : (stage : Stage) → stage ≢ Lines
-      → AnswersAt stage old exchange.line exchange.replies asked new
-      → AnswersCommand old exchange.line exchange.replies asked new
+      → AnswersAt stage old line replies asked new
+      → AnswersCommand old line replies asked new
   answers_command Greeting other answers = answers
   answers_command Ready other answers = answers
   answers_command Sender other answers = answers
   answers_command Recipients other answers = answers
   answers_command Lines other answers = absurd (other refl)
 
-  -- an exchange outside a message begins one, or leaves the session outside
-  pub outside_step : Answers old exchange.line exchange.replies asked new
-      → StaysOutside old exchange new ⊎ BeginsMessage old exchange new
+  -- an said_here outside a message begins one, or leaves the session outside
+  pub outside_step : Answers old line replies asked new
+      → StaysOutside old said_here new ⊎ BeginsMessage old said_here new
   outside_step answers =
       let command = answers_command old.stage apart answers in
       by_outcome command.0 command.1 command.2
 
+-- outside a message, a line that was rejected is answered
+refuses_outside : (stage : Stage) (old new : State) (replies : List (List ℕ)) (error : LineError)
+    → stage ≢ Lines → RefusesAt stage old error replies new
+    → (replies ≡ reply_line (refusal_of error) ∷ []) × (new ≡ old)
+refuses_outside Greeting old new replies error apart is = is
+refuses_outside Ready old new replies error apart is = is
+refuses_outside Sender old new replies error apart is = is
+refuses_outside Recipients old new replies error apart is = is
+refuses_outside Lines old new replies error apart is = absurd (apart refl)
+
+-- so it leaves the session outside a message
+refused_step : (old new : State) (replies : List (List ℕ)) (error : LineError)
+    → old.stage ≢ Lines → Refuses old error replies new
+    → StaysOutside old (record { line = None; replies = replies }) new
+refused_step old new replies error apart refuses =
+    let (says, same) = refuses_outside old.stage old new replies error apart refuses in
+    let unlike = refusal_apart error in
+    faulty old new (record { line = None; replies = replies }) (refusal_of error) apart
+    unlike.0 unlike.1 says same
+
 -- ---- the messages of the exchanges from a state on
 
--- outside a message, these messages follow
+-- these messages follow
 pub record Follow (old : State) (exchanges : List Exchange) (new : State) : Type 0 where
   pub messages : List (List (List ℕ))
   pub delivers : Delivers exchanges messages
   pub received : lines_of new ≡ lines_of old ++ messages
 
--- inside a message that is not ended, its further lines follow
-pub record GoesOn (old : State) (exchanges : List Exchange) (new : State) : Type 0 where
-  pub sent : List (List ℕ)
-  pub lines : List (List ℕ)
-  pub joined : exchanges ≡ map unanswered sent
-  pub text : IsText sent lines
-  pub received : lines_of new ≡ lines_of old
-
--- inside a message that is ended, its further lines, a dot and then other messages follow
-pub record Ends (old : State) (exchanges : List Exchange) (new : State) : Type 0 where
-  pub sent : List (List ℕ)
-  pub lines : List (List ℕ)
-  pub rest : List Exchange
-  pub messages : List (List (List ℕ))
-  pub joined : exchanges ≡ map unanswered sent ++ answered (codes ".") Done ∷ rest
-  pub text : IsText sent lines
-  pub delivers : Delivers rest messages
-  pub received : lines_of new ≡ lines_of old ++ (old.draft.lines ++ lines) ∷ messages
-
--- no text has no lines
-no_text : IsText [] []
-no_text = record { inner = All-nil _; undone = tt }
-
--- an exchange outside a message comes before the messages
-cons_outside : (exchange : Exchange) (exchanges : List Exchange)
-    (messages : List (List (List ℕ))) → IsOutside exchange → Delivers exchanges messages
-    → Delivers (exchange ∷ exchanges) messages
-cons_outside exchange exchanges [] outside none = record {
-  before = exchange ∷ none.before;
-  rest = none.rest;
-  joined = ap (λ xs. exchange ∷ xs) none.joined;
-  outside = All-cons IsOutside exchange none.before outside none.outside;
-  begun = none.begun;
+-- a group comes before others
+cons_group : (group : Group) (exchanges : List Exchange) (messages : List (List (List ℕ)))
+    → IsGroup group → Delivers exchanges messages
+    → Delivers (group_exchanges group ++ exchanges) (group_messages group ++ messages)
+cons_group group exchanges messages is delivers = record {
+  groups = group ∷ delivers.groups;
+  last = delivers.last;
+  joined = ap (λ xs. group_exchanges group ++ xs) delivers.joined
+      ∙ sym (append_assoc (group_exchanges group) (flat_map group_exchanges delivers.groups)
+      delivers.last);
+  are = All-cons IsGroup group delivers.groups is delivers.are;
+  begun = delivers.begun;
+  lines = ap (λ xs. group_messages group ++ xs) delivers.lines;
 }
-cons_outside exchange exchanges (lines ∷ messages) outside delivers =
-    let first = delivers.1 in (
-      delivers.0,
-      record {
-        before = exchange ∷ first.before;
-        start = first.start;
-        sent = first.sent;
-        joined = ap (λ xs. exchange ∷ xs) first.joined;
-        outside = All-cons IsOutside exchange first.before outside first.outside;
-        begins = first.begins;
-        text = first.text;
-      },
-      delivers.2,
-    )
 
-module _ (old mid new : State) (exchange : Exchange) (exchanges : List Exchange) where
-  -- the exchange stays outside
-  after_outside : StaysOutside old exchange mid → Follow mid exchanges new
-      → Follow old (exchange ∷ exchanges) new
-  after_outside stays follow = record {
-    messages = follow.messages;
-    delivers = cons_outside exchange exchanges follow.messages stays.outside follow.delivers;
-    received = follow.received
-        ∙ ap (λ received. map (λ (mail : Mail). mail.lines) received ++ follow.messages)
-        stays.received;
-  }
+-- what was sent of a message, by whether a line of it was rejected, and the lines that are kept
+abbrev pub IsSent : Bool → List (Option (List ℕ)) → List (List ℕ) → Type 0
+IsSent false sent lines = (texts : List (List ℕ)) × (sent ≡ map Some texts) × IsText texts lines
+IsSent true sent lines = IsBadText sent
 
-  -- the exchange is the line with this reply
-  is_answered : (line : List ℕ) (reply : Reply) → exchange.line ≡ line
-      → exchange.replies ≡ reply_line reply ∷ [] → exchange ≡ answered line reply
-  is_answered line reply is says =
-      ap (λ (text : List ℕ). record { line = text; replies = exchange.replies }) is
-      ∙ ap (λ (replies : List (List ℕ)). record { line = line; replies = replies }) says
+-- a session is in the lines of a message, of which `sent` were sent
+pub record Inside (start : List ℕ) (sent : List (Option (List ℕ))) (state : State) : Type 0 where
+  pub begins : Says start BeginLines
+  pub stage : state.stage ≡ Lines
+  pub inner : All (λ line. line ≢ Some (codes ".")) sent
+  pub kept : IsSent state.is_bad sent state.draft.lines
 
-  -- the exchange begins a message that goes on
-  begins_open : BeginsMessage old exchange mid → GoesOn mid exchanges new
-      → Follow old (exchange ∷ exchanges) new
-  begins_open begins inside = record {
-    messages = [];
-    delivers = record {
-      before = [];
-      rest = exchange ∷ exchanges;
-      joined = refl;
-      outside = All-nil IsOutside;
-      begun = inr (
-        exchange.line,
-        inside.sent,
-        inside.lines,
-        ap (λ e. e ∷ exchanges) (is_answered exchange.line SendLines refl begins.says)
-            ∙ ap (λ es. answered exchange.line SendLines ∷ es) inside.joined,
-        begins.begins,
-        inside.text,
-      );
-    };
-    received = inside.received
-        ∙ (ap (map (λ (mail : Mail). mail.lines)) begins.received
-        ∙ sym (append-nil (lines_of old)));
-  }
+-- the exchanges of a message so far, and those after them
+abbrev pub so_far : List ℕ → List (Option (List ℕ)) → List Exchange → List Exchange
+so_far start sent exchanges = answered start SendLines ∷ (map unanswered sent ++ exchanges)
 
-  -- the exchange begins a message that is ended
-  begins_ended : BeginsMessage old exchange mid → Ends mid exchanges new
-      → Follow old (exchange ∷ exchanges) new
-  begins_ended begins inside = record {
-    messages = inside.lines ∷ inside.messages;
-    delivers = (
-      inside.rest,
-      record {
-        before = [];
-        start = exchange.line;
-        sent = inside.sent;
-        joined = ap (λ e. e ∷ exchanges)
-            (is_answered exchange.line SendLines refl begins.says)
-            ∙ ap (λ es. answered exchange.line SendLines ∷ es) inside.joined;
-        outside = All-nil IsOutside;
-        begins = begins.begins;
-        text = inside.text;
-      },
-      inside.delivers,
-    );
-    received =
-        subst
-        (λ (before : List (List ℕ)). lines_of new
-        ≡ lines_of mid ++ (before ++ inside.lines) ∷ inside.messages) begins.empty
-        inside.received
-        ∙ ap (λ received. map (λ (mail : Mail). mail.lines) received
-        ++ inside.lines ∷ inside.messages) begins.received;
-  }
-
-  module _ (asked : Next) (keeps : Keeps old exchange.line exchange.replies asked mid)
-      (inner : exchange.line ≢ codes ".") where
-    -- a kept line is not answered
-    is_unanswered : exchange ≡ unanswered exchange.line
-    is_unanswered =
-        ap (λ (replies : List (List ℕ)). record { line = exchange.line; replies = replies })
-        keeps.silent
-
-    -- a kept line comes before the text
-    kept_text : (sent lines : List (List ℕ)) → IsText sent lines
-        → IsText (exchange.line ∷ sent) (keeps.line ∷ lines)
-    kept_text sent lines text = record {
-      inner = All-cons (λ line. line ≢ codes ".") exchange.line sent inner text.inner;
-      undone = (keeps.unstuffs, text.undone);
-    }
-
-    -- a kept line of a message that goes on
-    keeps_open : GoesOn mid exchanges new → GoesOn old (exchange ∷ exchanges) new
-    keeps_open inside = record {
-      sent = exchange.line ∷ inside.sent;
-      lines = keeps.line ∷ inside.lines;
-      joined = ap (λ e. e ∷ exchanges) is_unanswered
-          ∙ ap (λ es. unanswered exchange.line ∷ es) inside.joined;
-      text = kept_text inside.sent inside.lines inside.text;
-      received = inside.received ∙ ap lines_of keeps.state;
-    }
-
-    -- a kept line of a message that is ended
-    keeps_ended : Ends mid exchanges new → Ends old (exchange ∷ exchanges) new
-    keeps_ended inside = record {
-      sent = exchange.line ∷ inside.sent;
-      lines = keeps.line ∷ inside.lines;
-      rest = inside.rest;
-      messages = inside.messages;
-      joined = ap (λ e. e ∷ exchanges) is_unanswered
-          ∙ ap (λ es. unanswered exchange.line ∷ es) inside.joined;
-      text = kept_text inside.sent inside.lines inside.text;
-      delivers = inside.delivers;
-      received = inside.received
-          ∙ (ap (λ (state : State). lines_of state
-          ++ (state.draft.lines ++ inside.lines) ∷ inside.messages) keeps.state
-          ∙ ap (λ (lines : List (List ℕ)). lines_of old ++ lines ∷ inside.messages)
-          (append_assoc old.draft.lines (keeps.line ∷ []) inside.lines));
-    }
-
-  -- a dot ends the message
-  dot_ends : (asked : Next) → exchange.line ≡ codes "."
-      → Receives old exchange.replies asked mid → Follow mid exchanges new
-      → Ends old (exchange ∷ exchanges) new
-  dot_ends asked dot receives follow = record {
-    sent = [];
-    lines = [];
-    rest = exchanges;
-    messages = follow.messages;
-    joined = ap (λ e. e ∷ exchanges) (is_answered (codes ".") Done dot receives.says);
-    text = no_text;
-    delivers = follow.delivers;
-    received = follow.received
-        ∙ (ap (λ (state : State). lines_of state ++ follow.messages) receives.state
-        ∙ (ap (λ (lines : List (List (List ℕ))). lines ++ follow.messages)
-        (map-append (λ (mail : Mail). mail.lines) old.received (old.draft ∷ []))
-        ∙ (append_assoc (lines_of old) (old.draft.lines ∷ []) follow.messages
-        ∙ ap (λ (lines : List (List ℕ)). lines_of old ++ lines ∷ follow.messages)
-        (sym (append-nil old.draft.lines)))));
-  }
-
--- the messages from a state on, outside a message and inside one
+-- outside a message and inside one
 pub record Told (old : State) (exchanges : List Exchange) (new : State) : Type 0 where
   pub outside : old.stage ≢ Lines → Follow old exchanges new
-  pub inside : old.stage ≡ Lines → GoesOn old exchanges new ⊎ Ends old exchanges new
+  pub inside : (start : List ℕ) (sent : List (Option (List ℕ))) → Inside start sent old
+      → Follow old (so_far start sent exchanges) new
 
--- the stage after a message was received
-received_apart : (old mid : State) (replies : List (List ℕ)) (asked : Next)
-    → Receives old replies asked mid → mid.stage ≢ Lines
-received_apart old mid replies asked receives is =
-    let ready : mid.stage ≡ Ready = ap (λ (state : State). state.stage) receives.state in cc
+one_more_line : (start : List ℕ) (sent : List (Option (List ℕ))) (line : Option (List ℕ))
+    (exchanges : List Exchange)
+    → so_far start (sent ++ line ∷ []) exchanges ≡ so_far start sent (unanswered line ∷ exchanges)
+one_more_line start sent line exchanges = ap (λ xs. answered start SendLines ∷ xs)
+    (ap (λ xs. xs ++ exchanges) (map-append unanswered sent (line ∷ []))
+    ∙ append_assoc (map unanswered sent) (unanswered line ∷ []) exchanges)
 
--- a kept line leaves the session inside the message
-kept_stage : (old mid : State) (sent : List ℕ) (replies : List (List ℕ)) (asked : Next)
-    → Keeps old sent replies asked mid → mid.stage ≡ old.stage
-kept_stage old mid sent replies asked keeps = ap (λ (state : State). state.stage) keeps.state
+-- a session that is ready is not in the lines of a message
+ready_apart : {received : List Mail} {state : State}
+    → state ≡ record { stage = Ready; draft = no_mail; is_bad = false; received = received }
+    → state.stage ≢ Lines
+ready_apart same is =
+    let clash : Ready ≡ Lines = sym (ap (λ (state : State). state.stage) same) ∙ is in cc
+
+-- one line more was sent
+inner_more : (sent : List (Option (List ℕ))) (line : Option (List ℕ))
+    → All (λ item. item ≢ Some (codes ".")) sent → line ≢ Some (codes ".")
+    → All (λ item. item ≢ Some (codes ".")) (sent ++ line ∷ [])
+inner_more sent line all one = All-append (λ item. item ≢ Some (codes ".")) sent (line ∷ []) all
+    (All-cons (λ item. item ≢ Some (codes ".")) line [] one
+    (All-nil (λ item. item ≢ Some (codes "."))))
+
+zip_more : (sent lines : List (List ℕ)) (s l : List ℕ) → AllZip Unstuffs sent lines → Unstuffs s l
+    → AllZip Unstuffs (sent ++ s ∷ []) (lines ++ l ∷ [])
+zip_more [] [] s l all one = (one, tt)
+zip_more [] (x ∷ lines) s l all one = absurd all
+zip_more (x ∷ sent) [] s l all one = absurd all
+zip_more (x ∷ sent) (y ∷ lines) s l all one = (all.0, zip_more sent lines s l all.1 one)
+
+-- a line more in which none is rejected, and a rejected line more
+text_more : (sent : List (Option (List ℕ))) (lines : List (List ℕ)) (line kept : List ℕ)
+    → IsSent false sent lines → line ≢ codes "." → Unstuffs line kept
+    → IsSent false (sent ++ Some line ∷ []) (lines ++ kept ∷ [])
+text_more sent lines line kept (texts, is, text) inner unstuffs = (
+  texts ++ line ∷ [],
+  ap (λ xs. xs ++ Some line ∷ []) is ∙ sym (map-append Some texts (line ∷ [])),
+  record {
+    inner = All-append (λ l. l ≢ codes ".") texts (line ∷ []) text.inner
+        (All-cons (λ l. l ≢ codes ".") line [] inner (All-nil (λ l. l ≢ codes ".")));
+    undone = zip_more texts lines line kept text.undone unstuffs;
+  },
+)
+
+bad_more : (sent : List (Option (List ℕ))) (line : Option (List ℕ)) → IsBadText sent
+    → line ≢ Some (codes ".") → IsBadText (sent ++ line ∷ [])
+bad_more sent line bad inner = record {
+  inner = inner_more sent line bad.inner inner;
+  before = bad.before;
+  rest = bad.rest ++ line ∷ [];
+  bad = ap (λ xs. xs ++ line ∷ []) bad.bad
+      ∙ append_assoc bad.before (None ∷ bad.rest) (line ∷ []);
+}
+
+module _ (old mid new : State) (exchanges : List Exchange) (told : Told mid exchanges new)
+    (start : List ℕ) (sent : List (Option (List ℕ))) (inside : Inside start sent old) where
+  -- a line more, which is not answered
+  goes_on : (exchange : Exchange) (line : Option (List ℕ)) → exchange ≡ unanswered line
+      → mid.received ≡ old.received → Inside start (sent ++ line ∷ []) mid
+      → Follow old (so_far start sent (exchange ∷ exchanges)) new
+  goes_on exchange line is same more =
+      let rest = told.inside start (sent ++ line ∷ []) more in
+      record {
+        messages = rest.messages;
+        delivers = subst (λ es. Delivers es rest.messages)
+            (one_more_line start sent line exchanges
+            ∙ ap (λ e. so_far start sent (e ∷ exchanges)) (sym is)) rest.delivers;
+        received = rest.received
+            ∙ ap (λ received. map (λ (mail : Mail). mail.lines) received ++ rest.messages) same;
+      }
+
+  -- a dot, which is answered
+  ends : (exchange : Exchange) (group : Group) → group_exchanges group ++ exchanges ≡ so_far start sent (exchange ∷ exchanges)
+      → IsGroup group → mid.stage ≢ Lines
+      → lines_of mid ≡ lines_of old ++ group_messages group
+      → Follow old (so_far start sent (exchange ∷ exchanges)) new
+  ends exchange group is are apart received =
+      let rest = told.outside apart in
+      record {
+        messages = group_messages group ++ rest.messages;
+        delivers = subst (λ es. Delivers es (group_messages group ++ rest.messages)) is
+            (cons_group group exchanges rest.messages are rest.delivers);
+        received = rest.received
+            ∙ (ap (λ xs. xs ++ rest.messages) received
+            ∙ append_assoc (lines_of old) (group_messages group) rest.messages);
+      }
+
+  module _ (line : List ℕ) (replies : List (List ℕ)) where
+    abbrev here : Exchange
+    here = record { line = Some line; replies = replies }
+
+    -- a dot
+    dot_line : (said : Reply) → line ≡ codes "." → replies ≡ reply_line said ∷ []
+        → (b : Bool) → old.is_bad ≡ b → EndsBy b old said mid
+        → Follow old (so_far start sent (here ∷ exchanges)) new
+    dot_line said is says false whole (done, same) =
+        let (texts, sent_is, text) = subst (λ b. IsSent b sent old.draft.lines) whole inside.kept in
+        let dot = answered (codes ".") Done in
+        let here_is : here ≡ dot =
+        ap (λ (l : List ℕ). record { line = Some l; replies = replies }) is
+        ∙ ap (λ (rs : List (List ℕ)). record { line = Some (codes "."); replies = rs })
+        (says ∙ ap (λ r. reply_line r ∷ []) done) in
+        ends here (message start texts old.draft.lines)
+        (ap (λ xs. answered start SendLines ∷ xs)
+        (append_assoc (map unanswered (map Some texts)) (dot ∷ []) exchanges
+        ∙ (ap (λ s. map unanswered s ++ dot ∷ exchanges) (sym sent_is)
+        ∙ ap (λ e. map unanswered sent ++ e ∷ exchanges) (sym here_is))))
+        (inside.begins, text) (ready_apart same)
+        (ap lines_of same ∙ map-append (λ (mail : Mail). mail.lines) old.received (old.draft ∷ []))
+    dot_line said is says true bad (done, same) =
+        let dot = answered (codes ".") BadMessage in
+        let here_is : here ≡ dot =
+        ap (λ (l : List ℕ). record { line = Some l; replies = replies }) is
+        ∙ ap (λ (rs : List (List ℕ)). record { line = Some (codes "."); replies = rs })
+        (says ∙ ap (λ r. reply_line r ∷ []) done) in
+        ends here (dropped start sent)
+        (ap (λ xs. answered start SendLines ∷ xs)
+        (append_assoc (map unanswered sent) (dot ∷ []) exchanges
+        ∙ ap (λ e. map unanswered sent ++ e ∷ exchanges) (sym here_is)))
+        (inside.begins, subst (λ b. IsSent b sent old.draft.lines) bad inside.kept)
+        (ready_apart same)
+        (ap lines_of same ∙ sym (append-nil (lines_of old)))
+
+    -- another line
+    text_line : (asked : Next) → line ≢ codes "." → (b : Bool) → old.is_bad ≡ b
+        → TakesLine b old line replies asked mid
+        → Follow old (so_far start sent (here ∷ exchanges)) new
+    text_line asked inner false whole keeps = goes_on here (Some line)
+        (ap (λ (rs : List (List ℕ)). record { line = Some line; replies = rs }) keeps.silent)
+        (ap (λ (state : State). state.received) keeps.state) (record {
+          begins = inside.begins;
+          stage = ap (λ (state : State). state.stage) keeps.state ∙ inside.stage;
+          inner = inner_more sent (Some line) inside.inner (λ same. inner (ap text_in same));
+          kept = subst
+              (λ (state : State). IsSent state.is_bad (sent ++ Some line ∷ [])
+              state.draft.lines) (sym keeps.state)
+              (subst
+              (λ b. IsSent b (sent ++ Some line ∷ []) (old.draft.lines ++ keeps.line ∷ []))
+              (sym whole)
+              (text_more sent old.draft.lines line keeps.line
+              (subst (λ b. IsSent b sent old.draft.lines) whole inside.kept) inner
+              keeps.unstuffs));
+        })
+    text_line asked inner true bad (silent, asks, same) = goes_on here (Some line)
+        (ap (λ (rs : List (List ℕ)). record { line = Some line; replies = rs }) silent)
+        (ap (λ (state : State). state.received) same) (record {
+          begins = inside.begins;
+          stage = ap (λ (state : State). state.stage) same ∙ inside.stage;
+          inner = inner_more sent (Some line) inside.inner (λ is. inner (ap text_in is));
+          kept = subst
+              (λ (state : State). IsSent state.is_bad (sent ++ Some line ∷ [])
+              state.draft.lines) (sym same)
+              (subst (λ b. IsSent b (sent ++ Some line ∷ []) old.draft.lines) (sym bad)
+              (bad_more sent (Some line)
+              (subst (λ b. IsSent b sent old.draft.lines) bad inside.kept)
+              (λ is. inner (ap text_in is))));
+        })
+
+    -- a line of a message
+    inside_line : (asked : Next) → AnswersLine old line replies asked mid
+        → Follow old (so_far start sent (here ∷ exchanges)) new
+    inside_line asked answers = elim answers [
+      | inl dot ↦ dot_line dot.1.0 dot.0 dot.1.1 old.is_bad refl dot.1.3
+      | inr text ↦ text_line asked text.0 old.is_bad refl text.1
+    ]
+
+  -- a line that was rejected
+  inside_refused : (replies : List (List ℕ)) (error : LineError)
+      → RefusesAt Lines old error replies mid
+      → Follow old (so_far start sent (record { line = None; replies = replies } ∷ exchanges)) new
+  inside_refused replies error (silent, same) =
+      goes_on (record { line = None; replies = replies }) None
+      (ap (λ (rs : List (List ℕ)). record { line = None; replies = rs }) silent)
+      (ap (λ (state : State). state.received) same) (record {
+        begins = inside.begins;
+        stage = ap (λ (state : State). state.stage) same ∙ inside.stage;
+        inner = inner_more sent None inside.inner (λ is. cc);
+        kept = subst
+            (λ (state : State). IsSent state.is_bad (sent ++ None ∷ []) state.draft.lines)
+            (sym same)
+            (record {
+              inner = inner_more sent None inside.inner (λ is. cc);
+              before = sent;
+              rest = [];
+              bad = refl;
+            });
+      })
+
+module _ (old mid new : State) (exchange : Exchange) (exchanges : List Exchange)
+    (told : Told mid exchanges new) where
+  -- the exchange stays outside
+  after_outside : StaysOutside old exchange mid → Follow old (exchange ∷ exchanges) new
+  after_outside stays =
+      let rest = told.outside stays.stage in
+      record {
+        messages = rest.messages;
+        delivers = cons_group (single exchange) exchanges rest.messages stays.outside
+            rest.delivers;
+        received = rest.received
+            ∙ ap (λ received. map (λ (mail : Mail). mail.lines) received ++ rest.messages)
+            stays.received;
+      }
+
+  -- the exchange begins a message
+  after_begins : BeginsMessage old exchange mid → Follow old (exchange ∷ exchanges) new
+  after_begins begins =
+      let rest = told.inside begins.start [] (record {
+        begins = begins.begins;
+        stage = begins.stage;
+        inner = All-nil (λ item. item ≢ Some (codes "."));
+        kept = subst (λ b. IsSent b [] mid.draft.lines) (sym begins.good) (
+          [],
+          refl,
+          record {
+            inner = All-nil (λ l. l ≢ codes ".");
+            undone = subst (AllZip Unstuffs []) (sym begins.empty) tt;
+          },
+        );
+      }) in
+      record {
+        messages = rest.messages;
+        delivers = subst (λ e. Delivers (e ∷ exchanges) rest.messages) (sym begins.is)
+            rest.delivers;
+        received = rest.received
+            ∙ ap (λ received. map (λ (mail : Mail). mail.lines) received ++ rest.messages)
+            begins.received;
+      }
+
+-- one exchange more
+tells_one : (old mid new : State) (line : Option (List ℕ)) (replies : List (List ℕ)) (asked : Next)
+    (exchanges : List Exchange) → Told mid exchanges new → AnswersTo line old replies asked mid
+    → Told old (record { line = line; replies = replies } ∷ exchanges) new
+tells_one old mid new (Some line) replies asked exchanges told answers = record {
+  outside = λ apart. elim (outside_step old mid line replies asked apart answers) [
+    | inl stays ↦ after_outside old mid new (record { line = Some line; replies = replies })
+        exchanges told stays
+    | inr begins ↦ after_begins old mid new (record { line = Some line; replies = replies })
+        exchanges told begins
+  ];
+  inside = λ start sent inside. inside_line old mid new exchanges told start sent inside line
+      replies asked
+      (subst (λ stage. AnswersAt stage old line replies asked mid) inside.stage answers);
+}
+tells_one old mid new None replies asked exchanges told (error, refuses) = record {
+  outside = λ apart. after_outside old mid new (record { line = None; replies = replies }) exchanges
+      told (refused_step old mid replies error apart refuses);
+  inside = λ start sent inside. inside_refused old mid new exchanges told start sent inside replies
+      error (subst (λ stage. RefusesAt stage old error replies mid) inside.stage refuses);
+}
 
 -- every run delivers messages
 pub tells : (exchanges : List Exchange) (old new : State) → Runs old exchanges new
     → Told old exchanges new
-tells [] old new same = record {
-  outside = λ apart. record {
-    messages = [];
-    delivers = record {
-      before = [];
-      rest = [];
-      joined = refl;
-      outside = All-nil IsOutside;
-      begun = inl refl;
-    };
-    received = ap lines_of same ∙ sym (append-nil (lines_of old));
-  };
-  inside = λ is. inl (record {
-    sent = [];
-    lines = [];
-    joined = refl;
-    text = no_text;
-    received = ap lines_of same;
-  });
-}
-tells (exchange ∷ exchanges) old new runs =
-    let mid = runs.0 in
-    let told = tells exchanges mid new runs.3 in
+tells [] old new same =
+    let none : lines_of new ≡ lines_of old ++ [] =
+    ap lines_of same ∙ sym (append-nil (lines_of old)) in
     record {
-      outside = λ apart.
-          elim (outside_step old mid exchange runs.1 apart runs.2) [
-            | inl stays ↦
-                after_outside old mid new exchange exchanges stays (told.outside stays.stage)
-            | inr begins ↦
-                elim (told.inside begins.stage) [
-                  | inl others ↦ begins_open old mid new exchange exchanges begins others
-                  | inr ended ↦ begins_ended old mid new exchange exchanges begins ended
-                ]
-          ];
-      inside = λ is.
-          let line : AnswersLine old exchange.line exchange.replies runs.1 mid =
-          subst (λ stage. AnswersAt stage old exchange.line exchange.replies runs.1 mid) is
-          runs.2 in
-          elim line [
-            | inl dot ↦
-                inr (dot_ends old mid new exchange exchanges runs.1 dot.0 dot.1
-                (told.outside (received_apart old mid exchange.replies runs.1 dot.1)))
-            | inr keeps ↦
-                let within = told.inside
-                (kept_stage old mid exchange.line exchange.replies runs.1 keeps.1 ∙ is) in
-                elim within [
-                  | inl others ↦
-                      inl (keeps_open old mid new exchange exchanges runs.1 keeps.1 keeps.0 others)
-                  | inr ended ↦
-                      inr (keeps_ended old mid new exchange exchanges runs.1 keeps.1 keeps.0 ended)
-                ]
-          ];
+      outside = λ apart. record {
+        messages = [];
+        delivers = record {
+          groups = [];
+          last = [];
+          joined = refl;
+          are = All-nil IsGroup;
+          begun = inl refl;
+          lines = refl;
+        };
+        received = none;
+      };
+      inside = λ start sent inside. record {
+        messages = [];
+        delivers = record {
+          groups = [];
+          last = so_far start sent [];
+          joined = refl;
+          are = All-nil IsGroup;
+          begun = inr (
+            start,
+            sent,
+            ap (λ xs. answered start SendLines ∷ xs) (append-nil (map unanswered sent)),
+            inside.begins,
+            inside.inner,
+          );
+          lines = refl;
+        };
+        received = none;
+      };
     }
+tells (exchange ∷ exchanges) old new (mid, asked, answers, runs) =
+    tells_one old mid new exchange.line exchange.replies asked exchanges
+    (tells exchanges mid new runs) answers
 
--- a new session receives the messages that its exchanges deliver
+-- a run from a new session delivers what was received
 pub delivers_all : (exchanges : List Exchange) (old new : State) → IsFresh old
     → Runs old exchanges new → Delivers exchanges (lines_of new)
 delivers_all exchanges old new fresh runs =
-    let apart : old.stage ≢ Lines =
-    λ is. let greeting : old.stage ≡ Greeting = ap (λ (state : State). state.stage) fresh in cc in
-    let follow = (tells exchanges old new runs).outside apart in
-    let all : follow.messages ≡ lines_of new =
-    sym (follow.received ∙ ap (λ (state : State). lines_of state ++ follow.messages) fresh) in
-    subst (Delivers exchanges) all follow.delivers
+    let told = tells exchanges old new runs in
+    let follow = told.outside
+    (λ is. let greets : old.stage ≡ Greeting = ap (λ (state : State). state.stage) fresh in
+    let clash : Greeting ≡ Lines = sym greets ∙ is in cc) in
+    subst (Delivers exchanges)
+    (sym (follow.received ∙ ap (λ (state : State). lines_of state ++ follow.messages) fresh))
+    follow.delivers
 
 -- the session gives up at a line
 pub gives_up : (old new : State) (fault : Reply) → (fault ≡ NoMemory) ⊎ (fault ≡ BadLine)

@@ -1,5 +1,5 @@
 -- The commands of a client, the lines that say them, and the lines that reply to them.
-use Rattle.std.specs.Prelude.{◌≡◌, ◌≢◌, ℕ, List, [], ◌++◌, MatchResult, codes}
+use Rattle.std.specs.Prelude.{◌≡◌, ◌≢◌, ◌⊎◌, ℕ, List, [], ◌++◌, MatchResult, codes}
 use Rattle.std.specs.declared.result.Result.{Result}
 use Rattle.ascii.specs.Search.{IgnoringCase, IsPrefix, StartsWith}
 use Rattle.ascii.specs.View.{text_of}
@@ -11,12 +11,13 @@ use Rattle.example_smtp.specs.declared.commands.Command.TheVariants as command
 use Rattle.example_smtp.specs.declared.commands.Reply.{Reply}
 use Rattle.example_smtp.specs.declared.commands.Reply.TheVariants as reply
 use Rattle.example_smtp.specs.declared.commands.Verb.{Verb}
-use Rattle.example_smtp.specs.declared.commands.Verb.TheVariants.{Helo, Mail, Rcpt, Data, Rset}
+use Rattle.example_smtp.specs.declared.commands.Verb.TheVariants.{Helo, Ehlo, Mail, Rcpt, Data, Rset}
 use Rattle.example_smtp.specs.declared.commands.Verb.TheVariants.{Noop, Quit}
 
 -- the name of a verb, with what separates it from its argument
 abbrev pub name_of : Verb → List ℕ
 name_of Helo = codes "HELO "
+name_of Ehlo = codes "EHLO "
 name_of Mail = codes "MAIL FROM:"
 name_of Rcpt = codes "RCPT TO:"
 name_of Data = codes "DATA"
@@ -31,6 +32,7 @@ IsPath address path = codes "<" ++ (address ++ codes ">") ≡ path
 -- `argument` is as `verb` takes it: a domain, a path, or nothing
 abbrev pub IsArgument : Verb → List ℕ → Type 0
 IsArgument Helo argument = argument ≢ []
+IsArgument Ehlo argument = argument ≢ []
 IsArgument Mail argument = (address : List ℕ) × IsPath address argument
 IsArgument Rcpt argument = (address : List ℕ) × IsPath address argument
 IsArgument verb argument = argument ≡ []
@@ -38,7 +40,7 @@ IsArgument verb argument = argument ≡ []
 -- `command` is the verb `verb` with the argument `argument`
 abbrev pub HasParts : Verb → List ℕ → Command → Type 0
 HasParts verb argument (Introduce domain) =
-    (verb ≡ Helo) × (argument ≡ text_of domain) × (argument ≢ [])
+    ((verb ≡ Helo) ⊎ (verb ≡ Ehlo)) × (argument ≡ text_of domain) × (argument ≢ [])
 HasParts verb argument (SetSender address) = (verb ≡ Mail) × IsPath (text_of address) argument
 HasParts verb argument (AddRecipient address) = (verb ≡ Rcpt) × IsPath (text_of address) argument
 HasParts verb argument BeginLines = (verb ≡ Data) × (argument ≡ [])
@@ -85,3 +87,5 @@ reply_line reply.BadSequence = codes "503 bad sequence"
 reply_line reply.LongLine = codes "500 line too long"
 reply_line reply.BadLine = codes "554 bad line"
 reply_line reply.NoMemory = codes "452 out of memory"
+reply_line reply.BadMessage = codes "554 bad message"
+reply_line reply.Closing = codes "421 closing"

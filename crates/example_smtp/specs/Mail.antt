@@ -1,5 +1,5 @@
 -- A message, and the state of the session that receives it.
-use Rattle.std.specs.Prelude.{◌≡◌, ℕ, List, [], ◌∷◌, map}
+use Rattle.std.specs.Prelude.{◌≡◌, ℕ, Bool, List, [], ◌∷◌, false, map}
 use Rattle.ascii.specs.Search.{StartsWith}
 use Rattle.ascii.specs.StringState.{StringState}
 use Rattle.example_smtp.specs.declared.session.Message.{Message}
@@ -13,11 +13,12 @@ pub record Mail : Type 0 where
   pub recipients : List (List ℕ)
   pub lines : List (List ℕ)
 
--- the state of a session: what it awaits, the message that was begun, and the messages that were
--- received
+-- the state of a session: what it awaits, the message that was begun, whether a line of it was
+-- rejected, and the messages that were received
 pub record State : Type 0 where
   pub stage : Stage
   pub draft : Mail
+  pub is_bad : Bool
   pub received : List Mail
 
 -- the texts of strings
@@ -37,6 +38,7 @@ abbrev pub state_of : Session → State
 state_of session = record {
   stage = session.stage;
   draft = mail_of session.draft;
+  is_bad = session.is_bad;
   received = map mail_of session.received.items;
 }
 
@@ -46,7 +48,8 @@ no_mail = record { sender = []; recipients = []; lines = [] }
 
 -- the client has not introduced itself, and nothing was received
 abbrev pub IsFresh : State → Type 0
-IsFresh state = state ≡ record { stage = Greeting; draft = no_mail; received = [] }
+IsFresh state =
+    state ≡ record { stage = Greeting; draft = no_mail; is_bad = false; received = [] }
 
 -- `line` is `sent` with dot-stuffing undone: without its first dot, if it begins with one
 pub record Unstuffs (sent line : List ℕ) : Type 0 where

@@ -1,10 +1,10 @@
 -- What a session answers to a line.
-use Rattle.std.specs.Prelude.{◌≡◌, ◌≢◌, ◌⊎◌, ℕ, List, [], ◌∷◌, ◌++◌, MatchResult, None, Some, ⊤, codes}
+use Rattle.std.specs.Prelude.{◌≡◌, ◌≢◌, ◌⊎◌, ℕ, Bool, List, [], ◌∷◌, ◌++◌, MatchResult, false, true, None, Some, ⊤, codes}
 use Rattle.std.specs.declared.option.Option.{Option}
 use Rattle.std.specs.declared.result.Result.{Result}
 use Rattle.ascii.specs.View.{text_of}
 use Rattle.ascii_lines.specs.declared.line_reader.LineError.{LineError}
-use Rattle.ascii_lines.specs.declared.line_reader.LineError.TheVariants.{TooLong}
+use Rattle.ascii_lines.specs.declared.line_reader.LineError.TheVariants.{LoneBreak, NotAscii, TooLong}
 use Rattle.ascii_lines.specs.declared.serving.Next.{Next}
 use Rattle.ascii_lines.specs.declared.serving.Next.TheVariants as next
 use Rattle.example_smtp.specs.Commands.{ReadsCommand, reply_line}
@@ -52,7 +52,8 @@ after old (AddRecipient address) = record old {
   stage = Recipients;
   draft = record old.draft { recipients = old.draft.recipients ++ text_of address ∷ [] };
 }
-after old BeginLines = record old { stage = Lines; draft = record old.draft { lines = [] } }
+after old BeginLines =
+    record old { stage = Lines; draft = record old.draft { lines = [] }; is_bad = false }
 after old Reset = record old { stage = reset_stage old.stage; draft = no_mail }
 after old command.Reply = old
 after old Leave = old
@@ -95,21 +96,35 @@ pub record Keeps (old : State) (sent : List ℕ) (replies : List (List ℕ)) (as
     draft = record old.draft { lines = old.draft.lines ++ line ∷ [] };
   }
 
--- the message that was begun is received, and another may begin
-pub record Receives (old : State) (replies : List (List ℕ)) (asked : Next) (new : State) : Type 0
-  where
-    pub says : replies ≡ reply_line reply.Done ∷ []
-    pub asks : asked ≡ next.Line
-    pub state : new ≡ record {
-      stage = Ready;
-      draft = no_mail;
-      received = old.received ++ old.draft ∷ [];
-    }
+-- the message that was begun is ended with this reply, and another may begin: it is received; or it
+-- is dropped, if a line of it was rejected
+abbrev pub EndsBy : Bool → State → Reply → State → Type 0
+EndsBy false old said new = (said ≡ reply.Done) × (new ≡ record {
+  stage = Ready;
+  draft = no_mail;
+  is_bad = false;
+  received = old.received ++ old.draft ∷ [];
+})
+EndsBy true old said new = (said ≡ reply.BadMessage) × (new ≡ record {
+  stage = Ready;
+  draft = no_mail;
+  is_bad = false;
+  received = old.received;
+})
 
--- the answer to a line of a message: a dot alone ends the message, and any other line is kept
+abbrev pub EndsMessage : State → Reply → State → Type 0
+EndsMessage old said new = EndsBy old.is_bad old said new
+
+-- a line of a message is kept, or ignored if one before it was rejected, and not replied to
+abbrev pub TakesLine : Bool → State → List ℕ → List (List ℕ) → Next → State → Type 0
+TakesLine false old sent replies asked new = Keeps old sent replies asked new
+TakesLine true old sent replies asked new = (replies ≡ []) × (asked ≡ next.Line) × (new ≡ old)
+
+-- the answer to a line of a message: a dot alone ends the message
 abbrev pub AnswersLine : State → List ℕ → List (List ℕ) → Next → State → Type 0
-AnswersLine old sent replies asked new = ((sent ≡ codes ".") × Receives old replies asked new)
-    ⊎ ((sent ≢ codes ".") × Keeps old sent replies asked new)
+AnswersLine old sent replies asked new = ((sent ≡ codes ".") × ((said : Reply)
+    × (replies ≡ reply_line said ∷ []) × (asked ≡ next.Line) × EndsMessage old said new))
+    ⊎ ((sent ≢ codes ".") × TakesLine old.is_bad old sent replies asked new)
 
 -- the answer to a line, by what is awaited
 abbrev pub AnswersAt : Stage → State → List ℕ → List (List ℕ) → Next → State → Type 0
@@ -128,4 +143,16 @@ texts_of (Some said) = reply_line said ∷ []
 -- the reply to an error of the input
 abbrev pub refusal_of : LineError → Reply
 refusal_of (TooLong start) = reply.LongLine
-refusal_of other = reply.BadLine
+refusal_of (NotAscii place) = reply.BadLine
+refusal_of (LoneBreak place) = reply.BadLine
+refusal_of other = reply.Closing
+
+-- what a session answers to an error in place of a line, by what is awaited: a message is bad from
+-- then on, and not answered before its end; a command is answered
+abbrev pub RefusesAt : Stage → State → LineError → List (List ℕ) → State → Type 0
+RefusesAt Lines old error texts new = (texts ≡ []) × (new ≡ record old { is_bad = true })
+RefusesAt other old error texts new = (texts ≡ reply_line (refusal_of error) ∷ []) × (new ≡ old)
+
+-- what a session in the state `old` answers to an error in place of a line
+abbrev pub Refuses : State → LineError → List (List ℕ) → State → Type 0
+Refuses old error texts new = RefusesAt old.stage old error texts new

@@ -12,6 +12,8 @@ use ascii_lines::AsciiStr;
 pub enum Verb {
     /// Introduces the client.
     Helo,
+    /// Introduces the client, which asks for extensions; there are none.
+    Ehlo,
     /// Begins a message with its sender.
     Mail,
     /// Adds a recipient.
@@ -33,6 +35,7 @@ impl Verb {
     {
         match self {
             Verb::Helo => AsciiStr::literal("HELO "),
+            Verb::Ehlo => AsciiStr::literal("EHLO "),
             Verb::Mail => AsciiStr::literal("MAIL FROM:"),
             Verb::Rcpt => AsciiStr::literal("RCPT TO:"),
             Verb::Data => AsciiStr::literal("DATA"),
@@ -83,6 +86,10 @@ pub enum Reply {
     BadLine,
     /// There is no memory for what the line asks for.
     NoMemory,
+    /// A line of the message was rejected, so the message is.
+    BadMessage,
+    /// The input has failed.
+    Closing,
 }
 
 impl Reply {
@@ -100,6 +107,8 @@ impl Reply {
             Reply::LongLine => AsciiStr::literal("500 line too long"),
             Reply::BadLine => AsciiStr::literal("554 bad line"),
             Reply::NoMemory => AsciiStr::literal("452 out of memory"),
+            Reply::BadMessage => AsciiStr::literal("554 bad message"),
+            Reply::Closing => AsciiStr::literal("421 closing"),
         }
     }
 }
@@ -130,6 +139,9 @@ fn read_verb<'a>(line: AsciiStr<'a>) -> Option<Call<'a>>
         (λ call. IsCall (text_of line.entry) call.verb (text_of call.argument)) }
 {
     if let Some(call) = call_of(line, Verb::Helo) {
+        return Some(call);
+    }
+    if let Some(call) = call_of(line, Verb::Ehlo) {
         return Some(call);
     }
     if let Some(call) = call_of(line, Verb::Mail) {
@@ -167,7 +179,9 @@ fn command_of<'a>(verb: Verb, argument: AsciiStr<'a>) -> Result<Command<'a>, Rep
         (IsPartsFault verb (text_of argument.entry)) }
 {
     match verb {
-        Verb::Helo if !argument.is_empty() => Ok(Command::Introduce { domain: argument }),
+        Verb::Helo | Verb::Ehlo if !argument.is_empty() => {
+            Ok(Command::Introduce { domain: argument })
+        }
         Verb::Mail => match address_of(argument) {
             Some(address) => Ok(Command::SetSender { address }),
             None => Err(Reply::BadArgument),

@@ -63,13 +63,15 @@ pub struct Session {
     alloc: Global,
     stage: Stage,
     draft: Message,
+    // Whether a line of the draft was rejected.
+    is_bad: bool,
     received: Vec<Message>,
 }
 
 impl Session {
     ghost use Rattle.example_smtp.specs.Mail.{IsFresh, no_mail, state_of};
     ghost use Rattle.example_smtp.specs.Session.{Answers, AnswersCommand, AnswersLine, Follows};
-    ghost use Rattle.example_smtp.specs.Session.{after, texts_of};
+    ghost use Rattle.example_smtp.specs.Session.{EndsMessage, Refuses, after, texts_of};
 
     /// Creates a session that has received nothing. Does not allocate.
     pub fn new(alloc: Global) -> Session
@@ -79,6 +81,7 @@ impl Session {
             alloc,
             stage: Stage::Greeting,
             draft: Message::new(alloc),
+            is_bad: false,
             received: Vec::new(alloc),
         }
     }
@@ -170,6 +173,7 @@ impl Session {
             }
             Command::BeginLines => {
                 self.draft.lines.clear();
+                self.is_bad = false;
                 self.stage = Stage::Lines;
                 Ok(())
             }
@@ -182,7 +186,7 @@ impl Session {
         }
     }
 
-    /// Takes a line of a message: a dot alone ends the message.
+    /// Takes a line of a message: a dot alone ends the message, which is dropped if one of its lines was rejected.
     fn plan_line(&mut self, sent: AsciiStr<'_>) -> Result<Plan, AllocError>
         ensures answers { IfOk result (λ plan. AnswersLine (state_of self.old)
             (text_of sent.entry) (texts_of plan.reply) plan.next (state_of self.new)) }
@@ -192,11 +196,8 @@ impl Session {
     {
         let mut reply = None;
         if sent.eq_str(".") {
-            let draft = replace(&mut self.draft, Message::new(self.alloc));
-            self.received.push(draft)?;
-            self.stage = Stage::Ready;
-            reply = Some(Reply::Done);
-        } else {
+            reply = Some(self.end_message()?);
+        } else if !self.is_bad {
             let line = unstuffed(sent).to_ascii_string(self.alloc)?;
             self.draft.lines.push(line)?;
         }
@@ -204,6 +205,34 @@ impl Session {
             reply,
             next: Next::Line,
         })
+    }
+
+    /// Receives or drops the message that was begun.
+    fn end_message(&mut self) -> Result<Reply, AllocError>
+        ensures ends { IfOk result (λ reply.
+            EndsMessage (state_of self.old) reply (state_of self.new)) }
+        ensures kept { OnErr result
+            ((state_of self.new).received ≡ (state_of self.old).received) }
+    {
+        let draft = replace(&mut self.draft, Message::new(self.alloc));
+        self.stage = Stage::Ready;
+        if self.is_bad {
+            self.is_bad = false;
+            return Ok(Reply::BadMessage);
+        }
+        self.received.push(draft)?;
+        Ok(Reply::Done)
+    }
+
+    /// Takes an error in place of a line, and returns the reply, if there is one: a message is answered at its end.
+    fn reject(&mut self, error: LineError) -> Option<Reply>
+        ensures { Refuses (state_of self.old) error (texts_of result) (state_of self.new) }
+    {
+        if self.stage == Stage::Lines {
+            self.is_bad = true;
+            return None;
+        }
+        Some(refusal(error))
     }
 }
 
@@ -241,8 +270,9 @@ impl Handler for Session {
         error: LineError,
         replies: &mut Replies<K, A>,
     ) -> Next {
-        say(Some(refusal(error)), replies);
-        Next::Close
+        let reply = self.reject(error);
+        say(reply, replies);
+        Next::Line
     }
 }
 
@@ -252,7 +282,8 @@ fn refusal(error: LineError) -> Reply
 {
     match error {
         LineError::TooLong(_) => Reply::LongLine,
-        _ => Reply::BadLine,
+        LineError::NotAscii(_) | LineError::LoneBreak(_) => Reply::BadLine,
+        _ => Reply::Closing,
     }
 }
 

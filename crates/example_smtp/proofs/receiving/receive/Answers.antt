@@ -1,4 +1,5 @@
 use Rattle.std.proofs.Common.{List, map, subst, sym}
+use Rattle.ascii_lines.specs.declared.serving.Awaited.TheVariants.{Input}
 use Rattle.ascii_lines.specs.declared.serving.Next.TheVariants as next
 use Rattle.example_smtp.specs.Deliveries.{Delivers}
 use Rattle.example_smtp.specs.Mail.{Mail, state_of}
@@ -8,14 +9,14 @@ use Rattle.example_smtp.proofs.receiving.receive.Goals as goal
 pub returns : goal.returns
 returns g c =
     let served = c.serve.ensures in
-    let told = transcript _ c.args.session.now served.talk.state next.Line served.talk.awaited
-    served.talk.steps served.talk.talks in
+    let told = transcript _ c.args.session.now served.talk.state (Input next.Line)
+    served.talk.awaited served.talk.steps served.talk.talks in
     record {
       served = served;
       exchanges = told.exchanges;
       given_up = told.given_up;
       is_last = told.is_last;
-      steps = told.zipped;
+      are = told.are;
       delivers = subst
           (λ (received : List Mail).
           Delivers told.exchanges (map (λ (mail : Mail). mail.lines) received)) (sym told.kept)
