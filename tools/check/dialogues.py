@@ -1,9 +1,12 @@
 """Dialogues of real clients with the example servers: a connection is the standard input and output of the program."""
+import shutil
 import smtplib
 import socket
 import subprocess
+import tempfile
 import threading
 import unittest
+from contextlib import contextmanager
 from pathlib import Path
 from typing import NamedTuple
 
@@ -60,6 +63,7 @@ DIALOGUES = [
     smuggled("LF . CR LF", b"\n.\r\n"),
     smuggled("CR LF . LF", b"\r\n.\n"),
     smuggled("CR . CR", b"\r.\r"),
+    store("what comes after QUIT", (b"PING hi\r\n\r\n*0\r\nQUIT\r\nPING\r\n", b"$2\r\nhi\r\n+OK\r\n")),
     store("a request in two packets", (b"*1\r\n$4\r\nPI", b""), (b"NG\r\n", b"+PONG\r\n")),
     store("a reply before more is sent", (b"SET a 1\r\n", b"+OK\r\n"), (b"GET a\r\n", b"$1\r\n1\r\n")),
     store("2,000 requests in one packet", (b"PING\r\n" * 2000, b"+PONG\r\n" * 2000)),
@@ -116,6 +120,28 @@ class Talks(unittest.TestCase):
             self.assertEqual(rest, self.dialogue.then)
 
 
+@contextmanager
+def listening(program):
+    """A port at which each client gets a process of the program, as inetd does it."""
+    with socket.create_server(("127.0.0.1", 0)) as listener:
+        def serve():
+            while True:
+                try:
+                    connection, _ = listener.accept()
+                except OSError:
+                    return
+                with connection:
+                    start(program, connection)
+
+        server = threading.Thread(target=serve)
+        server.start()
+        try:
+            yield listener.getsockname()[1]
+        finally:
+            listener.shutdown(socket.SHUT_RDWR)
+            server.join()
+
+
 class SendsMail(unittest.TestCase):
     """Python's smtplib sends a mail."""
 
@@ -123,30 +149,71 @@ class SendsMail(unittest.TestCase):
         return "example_smtp: smtplib sends a mail"
 
     def runTest(self):
-        with socket.create_server(("127.0.0.1", 0)) as listener:
-            def serve():
-                connection, _ = listener.accept()
-                with connection, start("example_smtp", connection):
-                    pass
+        with listening("example_smtp") as port, smtplib.SMTP(timeout=WAIT) as client:
+            self.assertEqual(client.connect("127.0.0.1", port), (220, b"ready"))
+            self.assertEqual(client.ehlo("client"), (250, b"OK"))
+            self.assertEqual(client.sendmail("a@b", ["c@d", "e@f"], "Subject: x\n\n.dot\nbye\n"), {})
+            self.assertEqual(client.quit(), (221, b"bye"))
 
-            server = threading.Thread(target=serve)
-            server.start()
-            with smtplib.SMTP(timeout=WAIT) as client:
-                self.assertEqual(client.connect(*listener.getsockname()), (220, b"ready"))
-                self.assertEqual(client.helo("client"), (250, b"OK"))
-                self.assertEqual(client.sendmail("a@b", ["c@d", "e@f"], "Subject: x\n\n.dot\nbye\n"), {})
-                self.assertEqual(client.quit(), (221, b"bye"))
-            server.join()
+
+class Command(NamedTuple):
+    """A client that may be installed: `PORT` and `FILE` in its words stand for the port and a file with `text`."""
+
+    name: str
+    program: str
+    words: list
+    text: str
+    status: int
+    shows: list
+
+
+LETTER = "Subject: x\r\n\r\n.one\r\ntwo\r\n"
+SWAKS = ["swaks", "--server", "127.0.0.1:PORT", "--from", "a@b", "--to", "c@d,e@f", "--data", "@FILE"]
+CURL = ["curl", "-sv", "smtp://127.0.0.1:PORT/client", "--mail-from", "a@b", "--mail-rcpt", "c@d", "-T", "FILE"]
+REDIS = "SET a 1\nGET a\nPING\nSET k \"x y\"\nGET k\nDEL k\nGET k\n"
+BENCHMARK = "redis-benchmark -p PORT -n 20000 -c 1 -P 16 -t set,get --csv".split()
+COMMANDS = [
+    Command("swaks sends a mail", "example_smtp", SWAKS, LETTER, 0, ["354 send", "250 OK", "221 bye"]),
+    Command("swaks sends a mail of 8 bits", "example_smtp", SWAKS, "Subject: x\n\ncaf\u00e9\n", 26, ["554 bad message", "221 bye"]),
+    Command("curl sends a mail", "example_smtp", CURL, LETTER, 0, ["> EHLO client", "< 354 send", "< 250 OK"]),
+    Command("redis-cli", "example_resp", ["redis-cli", "-p", "PORT"], REDIS, 0, ["OK\n1\nPONG\nOK\nx y\n1\n\n"]),
+    Command("redis-benchmark", "example_resp", BENCHMARK, "", 0, ['"SET"', '"GET"']),
+]
+
+
+class Runs(unittest.TestCase):
+    """A command talks with a program; where it is not installed, this is skipped."""
+
+    def __init__(self, command):
+        super().__init__()
+        self.command = command
+
+    def __str__(self):
+        return f"{self.command.program}: {self.command.name}"
+
+    def runTest(self):
+        name, program, words, text, status, shows = self.command
+        if not shutil.which(words[0]):
+            self.skipTest(f"{words[0]} is not installed")
+        with listening(program) as port, tempfile.NamedTemporaryFile("w", newline="") as file:
+            file.write(text)
+            file.flush()
+            words = [it.replace("PORT", str(port)).replace("FILE", file.name) for it in words]
+            got = subprocess.run(words, input=text, text=True, capture_output=True, timeout=6 * WAIT)
+        said = got.stdout + got.stderr
+        self.assertEqual(got.returncode, status, said)
+        for line in shows:
+            self.assertIn(line, said)
 
 
 def tests():
-    return [*map(Talks, DIALOGUES), SendsMail()]
+    return [*map(Talks, DIALOGUES), SendsMail(), *map(Runs, COMMANDS)]
 
 
-def faults(chosen=None):
-    """Runs the dialogues; returns the name of each, with what was wrong or None."""
+def faults():
+    """Runs the dialogues; returns the name of each, with what was wrong or None, and of those that were skipped, why."""
     rows, result = tests(), unittest.TestResult()
-    rows = [row for row in rows if chosen in (None, str(row))]
     unittest.TestSuite(rows).run(result)
     wrong = {str(test): text for test, text in result.failures + result.errors}
-    return {str(row): wrong.get(str(row)) for row in tests() if chosen in (None, str(row))}
+    skipped = {str(test): why for test, why in result.skipped}
+    return {str(row): wrong.get(str(row)) for row in tests() if str(row) not in skipped}, skipped
