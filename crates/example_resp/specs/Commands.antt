@@ -1,6 +1,6 @@
 -- The commands of a store: the words that say each, its reply, and the store after it.
 use Rattle.std.specs.Map.{update}
-use Rattle.std.specs.Prelude.{◌≡◌, ◌≢◌, ℕ, List, [], ◌∷◌, ◌++◌, None, Option, Some, codes}
+use Rattle.std.specs.Prelude.{◌≡◌, ◌⊎◌, ℕ, List, [], ◌∷◌, ◌++◌, None, Option, Some, codes}
 use Rattle.std.specs.Prelude.{MatchResult, decimal, if◌then◌else◌, is_some, length, map}
 use Rattle.std.specs.Str.{bytes_eq}
 use Rattle.std.specs.declared.result.Result.{Result}
@@ -10,13 +10,15 @@ use Rattle.ascii.specs.View.{text_of}
 use Rattle.example_resp.specs.Store.{Contents}
 use Rattle.example_resp.specs.declared.commands.Command.{Command}
 use Rattle.example_resp.specs.declared.commands.Command.TheVariants.{SetValue, GetValue}
-use Rattle.example_resp.specs.declared.commands.Command.TheVariants.{DeleteValue, Reply}
+use Rattle.example_resp.specs.declared.commands.Command.TheVariants.{CountValue, DeleteValue, Echo, Leave}
+use Rattle.example_resp.specs.declared.commands.Command.TheVariants.{Reply}
 use Rattle.example_resp.specs.declared.commands.Rejection.{Rejection}
 use Rattle.example_resp.specs.declared.commands.Rejection.TheVariants.{UnknownCommand, BadLength}
 use Rattle.example_resp.specs.declared.commands.Rejection.TheVariants.{WrongArguments, BadEnding}
 use Rattle.example_resp.specs.declared.commands.Rejection.TheVariants.{BadInput, NoMemory}
 use Rattle.example_resp.specs.declared.commands.Verb.{Verb}
-use Rattle.example_resp.specs.declared.commands.Verb.TheVariants.{Set, Get, Del, Ping}
+use Rattle.example_resp.specs.declared.commands.Verb.TheVariants.{Set, Get, Del, Exists, Ping}
+use Rattle.example_resp.specs.declared.commands.Verb.TheVariants.{Quit}
 
 -- ---- what words say
 
@@ -25,14 +27,18 @@ abbrev pub name_of : Verb → List ℕ
 name_of Set = codes "set"
 name_of Get = codes "get"
 name_of Del = codes "del"
+name_of Exists = codes "exists"
 name_of Ping = codes "ping"
+name_of Quit = codes "quit"
 
--- the number of arguments of a verb
-abbrev pub argument_count : Verb → ℕ
-argument_count Set = 2
-argument_count Get = 1
-argument_count Del = 1
-argument_count Ping = 0
+-- the number of arguments that a verb takes
+abbrev pub IsCount : Verb → ℕ → Type 0
+IsCount Set count = count ≡ 2
+IsCount Get count = count ≡ 1
+IsCount Del count = count ≡ 1
+IsCount Exists count = count ≡ 1
+IsCount Ping count = (count ≡ 0) ⊎ (count ≡ 1)
+IsCount Quit count = count ≡ 0
 
 -- `word` is the name of `verb` if the case of letters is ignored
 abbrev pub IsNameOf : Verb → List ℕ → Type 0
@@ -48,12 +54,15 @@ HasParts verb arguments (SetValue key value) =
     (verb ≡ Set) × (arguments ≡ text_of key ∷ text_of value ∷ [])
 HasParts verb arguments (GetValue key) = (verb ≡ Get) × (arguments ≡ text_of key ∷ [])
 HasParts verb arguments (DeleteValue key) = (verb ≡ Del) × (arguments ≡ text_of key ∷ [])
+HasParts verb arguments (CountValue key) = (verb ≡ Exists) × (arguments ≡ text_of key ∷ [])
 HasParts verb arguments Reply = (verb ≡ Ping) × (arguments ≡ [])
+HasParts verb arguments (Echo text) = (verb ≡ Ping) × (arguments ≡ text_of text ∷ [])
+HasParts verb arguments Leave = (verb ≡ Quit) × (arguments ≡ [])
 
--- why `verb` with the arguments `arguments` is not a command: their number is not that of the verb
+-- why `verb` with the arguments `arguments` is not a command: it does not take their number
 abbrev pub IsPartsFault : Verb → List (List ℕ) → Rejection → Type 0
 IsPartsFault verb arguments fault =
-    (fault ≡ WrongArguments) × (length arguments ≢ argument_count verb)
+    (fault ≡ WrongArguments) × ¬ (IsCount verb (length arguments))
 
 -- `words` are the name of `verb` and then `arguments`
 abbrev pub IsCall : List (List ℕ) → Verb → List (List ℕ) → Type 0
@@ -89,14 +98,17 @@ reply contents (SetValue key value) = codes "+OK" ∷ []
 reply contents (GetValue key) = value_reply (contents (text_of key))
 reply contents (DeleteValue key) =
     (if is_some (contents (text_of key)) then codes ":1" else codes ":0") ∷ []
+reply contents (CountValue key) =
+    (if is_some (contents (text_of key)) then codes ":1" else codes ":0") ∷ []
 reply contents Reply = codes "+PONG" ∷ []
+reply contents (Echo text) = value_reply (Some (text_of text))
+reply contents Leave = codes "+OK" ∷ []
 
 -- the contents of a store after a command
 abbrev pub after : Contents → Command → Contents
 after contents (SetValue key value) = update bytes_eq contents (text_of key) (Some (text_of value))
-after contents (GetValue key) = contents
 after contents (DeleteValue key) = update bytes_eq contents (text_of key) None
-after contents Reply = contents
+after contents other = contents
 
 -- the line that says why a request was rejected
 abbrev pub error_line : Rejection → List ℕ

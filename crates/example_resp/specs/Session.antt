@@ -9,6 +9,7 @@ use Rattle.example_resp.specs.declared.commands.Rejection.TheVariants.{UnknownCo
 use Rattle.example_resp.specs.Store.{Contents, contents_of}
 use Rattle.example_resp.specs.declared.commands.Command.{Command}
 use Rattle.example_resp.specs.declared.commands.Rejection.{Rejection}
+use Rattle.example_resp.specs.declared.commands.Command.TheVariants.{Leave}
 use Rattle.example_resp.specs.declared.session.Session.{Session}
 use Rattle.example_resp.specs.declared.session.Stage.{Stage}
 use Rattle.example_resp.specs.declared.session.Stage.TheVariants as stage
@@ -73,16 +74,23 @@ pub record Rejects (held : Contents) (rejection : Rejection) (answer : Answer) :
   pub idle : IsIdle answer.state
   pub contents : (key : List ℕ) → answer.state.contents key ≡ held key
 
--- the answer is the reply to the command, and asks for a request; it leaves the contents that are
+-- what is asked for after a command
+abbrev pub next_after : Command → Next
+next_after Leave = next.Close
+next_after other = next.Line
+
+-- the answer is the reply to the command, and asks for what comes after it; it leaves the contents that are
 -- `held` after the command
 pub record Follows (held : Contents) (command : Command) (answer : Answer) : Type 0 where
   pub replies : answer.replies ≡ reply held command
-  pub asks : answer.next ≡ next.Line
+  pub asks : answer.next ≡ next_after command
   pub idle : IsIdle answer.state
   pub contents : (key : List ℕ) → answer.state.contents key ≡ after held command key
 
--- the command that `words` say is followed; if they do not say one, they are rejected
+-- the command that `words` say is followed; if they do not say one, they are rejected; no words are
+-- not answered
 abbrev pub CarriesOut : Contents → List (List ℕ) → Answer → Type 0
+CarriesOut held [] answer = Awaits held [] stage.Request next.Line answer
 CarriesOut held words answer = (outcome : Result Command Rejection) × ReadsCommand words outcome
     × MatchResult outcome (λ command. Follows held command answer)
     (λ rejection. Rejects held rejection answer)

@@ -16,8 +16,12 @@ pub enum Verb {
     Get,
     /// Removes the value at a key.
     Del,
+    /// Asks whether there is a value at a key.
+    Exists,
     /// Asks for a reply.
     Ping,
+    /// Ends the session.
+    Quit,
 }
 
 /// A verb with its arguments.
@@ -36,8 +40,18 @@ pub enum Command<'a> {
     DeleteValue {
         key: AsciiStr<'a>,
     },
+    /// Asks whether there is a value at the key.
+    CountValue {
+        key: AsciiStr<'a>,
+    },
     /// Asks for a reply.
     Reply,
+    /// Asks for the text.
+    Echo {
+        text: AsciiStr<'a>,
+    },
+    /// Ends the session.
+    Leave,
 }
 
 /// Why a request was rejected.
@@ -81,8 +95,12 @@ fn read_verb(name: AsciiStr<'_>) -> Option<Verb>
         Some(Verb::Get)
     } else if name.eq_ignore_ascii_case(AsciiStr::literal("DEL")) {
         Some(Verb::Del)
+    } else if name.eq_ignore_ascii_case(AsciiStr::literal("EXISTS")) {
+        Some(Verb::Exists)
     } else if name.eq_ignore_ascii_case(AsciiStr::literal("PING")) {
         Some(Verb::Ping)
+    } else if name.eq_ignore_ascii_case(AsciiStr::literal("QUIT")) {
+        Some(Verb::Quit)
     } else {
         None
     }
@@ -104,7 +122,14 @@ fn command_of<'a>(verb: Verb, arguments: &'a [AsciiString]) -> Result<Command<'a
         (Verb::Del, [key]) => Ok(Command::DeleteValue {
             key: key.as_ascii_str(),
         }),
+        (Verb::Exists, [key]) => Ok(Command::CountValue {
+            key: key.as_ascii_str(),
+        }),
         (Verb::Ping, []) => Ok(Command::Reply),
+        (Verb::Ping, [text]) => Ok(Command::Echo {
+            text: text.as_ascii_str(),
+        }),
+        (Verb::Quit, []) => Ok(Command::Leave),
         _ => Err(Rejection::WrongArguments),
     }
 }

@@ -16,7 +16,7 @@ use std::io;
 fn main(rt: HostRuntime) -> io::Result<()> {
     let alloc = rt.alloc();
     let device = Duplex::new(rt.stdin(), rt.stdout());
-    let mut lines = LineChannel::new(alloc, device, 4096, Endings::CrLfStrict, Ending::CrLf)?;
+    let mut lines = LineChannel::new(alloc, device, 16_384, Endings::CrLfStrict, Ending::CrLf)?;
     let mut session = Session::new(alloc);
     let stop = converse(&mut lines, &mut session);
     eprintln!(rt; "{stop:?}")?;

@@ -36,7 +36,13 @@ pub fn follow(
             let count = count_line(store.delete(key));
             push_line(alloc, count, replies)
         }
+        Command::CountValue { key } => {
+            let count = count_line(store.contains(key));
+            push_line(alloc, count, replies)
+        }
         Command::Reply => push_line(alloc, AsciiStr::literal("+PONG"), replies),
+        Command::Echo { text } => push_value(alloc, Some(text), replies),
+        Command::Leave => push_line(alloc, AsciiStr::literal("+OK"), replies),
     }
 }
 
@@ -71,7 +77,7 @@ pub fn line_of(rejection: Rejection) -> AsciiStr<'static>
     }
 }
 
-/// Returns the reply to `DEL`: the number of values that were removed.
+/// Returns the reply to `DEL` and `EXISTS`: the number of values that there were.
 fn count_line(found: bool) -> AsciiStr<'static>
     ensures { text_of result ≡ if found then codes ":1" else codes ":0" }
 {
@@ -87,12 +93,12 @@ fn count_line(found: bool) -> AsciiStr<'static>
 /// Condition: `replies` is empty.
 fn push_value(
     alloc: Global,
-    value: Option<&AsciiString>,
+    value: Option<AsciiStr<'_>>,
     replies: &mut Vec<AsciiString>,
 ) -> Result<(), AllocError>
     requires { replies.old.items ≡ [] }
     ensures { OnOk result (string_texts replies.new.items ≡ value_reply
-        (option_map (λ found. found.now.text) value.entry)) }
+        (option_map text_of value.entry)) }
 {
     let Some(value) = value else {
         return push_line(alloc, AsciiStr::literal("$-1"), replies);
@@ -100,7 +106,7 @@ fn push_value(
     let mut length = AsciiString::from_char(alloc, AsciiChar::Dollar)?;
     length.push_decimal(value.len())?;
     replies.push(length)?;
-    push_line(alloc, value.as_ascii_str(), replies)
+    push_line(alloc, value, replies)
 }
 
 /// Appends a line.

@@ -6,10 +6,10 @@ ghost use Rattle.ascii.specs.Tests.{is_blank};
 ghost use Rattle.ascii.specs.View.{text_of};
 ghost use Rattle.ascii_lines.specs.Serve.{IsRequest, Says, line_reply};
 ghost use Rattle.example_resp.specs.Commands.{error_line, string_texts};
-ghost use Rattle.example_resp.specs.Session.{asked_after};
+ghost use Rattle.example_resp.specs.Session.{asked_after, next_after};
 ghost use Rattle.example_resp.specs.Requests.{IsLength};
 
-use crate::commands::{Rejection, read_command};
+use crate::commands::{Command, Rejection, read_command};
 use crate::replies::{follow, line_of, reject};
 use crate::store::Store;
 use ascii::classes::Blank;
@@ -188,7 +188,7 @@ impl Session {
         self.carry_out(alloc, replies)
     }
 
-    /// Follows the command that the words say, or rejects them.
+    /// Follows the command that the words say, or rejects them. No words are not answered.
     ///
     /// Condition: `replies` is empty.
     fn carry_out(
@@ -201,9 +201,16 @@ impl Session {
             (state_of self.old).words (answer_of replies.new.items next self.new)) }
         ensures request { IfOk result IsRequest }
     {
-        let mut next = Next::Line;
+        if self.words.is_empty() {
+            self.stage = Stage::Request;
+            return Ok(Next::Line);
+        }
+        let next;
         match read_command(&self.words) {
-            Ok(command) => follow(&mut self.store, alloc, command, replies)?,
+            Ok(command) => {
+                next = next_of(command);
+                follow(&mut self.store, alloc, command, replies)?;
+            }
             Err(rejection) => {
                 next = next_after(rejection);
                 reject(alloc, rejection, replies)?;
@@ -306,6 +313,17 @@ fn next_after(rejection: Rejection) -> Next
     match rejection {
         Rejection::UnknownCommand | Rejection::WrongArguments => Next::Line,
         _ => Next::Close,
+    }
+}
+
+/// Returns what is asked for after a command.
+fn next_of(command: Command<'_>) -> Next
+    ensures next { result ≡ next_after command.entry }
+    ensures request { IsRequest result }
+{
+    match command {
+        Command::Leave => Next::Close,
+        _ => Next::Line,
     }
 }
 

@@ -13,7 +13,7 @@ pub struct Store {
 impl Store {
     ghost use Rattle.std.specs.Map.{update};
     ghost use Rattle.std.specs.Option.{option_map};
-    ghost use Rattle.std.specs.Prelude.{◌↔◌, ◌≡◌, IsSome, IsTrue, List, OnOk, ℕ};
+    ghost use Rattle.std.specs.Prelude.{◌↔◌, ◌≡◌, IsSome, IsTrue, List, OnOk, is_some, ℕ};
     ghost use Rattle.std.specs.Str.{bytes_eq};
     ghost use Rattle.ascii.specs.View.{text_of};
     ghost use Rattle.example_resp.specs.Store.{Changes, contents_of};
@@ -28,11 +28,20 @@ impl Store {
     }
 
     /// Returns the value at the key, or `None` if there is none.
-    pub fn get(&self, key: AsciiStr<'_>) -> Option<&AsciiString>
-        ensures { option_map (λ value. value.now.text) result
-            ≡ contents_of self.now (text_of key.entry) }
+    pub fn get(&self, key: AsciiStr<'_>) -> Option<AsciiStr<'_>>
+        ensures { option_map text_of result ≡ contents_of self.now (text_of key.entry) }
     {
-        self.entries.get(key.as_str())
+        match self.entries.get(key.as_str()) {
+            Some(value) => Some(value.as_ascii_str()),
+            None => None,
+        }
+    }
+
+    /// Returns `true` if there is a value at the key.
+    pub fn contains(&self, key: AsciiStr<'_>) -> bool
+        ensures { result ≡ is_some (contents_of self.now (text_of key.entry)) }
+    {
+        self.entries.get(key.as_str()).is_some()
     }
 
     /// Sets the value at the key, or returns an error if an allocation fails.
