@@ -28,6 +28,8 @@ MAIL = BEGUN[0] + b"Subject: x\r\n\r\n..dot\r\n.\r\nQUIT\r\n"
 MAILED = BEGUN[1] + b"250 OK\r\n221 bye\r\n"
 HELLO = (b"", b"220 ready\r\n")
 BAD = b"554 bad line\r\n"
+FULL = b"452 too many recipients\r\n"
+ARGUMENT, NO_VRFY = b"501 bad argument\r\n", b"252 not verified\r\n"
 DROPPED = b"554 bad message\r\n221 bye\r\n"
 
 
@@ -49,12 +51,13 @@ DIALOGUES = [
     mail("a mail in one packet", (MAIL, MAILED)),
     mail("each byte a packet of its own", *[(MAIL[i : i + 1], b"") for i in range(len(MAIL))], then=MAILED),
     mail("a reply before more is sent", (b"HELO c\r\n", b"250 OK\r\n"), (b"NOOP\r", b""), (b"\nQUIT\r\n", b"250 OK\r\n221 bye\r\n")),
-    mail("1,000 recipients in one packet", (BEGUN[0][:-6] + b"RCPT TO:<c@d>\r\n" * 999, b"250 OK\r\n" * 1002)),
+    mail("1,000 recipients in one packet", (BEGUN[0][:-6] + b"RCPT TO:<c@d>\r\n" * 999, b"250 OK\r\n" * 102 + FULL * 900)),
+    mail("what changes nothing", (b"NOOP\r\nNOOP x\r\nNOOPS\r\nVRFY c\r\nRSET\r\n", b"250 OK\r\n" * 2 + ARGUMENT + NO_VRFY + b"250 OK\r\n")),
     mail("the client leaves after a command", (b"NOOP\r\n", b"250 OK\r\n")),
     mail("an input that ends in a command", (b"NOOP\r\nQUIT", b"250 OK\r\n"), then=BAD),
     mail("an input that ends in a message", BEGUN, (b"line\r\n.", b""), then=BAD),
     mail("dots", BEGUN, (b"..\r\n...\r\n. \r\n.x\r\n.\r\n", b"250 OK\r\n")),
-    mail("a client that asks for extensions", (b"EHLO c\r\nEHLO \r\n", b"250 OK\r\n501 bad argument\r\n")),
+    mail("a client that asks for extensions", (b"EHLO c\r\nEHLO \r\n", b"250 OK\r\n" + ARGUMENT)),
     mail("a byte above 127", (b"NOOP\xc4\r\nQUIT\r\n", BAD + b"221 bye\r\n")),
     mail("a byte above 127 in a message", BEGUN, (b"caf\xc3\xa9\r\nline\r\n", b""), (b".\r\nQUIT\r\n", DROPPED)),
     mail("a mail after one that was dropped", BEGUN, (b"\xff\r\n.\r\n" + MAIL, b"554 bad message\r\n" + MAILED)),

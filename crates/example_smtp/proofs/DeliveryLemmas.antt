@@ -29,13 +29,14 @@ use Rattle.example_smtp.specs.Session.{after, refusal_of, reply_to, reset_stage}
 use Rattle.example_smtp.specs.declared.commands.Command.{Command}
 use Rattle.example_smtp.specs.declared.commands.Command.TheVariants.{AddRecipient, BeginLines}
 use Rattle.example_smtp.specs.declared.commands.Command.TheVariants.{Introduce, Leave, Reset}
-use Rattle.example_smtp.specs.declared.commands.Command.TheVariants.{SetSender}
+use Rattle.example_smtp.specs.declared.commands.Command.TheVariants.{SetSender, Verify}
 use Rattle.example_smtp.specs.declared.commands.Command.TheVariants as command
 use Rattle.example_smtp.specs.declared.commands.Reply.{Reply}
 use Rattle.example_smtp.specs.declared.commands.Reply.TheVariants.{BadArgument, BadLine, BadMessage}
 use Rattle.example_smtp.specs.declared.commands.Reply.TheVariants.{BadSequence, Bye, Closing, Done}
 use Rattle.example_smtp.specs.declared.commands.Reply.TheVariants.{LongLine, NoMemory, SendLines}
-use Rattle.example_smtp.specs.declared.commands.Reply.TheVariants.{UnknownCommand}
+use Rattle.example_smtp.specs.declared.commands.Reply.TheVariants.{TooManyRecipients, UnknownCommand}
+use Rattle.example_smtp.specs.declared.commands.Reply.TheVariants.{Unverified}
 use Rattle.example_smtp.specs.declared.commands.Verb.{Verb}
 use Rattle.example_smtp.specs.declared.commands.Verb.TheVariants as verb
 use Rattle.example_smtp.specs.declared.session.Session.{Session}
@@ -163,18 +164,22 @@ transcript endings old new first last (step ∷ steps) (after, mid, is_step, tal
 
 -- ---- replies
 
--- a number that tells the first two codes of a reply
+-- a number that tells the first three codes of a reply
 abbrev first_codes : List (List ℕ) → ℕ
 first_codes [] = 0
 first_codes ([] ∷ replies) = 0
 first_codes ((first ∷ []) ∷ replies) = 0
-first_codes ((first ∷ (second ∷ others)) ∷ replies) = first * 128 + second
+first_codes ((first ∷ (second ∷ [])) ∷ replies) = 0
+first_codes ((first ∷ (second ∷ (third ∷ others))) ∷ replies) =
+    (first * 128 + second) * 128 + third
 
 -- a reply other than 354 is another line
 not_begin : (reply : Reply) → reply ≢ SendLines → reply_line reply ∷ [] ≢ reply_line SendLines ∷ []
 not_begin SendLines apart is = apart refl
 not_begin Bye apart is = omega (arith, ap first_codes is)
 not_begin Done apart is = omega (arith, ap first_codes is)
+not_begin Unverified apart is = omega (arith, ap first_codes is)
+not_begin TooManyRecipients apart is = omega (arith, ap first_codes is)
 not_begin UnknownCommand apart is = omega (arith, ap first_codes is)
 not_begin BadArgument apart is = omega (arith, ap first_codes is)
 not_begin BadSequence apart is = omega (arith, ap first_codes is)
@@ -189,6 +194,8 @@ not_end : (reply : Reply) → reply ≢ Done → reply_line reply ∷ [] ≢ rep
 not_end Done apart is = apart refl
 not_end Bye apart is = omega (arith, ap first_codes is)
 not_end SendLines apart is = omega (arith, ap first_codes is)
+not_end Unverified apart is = omega (arith, ap first_codes is)
+not_end TooManyRecipients apart is = omega (arith, ap first_codes is)
 not_end UnknownCommand apart is = omega (arith, ap first_codes is)
 not_end BadArgument apart is = omega (arith, ap first_codes is)
 not_end BadSequence apart is = omega (arith, ap first_codes is)
@@ -216,6 +223,7 @@ long_name verb.Mail = lit≤ tt
 long_name verb.Rcpt = lit≤ tt
 long_name verb.Data = lit≤ tt
 long_name verb.Rset = lit≤ tt
+long_name verb.Vrfy = lit≤ tt
 long_name verb.Noop = lit≤ tt
 long_name verb.Quit = lit≤ tt
 
@@ -273,6 +281,9 @@ fault_apart line UnknownCommand is = (λ same. cc, λ same. cc)
 fault_apart line Bye is = absurd (let same : Bye ≡ BadArgument = is.3.0 in cc)
 fault_apart line Done is = absurd (let same : Done ≡ BadArgument = is.3.0 in cc)
 fault_apart line SendLines is = absurd (let same : SendLines ≡ BadArgument = is.3.0 in cc)
+fault_apart line Unverified is = absurd (let same : Unverified ≡ BadArgument = is.3.0 in cc)
+fault_apart line TooManyRecipients is =
+    absurd (let same : TooManyRecipients ≡ BadArgument = is.3.0 in cc)
 fault_apart line BadArgument is = (λ same. cc, λ same. cc)
 fault_apart line BadSequence is = absurd (let same : BadSequence ≡ BadArgument = is.3.0 in cc)
 fault_apart line LongLine is = absurd (let same : LongLine ≡ BadArgument = is.3.0 in cc)
@@ -337,6 +348,8 @@ module _ (old new : State) (line : List ℕ) (replies : List (List ℕ)) (asked 
   })
   followed Reset says carried =
       inl (stays Reset says carried (λ is. cc) (reset_apart old.stage) refl)
+  followed (Verify mailbox) says carried =
+      inl (stays (Verify mailbox) says carried (λ is. cc) apart refl)
   followed command.Reply says carried =
       inl (stays command.Reply says carried (λ is. cc) apart refl)
   followed Leave says carried = inl (stays Leave says carried (λ is. cc) apart refl)
@@ -347,10 +360,13 @@ module _ (old new : State) (line : List ℕ) (replies : List (List ℕ)) (asked 
       (λ fault. Rejects old fault replies asked new)
       → StaysOutside old said_here new ⊎ BeginsMessage old said_here new
   by_outcome (Ok command) says follows = elim follows [
-    | inl allowed ↦ followed command says allowed.1
-    | inr early ↦
+    | inl allowed ↦ followed command says allowed.2
+    | inr (inl early) ↦
         inl (faulty old new said_here BadSequence apart (λ is. cc) (λ is. cc) early.1.says
         early.1.state)
+    | inr (inr late) ↦
+        inl (faulty old new said_here TooManyRecipients apart (λ is. cc) (λ is. cc) late.2.says
+        late.2.state)
   ]
   by_outcome (Err fault) is rejects =
       let other = fault_apart line fault is in

@@ -1,1 +1,2 @@
 pub mod DeliveryLemmas
+pub mod VerbLemmas

@@ -6,13 +6,13 @@ use Rattle.ascii.specs.View.{text_of}
 use Rattle.example_smtp.specs.declared.commands.Command.{Command}
 use Rattle.example_smtp.specs.declared.commands.Command.TheVariants.{AddRecipient, BeginLines}
 use Rattle.example_smtp.specs.declared.commands.Command.TheVariants.{Introduce, Leave, Reset}
-use Rattle.example_smtp.specs.declared.commands.Command.TheVariants.{SetSender}
+use Rattle.example_smtp.specs.declared.commands.Command.TheVariants.{SetSender, Verify}
 use Rattle.example_smtp.specs.declared.commands.Command.TheVariants as command
 use Rattle.example_smtp.specs.declared.commands.Reply.{Reply}
 use Rattle.example_smtp.specs.declared.commands.Reply.TheVariants as reply
 use Rattle.example_smtp.specs.declared.commands.Verb.{Verb}
 use Rattle.example_smtp.specs.declared.commands.Verb.TheVariants.{Helo, Ehlo, Mail, Rcpt, Data, Rset}
-use Rattle.example_smtp.specs.declared.commands.Verb.TheVariants.{Noop, Quit}
+use Rattle.example_smtp.specs.declared.commands.Verb.TheVariants.{Noop, Quit, Vrfy}
 
 -- the name of a verb, with what separates it from its argument
 abbrev pub name_of : Verb → List ℕ
@@ -22,6 +22,7 @@ name_of Mail = codes "MAIL FROM:"
 name_of Rcpt = codes "RCPT TO:"
 name_of Data = codes "DATA"
 name_of Rset = codes "RSET"
+name_of Vrfy = codes "VRFY "
 name_of Noop = codes "NOOP"
 name_of Quit = codes "QUIT"
 
@@ -29,12 +30,15 @@ name_of Quit = codes "QUIT"
 abbrev pub IsPath : List ℕ → List ℕ → Type 0
 IsPath address path = codes "<" ++ (address ++ codes ">") ≡ path
 
--- `argument` is as `verb` takes it: a domain, a path, or nothing
+-- `argument` is as `verb` takes it: a domain, a path, a mailbox, nothing or what a space starts, or
+-- nothing
 abbrev pub IsArgument : Verb → List ℕ → Type 0
 IsArgument Helo argument = argument ≢ []
 IsArgument Ehlo argument = argument ≢ []
 IsArgument Mail argument = (address : List ℕ) × IsPath address argument
 IsArgument Rcpt argument = (address : List ℕ) × IsPath address argument
+IsArgument Vrfy argument = argument ≢ []
+IsArgument Noop argument = (argument ≡ []) ⊎ StartsWith (codes " ") argument
 IsArgument verb argument = argument ≡ []
 
 -- `command` is the verb `verb` with the argument `argument`
@@ -45,7 +49,10 @@ HasParts verb argument (SetSender address) = (verb ≡ Mail) × IsPath (text_of 
 HasParts verb argument (AddRecipient address) = (verb ≡ Rcpt) × IsPath (text_of address) argument
 HasParts verb argument BeginLines = (verb ≡ Data) × (argument ≡ [])
 HasParts verb argument Reset = (verb ≡ Rset) × (argument ≡ [])
-HasParts verb argument command.Reply = (verb ≡ Noop) × (argument ≡ [])
+HasParts verb argument (Verify mailbox) =
+    (verb ≡ Vrfy) × (argument ≡ text_of mailbox) × (argument ≢ [])
+HasParts verb argument command.Reply =
+    (verb ≡ Noop) × ((argument ≡ []) ⊎ StartsWith (codes " ") argument)
 HasParts verb argument Leave = (verb ≡ Quit) × (argument ≡ [])
 
 -- why `verb` with `argument` is not a command: the argument is not as the verb takes it
@@ -81,6 +88,8 @@ abbrev pub reply_line : Reply → List ℕ
 reply_line reply.Bye = codes "221 bye"
 reply_line reply.Done = codes "250 OK"
 reply_line reply.SendLines = codes "354 send the lines"
+reply_line reply.Unverified = codes "252 not verified"
+reply_line reply.TooManyRecipients = codes "452 too many recipients"
 reply_line reply.UnknownCommand = codes "500 unknown command"
 reply_line reply.BadArgument = codes "501 bad argument"
 reply_line reply.BadSequence = codes "503 bad sequence"

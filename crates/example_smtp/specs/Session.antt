@@ -1,5 +1,5 @@
 -- What a session answers to a line.
-use Rattle.std.specs.Prelude.{◌≡◌, ◌≢◌, ◌⊎◌, ℕ, Bool, List, [], ◌∷◌, ◌++◌, MatchResult, false, true, None, Some, ⊤, codes}
+use Rattle.std.specs.Prelude.{◌≡◌, ◌≢◌, ◌⊎◌, ◌<◌, ℕ, Bool, List, [], ◌∷◌, ◌++◌, MatchResult, false, true, None, Some, ⊤, codes, length}
 use Rattle.std.specs.declared.option.Option.{Option}
 use Rattle.std.specs.declared.result.Result.{Result}
 use Rattle.ascii.specs.View.{text_of}
@@ -12,8 +12,7 @@ use Rattle.example_smtp.specs.Mail.{State, Unstuffs, no_mail}
 use Rattle.example_smtp.specs.declared.commands.Command.{Command}
 use Rattle.example_smtp.specs.declared.commands.Command.TheVariants.{AddRecipient, BeginLines}
 use Rattle.example_smtp.specs.declared.commands.Command.TheVariants.{Introduce, Leave, Reset}
-use Rattle.example_smtp.specs.declared.commands.Command.TheVariants.{SetSender}
-use Rattle.example_smtp.specs.declared.commands.Command.TheVariants as command
+use Rattle.example_smtp.specs.declared.commands.Command.TheVariants.{SetSender, Verify}
 use Rattle.example_smtp.specs.declared.commands.Reply.{Reply}
 use Rattle.example_smtp.specs.declared.commands.Reply.TheVariants as reply
 use Rattle.example_smtp.specs.declared.session.Stage.{Stage}
@@ -30,6 +29,7 @@ IsAllowed stage other = ⊤
 -- the reply to a command that is allowed
 abbrev pub reply_to : Command → Reply
 reply_to BeginLines = reply.SendLines
+reply_to (Verify mailbox) = reply.Unverified
 reply_to Leave = reply.Bye
 reply_to other = reply.Done
 
@@ -55,8 +55,7 @@ after old (AddRecipient address) = record old {
 after old BeginLines =
     record old { stage = Lines; draft = record old.draft { lines = [] }; is_bad = false }
 after old Reset = record old { stage = reset_stage old.stage; draft = no_mail }
-after old command.Reply = old
-after old Leave = old
+after old other = old
 
 -- the reply is the line of `fault`, a line is asked for, and the state is unchanged
 pub record Rejects (old : State) (fault : Reply) (replies : List (List ℕ)) (asked : Next)
@@ -72,11 +71,23 @@ pub record CarriesOut (old : State) (command : Command) (replies : List (List �
   pub asks : asked ≡ next_after command
   pub state : new ≡ after old command
 
--- the command is allowed and carried out, or it is not allowed and rejected
+-- the most recipients of a message
+abbrev pub most_recipients : ℕ
+most_recipients = 100
+
+-- a message with these recipients takes the command: if it adds one, the message may have one more
+abbrev pub Fits : List (List ℕ) → Command → Type 0
+Fits recipients (AddRecipient address) = length recipients < most_recipients
+Fits recipients other = ⊤
+
+-- the command is allowed and carried out; or it is not allowed, or a recipient too many, and rejected
 abbrev pub Follows : State → Command → List (List ℕ) → Next → State → Type 0
 Follows old command replies asked new =
-    (IsAllowed old.stage command × CarriesOut old command replies asked new)
+    (IsAllowed old.stage command × Fits old.draft.recipients command
+    × CarriesOut old command replies asked new)
     ⊎ (¬ (IsAllowed old.stage command) × Rejects old reply.BadSequence replies asked new)
+    ⊎ (IsAllowed old.stage command × ¬ (Fits old.draft.recipients command)
+    × Rejects old reply.TooManyRecipients replies asked new)
 
 -- the answer to a line that is to say a command
 abbrev pub AnswersCommand : State → List ℕ → List (List ℕ) → Next → State → Type 0

@@ -1,6 +1,7 @@
 //! The commands of a client, and the lines that say them.
 
-ghost use Rattle.std.specs.Prelude.{◌≡◌, List, MatchOption, MatchResult, ℕ};
+ghost use Rattle.std.specs.Prelude.{◌↔◌, ◌≡◌, IsTrue, List, MatchOption, MatchResult, codes, ℕ};
+ghost use Rattle.ascii.specs.Search.{StartsWith};
 ghost use Rattle.ascii.specs.View.{text_of};
 ghost use Rattle.example_smtp.specs.Commands.{BeginsWithVerb, HasParts, IsCall, IsPartsFault};
 ghost use Rattle.example_smtp.specs.Commands.{IsPath, ReadsCommand, name_of, reply_line};
@@ -22,6 +23,8 @@ pub enum Verb {
     Data,
     /// Drops the message that was begun.
     Rset,
+    /// Asks whether there is a mailbox.
+    Vrfy,
     /// Asks for a reply.
     Noop,
     /// Ends the session.
@@ -40,6 +43,7 @@ impl Verb {
             Verb::Rcpt => AsciiStr::literal("RCPT TO:"),
             Verb::Data => AsciiStr::literal("DATA"),
             Verb::Rset => AsciiStr::literal("RSET"),
+            Verb::Vrfy => AsciiStr::literal("VRFY "),
             Verb::Noop => AsciiStr::literal("NOOP"),
             Verb::Quit => AsciiStr::literal("QUIT"),
         }
@@ -59,6 +63,8 @@ pub enum Command<'a> {
     BeginLines,
     /// Drops the message that was begun.
     Reset,
+    /// Asks whether there is this mailbox.
+    Verify { mailbox: AsciiStr<'a> },
     /// Asks for a reply.
     Reply,
     /// Ends the session.
@@ -74,6 +80,10 @@ pub enum Reply {
     Done,
     /// The lines of the message may come.
     SendLines,
+    /// Whether there is the mailbox is not told, and a message to it may come.
+    Unverified,
+    /// The message has as many recipients as it may have.
+    TooManyRecipients,
     /// The line does not begin with a verb.
     UnknownCommand,
     /// The argument of the verb is not as it has to be.
@@ -101,6 +111,8 @@ impl Reply {
             Reply::Bye => AsciiStr::literal("221 bye"),
             Reply::Done => AsciiStr::literal("250 OK"),
             Reply::SendLines => AsciiStr::literal("354 send the lines"),
+            Reply::Unverified => AsciiStr::literal("252 not verified"),
+            Reply::TooManyRecipients => AsciiStr::literal("452 too many recipients"),
             Reply::UnknownCommand => AsciiStr::literal("500 unknown command"),
             Reply::BadArgument => AsciiStr::literal("501 bad argument"),
             Reply::BadSequence => AsciiStr::literal("503 bad sequence"),
@@ -134,6 +146,7 @@ pub fn read_command<'a>(line: AsciiStr<'a>) -> Result<Command<'a>, Reply>
 
 /// Returns the verb with whose name the line begins when case is ignored, and the text after it; or
 /// `None` if there is none.
+#[tactic(auto, using(crate::proofs::VerbLemmas::none_begins))]
 fn read_verb<'a>(line: AsciiStr<'a>) -> Option<Call<'a>>
     ensures { MatchOption result ((verb : Verb) → ¬ (BeginsWithVerb (text_of line.entry) verb))
         (λ call. IsCall (text_of line.entry) call.verb (text_of call.argument)) }
@@ -156,10 +169,16 @@ fn read_verb<'a>(line: AsciiStr<'a>) -> Option<Call<'a>>
     if let Some(call) = call_of(line, Verb::Rset) {
         return Some(call);
     }
+    if let Some(call) = call_of(line, Verb::Vrfy) {
+        return Some(call);
+    }
     if let Some(call) = call_of(line, Verb::Noop) {
         return Some(call);
     }
-    call_of(line, Verb::Quit)
+    if let Some(call) = call_of(line, Verb::Quit) {
+        return Some(call);
+    }
+    None
 }
 
 /// Returns the verb and the text after its name, or `None` if the line does not begin with the name
@@ -192,10 +211,18 @@ fn command_of<'a>(verb: Verb, argument: AsciiStr<'a>) -> Result<Command<'a>, Rep
         },
         Verb::Data if argument.is_empty() => Ok(Command::BeginLines),
         Verb::Rset if argument.is_empty() => Ok(Command::Reset),
-        Verb::Noop if argument.is_empty() => Ok(Command::Reply),
+        Verb::Vrfy if !argument.is_empty() => Ok(Command::Verify { mailbox: argument }),
+        Verb::Noop if argument.is_empty() || starts_with_space(argument) => Ok(Command::Reply),
         Verb::Quit if argument.is_empty() => Ok(Command::Leave),
         _ => Err(Reply::BadArgument),
     }
+}
+
+/// Returns `true` if the text starts with a space.
+fn starts_with_space(text: AsciiStr<'_>) -> bool
+    ensures { IsTrue result ↔ StartsWith (codes " ") (text_of text.entry) }
+{
+    text.starts_with(AsciiStr::literal(" "))
 }
 
 /// Returns the address between `<` and `>`, or `None` if the path has not both.

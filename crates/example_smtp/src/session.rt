@@ -1,16 +1,19 @@
 //! A session with one client: the message that it sends, and the messages that were received.
 
-ghost use Rattle.std.specs.Prelude.{◌↔◌, ◌≡◌, IfOk, IsTrue, OnErr, OnOk, length, map};
+ghost use Rattle.std.specs.Prelude.{◌↔◌, ◌≡◌, IfOk, IsTrue, List, OnErr, OnOk, length, map, ℕ};
 ghost use Rattle.ascii.specs.View.{text_of};
 ghost use Rattle.ascii_lines.specs.Serve.{IsRequest, Says, line_reply};
 ghost use Rattle.example_smtp.specs.Mail.{Unstuffs};
-ghost use Rattle.example_smtp.specs.Session.{IsAllowed, next_after, refusal_of, reply_to};
+ghost use Rattle.example_smtp.specs.Session.{Fits, IsAllowed, next_after, refusal_of, reply_to};
 ghost use Rattle.example_smtp.specs.Session.{reset_stage, texts_of};
 
 use crate::commands::{Command, Reply, read_command};
 use ascii_lines::{AsciiStr, AsciiString, Ending, Handler, LineError, Next, Replies, Sink};
 use std::alloc::{AllocError, Allocator, Global};
 use std::mem::replace;
+
+/// The most recipients of a message.
+const MOST_RECIPIENTS: usize = 100;
 
 /// What a session awaits.
 #[derive(Clone, Copy, PartialEq, Eq, Debug)]
@@ -139,6 +142,12 @@ impl Session {
                 next: Next::Line,
             });
         }
+        if !fits(self.draft.recipients.len(), command) {
+            return Ok(Plan {
+                reply: Some(Reply::TooManyRecipients),
+                next: Next::Line,
+            });
+        }
         self.carry_out(command)?;
         Ok(Plan {
             reply: Some(reply_of(command)),
@@ -182,7 +191,7 @@ impl Session {
                 self.stage = stage_after_reset(self.stage);
                 Ok(())
             }
-            Command::Reply | Command::Leave => Ok(()),
+            Command::Verify { .. } | Command::Reply | Command::Leave => Ok(()),
         }
     }
 
@@ -308,6 +317,17 @@ fn is_allowed(stage: Stage, command: Command<'_>) -> bool
     }
 }
 
+/// Returns `true` if a message with this number of recipients takes the command.
+fn fits(count: usize, command: Command<'_>) -> bool
+    ensures { (recipients : List (List ℕ)) → length recipients ≡ count →
+        IsTrue result ↔ Fits recipients command.entry }
+{
+    match command {
+        Command::AddRecipient { .. } => count < MOST_RECIPIENTS,
+        _ => true,
+    }
+}
+
 /// Returns the stage after a message that was begun is dropped.
 fn stage_after_reset(stage: Stage) -> Stage
     ensures { result ≡ reset_stage stage }
@@ -324,6 +344,7 @@ fn reply_of(command: Command<'_>) -> Reply
 {
     match command {
         Command::BeginLines => Reply::SendLines,
+        Command::Verify { .. } => Reply::Unverified,
         Command::Leave => Reply::Bye,
         _ => Reply::Done,
     }
