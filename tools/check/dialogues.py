@@ -67,6 +67,7 @@ DIALOGUES = [
     smuggled("CR LF . LF", b"\r\n.\n"),
     smuggled("CR . CR", b"\r.\r"),
     store("what comes after QUIT", (b"PING hi\r\n\r\n*0\r\nQUIT\r\nPING\r\n", b"$2\r\nhi\r\n+OK\r\n")),
+    store("several keys", (b"SET a 1\r\nSET b 2\r\nEXISTS a b c a\r\nDEL a a b c\r\nEXISTS a\r\n", b"+OK\r\n" * 2 + b":3\r\n:2\r\n:0\r\n")),
     store("a request in two packets", (b"*1\r\n$4\r\nPI", b""), (b"NG\r\n", b"+PONG\r\n")),
     store("a reply before more is sent", (b"SET a 1\r\n", b"+OK\r\n"), (b"GET a\r\n", b"$1\r\n1\r\n")),
     store("2,000 requests in one packet", (b"PING\r\n" * 2000, b"+PONG\r\n" * 2000)),

@@ -1,3 +1,4 @@
+pub mod CountLemmas
 pub mod LengthLemmas
 pub mod LiteralLemmas
 pub mod StoreLemmas

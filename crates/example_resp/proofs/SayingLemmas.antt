@@ -5,7 +5,7 @@ use Rattle.std.proofs.lemmas.List.{map-append, take_more}
 use Rattle.ascii.specs.StringState.{StringState}
 use Rattle.ascii_lines.specs.Serve.{Says, Saying, line_reply}
 use Rattle.ascii_lines.proofs.ReplyLemmas.{Says-trans}
-use Rattle.example_resp.specs.Commands.{string_texts}
+use Rattle.example_resp.specs.Store.{string_texts}
 
 -- one line more
 pub one_line_more : {K : Type 0} (a b c : Saying K) (lines : List StringState) (i : ℕ)

@@ -1,6 +1,6 @@
 -- What a change of a map is as a change of the contents of a store.
 use Rattle.std.proofs.Common.{◌≡◌, ◌∙◌, Bool, List, None, Option, Some, ap, cond, false, refl}
-use Rattle.std.proofs.Common.{IsTrue, IsSome, is_some, rules, true, ◌↔◌, ℕ}
+use Rattle.std.proofs.Common.{is_some, true, ℕ}
 use Rattle.std.proofs.lemmas.Map.Text.{hash_map_updates_text}
 use Rattle.std.specs.HashMap.{UpdatesBy, get_by_text}
 use Rattle.std.specs.Option.{option_map}
@@ -31,11 +31,10 @@ changes_contents old new bytes value updates = λ other.
 -- a value was found at a key of these bytes if the contents have one
 pub found_in_contents : (store : Store) (bytes : List ℕ) (value : Option StringState)
     (found : Bool) → value ≡ get_by_text store.entries bytes → found ≡ is_some value
-    → IsTrue found ↔ IsSome (contents_of store bytes)
+    → found ≡ is_some (contents_of store bytes)
 found_in_contents store bytes value found is says =
-    rw (← is, says) (some_text value)
+    says ∙ (some_text value ∙ ap (λ (value : Option StringState). is_some (text_in value)) is)
   where
-    some_text : (value : Option StringState)
-        → IsTrue (is_some value) ↔ IsSome (text_in value)
-    some_text (Some string) = (λ _. search rules, λ _. refl)
-    some_text None = (λ some. absurd (cc), λ some. absurd (cc))
+    some_text : (value : Option StringState) → is_some value ≡ is_some (text_in value)
+    some_text (Some string) = refl
+    some_text None = refl

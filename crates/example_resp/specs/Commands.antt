@@ -1,16 +1,15 @@
 -- The commands of a store: the words that say each, its reply, and the store after it.
 use Rattle.std.specs.Map.{update}
-use Rattle.std.specs.Prelude.{◌≡◌, ◌⊎◌, ℕ, List, [], ◌∷◌, ◌++◌, None, Option, Some, codes}
-use Rattle.std.specs.Prelude.{MatchResult, decimal, if◌then◌else◌, is_some, length, map}
+use Rattle.std.specs.Prelude.{◌≡◌, ◌≢◌, ◌⊎◌, ℕ, ◌<◌, List, [], ◌∷◌, ◌++◌, None, Option, Some, codes}
+use Rattle.std.specs.Prelude.{MatchResult, decimal, length, map}
 use Rattle.std.specs.Str.{bytes_eq}
 use Rattle.std.specs.declared.result.Result.{Result}
 use Rattle.ascii.specs.Case.{lower_image}
-use Rattle.ascii.specs.StringState.{StringState}
 use Rattle.ascii.specs.View.{text_of}
-use Rattle.example_resp.specs.Store.{Contents}
+use Rattle.example_resp.specs.Store.{Contents, removed_count, string_texts, value_count, without}
 use Rattle.example_resp.specs.declared.commands.Command.{Command}
 use Rattle.example_resp.specs.declared.commands.Command.TheVariants.{SetValue, GetValue}
-use Rattle.example_resp.specs.declared.commands.Command.TheVariants.{CountValue, DeleteValue, Echo, Leave}
+use Rattle.example_resp.specs.declared.commands.Command.TheVariants.{CountValues, DeleteValues, Echo, Leave}
 use Rattle.example_resp.specs.declared.commands.Command.TheVariants.{Reply}
 use Rattle.example_resp.specs.declared.commands.Rejection.{Rejection}
 use Rattle.example_resp.specs.declared.commands.Rejection.TheVariants.{UnknownCommand, BadLength}
@@ -35,8 +34,8 @@ name_of Quit = codes "quit"
 abbrev pub IsCount : Verb → ℕ → Type 0
 IsCount Set count = count ≡ 2
 IsCount Get count = count ≡ 1
-IsCount Del count = count ≡ 1
-IsCount Exists count = count ≡ 1
+IsCount Del count = 0 < count
+IsCount Exists count = 0 < count
 IsCount Ping count = (count ≡ 0) ⊎ (count ≡ 1)
 IsCount Quit count = count ≡ 0
 
@@ -44,17 +43,15 @@ IsCount Quit count = count ≡ 0
 abbrev pub IsNameOf : Verb → List ℕ → Type 0
 IsNameOf verb word = map lower_image word ≡ name_of verb
 
--- the texts of strings
-abbrev pub string_texts : List StringState → List (List ℕ)
-string_texts strings = map (λ string. string.text) strings
-
 -- `command` is the verb `verb` with the arguments `arguments`
 abbrev pub HasParts : Verb → List (List ℕ) → Command → Type 0
 HasParts verb arguments (SetValue key value) =
     (verb ≡ Set) × (arguments ≡ text_of key ∷ text_of value ∷ [])
 HasParts verb arguments (GetValue key) = (verb ≡ Get) × (arguments ≡ text_of key ∷ [])
-HasParts verb arguments (DeleteValue key) = (verb ≡ Del) × (arguments ≡ text_of key ∷ [])
-HasParts verb arguments (CountValue key) = (verb ≡ Exists) × (arguments ≡ text_of key ∷ [])
+HasParts verb arguments (DeleteValues keys) =
+    (verb ≡ Del) × (arguments ≡ string_texts keys.now) × (arguments ≢ [])
+HasParts verb arguments (CountValues keys) =
+    (verb ≡ Exists) × (arguments ≡ string_texts keys.now) × (arguments ≢ [])
 HasParts verb arguments Reply = (verb ≡ Ping) × (arguments ≡ [])
 HasParts verb arguments (Echo text) = (verb ≡ Ping) × (arguments ≡ text_of text ∷ [])
 HasParts verb arguments Leave = (verb ≡ Quit) × (arguments ≡ [])
@@ -92,14 +89,16 @@ abbrev pub value_reply : Option (List ℕ) → List (List ℕ)
 value_reply None = codes "$-1" ∷ []
 value_reply (Some value) = (codes "$" ++ decimal (length value)) ∷ value ∷ []
 
+-- the reply that is a number
+abbrev pub count_reply : ℕ → List (List ℕ)
+count_reply count = (codes ":" ++ decimal count) ∷ []
+
 -- the reply of a store with these contents to a command
 abbrev pub reply : Contents → Command → List (List ℕ)
 reply contents (SetValue key value) = codes "+OK" ∷ []
 reply contents (GetValue key) = value_reply (contents (text_of key))
-reply contents (DeleteValue key) =
-    (if is_some (contents (text_of key)) then codes ":1" else codes ":0") ∷ []
-reply contents (CountValue key) =
-    (if is_some (contents (text_of key)) then codes ":1" else codes ":0") ∷ []
+reply contents (DeleteValues keys) = count_reply (removed_count contents (string_texts keys.now))
+reply contents (CountValues keys) = count_reply (value_count contents (string_texts keys.now))
 reply contents Reply = codes "+PONG" ∷ []
 reply contents (Echo text) = value_reply (Some (text_of text))
 reply contents Leave = codes "+OK" ∷ []
@@ -107,7 +106,7 @@ reply contents Leave = codes "+OK" ∷ []
 -- the contents of a store after a command
 abbrev pub after : Contents → Command → Contents
 after contents (SetValue key value) = update bytes_eq contents (text_of key) (Some (text_of value))
-after contents (DeleteValue key) = update bytes_eq contents (text_of key) None
+after contents (DeleteValues keys) = without contents (string_texts keys.now)
 after contents other = contents
 
 -- the line that says why a request was rejected

@@ -4,9 +4,9 @@ use Rattle.std.specs.declared.result.Result.{Result}
 use Rattle.ascii.specs.StringState.{StringState}
 use Rattle.ascii_lines.specs.declared.serving.Next.{Next}
 use Rattle.ascii_lines.specs.declared.serving.Next.TheVariants as next
-use Rattle.example_resp.specs.Commands.{ReadsCommand, after, error_line, reply, string_texts}
+use Rattle.example_resp.specs.Commands.{ReadsCommand, after, error_line, reply}
+use Rattle.example_resp.specs.Store.{Contents, contents_of, string_texts}
 use Rattle.example_resp.specs.declared.commands.Rejection.TheVariants.{UnknownCommand, WrongArguments}
-use Rattle.example_resp.specs.Store.{Contents, contents_of}
 use Rattle.example_resp.specs.declared.commands.Command.{Command}
 use Rattle.example_resp.specs.declared.commands.Rejection.{Rejection}
 use Rattle.example_resp.specs.declared.commands.Command.TheVariants.{Leave}

@@ -3,9 +3,14 @@
 use Rattle.std.specs.HashMap.{get_by_text}
 use Rattle.std.specs.Map.{update}
 use Rattle.std.specs.Option.{option_map}
-use Rattle.std.specs.Prelude.{◌≡◌, ℕ, List, Option}
+use Rattle.std.specs.Prelude.{◌≡◌, ◌+◌, ℕ, List, [], ◌∷◌, None, Option, if◌then◌else◌, is_some, map}
 use Rattle.std.specs.Str.{bytes_eq}
+use Rattle.ascii.specs.StringState.{StringState}
 use Rattle.example_resp.specs.declared.store.Store.{Store}
+
+-- the texts of strings
+abbrev pub string_texts : List StringState → List (List ℕ)
+string_texts strings = map (λ string. string.text) strings
 
 -- the contents of a store: the value at a key, or `None` if there is none
 abbrev pub Contents : Type 0
@@ -18,3 +23,23 @@ contents_of store key = option_map (λ value. value.text) (get_by_text store.ent
 -- the contents `new` are `old`, except that they have `value` at the key `key`
 abbrev pub Changes : Contents → List ℕ → Option (List ℕ) → Contents → Type 0
 Changes old key value new = (other : List ℕ) → new other ≡ update bytes_eq old key value other
+
+-- 1 if there is a value at the key, or 0
+abbrev pub one_at : Contents → List ℕ → ℕ
+one_at contents key = if is_some (contents key) then 1 else 0
+
+-- the number of these keys at which there is a value
+abbrev pub value_count : Contents → List (List ℕ) → ℕ
+value_count contents [] = 0
+value_count contents (key ∷ keys) = one_at contents key + value_count contents keys
+
+-- the contents without the values at these keys
+abbrev pub without : Contents → List (List ℕ) → Contents
+without contents [] = contents
+without contents (key ∷ keys) = without (update bytes_eq contents key None) keys
+
+-- the number of values that go when these keys are removed, one after another
+abbrev pub removed_count : Contents → List (List ℕ) → ℕ
+removed_count contents [] = 0
+removed_count contents (key ∷ keys) =
+    one_at contents key + removed_count (update bytes_eq contents key None) keys

@@ -3,7 +3,7 @@
 ghost use Rattle.std.specs.Prelude.{MatchOption, MatchResult};
 ghost use Rattle.ascii.specs.View.{text_of};
 ghost use Rattle.example_resp.specs.Commands.{HasParts, IsNameOf, IsPartsFault, ReadsCommand};
-ghost use Rattle.example_resp.specs.Commands.{string_texts};
+ghost use Rattle.example_resp.specs.Store.{string_texts};
 
 use ascii::{AsciiStr, AsciiString};
 
@@ -14,9 +14,9 @@ pub enum Verb {
     Set,
     /// Asks for the value at a key.
     Get,
-    /// Removes the value at a key.
+    /// Removes the values at keys.
     Del,
-    /// Asks whether there is a value at a key.
+    /// Asks at how many keys there is a value.
     Exists,
     /// Asks for a reply.
     Ping,
@@ -36,13 +36,13 @@ pub enum Command<'a> {
     GetValue {
         key: AsciiStr<'a>,
     },
-    /// Removes the value at the key.
-    DeleteValue {
-        key: AsciiStr<'a>,
+    /// Removes the values at the keys.
+    DeleteValues {
+        keys: &'a [AsciiString],
     },
-    /// Asks whether there is a value at the key.
-    CountValue {
-        key: AsciiStr<'a>,
+    /// Asks at how many of the keys there is a value.
+    CountValues {
+        keys: &'a [AsciiString],
     },
     /// Asks for a reply.
     Reply,
@@ -119,12 +119,8 @@ fn command_of<'a>(verb: Verb, arguments: &'a [AsciiString]) -> Result<Command<'a
         (Verb::Get, [key]) => Ok(Command::GetValue {
             key: key.as_ascii_str(),
         }),
-        (Verb::Del, [key]) => Ok(Command::DeleteValue {
-            key: key.as_ascii_str(),
-        }),
-        (Verb::Exists, [key]) => Ok(Command::CountValue {
-            key: key.as_ascii_str(),
-        }),
+        (Verb::Del, [_, ..]) => Ok(Command::DeleteValues { keys: arguments }),
+        (Verb::Exists, [_, ..]) => Ok(Command::CountValues { keys: arguments }),
         (Verb::Ping, []) => Ok(Command::Reply),
         (Verb::Ping, [text]) => Ok(Command::Echo {
             text: text.as_ascii_str(),

@@ -1,10 +1,11 @@
 //! The replies of a store to commands.
 
 ghost use Rattle.std.specs.Option.{option_map};
-ghost use Rattle.std.specs.Prelude.{if◌then◌else◌, ◌≡◌, [], ◌∷◌, ◌++◌, List, OnOk, ℕ, codes};
+ghost use Rattle.std.specs.Prelude.{◌≡◌, [], ◌∷◌, ◌++◌, List, OnOk, ℕ};
 ghost use Rattle.ascii.specs.View.{text_of};
-ghost use Rattle.example_resp.specs.Commands.{after, error_line, reply, string_texts, value_reply};
-ghost use Rattle.example_resp.specs.Store.{contents_of};
+ghost use Rattle.example_resp.specs.Commands.{after, count_reply, error_line, reply};
+ghost use Rattle.example_resp.specs.Commands.{value_reply};
+ghost use Rattle.example_resp.specs.Store.{contents_of, string_texts};
 
 use crate::commands::{Command, Rejection};
 use crate::store::Store;
@@ -32,14 +33,8 @@ pub fn follow(
             push_line(alloc, AsciiStr::literal("+OK"), replies)
         }
         Command::GetValue { key } => push_value(alloc, store.get(key), replies),
-        Command::DeleteValue { key } => {
-            let count = count_line(store.delete(key));
-            push_line(alloc, count, replies)
-        }
-        Command::CountValue { key } => {
-            let count = count_line(store.contains(key));
-            push_line(alloc, count, replies)
-        }
+        Command::DeleteValues { keys } => push_count(alloc, store.delete_all(keys), replies),
+        Command::CountValues { keys } => push_count(alloc, store.count(keys), replies),
         Command::Reply => push_line(alloc, AsciiStr::literal("+PONG"), replies),
         Command::Echo { text } => push_value(alloc, Some(text), replies),
         Command::Leave => push_line(alloc, AsciiStr::literal("+OK"), replies),
@@ -77,15 +72,17 @@ pub fn line_of(rejection: Rejection) -> AsciiStr<'static>
     }
 }
 
-/// Returns the reply to `DEL` and `EXISTS`: the number of values that there were.
-fn count_line(found: bool) -> AsciiStr<'static>
-    ensures { text_of result ≡ if found then codes ":1" else codes ":0" }
+/// Appends the reply to `DEL` and `EXISTS`: a number of values.
+///
+/// Condition: `replies` is empty.
+fn push_count(alloc: Global, count: usize, replies: &mut Vec<AsciiString>) -> Result<(), AllocError>
+    requires { replies.old.items ≡ [] }
+    ensures { OnOk result (string_texts replies.new.items ≡ count_reply count) }
 {
-    if found {
-        AsciiStr::literal(":1")
-    } else {
-        AsciiStr::literal(":0")
-    }
+    let mut line = AsciiString::from_char(alloc, AsciiChar::Colon)?;
+    line.push_decimal(count)?;
+    replies.push(line)?;
+    Ok(())
 }
 
 /// Appends the reply to a value, or to none.

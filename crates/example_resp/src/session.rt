@@ -5,7 +5,8 @@ ghost use Rattle.ascii.specs.ByClass.{words_by};
 ghost use Rattle.ascii.specs.Tests.{is_blank};
 ghost use Rattle.ascii.specs.View.{text_of};
 ghost use Rattle.ascii_lines.specs.Serve.{IsRequest, Says, line_reply};
-ghost use Rattle.example_resp.specs.Commands.{error_line, string_texts};
+ghost use Rattle.example_resp.specs.Commands.{error_line};
+ghost use Rattle.example_resp.specs.Store.{string_texts};
 ghost use Rattle.example_resp.specs.Session.{asked_after, next_after};
 ghost use Rattle.example_resp.specs.Requests.{IsLength};
 

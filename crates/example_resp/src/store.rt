@@ -13,10 +13,11 @@ pub struct Store {
 impl Store {
     ghost use Rattle.std.specs.Map.{update};
     ghost use Rattle.std.specs.Option.{option_map};
-    ghost use Rattle.std.specs.Prelude.{◌↔◌, ◌≡◌, IsSome, IsTrue, List, OnOk, is_some, ℕ};
+    ghost use Rattle.std.specs.Prelude.{◌≡◌, List, OnOk, is_some, ℕ};
     ghost use Rattle.std.specs.Str.{bytes_eq};
     ghost use Rattle.ascii.specs.View.{text_of};
-    ghost use Rattle.example_resp.specs.Store.{Changes, contents_of};
+    ghost use Rattle.example_resp.specs.Store.{Changes, contents_of, removed_count, string_texts};
+    ghost use Rattle.example_resp.specs.Store.{value_count, without};
 
     /// Creates an empty store. Does not allocate.
     pub fn new(alloc: Global) -> Store
@@ -38,7 +39,7 @@ impl Store {
     }
 
     /// Returns `true` if there is a value at the key.
-    pub fn contains(&self, key: AsciiStr<'_>) -> bool
+    fn contains(&self, key: AsciiStr<'_>) -> bool
         ensures { result ≡ is_some (contents_of self.now (text_of key.entry)) }
     {
         self.entries.get(key.as_str()).is_some()
@@ -61,11 +62,39 @@ impl Store {
     }
 
     /// Removes the value at the key. Returns `true` if there was one.
-    pub fn delete(&mut self, key: AsciiStr<'_>) -> bool
-        ensures found { IsTrue result ↔ IsSome (contents_of self.old (text_of key.entry)) }
+    fn delete(&mut self, key: AsciiStr<'_>) -> bool
+        ensures found { result ≡ is_some (contents_of self.old (text_of key.entry)) }
         ensures removed { Changes (contents_of self.old) (text_of key.entry) None
             (contents_of self.new) }
     {
         self.entries.remove(key.as_str()).is_some()
+    }
+
+    /// Returns the number of keys at which there is a value. A key that comes twice counts twice.
+    pub fn count(&self, keys: &[AsciiString]) -> usize
+        ensures { result ≡ value_count (contents_of self.now) (string_texts keys.now) }
+    {
+        let mut count = 0;
+        for key in keys {
+            if self.contains(key.as_ascii_str()) {
+                count += 1;
+            }
+        }
+        count
+    }
+
+    /// Removes the values at the keys, and returns how many there were.
+    pub fn delete_all(&mut self, keys: &[AsciiString]) -> usize
+        ensures count { result ≡ removed_count (contents_of self.old) (string_texts keys.now) }
+        ensures removed { (key : List ℕ) → contents_of self.new key
+            ≡ without (contents_of self.old) (string_texts keys.now) key }
+    {
+        let mut count = 0;
+        for key in keys {
+            if self.delete(key.as_ascii_str()) {
+                count += 1;
+            }
+        }
+        count
     }
 }

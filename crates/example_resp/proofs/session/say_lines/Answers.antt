@@ -3,7 +3,7 @@ use Rattle.std.proofs.lemmas.List.{take_all}
 use Rattle.ascii.specs.StringState.{StringState}
 use Rattle.ascii_lines.specs.Serve.{Says, line_reply}
 use Rattle.ascii_lines.proofs.ReplyLemmas.{Says-nil}
-use Rattle.example_resp.specs.Commands.{string_texts}
+use Rattle.example_resp.specs.Store.{string_texts}
 use Rattle.example_resp.proofs.SayingLemmas.{one_line_more}
 use Rattle.example_resp.proofs.session.say_lines.Goals as goal
 

@@ -1,6 +1,6 @@
 use Rattle.std.proofs.Common.{map, take}
 use Rattle.ascii_lines.specs.Serve.{Says, line_reply}
-use Rattle.example_resp.specs.Commands.{string_texts}
+use Rattle.example_resp.specs.Store.{string_texts}
 use Rattle.example_resp.proofs.session.say_lines.Given as goal
 
 -- the lines so far were written

@@ -1,6 +1,6 @@
 use Rattle.std.proofs.Common.{◌≡◌, map}
 use Rattle.ascii.specs.View.{text_of}
-use Rattle.example_resp.specs.Commands.{string_texts}
+use Rattle.example_resp.specs.Store.{string_texts}
 use Rattle.example_resp.proofs.session.words_of.Given as goal
 
 -- the words so far have been kept

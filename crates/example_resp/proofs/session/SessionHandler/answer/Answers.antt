@@ -1,7 +1,7 @@
 use Rattle.std.proofs.Common.{List, inl, inr, map, refl, subst}
 use Rattle.ascii.specs.StringState.{StringState}
 use Rattle.ascii_lines.specs.Serve.{Says, line_reply}
-use Rattle.example_resp.specs.Commands.{string_texts}
+use Rattle.example_resp.specs.Store.{string_texts}
 use Rattle.example_resp.specs.declared.commands.Rejection.TheVariants.{BadInput, NoMemory}
 use Rattle.example_resp.proofs.session.SessionHandler.answer.Goals as goal
 

@@ -1,0 +1,77 @@
+-- Keys that are counted or removed, one after another.
+use Rattle.std.proofs.Common.{◌≡◌, ◌∙◌, ◌+◌, ◌<◌, ℕ, List, [], ◌∷◌, ◌++◌, None, Option}
+use Rattle.std.proofs.Common.{ap, arith, cond, get_or, is_some, length, refl, sym}
+use Rattle.std.proofs.Common.{take}
+use Rattle.std.proofs.lemmas.List.{map-append, take_more}
+use Rattle.std.specs.Map.{update}
+use Rattle.std.specs.Str.{bytes_eq}
+use Rattle.ascii.specs.StringState.{StringState}
+use Rattle.example_resp.specs.Store.{Contents, one_at, removed_count, string_texts, value_count}
+use Rattle.example_resp.specs.Store.{without}
+
+-- ---- lists of keys
+
+-- one key more is counted
+value_count-more : (contents : Contents) (keys : List (List ℕ)) (key : List ℕ)
+    → value_count contents (keys ++ key ∷ []) ≡ value_count contents keys + one_at contents key
+value_count-more contents [] key = omega (arith)
+value_count-more contents (first ∷ keys) key =
+    omega (arith, value_count-more contents keys key)
+
+-- one key more is removed
+without-more : (contents : Contents) (keys : List (List ℕ)) (key : List ℕ)
+    → without contents (keys ++ key ∷ []) ≡ update bytes_eq (without contents keys) key None
+without-more contents [] key = refl
+without-more contents (first ∷ keys) key =
+    without-more (update bytes_eq contents first None) keys key
+
+removed_count-more : (contents : Contents) (keys : List (List ℕ)) (key : List ℕ)
+    → removed_count contents (keys ++ key ∷ [])
+    ≡ removed_count contents keys + one_at (without contents keys) key
+removed_count-more contents [] key = omega (arith)
+removed_count-more contents (first ∷ keys) key =
+    omega (arith, removed_count-more (update bytes_eq contents first None) keys key)
+
+-- ---- strings
+
+-- the texts of one string more
+texts_more : (keys : List StringState) (i : ℕ) (key : StringState) → i < length keys
+    → string_texts (take (i + 1) keys) ≡ string_texts (take i keys) ++ (get_or keys i key).text ∷ []
+texts_more keys i key inside =
+    ap string_texts (take_more keys i key inside)
+    ∙ map-append (λ (s : StringState). s.text) (take i keys) (get_or keys i key ∷ [])
+
+-- the count after one string more
+pub counts_more : (contents : Contents) (keys : List StringState) (i : ℕ) (key : StringState)
+    → i < length keys → value_count contents (string_texts (take (i + 1) keys))
+    ≡ value_count contents (string_texts (take i keys)) + one_at contents (get_or keys i key).text
+counts_more contents keys i key inside =
+    ap (value_count contents) (texts_more keys i key inside)
+    ∙ value_count-more contents (string_texts (take i keys)) (get_or keys i key).text
+
+-- the contents `held` after one string more is removed from them
+pub removes_more : (contents held new : Contents) (keys : List StringState) (i : ℕ)
+    (key : StringState) → i < length keys
+    → ((other : List ℕ) → held other ≡ without contents (string_texts (take i keys)) other)
+    → ((other : List ℕ) → new other ≡ update bytes_eq held (get_or keys i key).text None other)
+    → (other : List ℕ) → new other ≡ without contents (string_texts (take (i + 1) keys)) other
+removes_more contents held new keys i key inside before changes other =
+    let one = (get_or keys i key).text in
+    changes other ∙ (ap (cond (bytes_eq one other) None) (before other)
+    ∙ sym (ap (λ (texts : List (List ℕ)). without contents texts other)
+    (texts_more keys i key inside)
+    ∙ ap (λ (f : Contents). f other) (without-more contents (string_texts (take i keys)) one)))
+
+-- the count of values that are gone after one string more
+pub removed_more : (contents held : Contents) (keys : List StringState) (i : ℕ)
+    (key : StringState) → i < length keys
+    → ((other : List ℕ) → held other ≡ without contents (string_texts (take i keys)) other)
+    → removed_count contents (string_texts (take (i + 1) keys))
+    ≡ removed_count contents (string_texts (take i keys)) + one_at held (get_or keys i key).text
+removed_more contents held keys i key inside before =
+    let one = (get_or keys i key).text in
+    ap (removed_count contents) (texts_more keys i key inside)
+    ∙ (removed_count-more contents (string_texts (take i keys)) one
+    ∙ ap (λ (value : Option (List ℕ)).
+    removed_count contents (string_texts (take i keys)) + cond (is_some value) 1 0)
+    (sym (before one)))

@@ -1,0 +1,31 @@
+use Rattle.std.proofs.Common.{◌≡◌, ◌∙◌, ap, arith, cond, get_or, subst, sym}
+use Rattle.ascii.specs.StringState.{StringState}
+use Rattle.example_resp.specs.Store.{contents_of, one_at}
+use Rattle.example_resp.proofs.CountLemmas.{counts_more}
+use Rattle.example_resp.proofs.store.Store.count.Goals as goal
+use Rattle.example_resp.proofs.store.Store.count.Goals.{else-contains, then-contains}
+
+pub loop-key-preserved : goal.loop-key-preserved
+loop-key-preserved c =
+    let held = contents_of c.args.self.now in
+    let keys = c.args.keys.now in
+    let i = c.loop-key.key-index in
+    let key = c.key-item.result in
+    let same = c.as_ascii_str.ensures ∙ ap (λ (s : StringState). s.text) c.key-item.is in
+    let more = counts_more held keys i key c.loop-key-test.true in
+    elim c.if-contains.branch [
+      | then-contains w ↦
+          let one : one_at held (get_or keys i key).text ≡ 1 =
+          subst (λ text. one_at held text ≡ 1) same
+          (ap (λ b. cond b 1 0) (sym c.contains.ensures ∙ w.if-contains.true)) in (
+            omega (arith, w.count-is, c.loop-key.invariant.0, more, one),
+            omega (arith, w.count-is, c.loop-key.invariant.1),
+          )
+      | else-contains w ↦
+          let none : one_at held (get_or keys i key).text ≡ 0 =
+          subst (λ text. one_at held text ≡ 0) same
+          (ap (λ b. cond b 1 0) (sym c.contains.ensures ∙ w.if-contains.false)) in (
+            omega (arith, w.count-is, c.loop-key.invariant.0, more, none),
+            omega (arith, w.count-is, c.loop-key.invariant.1),
+          )
+    ]
