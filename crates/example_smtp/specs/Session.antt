@@ -75,18 +75,18 @@ pub record CarriesOut (old : State) (command : Command) (replies : List (List �
 abbrev pub most_recipients : ℕ
 most_recipients = 100
 
--- a message with these recipients takes the command: if it adds one, the message may have one more
-abbrev pub Fits : List (List ℕ) → Command → Type 0
-Fits recipients (AddRecipient address) = length recipients < most_recipients
-Fits recipients other = ⊤
+-- a message with this number of recipients takes the command: if it adds one, there may be one more
+abbrev pub Fits : ℕ → Command → Type 0
+Fits count (AddRecipient address) = count < most_recipients
+Fits count other = ⊤
 
 -- the command is allowed and carried out; or it is not allowed, or a recipient too many, and rejected
 abbrev pub Follows : State → Command → List (List ℕ) → Next → State → Type 0
 Follows old command replies asked new =
-    (IsAllowed old.stage command × Fits old.draft.recipients command
+    (IsAllowed old.stage command × Fits (length old.draft.recipients) command
     × CarriesOut old command replies asked new)
     ⊎ (¬ (IsAllowed old.stage command) × Rejects old reply.BadSequence replies asked new)
-    ⊎ (IsAllowed old.stage command × ¬ (Fits old.draft.recipients command)
+    ⊎ (IsAllowed old.stage command × ¬ (Fits (length old.draft.recipients) command)
     × Rejects old reply.TooManyRecipients replies asked new)
 
 -- the answer to a line that is to say a command

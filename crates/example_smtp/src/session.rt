@@ -1,6 +1,6 @@
 //! A session with one client: the message that it sends, and the messages that were received.
 
-ghost use Rattle.std.specs.Prelude.{◌↔◌, ◌≡◌, IfOk, IsTrue, List, OnErr, OnOk, length, map, ℕ};
+ghost use Rattle.std.specs.Prelude.{◌↔◌, ◌≡◌, IfOk, IsTrue, OnErr, OnOk, length, map};
 ghost use Rattle.ascii.specs.View.{text_of};
 ghost use Rattle.ascii_lines.specs.Serve.{IsRequest, Says, line_reply};
 ghost use Rattle.example_smtp.specs.Mail.{Unstuffs};
@@ -319,8 +319,7 @@ fn is_allowed(stage: Stage, command: Command<'_>) -> bool
 
 /// Returns `true` if a message with this number of recipients takes the command.
 fn fits(count: usize, command: Command<'_>) -> bool
-    ensures { (recipients : List (List ℕ)) → length recipients ≡ count →
-        IsTrue result ↔ Fits recipients command.entry }
+    ensures { IsTrue result ↔ Fits count command.entry }
 {
     match command {
         Command::AddRecipient { .. } => count < MOST_RECIPIENTS,
