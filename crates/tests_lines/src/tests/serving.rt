@@ -83,8 +83,18 @@ impl Handler for Words {
 static ROWS: [(&[u8], Endings, Stop, &str); 20] = [
     (b"", Endings::Any, Stop::EndOfInput, ""),
     (b"a\nb", Endings::Any, Stop::EndOfInput, "ok\r\nok\r\n"),
-    (b"two\r\nquit\nz\n", Endings::Any, Stop::Closed, "one\r\ntwo\r\nbye\r\n"),
-    (b"part\na\nb\nc\nquit\n", Endings::Any, Stop::Closed, "ok\r\nok\r\nbye\r\n"),
+    (
+        b"two\r\nquit\nz\n",
+        Endings::Any,
+        Stop::Closed,
+        "one\r\ntwo\r\nbye\r\n",
+    ),
+    (
+        b"part\na\nb\nc\nquit\n",
+        Endings::Any,
+        Stop::Closed,
+        "ok\r\nok\r\nbye\r\n",
+    ),
     (b"\r\n\n", Endings::Any, Stop::EndOfInput, "ok\r\nok\r\n"),
     (b"a\ncut", Endings::Any, Stop::Closed, "ok\r\ncut off"),
     // A fault in a part, and one that no line can be skipped after, end the conversation.
@@ -94,7 +104,12 @@ static ROWS: [(&[u8], Endings, Stop, &str); 20] = [
         Stop::Reader(LineError::Incomplete(2)),
         "ok\r\nclosed\n",
     ),
-    (b"part", Endings::Any, Stop::Reader(LineError::Incomplete(0)), "closed\n"),
+    (
+        b"part",
+        Endings::Any,
+        Stop::Reader(LineError::Incomplete(0)),
+        "closed\n",
+    ),
     (
         b"a\npart\nbc\xffd\na\n",
         Endings::Any,
@@ -102,10 +117,25 @@ static ROWS: [(&[u8], Endings, Stop, &str); 20] = [
         "ok\r\nbad byte\n",
     ),
     // A line that is rejected is skipped, and the conversation goes on.
-    (b"a\nb\xff\nc\n", Endings::Any, Stop::EndOfInput, "ok\r\nbad byte\nok\r\n"),
-    (b"\xff\nquit\n\xff\n", Endings::Any, Stop::Closed, "bad byte\nbye\r\n"),
+    (
+        b"a\nb\xff\nc\n",
+        Endings::Any,
+        Stop::EndOfInput,
+        "ok\r\nbad byte\nok\r\n",
+    ),
+    (
+        b"\xff\nquit\n\xff\n",
+        Endings::Any,
+        Stop::Closed,
+        "bad byte\nbye\r\n",
+    ),
     (b"\xff", Endings::Any, Stop::EndOfInput, "bad byte\n"),
-    (b"a\nabcdefgh\nxyquit\n", Endings::Any, Stop::Closed, "ok\r\ntoo long\nok\r\nbye\r\n"),
+    (
+        b"a\nabcdefgh\nxyquit\n",
+        Endings::Any,
+        Stop::Closed,
+        "ok\r\ntoo long\nok\r\nbye\r\n",
+    ),
     (
         b"abcdefghijklmnopqrstuvwxyz\nxyquit\n",
         Endings::Any,
@@ -124,9 +154,24 @@ static ROWS: [(&[u8], Endings, Stop, &str); 20] = [
         Stop::Reader(LineError::Incomplete(1)),
         "too long\nclosed\n",
     ),
-    (b"a\nb\r\nquit\r\n", Endings::CrLfStrict, Stop::Closed, "bad break\nbye\r\n"),
-    (b"a\nquit\r\nb\r\n", Endings::CrLfStrict, Stop::EndOfInput, "bad break\nok\r\n"),
-    (b"a\rb\r\nquit\r\n", Endings::CrLfStrict, Stop::Closed, "bad break\nbye\r\n"),
+    (
+        b"a\nb\r\nquit\r\n",
+        Endings::CrLfStrict,
+        Stop::Closed,
+        "bad break\nbye\r\n",
+    ),
+    (
+        b"a\nquit\r\nb\r\n",
+        Endings::CrLfStrict,
+        Stop::EndOfInput,
+        "bad break\nok\r\n",
+    ),
+    (
+        b"a\rb\r\nquit\r\n",
+        Endings::CrLfStrict,
+        Stop::Closed,
+        "bad break\nbye\r\n",
+    ),
     (b"a\r", Endings::CrLfStrict, Stop::EndOfInput, "bad break\n"),
 ];
 
@@ -181,7 +226,15 @@ fn a_sink_that_fails_has_taken_a_prefix(rt: HostRuntime) {
 #[test]
 fn replies_that_come_together_are_one_write(rt: HostRuntime) {
     let sink = make_counted(rt.alloc(), 100, u64::MAX);
-    let sink = served(&rt, rt.alloc(), TOGETHER, Endings::Any, 100, sink, Stop::Closed);
+    let sink = served(
+        &rt,
+        rt.alloc(),
+        TOGETHER,
+        Endings::Any,
+        100,
+        sink,
+        Stop::Closed,
+    );
     // A flush before the only read, and then a write with its flush.
     assert_row!(rt; sink.calls, 3);
 }
@@ -225,7 +278,15 @@ fn each_cut_of_a_session_is_answered(rt: HostRuntime) {
         }
         let sink = make_counted(rt.alloc(), 100, u64::MAX);
         let stop = Stop::EndOfInput;
-        let sink = served(&rt, rt.alloc(), text.as_bytes(), Endings::Any, 8, sink, stop);
+        let sink = served(
+            &rt,
+            rt.alloc(),
+            text.as_bytes(),
+            Endings::Any,
+            8,
+            sink,
+            stop,
+        );
         assert!(rt; sink.taken.as_slice() == want.as_bytes());
     }
 }
