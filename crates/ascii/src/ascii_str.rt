@@ -322,6 +322,17 @@ pub struct AsAsciiStrError {
 impl AsAsciiStrError {
     ghost use Rattle.ascii.specs.View.{position_of};
 
+    /// Returns the error of a source whose first non-ASCII byte is at this position, counted from 0. It is for a caller
+    /// that checks a source in pieces, and knows where in the source a piece starts.
+    ///
+    ///     AsAsciiStrError::new(2) // AsAsciiStrError(2)
+    #[inline]
+    pub fn new(valid_up_to: usize) -> AsAsciiStrError
+        ensures { position_of result ≡ valid_up_to }
+    {
+        AsAsciiStrError { valid_up_to }
+    }
+
     /// Returns the position in the source of the first non-ASCII byte of the range, counted from 0,
     /// or the length of the source if the range does not fit.
     ///

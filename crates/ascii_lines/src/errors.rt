@@ -5,6 +5,7 @@ ghost use Rattle.std.specs.Prelude.{Some};
 
 use crate::line_reader::LineError;
 use crate::line_writer::WriteError;
+use ascii::AsAsciiStrError;
 use std::error::Error;
 use std::fmt;
 
@@ -21,9 +22,7 @@ impl fmt::Display for LineError {
     ///     LineError::Read.to_string(alloc)? // "read failed"
     fn fmt<W: fmt::Write>(&self, f: &mut fmt::Formatter<W>) -> fmt::Result {
         match *self {
-            LineError::NotAscii(position) => {
-                write!(f, "the byte at index {position} is not ASCII")
-            }
+            LineError::NotAscii(position) => AsAsciiStrError::new(position as usize).fmt(f),
             LineError::LoneBreak(position) => {
                 write!(f, "the CR or LF at index {position} is not part of a CR LF")
             }

@@ -100,9 +100,7 @@ impl fmt::Display for BoundedFault {
     ///     BoundedFault::Memory.to_string(alloc)? // "no memory"
     fn fmt<W: fmt::Write>(&self, f: &mut fmt::Formatter<W>) -> fmt::Result {
         match *self {
-            BoundedFault::NotAscii(position) => {
-                write!(f, "the byte at index {position} is not ASCII")
-            }
+            BoundedFault::NotAscii(position) => AsAsciiStrError::new(position as usize).fmt(f),
             BoundedFault::TooLong => f.write_str("the input is too long"),
             BoundedFault::Memory => f.write_str("no memory"),
             BoundedFault::Read => f.write_str("read failed"),

@@ -174,6 +174,12 @@ fn debug_of_ascii_str(rt: HostRuntime) {
     );
 }
 
+// AsAsciiStrError::new
+#[test]
+fn new_of_as_ascii_str_error(rt: HostRuntime) {
+    assert_debug!(rt; AsAsciiStrError::new(2), "AsAsciiStrError(2)");
+}
+
 // AsAsciiStrError::valid_up_to
 #[test]
 fn valid_up_to_of_as_ascii_str_error(rt: HostRuntime) {
