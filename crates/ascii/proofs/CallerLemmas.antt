@@ -4,9 +4,12 @@ use Rattle.std.proofs.Common.{◌≡◌, ◌≢◌, ℕ, ◌+◌, ◌≤◌, Lis
 use Rattle.std.proofs.Common.{arith, append_assoc, ap, ◌∙◌, Result, IsOk, OnOk, ◌-◌, ◌<◌, Option}
 use Rattle.std.proofs.Common.{Some, get_or, length-append, map, sym, subst, Bool, true, false, cond}
 use Rattle.std.proofs.Common.{◌⊎◌, ◌↔◌, inl, inr}
+use Rattle.std.specs.Char.{is_ascii}
 use Rattle.std.specs.Iterator.{YieldsFirstBy}
 use Rattle.std.specs.Fn.{Called, Mut}
-use Rattle.std.specs.List.{All, Contains, filter, flat_map, join_with_byte, slice_get}
+use Rattle.std.specs.List.{All, Contains, filter, flat_map, join_with_byte, list_all, slice_get}
+use Rattle.std.specs.Prelude.{IsTrue}
+use Rattle.std.specs.Str.{IsAscii}
 use Rattle.std.specs.declared.alloc.AllocError.{AllocError}
 use Rattle.std.proofs.lemmas.Grind.{flat_map-append, common_steps}
 use Rattle.std.proofs.lemmas.Iterator.{YieldsList}
@@ -42,13 +45,30 @@ use Rattle.ascii.proofs.SpansLemmas.{piece_spans_found, room, room-lines, room-p
 use Rattle.ascii.proofs.StepsLemmas.{road_from_first_and}
 use Rattle.std.specs.Option.{IfSome, IsSomeAnd}
 use Rattle.std.proofs.Math.Seq.{get_or-append_seam, take-append_seam}
+use Rattle.std.proofs.lemmas.Bool.{and_parts, lt-ltb, ltb-true}
 use Rattle.std.proofs.lemmas.Bool.Decides.{nat_tests}
+use Rattle.std.proofs.lemmas.List.Sums.{list_all-from_AllPass}
+use Rattle.std.proofs.lemmas.Str.Ascii.{All-from_ascii, IsAscii-cons, IsAscii-nil}
 use Rattle.std.proofs.lemmas.Option.{slice_get-get_or}
 use Rattle.ascii_base.specs.Case.{lower_image, upper_image}
 use Rattle.ascii.specs.First.{IsFirstAt}
 use Rattle.ascii.specs.Found.{piece_spans, pieces_of}
 use Rattle.ascii.specs.Search.{IsCut}
 use Rattle.ascii.specs.Trim.{IsSpan, Trims, TrimsEnd}
+
+-- ---- ASCII by a test
+
+-- a text of which each code passes the test is ASCII
+pub ascii_by_test : (text : List ℕ) → IsTrue (list_all is_ascii text) → IsAscii text
+ascii_by_test [] pass = IsAscii-nil
+ascii_by_test (code ∷ others) pass =
+    let each = and_parts (is_ascii code) (list_all is_ascii others) pass in
+    IsAscii-cons code others (ltb-true code 128 each.0) (ascii_by_test others each.1)
+
+-- each code of an ASCII text passes the test
+pub test_by_ascii : (text : List ℕ) → IsAscii text → IsTrue (list_all is_ascii text)
+test_by_ascii text ascii = list_all-from_AllPass is_ascii text (λ k d inside.
+    lt-ltb (get_or text k d) 128 (All-from_ascii text ascii k d inside))
 
 -- ---- one item more at the back
 

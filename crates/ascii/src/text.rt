@@ -3,7 +3,9 @@
 //! The calls are those of the module `bytes`, for a source that is UTF-8. `AsciiStr::literal` makes a view of a literal,
 //! which is checked when the caller is proved.
 
-ghost use Rattle.std.specs.Prelude.{◌≡◌, MatchResult};
+ghost use Rattle.std.specs.Prelude.{◌≡◌, IsTrue, MatchResult};
+ghost use Rattle.std.specs.Char.{is_ascii};
+ghost use Rattle.std.specs.List.{list_all};
 ghost use Rattle.std.specs.Str.{IsAscii};
 ghost use Rattle.ascii.specs.ConversionError.{RejectsCopy};
 ghost use Rattle.ascii.specs.Slice.{GetsAscii, SliceOutcome};
@@ -70,13 +72,14 @@ pub fn get_ascii(source: &str, i: usize) -> Option<AsciiChar>
 impl<'a> AsciiStr<'a> {
     /// Returns the view of a literal.
     ///
-    /// Condition: the literal is ASCII. The condition is proved at each call, so that a literal that is
-    /// not ASCII does not compile; nothing is checked at run time.
+    /// Condition: each byte of the literal is ASCII. The prover computes this at each call, for a literal of any length,
+    /// so that a literal that is not ASCII does not compile; nothing is checked at run time.
     ///
     ///     AsciiStr::literal("GET") // "GET"
     #[inline]
+    #[tactic(auto, using(crate::proofs::CallerLemmas::ascii_by_test))]
     pub fn literal(text: &'a str) -> AsciiStr<'a>
-        requires { IsAscii text.now }
+        requires { IsTrue (list_all is_ascii text.now) }
         ensures { text_of result ≡ text.now }
     {
         as_ascii_str_unchecked(text)

@@ -2,6 +2,7 @@
 
 ghost use Rattle.std.specs.Prelude.{◌≡◌, ◌↔◌, ◌⊎◌, ◌∷◌, ℕ, [], Contains, IfOk, IsTrue, List};
 ghost use Rattle.std.specs.Prelude.{MatchOption, codes, length, map};
+ghost use Rattle.std.specs.Str.{IsAscii};
 ghost use Rattle.ascii.specs.Class.{IsDigit};
 ghost use Rattle.ascii.specs.Code.{code_of};
 ghost use Rattle.ascii.specs.Pieces.{OfPieces};
@@ -78,4 +79,22 @@ pub fn is_get(word: AsciiStr<'_>) -> bool
     ensures { IsTrue result ↔ (text_of word.entry ≡ codes "GET") }
 {
     word.eq_text(AsciiStr::literal("GET"))
+}
+
+/// A reply with the commands of a server, as a literal that is longer than the others here.
+pub fn help_reply() -> AsciiStr<'static>
+    ensures { length (text_of result) ≡ 79 }
+{
+    AsciiStr::literal(
+        "214 commands: HELO EHLO MAIL RCPT DATA RSET VRFY NOOP QUIT; a line ends by CRLF",
+    )
+}
+
+/// The view of a text of which the caller knows that it is ASCII. Nothing is checked at run time.
+#[tactic(auto, using(ascii::proofs::CallerLemmas::test_by_ascii))]
+pub fn known_text<'a>(text: &'a str) -> AsciiStr<'a>
+    requires { IsAscii text.now }
+    ensures { text_of result ≡ text.now }
+{
+    AsciiStr::literal(text)
 }

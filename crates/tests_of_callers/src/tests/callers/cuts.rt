@@ -4,8 +4,8 @@ use ascii::AsciiStr;
 use ascii::classes::Whitespace;
 use testing::{ascii, assert_row};
 use tests_callers::cuts::{
-    all_words, extension, first_word, is_get, number_and_unit, without_prefix, word_count,
-    word_count_by,
+    all_words, extension, first_word, help_reply, is_get, known_text, number_and_unit,
+    without_prefix, word_count, word_count_by,
 };
 
 fn text_in<'a>(part: Option<AsciiStr<'a>>) -> Option<&'a str> {
@@ -20,6 +20,8 @@ fn cuts(rt: HostRuntime) {
     assert_row!(rt; number.as_str(), "42");
     assert_row!(rt; unit.as_str(), "px");
     assert_row!(rt; is_get(ascii("GET")), true);
+    assert_row!(rt; help_reply().as_bytes().last(), Some(&b'F'));
+    assert_row!(rt; known_text("foo").as_str(), "foo");
 }
 
 #[test]
