@@ -1,20 +1,30 @@
 -- The statuses of the program, and what an answer says of its input.
-use Rattle.std.specs.Prelude.{ℕ, ◌≡◌, List, ⊤, IfSome, false, length}
+use Rattle.std.specs.Prelude.{ℕ, ◌≡◌, List, ⊤, IfSome, None, Some, false, length}
 use Rattle.std.specs.declared.option.Option.{Option}
 use Rattle.std.specs.declared.result.Result.{Result}
 use Rattle.std.specs.declared.result.Result.TheVariants.{Ok, Err}
 use Rattle.std.specs.IoError.{error_kind}
 use Rattle.std.specs.declared.io.ErrorKind.TheVariants.{BrokenPipe}
 use Rattle.ascii.specs.Bytes.{FirstOther}
+use Rattle.ascii_run.specs.Faults.{bounded_fault_text}
 use Rattle.ascii_run.specs.Streamed.{IsInput, takes_all}
 use Rattle.ascii_run.specs.declared.bounded.BoundedMode.{BoundedMode}
+use Rattle.ascii_run.specs.declared.faults.BoundedFault.TheVariants as bounded
 use Rattle.ascii_filter.specs.declared.failure.Failure.{Failure}
-use Rattle.ascii_filter.specs.declared.failure.Failure.TheVariants.{NotAscii, Output}
+use Rattle.ascii_filter.specs.declared.failure.Failure.TheVariants.{NotAscii, TooLong, Memory}
+use Rattle.ascii_filter.specs.declared.failure.Failure.TheVariants.{Output}
 
 -- the status of a failure: 1 for input that is not ASCII, otherwise 3
 abbrev pub status_of : Failure → ℕ
 status_of (NotAscii n) = 1
 status_of other = 3
+
+-- the line of a failure: that of the same fault of a bounded run; not known if a device failed
+abbrev pub failure_text : Failure → Option (List ℕ)
+failure_text (NotAscii n) = Some (bounded_fault_text (bounded.NotAscii n))
+failure_text TooLong = Some (bounded_fault_text bounded.TooLong)
+failure_text Memory = Some (bounded_fault_text bounded.Memory)
+failure_text other = None
 
 -- a failure of the output
 abbrev pub IsOfOutput : Failure → Type 0

@@ -1,8 +1,9 @@
 //! Why the program stops at an input.
 
 ghost use Rattle.std.specs.Prelude.{◌≡◌, ◌↔◌, IsTrue};
-ghost use Rattle.ascii_filter.specs.Status.{IsClosedPipe, IsOfOutput, status_of};
+ghost use Rattle.ascii_filter.specs.Status.{IsClosedPipe, IsOfOutput, failure_text, status_of};
 
+use ascii_run::BoundedFault;
 use std::{fmt, io};
 
 /// A failure of the program at an input.
@@ -50,13 +51,14 @@ impl Failure {
 }
 
 impl fmt::Display for Failure {
+    ghost output = { failure_text };
+
+    /// Writes why the program stopped; if a device failed, what its error writes.
     fn fmt<W: fmt::Write>(&self, f: &mut fmt::Formatter<W>) -> fmt::Result {
         match *self {
-            Failure::NotAscii(position) => {
-                write!(f, "the byte at index {position} is not ASCII")
-            }
-            Failure::TooLong => f.write_str("the input is too long"),
-            Failure::Memory => f.write_str("no memory"),
+            Failure::NotAscii(position) => BoundedFault::NotAscii(position).fmt(f),
+            Failure::TooLong => BoundedFault::TooLong.fmt(f),
+            Failure::Memory => BoundedFault::Memory.fmt(f),
             Failure::Input(error) | Failure::Output(error) => fmt::Display::fmt(&error, f),
         }
     }

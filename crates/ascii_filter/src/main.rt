@@ -16,8 +16,18 @@ use clap::{ArgMatches, Error};
 use failure::Failure;
 use options::{Check, STANDARD_INPUT, Task, command, mode_names, options_of, task_of};
 use std::alloc::{AllocError, Allocator};
+use std::env::{Env, FillError};
 use std::process::ExitCode;
 use std::{env, fs, io};
+
+/// How many arguments leave less of the stack than a call takes.
+const MANY: usize = 4_000;
+
+/// The most bytes of stack that a call takes, with room to spare.
+const STACK: usize = 65_536;
+
+/// How much memory is asked for before the stack grows: enough that the system takes it back when it is freed.
+const PROBE: usize = 262_144;
 
 /// Writes the output of a mode for all bytes of an input, and flushes it, or returns why it stopped, with the
 /// error of the device that failed.
@@ -149,8 +159,28 @@ fn run_words(rt: &HostRuntime, words: &[String]) -> Result<u8, AllocError> {
     }
 }
 
+/// Lets the stack grow to what a call takes, or returns an error if there is less memory. The system sets 128 KiB aside
+/// for it, of which an argument takes 8 bytes: with many arguments the stack has to grow, which ends the program by a
+/// signal if the heap has taken all memory before.
+fn grow_stack(rt: &HostRuntime) -> Result<(), AllocError> {
+    let probe: Vec<u8> = Vec::with_capacity(rt.alloc(), PROBE)?;
+    drop(probe);
+    touch_stack(rt);
+    Ok(())
+}
+
+/// Writes to as much of the stack as a call takes.
+#[inline(never)]
+fn touch_stack(rt: &HostRuntime) {
+    let mut room = [0; STACK];
+    let _ = rt.arg(0, &mut room);
+}
+
 /// Reads the arguments of the system and runs them.
 fn run(rt: &HostRuntime) -> Result<u8, AllocError> {
+    if !matches!(rt.arg(MANY, &mut []), Err(FillError::NotPresent)) {
+        grow_stack(rt)?;
+    }
     let args = match env::args(rt) {
         Ok(args) => args,
         Err(error) if matches!(error.kind(), io::ErrorKind::OutOfMemory) => return Err(AllocError),
