@@ -29,8 +29,22 @@ MAILED = BEGUN[1] + b"250 OK\r\n221 bye\r\n"
 HELLO = (b"", b"220 ready\r\n")
 BAD = b"554 bad line\r\n"
 FULL = b"452 too many recipients\r\n"
+OK = b"250 OK\r\n"
 ARGUMENT, NO_VRFY = b"501 bad argument\r\n", b"252 not verified\r\n"
 DROPPED = b"554 bad message\r\n221 bye\r\n"
+LARGE = b"552 message too large\r\n"
+THOUSAND = b"x" * 998 + b"\r\n"
+# Mailboxes and what is none, by the grammar of RFC 5321, 4.1.2, and its limits, 4.5.3.1. A path with a route is rejected.
+NAME, DOMAIN = b"n" * 64, b".".join([b"d" * 63] * 4)
+PATHS = [
+    *[(path, OK) for path in (b"a@b", b"a.b@c.d", b"!#$%&'*+-/=?^_`{|}~@b", b"A1@b-c.d9", b"a@[127.0.0.1]", b"a@[IPv6:::1]")],
+    *[(path, OK) for path in (b'"a b"@c', b'"a@b"@c', b'"a\\"b"@c', b'""@c', NAME + b"@b", b"a@" + DOMAIN)],
+    *[(path, ARGUMENT) for path in (b"a", b"@b", b"a@", b".a@b", b"a.@b", b"a..b@c", b"a b@c", b"a(b@c", b"a@b@c", b"a@[]", b"a@[b", b"a@b]")],
+    *[(path, ARGUMENT) for path in (b"a@-b", b"a@b-", b"a@b..c", b"a@.b", b"a@b.", b"a@b_c", b'"a"b"@c', b'"a\\"@c', b'"a@c', b"@a:b@c")],
+    *[(path, ARGUMENT) for path in (b"n" + NAME + b"@b", b"a@" + DOMAIN + b"d", b"<a@b", b"a@b>")],
+]
+SENDERS = [(b"", OK), (b"postmaster", ARGUMENT)]
+RECIPIENTS = [(b"", ARGUMENT), (b"postmaster", OK), (b"PostMaster", OK), (b"postmaster ", ARGUMENT)]
 
 
 def mail(name, *steps, then=b""):
@@ -57,6 +71,10 @@ DIALOGUES = [
     mail("an input that ends in a command", (b"NOOP\r\nQUIT", b"250 OK\r\n"), then=BAD),
     mail("an input that ends in a message", BEGUN, (b"line\r\n.", b""), then=BAD),
     mail("dots", BEGUN, (b"..\r\n...\r\n. \r\n.x\r\n.\r\n", b"250 OK\r\n")),
+    mail("senders", (b"HELO c\r\n", OK), *[(b"MAIL FROM:<" + path + b">\r\nRSET\r\n", said + OK) for path, said in PATHS + SENDERS]),
+    mail("recipients", (b"HELO c\r\nMAIL FROM:<>\r\n", OK * 2), *[(b"RCPT TO:<" + path + b">\r\n", said) for path, said in PATHS + RECIPIENTS]),
+    mail("a message of the most bytes", BEGUN, *[(THOUSAND * 1000, b"")] * 134, (THOUSAND * 217 + b"x" * 726 + b"\r\n.\r\n", OK)),
+    mail("a message of a byte more", BEGUN, *[(THOUSAND * 1000, b"")] * 134, (THOUSAND * 217 + b"x" * 727 + b"\r\n.\r\n" + MAIL, LARGE + MAILED)),
     mail("a client that asks for extensions", (b"EHLO c\r\nEHLO \r\n", b"250 OK\r\n" + ARGUMENT)),
     mail("a byte above 127", (b"NOOP\xc4\r\nQUIT\r\n", BAD + b"221 bye\r\n")),
     mail("a byte above 127 in a message", BEGUN, (b"caf\xc3\xa9\r\nline\r\n", b""), (b".\r\nQUIT\r\n", DROPPED)),

@@ -1,10 +1,11 @@
 -- The messages that a session delivers, exchange by exchange.
-use Rattle.std.proofs.Common.{◌≡◌, ◌≢◌, ◌⊎◌, ◌∙◌, ◌+◌, ◌*◌, ◌≤◌, ℕ, Bool, None, Option, Some, false, true}
+use Rattle.std.proofs.Common.{◌≡◌, ◌≢◌, ◌⊎◌, ◌∙◌, ◌+◌, ◌*◌, ◌≤◌, ℕ, None, Option, Some}
 use Rattle.std.proofs.Common.{List, [], ◌∷◌, ◌++◌, Err, Ok, Result, ap}
 use Rattle.std.proofs.Common.{append-nil, append_assoc, arith, inl, inr, length, length-append}
 use Rattle.std.proofs.Common.{lit≤, map, refl, subst, sym}
 use Rattle.std.proofs.lemmas.List.{length-map, map-append}
 use Rattle.std.proofs.lemmas.List.Elements.{All-append, All-cons, All-nil}
+use Rattle.std.proofs.lemmas.Grind.{flat_map-append}
 use Rattle.std.specs.List.{AllZip, flat_map}
 use Rattle.std.specs.Prelude.{All, MatchResult, codes}
 use Rattle.ascii.specs.Case.{lower_image}
@@ -18,14 +19,16 @@ use Rattle.ascii_lines.specs.declared.serving.Next.TheVariants as next
 use Rattle.ascii.specs.declared.iter.spans.Endings.{Endings}
 use Rattle.ascii_lines.specs.declared.serving.Next.{Next}
 use Rattle.example_smtp.specs.Commands.{IsFault, ReadsCommand, Says, name_of, reply_line}
-use Rattle.example_smtp.specs.Deliveries.{AreExchanges, Delivers, Exchange, GivesUp, Group, IsBadText}
+use Rattle.example_smtp.specs.Deliveries.{AreExchanges, Delivers, Exchange, GivesUp, Group, HasFault}
 use Rattle.example_smtp.specs.Deliveries.{IsGroup, IsLast, IsOutside, IsText, answered, dropped}
-use Rattle.example_smtp.specs.Deliveries.{group_exchanges, group_messages, lines_of, message, single}
+use Rattle.example_smtp.specs.Deliveries.{group_exchanges, group_messages, message, received_texts, single}
 use Rattle.example_smtp.specs.Deliveries.{session_answers, session_refuses, unanswered}
-use Rattle.example_smtp.specs.Mail.{IsFresh, Mail, State, Unstuffs, no_mail, state_of}
+use Rattle.example_smtp.specs.Mail.{IsFresh, Mail, State, Unstuffs, no_mail}
+use Rattle.example_smtp.specs.Mail.{text_of_lines}
 use Rattle.example_smtp.specs.Session.{Answers, AnswersAt, AnswersCommand, AnswersLine, CarriesOut}
-use Rattle.example_smtp.specs.Session.{EndsBy, Follows, Refuses, RefusesAt, Rejects, TakesLine}
-use Rattle.example_smtp.specs.Session.{after, refusal_of, reply_to, reset_stage}
+use Rattle.example_smtp.specs.Session.{EndsBy, Follows, Keeps, Refuses, RefusesAt, Rejects}
+use Rattle.example_smtp.specs.Session.{TakesLine, after, or_rejected, refusal_of, reply_of_fault}
+use Rattle.example_smtp.specs.Session.{reply_to, reset_stage}
 use Rattle.example_smtp.specs.declared.commands.Command.{Command}
 use Rattle.example_smtp.specs.declared.commands.Command.TheVariants.{AddRecipient, BeginLines}
 use Rattle.example_smtp.specs.declared.commands.Command.TheVariants.{Introduce, Leave, Reset}
@@ -34,12 +37,13 @@ use Rattle.example_smtp.specs.declared.commands.Command.TheVariants as command
 use Rattle.example_smtp.specs.declared.commands.Reply.{Reply}
 use Rattle.example_smtp.specs.declared.commands.Reply.TheVariants.{BadArgument, BadLine, BadMessage}
 use Rattle.example_smtp.specs.declared.commands.Reply.TheVariants.{BadSequence, Bye, Closing, Done}
-use Rattle.example_smtp.specs.declared.commands.Reply.TheVariants.{LongLine, NoMemory, SendLines}
+use Rattle.example_smtp.specs.declared.commands.Reply.TheVariants.{LargeMessage, LongLine, NoMemory, SendLines}
 use Rattle.example_smtp.specs.declared.commands.Reply.TheVariants.{TooManyRecipients, UnknownCommand}
 use Rattle.example_smtp.specs.declared.commands.Reply.TheVariants.{Unverified}
 use Rattle.example_smtp.specs.declared.commands.Verb.{Verb}
 use Rattle.example_smtp.specs.declared.commands.Verb.TheVariants as verb
-use Rattle.example_smtp.specs.declared.session.Session.{Session}
+use Rattle.example_smtp.specs.declared.session.Fault.{Fault}
+use Rattle.example_smtp.specs.declared.session.Fault.TheVariants.{Rejected, TooLarge}
 use Rattle.example_smtp.specs.declared.session.Stage.{Stage}
 use Rattle.example_smtp.specs.declared.session.Stage.TheVariants.{Greeting, Lines, Ready}
 use Rattle.example_smtp.specs.declared.session.Stage.TheVariants.{Recipients, Sender}
@@ -58,17 +62,17 @@ Runs old (exchange ∷ exchanges) new = (mid : State) × (asked : Next)
     × AnswersTo exchange.line old exchange.replies asked mid × Runs mid exchanges new
 
 -- the exchanges of a conversation
-pub record Transcript (old : Session) (steps : List Step) (new : Session) : Type 0 where
+pub record Transcript (old : State) (steps : List Step) (new : State) : Type 0 where
   pub exchanges : List Exchange
   pub given_up : List Exchange
   pub is_last : IsLast given_up
   pub are : AreExchanges steps (exchanges ++ given_up)
   pub mid : State
-  pub runs : Runs (state_of old) exchanges mid
-  pub kept : (state_of new).received ≡ mid.received
+  pub runs : Runs old exchanges mid
+  pub kept : new.received ≡ mid.received
 
 -- nothing follows the end of a conversation
-closed_ends : (endings : Endings) (old new : Session) (last : Awaited) (steps : List Step)
+closed_ends : (endings : Endings) (old new : State) (last : Awaited) (steps : List Step)
     → Talks session_answers session_refuses endings (Input next.Close) old steps last new
     → (steps ≡ []) × (new ≡ old)
 closed_ends endings old new last [] talks = (refl, talks.1)
@@ -81,7 +85,7 @@ closed_ends endings old new last (skipped bytes ∷ steps) (after, mid, is_step,
     absurd is_step
 
 -- a conversation has a transcript, whatever it awaits first: to read over a line changes nothing
-pub transcript : (endings : Endings) (old new : Session) (first last : Awaited)
+pub transcript : (endings : Endings) (old new : State) (first last : Awaited)
     (steps : List Step) → Talks session_answers session_refuses endings first old steps last new
     → Transcript old steps new
 transcript endings old new first last [] (same, is) = record {
@@ -89,9 +93,9 @@ transcript endings old new first last [] (same, is) = record {
   given_up = [];
   is_last = inl refl;
   are = refl;
-  mid = state_of old;
+  mid = old;
   runs = refl;
-  kept = ap (λ (s : Session). (state_of s).received) is;
+  kept = ap (λ (s : State). s.received) is;
 }
 transcript endings old new first last (step ∷ steps) (after, mid, is_step, talks) =
     go first step (transcript endings mid new after last steps talks) is_step
@@ -109,7 +113,7 @@ transcript endings old new first last (step ∷ steps) (after, mid, is_step, tal
                 is_last = others.is_last;
                 are = (texts, others.exchanges ++ others.given_up, said, refl, others.are);
                 mid = others.mid;
-                runs = (state_of mid, sequel, answered_it, others.runs);
+                runs = (mid, sequel, answered_it, others.runs);
                 kept = others.kept;
               }
           | inr gives ↦
@@ -132,9 +136,9 @@ transcript endings old new first last (step ∷ steps) (after, mid, is_step, tal
                   refl,
                   refl,
                 );
-                mid = state_of old;
+                mid = old;
                 runs = refl;
-                kept = ap (λ (s : Session). (state_of s).received) ends.1 ∙ gives.kept;
+                kept = ap (λ (s : State). s.received) ends.1 ∙ gives.kept;
               })
         ]
     go (Input asked) (serve.rejected error replies) others
@@ -145,7 +149,7 @@ transcript endings old new first last (step ∷ steps) (after, mid, is_step, tal
           is_last = others.is_last;
           are = (texts, others.exchanges ++ others.given_up, said, refl, others.are);
           mid = others.mid;
-          runs = (state_of mid, sequel, (error, refuses), others.runs);
+          runs = (mid, sequel, (error, refuses), others.runs);
           kept = others.kept;
         }
     go (Input asked) (skipped bytes) others none = absurd none
@@ -156,7 +160,7 @@ transcript endings old new first last (step ∷ steps) (after, mid, is_step, tal
           is_last = others.is_last;
           are = others.are;
           mid = others.mid;
-          runs = subst (λ s. Runs (state_of s) others.exchanges others.mid) same others.runs;
+          runs = subst (λ s. Runs s others.exchanges others.mid) same others.runs;
           kept = others.kept;
         }
     go (LineEnd asked) (took input replies) others none = absurd none
@@ -187,6 +191,7 @@ not_begin LongLine apart is = omega (arith, ap first_codes is)
 not_begin BadLine apart is = omega (arith, ap first_codes is)
 not_begin NoMemory apart is = omega (arith, ap first_codes is)
 not_begin BadMessage apart is = omega (arith, ap first_codes is)
+not_begin LargeMessage apart is = omega (arith, ap first_codes is)
 not_begin Closing apart is = omega (arith, ap first_codes is)
 
 -- a reply other than 250 is another line
@@ -203,6 +208,7 @@ not_end LongLine apart is = omega (arith, ap first_codes is)
 not_end BadLine apart is = omega (arith, ap first_codes is)
 not_end NoMemory apart is = omega (arith, ap first_codes is)
 not_end BadMessage apart is = omega (arith, ap first_codes is)
+not_end LargeMessage apart is = omega (arith, ap first_codes is)
 not_end Closing apart is = omega (arith, ap first_codes is)
 
 -- an exchange with another reply is outside a message
@@ -260,8 +266,8 @@ pub record BeginsMessage (old : State) (exchange : Exchange) (new : State) : Typ
   pub begins : Says start BeginLines
   pub is : exchange ≡ answered start SendLines
   pub stage : new.stage ≡ Lines
-  pub empty : new.draft.lines ≡ []
-  pub good : new.is_bad ≡ false
+  pub empty : new.draft.text ≡ []
+  pub good : new.fault ≡ None
   pub received : new.received ≡ old.received
 
 -- a line at fault leaves the session outside a message
@@ -290,6 +296,8 @@ fault_apart line LongLine is = absurd (let same : LongLine ≡ BadArgument = is.
 fault_apart line BadLine is = absurd (let same : BadLine ≡ BadArgument = is.3.0 in cc)
 fault_apart line NoMemory is = absurd (let same : NoMemory ≡ BadArgument = is.3.0 in cc)
 fault_apart line BadMessage is = absurd (let same : BadMessage ≡ BadArgument = is.3.0 in cc)
+fault_apart line LargeMessage is =
+    absurd (let same : LargeMessage ≡ BadArgument = is.3.0 in cc)
 fault_apart line Closing is = absurd (let same : Closing ≡ BadArgument = is.3.0 in cc)
 
 -- neither is the reply to an error of the input
@@ -342,8 +350,8 @@ module _ (old new : State) (line : List ℕ) (replies : List (List ℕ)) (asked 
     begins = says;
     is = ap (λ (said : List (List ℕ)). record { line = Some line; replies = said }) carried.says;
     stage = ap (λ (state : State). state.stage) carried.state;
-    empty = ap (λ (state : State). state.draft.lines) carried.state;
-    good = ap (λ (state : State). state.is_bad) carried.state;
+    empty = ap (λ (state : State). state.draft.text) carried.state;
+    good = ap (λ (state : State). state.fault) carried.state;
     received = ap (λ (state : State). state.received) carried.state;
   })
   followed Reset says carried =
@@ -413,12 +421,12 @@ refused_step old new replies error apart refuses =
 
 -- these messages follow
 pub record Follow (old : State) (exchanges : List Exchange) (new : State) : Type 0 where
-  pub messages : List (List (List ℕ))
+  pub messages : List (List ℕ)
   pub delivers : Delivers exchanges messages
-  pub received : lines_of new ≡ lines_of old ++ messages
+  pub received : received_texts new ≡ received_texts old ++ messages
 
 -- a group comes before others
-cons_group : (group : Group) (exchanges : List Exchange) (messages : List (List (List ℕ)))
+cons_group : (group : Group) (exchanges : List Exchange) (messages : List (List ℕ))
     → IsGroup group → Delivers exchanges messages
     → Delivers (group_exchanges group ++ exchanges) (group_messages group ++ messages)
 cons_group group exchanges messages is delivers = record {
@@ -429,20 +437,20 @@ cons_group group exchanges messages is delivers = record {
       delivers.last);
   are = All-cons IsGroup group delivers.groups is delivers.are;
   begun = delivers.begun;
-  lines = ap (λ xs. group_messages group ++ xs) delivers.lines;
+  texts = ap (λ xs. group_messages group ++ xs) delivers.texts;
 }
 
--- what was sent of a message, by whether a line of it was rejected, and the lines that are kept
-abbrev pub IsSent : Bool → List (Option (List ℕ)) → List (List ℕ) → Type 0
-IsSent false sent lines = (texts : List (List ℕ)) × (sent ≡ map Some texts) × IsText texts lines
-IsSent true sent lines = IsBadText sent
+-- what was sent of a message, by its fault, and the text that is kept
+abbrev pub IsSent : Option Fault → List (Option (List ℕ)) → List ℕ → Type 0
+IsSent None sent text = (lines : List (List ℕ)) × (sent ≡ map Some lines) × IsText lines text
+IsSent (Some fault) sent text = HasFault fault sent
 
 -- a session is in the lines of a message, of which `sent` were sent
 pub record Inside (start : List ℕ) (sent : List (Option (List ℕ))) (state : State) : Type 0 where
   pub begins : Says start BeginLines
   pub stage : state.stage ≡ Lines
   pub inner : All (λ line. line ≢ Some (codes ".")) sent
-  pub kept : IsSent state.is_bad sent state.draft.lines
+  pub kept : IsSent state.fault sent state.draft.text
 
 -- the exchanges of a message so far, and those after them
 abbrev pub so_far : List ℕ → List (Option (List ℕ)) → List Exchange → List Exchange
@@ -463,7 +471,7 @@ one_more_line start sent line exchanges = ap (λ xs. answered start SendLines �
 
 -- a session that is ready is not in the lines of a message
 ready_apart : {received : List Mail} {state : State}
-    → state ≡ record { stage = Ready; draft = no_mail; is_bad = false; received = received }
+    → state ≡ record { stage = Ready; draft = no_mail; fault = None; received = received }
     → state.stage ≢ Lines
 ready_apart same is =
     let clash : Ready ≡ Lines = sym (ap (λ (state : State). state.stage) same) ∙ is in cc
@@ -483,29 +491,46 @@ zip_more [] (x ∷ lines) s l all one = absurd all
 zip_more (x ∷ sent) [] s l all one = absurd all
 zip_more (x ∷ sent) (y ∷ lines) s l all one = (all.0, zip_more sent lines s l all.1 one)
 
--- a line more in which none is rejected, and a rejected line more
-text_more : (sent : List (Option (List ℕ))) (lines : List (List ℕ)) (line kept : List ℕ)
-    → IsSent false sent lines → line ≢ codes "." → Unstuffs line kept
-    → IsSent false (sent ++ Some line ∷ []) (lines ++ kept ∷ [])
-text_more sent lines line kept (texts, is, text) inner unstuffs = (
-  texts ++ line ∷ [],
-  ap (λ xs. xs ++ Some line ∷ []) is ∙ sym (map-append Some texts (line ∷ [])),
-  record {
-    inner = All-append (λ l. l ≢ codes ".") texts (line ∷ []) text.inner
-        (All-cons (λ l. l ≢ codes ".") line [] inner (All-nil (λ l. l ≢ codes ".")));
-    undone = zip_more texts lines line kept text.undone unstuffs;
-  },
-)
+-- the text of a line more
+text_of_more : (lines : List (List ℕ)) (line : List ℕ)
+    → text_of_lines (lines ++ line ∷ []) ≡ text_of_lines lines ++ (line ++ 13 ∷ 10 ∷ [])
+text_of_more lines line = flat_map-append (λ (l : List ℕ). l ++ 13 ∷ 10 ∷ []) lines (line ∷ [])
+    ∙ ap (λ xs. text_of_lines lines ++ xs) (append-nil (line ++ 13 ∷ 10 ∷ []))
 
-bad_more : (sent : List (Option (List ℕ))) (line : Option (List ℕ)) → IsBadText sent
-    → line ≢ Some (codes ".") → IsBadText (sent ++ line ∷ [])
-bad_more sent line bad inner = record {
-  inner = inner_more sent line bad.inner inner;
-  before = bad.before;
-  rest = bad.rest ++ line ∷ [];
-  bad = ap (λ xs. xs ++ line ∷ []) bad.bad
-      ∙ append_assoc bad.before (None ∷ bad.rest) (line ∷ []);
+-- a line more without a fault
+text_more : (sent : List (List ℕ)) (text line kept : List ℕ) → IsText sent text
+    → line ≢ codes "." → Unstuffs line kept
+    → IsText (sent ++ line ∷ []) (text ++ (kept ++ 13 ∷ 10 ∷ []))
+text_more sent text line kept is inner unstuffs = record {
+  inner = All-append (λ l. l ≢ codes ".") sent (line ∷ []) is.inner
+      (All-cons (λ l. l ≢ codes ".") line [] inner (All-nil (λ l. l ≢ codes ".")));
+  lines = is.lines ++ kept ∷ [];
+  undone = zip_more sent is.lines line kept is.undone unstuffs;
+  joined = text_of_more is.lines kept ∙ ap (λ xs. xs ++ (kept ++ 13 ∷ 10 ∷ [])) is.joined;
 }
+
+-- what was sent with a line more
+sent_more : (sent : List (Option (List ℕ))) (lines : List (List ℕ)) (line : List ℕ)
+    → sent ≡ map Some lines → sent ++ Some line ∷ [] ≡ map Some (lines ++ line ∷ [])
+sent_more sent lines line is =
+    ap (λ xs. xs ++ Some line ∷ []) is ∙ sym (map-append Some lines (line ∷ []))
+
+-- a fault stays with a line more
+fault_more : (fault : Fault) (sent : List (Option (List ℕ))) (line : Option (List ℕ))
+    → HasFault fault sent → HasFault fault (sent ++ line ∷ [])
+fault_more Rejected sent line (before, rest, is) = (
+  before,
+  rest ++ line ∷ [],
+  ap (λ xs. xs ++ line ∷ []) is ∙ append_assoc before (None ∷ rest) (line ∷ []),
+)
+fault_more TooLarge sent line (first, rest, text, is, of, large) = (
+  first,
+  rest ++ line ∷ [],
+  text,
+  ap (λ xs. xs ++ line ∷ []) is ∙ append_assoc (map Some first) rest (line ∷ []),
+  of,
+  large,
+)
 
 module _ (old mid new : State) (exchanges : List Exchange) (told : Told mid exchanges new)
     (start : List ℕ) (sent : List (Option (List ℕ))) (inside : Inside start sent old) where
@@ -521,13 +546,13 @@ module _ (old mid new : State) (exchanges : List Exchange) (told : Told mid exch
             (one_more_line start sent line exchanges
             ∙ ap (λ e. so_far start sent (e ∷ exchanges)) (sym is)) rest.delivers;
         received = rest.received
-            ∙ ap (λ received. map (λ (mail : Mail). mail.lines) received ++ rest.messages) same;
+            ∙ ap (λ received. map (λ (mail : Mail). mail.text) received ++ rest.messages) same;
       }
 
   -- a dot, which is answered
   ends : (exchange : Exchange) (group : Group) → group_exchanges group ++ exchanges ≡ so_far start sent (exchange ∷ exchanges)
       → IsGroup group → mid.stage ≢ Lines
-      → lines_of mid ≡ lines_of old ++ group_messages group
+      → received_texts mid ≡ received_texts old ++ group_messages group
       → Follow old (so_far start sent (exchange ∷ exchanges)) new
   ends exchange group is are apart received =
       let rest = told.outside apart in
@@ -537,7 +562,7 @@ module _ (old mid new : State) (exchanges : List Exchange) (told : Told mid exch
             (cons_group group exchanges rest.messages are rest.delivers);
         received = rest.received
             ∙ (ap (λ xs. xs ++ rest.messages) received
-            ∙ append_assoc (lines_of old) (group_messages group) rest.messages);
+            ∙ append_assoc (received_texts old) (group_messages group) rest.messages);
       }
 
   module _ (line : List ℕ) (replies : List (List ℕ)) where
@@ -546,78 +571,111 @@ module _ (old mid new : State) (exchanges : List Exchange) (told : Told mid exch
 
     -- a dot
     dot_line : (said : Reply) → line ≡ codes "." → replies ≡ reply_line said ∷ []
-        → (b : Bool) → old.is_bad ≡ b → EndsBy b old said mid
+        → (fault : Option Fault) → old.fault ≡ fault → EndsBy fault old said mid
         → Follow old (so_far start sent (here ∷ exchanges)) new
-    dot_line said is says false whole (done, same) =
-        let (texts, sent_is, text) = subst (λ b. IsSent b sent old.draft.lines) whole inside.kept in
+    dot_line said is says None whole (done, same) =
+        let (texts, sent_is, text) = subst (λ b. IsSent b sent old.draft.text) whole inside.kept in
         let dot = answered (codes ".") Done in
         let here_is : here ≡ dot =
         ap (λ (l : List ℕ). record { line = Some l; replies = replies }) is
         ∙ ap (λ (rs : List (List ℕ)). record { line = Some (codes "."); replies = rs })
         (says ∙ ap (λ r. reply_line r ∷ []) done) in
-        ends here (message start texts old.draft.lines)
+        ends here (message start texts old.draft.text)
         (ap (λ xs. answered start SendLines ∷ xs)
         (append_assoc (map unanswered (map Some texts)) (dot ∷ []) exchanges
         ∙ (ap (λ s. map unanswered s ++ dot ∷ exchanges) (sym sent_is)
         ∙ ap (λ e. map unanswered sent ++ e ∷ exchanges) (sym here_is))))
         (inside.begins, text) (ready_apart same)
-        (ap lines_of same ∙ map-append (λ (mail : Mail). mail.lines) old.received (old.draft ∷ []))
-    dot_line said is says true bad (done, same) =
-        let dot = answered (codes ".") BadMessage in
+        (ap received_texts same
+        ∙ map-append (λ (mail : Mail). mail.text) old.received (old.draft ∷ []))
+    dot_line said is says (Some fault) bad (done, same) =
+        let dot = answered (codes ".") (reply_of_fault fault) in
         let here_is : here ≡ dot =
         ap (λ (l : List ℕ). record { line = Some l; replies = replies }) is
         ∙ ap (λ (rs : List (List ℕ)). record { line = Some (codes "."); replies = rs })
         (says ∙ ap (λ r. reply_line r ∷ []) done) in
-        ends here (dropped start sent)
+        ends here (dropped start sent fault)
         (ap (λ xs. answered start SendLines ∷ xs)
         (append_assoc (map unanswered sent) (dot ∷ []) exchanges
         ∙ ap (λ e. map unanswered sent ++ e ∷ exchanges) (sym here_is)))
-        (inside.begins, subst (λ b. IsSent b sent old.draft.lines) bad inside.kept)
+        (inside.begins, (inside.inner, subst (λ b. IsSent b sent old.draft.text) bad inside.kept))
         (ready_apart same)
-        (ap lines_of same ∙ sym (append-nil (lines_of old)))
+        (ap received_texts same ∙ sym (append-nil (received_texts old)))
 
-    -- another line
-    text_line : (asked : Next) → line ≢ codes "." → (b : Bool) → old.is_bad ≡ b
-        → TakesLine b old line replies asked mid
+    -- another line, which is not answered, and after which the message is the same or has a fault
+    text_line : line ≢ codes "." → replies ≡ [] → mid.received ≡ old.received
+        → mid.stage ≡ Lines → IsSent mid.fault (sent ++ Some line ∷ []) mid.draft.text
         → Follow old (so_far start sent (here ∷ exchanges)) new
-    text_line asked inner false whole keeps = goes_on here (Some line)
-        (ap (λ (rs : List (List ℕ)). record { line = Some line; replies = rs }) keeps.silent)
-        (ap (λ (state : State). state.received) keeps.state) (record {
+    text_line inner silent same stage kept = goes_on here (Some line)
+        (ap (λ (rs : List (List ℕ)). record { line = Some line; replies = rs }) silent) same
+        (record {
           begins = inside.begins;
-          stage = ap (λ (state : State). state.stage) keeps.state ∙ inside.stage;
-          inner = inner_more sent (Some line) inside.inner (λ same. inner (ap text_in same));
-          kept = subst
-              (λ (state : State). IsSent state.is_bad (sent ++ Some line ∷ [])
-              state.draft.lines) (sym keeps.state)
-              (subst
-              (λ b. IsSent b (sent ++ Some line ∷ []) (old.draft.lines ++ keeps.line ∷ []))
-              (sym whole)
-              (text_more sent old.draft.lines line keeps.line
-              (subst (λ b. IsSent b sent old.draft.lines) whole inside.kept) inner
-              keeps.unstuffs));
-        })
-    text_line asked inner true bad (silent, asks, same) = goes_on here (Some line)
-        (ap (λ (rs : List (List ℕ)). record { line = Some line; replies = rs }) silent)
-        (ap (λ (state : State). state.received) same) (record {
-          begins = inside.begins;
-          stage = ap (λ (state : State). state.stage) same ∙ inside.stage;
+          stage = stage;
           inner = inner_more sent (Some line) inside.inner (λ is. inner (ap text_in is));
-          kept = subst
-              (λ (state : State). IsSent state.is_bad (sent ++ Some line ∷ [])
-              state.draft.lines) (sym same)
-              (subst (λ b. IsSent b (sent ++ Some line ∷ []) old.draft.lines) (sym bad)
-              (bad_more sent (Some line)
-              (subst (λ b. IsSent b sent old.draft.lines) bad inside.kept)
-              (λ is. inner (ap text_in is))));
+          kept = kept;
         })
+
+    -- a line that is kept, or with which the text is too large
+    kept_line : line ≢ codes "." → replies ≡ [] → old.fault ≡ None → Keeps old line mid
+        → Follow old (so_far start sent (here ∷ exchanges)) new
+    kept_line inner silent whole (kept, unstuffs, keeps) =
+        let (lines, sent_is, text) =
+        subst (λ fault. IsSent fault sent old.draft.text) whole inside.kept in
+        let more = text_more lines old.draft.text line kept text inner unstuffs in
+        let sent_are = sent_more sent lines line sent_is in
+        elim keeps [
+          | inl fits ↦
+              text_line inner silent (ap (λ (state : State). state.received) fits.1)
+              (ap (λ (state : State). state.stage) fits.1 ∙ inside.stage)
+              (subst
+              (λ (state : State). IsSent state.fault (sent ++ Some line ∷ []) state.draft.text)
+              (sym fits.1)
+              (subst
+              (λ fault. IsSent fault (sent ++ Some line ∷ [])
+              (old.draft.text ++ (kept ++ 13 ∷ 10 ∷ [])))
+              (sym whole) (lines ++ line ∷ [], sent_are, more)))
+          | inr large ↦
+              text_line inner silent (ap (λ (state : State). state.received) large.1)
+              (ap (λ (state : State). state.stage) large.1 ∙ inside.stage)
+              (subst
+              (λ (state : State). IsSent state.fault (sent ++ Some line ∷ []) state.draft.text)
+              (sym large.1) (
+                lines ++ line ∷ [],
+                [],
+                old.draft.text ++ (kept ++ 13 ∷ 10 ∷ []),
+                sent_are ∙ sym (append-nil (map Some (lines ++ line ∷ []))),
+                more,
+                large.0,
+              ))
+        ]
+
+    -- a line by the fault of the message
+    line_by : line ≢ codes "." → replies ≡ [] → (fault : Option Fault) → old.fault ≡ fault
+        → TakesLine fault old line mid → Follow old (so_far start sent (here ∷ exchanges)) new
+    line_by inner silent None whole keeps = kept_line inner silent whole keeps
+    line_by inner silent (Some fault) bad same =
+        text_line inner silent (ap (λ (state : State). state.received) same)
+        (ap (λ (state : State). state.stage) same ∙ inside.stage)
+        (subst (λ (state : State). IsSent state.fault (sent ++ Some line ∷ []) state.draft.text)
+        (sym same)
+        (subst (λ f. IsSent f (sent ++ Some line ∷ []) old.draft.text) (sym bad)
+        (fault_more fault sent (Some line)
+        (subst (λ f. IsSent f sent old.draft.text) bad inside.kept))))
 
     -- a line of a message
     inside_line : (asked : Next) → AnswersLine old line replies asked mid
         → Follow old (so_far start sent (here ∷ exchanges)) new
     inside_line asked answers = elim answers [
-      | inl dot ↦ dot_line dot.1.0 dot.0 dot.1.1 old.is_bad refl dot.1.3
-      | inr text ↦ text_line asked text.0 old.is_bad refl text.1
+      | inl dot ↦ dot_line dot.1.0 dot.0 dot.1.1 old.fault refl dot.1.3
+      | inr text ↦ line_by text.0 text.1 old.fault refl text.3
     ]
+
+  -- the fault of a message of which a line was rejected
+  rejected_more : (fault : Option Fault) → old.fault ≡ fault
+      → HasFault (or_rejected fault) (sent ++ None ∷ [])
+  rejected_more None whole = (sent, [], refl)
+  rejected_more (Some fault) bad = fault_more fault sent None
+      (subst (λ f. IsSent f sent old.draft.text) bad inside.kept)
 
   -- a line that was rejected
   inside_refused : (replies : List (List ℕ)) (error : LineError)
@@ -631,14 +689,8 @@ module _ (old mid new : State) (exchanges : List Exchange) (told : Told mid exch
         stage = ap (λ (state : State). state.stage) same ∙ inside.stage;
         inner = inner_more sent None inside.inner (λ is. cc);
         kept = subst
-            (λ (state : State). IsSent state.is_bad (sent ++ None ∷ []) state.draft.lines)
-            (sym same)
-            (record {
-              inner = inner_more sent None inside.inner (λ is. cc);
-              before = sent;
-              rest = [];
-              bad = refl;
-            });
+            (λ (state : State). IsSent state.fault (sent ++ None ∷ []) state.draft.text)
+            (sym same) (rejected_more old.fault refl);
       })
 
 module _ (old mid new : State) (exchange : Exchange) (exchanges : List Exchange)
@@ -652,7 +704,7 @@ module _ (old mid new : State) (exchange : Exchange) (exchanges : List Exchange)
         delivers = cons_group (single exchange) exchanges rest.messages stays.outside
             rest.delivers;
         received = rest.received
-            ∙ ap (λ received. map (λ (mail : Mail). mail.lines) received ++ rest.messages)
+            ∙ ap (λ received. map (λ (mail : Mail). mail.text) received ++ rest.messages)
             stays.received;
       }
 
@@ -663,12 +715,14 @@ module _ (old mid new : State) (exchange : Exchange) (exchanges : List Exchange)
         begins = begins.begins;
         stage = begins.stage;
         inner = All-nil (λ item. item ≢ Some (codes "."));
-        kept = subst (λ b. IsSent b [] mid.draft.lines) (sym begins.good) (
+        kept = subst (λ b. IsSent b [] mid.draft.text) (sym begins.good) (
           [],
           refl,
           record {
             inner = All-nil (λ l. l ≢ codes ".");
-            undone = subst (AllZip Unstuffs []) (sym begins.empty) tt;
+            lines = [];
+            undone = tt;
+            joined = sym begins.empty;
           },
         );
       }) in
@@ -677,7 +731,7 @@ module _ (old mid new : State) (exchange : Exchange) (exchanges : List Exchange)
         delivers = subst (λ e. Delivers (e ∷ exchanges) rest.messages) (sym begins.is)
             rest.delivers;
         received = rest.received
-            ∙ ap (λ received. map (λ (mail : Mail). mail.lines) received ++ rest.messages)
+            ∙ ap (λ received. map (λ (mail : Mail). mail.text) received ++ rest.messages)
             begins.received;
       }
 
@@ -707,8 +761,8 @@ tells_one old mid new None replies asked exchanges told (error, refuses) = recor
 pub tells : (exchanges : List Exchange) (old new : State) → Runs old exchanges new
     → Told old exchanges new
 tells [] old new same =
-    let none : lines_of new ≡ lines_of old ++ [] =
-    ap lines_of same ∙ sym (append-nil (lines_of old)) in
+    let none : received_texts new ≡ received_texts old ++ [] =
+    ap received_texts same ∙ sym (append-nil (received_texts old)) in
     record {
       outside = λ apart. record {
         messages = [];
@@ -718,7 +772,7 @@ tells [] old new same =
           joined = refl;
           are = All-nil IsGroup;
           begun = inl refl;
-          lines = refl;
+          texts = refl;
         };
         received = none;
       };
@@ -736,7 +790,7 @@ tells [] old new same =
             inside.begins,
             inside.inner,
           );
-          lines = refl;
+          texts = refl;
         };
         received = none;
       };
@@ -747,14 +801,14 @@ tells (exchange ∷ exchanges) old new (mid, asked, answers, runs) =
 
 -- a run from a new session delivers what was received
 pub delivers_all : (exchanges : List Exchange) (old new : State) → IsFresh old
-    → Runs old exchanges new → Delivers exchanges (lines_of new)
+    → Runs old exchanges new → Delivers exchanges (received_texts new)
 delivers_all exchanges old new fresh runs =
     let told = tells exchanges old new runs in
     let follow = told.outside
     (λ is. let greets : old.stage ≡ Greeting = ap (λ (state : State). state.stage) fresh in
     let clash : Greeting ≡ Lines = sym greets ∙ is in cc) in
     subst (Delivers exchanges)
-    (sym (follow.received ∙ ap (λ (state : State). lines_of state ++ follow.messages) fresh))
+    (sym (follow.received ∙ ap (λ (state : State). received_texts state ++ follow.messages) fresh))
     follow.delivers
 
 -- the session gives up at a line

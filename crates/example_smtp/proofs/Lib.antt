@@ -1,2 +1,3 @@
 pub mod DeliveryLemmas
+pub mod PathLemmas
 pub mod VerbLemmas

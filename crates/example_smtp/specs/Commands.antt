@@ -1,8 +1,9 @@
 -- The commands of a client, the lines that say them, and the lines that reply to them.
-use Rattle.std.specs.Prelude.{◌≡◌, ◌≢◌, ◌⊎◌, ℕ, List, [], ◌++◌, MatchResult, codes}
+use Rattle.std.specs.Prelude.{◌≡◌, ◌≢◌, ◌⊎◌, ℕ, List, [], MatchResult, codes}
 use Rattle.std.specs.declared.result.Result.{Result}
 use Rattle.ascii.specs.Search.{IgnoringCase, IsPrefix, StartsWith}
 use Rattle.ascii.specs.View.{text_of}
+use Rattle.example_smtp.specs.Paths.{IsBetween, IsRecipient, IsSender}
 use Rattle.example_smtp.specs.declared.commands.Command.{Command}
 use Rattle.example_smtp.specs.declared.commands.Command.TheVariants.{AddRecipient, BeginLines}
 use Rattle.example_smtp.specs.declared.commands.Command.TheVariants.{Introduce, Leave, Reset}
@@ -28,15 +29,15 @@ name_of Quit = codes "QUIT"
 
 -- `path` is `address` between `<` and `>`
 abbrev pub IsPath : List ℕ → List ℕ → Type 0
-IsPath address path = codes "<" ++ (address ++ codes ">") ≡ path
+IsPath address path = IsBetween (codes "<") (codes ">") path address
 
--- `argument` is as `verb` takes it: a domain, a path, a mailbox, nothing or what a space starts, or
--- nothing
+-- `argument` is as `verb` takes it: a domain, the path of a sender or of a recipient, a mailbox,
+-- nothing or what a space starts, or nothing
 abbrev pub IsArgument : Verb → List ℕ → Type 0
 IsArgument Helo argument = argument ≢ []
 IsArgument Ehlo argument = argument ≢ []
-IsArgument Mail argument = (address : List ℕ) × IsPath address argument
-IsArgument Rcpt argument = (address : List ℕ) × IsPath address argument
+IsArgument Mail argument = (address : List ℕ) × IsPath address argument × IsSender address
+IsArgument Rcpt argument = (address : List ℕ) × IsPath address argument × IsRecipient address
 IsArgument Vrfy argument = argument ≢ []
 IsArgument Noop argument = (argument ≡ []) ⊎ StartsWith (codes " ") argument
 IsArgument verb argument = argument ≡ []
@@ -45,8 +46,10 @@ IsArgument verb argument = argument ≡ []
 abbrev pub HasParts : Verb → List ℕ → Command → Type 0
 HasParts verb argument (Introduce domain) =
     ((verb ≡ Helo) ⊎ (verb ≡ Ehlo)) × (argument ≡ text_of domain) × (argument ≢ [])
-HasParts verb argument (SetSender address) = (verb ≡ Mail) × IsPath (text_of address) argument
-HasParts verb argument (AddRecipient address) = (verb ≡ Rcpt) × IsPath (text_of address) argument
+HasParts verb argument (SetSender address) =
+    (verb ≡ Mail) × IsPath (text_of address) argument × IsSender (text_of address)
+HasParts verb argument (AddRecipient address) =
+    (verb ≡ Rcpt) × IsPath (text_of address) argument × IsRecipient (text_of address)
 HasParts verb argument BeginLines = (verb ≡ Data) × (argument ≡ [])
 HasParts verb argument Reset = (verb ≡ Rset) × (argument ≡ [])
 HasParts verb argument (Verify mailbox) =
@@ -97,4 +100,5 @@ reply_line reply.LongLine = codes "500 line too long"
 reply_line reply.BadLine = codes "554 bad line"
 reply_line reply.NoMemory = codes "452 out of memory"
 reply_line reply.BadMessage = codes "554 bad message"
+reply_line reply.LargeMessage = codes "552 message too large"
 reply_line reply.Closing = codes "421 closing"

@@ -1,6 +1,7 @@
 -- The messages that a whole session delivers, told from its lines and the replies to them.
 use Rattle.std.specs.List.{AllZip, flat_map}
-use Rattle.std.specs.Prelude.{◌≡◌, ◌≢◌, ◌⊎◌, ℕ, List, [], ◌∷◌, ◌++◌, All, None, Some, codes, map}
+use Rattle.std.specs.Prelude.{◌≡◌, ◌≢◌, ◌⊎◌, ◌<◌, ℕ, List, [], ◌∷◌, ◌++◌, All, None, Some, codes}
+use Rattle.std.specs.Prelude.{length, map}
 use Rattle.std.specs.declared.option.Option.{Option}
 use Rattle.ascii.specs.Lines.{Line}
 use Rattle.ascii_lines.specs.Serve as serve
@@ -10,13 +11,14 @@ use Rattle.ascii_lines.specs.declared.serving.Next.{Next}
 use Rattle.ascii_lines.specs.declared.serving.Next.TheVariants as next
 use Rattle.ascii_lines.specs.declared.serving.Stop.{Stop}
 use Rattle.example_smtp.specs.Commands.{Says, reply_line}
-use Rattle.example_smtp.specs.Mail.{State, Unstuffs, state_of}
-use Rattle.example_smtp.specs.Session.{Answers, Refuses}
+use Rattle.example_smtp.specs.Mail.{State, Unstuffs, text_of_lines}
+use Rattle.example_smtp.specs.Session.{Answers, Refuses, most_bytes, reply_of_fault}
 use Rattle.example_smtp.specs.declared.commands.Command.TheVariants.{BeginLines}
 use Rattle.example_smtp.specs.declared.commands.Reply.{Reply}
-use Rattle.example_smtp.specs.declared.commands.Reply.TheVariants.{BadLine, BadMessage, Done}
-use Rattle.example_smtp.specs.declared.commands.Reply.TheVariants.{NoMemory, SendLines}
-use Rattle.example_smtp.specs.declared.session.Session.{Session}
+use Rattle.example_smtp.specs.declared.commands.Reply.TheVariants.{BadLine, Done, NoMemory}
+use Rattle.example_smtp.specs.declared.commands.Reply.TheVariants.{SendLines}
+use Rattle.example_smtp.specs.declared.session.Fault.{Fault}
+use Rattle.example_smtp.specs.declared.session.Fault.TheVariants.{Rejected, TooLarge}
 
 -- ---- exchanges
 
@@ -41,45 +43,53 @@ pub record IsOutside (exchange : Exchange) : Type 0 where
 
 -- ---- messages
 
--- `lines` are, with dot-stuffing undone, the lines `sent`, none of which is a dot alone
-pub record IsText (sent lines : List (List ℕ)) : Type 0 where
+-- `text` is that of the lines `sent` with dot-stuffing undone; none of these is a dot alone
+pub record IsText (sent : List (List ℕ)) (text : List ℕ) : Type 0 where
   pub inner : All (λ line. line ≢ codes ".") sent
+  pub lines : List (List ℕ)
   pub undone : AllZip Unstuffs sent lines
+  pub joined : text_of_lines lines ≡ text
 
--- the lines of a message of which one at least was rejected, and none is a dot alone
-pub record IsBadText (sent : List (Option (List ℕ))) : Type 0 where
-  pub inner : All (λ line. line ≢ Some (codes ".")) sent
-  pub before : List (Option (List ℕ))
-  pub rest : List (Option (List ℕ))
-  pub bad : sent ≡ before ++ None ∷ rest
+-- the fault is in the lines of a message, of which none is a dot alone: one of them was rejected; or
+-- the text of the first ones, none of which was rejected, is too large
+abbrev pub HasFault : Fault → List (Option (List ℕ)) → Type 0
+HasFault Rejected lines = (before : List (Option (List ℕ))) × (rest : List (Option (List ℕ)))
+    × (lines ≡ before ++ None ∷ rest)
+HasFault TooLarge lines = (first : List (List ℕ)) × (rest : List (Option (List ℕ)))
+    × (text : List ℕ) × (lines ≡ map Some first ++ rest) × IsText first text
+    × (most_bytes < length text)
+
+-- the lines of a message with a fault
+abbrev pub IsBadText : Fault → List (Option (List ℕ)) → Type 0
+IsBadText fault sent = All (λ line. line ≢ Some (codes ".")) sent × HasFault fault sent
 
 -- exchanges that belong together. `single`: one outside a message. `message`: a `DATA` that is
 -- answered by 354, lines that are not answered, and a dot that is answered by 250. `dropped`: the
--- same with a line that was rejected, and a dot that is answered by 554
+-- same with a fault in the lines, and a dot that is answered by 554 or 552
 pub data Group : Type 0 where
   single : Exchange → Group
-  message : List ℕ → List (List ℕ) → List (List ℕ) → Group
-  dropped : List ℕ → List (Option (List ℕ)) → Group
+  message : List ℕ → List (List ℕ) → List ℕ → Group
+  dropped : List ℕ → List (Option (List ℕ)) → Fault → Group
 
 -- the exchanges of a group
 abbrev pub group_exchanges : Group → List Exchange
 group_exchanges (single exchange) = exchange ∷ []
-group_exchanges (message start sent lines) = answered start SendLines
+group_exchanges (message start sent text) = answered start SendLines
     ∷ (map unanswered (map Some sent) ++ answered (codes ".") Done ∷ [])
-group_exchanges (dropped start sent) =
-    answered start SendLines ∷ (map unanswered sent ++ answered (codes ".") BadMessage ∷ [])
+group_exchanges (dropped start sent fault) = answered start SendLines
+    ∷ (map unanswered sent ++ answered (codes ".") (reply_of_fault fault) ∷ [])
 
 -- what is said of a group: that it is outside a message, or that its first line begins one
 abbrev pub IsGroup : Group → Type 0
 IsGroup (single exchange) = IsOutside exchange
-IsGroup (message start sent lines) = Says start BeginLines × IsText sent lines
-IsGroup (dropped start sent) = Says start BeginLines × IsBadText sent
+IsGroup (message start sent text) = Says start BeginLines × IsText sent text
+IsGroup (dropped start sent fault) = Says start BeginLines × IsBadText fault sent
 
--- the lines of the message of a group, if it has one
-abbrev pub group_messages : Group → List (List (List ℕ))
+-- the text of the message of a group, if it has one
+abbrev pub group_messages : Group → List (List ℕ)
 group_messages (single exchange) = []
-group_messages (message start sent lines) = lines ∷ []
-group_messages (dropped start sent) = []
+group_messages (message start sent text) = text ∷ []
+group_messages (dropped start sent fault) = []
 
 -- `exchanges` are a `DATA` that is answered by 354 and lines that are not answered, or there are no
 -- exchanges
@@ -88,19 +98,19 @@ IsBegun exchanges = (exchanges ≡ []) ⊎ ((start : List ℕ) × (sent : List (
     × (exchanges ≡ answered start SendLines ∷ map unanswered sent) × Says start BeginLines
     × All (λ line. line ≢ Some (codes ".")) sent)
 
--- the messages of `exchanges` have these lines, in order: the exchanges are groups, and maybe a
+-- the messages of `exchanges` have these texts, in order: the exchanges are groups, and maybe a
 -- message that is not ended
-pub record Delivers (exchanges : List Exchange) (messages : List (List (List ℕ))) : Type 0 where
+pub record Delivers (exchanges : List Exchange) (messages : List (List ℕ)) : Type 0 where
   pub groups : List Group
   pub last : List Exchange
   pub joined : exchanges ≡ flat_map group_exchanges groups ++ last
   pub are : All IsGroup groups
   pub begun : IsBegun last
-  pub lines : messages ≡ flat_map group_messages groups
+  pub texts : messages ≡ flat_map group_messages groups
 
--- the lines of the messages that were received
-abbrev pub lines_of : State → List (List (List ℕ))
-lines_of state = map (λ mail. mail.lines) state.received
+-- the texts of the messages that were received
+abbrev pub received_texts : State → List (List ℕ)
+received_texts state = map (λ mail. mail.text) state.received
 
 -- ---- the session as a handler
 
@@ -114,16 +124,16 @@ pub record GivesUp (old : State) (texts : List (List ℕ)) (asked : Next) (new :
   pub kept : new.received ≡ old.received
 
 -- what a session answers, as the relation of a handler
-abbrev pub session_answers : Session → Line → List serve.Reply → Next → Session → Type 0
+abbrev pub session_answers : State → Line → List serve.Reply → Next → State → Type 0
 session_answers old input replies asked new = (texts : List (List ℕ))
     × (replies ≡ map line_reply texts)
-    × (Answers (state_of old) input.body texts asked (state_of new)
-    ⊎ GivesUp (state_of old) texts asked (state_of new))
+    × (Answers old input.body texts asked new
+    ⊎ GivesUp old texts asked new)
 
 -- what it answers to an error in place of a line; then it asks for a line
-abbrev pub session_refuses : Session → LineError → List serve.Reply → Next → Session → Type 0
+abbrev pub session_refuses : State → LineError → List serve.Reply → Next → State → Type 0
 session_refuses old error replies asked new = (texts : List (List ℕ))
-    × (replies ≡ map line_reply texts) × Refuses (state_of old) error texts (state_of new)
+    × (replies ≡ map line_reply texts) × Refuses old error texts new
     × (asked ≡ next.Line)
 
 -- the exchanges of the steps of a conversation: a line and its replies, or a line that was rejected
@@ -146,11 +156,11 @@ IsLast exchanges = (exchanges ≡ []) ⊎ ((line : List ℕ) × (fault : Reply)
 
 -- a conversation was held as `Serves` says. Its exchanges deliver the messages that the session has
 -- received; and maybe there is a last one, at which it gave up
-pub record ServesMail (old : ChannelState) (session : Session) (why : Stop) (new : ChannelState)
-    (last : Session) : Type 0 where
+pub record ServesMail (old : ChannelState) (session : State) (why : Stop) (new : ChannelState)
+    (last : State) : Type 0 where
   pub served : Serves session_answers session_refuses old session why new last
   pub exchanges : List Exchange
   pub given_up : List Exchange
   pub is_last : IsLast given_up
   pub are : AreExchanges served.talk.steps (exchanges ++ given_up)
-  pub delivers : Delivers exchanges (lines_of (state_of served.talk.state))
+  pub delivers : Delivers exchanges (received_texts served.talk.state)

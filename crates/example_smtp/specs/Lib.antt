@@ -1,4 +1,5 @@
 pub mod Commands
 pub mod Deliveries
 pub mod Mail
+pub mod Paths
 pub mod Session

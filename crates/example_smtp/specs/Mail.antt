@@ -1,24 +1,30 @@
 -- A message, and the state of the session that receives it.
-use Rattle.std.specs.Prelude.{◌≡◌, ℕ, Bool, List, [], ◌∷◌, false, map}
+use Rattle.std.specs.Prelude.{◌≡◌, ℕ, List, [], ◌∷◌, ◌++◌, None, map}
+use Rattle.std.specs.List.{flat_map}
+use Rattle.std.specs.declared.option.Option.{Option}
 use Rattle.ascii.specs.Search.{StartsWith}
 use Rattle.ascii.specs.StringState.{StringState}
+use Rattle.example_smtp.specs.declared.session.Fault.{Fault}
 use Rattle.example_smtp.specs.declared.session.Message.{Message}
-use Rattle.example_smtp.specs.declared.session.Session.{Session}
 use Rattle.example_smtp.specs.declared.session.Stage.{Stage}
 use Rattle.example_smtp.specs.declared.session.Stage.TheVariants.{Greeting}
 
--- a message: its sender, its recipients and its lines
+-- a message: its sender, its recipients and its text
 pub record Mail : Type 0 where
   pub sender : List ℕ
   pub recipients : List (List ℕ)
-  pub lines : List (List ℕ)
+  pub text : List ℕ
 
--- the state of a session: what it awaits, the message that was begun, whether a line of it was
--- rejected, and the messages that were received
+-- the text of a message of these lines: each with CR LF
+abbrev pub text_of_lines : List (List ℕ) → List ℕ
+text_of_lines lines = flat_map (λ line. line ++ 13 ∷ 10 ∷ []) lines
+
+-- the state of a session: what it awaits, the message that was begun, the first fault in its lines, if
+-- there is one, and the messages that were received
 pub record State : Type 0 where
   pub stage : Stage
   pub draft : Mail
-  pub is_bad : Bool
+  pub fault : Option Fault
   pub received : List Mail
 
 -- the texts of strings
@@ -30,26 +36,17 @@ abbrev pub mail_of : Message → Mail
 mail_of message = record {
   sender = message.sender.text;
   recipients = string_texts message.recipients.items;
-  lines = string_texts message.lines.items;
-}
-
--- the state of a session, without its layout
-abbrev pub state_of : Session → State
-state_of session = record {
-  stage = session.stage;
-  draft = mail_of session.draft;
-  is_bad = session.is_bad;
-  received = map mail_of session.received.items;
+  text = message.text.text;
 }
 
 -- a message with nothing in it
 abbrev pub no_mail : Mail
-no_mail = record { sender = []; recipients = []; lines = [] }
+no_mail = record { sender = []; recipients = []; text = [] }
 
 -- the client has not introduced itself, and nothing was received
 abbrev pub IsFresh : State → Type 0
 IsFresh state =
-    state ≡ record { stage = Greeting; draft = no_mail; is_bad = false; received = [] }
+    state ≡ record { stage = Greeting; draft = no_mail; fault = None; received = [] }
 
 -- `line` is `sent` with dot-stuffing undone: without its first dot, if it begins with one
 pub record Unstuffs (sent line : List ℕ) : Type 0 where

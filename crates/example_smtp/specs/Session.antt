@@ -1,5 +1,6 @@
 -- What a session answers to a line.
-use Rattle.std.specs.Prelude.{◌≡◌, ◌≢◌, ◌⊎◌, ◌<◌, ℕ, Bool, List, [], ◌∷◌, ◌++◌, MatchResult, false, true, None, Some, ⊤, codes, length}
+use Rattle.std.specs.Prelude.{◌≡◌, ◌≢◌, ◌⊎◌, ◌<◌, ◌≤◌, ℕ, List, [], ◌∷◌, ◌++◌, MatchResult, None}
+use Rattle.std.specs.Prelude.{Some, ⊤, codes, length}
 use Rattle.std.specs.declared.option.Option.{Option}
 use Rattle.std.specs.declared.result.Result.{Result}
 use Rattle.ascii.specs.View.{text_of}
@@ -15,6 +16,8 @@ use Rattle.example_smtp.specs.declared.commands.Command.TheVariants.{Introduce, 
 use Rattle.example_smtp.specs.declared.commands.Command.TheVariants.{SetSender, Verify}
 use Rattle.example_smtp.specs.declared.commands.Reply.{Reply}
 use Rattle.example_smtp.specs.declared.commands.Reply.TheVariants as reply
+use Rattle.example_smtp.specs.declared.session.Fault.{Fault}
+use Rattle.example_smtp.specs.declared.session.Fault.TheVariants.{Rejected, TooLarge}
 use Rattle.example_smtp.specs.declared.session.Stage.{Stage}
 use Rattle.example_smtp.specs.declared.session.Stage.TheVariants.{Greeting, Lines, Ready}
 use Rattle.example_smtp.specs.declared.session.Stage.TheVariants.{Recipients, Sender}
@@ -53,7 +56,7 @@ after old (AddRecipient address) = record old {
   draft = record old.draft { recipients = old.draft.recipients ++ text_of address ∷ [] };
 }
 after old BeginLines =
-    record old { stage = Lines; draft = record old.draft { lines = [] }; is_bad = false }
+    record old { stage = Lines; draft = record old.draft { text = [] }; fault = None }
 after old Reset = record old { stage = reset_stage old.stage; draft = no_mail }
 after old other = old
 
@@ -96,46 +99,58 @@ AnswersCommand old line replies asked new = (outcome : Result Command Reply)
     × MatchResult outcome (λ command. Follows old command replies asked new)
     (λ fault. Rejects old fault replies asked new)
 
--- a line of a message is kept, with dot-stuffing undone, and not replied to
-pub record Keeps (old : State) (sent : List ℕ) (replies : List (List ℕ)) (asked : Next)
-    (new : State) : Type 0 where
-  pub line : List ℕ
-  pub unstuffs : Unstuffs sent line
-  pub silent : replies ≡ []
-  pub asks : asked ≡ next.Line
-  pub state : new ≡ record old {
-    draft = record old.draft { lines = old.draft.lines ++ line ∷ [] };
-  }
+-- the most bytes of the text of a message
+abbrev pub most_bytes : ℕ
+most_bytes = 134217728
+
+-- a line more in the text of the message that was begun: it is kept if it fits; otherwise the message
+-- is too large, and its text is dropped
+abbrev pub KeepsLine : State → List ℕ → State → Type 0
+KeepsLine old text new = ((length text ≤ most_bytes)
+    × (new ≡ record old { draft = record old.draft { text = text } }))
+    ⊎ ((most_bytes < length text)
+    × (new ≡ record old { draft = record old.draft { text = [] }; fault = Some TooLarge }))
+
+-- a line of a message, with dot-stuffing undone and with CR LF, is a line more in its text
+abbrev pub Keeps : State → List ℕ → State → Type 0
+Keeps old sent new = (line : List ℕ) × Unstuffs sent line
+    × KeepsLine old (old.draft.text ++ (line ++ 13 ∷ 10 ∷ [])) new
+
+-- the reply to the dot of a message with a fault
+abbrev pub reply_of_fault : Fault → Reply
+reply_of_fault Rejected = reply.BadMessage
+reply_of_fault TooLarge = reply.LargeMessage
 
 -- the message that was begun is ended with this reply, and another may begin: it is received; or it
--- is dropped, if a line of it was rejected
-abbrev pub EndsBy : Bool → State → Reply → State → Type 0
-EndsBy false old said new = (said ≡ reply.Done) × (new ≡ record {
+-- is dropped, if it has a fault
+abbrev pub EndsBy : Option Fault → State → Reply → State → Type 0
+EndsBy None old said new = (said ≡ reply.Done) × (new ≡ record {
   stage = Ready;
   draft = no_mail;
-  is_bad = false;
+  fault = None;
   received = old.received ++ old.draft ∷ [];
 })
-EndsBy true old said new = (said ≡ reply.BadMessage) × (new ≡ record {
+EndsBy (Some fault) old said new = (said ≡ reply_of_fault fault) × (new ≡ record {
   stage = Ready;
   draft = no_mail;
-  is_bad = false;
+  fault = None;
   received = old.received;
 })
 
 abbrev pub EndsMessage : State → Reply → State → Type 0
-EndsMessage old said new = EndsBy old.is_bad old said new
+EndsMessage old said new = EndsBy old.fault old said new
 
--- a line of a message is kept, or ignored if one before it was rejected, and not replied to
-abbrev pub TakesLine : Bool → State → List ℕ → List (List ℕ) → Next → State → Type 0
-TakesLine false old sent replies asked new = Keeps old sent replies asked new
-TakesLine true old sent replies asked new = (replies ≡ []) × (asked ≡ next.Line) × (new ≡ old)
+-- a line of a message is kept, or ignored if the message has a fault
+abbrev pub TakesLine : Option Fault → State → List ℕ → State → Type 0
+TakesLine None old sent new = Keeps old sent new
+TakesLine (Some fault) old sent new = new ≡ old
 
--- the answer to a line of a message: a dot alone ends the message
+-- the answer to a line of a message: a dot alone ends the message; to another line there is no reply
 abbrev pub AnswersLine : State → List ℕ → List (List ℕ) → Next → State → Type 0
 AnswersLine old sent replies asked new = ((sent ≡ codes ".") × ((said : Reply)
     × (replies ≡ reply_line said ∷ []) × (asked ≡ next.Line) × EndsMessage old said new))
-    ⊎ ((sent ≢ codes ".") × TakesLine old.is_bad old sent replies asked new)
+    ⊎ ((sent ≢ codes ".") × (replies ≡ []) × (asked ≡ next.Line)
+    × TakesLine old.fault old sent new)
 
 -- the answer to a line, by what is awaited
 abbrev pub AnswersAt : Stage → State → List ℕ → List (List ℕ) → Next → State → Type 0
@@ -158,10 +173,16 @@ refusal_of (NotAscii place) = reply.BadLine
 refusal_of (LoneBreak place) = reply.BadLine
 refusal_of other = reply.Closing
 
--- what a session answers to an error in place of a line, by what is awaited: a message is bad from
--- then on, and not answered before its end; a command is answered
+-- the first fault of a message, of which a line is rejected
+abbrev pub or_rejected : Option Fault → Fault
+or_rejected None = Rejected
+or_rejected (Some fault) = fault
+
+-- what a session answers to an error in place of a line, by what is awaited: a message has a fault
+-- from then on, and is not answered before its end; a command is answered
 abbrev pub RefusesAt : Stage → State → LineError → List (List ℕ) → State → Type 0
-RefusesAt Lines old error texts new = (texts ≡ []) × (new ≡ record old { is_bad = true })
+RefusesAt Lines old error texts new =
+    (texts ≡ []) × (new ≡ record old { fault = Some (or_rejected old.fault) })
 RefusesAt other old error texts new = (texts ≡ reply_line (refusal_of error) ∷ []) × (new ≡ old)
 
 -- what a session in the state `old` answers to an error in place of a line

@@ -6,6 +6,7 @@ ghost use Rattle.ascii.specs.View.{text_of};
 ghost use Rattle.example_smtp.specs.Commands.{BeginsWithVerb, HasParts, IsCall, IsPartsFault};
 ghost use Rattle.example_smtp.specs.Commands.{IsPath, ReadsCommand, name_of, reply_line};
 
+use crate::paths::{between, is_recipient, is_sender};
 use ascii_lines::AsciiStr;
 
 /// What a client may ask for.
@@ -98,6 +99,8 @@ pub enum Reply {
     NoMemory,
     /// A line of the message was rejected, so the message is.
     BadMessage,
+    /// The message is too large.
+    LargeMessage,
     /// The input has failed.
     Closing,
 }
@@ -120,6 +123,7 @@ impl Reply {
             Reply::BadLine => AsciiStr::literal("554 bad line"),
             Reply::NoMemory => AsciiStr::literal("452 out of memory"),
             Reply::BadMessage => AsciiStr::literal("554 bad message"),
+            Reply::LargeMessage => AsciiStr::literal("552 message too large"),
             Reply::Closing => AsciiStr::literal("421 closing"),
         }
     }
@@ -202,12 +206,12 @@ fn command_of<'a>(verb: Verb, argument: AsciiStr<'a>) -> Result<Command<'a>, Rep
             Ok(Command::Introduce { domain: argument })
         }
         Verb::Mail => match address_of(argument) {
-            Some(address) => Ok(Command::SetSender { address }),
-            None => Err(Reply::BadArgument),
+            Some(address) if is_sender(address) => Ok(Command::SetSender { address }),
+            _ => Err(Reply::BadArgument),
         },
         Verb::Rcpt => match address_of(argument) {
-            Some(address) => Ok(Command::AddRecipient { address }),
-            None => Err(Reply::BadArgument),
+            Some(address) if is_recipient(address) => Ok(Command::AddRecipient { address }),
+            _ => Err(Reply::BadArgument),
         },
         Verb::Data if argument.is_empty() => Ok(Command::BeginLines),
         Verb::Rset if argument.is_empty() => Ok(Command::Reset),
@@ -230,8 +234,5 @@ fn address_of<'a>(path: AsciiStr<'a>) -> Option<AsciiStr<'a>>
     ensures { MatchOption result ((address : List ℕ) → ¬ (IsPath address (text_of path.entry)))
         (λ address. IsPath (text_of address) (text_of path.entry)) }
 {
-    let Some(rest) = path.strip_prefix(AsciiStr::literal("<")) else {
-        return None;
-    };
-    rest.strip_suffix(AsciiStr::literal(">"))
+    between(path, AsciiStr::literal("<"), AsciiStr::literal(">"))
 }

@@ -3,6 +3,7 @@
 #![tactic(auto)]
 
 mod commands;
+mod paths;
 mod receiving;
 mod session;
 

@@ -2,7 +2,7 @@
 
 ghost use Rattle.ascii_lines.specs.Serve.{IsUp};
 ghost use Rattle.example_smtp.specs.Deliveries.{ServesMail};
-ghost use Rattle.example_smtp.specs.Mail.{IsFresh, state_of};
+ghost use Rattle.example_smtp.specs.Mail.{IsFresh};
 
 use crate::session::Session;
 use ascii_lines::{Channel, LineChannel, Stop, serve};
@@ -18,7 +18,7 @@ pub fn receive<C: Channel, A: Allocator>(
     session: &mut Session,
 ) -> Stop
     requires lines { IsUp lines.old.state }
-    requires session { IsFresh (state_of session.old) }
+    requires session { IsFresh session.old }
     ensures { ServesMail lines.old.state session.old result lines.new.state session.new }
 {
     serve(lines, session)

@@ -4,16 +4,21 @@ ghost use Rattle.std.specs.Prelude.{◌↔◌, ◌≡◌, IfOk, IsTrue, OnErr, O
 ghost use Rattle.ascii.specs.View.{text_of};
 ghost use Rattle.ascii_lines.specs.Serve.{IsRequest, Says, line_reply};
 ghost use Rattle.example_smtp.specs.Mail.{Unstuffs};
-ghost use Rattle.example_smtp.specs.Session.{Fits, IsAllowed, next_after, refusal_of, reply_to};
-ghost use Rattle.example_smtp.specs.Session.{reset_stage, texts_of};
+ghost use Rattle.example_smtp.specs.Session.{Fits, IsAllowed, next_after, refusal_of};
+ghost use Rattle.example_smtp.specs.Session.{reply_of_fault, reply_to, reset_stage, texts_of};
 
 use crate::commands::{Command, Reply, read_command};
+use ascii_devices::Log;
 use ascii_lines::{AsciiStr, AsciiString, Ending, Handler, LineError, Next, Replies, Sink};
 use std::alloc::{AllocError, Allocator, Global};
+use std::marker::Model;
 use std::mem::replace;
 
 /// The most recipients of a message.
 const MOST_RECIPIENTS: usize = 100;
+
+/// The most bytes of the text of a message.
+const MOST_BYTES: usize = 134_217_728;
 
 /// What a session awaits.
 #[derive(Clone, Copy, PartialEq, Eq, Debug)]
@@ -30,12 +35,21 @@ pub enum Stage {
     Lines,
 }
 
-/// A message.
+/// Why a message that was begun will not be received.
+#[derive(Clone, Copy, PartialEq, Eq, Debug)]
+pub enum Fault {
+    /// A line of it was rejected.
+    Rejected,
+    /// It is too large.
+    TooLarge,
+}
+
+/// A message: its text has each line with CR LF.
 #[derive(Drop)]
 pub struct Message {
     sender: AsciiString,
     recipients: Vec<AsciiString>,
-    lines: Vec<AsciiString>,
+    text: AsciiString,
 }
 
 impl Message {
@@ -48,7 +62,7 @@ impl Message {
         Message {
             sender: AsciiString::new(alloc),
             recipients: Vec::new(alloc),
-            lines: Vec::new(alloc),
+            text: AsciiString::new(alloc),
         }
     }
 }
@@ -66,44 +80,63 @@ pub struct Session {
     alloc: Global,
     stage: Stage,
     draft: Message,
-    // Whether a line of the draft was rejected.
-    is_bad: bool,
-    received: Vec<Message>,
+    // The first fault in the lines of the draft.
+    fault: Option<Fault>,
+    count: usize,
+    // The messages that were received, for contracts: they are not kept.
+    received: Log<Message>,
+}
+
+impl Model for Session {
+    ghost use Rattle.std.specs.Prelude.{◌≡◌, length, map};
+    ghost use Rattle.example_smtp.specs.Mail.{State, mail_of};
+
+    ghost Value = { State };
+
+    ghost view = { λ session. record {
+      stage = session.stage;
+      draft = mail_of session.draft;
+      fault = session.fault;
+      received = map mail_of session.received.items;
+    } };
+
+    ghost invariant = { λ session. session.count ≡ length session.received.items };
 }
 
 impl Session {
-    ghost use Rattle.example_smtp.specs.Mail.{IsFresh, no_mail, state_of};
+    ghost use Rattle.example_smtp.specs.Mail.{IsFresh, no_mail};
     ghost use Rattle.example_smtp.specs.Session.{Answers, AnswersCommand, AnswersLine, Follows};
-    ghost use Rattle.example_smtp.specs.Session.{EndsMessage, Refuses, after, texts_of};
+    ghost use Rattle.example_smtp.specs.Session.{EndsMessage, Keeps, Refuses, after, texts_of};
 
     /// Creates a session that has received nothing. Does not allocate.
     pub fn new(alloc: Global) -> Session
-        ensures { IsFresh (state_of result) }
+        ensures { IsFresh result }
     {
         Session {
             alloc,
             stage: Stage::Greeting,
             draft: Message::new(alloc),
-            is_bad: false,
-            received: Vec::new(alloc),
+            fault: None,
+            count: 0,
+            received: Log::new(),
         }
     }
 
     /// Returns the number of messages that were received.
     pub fn message_count(&self) -> usize
-        ensures { result ≡ length (state_of self.now).received }
+        ensures { result ≡ length self.now.received }
     {
-        self.received.len()
+        self.count
     }
 
     /// Takes a line, and returns what to do; or an error if an allocation fails, and then the messages that
     /// were received are unchanged.
     fn plan(&mut self, line: AsciiStr<'_>) -> Result<Plan, AllocError>
-        ensures answers { IfOk result (λ plan. Answers (state_of self.old) (text_of line.entry)
-            (texts_of plan.reply) plan.next (state_of self.new)) }
+        ensures answers { IfOk result (λ plan. Answers self.old (text_of line.entry)
+            (texts_of plan.reply) plan.next self.new) }
         ensures request { IfOk result (λ plan. IsRequest plan.next) }
         ensures kept { OnErr result
-            ((state_of self.new).received ≡ (state_of self.old).received) }
+            (self.new.received ≡ self.old.received) }
     {
         match self.stage {
             Stage::Lines => self.plan_line(line),
@@ -113,11 +146,11 @@ impl Session {
 
     /// Takes a line that is to say a command.
     fn plan_command(&mut self, line: AsciiStr<'_>) -> Result<Plan, AllocError>
-        ensures answers { IfOk result (λ plan. AnswersCommand (state_of self.old)
-            (text_of line.entry) (texts_of plan.reply) plan.next (state_of self.new)) }
+        ensures answers { IfOk result (λ plan. AnswersCommand self.old
+            (text_of line.entry) (texts_of plan.reply) plan.next self.new) }
         ensures request { IfOk result (λ plan. IsRequest plan.next) }
         ensures kept { OnErr result
-            ((state_of self.new).received ≡ (state_of self.old).received) }
+            (self.new.received ≡ self.old.received) }
     {
         match read_command(line) {
             Ok(command) => self.follow(command),
@@ -130,11 +163,11 @@ impl Session {
 
     /// Carries out a command if it is allowed, and otherwise rejects it.
     fn follow(&mut self, command: Command<'_>) -> Result<Plan, AllocError>
-        ensures answers { IfOk result (λ plan. Follows (state_of self.old) command.entry
-            (texts_of plan.reply) plan.next (state_of self.new)) }
+        ensures answers { IfOk result (λ plan. Follows self.old command.entry
+            (texts_of plan.reply) plan.next self.new) }
         ensures request { IfOk result (λ plan. IsRequest plan.next) }
         ensures kept { OnErr result
-            ((state_of self.new).received ≡ (state_of self.old).received) }
+            (self.new.received ≡ self.old.received) }
     {
         if !is_allowed(self.stage, command) {
             return Ok(Plan {
@@ -157,9 +190,9 @@ impl Session {
 
     /// Carries out a command.
     fn carry_out(&mut self, command: Command<'_>) -> Result<(), AllocError>
-        ensures done { OnOk result (state_of self.new ≡ after (state_of self.old) command.entry) }
+        ensures done { OnOk result (self.new ≡ after self.old command.entry) }
         ensures kept { OnErr result
-            ((state_of self.new).received ≡ (state_of self.old).received) }
+            (self.new.received ≡ self.old.received) }
     {
         match command {
             Command::Introduce { .. } => {
@@ -181,8 +214,8 @@ impl Session {
                 Ok(())
             }
             Command::BeginLines => {
-                self.draft.lines.clear();
-                self.is_bad = false;
+                self.draft.text.clear();
+                self.fault = None;
                 self.stage = Stage::Lines;
                 Ok(())
             }
@@ -195,20 +228,19 @@ impl Session {
         }
     }
 
-    /// Takes a line of a message: a dot alone ends the message, which is dropped if one of its lines was rejected.
+    /// Takes a line of a message: a dot alone ends the message, which is dropped if it has a fault.
     fn plan_line(&mut self, sent: AsciiStr<'_>) -> Result<Plan, AllocError>
-        ensures answers { IfOk result (λ plan. AnswersLine (state_of self.old)
-            (text_of sent.entry) (texts_of plan.reply) plan.next (state_of self.new)) }
+        ensures answers { IfOk result (λ plan. AnswersLine self.old
+            (text_of sent.entry) (texts_of plan.reply) plan.next self.new) }
         ensures request { IfOk result (λ plan. IsRequest plan.next) }
         ensures kept { OnErr result
-            ((state_of self.new).received ≡ (state_of self.old).received) }
+            (self.new.received ≡ self.old.received) }
     {
         let mut reply = None;
         if sent.eq_str(".") {
             reply = Some(self.end_message()?);
-        } else if !self.is_bad {
-            let line = unstuffed(sent).to_ascii_string(self.alloc)?;
-            self.draft.lines.push(line)?;
+        } else if self.fault.is_none() {
+            self.keep_line(sent)?;
         }
         Ok(Plan {
             reply,
@@ -216,29 +248,47 @@ impl Session {
         })
     }
 
+    /// Appends a line with dot-stuffing undone to the text of the message, unless that is then too large.
+    fn keep_line(&mut self, sent: AsciiStr<'_>) -> Result<(), AllocError>
+        ensures keeps { OnOk result
+            (Keeps self.old (text_of sent.entry) self.new) }
+        ensures kept { OnErr result
+            (self.new.received ≡ self.old.received) }
+    {
+        let line = unstuffed(sent);
+        if line.len() + 2 > MOST_BYTES.saturating_sub(self.draft.text.len()) {
+            self.draft.text = AsciiString::new(self.alloc);
+            self.fault = Some(Fault::TooLarge);
+            return Ok(());
+        }
+        self.draft.text.push_str(line)?;
+        self.draft.text.push_str(AsciiStr::literal("\r\n"))
+    }
+
     /// Receives or drops the message that was begun.
     fn end_message(&mut self) -> Result<Reply, AllocError>
         ensures ends { IfOk result (λ reply.
-            EndsMessage (state_of self.old) reply (state_of self.new)) }
+            EndsMessage self.old reply self.new) }
         ensures kept { OnErr result
-            ((state_of self.new).received ≡ (state_of self.old).received) }
+            (self.new.received ≡ self.old.received) }
     {
         let draft = replace(&mut self.draft, Message::new(self.alloc));
         self.stage = Stage::Ready;
-        if self.is_bad {
-            self.is_bad = false;
-            return Ok(Reply::BadMessage);
+        if let Some(fault) = self.fault {
+            self.fault = None;
+            return Ok(reply_of_fault(fault));
         }
-        self.received.push(draft)?;
+        self.count = self.count.checked_add(1).ok_or(AllocError)?;
+        self.received = self.received.and(&draft);
         Ok(Reply::Done)
     }
 
     /// Takes an error in place of a line, and returns the reply, if there is one: a message is answered at its end.
     fn reject(&mut self, error: LineError) -> Option<Reply>
-        ensures { Refuses (state_of self.old) error (texts_of result) (state_of self.new) }
+        ensures { Refuses self.old error (texts_of result) self.new }
     {
         if self.stage == Stage::Lines {
-            self.is_bad = true;
+            self.fault = Some(self.fault.unwrap_or(Fault::Rejected));
             return None;
         }
         Some(refusal(error))
@@ -282,6 +332,16 @@ impl Handler for Session {
         let reply = self.reject(error);
         say(reply, replies);
         Next::Line
+    }
+}
+
+/// Returns the reply to the dot of a message with a fault.
+fn reply_of_fault(fault: Fault) -> Reply
+    ensures { result ≡ reply_of_fault fault }
+{
+    match fault {
+        Fault::Rejected => Reply::BadMessage,
+        Fault::TooLarge => Reply::LargeMessage,
     }
 }
 

@@ -2,7 +2,7 @@ use Rattle.std.proofs.Common.{List, map, subst, sym}
 use Rattle.ascii_lines.specs.declared.serving.Awaited.TheVariants.{Input}
 use Rattle.ascii_lines.specs.declared.serving.Next.TheVariants as next
 use Rattle.example_smtp.specs.Deliveries.{Delivers}
-use Rattle.example_smtp.specs.Mail.{Mail, state_of}
+use Rattle.example_smtp.specs.Mail.{Mail}
 use Rattle.example_smtp.proofs.DeliveryLemmas.{delivers_all, transcript}
 use Rattle.example_smtp.proofs.receiving.receive.Goals as goal
 
@@ -19,7 +19,7 @@ returns g c =
       are = told.are;
       delivers = subst
           (λ (received : List Mail).
-          Delivers told.exchanges (map (λ (mail : Mail). mail.lines) received)) (sym told.kept)
-          (delivers_all told.exchanges (state_of c.args.session.now) told.mid c.requires.session
+          Delivers told.exchanges (map (λ (mail : Mail). mail.text) received)) (sym told.kept)
+          (delivers_all told.exchanges c.args.session.now told.mid c.requires.session
           told.runs);
     }
