@@ -26,7 +26,7 @@ pub one_more : {A B : Type 0} (P : B → Type 0) (f : A → B) (taken : List A) 
 one_more P f taken here each this =
     subst (All P) (sym (map_push f taken here)) (All-push P (map f taken) (f here) each this)
 
--- one text at most stands between two others
+-- one text at most is between two others
 pub same_between : (start end text one other : List ℕ) → IsBetween start end text one
     → IsBetween start end text other → one ≡ other
 same_between start end text one other is same = append_cancel_right one other end

@@ -26,7 +26,7 @@ IsAtom text = (text ≢ []) × All IsAtomCode text
 abbrev pub AreDotted : (List ℕ → Type 0) → List ℕ → Type 0
 AreDotted Is text = (parts : List (List ℕ)) × Pieces text 46 parts × All Is parts
 
--- the text between quotes, by whether a backslash stands before it: printable characters, of which a
+-- the text between quotes, by whether a backslash is before it: printable characters, of which a
 -- quote stands only after a backslash, and a backslash only before or after another character
 abbrev pub IsQuotedText : Bool → List ℕ → Type 0
 IsQuotedText escaped [] = escaped ≡ false
@@ -67,7 +67,7 @@ IsDomain text = (length text ≤ 255) × (AreDotted IsLabel text ⊎ IsLiteral t
 
 -- ---- paths
 
--- `name` and `domain` are what stands before and after the last `@` of `text`
+-- `name` and `domain` are what is before and after the last `@` of `text`
 abbrev pub IsCutAtLastAt : List ℕ → List ℕ → List ℕ → Type 0
 IsCutAtLastAt = IsCut (λ name domain. ¬ (Contains domain 64)) (codes "@")
 

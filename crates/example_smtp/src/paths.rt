@@ -161,7 +161,7 @@ fn are_dotted<P: Part>(text: AsciiStr<'_>) -> bool
     true
 }
 
-/// Returns `true` if the text stands between quotes.
+/// Returns `true` if the text is between quotes.
 fn is_quoted(text: AsciiStr<'_>) -> bool
     ensures { IsTrue result ↔ IsQuoted (text_of text.entry) }
 {
@@ -171,7 +171,7 @@ fn is_quoted(text: AsciiStr<'_>) -> bool
     }
 }
 
-/// Returns `true` if the text may stand between quotes.
+/// Returns `true` if the text may be between quotes.
 fn is_quoted_text(text: AsciiStr<'_>) -> bool
     ensures { IsTrue result ↔ IsQuotedText false (text_of text.entry) }
 {

@@ -3,7 +3,7 @@ use Rattle.ascii.specs.View.{text_of}
 use Rattle.example_smtp.specs.Paths.{IsQuotedText}
 use Rattle.example_smtp.proofs.paths.is_quoted_text.Given as goal
 
--- the text may stand between quotes if what is left of it may
+-- the text may be between quotes if what is left of it may
 abbrev pub invariant-loop-ch : goal.invariant-loop-ch
 invariant-loop-ch l = record {
   next : (goal.iterator-loop-ch).can_next l.ch-iterator;
