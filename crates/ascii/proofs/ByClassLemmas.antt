@@ -310,19 +310,13 @@ module _ (Is : ℕ → Type 0) (test : ℕ → Bool) (decides : (n : ℕ) → De
 
     pub only_back_outside : k ≡ 0 → StartsRun Is false t (length t) k → IsOutside Is t
     only_back_outside end run = subst (λ n. IsOutside Is (drop n t)) end (last_is_outside run)
-
     -- ---- words cut off
 
-    -- no word
-    pub no_word_by : k ≡ length t → EndsRun Is true t 0 k
-        → word_spans_by test (record { start = start; item = t }) ≡ []
-    no_word_by end run = words_of_gap test start t
-        (subst (λ xs. All (λ c. test c ≡ true) xs) (take_all k t (omega arith)) (front_in t k run))
-
-    pub no_word_back : k ≡ 0 → StartsRun Is true t (length t) k
-        → word_spans_by test (record { start = start; item = t }) ≡ []
-    no_word_back end run = words_of_gap test start t
-        (subst (λ n. All (λ c. test c ≡ true) (drop n t)) end (back_in t k run))
+  -- no word
+  pub no_word : (start : ℕ) (t : List ℕ) → All Is t
+      → word_spans_by test (record { start = start; item = t }) ≡ []
+  no_word start t all = words_of_gap test start t
+      (All-weaker Is (λ c. test c ≡ true) is_yes t all)
 
   begins_at : (u : List ℕ) (m : ℕ) → (m < length u → Is (get_or u m 0)) → Begins test (drop m u)
   begins_at u m stop = elim (cases_lt m (length u)) [

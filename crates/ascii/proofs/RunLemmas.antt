@@ -1,14 +1,15 @@
 -- Runs of codes at the ends of a text.
-use Rattle.std.proofs.Common.{◌≡◌, ◌≢◌, ℕ, ◌-◌, ◌<◌, Bool, true, false, not, List, []}
-use Rattle.std.proofs.Common.{◌∷◌, ◌++◌}
+use Rattle.std.proofs.Common.{◌≡◌, ◌≢◌, ℕ, ◌+◌, ◌-◌, ◌<◌, Bool, true, false, not, List, []}
+use Rattle.std.proofs.Common.{◌∷◌, ◌++◌, take}
 use Rattle.std.proofs.Common.{length, get_or, refl, sym, ap, subst, ◌∙◌, arith, inl, inr}
 use Rattle.std.specs.Option.{IfSome}
 use Rattle.std.specs.List.{All, slice_get}
 use Rattle.std.specs.Bool.{Decides}
-use Rattle.std.proofs.lemmas.Bool.{cases_lt}
+use Rattle.std.proofs.lemmas.Bool.{cases_eq, cases_lt}
 use Rattle.std.proofs.lemmas.Bool.Decides.{Decides-not}
 use Rattle.std.proofs.lemmas.Grind.{common_steps}
 use Rattle.std.proofs.lemmas.List.Elements.{All-get_or, All-head, All-tail}
+use Rattle.std.proofs.lemmas.List.{get_or-take, length-take-le}
 use Rattle.std.proofs.lemmas.Option.{slice_get-get_or, slice_get_past}
 use Rattle.ascii_base.specs.Bytes.{IsOnSide}
 use Rattle.ascii.specs.ByClass.{side_test}
@@ -117,6 +118,46 @@ module _ (Is : ℕ → Type 0) where
     run = λ k from_on before. not_other side _ (run.run k from_on before);
     stop = run.stop;
   }
+
+  not_not : (side : Bool) (code : ℕ) → IsOnSide Is (not (not side)) code → IsOnSide Is side code
+  not_not true code is = is
+  not_not false code is = is
+
+  -- the run after a gap, with its first code
+  pub ends_first : (side : Bool) (text : List ℕ) (start end : ℕ)
+      → EndsRun Is (not side) text 0 start → start ≢ length text
+      → EndsRun Is side text (start + 1) end → EndsRun Is side text start end
+  ends_first side text start end gap some run = record {
+    low = omega (arith, run.low);
+    high = run.high;
+    run = λ k from_on before. elim (cases_eq k start) [
+      | inl same ↦ subst (λ i. IsOnSide Is side (get_or text i 0)) (sym same)
+          (not_not side _ (gap.stop (omega (arith, gap.high, some))))
+      | inr other ↦ run.run k (omega (arith, from_on, other)) before
+    ];
+    stop = run.stop;
+  }
+
+  -- the run before a gap, with its last code, in the text up to the gap
+  pub starts_last : (side : Bool) (text : List ℕ) (end start : ℕ)
+      → StartsRun Is (not side) text (length text) end → end ≢ 0
+      → StartsRun Is side text (end - 1) start
+      → StartsRun Is side (take end text) (length (take end text)) start
+  starts_last side text end start gap some run =
+      let size : length (take end text) ≡ end = length-take-le end text gap.high in
+      let within : (k : ℕ) → k < end → get_or (take end text) k 0 ≡ get_or text k 0 =
+      λ k l. get_or-take end text k 0 l in
+      record {
+        high = omega (arith, run.high, size);
+        run = λ k from_on before. subst (IsOnSide Is side)
+            (sym (within k (omega (arith, size, before)))) (elim (cases_eq k (end - 1)) [
+              | inl same ↦ subst (λ i. IsOnSide Is side (get_or text i 0)) (sym same)
+                  (not_not side _ (gap.stop (omega (arith, some))))
+              | inr other ↦ run.run k from_on (omega (arith, size, before, other))
+            ]);
+        stop = λ inside. subst (IsOnSide Is (not side))
+            (sym (within (start - 1) (omega (arith, inside, run.high, some)))) (run.stop inside);
+      }
 
   -- the test of a side decides it
   pub side_decides : (test : ℕ → Bool) → ((n : ℕ) → Decides (test n) (Is n)) → (side : Bool) (n : ℕ)

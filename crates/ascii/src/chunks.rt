@@ -9,10 +9,12 @@
 //! A contract sees the iterator as the bytes whose chunks it has yet to yield, with their start.
 
 ghost use Rattle.std.specs.Prelude.{⊤, ◌≡◌, ◌≢◌, ◌+◌, ◌<◌, ◌≤◌, [], All, IfSome, MatchOption, length};
+ghost use Rattle.std.specs.Prelude.{◌-◌, slice_index};
 ghost use Rattle.std.specs.Iterator.{item_count};
 ghost use Rattle.ascii.specs.Chunks.{HasOneListOfChunks, IsByteOf, LoopsBackOverChunks, LoopsOverChunks};
 ghost use Rattle.ascii.specs.Chunks.{run_in};
-ghost use Rattle.ascii_base.specs.Runs.{EndsRun};
+ghost use Rattle.ascii_base.specs.Bytes.{IsOnSide};
+ghost use Rattle.ascii_base.specs.Runs.{EndsRun, StartsRun};
 
 use crate::ascii_str::AsciiStr;
 use crate::bytes;
@@ -116,7 +118,7 @@ impl<'a> DoubleEndedIterator for AsciiChunks<'a> {
     fn next_back(&mut self) -> Option<AsciiChunk<'a>> {
         let bytes = self.rest;
         let ascii = *bytes.last()? < 128;
-        let at = run_start::<Ascii>(bytes, bytes.len(), ascii);
+        let at = last_run_start(bytes, ascii);
         self.rest = &bytes[..at];
         Some(AsciiChunk {
             start: self.start + at,
@@ -149,6 +151,8 @@ impl<'a> AsciiChunks<'a> {
 
 /// Returns the position after the run at the start: of ASCII bytes, or of other bytes.
 fn first_run_end(bytes: &[u8], ascii: bool) -> usize
+    requires some { 0 < length bytes.now }
+    requires first { IsOnSide (λ byte. byte < 128) ascii (slice_index bytes.now 0) }
     ensures { EndsRun (λ byte. byte < 128) ascii bytes.now 0 result }
 {
     if ascii {
@@ -157,7 +161,24 @@ fn first_run_end(bytes: &[u8], ascii: bool) -> usize
             None => bytes.len(),
         }
     } else {
-        run_end::<Ascii>(bytes, 0, false)
+        run_end::<Ascii>(bytes, 1, false)
+    }
+}
+
+/// Returns the position at which the run at the end starts: of ASCII bytes, or of other bytes.
+fn last_run_start(bytes: &[u8], ascii: bool) -> usize
+    requires some { 0 < length bytes.now }
+    requires last { IsOnSide (λ byte. byte < 128) ascii
+        (slice_index bytes.now (length bytes.now - 1)) }
+    ensures { StartsRun (λ byte. byte < 128) ascii bytes.now (length bytes.now) result }
+{
+    if ascii {
+        match kernels::last_not::<Ascii>(bytes) {
+            Some(at) => at + 1,
+            None => 0,
+        }
+    } else {
+        run_start::<Ascii>(bytes, bytes.len() - 1, false)
     }
 }
 

@@ -207,7 +207,7 @@ marks_other Is bytes at n mask few marks = record {
 
 -- what is not outside a class is in it
 module _ (Is : ℕ → Type 0) (test : ℕ → Bool) (decides : (n : ℕ) → Decides (test n) (Is n)) where
-  not_outside : (n : ℕ) → ¬ (¬ (Is n)) → Is n
+  pub not_outside : (n : ℕ) → ¬ (¬ (Is n)) → Is n
   not_outside n out = elim (cases_Bool (test n)) [
     | inl in_it ↦ (decides n).0 in_it
     | inr other ↦ absurd (out (not_from_Decides (test n) (decides n) other))

@@ -13,8 +13,8 @@
 //! None of them allocates. A search goes through the bytes 32 at a time and ends with one step of 32
 //! over the end, which may test bytes again. Up to 64 bytes take two overlapping steps of 32, 16, 8 or
 //! 4 bytes, and fewer than 4 bytes go one by one. The maps and the comparison take the same steps. A
-//! search by a class tests 16 bytes before that: most runs end there. `run_end` and `run_start` test
-//! those 16 inline, and the nearest bytes one by one.
+//! search by a class tests 16 bytes before that: most runs end there. `run_end` and `run_start` test the
+//! nearest byte alone before those 16, and fewer than 16 bytes one by one.
 //!
 //! A contract sees the bytes as a list of numbers, and a position as an index in it, from 0.
 
@@ -27,7 +27,7 @@ ghost use Rattle.ascii_base.specs.Case.{upper_image, lower_image};
 ghost use Rattle.ascii_base.specs.Class.{IsWhitespace};
 ghost use Rattle.ascii_base.specs.Lanes.{AllBefore, AllFrom, FindsFirstNot, FindsLastNot, Marks};
 ghost use Rattle.ascii_base.specs.Lanes.{SameBefore};
-ghost use Rattle.ascii_base.specs.Runs.{EndsRun, StartsRun};
+ghost use Rattle.ascii_base.specs.Runs.{EndsRun, IsRun, StartsRun};
 
 use crate::classes::{Ascii, Class, ClassBy, Searched, Whitespace};
 use crate::images::{ImageBy, Lower, Upper};
@@ -36,10 +36,6 @@ use std::simd::prelude::*;
 
 /// How many bytes at an end are tested first: most runs are shorter.
 const HALF: usize = 16;
-
-/// How many bytes of a run are tested one by one before that: the gap between two words is mostly one
-/// byte.
-const FEW: usize = 2;
 
 /// Returns the position of the first byte that is not in the class, or `None` if all bytes are in it.
 ///
@@ -89,7 +85,7 @@ pub fn last_of<C: Searched>(bytes: &[u8]) -> Option<usize>
 ///
 /// Condition: `from` is at most the length.
 ///
-/// For short runs, such as words and the gaps between them: a search for more than 16 bytes is a call.
+/// For short runs, such as words and the gaps between them: the search is inlined and calls nothing.
 ///
 ///     run_end::<Digit>(b"v42px", 1, true) // 3
 ///     run_end::<Digit>(b"v42px", 3, false) // 5
@@ -98,11 +94,10 @@ pub fn run_end<C: Searched>(bytes: &[u8], from: usize, inside: bool) -> usize
     requires { from ≤ length bytes.now }
     ensures { EndsRun C.is inside bytes.now from result }
 {
-    let rest = &bytes[from..];
     if inside {
-        from + near_end::<C, true>(rest)
+        end_from::<C, true>(bytes, from)
     } else {
-        from + near_end::<C, false>(rest)
+        end_from::<C, false>(bytes, from)
     }
 }
 
@@ -111,7 +106,7 @@ pub fn run_end<C: Searched>(bytes: &[u8], from: usize, inside: bool) -> usize
 ///
 /// Condition: `to` is at most the length.
 ///
-/// For short runs, such as words and the gaps between them: a search for more than 16 bytes is a call.
+/// For short runs, such as words and the gaps between them: the search is inlined and calls nothing.
 ///
 ///     run_start::<Digit>(b"v42px", 3, true) // 1
 ///     run_start::<Digit>(b"v42px", 5, false) // 3
@@ -120,11 +115,10 @@ pub fn run_start<C: Searched>(bytes: &[u8], to: usize, inside: bool) -> usize
     requires { to ≤ length bytes.now }
     ensures { StartsRun C.is inside bytes.now to result }
 {
-    let rest = &bytes[..to];
     if inside {
-        near_start::<C, true>(rest)
+        start_from::<C, true>(bytes, to)
     } else {
-        near_start::<C, false>(rest)
+        start_from::<C, false>(bytes, to)
     }
 }
 
@@ -374,37 +368,93 @@ fn first_non_ascii_long(bytes: &[u8]) -> Option<usize>
     first_from::<Ascii, true>(bytes, at)
 }
 
-/// The number of bytes on the side at the start.
+/// The position after the run on the side that starts at `from`.
 #[inline(always)]
-fn near_end<C: Searched, const INSIDE: bool>(bytes: &[u8]) -> usize
-    ensures { EndsRun C.is INSIDE bytes.now 0 result }
+fn end_from<C: Searched, const INSIDE: bool>(bytes: &[u8], from: usize) -> usize
+    requires { from ≤ length bytes.now }
+    ensures { EndsRun C.is INSIDE bytes.now from result }
 {
-    if bytes.len() < HALF {
-        return match first_one_by_one::<C, INSIDE>(bytes, 0, bytes.len()) {
-            Some(at) => at,
-            None => bytes.len(),
-        };
+    if from + HALF > bytes.len() {
+        return end_one_by_one::<C, INSIDE>(bytes, from);
     }
-    if let Some(at) = first_one_by_one::<C, INSIDE>(bytes, 0, FEW) {
-        return at;
+    if C::has(bytes[from]) != INSIDE {
+        return from;
     }
-    match first_in::<C, HALF, INSIDE>(bytes, 0) {
-        Some(at) => at,
-        None => far_end::<C, INSIDE>(bytes),
+    match end_in::<C, HALF, INSIDE>(bytes, from) {
+        Some(end) => end,
+        None => end_past_first::<C, INSIDE>(bytes, from),
     }
 }
 
-/// The number of bytes on the side at the start, if the first 16 are on it.
-#[inline(never)]
-fn far_end<C: Searched, const INSIDE: bool>(bytes: &[u8]) -> usize
-    requires long { HALF ≤ length bytes.now }
-    requires before { AllBefore (IsOnSide C.is INSIDE) bytes.now HALF }
-    ensures { EndsRun C.is INSIDE bytes.now 0 result }
+/// The position after the run on the side that starts at `from`, if its first 16 bytes are on it.
+#[inline(always)]
+fn end_past_first<C: Searched, const INSIDE: bool>(bytes: &[u8], from: usize) -> usize
+    requires { IsRun C.is INSIDE bytes.now from (from + HALF) }
+    ensures { EndsRun C.is INSIDE bytes.now from result }
 {
-    match first_from::<C, INSIDE>(bytes, HALF) {
-        Some(at) => at,
+    let mut at = from + HALF;
+    while at + LANES <= bytes.len() {
+        if let Some(end) = end_in::<C, LANES, INSIDE>(bytes, at) {
+            return end;
+        }
+        at += LANES;
+    }
+    end_of_rest::<C, INSIDE>(bytes, from, at)
+}
+
+/// The position after the run on the side that starts at `from` and goes on to `at` at least, with fewer
+/// than 32 bytes from there on: the last 16 may be tested again.
+#[inline(always)]
+fn end_of_rest<C: Searched, const INSIDE: bool>(bytes: &[u8], from: usize, at: usize) -> usize
+    requires long { from + HALF ≤ length bytes.now }
+    requires short { length bytes.now < at + LANES }
+    requires before { IsRun C.is INSIDE bytes.now from at }
+    ensures { EndsRun C.is INSIDE bytes.now from result }
+{
+    let last = bytes.len() - HALF;
+    if at < last
+        && let Some(end) = end_in::<C, HALF, INSIDE>(bytes, at)
+    {
+        return end;
+    }
+    match end_in::<C, HALF, INSIDE>(bytes, last) {
+        Some(end) => end,
         None => bytes.len(),
     }
+}
+
+/// The position after the run on the side that starts at `at`, or `None` if the `N` bytes from there on
+/// are all on it.
+#[inline(always)]
+fn end_in<C: ClassBy<N>, const N: usize, const INSIDE: bool>(
+    bytes: &[u8],
+    at: usize,
+) -> Option<usize>
+    requires lanes { N < 64 }
+    requires room { at + N ≤ length bytes.now }
+    ensures { MatchOption result (IsRun C.is INSIDE bytes.now at (at + N))
+        (EndsRun C.is INSIDE bytes.now at) }
+{
+    let marked = marks_past::<C, N, INSIDE>(bytes, at);
+    if marked == 0 {
+        None
+    } else {
+        Some(at + marked.trailing_zeros() as usize)
+    }
+}
+
+/// The position after the run on the side that starts at `from`, byte by byte.
+#[inline(always)]
+fn end_one_by_one<C: Class, const INSIDE: bool>(bytes: &[u8], from: usize) -> usize
+    requires { from ≤ length bytes.now }
+    ensures { EndsRun C.is INSIDE bytes.now from result }
+{
+    for at in from..bytes.len() {
+        if C::has(bytes[at]) != INSIDE {
+            return at;
+        }
+    }
+    bytes.len()
 }
 
 /// The last byte that is not on the side.
@@ -524,38 +574,93 @@ fn last_one_by_one<C: Class, const INSIDE: bool>(
     None
 }
 
-/// The position at which the bytes on the side at the end start.
+/// The position at which the run on the side that ends at `to` starts.
 #[inline(always)]
-fn near_start<C: Searched, const INSIDE: bool>(bytes: &[u8]) -> usize
-    ensures { StartsRun C.is INSIDE bytes.now (length bytes.now) result }
+fn start_from<C: Searched, const INSIDE: bool>(bytes: &[u8], to: usize) -> usize
+    requires { to ≤ length bytes.now }
+    ensures { StartsRun C.is INSIDE bytes.now to result }
 {
-    let end = bytes.len();
-    if end < HALF {
-        return match last_one_by_one::<C, INSIDE>(bytes, 0, end) {
-            Some(at) => at + 1,
-            None => 0,
-        };
+    if to < HALF {
+        return start_one_by_one::<C, INSIDE>(bytes, to);
     }
-    if let Some(at) = last_one_by_one::<C, INSIDE>(bytes, end - FEW, end) {
-        return at + 1;
+    if C::has(bytes[to - 1]) != INSIDE {
+        return to;
     }
-    match last_in::<C, HALF, INSIDE>(bytes, end - HALF) {
-        Some(at) => at + 1,
-        None => far_start::<C, INSIDE>(bytes),
+    match start_in::<C, HALF, INSIDE>(bytes, to - HALF) {
+        Some(start) => start,
+        None => start_past_last::<C, INSIDE>(bytes, to),
     }
 }
 
-/// The position at which the bytes on the side at the end start, if the last 16 are on it.
-#[inline(never)]
-fn far_start<C: Searched, const INSIDE: bool>(bytes: &[u8]) -> usize
-    requires long { HALF ≤ length bytes.now }
-    requires after { AllFrom (IsOnSide C.is INSIDE) bytes.now (length bytes.now - HALF) }
-    ensures { StartsRun C.is INSIDE bytes.now (length bytes.now) result }
+/// The position at which the run on the side that ends at `to` starts, if its last 16 bytes are on it.
+#[inline(always)]
+fn start_past_last<C: Searched, const INSIDE: bool>(bytes: &[u8], to: usize) -> usize
+    requires some { HALF ≤ to }
+    requires after { IsRun C.is INSIDE bytes.now (to - HALF) to }
+    ensures { StartsRun C.is INSIDE bytes.now to result }
 {
-    match last_before::<C, INSIDE>(bytes, bytes.len() - HALF) {
-        Some(at) => at + 1,
+    let mut at = to - HALF;
+    while at >= LANES {
+        if let Some(start) = start_in::<C, LANES, INSIDE>(bytes, at - LANES) {
+            return start;
+        }
+        at -= LANES;
+    }
+    start_of_rest::<C, INSIDE>(bytes, to, at)
+}
+
+/// The position at which the run on the side that ends at `to` and goes back to `at` at least starts, with
+/// fewer than 32 bytes before that: the first 16 may be tested again.
+#[inline(always)]
+fn start_of_rest<C: Searched, const INSIDE: bool>(bytes: &[u8], to: usize, at: usize) -> usize
+    requires long { HALF ≤ to }
+    requires short { at < LANES }
+    requires after { IsRun C.is INSIDE bytes.now at to }
+    ensures { StartsRun C.is INSIDE bytes.now to result }
+{
+    if at > HALF
+        && let Some(start) = start_in::<C, HALF, INSIDE>(bytes, at - HALF)
+    {
+        return start;
+    }
+    match start_in::<C, HALF, INSIDE>(bytes, 0) {
+        Some(start) => start,
         None => 0,
     }
+}
+
+/// The position at which the run on the side that ends after the `N` bytes from `at` on starts, or `None`
+/// if these are all on it.
+#[inline(always)]
+fn start_in<C: ClassBy<N>, const N: usize, const INSIDE: bool>(
+    bytes: &[u8],
+    at: usize,
+) -> Option<usize>
+    requires lanes { N < 64 }
+    requires room { at + N ≤ length bytes.now }
+    ensures { MatchOption result (IsRun C.is INSIDE bytes.now at (at + N))
+        (StartsRun C.is INSIDE bytes.now (at + N)) }
+{
+    let marked = marks_past::<C, N, INSIDE>(bytes, at);
+    if marked == 0 {
+        None
+    } else {
+        Some(at + marked.ilog2() as usize + 1)
+    }
+}
+
+/// The position at which the run on the side that ends at `to` starts, byte by byte.
+#[inline(always)]
+fn start_one_by_one<C: Class, const INSIDE: bool>(bytes: &[u8], to: usize) -> usize
+    requires { to ≤ length bytes.now }
+    ensures { StartsRun C.is INSIDE bytes.now to result }
+{
+    for at in (0..to).rev() {
+        if C::has(bytes[at]) != INSIDE {
+            return at + 1;
+        }
+    }
+    0
 }
 
 /// Marks the bytes that are not on the side among the `N` from `at` on.

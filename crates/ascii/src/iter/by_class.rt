@@ -1,9 +1,11 @@
 //! The pieces of a view at the characters of a class, its words, which are the pieces that are not
 //! empty, and its runs of characters of a class.
 
-ghost use Rattle.std.specs.Prelude.{◌≡◌};
+ghost use Rattle.std.specs.Prelude.{◌≡◌, ◌<◌, All, MatchOption, length, not};
 ghost use Rattle.std.specs.List.{slice_split};
 ghost use Rattle.ascii_base.specs.Class.{IsWhitespace};
+ghost use Rattle.ascii_base.specs.Bytes.{IsOnSide};
+ghost use Rattle.ascii_base.specs.Runs.{EndsRun, StartsRun};
 ghost use Rattle.ascii_base.specs.Tests.{is_whitespace};
 ghost use Rattle.ascii.specs.ByClass.{IsOutside, piece_spans_by, whole, word_spans_by, words_by};
 ghost use Rattle.ascii.specs.Cuts.{IsRemainder};
@@ -65,8 +67,6 @@ pub struct AtRuns<C, const INSIDE: bool> {
 }
 
 impl<C: Searched, const INSIDE: bool> Cut for AtRuns<C, INSIDE> {
-    ghost use Rattle.std.specs.Prelude.{not};
-    ghost use Rattle.ascii_base.specs.Bytes.{IsOnSide};
     ghost use Rattle.ascii.specs.ByClass.{side_test};
 
     ghost items = { λ _. word_spans_by (side_test C.test (not INSIDE)) };
@@ -76,11 +76,8 @@ impl<C: Searched, const INSIDE: bool> Cut for AtRuns<C, INSIDE> {
     #[inline(always)]
     fn first<'a>(self, part: Cursor<'a>) -> Option<(SplitSpan<'a>, Option<Cursor<'a>>)> {
         let bytes = part.view.bytes;
-        let start = run_end::<C>(bytes, 0, !INSIDE);
-        if start == bytes.len() {
-            return None;
-        }
-        let end = run_end::<C>(bytes, start, INSIDE);
+        let start = first_on::<C, INSIDE>(bytes)?;
+        let end = run_end::<C>(bytes, start + 1, INSIDE);
         Some((part.to(end).from(start).piece(), Some(part.from(end))))
     }
 }
@@ -88,14 +85,44 @@ impl<C: Searched, const INSIDE: bool> Cut for AtRuns<C, INSIDE> {
 impl<C: Searched, const INSIDE: bool> CutBack for AtRuns<C, INSIDE> {
     #[inline(always)]
     fn last<'a>(self, part: Cursor<'a>) -> Option<(SplitSpan<'a>, Option<Cursor<'a>>)> {
-        let end = run_start::<C>(part.view.bytes, part.view.bytes.len(), !INSIDE);
-        if end == 0 {
-            return None;
-        }
+        let bytes = part.view.bytes;
+        let end = end_of_last_on::<C, INSIDE>(bytes)?;
+        let start = run_start::<C>(bytes, end - 1, INSIDE);
         let rest = part.to(end);
-        let start = run_start::<C>(rest.view.bytes, rest.view.bytes.len(), INSIDE);
         Some((rest.from(start).piece(), Some(rest.to(start))))
     }
+}
+
+/// The position of the first character on the side, if there is one.
+#[inline(always)]
+fn first_on<C: Searched, const INSIDE: bool>(bytes: &[u8]) -> Option<usize>
+    ensures { MatchOption result (All (IsOnSide C.is (not INSIDE)) bytes.now)
+        (λ start. EndsRun C.is (not INSIDE) bytes.now 0 start × (start < length bytes.now)) }
+{
+    if C::has(*bytes.first()?) == INSIDE {
+        return Some(0);
+    }
+    let start = run_end::<C>(bytes, 1, !INSIDE);
+    if start == bytes.len() {
+        None
+    } else {
+        Some(start)
+    }
+}
+
+/// The position after the last character on the side, if there is one.
+#[inline(always)]
+fn end_of_last_on<C: Searched, const INSIDE: bool>(bytes: &[u8]) -> Option<usize>
+    ensures { MatchOption result (All (IsOnSide C.is (not INSIDE)) bytes.now)
+        (λ end. StartsRun C.is (not INSIDE) bytes.now (length bytes.now) end × (0 < end)) }
+{
+    let (last, front) = bytes.split_last()?;
+    let end = if C::has(*last) == INSIDE {
+        bytes.len()
+    } else {
+        run_start::<C>(bytes, front.len(), !INSIDE)
+    };
+    if end == 0 { None } else { Some(end) }
 }
 
 /// The cut into words: the longest runs of characters outside a class.
@@ -121,8 +148,6 @@ pub type Runs<'a, C> = Items<'a, AtRuns<C, true>>;
 pub type RunSpans<'a, C> = Spans<'a, AtRuns<C, true>>;
 
 impl<'a> AsciiStr<'a> {
-    ghost use Rattle.std.specs.Prelude.{not};
-
     /// Returns an iterator over the pieces of the view at each character of the class, from both
     /// ends. There is at least one piece, and none contains a character of the class. A character of
     /// the class at an end of the view makes an empty piece there, and so do two in a row between
@@ -285,8 +310,6 @@ impl<'a, C: Searched> Items<'a, AtWords<C>> {
 }
 
 impl<'a, C: Searched> Items<'a, AtRuns<C, true>> {
-    ghost use Rattle.std.specs.Prelude.{not};
-
     /// Returns the part of the view whose runs remain. Returns `None` only if there are none left. The
     /// iterator is unchanged. Constant time.
     ///
