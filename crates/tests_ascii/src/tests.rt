@@ -4,6 +4,7 @@
 //! the documentation of the calls.
 
 mod both_ends;
+mod by_class;
 mod chunks;
 mod clones;
 mod folded;

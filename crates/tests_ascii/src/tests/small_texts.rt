@@ -64,7 +64,7 @@ fn are_pieces_of(text: &[u8], on: u8, pieces: &[SplitSpan<'_>]) -> bool {
 }
 
 /// The answers to a script of a list that is worked off from both ends.
-fn taken<T: Copy + Drop, R: Abort + AllocGlobal>(
+pub fn taken<T: Copy + Drop, R: Abort + AllocGlobal>(
     rt: &R,
     script: &[End],
     list: &[T],
