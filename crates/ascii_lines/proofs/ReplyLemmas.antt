@@ -9,8 +9,8 @@ use Rattle.ascii.specs.Lines.{ending_text}
 use Rattle.ascii_devices.specs.Buffered.{OutputState}
 use Rattle.ascii_lines.specs.Failures.{one_more}
 use Rattle.ascii_lines.specs.LineWriter.{FailsToWrite, WritesBytes, is_line_break}
-use Rattle.ascii_lines.specs.Serve.{Reply, Says, SaysBytes, SaysLine, Saying, is_unbroken}
-use Rattle.ascii_lines.specs.Serve.{line_reply, part_reply, reply_bytes}
+use Rattle.ascii_lines.specs.Serve.{Reply, IsLineOutcome, Says, SaysBytes, Saying}
+use Rattle.ascii_lines.specs.Serve.{is_unbroken, line_given, line_reply, part_reply, reply_bytes}
 use Rattle.ascii_lines.specs.Serve.{reply_text}
 use Rattle.ascii_lines.proofs.WriteBufferLemmas.{Passes-nil, Passes-prefix, Passes-trans}
 use Rattle.ascii_lines.proofs.WriteBufferLemmas.{PassesPrefix-more}
@@ -102,11 +102,12 @@ module _ {K : Type 0} where
 
   -- a line without a break was given
   pub said_line : (a b : Saying K) (body : List ℕ) (result : Result (Unit {0}) ℕ)
-      → IsTrue (is_unbroken body) → SaysLine a body result b → Says a (line_reply body ∷ []) b
-  said_line a b body (Ok done) clean says = says.1
-  said_line a b body (Err k) clean says = absurd (false≢true
-      (sym (list_all_at (λ code. not (is_line_break code)) body k 0 says.0.0.high
-      (ap not says.0.1)) ∙ clean))
+      → IsTrue (is_unbroken body) → IsLineOutcome a body result b
+      → Says a (line_given body result) b → Says a (line_reply body ∷ []) b
+  said_line a b body (Ok done) clean outcome says = says
+  said_line a b body (Err k) clean outcome says = absurd (false≢true
+      (sym (list_all_at (λ code. not (is_line_break code)) body k 0 outcome.0.0.high
+      (ap not outcome.0.1)) ∙ clean))
 
   -- a part, and then an empty line, are a line
   pub said_text : (a b c : Saying K) (text : List ℕ) → Says a (part_reply text ∷ []) b

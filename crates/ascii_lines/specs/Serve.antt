@@ -76,13 +76,17 @@ Says old replies new = SaysBytes old.state.buffer.is_broken old.state
 abbrev pub is_unbroken : List ℕ → Bool
 is_unbroken text = list_all (λ code. not (is_line_break code)) text
 
--- `Ok`: the line has no CR and no LF, and was given. `Err`: the index of its first CR or LF, and
--- nothing is changed
-abbrev pub SaysLine
+-- the outcome of giving a line. `Ok`: it has no CR and no LF. `Err`: the index of its first CR or LF,
+-- and nothing is changed
+abbrev pub IsLineOutcome
     : {K : Type 0} → Saying K → List ℕ → Result (Unit {0}) ℕ → Saying K → Type 0
-SaysLine old body (Ok _) new =
-    IsFirstByte is_line_break body None × Says old (line_reply body ∷ []) new
-SaysLine old body (Err k) new = IsFirstByte is_line_break body (Some k) × (new ≡ old)
+IsLineOutcome old body (Ok _) new = IsFirstByte is_line_break body None
+IsLineOutcome old body (Err k) new = IsFirstByte is_line_break body (Some k) × (new ≡ old)
+
+-- the replies that are given with a line, by its outcome: that line, or none
+abbrev pub line_given : List ℕ → Result (Unit {0}) ℕ → List Reply
+line_given body (Ok _) = line_reply body ∷ []
+line_given body (Err _) = []
 
 -- the part was given
 abbrev pub SaysPart : {K : Type 0} → Saying K → List ℕ → Saying K → Type 0

@@ -11,9 +11,9 @@ ghost use Rattle.std.specs.Str.{IsAscii};
 ghost use Rattle.ascii.specs.View.{text_of};
 ghost use Rattle.ascii_lines.specs.LineWriter.{line_with};
 ghost use Rattle.ascii_lines.specs.LineReader.{read_line_in};
-ghost use Rattle.ascii_lines.specs.Serve.{GoesOn, Halts, IsInputOf, IsRequest, IsUp, Reply, Says};
-ghost use Rattle.ascii_lines.specs.Serve.{SaysLine, is_unbroken, line_reply};
-ghost use Rattle.ascii_lines.specs.Serve.{SaysPart, SendsOut, Serves, asked_by};
+ghost use Rattle.ascii_lines.specs.Serve.{GoesOn, Halts, IsInputOf, IsLineOutcome, IsRequest, IsUp};
+ghost use Rattle.ascii_lines.specs.Serve.{Reply, Says, SaysPart, SendsOut, Serves, asked_by};
+ghost use Rattle.ascii_lines.specs.Serve.{is_unbroken, line_given, line_reply};
 ghost use Rattle.ascii_lines.specs.Wanted.{IsOne};
 
 use crate::line_cursor::LineCursor;
@@ -130,7 +130,8 @@ impl<K: Sink, A: Allocator> Replies<K, A> {
     ///     replies.line(view("ab")) // Ok(())
     ///     replies.line(view("a\nb")) // Err(1)
     pub fn line(&mut self, body: AsciiStr<'_>) -> Result<(), usize>
-        ensures { SaysLine self.old (text_of body.entry) result self.new }
+        ensures outcome { IsLineOutcome self.old (text_of body.entry) result self.new }
+        ensures says { Says self.old (line_given (text_of body.entry) result) self.new }
     {
         match self.writer.write_line(body, self.ending) {
             Ok(()) => Ok(()),
