@@ -15,7 +15,8 @@ use Rattle.ascii_devices.specs.declared.log.Event.TheVariants.{Flushed}
 use Rattle.ascii_lines.specs.Failures.{one_more}
 use Rattle.ascii_lines.specs.History.{AreWrites}
 use Rattle.ascii_lines.specs.LineWriter.{FailsToWrite, Flushes}
-use Rattle.ascii_lines.specs.Serve.{ChannelState, Conversation, CountsBy, Finishes, FinishesBy, Halts}
+use Rattle.ascii_lines.specs.Serve.{ChannelState, Conversation, CountsBy, CountsReads, Finishes}
+use Rattle.ascii_lines.specs.Serve.{FinishesBy, Halts}
 use Rattle.ascii_lines.specs.Serve.{IsAnswered, IsFlushed, SentBy, Serves, StopsFor, Wrote, read_side, reading_of}
 use Rattle.ascii_lines.specs.Serve.{Reply, replies_of, reply_bytes}
 use Rattle.ascii_lines.specs.Wanted.{Rejects}
@@ -93,7 +94,7 @@ module _ {H : Type 0} (answers : H → Line → List Reply → Next → H → Ty
       (aside : out.aside ≡ mid.output.aside)
       (took : Appends mid.output.taken out.taken (sent_of more))
       (stops : StopsFor refuses result talk.awaited talk.state (reading_of mid) talk.extra talk.over
-      last) where
+      last) (reads : CountsReads result old.output.aside.failures mid.output.aside.failures) where
     abbrev new : ChannelState
     new = record mid { output = out }
 
@@ -110,6 +111,10 @@ module _ {H : Type 0} (answers : H → Line → List Reply → Next → H → Ty
         awaited = talk.awaited;
         state = talk.state;
         talks = talk.talks;
+        unended = talk.unended;
+        reads = subst
+            (λ (side : Aside). CountsReads result old.output.aside.failures side.failures)
+            (sym aside) reads;
         extra = talk.extra;
         over = talk.over;
         stops = stops_written refuses talk.state last talk.extra talk.over result talk.awaited mid
@@ -172,6 +177,8 @@ module _ {H : Type 0} (answers : H → Line → List Reply → Next → H → Ty
         awaited = talk.awaited;
         state = talk.state;
         talks = talk.talks;
+        unended = talk.unended;
+        reads = tt;
         extra = talk.extra;
         over = talk.over;
         stops = stops_failed refuses talk.state last talk.extra talk.over why talk.awaited mid
@@ -222,7 +229,7 @@ module _ {H : Type 0} (answers : H → Line → List Reply → Next → H → Ty
             talk = (Conversation-written why why mid out talk more writes flushes.told
                 flushes.aside
                 (subst (Appends mid.output.taken out.taken) (sym noted) flushes.took)
-                talk.stops).0;
+                talk.stops talk.reads).0;
             wrote = wrote_all why (talk.events ++ more) (all_replies why mid talk) out
                 (λ writer. false≢true (sym whole ∙ halts.broken writer))
                 (sent_of-append talk.events more
@@ -242,7 +249,7 @@ module _ {H : Type 0} (answers : H → Line → List Reply → Next → H → Ty
                 told.grows fails.aside
                 (subst (Appends mid.output.taken out.taken) (sym told.noted) fails.passed.took)
                 (stops_failed refuses talk.state last talk.extra talk.over why talk.awaited mid
-                talk.stops)).0;
+                talk.stops) tt).0;
             wrote = (
               (
                 fails.passed.others,

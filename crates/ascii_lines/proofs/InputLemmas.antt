@@ -1,5 +1,5 @@
 -- What a step of a server with an input comes to.
-use Rattle.std.proofs.Common.{if◌then◌else◌, ◌≡◌, ◌⊎◌, ℕ, List, [], ◌∷◌, ◌++◌, Bool, true, false}
+use Rattle.std.proofs.Common.{if◌then◌else◌, ◌≡◌, ◌≢◌, ◌⊎◌, ℕ, List, [], ◌∷◌, ◌++◌, Bool, true, false}
 use Rattle.std.proofs.Common.{Err, Ok, Result, append-nil, ap, inl, inr, length, refl, subst, sym, ◌∙◌}
 use Rattle.std.proofs.Common.{◌-◌, ◌^◌, add-zero}
 use Rattle.std.specs.Prelude.{IsErrAnd}
@@ -14,11 +14,14 @@ use Rattle.ascii_lines.specs.Serve.{Explains, IsStep, SkipOutcome, Step, skipped
 use Rattle.ascii_lines.specs.Serve.{ChannelState, GoesOn, IsAsked, IsInputOf, IsRequest, IsUp}
 use Rattle.ascii_lines.specs.Serve.{IsWantedAt, Lacks, MayStep, Moves, ReadsWell, Reply, SaysBytes}
 use Rattle.ascii_lines.specs.Serve.{Stopped, StopsFor, TakeOutcome, TakesInput, TakesWanted}
-use Rattle.ascii_lines.specs.Serve.{StepOutcome}
+use Rattle.ascii_lines.specs.Serve.{StepOutcome, TakesUnended}
 use Rattle.ascii_lines.specs.Serve.{asked_by, rejected, reading_of, reply_bytes, took, step_bytes}
 use Rattle.ascii_lines.specs.Skipping.{HasNoEnd, IsFinal, WhyNotSkipped}
 use Rattle.ascii.specs.Endings.{any_text}
-use Rattle.ascii_lines.specs.Wanted.{MustRead, Rejects}
+use Rattle.ascii_lines.specs.Wanted.{EndsAt, MustRead, Rejects}
+use Rattle.ascii_lines.specs.LineReader.{IsDone}
+use Rattle.ascii_lines.specs.declared.line_reader.Stage.{Stage}
+use Rattle.ascii_lines.specs.declared.line_reader.Stage.TheVariants.{Ended, Open, Refused}
 use Rattle.ascii_lines.specs.declared.line_reader.LineError.{LineError}
 use Rattle.ascii_lines.specs.declared.serving.Awaited.{Awaited}
 use Rattle.ascii_lines.specs.declared.serving.Awaited.TheVariants.{Input, LineEnd}
@@ -57,6 +60,13 @@ still_up mid output ending aside up whole = (
   whole,
 )
 
+-- a reader that is open, or at a line that was rejected, has not ended
+not_ended : {stage : Stage} → stage ≡ Open → stage ≢ Ended
+not_ended is ended = let e : Open ≡ Ended = sym is ∙ ended in cc
+
+refused_is_not_ended : (error : LineError) → Refused error ≢ Ended
+refused_is_not_ended error same = let e : Refused error ≡ Ended = same in cc
+
 -- the device failed at the replies of a step
 after_one : {H : Type 0} (answers : H → Line → List Reply → Next → H → Type 0)
     (refuses : H → LineError → List Reply → Next → H → Type 0) (awaited after : Awaited)
@@ -65,14 +75,17 @@ after_one : {H : Type 0} (answers : H → Line → List Reply → Next → H →
     → Moves (Lacks old.cursor.endings old.cursor.start old.cursor.size awaited) old
     (step_bytes step) (step_replies old.ending step) now
     → Explains old.cursor.endings old.cursor.size old.cursor.start (step ∷ []) now.cursor.held
-    → now.output.buffer.is_broken ≡ true
+    → now.output.buffer.is_broken ≡ true → old.cursor.stage ≢ Ended
     → Stopped answers refuses awaited handler old stop.Writer last now
-after_one answers refuses awaited after handler last old now step is_step moves explains broken =
-    record {
+after_one answers refuses awaited after handler last old now step is_step moves explains broken
+    going = record {
       steps = step ∷ [];
       then = after;
       state = last;
       talks = Talks-one answers refuses old.cursor.endings awaited after handler last step is_step;
+      unended = (λ _. refl, tt);
+      going = inr going;
+      reads = tt;
       extra = [];
       over = [];
       stops = inl (refl, refl);
@@ -129,6 +142,9 @@ module _ {H : Type 0} (answers : H → Line → List Reply → Next → H → Ty
         then = asked;
         state = handler;
         talks = (refl, refl);
+        unended = tt;
+        going = inl refl;
+        reads = tt;
         extra = [];
         over = [];
         stops = inl (refl, refl);
@@ -140,11 +156,14 @@ module _ {H : Type 0} (answers : H → Line → List Reply → Next → H → Ty
   -- there are no more lines
   pub input_ends : (new : ChannelState) → TakesWanted what old taken.End new
       → Stopped answers refuses asked handler old stop.EndOfInput handler new
-  input_ends new (moves, last, line) = record {
+  input_ends new (moves, last, line, well) = record {
     steps = [];
     then = asked;
     state = handler;
     talks = (refl, refl);
+    unended = tt;
+    going = inl refl;
+    reads = well;
     extra = [];
     over = [];
     stops = (last, refl, refl, inl (ap Input line, refl));
@@ -227,11 +246,23 @@ module _ {H : Type 0} (answers : H → Line → List Reply → Next → H → Ty
             explains = tt;
             may = (still_up mid output ending aside t.up (sym whole), request);
             well = read_well t.well;
+            going = not_ended t.going;
+            unended = go what is_wanted input_is t.ends;
           })
+        where
+          go : (w : Wanted) → IsWantedAt old w → IsInputOf w mid.cursor.lent input
+              → EndsAt w mid.cursor.lent (length mid.cursor.lent) ⊎ IsDone (reading_of mid)
+              → TakesUnended (took input said) (Input (asked_by w)) → mid.cursor.stage ≡ Ended
+          go (wanted.Line endings) may is ends unended = elim ends [
+            | inl stops ↦ absurd (is.2 stops unended)
+            | inr last ↦ last.ended
+          ]
+          go (wanted.Bytes endings) may is ends unended = absurd may
+          go (wanted.Part n) may is ends unended = absurd unended
       input_answered result true broken is =
           subst (λ r. StepOutcome answers refuses asked handler old r last now) (sym is)
           (after_one answers refuses asked (Input sequel) handler last old now (took input said)
-          is_step moved tt (sym broken))
+          is_step moved tt (sym broken) (not_ended t.going))
 
     -- ---- an error
 
@@ -259,6 +290,9 @@ module _ {H : Type 0} (answers : H → Line → List Reply → Next → H → Ty
             then = asked;
             state = handler;
             talks = (refl, refl);
+            unended = tt;
+            going = inl refl;
+            reads = tt;
             extra = said;
             over = [];
             stops = go what is_wanted rejects stops;
@@ -332,12 +366,15 @@ module _ {H : Type 0} (answers : H → Line → List Reply → Next → H → Ty
               explains = explained;
               may = subst (λ a. MayStep a now) (sym goes.0)
                   (((error, fault.2 goes.1, goes.2), sym whole), request);
-              well = read_well (fault.3 goes.2);
+              well = read_well (fault.3 goes.2).0;
+              going = not_ended (fault.3 goes.2).1;
+              unended = λ none. absurd none;
             })
         input_refused result true broken is =
             subst (λ r. StepOutcome answers refuses asked handler old r last now) (sym is)
             (after_one answers refuses asked after handler last old now (rejected error said)
-            is_refusal (replied [] fault.4 fault.0) explained (sym broken))
+            is_refusal (replied [] fault.4 fault.0) explained (sym broken)
+            (not_ended (fault.3 goes.2).1))
 
 -- ---- a handler that closed, and a line that was read over
 
@@ -352,6 +389,9 @@ module _ {H : Type 0} (answers : H → Line → List Reply → Next → H → Ty
     then = awaited;
     state = handler;
     talks = (refl, refl);
+    unended = tt;
+    going = inl refl;
+    reads = refl;
     extra = [];
     over = [];
     stops = (is, refl, refl, refl);
@@ -362,21 +402,26 @@ module _ {H : Type 0} (answers : H → Line → List Reply → Next → H → Ty
   }
 
   pub step_skipped : (asked : Next) (result : Result Awaited Stop) (new : ChannelState)
-      → IsRequest asked → SkipOutcome asked old result new
+      → MayStep (LineEnd asked) old → SkipOutcome asked old result new
       → StepOutcome answers refuses (LineEnd asked) handler old result handler new
-  step_skipped asked (Ok after) new request (is, (bytes, stops, moves, up, well)) = record {
+  step_skipped asked (Ok after) new may (is, (bytes, stops, moves, up, well)) = record {
     step = skipped bytes;
     is_step = (is, refl, stops);
     moves = moves;
     explains = tt;
-    may = subst (λ a. MayStep a new) (sym is) (up, request);
+    may = subst (λ a. MayStep a new) (sym is) (up, may.1);
     well = well;
+    going = λ ended. refused_is_not_ended may.0.0.0 (sym may.0.0.1 ∙ ended);
+    unended = λ none. absurd none;
   }
-  step_skipped asked (Err stop.EndOfInput) new request (bytes, moves, last, free) = record {
+  step_skipped asked (Err stop.EndOfInput) new may (bytes, moves, last, free, well) = record {
     steps = [];
     then = LineEnd asked;
     state = handler;
     talks = (refl, refl);
+    unended = tt;
+    going = inl refl;
+    reads = well;
     extra = [];
     over = bytes;
     stops = (
@@ -389,11 +434,14 @@ module _ {H : Type 0} (answers : H → Line → List Reply → Next → H → Ty
     explains = tt;
     broken = λ same. let e : stop.EndOfInput ≡ stop.Writer = same in cc;
   }
-  step_skipped asked (Err (stop.Reader error)) new request (bytes, moves, why) = record {
+  step_skipped asked (Err (stop.Reader error)) new may (bytes, moves, why) = record {
     steps = [];
     then = LineEnd asked;
     state = handler;
     talks = (refl, refl);
+    unended = tt;
+    going = inl refl;
+    reads = tt;
     extra = [];
     over = bytes;
     stops = (
@@ -411,11 +459,14 @@ module _ {H : Type 0} (answers : H → Line → List Reply → Next → H → Ty
     explains = tt;
     broken = λ same. let e : stop.Reader error ≡ stop.Writer = same in cc;
   }
-  step_skipped asked (Err stop.Writer) new request (moves, broken) = record {
+  step_skipped asked (Err stop.Writer) new may (moves, broken) = record {
     steps = [];
     then = LineEnd asked;
     state = handler;
     talks = (refl, refl);
+    unended = tt;
+    going = inl refl;
+    reads = tt;
     extra = [];
     over = [];
     stops = inl (refl, refl);
@@ -423,4 +474,4 @@ module _ {H : Type 0} (answers : H → Line → List Reply → Next → H → Ty
     explains = tt;
     broken = λ _. broken;
   }
-  step_skipped asked (Err stop.Closed) new request failed = absurd failed
+  step_skipped asked (Err stop.Closed) new may failed = absurd failed

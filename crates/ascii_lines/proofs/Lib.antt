@@ -1,3 +1,4 @@
+pub mod ExchangeLemmas
 pub mod GathersLemmas
 pub mod HistoryLemmas
 pub mod LineBufferLemmas

@@ -1,5 +1,6 @@
 -- Replies of a handler, one after another.
 use Rattle.std.proofs.Common.{◌≡◌, ℕ, List, [], ◌∷◌, ◌++◌, Bool, true, false, IsTrue, append_assoc}
+use Rattle.std.proofs.Common.{append-nil}
 use Rattle.std.proofs.Common.{Err, Ok, Result, ap, inl, inr, refl, subst, sym, ◌∙◌}
 use Rattle.std.specs.Prelude.{not}
 use Rattle.std.proofs.lemmas.Bool.{false≢true}
@@ -109,12 +110,20 @@ module _ {K : Type 0} where
       (sym (list_all_at (λ code. not (is_line_break code)) body k 0 outcome.0.0.high
       (ap not outcome.0.1)) ∙ clean))
 
+  -- a part, and then a line, are one line
+  pub said_joined : (a b c : Saying K) (text more : List ℕ) → Says a (part_reply text ∷ []) b
+      → Says b (line_reply more ∷ []) c → Says a (line_reply (text ++ more) ∷ []) c
+  said_joined a b c text more one two =
+      let end = ending_text a.ending in
+      let both = Says-trans a b c (part_reply text ∷ []) (line_reply more ∷ []) one two in (
+        subst (λ bytes. SaysBytes a.state.buffer.is_broken a.state bytes c.state)
+            (sym (ap (λ bytes. bytes ++ []) (append_assoc text more end)
+            ∙ append_assoc text (more ++ end) [])) both.0,
+        both.1,
+      )
+
   -- a part, and then an empty line, are a line
   pub said_text : (a b c : Saying K) (text : List ℕ) → Says a (part_reply text ∷ []) b
       → Says b (line_reply [] ∷ []) c → Says a (line_reply text ∷ []) c
-  said_text a b c text one two =
-      let both = Says-trans a b c (part_reply text ∷ []) (line_reply [] ∷ []) one two in (
-        subst (λ bytes. SaysBytes a.state.buffer.is_broken a.state bytes c.state)
-            (sym (append_assoc text (ending_text a.ending) [])) both.0,
-        both.1,
-      )
+  said_text a b c text one two = subst (λ (body : List ℕ). Says a (line_reply body ∷ []) c)
+      (append-nil text) (said_joined a b c text [] one two)

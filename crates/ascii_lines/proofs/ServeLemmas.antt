@@ -1,5 +1,5 @@
 -- One step of a server after another.
-use Rattle.std.proofs.Common.{◌≡◌, ℕ, ◌+◌, ◌-◌, ◌*◌, ◌^◌, ◌<◌, List, [], ◌∷◌, ◌++◌, Bool, true, false}
+use Rattle.std.proofs.Common.{◌≡◌, ◌≢◌, ◌⊎◌, ℕ, ◌+◌, ◌-◌, ◌*◌, ◌^◌, ◌<◌, List, [], ◌∷◌, ◌++◌, Bool, true, false}
 use Rattle.std.proofs.Common.{append_assoc, append-nil, ap, arith, inl, inr, length, refl, subst}
 use Rattle.std.proofs.Common.{add-zero, length-append, sym, ◌∙◌}
 use Rattle.std.specs.List.{flat_map}
@@ -15,9 +15,11 @@ use Rattle.ascii_devices.proofs.ListLemmas.{append_two}
 use Rattle.ascii_devices.specs.Devices.{Grows, read_of, received_of, sent_of}
 use Rattle.ascii_devices.specs.States.{Gives, of_state}
 use Rattle.ascii_devices.specs.declared.log.Event.{Event}
-use Rattle.ascii_lines.specs.Serve.{AtEachRead, ChannelState, CountsBy, Explains}
+use Rattle.std.specs.Prelude.{⊤}
+use Rattle.ascii_lines.specs.Serve.{AtEachRead, ChannelState, CountsBy, CountsReads, Explains}
 use Rattle.ascii_lines.specs.Serve.{Halts, IsAnswered, IsAsked, IsRequest, IsStep, IsUp}
-use Rattle.ascii_lines.specs.Serve.{Lacks, MayStep}
+use Rattle.ascii_lines.specs.Serve.{IsUnendedLast, Lacks, MayStep, TakesUnended}
+use Rattle.ascii_lines.specs.declared.line_reader.Stage.TheVariants.{Ended}
 use Rattle.ascii_lines.specs.Serve.{Moves, ReadsWell, Reply, SentBy, Stopped, Talks, Step, Stepped}
 use Rattle.ascii_lines.specs.Serve.{bytes_of, read_side, replies_of, reply_bytes, step_bytes}
 use Rattle.ascii_lines.specs.Serve.{step_replies, rejected, skipped, took}
@@ -44,19 +46,52 @@ replies_of-append ending xs ys = flat_map-append (step_replies ending) xs ys
 
 module _ {H : Type 0} (answers : H → Line → List Reply → Next → H → Type 0)
     (refuses : H → LineError → List Reply → Next → H → Type 0) (endings : Endings) where
-  pub Talks-append : (a b c : Awaited) (x y z : H) (xs ys : List Step)
-      → Talks answers refuses endings a x xs b y → Talks answers refuses endings b y ys c z
-      → Talks answers refuses endings a x (xs ++ ys) c z
-  Talks-append a b c x y z [] ys (same, is) then =
-      subst (λ h. Talks answers refuses endings a h ys c z) is
-      (subst (λ w. Talks answers refuses endings w y ys c z) same then)
-  Talks-append a b c x y z (step ∷ xs) ys (after, mid, is_step, talks) then =
-      (after, mid, is_step, Talks-append after b c mid y z xs ys talks then)
-
   pub Talks-one : (a b : Awaited) (x y : H) (step : Step)
       → IsStep answers refuses endings a x step b y
       → Talks answers refuses endings a x (step ∷ []) b y
   Talks-one a b x y step is_step = (b, y, is_step, (refl, refl))
+
+module _ {H : Type 0} (answers : H → Line → List Reply → Next → H → Type 0)
+    (refuses : H → LineError → List Reply → Next → H → Type 0) where
+  -- each line that is taken in a conversation of these steps has an ending
+  abbrev pub AreEnded : (endings : Endings) (first : Awaited) (old : H) (steps : List Step)
+      (last : Awaited) (new : H) → Talks answers refuses endings first old steps last new → Type 0
+  AreEnded endings first old [] last new talks = ⊤
+  AreEnded endings first old (step ∷ steps) last new talks = ¬ (TakesUnended step first)
+      × AreEnded endings talks.0 talks.1 steps last new talks.3
+
+  -- steps, and then more, with what is known of lines without an ending
+  abbrev pub Joined : (endings : Endings) (first : Awaited) (old : H) (steps : List Step)
+      (last : Awaited) (new : H) (Both : Type 0) → Type 0
+  Joined endings first old steps last new Both =
+      (talks : Talks answers refuses endings first old steps last new)
+      × IsUnendedLast answers refuses endings first old steps last new talks
+      × (Both → AreEnded endings first old steps last new talks)
+
+  pub Talks-join : (endings : Endings) (a b c : Awaited) (x y z : H) (xs ys : List Step)
+      (s : Talks answers refuses endings a x xs b y) (t : Talks answers refuses endings b y ys c z)
+      → IsUnendedLast answers refuses endings a x xs b y s
+      → IsUnendedLast answers refuses endings b y ys c z t
+      → (ys ≡ []) ⊎ AreEnded endings a x xs b y s
+      → Joined endings a x (xs ++ ys) c z
+      (AreEnded endings a x xs b y s × AreEnded endings b y ys c z t)
+  Talks-join endings a b c x y z [] ys (same, is) t first then may =
+      subst (λ h. Joined endings a h ys c z (⊤ × AreEnded endings b y ys c z t)) is
+      (subst (λ w. Joined endings w y ys c z (⊤ × AreEnded endings b y ys c z t)) same
+      (t, then, λ both. both.1))
+  Talks-join endings a b c x y z (step ∷ xs) ys (after, mid, is_step, talks) t first then may =
+      let others = Talks-join endings after b c mid y z xs ys talks t first.1 then
+      (elim may [ inl none ↦ inl none | inr ended ↦ inr ended.1 ]) in (
+        (after, mid, is_step, others.0),
+        (
+          λ unended. elim may [
+            | inl none ↦ ap (λ zs. zs ++ ys) (first.0 unended) ∙ none
+            | inr ended ↦ absurd (ended.0 unended)
+          ],
+          others.1,
+        ),
+        λ both. (both.0.0, others.2 (both.0.1, both.1)),
+      )
 
 -- what explains errors explains them when more is known
 pub Explains-append : (endings : Endings) (size start : ℕ) (xs ys : List Step) (tail after : List ℕ)
@@ -123,6 +158,10 @@ module _ {H : Type 0} (answers : H → Line → List Reply → Next → H → Ty
       pub steps : List Step
       pub talks : Talks answers refuses old.cursor.endings (Input next.Line) handler steps awaited
           state
+      pub unended : IsUnendedLast answers refuses old.cursor.endings (Input next.Line) handler steps
+          awaited state talks
+      pub ended : now.cursor.stage ≢ Ended → AreEnded answers refuses old.cursor.endings
+          (Input next.Line) handler steps awaited state talks
       pub events : List Event
       pub grows : Grows old.output.history now.output.history events
       pub prompt : AtEachRead (IsAnswered answers refuses old handler) [] events
@@ -146,6 +185,8 @@ module _ {H : Type 0} (answers : H → Line → List Reply → Next → H → Ty
     Progress-first up = record {
       steps = [];
       talks = (refl, refl);
+      unended = tt;
+      ended = λ _. tt;
       events = [];
       grows = Grows-nil old.output.history;
       prompt = tt;
@@ -346,6 +387,12 @@ module _ {H : Type 0} (answers : H → Line → List Reply → Next → H → Ty
         let one : step_bytes t.step ≡ bytes_of (t.step ∷ []) = sym (append-nil (step_bytes t.step))
         in
         let whole = not_broken after new t.may in
+        let is_step = subst (λ e. IsStep answers refuses e awaited state t.step after last)
+        p.endings t.is_step in
+        let joined = Talks-join answers refuses old.cursor.endings (Input next.Line) awaited after
+        handler state last p.steps (t.step ∷ []) p.talks
+        (Talks-one answers refuses old.cursor.endings awaited after state last t.step is_step)
+        p.unended (λ _. refl, tt) (inr (p.ended t.going)) in
         let text : bytes_of steps ≡ bytes_of p.steps ++ step_bytes t.step =
         bytes_of-append p.steps (t.step ∷ [])
         ∙ ap (λ xs. bytes_of p.steps ++ xs) (append-nil (step_bytes t.step)) in
@@ -354,11 +401,10 @@ module _ {H : Type 0} (answers : H → Line → List Reply → Next → H → Ty
         ∙ ap (λ xs. replies_of old.ending p.steps ++ xs) (append-nil (step_replies old.ending t.step)) in
         record {
           steps = steps;
-          talks = Talks-append answers refuses old.cursor.endings (Input next.Line) awaited after
-              handler state last p.steps (t.step ∷ []) p.talks
-              (Talks-one answers refuses old.cursor.endings awaited after state last t.step
-              (subst (λ e. IsStep answers refuses e awaited state t.step after last) p.endings
-              t.is_step));
+          talks = joined.0;
+          unended = joined.1;
+          ended = λ going. joined.2
+              (p.ended t.going, (λ unended. going (t.unended unended), tt));
           events = all awaited now state p (step_bytes t.step) (step_replies old.ending t.step) new m;
           grows = grows_more awaited now state p (step_bytes t.step) (step_replies old.ending t.step) new m;
           prompt = prompt_more awaited now state p (step_bytes t.step) (step_replies old.ending t.step) new
@@ -411,6 +457,13 @@ module _ {H : Type 0} (answers : H → Line → List Reply → Next → H → Ty
         let bytes = bytes_of t.steps ++ t.over in
         let replies = replies_of old.ending t.steps ++ reply_bytes old.ending t.extra in
         let steps = p.steps ++ t.steps in
+        let talk = subst
+        (λ e. (talks : Talks answers refuses e awaited state t.steps t.then t.state)
+        × IsUnendedLast answers refuses e awaited state t.steps t.then t.state talks) p.endings
+        (t.talks, t.unended) in
+        let joined = Talks-join answers refuses old.cursor.endings (Input next.Line) awaited t.then
+        handler state t.state p.steps t.steps p.talks talk.0 p.unended talk.1
+        (elim t.going [ inl none ↦ inl none | inr going ↦ inr (p.ended going) ]) in
         let text : bytes_of steps ≡ bytes_of p.steps ++ bytes_of t.steps =
         bytes_of-append p.steps t.steps in
         let said : replies_of old.ending steps ++ reply_bytes old.ending t.extra ≡ replies_of old.ending p.steps ++ replies =
@@ -421,10 +474,10 @@ module _ {H : Type 0} (answers : H → Line → List Reply → Next → H → Ty
             steps = steps;
             awaited = t.then;
             state = t.state;
-            talks = Talks-append answers refuses old.cursor.endings (Input next.Line) awaited
-                t.then handler state t.state p.steps t.steps p.talks
-                (subst (λ e. Talks answers refuses e awaited state t.steps t.then t.state)
-                p.endings t.talks);
+            talks = joined.0;
+            unended = joined.1;
+            reads = subst
+                (λ n. CountsReads why n new.output.aside.failures) p.well t.reads;
             extra = t.extra;
             over = t.over;
             stops = t.stops;

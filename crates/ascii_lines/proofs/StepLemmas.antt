@@ -177,6 +177,8 @@ module _ (what : Wanted) (waits : Bool) (done : Unit {0}) (old mid : ChannelStat
         may = takes.delivers.may;
         one = one (some_is_not_nil cursor.lent full);
         some = full;
+        going = going;
+        ends = elim ends [ inl more ↦ inl more.1 | inr last ↦ inr last.0 ];
         up = (elim ends [ inl more ↦ inl more.0 | inr last ↦ inr last.0 ], whole);
         well = well takes.delivers.failures;
       }
@@ -187,7 +189,12 @@ module _ (what : Wanted) (waits : Bool) (done : Unit {0}) (old mid : ChannelStat
       elim ends [
         | inl more ↦ absurd (no_end old what is_wanted
             (subst (λ bytes. EndsAt what bytes (length bytes)) empty more.1))
-        | inr last ↦ (moves, last.0, last_line old what is_wanted last.2)
+        | inr last ↦ (
+          moves,
+          last.0,
+          last_line old what is_wanted last.2,
+          well takes.delivers.failures,
+        )
       ]
   taken_open (Err why) going stops = (
     heard [] going stops.refuses.gathers
@@ -197,7 +204,7 @@ module _ (what : Wanted) (waits : Bool) (done : Unit {0}) (old mid : ChannelStat
         (subst (λ n. Rejects what mid.cursor.start n cursor.held output.aside.bytes why)
         (sym stops.size) stops.refuses.why),
     λ line. stops.stage,
-    λ more. well (stops.refuses.failures ∙ same_failures why more),
+    λ more. (well (stops.refuses.failures ∙ same_failures why more), going),
     whole,
   )
 
@@ -257,8 +264,12 @@ module _ (what : Wanted) (waits : Bool) (done : Unit {0}) (old mid : ChannelStat
     taken_ended : (w : Wanted) → what ≡ w → IsWantedAt old w → result ≡ at_end w
         → TakesWanted what old (taken_by result) new
     taken_ended (wanted.Line endings) is may at =
-        subst (λ r. TakesWanted what old (taken_by r) new) (sym at)
-        (moves_still, done_still, ap asked_by is)
+        subst (λ r. TakesWanted what old (taken_by r) new) (sym at) (
+          moves_still,
+          done_still,
+          ap asked_by is,
+          ap (λ (lines : ChannelState). lines.output.aside.failures) still,
+        )
     taken_ended (wanted.Bytes endings) is may at = absurd may
     taken_ended (wanted.Part n) is may at =
         subst (λ r. TakesWanted what old (taken_by r) new) (sym at) (
@@ -415,6 +426,8 @@ module _ (then : Next) (waits : Bool) (done : Unit {0}) (old mid : ChannelState)
             passed bytes over,
             last.0,
             subst (λ e. HasNoEnd e bytes) endings_was last.1,
+            failures
+                ∙ ap (λ (side : Aside). side.failures) (aside_kept waits done old mid prepares),
           )
         ]
 

@@ -1,5 +1,6 @@
 pub mod CollectedLines
 pub mod Errors
+pub mod Exchanges
 pub mod Failures
 pub mod History
 pub mod LineBuffer

@@ -23,9 +23,9 @@ use Rattle.ascii_lines.specs.LineReader.{CursorState, IsDone, ReaderState, fresh
 use Rattle.ascii_lines.specs.LineWriter.{FailsToWrite, Flushes, FlushesOutcome, WritesBytes}
 use Rattle.ascii_lines.specs.LineWriter.{WritesLine, Writing, fresh_writer, is_line_break}
 use Rattle.ascii_lines.specs.Skipping.{HasNoEnd, IsFinal, WhyNotSkipped}
-use Rattle.ascii_lines.specs.Wanted.{Asks, IsOne, MayHave, MustRead, Rejects, all_of}
+use Rattle.ascii_lines.specs.Wanted.{Asks, EndsAt, IsOne, MayHave, MustRead, Rejects, all_of}
 use Rattle.ascii_lines.specs.declared.line_reader.LineError.{LineError}
-use Rattle.ascii_lines.specs.declared.line_reader.Stage.TheVariants.{Open, Refused}
+use Rattle.ascii_lines.specs.declared.line_reader.Stage.TheVariants.{Ended, Open, Refused}
 use Rattle.ascii_lines.specs.declared.line_writer.WriteError.{WriteError}
 use Rattle.ascii_lines.specs.declared.serving.Awaited.{Awaited}
 use Rattle.ascii_lines.specs.declared.serving.Awaited.TheVariants.{Input, LineEnd}
@@ -161,6 +161,11 @@ step_bytes (took input replies) = line_text input
 step_bytes (rejected error replies) = []
 step_bytes (skipped bytes) = bytes
 
+-- the step takes a line, which is awaited, without an ending
+abbrev pub TakesUnended : Step → Awaited → Type 0
+TakesUnended (took input replies) (Input next.Line) = input.ending ≡ Absent
+TakesUnended step awaited = ⊥
+
 -- the bytes of the replies of a step
 abbrev pub step_replies : Ending → Step → List ℕ
 step_replies ending (took input replies) = reply_bytes ending replies
@@ -196,6 +201,14 @@ module _ {H : Type 0} (answers : H → Line → List Reply → Next → H → Ty
   Talks endings first old [] last new = (last ≡ first) × (new ≡ old)
   Talks endings first old (step ∷ steps) last new = (after : Awaited) × (mid : H)
       × IsStep endings first old step after mid × Talks endings after mid steps last new
+
+  -- in a conversation of these steps, none comes after one that takes a line without an ending
+  abbrev pub IsUnendedLast : (endings : Endings) (first : Awaited) (old : H) (steps : List Step)
+      (last : Awaited) (new : H) → Talks endings first old steps last new → Type 0
+  IsUnendedLast endings first old [] last new talks = ⊤
+  IsUnendedLast endings first old (step ∷ steps) last new talks =
+      (TakesUnended step first → steps ≡ [])
+      × IsUnendedLast endings talks.0 talks.1 steps last new talks.3
 
 -- the errors of the steps are right, by the bytes after them and then `tail`; they start at the
 -- position `start` of the input
@@ -281,6 +294,13 @@ module _ {H : Type 0} (refuses : H → LineError → List Reply → Next → H �
   StopsFor stop.Writer awaited state now extra over last = ((extra ≡ []) × (last ≡ state))
       ⊎ ((error : LineError) × (then : Next) × refuses state error extra then last)
 
+-- the count of reads that failed is unchanged in a conversation that the handler closed, or that
+-- ended with the input
+abbrev pub CountsReads : Stop → ℕ → ℕ → Type 0
+CountsReads (stop.Reader error) old new = ⊤
+CountsReads stop.Writer old new = ⊤
+CountsReads why old new = new ≡ old
+
 module _ {H : Type 0} (answers : H → Line → List Reply → Next → H → Type 0)
     (refuses : H → LineError → List Reply → Next → H → Type 0) where
   -- a conversation over a channel from the state `old` to the state `new`, with a handler in the
@@ -293,9 +313,12 @@ module _ {H : Type 0} (answers : H → Line → List Reply → Next → H → Ty
     pub state : H
     pub talks : Talks answers refuses old.cursor.endings (Input next.Line) handler steps awaited
         state
+    pub unended : IsUnendedLast answers refuses old.cursor.endings (Input next.Line) handler steps
+        awaited state talks
     pub extra : List Reply
     pub over : List ℕ
     pub stops : StopsFor refuses why awaited state (reading_of new) extra over last
+    pub reads : CountsReads why old.output.aside.failures new.output.aside.failures
     pub events : List Event
     pub grows : Grows old.output.history new.output.history events
     pub prompt : AtEachRead (IsAnswered answers refuses old handler) [] events
@@ -421,12 +444,15 @@ Prepares waits old (Err why) new = (why ≡ stop.Writer)
 abbrev pub ReadsWell : ChannelState → ChannelState → Type 0
 ReadsWell old new = new.output.aside.failures ≡ old.output.aside.failures
 
--- what is wanted was taken: these bytes, and the channel goes on
+-- what is wanted was taken of a channel that was open: these bytes, which end where it does, or with
+-- the input; and the channel goes on
 pub record TakesInput (wanted : Wanted) (old new : ChannelState) : Type 0 where
   pub moves : Moves (MustRead wanted old.cursor.start old.cursor.size) old new.cursor.lent [] new
   pub may : MayHave wanted new.cursor.lent
   pub one : IsOne wanted new.cursor.lent
   pub some : 0 < length new.cursor.lent
+  pub going : old.cursor.stage ≡ Open
+  pub ends : EndsAt wanted new.cursor.lent (length new.cursor.lent) ⊎ IsDone (reading_of new)
   pub up : IsUp new
   pub well : ReadsWell old new
 
@@ -436,12 +462,12 @@ abbrev pub TakesWanted : Wanted → ChannelState → Taken → ChannelState → 
 TakesWanted wanted old taken.Input new = TakesInput wanted old new
 TakesWanted wanted old taken.End new =
     Moves (MustRead wanted old.cursor.start old.cursor.size) old [] [] new
-    × IsDone (reading_of new) × (asked_by wanted ≡ next.Line)
+    × IsDone (reading_of new) × (asked_by wanted ≡ next.Line) × ReadsWell old new
 TakesWanted wanted old (taken.Fault error) new =
     Moves (MustRead wanted old.cursor.start old.cursor.size) old [] [] new
     × Rejects wanted new.cursor.start new.cursor.size new.cursor.held new.output.aside.bytes error
     × (asked_by wanted ≡ next.Line → new.cursor.stage ≡ Refused error)
-    × (¬ (IsFinal error) → ReadsWell old new) × (new.output.buffer.is_broken ≡ false)
+    × (¬ (IsFinal error) → ReadsWell old new × (old.cursor.stage ≡ Open)) × (new.output.buffer.is_broken ≡ false)
 
 -- the outcome of taking what is wanted: `TakesWanted`, or the device failed to take the replies before
 abbrev pub TakeOutcome : Wanted → ChannelState → Result Taken Stop → ChannelState → Type 0
@@ -450,13 +476,15 @@ TakeOutcome wanted old (Err why) new = (why ≡ stop.Writer)
     × Moves (MustRead wanted old.cursor.start old.cursor.size) old [] [] new
     × (new.output.buffer.is_broken ≡ true)
 
--- the line or part of these bytes
+-- the line or part of these bytes. A line has an ending if the bytes end where one does
 abbrev pub IsInputOf : Wanted → List ℕ → Line → Type 0
+IsInputOf (wanted.Part n) bytes input = (input.body ≡ bytes) × (input.ending ≡ Absent)
 IsInputOf (wanted.Line endings) bytes input =
     LinesEndedBy endings bytes (input ∷ []) × (line_text input ≡ bytes)
+    × (IsFirstStop endings bytes (length bytes) → input.ending ≢ Absent)
 IsInputOf (wanted.Bytes endings) bytes input =
     LinesEndedBy endings bytes (input ∷ []) × (line_text input ≡ bytes)
-IsInputOf (wanted.Part n) bytes input = (input.body ≡ bytes) × (input.ending ≡ Absent)
+    × (IsFirstStop endings bytes (length bytes) → input.ending ≢ Absent)
 
 -- what is awaited after an error in place of what was wanted, or that the conversation stops
 abbrev pub GoesOn : Wanted → LineError → Next → Result Awaited Stop → Type 0
@@ -473,7 +501,7 @@ SkipOutcome then old (Ok after) new = (after ≡ Input then) × ((bytes : List �
     × IsUp new × ReadsWell old new)
 SkipOutcome then old (Err stop.EndOfInput) new = (bytes : List ℕ)
     × Moves (HasNoEnd (any_text old.cursor.endings)) old bytes [] new
-    × IsDone (reading_of new) × HasNoEnd (any_text old.cursor.endings) bytes
+    × IsDone (reading_of new) × HasNoEnd (any_text old.cursor.endings) bytes × ReadsWell old new
 SkipOutcome then old (Err (stop.Reader error)) new = (bytes : List ℕ)
     × Moves (HasNoEnd (any_text old.cursor.endings)) old bytes [] new
     × WhyNotSkipped (any_text old.cursor.endings) (2 ^ 64 - 1) old.cursor.start bytes
@@ -485,7 +513,7 @@ SkipOutcome then old (Err stop.Closed) new = ⊥
 
 module _ {H : Type 0} (answers : H → Line → List Reply → Next → H → Type 0)
     (refuses : H → LineError → List Reply → Next → H → Type 0) where
-  -- one step was held, and the channel goes on
+  -- one step was held before the end of the input, and the channel goes on
   pub record Stepped (awaited : Awaited) (handler : H) (old : ChannelState) (after : Awaited)
       (last : H) (new : ChannelState) : Type 0 where
     pub step : Step
@@ -496,6 +524,8 @@ module _ {H : Type 0} (answers : H → Line → List Reply → Next → H → Ty
         new.cursor.held
     pub may : MayStep after new
     pub well : ReadsWell old new
+    pub going : old.cursor.stage ≢ Ended
+    pub unended : TakesUnended step awaited → new.cursor.stage ≡ Ended
 
   -- the conversation stops, after one step or none
   pub record Stopped (awaited : Awaited) (handler : H) (old : ChannelState) (why : Stop) (last : H)
@@ -504,9 +534,13 @@ module _ {H : Type 0} (answers : H → Line → List Reply → Next → H → Ty
     pub then : Awaited
     pub state : H
     pub talks : Talks answers refuses old.cursor.endings awaited handler steps then state
+    pub unended : IsUnendedLast answers refuses old.cursor.endings awaited handler steps then state
+        talks
+    pub going : (steps ≡ []) ⊎ (old.cursor.stage ≢ Ended)
     pub extra : List Reply
     pub over : List ℕ
     pub stops : StopsFor refuses why then state (reading_of new) extra over last
+    pub reads : CountsReads why old.output.aside.failures new.output.aside.failures
     pub moves : Moves (Lacks old.cursor.endings old.cursor.start old.cursor.size awaited) old
         (bytes_of steps ++ over)
         (replies_of old.ending steps ++ reply_bytes old.ending extra) new

@@ -8,7 +8,9 @@
 ghost use Rattle.std.specs.Prelude.{if◌then◌else◌, ◌≡◌, ◌-◌, ◌^◌, ◌∷◌, [], IfOk, IsTrue, List};
 ghost use Rattle.std.specs.Prelude.{Err, Ok, false};
 ghost use Rattle.std.specs.Str.{IsAscii};
+ghost use Rattle.ascii.specs.Lines.{Line};
 ghost use Rattle.ascii.specs.View.{text_of};
+ghost use Rattle.ascii_lines.specs.Exchanges.{IsReplier, RepliesToAll};
 ghost use Rattle.ascii_lines.specs.LineWriter.{line_with};
 ghost use Rattle.ascii_lines.specs.LineReader.{read_line_in};
 ghost use Rattle.ascii_lines.specs.Serve.{GoesOn, Halts, IsInputOf, IsLineOutcome, IsRequest, IsUp};
@@ -376,7 +378,8 @@ impl<C: Channel, A: Allocator> LineChannel<C, A> {
     ///     let (input, _) = lines.into_device().into_parts();
     ///     input.into_inner() // [97, 98]
     pub fn into_device(self) -> C
-        ensures { result ≡ self.device }
+        ensures device { result ≡ self.device }
+        ensures taken { C.Sink.taken result ≡ self.state.output.taken }
     {
         self.replies.writer.into_sink()
     }
@@ -508,6 +511,9 @@ impl<C: Channel, A: Allocator> LineChannel<C, A> {
 /// when the conversation stops, unless the device failed to take them. Then the device has taken a prefix of the
 /// replies, nothing more is read, and the handler is not asked again.
 ///
+/// If the handler gives each line one reply, asks for the next line and closes at an error, and the input ends, then the
+/// device has taken the reply to each line of the input.
+///
 /// Condition: the channel has not stopped at an error.
 ///
 /// In the example, `Echo` is a handler that replies with the text that it is handed, and to an error with `no`.
@@ -522,8 +528,10 @@ pub fn serve<C: Channel, H: Handler, A: Allocator>(
     handler: &mut H,
 ) -> Stop
     requires { IsUp lines.old.state }
-    ensures { Serves H.answers H.refuses lines.old.state handler.old result lines.new.state
+    ensures serves { Serves H.answers H.refuses lines.old.state handler.old result lines.new.state
         handler.new }
+    ensures replies { (reply : Line → Reply) → IsReplier H.answers H.refuses reply
+        → result ≡ Stop.EndOfInput → RepliesToAll reply lines.old.state lines.new.state }
 {
     let stop = converse(lines, handler);
     lines.finish(stop)

@@ -8,7 +8,7 @@ use Rattle.example_smtp.proofs.receiving.receive.Goals as goal
 
 pub returns : goal.returns
 returns g c =
-    let served = c.serve.ensures in
+    let served = c.serve.ensures.serves in
     let told = transcript _ c.args.session.now served.talk.state (Input next.Line)
     served.talk.awaited served.talk.steps served.talk.talks in
     record {

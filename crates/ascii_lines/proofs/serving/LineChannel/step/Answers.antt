@@ -12,4 +12,4 @@ returns-in-LineEnd g c =
     c.skip_step.result c.args.handler.now c.skip_step.new.self.state) (sym c.in-LineEnd.is)
     (step_skipped g.H.Handler.answers g.H.Handler.refuses c.args.handler.now old asked
     c.skip_step.result c.skip_step.new.self.state
-    (subst (λ a. MayStep a old) c.in-LineEnd.is c.requires).1 c.skip_step.ensures)
+    (subst (λ a. MayStep a old) c.in-LineEnd.is c.requires) c.skip_step.ensures)

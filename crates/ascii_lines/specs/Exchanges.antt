@@ -1,0 +1,63 @@
+-- A conversation as its handler sees it: what it was given, and what it replied, in order.
+use Rattle.std.specs.Prelude.{◌≡◌, ℕ, List, [], ◌∷◌, ◌++◌, IfSome, None, Some}
+use Rattle.std.specs.Io.KnownBytes.{Appends}
+use Rattle.std.specs.List.{flat_map}
+use Rattle.std.specs.declared.option.Option.{Option}
+use Rattle.ascii.specs.Lines.{Line, LinesEndedBy}
+use Rattle.ascii_lines.specs.Serve.{ChannelState, Reply, Step, rejected, reply_text, skipped, took}
+use Rattle.ascii_lines.specs.declared.line_reader.LineError.{LineError}
+use Rattle.ascii_lines.specs.declared.serving.Next.{Next}
+use Rattle.ascii_lines.specs.declared.serving.Next.TheVariants as next
+
+-- the lines and parts that the steps took
+abbrev pub inputs_of : List Step → List Line
+inputs_of [] = []
+inputs_of (took input replies ∷ steps) = input ∷ inputs_of steps
+inputs_of (rejected error replies ∷ steps) = inputs_of steps
+inputs_of (skipped bytes ∷ steps) = inputs_of steps
+
+-- what the handler was given in the steps: the body of a line or part, or `None` for an error
+abbrev pub given_in : List Step → List (Option (List ℕ))
+given_in [] = []
+given_in (took input replies ∷ steps) = Some input.body ∷ given_in steps
+given_in (rejected error replies ∷ steps) = None ∷ given_in steps
+given_in (skipped bytes ∷ steps) = given_in steps
+
+-- the replies of the steps
+abbrev pub said_in : List Step → List Reply
+said_in [] = []
+said_in (took input replies ∷ steps) = replies ++ said_in steps
+said_in (rejected error replies ∷ steps) = replies ++ said_in steps
+said_in (skipped bytes ∷ steps) = said_in steps
+
+module _ {H : Type 0} (answers : H → Line → List Reply → Next → H → Type 0)
+    (refuses : H → LineError → List Reply → Next → H → Type 0) where
+  -- a handler goes from the state `old` to the state `new` by the answers of these steps
+  abbrev pub Runs : H → List Step → H → Type 0
+  Runs old [] new = new ≡ old
+  Runs old (took input replies ∷ steps) new = (then : Next) × (mid : H)
+      × answers old input replies then mid × Runs mid steps new
+  Runs old (rejected error replies ∷ steps) new = (then : Next) × (mid : H)
+      × refuses old error replies then mid × Runs mid steps new
+  Runs old (skipped bytes ∷ steps) new = Runs old steps new
+
+-- ---- handlers that reply to lines
+
+module _ {H : Type 0} (answers : H → Line → List Reply → Next → H → Type 0)
+    (refuses : H → LineError → List Reply → Next → H → Type 0) where
+  -- a handler gives one reply to each line, as `reply` says, and asks for the next line; it closes
+  -- at an error
+  abbrev pub IsReplier : (Line → Reply) → Type 0
+  IsReplier reply = ((old : H) (input : Line) (replies : List Reply) (asked : Next) (new : H)
+      → answers old input replies asked new → (replies ≡ reply input ∷ []) × (asked ≡ next.Line))
+      × ((old : H) (error : LineError) (replies : List Reply) (asked : Next) (new : H)
+      → refuses old error replies asked new → asked ≡ next.Close)
+
+-- `lines` are the lines of the input of a channel from the state `old` on, if its bytes are known,
+-- and its device took the bytes that were held for it, and then the reply to each of them, in order
+pub record RepliesToAll (reply : Line → Reply) (old new : ChannelState) : Type 0 where
+  pub lines : List Line
+  pub input : IfSome old.output.aside.bytes (λ rest.
+      LinesEndedBy old.cursor.endings (old.cursor.held ++ rest) lines)
+  pub output : Appends old.output.taken new.output.taken (old.output.buffer.bytes
+      ++ flat_map (λ line. reply_text old.ending (reply line)) lines)
