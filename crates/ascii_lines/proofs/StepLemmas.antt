@@ -15,7 +15,7 @@ use Rattle.ascii_lines.specs.LineReader.{Reading, at_end, reading_at, state_at}
 use Rattle.ascii_lines.specs.LineWriter.{FailsToWrite}
 use Rattle.ascii_lines.specs.Serve.{ChannelState, IsUp, IsWantedAt, MaySkip, Moves, Prepares}
 use Rattle.ascii_lines.specs.Serve.{SkipOutcome, TakeOutcome, asked_by, read_side, reading_of}
-use Rattle.ascii_lines.specs.Serve.{TakesWanted}
+use Rattle.ascii_lines.specs.Serve.{Conversing, Saying, TakesWanted}
 use Rattle.ascii_lines.specs.declared.serving.Taken.{Taken}
 use Rattle.ascii_lines.specs.declared.serving.Taken.TheVariants as taken
 use Rattle.ascii_lines.specs.Skipping.{HasNoEnd, IsFinal, Skips, SkipsBytes, SkipsFrom, SkipsLine}
@@ -35,6 +35,19 @@ use Rattle.ascii_lines.specs.declared.skipping.SkippedLine.{SkippedLine}
 use Rattle.ascii_lines.specs.declared.wanted.Wanted.{Wanted}
 use Rattle.ascii_lines.specs.declared.wanted.Wanted.TheVariants as wanted
 use Rattle.ascii_lines.proofs.MovesLemmas.{Moves-heard, Moves-nil, Moves-unsent}
+
+-- the state of a channel of this cursor and these replies
+abbrev pub inside_of : {K : Type 0} → CursorState → Saying K → ChannelState
+inside_of cursor replies =
+    record { cursor = cursor; output = replies.state; ending = replies.ending }
+
+-- what was taken of a channel, as it is seen inside
+pub taken_inside : {C : Type 0} (what : Wanted) (old : ChannelState) (r s : Taken)
+    (view now : Conversing C) → view ≡ now → r ≡ s → TakesWanted what old r now.state
+    → TakesWanted what old s view.state
+taken_inside {C} what old r s view now same is takes =
+    subst (λ (v : Conversing C). TakesWanted what old s v.state) (sym same)
+    (subst (λ t. TakesWanted what old t now.state) is takes)
 
 -- ---- before the device is read
 
