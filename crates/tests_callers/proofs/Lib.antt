@@ -1,3 +1,4 @@
 pub mod EngineLemmas
+pub mod LampLemmas
 pub mod Relent
 pub mod TakenLemmas

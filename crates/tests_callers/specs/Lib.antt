@@ -1,3 +1,4 @@
 pub mod Cuts
 pub mod Engines
+pub mod Servers
 pub mod UpperPart

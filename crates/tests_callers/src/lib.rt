@@ -11,6 +11,7 @@ pub mod iterators;
 pub mod numbers;
 pub mod prefixes;
 pub mod remainders;
+pub mod servers;
 pub mod spans;
 pub mod strings;
 pub mod texts;

@@ -5,5 +5,6 @@ mod cuts;
 mod engines;
 mod in_place;
 mod iterators;
+mod servers;
 mod spans;
 mod texts;

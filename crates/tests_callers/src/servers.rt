@@ -1,0 +1,194 @@
+//! Callers of a server: an echo, and a lamp of three verbs.
+
+ghost use Rattle.std.specs.Prelude.{◌≡◌, ◌++◌, ◌∷◌, [], IfOk, List};
+ghost use Rattle.std.specs.List.{flat_map};
+ghost use Rattle.ascii.specs.Lines.{Line, LinesOf};
+ghost use Rattle.ascii.specs.View.{text_of};
+ghost use Rattle.ascii_lines.specs.Exchanges.{RepliesToAll};
+ghost use Rattle.ascii_lines.specs.Serve.{IsUp, Says, line_reply};
+ghost use Rattle.tests_callers.specs.Servers.{ServesLamp, echo_reply, lit_after, reply_line, reply_to};
+
+use ascii_lines::{
+    AsciiStr, Channel, Duplex, Ending, Endings, Handler, LineChannel, LineError, Next, Replies,
+    Sink, Stop, serve,
+};
+use std::alloc::{AllocError, Allocator, Global};
+
+/// Replies to each line with that line, and closes at an error.
+#[derive(Drop)]
+struct Echo;
+
+impl Handler for Echo {
+    ghost use Rattle.tests_callers.specs.Servers.{EchoAnswers, EchoRefuses};
+
+    ghost answers = { EchoAnswers };
+
+    ghost refuses = { EchoRefuses };
+
+    fn answer<K: Sink, A: Allocator>(
+        &mut self,
+        text: AsciiStr<'_>,
+        _ending: Ending,
+        replies: &mut Replies<K, A>,
+    ) -> Next {
+        replies.text(text);
+        Next::Line
+    }
+
+    fn refuse<K: Sink, A: Allocator>(
+        &mut self,
+        _error: LineError,
+        _replies: &mut Replies<K, A>,
+    ) -> Next {
+        Next::Close
+    }
+}
+
+/// Answers each line of a channel with that line. After the end of the input, what the device took is
+/// each line of the input with the ending of the channel.
+pub fn serve_echo<C: Channel, A: Allocator>(lines: &mut LineChannel<C, A>) -> Stop
+    requires { IsUp lines.old.state }
+    ensures { result ≡ Stop.EndOfInput
+        → RepliesToAll echo_reply lines.old.state lines.new.state }
+{
+    serve(lines, &mut Echo)
+}
+
+/// Why an echo of a text stopped, and what it wrote.
+#[derive(Drop)]
+pub struct Echoed {
+    /// Why it stopped.
+    pub stop: Stop,
+    /// What it wrote.
+    pub output: Vec<u8>,
+}
+
+/// Answers each line of a text with that line, and returns what was written. After the end of the
+/// text that is each of its lines with CR LF.
+#[tactic(auto, using(ascii_lines::proofs::ExchangeLemmas::replied_in_memory))]
+pub fn echo_text(alloc: Global, text: &[u8]) -> Result<Echoed, AllocError>
+    ensures { IfOk result (λ echoed. echoed.stop ≡ Stop.EndOfInput → (lines : List Line)
+        × LinesOf text.now lines
+        × (echoed.output.items ≡ flat_map (λ line. line.body ++ 13 ∷ 10 ∷ []) lines)) }
+{
+    let device = Duplex::new(text, Vec::new(alloc));
+    let mut lines = LineChannel::new(alloc, device, 4096, Endings::Any, Ending::CrLf)?;
+    let stop = serve_echo(&mut lines);
+    let (_, output) = lines.into_device().into_parts();
+    Ok(Echoed {
+        stop,
+        output: output.into_inner(),
+    })
+}
+
+/// A reply of a lamp.
+#[derive(Clone, Copy, PartialEq, Eq, Debug)]
+pub enum LampReply {
+    /// The lamp was lit or put out.
+    Done,
+    /// It is lit.
+    Lit,
+    /// It is not lit.
+    Dark,
+    /// The line is no verb.
+    Unknown,
+}
+
+/// What is done with a line: the reply to it, and what is asked for next.
+#[derive(Clone, Copy, PartialEq, Eq, Debug)]
+pub struct LampPlan {
+    reply: LampReply,
+    next: Next,
+}
+
+/// A lamp. `ON` lights it, `OFF` puts it out, and `SHOW` asks whether it is lit.
+#[derive(Drop)]
+pub struct Lamp {
+    lit: bool,
+}
+
+impl Lamp {
+    ghost use Rattle.std.specs.Prelude.{false};
+
+    /// Creates a lamp that is not lit.
+    pub fn new() -> Lamp
+        ensures { result.lit ≡ false }
+    {
+        Lamp { lit: false }
+    }
+
+    /// Takes a line, and says what to do.
+    fn plan(&mut self, text: AsciiStr<'_>) -> LampPlan
+        ensures reply { result.reply ≡ reply_to self.old.lit (text_of text.entry) }
+        ensures next { result.next ≡ Next.Line }
+        ensures lit { self.new.lit ≡ lit_after self.old.lit (text_of text.entry) }
+    {
+        let mut reply = LampReply::Done;
+        if text.eq_bytes(b"ON") {
+            self.lit = true;
+        } else if text.eq_bytes(b"OFF") {
+            self.lit = false;
+        } else if text.eq_bytes(b"SHOW") {
+            reply = if self.lit {
+                LampReply::Lit
+            } else {
+                LampReply::Dark
+            };
+        } else {
+            reply = LampReply::Unknown;
+        }
+        LampPlan {
+            reply,
+            next: Next::Line,
+        }
+    }
+}
+
+/// Writes a reply of a lamp.
+fn say<K: Sink, A: Allocator>(reply: LampReply, replies: &mut Replies<K, A>)
+    ensures { Says replies.old (line_reply (reply_line reply) ∷ []) replies.new }
+{
+    replies.fixed_line(match reply {
+        LampReply::Done => AsciiStr::literal("ok"),
+        LampReply::Lit => AsciiStr::literal("lit"),
+        LampReply::Dark => AsciiStr::literal("dark"),
+        LampReply::Unknown => AsciiStr::literal("what"),
+    });
+}
+
+impl Handler for Lamp {
+    ghost use Rattle.tests_callers.specs.Servers.{LampAnswers, LampRefuses};
+
+    ghost answers = { LampAnswers };
+
+    ghost refuses = { LampRefuses };
+
+    fn answer<K: Sink, A: Allocator>(
+        &mut self,
+        text: AsciiStr<'_>,
+        _ending: Ending,
+        replies: &mut Replies<K, A>,
+    ) -> Next {
+        let plan = self.plan(text);
+        say(plan.reply, replies);
+        plan.next
+    }
+
+    fn refuse<K: Sink, A: Allocator>(
+        &mut self,
+        _error: LineError,
+        replies: &mut Replies<K, A>,
+    ) -> Next {
+        replies.fixed_line(AsciiStr::literal("bad line"));
+        Next::Line
+    }
+}
+
+/// Answers the lines of a channel as a lamp does. The replies of the whole conversation are those of a
+/// lamp to all lines, one after another.
+pub fn serve_lamp<C: Channel, A: Allocator>(lines: &mut LineChannel<C, A>, lamp: &mut Lamp) -> Stop
+    requires { IsUp lines.old.state }
+    ensures { ServesLamp lines.old.state lamp.old result lines.new.state lamp.new }
+{
+    serve(lines, lamp)
+}
