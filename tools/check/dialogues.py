@@ -84,6 +84,7 @@ DIALOGUES = [
     smuggled("LF . CR LF", b"\n.\r\n"),
     smuggled("CR LF . LF", b"\r\n.\n"),
     smuggled("CR . CR", b"\r.\r"),
+    store("arrays without words", (b"*-1\r\n*0\r\nPING x\r\n", b"$1\r\nx\r\n")),
     store("what comes after QUIT", (b"PING hi\r\n\r\n*0\r\nQUIT\r\nPING\r\n", b"$2\r\nhi\r\n+OK\r\n")),
     store("several keys", (b"SET a 1\r\nSET b 2\r\nEXISTS a b c a\r\nDEL a a b c\r\nEXISTS a\r\n", b"+OK\r\n" * 2 + b":3\r\n:2\r\n:0\r\n")),
     store("a request in two packets", (b"*1\r\n$4\r\nPI", b""), (b"NG\r\n", b"+PONG\r\n")),

@@ -16,6 +16,8 @@ use Rattle.example_resp.specs.declared.commands.Rejection.TheVariants.{UnknownCo
 use Rattle.example_resp.specs.declared.commands.Rejection.TheVariants.{WrongArguments, BadEnding}
 use Rattle.example_resp.specs.declared.commands.Rejection.TheVariants.{BadInput, NoMemory}
 use Rattle.example_resp.specs.declared.commands.Verb.{Verb}
+use Rattle.example_resp.specs.declared.replies.Reply as replies
+use Rattle.example_resp.specs.declared.replies.Reply.TheVariants as said
 use Rattle.example_resp.specs.declared.commands.Verb.TheVariants.{Set, Get, Del, Exists, Ping}
 use Rattle.example_resp.specs.declared.commands.Verb.TheVariants.{Quit}
 
@@ -102,6 +104,18 @@ reply contents (CountValues keys) = count_reply (value_count contents (string_te
 reply contents Reply = codes "+PONG" ∷ []
 reply contents (Echo text) = value_reply (Some (text_of text))
 reply contents Leave = codes "+OK" ∷ []
+
+-- what is to be said in reply to a command, of a store with these contents
+abbrev pub Tells : Contents → Command → replies.Reply → Type 0
+Tells contents (SetValue key value) told = told ≡ said.Done
+Tells contents (GetValue key) told = told ≡ said.Value
+Tells contents (DeleteValues keys) told =
+    told ≡ said.Count (removed_count contents (string_texts keys.now))
+Tells contents (CountValues keys) told =
+    told ≡ said.Count (value_count contents (string_texts keys.now))
+Tells contents Reply told = told ≡ said.Pong
+Tells contents (Echo text) told = told ≡ said.Text
+Tells contents Leave told = told ≡ said.Done
 
 -- the contents of a store after a command
 abbrev pub after : Contents → Command → Contents

@@ -7,15 +7,21 @@ use Rattle.ascii_lines.specs.declared.serving.Next.{Next}
 use Rattle.ascii_lines.specs.declared.serving.Next.TheVariants as next
 use Rattle.example_resp.specs.Commands.{error_line}
 use Rattle.example_resp.specs.Requests.{Answers}
-use Rattle.example_resp.specs.Session.{state_of}
+use Rattle.example_resp.specs.Session.{answer_of, state_of}
 use Rattle.example_resp.specs.declared.commands.Rejection.{Rejection}
 use Rattle.example_resp.specs.declared.commands.Rejection.TheVariants.{BadInput, NoMemory}
+use Rattle.example_resp.specs.declared.session.Plan.{Plan}
 use Rattle.example_resp.specs.declared.session.Session.{Session}
 
 -- the session gives up: there is no memory for what was asked for, or the input ends in a line
 abbrev pub GivesUp : List (List ℕ) → Next → Type 0
 GivesUp texts asked = (fault : Rejection) × ((fault ≡ NoMemory) ⊎ (fault ≡ BadInput))
     × (texts ≡ error_line fault ∷ []) × (asked ≡ next.Close)
+
+-- what is planned for a line or a word: the answer of the session, or it gives up
+abbrev pub Plans : Session → List ℕ → Plan → Session → Type 0
+Plans old text plan new = Answers (state_of old) text (answer_of plan new)
+    ⊎ GivesUp (answer_of plan new).replies plan.next
 
 -- what a session answers, as the relation of a handler
 abbrev pub session_answers : Session → Line → List Reply → Next → Session → Type 0

@@ -53,10 +53,12 @@ AwaitsWord held count words (Known size) answer =
 AwaitsWord held count words Bad answer = Rejects held BadLength answer
 AwaitsWord held count words Absent answer = Rejects held BadLength answer
 
--- the answer to the first line of a request
-abbrev pub AnswersRequest : State → List ℕ → Answer → Type 0
-AnswersRequest old line answer = (length : Length)
-    × IsLength (codes "*") most_words line length × Opens old.contents line length answer
+-- the answer to the first line of a request. The array `*-1` has no words, and is not answered
+pub record AnswersRequest (old : State) (line : List ℕ) (answer : Answer) : Type 0 where
+  pub none : line ≡ codes "*-1"
+      → Awaits old.contents old.words stage.Request next.Line answer
+  pub other : line ≢ codes "*-1" → (length : Length)
+      × IsLength (codes "*") most_words line length × Opens old.contents line length answer
 
 -- the answer to the line with the length of a word, in an array of `count` words
 abbrev pub AnswersLength : State → ℕ → List ℕ → Answer → Type 0

@@ -1,20 +1,24 @@
 -- The state of a session, and what it answers to a request that it has read whole.
-use Rattle.std.specs.Prelude.{◌≡◌, ℕ, List, [], ◌∷◌, MatchResult, None}
+use Rattle.std.specs.Prelude.{◌≡◌, ℕ, List, [], ◌∷◌, MatchResult, None, Option, Some, codes, slice_get}
 use Rattle.std.specs.declared.result.Result.{Result}
-use Rattle.ascii.specs.StringState.{StringState}
 use Rattle.ascii_lines.specs.declared.serving.Next.{Next}
 use Rattle.ascii_lines.specs.declared.serving.Next.TheVariants as next
-use Rattle.example_resp.specs.Commands.{ReadsCommand, after, error_line, reply}
+use Rattle.example_resp.specs.Commands.{ReadsCommand, after, count_reply, error_line, reply}
+use Rattle.example_resp.specs.Commands.{value_reply}
 use Rattle.example_resp.specs.Store.{Contents, contents_of, string_texts}
 use Rattle.example_resp.specs.declared.commands.Rejection.TheVariants.{UnknownCommand, WrongArguments}
 use Rattle.example_resp.specs.declared.commands.Command.{Command}
 use Rattle.example_resp.specs.declared.commands.Rejection.{Rejection}
 use Rattle.example_resp.specs.declared.commands.Command.TheVariants.{Leave}
+use Rattle.example_resp.specs.declared.replies.Reply.{Reply}
+use Rattle.example_resp.specs.declared.replies.Reply.TheVariants.{Count, Done, Fault, Pong, Silence}
+use Rattle.example_resp.specs.declared.replies.Reply.TheVariants.{Text, Value}
+use Rattle.example_resp.specs.declared.session.Plan.{Plan}
 use Rattle.example_resp.specs.declared.session.Session.{Session}
 use Rattle.example_resp.specs.declared.session.Stage.{Stage}
 use Rattle.example_resp.specs.declared.session.Stage.TheVariants as stage
 
--- the state of a session: the contents of its store, the words that it has read of an array, and
+-- the state of a session: the contents of its store, the words that it has read of a request, and
 -- what it awaits
 pub record State : Type 0 where
   pub contents : Contents
@@ -35,14 +39,32 @@ state_of session = record {
   stage = session.stage;
 }
 
--- an answer of these replies that asks for `next` and leaves `session`
-abbrev pub answer_of : List StringState → Next → Session → Answer
-answer_of replies next session =
-    record { replies = string_texts replies; next = next; state = state_of session }
+-- the value at a key in these contents, if there is a key
+abbrev pub value_at : Contents → Option (List ℕ) → Option (List ℕ)
+value_at held None = None
+value_at held (Some key) = held key
 
--- a request is awaited, and no words of an array are kept
+-- the lines of a reply, by the contents of the store and the words of the request
+abbrev pub reply_lines : Contents → List (List ℕ) → Reply → List (List ℕ)
+reply_lines held words Silence = []
+reply_lines held words Done = codes "+OK" ∷ []
+reply_lines held words Pong = codes "+PONG" ∷ []
+reply_lines held words (Count number) = count_reply number
+reply_lines held words Value = value_reply (value_at held (slice_get words 1))
+reply_lines held words Text = value_reply (slice_get words 1)
+reply_lines held words (Fault rejection) = error_line rejection ∷ []
+
+-- the answer that is planned, and leaves `session`
+abbrev pub answer_of : Plan → Session → Answer
+answer_of plan session = record {
+  replies = reply_lines (contents_of session.store) (string_texts session.words.items) plan.reply;
+  next = plan.next;
+  state = state_of session;
+}
+
+-- a request is awaited, whose words take the place of those that are kept
 abbrev pub IsIdle : State → Type 0
-IsIdle state = (state.words ≡ []) × (state.stage ≡ stage.Request)
+IsIdle state = state.stage ≡ stage.Request
 
 -- a request is awaited, and no key has a value
 pub record IsFresh (state : State) : Type 0 where

@@ -1,59 +1,56 @@
 //! The replies of a store to commands.
 
 ghost use Rattle.std.specs.Option.{option_map};
-ghost use Rattle.std.specs.Prelude.{◌≡◌, [], ◌∷◌, ◌++◌, List, OnOk, ℕ};
+ghost use Rattle.std.specs.Prelude.{◌≡◌, ◌∷◌, ◌++◌, [], IfOk, List, OnOk, codes, decimal, map, ℕ};
 ghost use Rattle.ascii.specs.View.{text_of};
-ghost use Rattle.example_resp.specs.Commands.{after, count_reply, error_line, reply};
-ghost use Rattle.example_resp.specs.Commands.{value_reply};
-ghost use Rattle.example_resp.specs.Store.{contents_of, string_texts};
+ghost use Rattle.ascii_lines.specs.Serve.{Says, line_reply};
+ghost use Rattle.example_resp.specs.Commands.{Tells, after, error_line, value_reply};
+ghost use Rattle.example_resp.specs.Store.{contents_of};
 
 use crate::commands::{Command, Rejection};
 use crate::store::Store;
-use ascii::{AsciiChar, AsciiStr, AsciiString};
-use std::alloc::{AllocError, Global};
+use ascii::{AsciiStr, text};
+use ascii_lines::{Replies, Sink};
+use itoa::Buffer;
+use std::alloc::{AllocError, Allocator, Global};
 
-/// Follows a command and appends the reply to it, or returns an error if an allocation fails.
-///
-/// Condition: `replies` is empty.
-pub fn follow(
-    store: &mut Store,
-    alloc: Global,
-    command: Command<'_>,
-    replies: &mut Vec<AsciiString>,
-) -> Result<(), AllocError>
-    requires { replies.old.items ≡ [] }
-    ensures replies { OnOk result (string_texts replies.new.items
-        ≡ reply (contents_of store.old) command.entry) }
+/// What is replied to a request.
+#[derive(Clone, Copy, PartialEq, Eq, Debug)]
+pub enum Reply {
+    /// Nothing: the request has more lines, or no words.
+    Silence,
+    /// That the command was carried out.
+    Done,
+    /// The reply to `PING`.
+    Pong,
+    /// A number of values.
+    Count(usize),
+    /// The value at the key that is the second word of the request.
+    Value,
+    /// The second word of the request.
+    Text,
+    /// Why the request was rejected.
+    Fault(Rejection),
+}
+
+/// Carries out a command, and says what to reply; or returns an error if an allocation fails.
+pub fn follow(store: &mut Store, alloc: Global, command: Command<'_>) -> Result<Reply, AllocError>
+    ensures reply { IfOk result (Tells (contents_of store.old) command.entry) }
     ensures store { OnOk result ((key : List ℕ) →
         contents_of store.new key ≡ after (contents_of store.old) command.entry key) }
 {
     match command {
         Command::SetValue { key, value } => {
             store.set(alloc, key, value)?;
-            push_line(alloc, AsciiStr::literal("+OK"), replies)
+            Ok(Reply::Done)
         }
-        Command::GetValue { key } => push_value(alloc, store.get(key), replies),
-        Command::DeleteValues { keys } => push_count(alloc, store.delete_all(keys), replies),
-        Command::CountValues { keys } => push_count(alloc, store.count(keys), replies),
-        Command::Reply => push_line(alloc, AsciiStr::literal("+PONG"), replies),
-        Command::Echo { text } => push_value(alloc, Some(text), replies),
-        Command::Leave => push_line(alloc, AsciiStr::literal("+OK"), replies),
+        Command::GetValue { .. } => Ok(Reply::Value),
+        Command::DeleteValues { keys } => Ok(Reply::Count(store.delete_all(keys))),
+        Command::CountValues { keys } => Ok(Reply::Count(store.count(keys))),
+        Command::Reply => Ok(Reply::Pong),
+        Command::Echo { .. } => Ok(Reply::Text),
+        Command::Leave => Ok(Reply::Done),
     }
-}
-
-/// Appends the line that says why a request was rejected, or returns an error if an allocation
-/// fails.
-///
-/// Condition: `replies` is empty.
-pub fn reject(
-    alloc: Global,
-    rejection: Rejection,
-    replies: &mut Vec<AsciiString>,
-) -> Result<(), AllocError>
-    requires { replies.old.items ≡ [] }
-    ensures { OnOk result (string_texts replies.new.items ≡ error_line rejection ∷ []) }
-{
-    push_line(alloc, line_of(rejection), replies)
 }
 
 /// Returns the line that says why a request was rejected.
@@ -72,49 +69,30 @@ pub fn line_of(rejection: Rejection) -> AsciiStr<'static>
     }
 }
 
-/// Appends the reply to `DEL` and `EXISTS`: a number of values.
-///
-/// Condition: `replies` is empty.
-fn push_count(alloc: Global, count: usize, replies: &mut Vec<AsciiString>) -> Result<(), AllocError>
-    requires { replies.old.items ≡ [] }
-    ensures { OnOk result (string_texts replies.new.items ≡ count_reply count) }
+/// Writes a line with a mark and a number. Does not allocate.
+pub fn say_number<K: Sink, A: Allocator>(
+    mark: AsciiStr<'_>,
+    number: usize,
+    replies: &mut Replies<K, A>,
+)
+    ensures { Says replies.old (line_reply (text_of mark.entry ++ decimal number) ∷ [])
+        replies.new }
 {
-    let mut line = AsciiString::from_char(alloc, AsciiChar::Colon)?;
-    line.push_decimal(count)?;
-    replies.push(line)?;
-    Ok(())
+    let mut buffer = Buffer::new();
+    replies.part(mark);
+    replies.text(text::as_ascii_str_unchecked(buffer.format(number)));
 }
 
-/// Appends the reply to a value, or to none.
-///
-/// Condition: `replies` is empty.
-fn push_value(
-    alloc: Global,
-    value: Option<AsciiStr<'_>>,
-    replies: &mut Vec<AsciiString>,
-) -> Result<(), AllocError>
-    requires { replies.old.items ≡ [] }
-    ensures { OnOk result (string_texts replies.new.items ≡ value_reply
-        (option_map text_of value.entry)) }
+/// Writes the reply to a value, or to none. Does not allocate.
+pub fn say_value<K: Sink, A: Allocator>(value: Option<AsciiStr<'_>>, replies: &mut Replies<K, A>)
+    ensures { Says replies.old (map line_reply (value_reply (option_map text_of value.entry)))
+        replies.new }
 {
-    let Some(value) = value else {
-        return push_line(alloc, AsciiStr::literal("$-1"), replies);
-    };
-    let mut length = AsciiString::from_char(alloc, AsciiChar::Dollar)?;
-    length.push_decimal(value.len())?;
-    replies.push(length)?;
-    push_line(alloc, value, replies)
-}
-
-/// Appends a line.
-fn push_line(
-    alloc: Global,
-    line: AsciiStr<'_>,
-    replies: &mut Vec<AsciiString>,
-) -> Result<(), AllocError>
-    ensures { OnOk result (string_texts replies.new.items
-        ≡ string_texts replies.old.items ++ text_of line.entry ∷ []) }
-{
-    replies.push(line.to_ascii_string(alloc)?)?;
-    Ok(())
+    match value {
+        Some(value) => {
+            say_number(AsciiStr::literal("$"), value.len(), replies);
+            replies.text(value);
+        }
+        None => replies.fixed_line(AsciiStr::literal("$-1")),
+    }
 }

@@ -1,17 +1,17 @@
 //! A session with one client: the lines and words that it sends, and the replies.
 
-ghost use Rattle.std.specs.Prelude.{◌≡◌, ◌∷◌, [], IfOk, map};
+ghost use Rattle.std.specs.Option.{option_map};
+ghost use Rattle.std.specs.Prelude.{◌≡◌, IfOk, map, slice_get};
 ghost use Rattle.ascii.specs.ByClass.{words_by};
 ghost use Rattle.ascii.specs.Tests.{is_blank};
 ghost use Rattle.ascii.specs.View.{text_of};
 ghost use Rattle.ascii_lines.specs.Serve.{IsRequest, Says, line_reply};
-ghost use Rattle.example_resp.specs.Commands.{error_line};
 ghost use Rattle.example_resp.specs.Store.{string_texts};
-ghost use Rattle.example_resp.specs.Session.{asked_after, next_after};
+ghost use Rattle.example_resp.specs.Session.{asked_after, next_after, reply_lines, value_at};
 ghost use Rattle.example_resp.specs.Requests.{IsLength};
 
 use crate::commands::{Command, Rejection, read_command};
-use crate::replies::{follow, line_of, reject};
+use crate::replies::{Reply, follow, line_of, say_number, say_value};
 use crate::store::Store;
 use ascii::classes::Blank;
 use ascii::{AsciiStr, AsciiString};
@@ -48,7 +48,14 @@ pub enum Length {
     Absent,
 }
 
-/// A store, the words of an array that have been read, and what is awaited.
+/// What is done with a line or a word: the reply, and what is asked for next.
+#[derive(Clone, Copy, PartialEq, Eq, Debug)]
+pub struct Plan {
+    reply: Reply,
+    next: Next,
+}
+
+/// A store, the words of the request that have been read, and what is awaited.
 #[derive(Drop)]
 pub struct Session {
     alloc: Global,
@@ -60,6 +67,7 @@ pub struct Session {
 impl Session {
     ghost use Rattle.example_resp.specs.Requests.{Answers, AnswersEnd, AnswersLength, AnswersRequest};
     ghost use Rattle.example_resp.specs.Requests.{AnswersWord, Continues};
+    ghost use Rattle.example_resp.specs.Conversations.{Plans};
     ghost use Rattle.example_resp.specs.Session.{CarriesOut, IsFresh, Rejects, answer_of, state_of};
 
     /// Creates a session with an empty store. Does not allocate.
@@ -74,194 +82,178 @@ impl Session {
         }
     }
 
-    /// Answers the first line of a request.
-    ///
-    /// Condition: `replies` is empty.
-    fn answer_request(
-        &mut self,
-        alloc: Global,
-        line: AsciiStr<'_>,
-        replies: &mut Vec<AsciiString>,
-    ) -> Result<Next, AllocError>
-        requires { replies.old.items ≡ [] }
-        ensures answers { IfOk result (λ next. AnswersRequest (state_of self.old)
-            (text_of line.entry) (answer_of replies.new.items next self.new)) }
-        ensures request { IfOk result IsRequest }
+    /// Plans the answer to the first line of a request.
+    fn plan_request(&mut self, line: AsciiStr<'_>) -> Result<Plan, AllocError>
+        ensures answers { IfOk result (λ plan. AnswersRequest (state_of self.old)
+            (text_of line.entry) (answer_of plan self.new)) }
+        ensures request { IfOk result (λ plan. IsRequest plan.next) }
     {
+        if line.eq_bytes(b"*-1") {
+            self.stage = Stage::Request;
+            return Ok(silent(Next::Line));
+        }
         match read_length(line, AsciiStr::literal("*"), MOST_WORDS) {
             Length::Known(count) => {
                 self.words.clear();
-                self.continue_array(alloc, count, replies)
+                self.continue_array(count)
             }
-            Length::Bad => self.reject(alloc, Rejection::BadLength, replies),
+            Length::Bad => Ok(self.reject(Rejection::BadLength)),
             Length::Absent => {
-                self.words = words_of(alloc, line)?;
-                self.carry_out(alloc, replies)
+                self.words = words_of(self.alloc, line)?;
+                self.carry_out()
             }
         }
     }
 
-    /// Answers the line with the length of a word.
-    ///
-    /// Condition: `replies` is empty.
-    fn answer_length(
-        &mut self,
-        alloc: Global,
-        count: usize,
-        line: AsciiStr<'_>,
-        replies: &mut Vec<AsciiString>,
-    ) -> Result<Next, AllocError>
-        requires { replies.old.items ≡ [] }
-        ensures answers { IfOk result (λ next. AnswersLength (state_of self.old) count
-            (text_of line.entry) (answer_of replies.new.items next self.new)) }
-        ensures request { IfOk result IsRequest }
+    /// Plans the answer to the line with the length of a word.
+    fn plan_length(&mut self, count: usize, line: AsciiStr<'_>) -> Result<Plan, AllocError>
+        ensures answers { IfOk result (λ plan. AnswersLength (state_of self.old) count
+            (text_of line.entry) (answer_of plan self.new)) }
+        ensures request { IfOk result (λ plan. IsRequest plan.next) }
     {
         match read_length(line, AsciiStr::literal("$"), MOST_BYTES) {
             Length::Known(0) => {
-                self.words.push(AsciiString::new(alloc))?;
+                self.words.push(AsciiString::new(self.alloc))?;
                 self.stage = Stage::End(count);
-                Ok(Next::Line)
+                Ok(silent(Next::Line))
             }
             Length::Known(size) => {
                 self.stage = Stage::Word(count);
-                Ok(Next::Part(size))
+                Ok(silent(Next::Part(size)))
             }
-            _ => self.reject(alloc, Rejection::BadLength, replies),
+            _ => Ok(self.reject(Rejection::BadLength)),
         }
     }
 
     /// Keeps a word of an array.
-    fn answer_word(
-        &mut self,
-        alloc: Global,
-        count: usize,
-        word: AsciiStr<'_>,
-    ) -> Result<Next, AllocError>
-        ensures answers { IfOk result (λ next. AnswersWord (state_of self.old) count
-            (text_of word.entry) (answer_of [] next self.new)) }
-        ensures request { IfOk result IsRequest }
+    fn plan_word(&mut self, count: usize, word: AsciiStr<'_>) -> Result<Plan, AllocError>
+        ensures answers { IfOk result (λ plan. AnswersWord (state_of self.old) count
+            (text_of word.entry) (answer_of plan self.new)) }
+        ensures request { IfOk result (λ plan. IsRequest plan.next) }
     {
-        self.words.push(word.to_ascii_string(alloc)?)?;
+        self.words.push(word.to_ascii_string(self.alloc)?)?;
         self.stage = Stage::End(count);
-        Ok(Next::Line)
+        Ok(silent(Next::Line))
     }
 
-    /// Answers the line that ends a word, which is to be empty.
-    ///
-    /// Condition: `replies` is empty.
-    fn answer_end(
-        &mut self,
-        alloc: Global,
-        count: usize,
-        line: AsciiStr<'_>,
-        replies: &mut Vec<AsciiString>,
-    ) -> Result<Next, AllocError>
-        requires { replies.old.items ≡ [] }
-        ensures answers { IfOk result (λ next. AnswersEnd (state_of self.old) count
-            (text_of line.entry) (answer_of replies.new.items next self.new)) }
-        ensures request { IfOk result IsRequest }
+    /// Plans the answer to the line that ends a word, which is to be empty.
+    fn plan_end(&mut self, count: usize, line: AsciiStr<'_>) -> Result<Plan, AllocError>
+        ensures answers { IfOk result (λ plan. AnswersEnd (state_of self.old) count
+            (text_of line.entry) (answer_of plan self.new)) }
+        ensures request { IfOk result (λ plan. IsRequest plan.next) }
     {
         if line.is_empty() {
-            self.continue_array(alloc, count, replies)
+            self.continue_array(count)
         } else {
-            self.reject(alloc, Rejection::BadEnding, replies)
+            Ok(self.reject(Rejection::BadEnding))
         }
     }
 
     /// Carries out an array of which all words have been read, or awaits its next word.
-    ///
-    /// Condition: `replies` is empty.
-    fn continue_array(
-        &mut self,
-        alloc: Global,
-        count: usize,
-        replies: &mut Vec<AsciiString>,
-    ) -> Result<Next, AllocError>
-        requires { replies.old.items ≡ [] }
-        ensures answers { IfOk result (λ next. Continues (state_of self.old).contents count
-            (state_of self.old).words (answer_of replies.new.items next self.new)) }
-        ensures request { IfOk result IsRequest }
+    fn continue_array(&mut self, count: usize) -> Result<Plan, AllocError>
+        ensures answers { IfOk result (λ plan. Continues (state_of self.old).contents count
+            (state_of self.old).words (answer_of plan self.new)) }
+        ensures request { IfOk result (λ plan. IsRequest plan.next) }
     {
         if self.words.len() < count {
             self.stage = Stage::Length(count);
-            return Ok(Next::Line);
+            return Ok(silent(Next::Line));
         }
-        self.carry_out(alloc, replies)
+        self.carry_out()
     }
 
     /// Follows the command that the words say, or rejects them. No words are not answered.
-    ///
-    /// Condition: `replies` is empty.
-    fn carry_out(
-        &mut self,
-        alloc: Global,
-        replies: &mut Vec<AsciiString>,
-    ) -> Result<Next, AllocError>
-        requires { replies.old.items ≡ [] }
-        ensures answers { IfOk result (λ next. CarriesOut (state_of self.old).contents
-            (state_of self.old).words (answer_of replies.new.items next self.new)) }
-        ensures request { IfOk result IsRequest }
+    fn carry_out(&mut self) -> Result<Plan, AllocError>
+        ensures answers { IfOk result (λ plan. CarriesOut (state_of self.old).contents
+            (state_of self.old).words (answer_of plan self.new)) }
+        ensures request { IfOk result (λ plan. IsRequest plan.next) }
     {
-        if self.words.is_empty() {
-            self.stage = Stage::Request;
-            return Ok(Next::Line);
-        }
-        let next;
-        match read_command(&self.words) {
-            Ok(command) => {
-                next = next_of(command);
-                follow(&mut self.store, alloc, command, replies)?;
-            }
-            Err(rejection) => {
-                next = next_after(rejection);
-                reject(alloc, rejection, replies)?;
-            }
-        }
-        self.words.clear();
         self.stage = Stage::Request;
-        Ok(next)
+        if self.words.is_empty() {
+            return Ok(silent(Next::Line));
+        }
+        match read_command(&self.words) {
+            Ok(command) => Ok(Plan {
+                reply: follow(&mut self.store, self.alloc, command)?,
+                next: next_of(command),
+            }),
+            Err(rejection) => Ok(rejected(rejection)),
+        }
     }
 
     /// Rejects a request, and awaits the next one.
-    ///
-    /// Condition: `replies` is empty.
-    fn reject(
-        &mut self,
-        alloc: Global,
-        rejection: Rejection,
-        replies: &mut Vec<AsciiString>,
-    ) -> Result<Next, AllocError>
-        requires { replies.old.items ≡ [] }
-        ensures answers { IfOk result (λ next. Rejects (state_of self.old).contents rejection
-            (answer_of replies.new.items next self.new)) }
-        ensures request { IfOk result IsRequest }
+    fn reject(&mut self, rejection: Rejection) -> Plan
+        ensures answers { Rejects (state_of self.old).contents rejection
+            (answer_of result self.new) }
+        ensures request { IsRequest result.next }
     {
-        reject(alloc, rejection, replies)?;
-        self.words.clear();
         self.stage = Stage::Request;
-        Ok(next_after(rejection))
+        rejected(rejection)
     }
 
-    /// Takes a line or a word, appends the lines of the replies, and returns what is asked for next; or an error if
-    /// an allocation fails.
-    ///
-    /// Condition: `replies` is empty.
-    fn respond(
-        &mut self,
-        text: AsciiStr<'_>,
-        replies: &mut Vec<AsciiString>,
-    ) -> Result<Next, AllocError>
-        requires { replies.old.items ≡ [] }
-        ensures answers { IfOk result (λ next. Answers (state_of self.old) (text_of text.entry)
-            (answer_of replies.new.items next self.new)) }
-        ensures request { IfOk result IsRequest }
+    /// Takes a line or a word, and plans the answer; or returns an error if an allocation fails.
+    fn respond(&mut self, text: AsciiStr<'_>) -> Result<Plan, AllocError>
+        ensures answers { IfOk result (λ plan. Answers (state_of self.old) (text_of text.entry)
+            (answer_of plan self.new)) }
+        ensures request { IfOk result (λ plan. IsRequest plan.next) }
     {
-        let alloc = self.alloc;
         match self.stage {
-            Stage::Request => self.answer_request(alloc, text, replies),
-            Stage::Length(count) => self.answer_length(alloc, count, text, replies),
-            Stage::Word(count) => self.answer_word(alloc, count, text),
-            Stage::End(count) => self.answer_end(alloc, count, text, replies),
+            Stage::Request => self.plan_request(text),
+            Stage::Length(count) => self.plan_length(count, text),
+            Stage::Word(count) => self.plan_word(count, text),
+            Stage::End(count) => self.plan_end(count, text),
+        }
+    }
+
+    /// Takes a line or a word, and plans the answer. The session gives up if an allocation fails, or if
+    /// the input ends in a line.
+    fn plan(&mut self, text: AsciiStr<'_>, ending: Ending) -> Plan
+        ensures answers { Plans self.old (text_of text.entry) result self.new }
+        ensures request { IsRequest result.next }
+    {
+        if ending == Ending::Absent && !matches!(self.stage, Stage::Word(_)) {
+            return rejected(Rejection::BadInput);
+        }
+        match self.respond(text) {
+            Ok(plan) => plan,
+            Err(AllocError) => rejected(Rejection::NoMemory),
+        }
+    }
+
+    /// Returns the second word of the request.
+    fn second_word(&self) -> Option<AsciiStr<'_>>
+        ensures { option_map text_of result ≡ slice_get (state_of self.now).words 1 }
+    {
+        match self.words.get(1) {
+            Some(word) => Some(word.as_ascii_str()),
+            None => None,
+        }
+    }
+
+    /// Returns the value at the key that is the second word of the request.
+    fn second_value(&self) -> Option<AsciiStr<'_>>
+        ensures { option_map text_of result
+            ≡ value_at (state_of self.now).contents (slice_get (state_of self.now).words 1) }
+    {
+        match self.second_word() {
+            Some(key) => self.store.get(key),
+            None => None,
+        }
+    }
+
+    /// Writes a reply. Does not allocate.
+    fn say<K: Sink, A: Allocator>(&self, reply: Reply, replies: &mut Replies<K, A>)
+        ensures { Says replies.old (map line_reply (reply_lines (state_of self.now).contents
+            (state_of self.now).words reply)) replies.new }
+    {
+        match reply {
+            Reply::Silence => {}
+            Reply::Done => replies.fixed_line(AsciiStr::literal("+OK")),
+            Reply::Pong => replies.fixed_line(AsciiStr::literal("+PONG")),
+            Reply::Count(count) => say_number(AsciiStr::literal(":"), count, replies),
+            Reply::Value => say_value(self.second_value(), replies),
+            Reply::Text => say_value(self.second_word(), replies),
+            Reply::Fault(rejection) => replies.text(line_of(rejection)),
         }
     }
 }
@@ -279,21 +271,9 @@ impl Handler for Session {
         ending: Ending,
         replies: &mut Replies<K, A>,
     ) -> Next {
-        if ending == Ending::Absent && !matches!(self.stage, Stage::Word(_)) {
-            say(Rejection::BadInput, replies);
-            return Next::Close;
-        }
-        let mut lines = Vec::new(self.alloc);
-        match self.respond(text, &mut lines) {
-            Ok(next) => {
-                say_lines(&lines, replies);
-                next
-            }
-            Err(AllocError) => {
-                say(Rejection::NoMemory, replies);
-                Next::Close
-            }
-        }
+        let plan = self.plan(text, ending);
+        self.say(plan.reply, replies);
+        plan.next
     }
 
     fn refuse<K: Sink, A: Allocator>(
@@ -301,19 +281,34 @@ impl Handler for Session {
         _error: LineError,
         replies: &mut Replies<K, A>,
     ) -> Next {
-        say(Rejection::BadInput, replies);
+        replies.text(line_of(Rejection::BadInput));
         Next::Close
     }
 }
 
-/// Returns what is asked for after a rejection. If it is not known where the next request starts, nothing is.
-fn next_after(rejection: Rejection) -> Next
-    ensures next { result ≡ asked_after rejection }
-    ensures request { IsRequest result }
+/// An answer without a reply.
+fn silent(next: Next) -> Plan
+    ensures { result ≡ record { reply = Reply.Silence; next = next } }
 {
-    match rejection {
+    Plan {
+        reply: Reply::Silence,
+        next,
+    }
+}
+
+/// The answer to a request that is rejected. If it is not known where the next request starts, none is
+/// asked for.
+fn rejected(rejection: Rejection) -> Plan
+    ensures plan { result ≡ record { reply = Reply.Fault rejection; next = asked_after rejection } }
+    ensures request { IsRequest result.next }
+{
+    let next = match rejection {
         Rejection::UnknownCommand | Rejection::WrongArguments => Next::Line,
         _ => Next::Close,
+    };
+    Plan {
+        reply: Reply::Fault(rejection),
+        next,
     }
 }
 
@@ -325,22 +320,6 @@ fn next_of(command: Command<'_>) -> Next
     match command {
         Command::Leave => Next::Close,
         _ => Next::Line,
-    }
-}
-
-/// Writes the line that says why a request was rejected.
-fn say<K: Sink, A: Allocator>(rejection: Rejection, replies: &mut Replies<K, A>)
-    ensures { Says replies.old (map line_reply (error_line rejection ∷ [])) replies.new }
-{
-    replies.text(line_of(rejection));
-}
-
-/// Writes texts as lines.
-fn say_lines<K: Sink, A: Allocator>(lines: &[AsciiString], replies: &mut Replies<K, A>)
-    ensures { Says replies.old (map line_reply (string_texts lines.now)) replies.new }
-{
-    for line in lines {
-        replies.text(line.as_ascii_str());
     }
 }
 

@@ -90,7 +90,7 @@ pub enum LampReply {
     Lit,
     /// It is not lit.
     Dark,
-    /// The line is no verb.
+    /// The line is not a verb.
     Unknown,
 }
 

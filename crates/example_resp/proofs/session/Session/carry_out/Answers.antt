@@ -1,0 +1,27 @@
+use Rattle.std.proofs.Common.{◌==◌, ◌≡◌, List, ap, arith, length, refl, subst, sym, ℕ, ◌∙◌}
+use Rattle.std.proofs.lemmas.Bool.{false≢true}
+use Rattle.ascii.specs.StringState.{StringState}
+use Rattle.example_resp.specs.Commands.{Says}
+use Rattle.example_resp.specs.Store.{contents_of, string_texts}
+use Rattle.example_resp.proofs.FollowLemmas.{carried, told_lines}
+use Rattle.example_resp.proofs.session.Session.carry_out.Goals as goal
+
+pub returns-in_ok-follow-in-Ok-clause-answers : goal.returns-in_ok-follow-in-Ok-clause-answers
+returns-in_ok-follow-in-Ok-clause-answers c =
+    let old = c.args.self.now in
+    let held = contents_of old.store in
+    let words = old.words.items in
+    let says = subst (λ (ws : List StringState). Says (string_texts ws) c.in-Ok.command)
+    c.deref.ensures.value c.in-Ok.ensures in
+    carried held words c.in-Ok.command _
+    (λ none. false≢true (sym c.if-is_empty.false ∙ (c.is_empty.ensures
+    ∙ ap (λ (n : ℕ). n == 0)
+    (let zero : old.words.len ≡ 0 = omega (arith, ap length none, old.words.ok.0) in zero)))) says
+    (record {
+      replies = told_lines held (contents_of c.follow.new.store) (string_texts words)
+          c.in-Ok.command c.in_ok-follow-in-Ok.field-0 says c.in_ok-follow-in-Ok.ensures.reply
+          c.in_ok-follow-in-Ok.ensures.store;
+      asks = c.next_of.ensures.next;
+      idle = refl;
+      contents = c.in_ok-follow-in-Ok.ensures.store;
+    })
