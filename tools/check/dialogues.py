@@ -84,6 +84,13 @@ DIALOGUES = [
     smuggled("LF . CR LF", b"\n.\r\n"),
     smuggled("CR LF . LF", b"\r\n.\n"),
     smuggled("CR . CR", b"\r.\r"),
+    # What redis-server 7.0.15 replies, except to a quoted byte above 127, which is an error here.
+    store("words in quotes", (b"SET k 'it\\'s \"x\"\\n'\r\nGET \"k\"\r\nPING \"a\\n\\r\\t\\b\\a\\\\\\\"\\x41\\xZZ\\q\"\r\nPING a\"b c\"\r\nPING \"\"\r\n",
+          b"+OK\r\n$10\r\nit's \"x\"\\n\r\n$13\r\na\n\r\t\x08\x07\\\"AxZZq\r\n$4\r\nab c\r\n$0\r\n\r\n")),
+    store("words between white space", (b"\x0bPING\r\n  \r\n\tPING \x0bx \r\nPING a\x0bb\r\nPING 'a'\x0b\r\n", b"+PONG\r\n$1\r\nx\r\n$3\r\na\x0bb\r\n$1\r\na\r\n")),
+    *[store(f"quotes that are not balanced in {line}", (line + b"\r\nPING\r\n", b"-ERR Protocol error: unbalanced quotes in request\r\n"))
+      for line in [b'PING "a"b', b"PING 'a'b", b'PING "a', b"PING 'a", b'PING "a\\', b'PING "a\\"', b"PING 'a\\'", b"'a' b 'c", b'PING a"b']],
+    store("a quoted byte above 127", (b'PING "\\x7f"\r\nPING "\\xff"\r\nPING\r\n', b"$1\r\n\x7f\r\n-ERR Protocol error: bad input\r\n")),
     store("arrays without words", (b"*-1\r\n*0\r\nPING x\r\n", b"$1\r\nx\r\n")),
     store("what comes after QUIT", (b"PING hi\r\n\r\n*0\r\nQUIT\r\nPING\r\n", b"$2\r\nhi\r\n+OK\r\n")),
     store("several keys", (b"SET a 1\r\nSET b 2\r\nEXISTS a b c a\r\nDEL a a b c\r\nEXISTS a\r\n", b"+OK\r\n" * 2 + b":3\r\n:2\r\n:0\r\n")),
@@ -122,7 +129,7 @@ class Talks(unittest.TestCase):
 
     def runTest(self):
         client, server = socket.socketpair()
-        with client, start(self.dialogue.program, server):
+        with start(self.dialogue.program, server), client:
             server.close()
             client.settimeout(WAIT)
             client.setsockopt(socket.SOL_SOCKET, socket.SO_SNDBUF, 1 << 20)

@@ -3,3 +3,4 @@ pub mod FollowLemmas
 pub mod LengthLemmas
 pub mod LiteralLemmas
 pub mod StoreLemmas
+pub mod WordsLemmas

@@ -14,7 +14,7 @@ use Rattle.example_resp.specs.declared.commands.Command.TheVariants.{Reply}
 use Rattle.example_resp.specs.declared.commands.Rejection.{Rejection}
 use Rattle.example_resp.specs.declared.commands.Rejection.TheVariants.{UnknownCommand, BadLength}
 use Rattle.example_resp.specs.declared.commands.Rejection.TheVariants.{WrongArguments, BadEnding}
-use Rattle.example_resp.specs.declared.commands.Rejection.TheVariants.{BadInput, NoMemory}
+use Rattle.example_resp.specs.declared.commands.Rejection.TheVariants.{BadInput, BadQuotes, NoMemory}
 use Rattle.example_resp.specs.declared.commands.Verb.{Verb}
 use Rattle.example_resp.specs.declared.replies.Reply as replies
 use Rattle.example_resp.specs.declared.replies.Reply.TheVariants as said
@@ -129,5 +129,6 @@ error_line UnknownCommand = codes "-ERR unknown command"
 error_line WrongArguments = codes "-ERR wrong number of arguments"
 error_line BadLength = codes "-ERR the length is not a number or too large"
 error_line BadEnding = codes "-ERR the word is longer than its length"
+error_line BadQuotes = codes "-ERR Protocol error: unbalanced quotes in request"
 error_line BadInput = codes "-ERR Protocol error: bad input"
 error_line NoMemory = codes "-OOM out of memory"

@@ -3,3 +3,4 @@ pub mod Conversations
 pub mod Requests
 pub mod Session
 pub mod Store
+pub mod Words

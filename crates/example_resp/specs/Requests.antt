@@ -1,13 +1,13 @@
 -- What a session answers to each line and each word: a request is a line of words, or an array.
-use Rattle.std.specs.Prelude.{◌≡◌, ◌≢◌, ◌<◌, ◌≤◌, ℕ, List, [], ◌∷◌, ◌++◌, codes, length}
-use Rattle.ascii.specs.ByClass.{words_by}
+use Rattle.std.specs.Prelude.{◌≡◌, ◌≢◌, ◌⊎◌, ◌<◌, ◌≤◌, ℕ, List, [], ◌∷◌, ◌++◌, codes, length}
 use Rattle.ascii.specs.Numbers.{WritesNumber}
 use Rattle.ascii.specs.Search.{IsPrefix, StartsWith}
-use Rattle.ascii.specs.Tests.{is_blank}
 use Rattle.ascii_lines.specs.declared.serving.Next.TheVariants as next
 use Rattle.example_resp.specs.Session.{Answer, Awaits, CarriesOut, Rejects, State}
 use Rattle.example_resp.specs.Store.{Contents}
 use Rattle.example_resp.specs.declared.commands.Rejection.TheVariants.{BadEnding, BadLength}
+use Rattle.example_resp.specs.Words.{HasWords, IsLineFault}
+use Rattle.example_resp.specs.declared.commands.Rejection.{Rejection}
 use Rattle.example_resp.specs.declared.session.Length.{Length}
 use Rattle.example_resp.specs.declared.session.Length.TheVariants.{Known, Bad, Absent}
 use Rattle.example_resp.specs.declared.session.Stage.{Stage}
@@ -38,11 +38,13 @@ pub record Continues (held : Contents) (count : ℕ) (words : List (List ℕ)) (
   pub part : length words < count → Awaits held words (stage.Length count) next.Line answer
 
 -- after the first line of a request: an array of that length begins, or the words are those of the
--- line
+-- line; or those cannot be kept
 abbrev pub Opens : Contents → List ℕ → Length → Answer → Type 0
 Opens held line (Known count) answer = Continues held count [] answer
 Opens held line Bad answer = Rejects held BadLength answer
-Opens held line Absent answer = CarriesOut held (words_by is_blank line) answer
+Opens held line Absent answer =
+    ((words : List (List ℕ)) × HasWords line words × CarriesOut held words answer)
+    ⊎ ((fault : Rejection) × IsLineFault line fault × Rejects held fault answer)
 
 -- after the line with the length of a word, in an array of `count` words of which `words` have been
 -- read: a word of that length is awaited; if it is empty, the line that ends it

@@ -6,6 +6,7 @@ ghost use Rattle.example_resp.specs.Commands.{HasParts, IsNameOf, IsPartsFault, 
 ghost use Rattle.example_resp.specs.Store.{string_texts};
 
 use ascii::{AsciiStr, AsciiString};
+use std::alloc::{AllocError, AllocFailed};
 
 /// What a client may ask for.
 #[derive(Clone, Copy, PartialEq, Eq, Debug)]
@@ -65,10 +66,34 @@ pub enum Rejection {
     BadLength,
     /// A word of an array is longer than its length says.
     BadEnding,
+    /// A line has quotes that are not closed, or are closed before something other than white space.
+    BadQuotes,
     /// The input is not ASCII, has a line that is too long or a CR or LF by itself, or ends too early.
     BadInput,
     /// There is no memory for what was asked for.
     NoMemory,
+}
+
+impl From<AllocError> for Rejection {
+    ghost use Rattle.std.specs.Prelude.{◌≡◌};
+    ghost use Rattle.example_resp.specs.declared.commands.Rejection.TheVariants.{NoMemory};
+
+    ghost from_gives = { λ _ rejection. rejection ≡ NoMemory };
+
+    fn from(_: AllocError) -> Rejection {
+        Rejection::NoMemory
+    }
+}
+
+impl<T: Drop> From<AllocFailed<T>> for Rejection {
+    ghost use Rattle.std.specs.Prelude.{◌≡◌};
+    ghost use Rattle.example_resp.specs.declared.commands.Rejection.TheVariants.{NoMemory};
+
+    ghost from_gives = { λ _ rejection. rejection ≡ NoMemory };
+
+    fn from(_: AllocFailed<T>) -> Rejection {
+        Rejection::NoMemory
+    }
 }
 
 /// Returns the command that the words say, or why they do not say one.

@@ -7,6 +7,7 @@ mod conversing;
 mod replies;
 mod session;
 mod store;
+mod words;
 
 use ascii_lines::{Duplex, Ending, Endings, LineChannel};
 use conversing::converse;

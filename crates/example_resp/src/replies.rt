@@ -64,6 +64,9 @@ pub fn line_of(rejection: Rejection) -> AsciiStr<'static>
             AsciiStr::literal("-ERR the length is not a number or too large")
         }
         Rejection::BadEnding => AsciiStr::literal("-ERR the word is longer than its length"),
+        Rejection::BadQuotes => {
+            AsciiStr::literal("-ERR Protocol error: unbalanced quotes in request")
+        }
         Rejection::BadInput => AsciiStr::literal("-ERR Protocol error: bad input"),
         Rejection::NoMemory => AsciiStr::literal("-OOM out of memory"),
     }

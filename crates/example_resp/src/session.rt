@@ -2,8 +2,6 @@
 
 ghost use Rattle.std.specs.Option.{option_map};
 ghost use Rattle.std.specs.Prelude.{◌≡◌, IfOk, map, slice_get};
-ghost use Rattle.ascii.specs.ByClass.{words_by};
-ghost use Rattle.ascii.specs.Tests.{is_blank};
 ghost use Rattle.ascii.specs.View.{text_of};
 ghost use Rattle.ascii_lines.specs.Serve.{IsRequest, Says, line_reply};
 ghost use Rattle.example_resp.specs.Store.{string_texts};
@@ -13,7 +11,7 @@ ghost use Rattle.example_resp.specs.Requests.{IsLength};
 use crate::commands::{Command, Rejection, read_command};
 use crate::replies::{Reply, follow, line_of, say_number, say_value};
 use crate::store::Store;
-use ascii::classes::Blank;
+use crate::words::split_words;
 use ascii::{AsciiStr, AsciiString};
 use ascii_lines::{Ending, Handler, LineError, Next, Replies, Sink};
 use std::alloc::{AllocError, Allocator, Global};
@@ -98,10 +96,14 @@ impl Session {
                 self.continue_array(count)
             }
             Length::Bad => Ok(self.reject(Rejection::BadLength)),
-            Length::Absent => {
-                self.words = words_of(self.alloc, line)?;
-                self.carry_out()
-            }
+            Length::Absent => match split_words(self.alloc, line) {
+                Ok(words) => {
+                    self.words = words;
+                    self.carry_out()
+                }
+                Err(Rejection::NoMemory) => Err(AllocError),
+                Err(rejection) => Ok(self.reject(rejection)),
+            },
         }
     }
 
@@ -336,16 +338,4 @@ fn read_length(line: AsciiStr<'_>, mark: AsciiStr<'_>, most: usize) -> Length
         Ok(n) if n <= most => Length::Known(n),
         Ok(_) => Length::Bad,
     }
-}
-
-/// Returns the words of a line, which have blanks between them.
-fn words_of(alloc: Global, line: AsciiStr<'_>) -> Result<Vec<AsciiString>, AllocError>
-    ensures { IfOk result (λ words.
-        string_texts words.items ≡ words_by is_blank (text_of line.entry)) }
-{
-    let mut words = Vec::new(alloc);
-    for word in line.words::<Blank>() {
-        words.push(word.to_ascii_string(alloc)?)?;
-    }
-    Ok(words)
 }
