@@ -7,7 +7,7 @@ use Rattle.example_register.specs.declared.register.Reply as register
 use Rattle.example_register.specs.declared.register.Reply.TheVariants as said
 
 -- to the line `text`, a register that keeps `kept` gives these replies, asks for `next`, and keeps
--- `after`. It keeps a line as it is, and `BUSY` is for a line that there is no memory for
+-- `after`. It keeps a line as it is, and replies `BUSY` if the allocation for it fails
 pub record Answers (kept text : List ℕ) (replies : List Reply) (next : Next) (after : List ℕ)
     : Type 0 where
   pub get : text ≡ codes "GET"

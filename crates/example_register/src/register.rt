@@ -16,7 +16,7 @@ enum Reply {
     Kept,
     /// The line is kept from now on.
     Done,
-    /// There is no memory for the line.
+    /// The allocation for the line failed.
     Busy,
     /// The conversation is over.
     Bye,

@@ -13,7 +13,7 @@ use Rattle.example_resp.specs.declared.commands.Rejection.TheVariants.{BadInput,
 use Rattle.example_resp.specs.declared.session.Plan.{Plan}
 use Rattle.example_resp.specs.declared.session.Session.{Session}
 
--- the session gives up: there is no memory for what was asked for, or the input ends in a line
+-- the session gives up: an allocation failed, or the input ends in a line
 abbrev pub GivesUp : List (List ℕ) → Next → Type 0
 GivesUp texts asked = (fault : Rejection) × ((fault ≡ NoMemory) ⊎ (fault ≡ BadInput))
     × (texts ≡ error_line fault ∷ []) × (asked ≡ next.Close)

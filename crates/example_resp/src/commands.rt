@@ -58,7 +58,7 @@ pub enum Command<'a> {
 /// Why a request was rejected.
 #[derive(Clone, Copy, PartialEq, Eq, Debug)]
 pub enum Rejection {
-    /// There is no word, or the first word is not the name of a verb.
+    /// The first word is not the name of a verb, or there are no words.
     UnknownCommand,
     /// The verb takes another number of arguments.
     WrongArguments,
@@ -70,7 +70,7 @@ pub enum Rejection {
     BadQuotes,
     /// The input is not ASCII, has a line that is too long or a CR or LF by itself, or ends too early.
     BadInput,
-    /// There is no memory for what was asked for.
+    /// An allocation failed.
     NoMemory,
 }
 
