@@ -11,7 +11,8 @@ use Rattle.ascii.specs.declared.iter.spans.Ending.{Ending}
 use Rattle.ascii.specs.declared.iter.spans.Endings.{Endings}
 use Rattle.ascii_devices.specs.Devices.{received_of}
 use Rattle.ascii_lines.specs.Exchanges.{IsReplier, RepliesToAll, Runs, inputs_of}
-use Rattle.ascii_lines.specs.Serve.{ChannelState, IsUnendedLast, Reply, Serves, Step, Talks}
+use Rattle.ascii_lines.specs.Serve.{ChannelState, Conversation, IsUnendedLast, Reply, Serves}
+use Rattle.ascii_lines.specs.Serve.{Step, Talks}
 use Rattle.ascii_lines.specs.Serve.{bytes_of, rejected, replies_of, reply_bytes, reply_text, skipped, took}
 use Rattle.ascii_lines.specs.declared.line_reader.LineError.{LineError}
 use Rattle.ascii_lines.specs.declared.serving.Awaited.{Awaited}
@@ -39,6 +40,15 @@ module _ {H : Type 0} (answers : H → Line → List Reply → Next → H → Ty
       absurd is
   runs (LineEnd asked) last old new (rejected error replies ∷ steps) (after, mid, is, talks) =
       absurd is
+
+module _ {H : Type 0} (answers : H → Line → List Reply → Next → H → Type 0)
+    (refuses : H → LineError → List Reply → Next → H → Type 0) where
+  -- so does the conversation of a server
+  pub talk_runs : {old new : ChannelState} {handler last : H} {why : Stop}
+      (talk : Conversation answers refuses old handler why new last)
+      → Runs answers refuses handler talk.steps talk.state
+  talk_runs {old} {new} {handler} {last} {why} talk = runs answers refuses old.cursor.endings
+      (Input next.Line) talk.awaited handler talk.state talk.steps talk.talks
 
 -- ---- handlers that reply to lines
 
