@@ -99,8 +99,8 @@ module _ {H : Type 0} (answers : H → Line → List Reply → Next → H → Ty
             ∙ ap (λ xs. reply_text ending (reply input) ++ xs) (others.says ending));
         awaits = others.awaits;
       }
-  takes_lines endings old new last (rejected error replies ∷ steps) (after, mid, is, talks) unended =
-      absurd (is.4 (replier.1 old error replies is.0 mid is.5))
+  takes_lines endings old new last (rejected error replies ∷ steps) (after, mid, is, talks)
+      unended = absurd (is.4 (replier.1 old error replies is.0 mid is.5))
   takes_lines endings old new last (skipped bytes ∷ steps) (after, mid, is, talks) unended =
       absurd is
 

@@ -76,8 +76,8 @@ Says old replies new = SaysBytes old.state.buffer.is_broken old.state
 abbrev pub is_unbroken : List ℕ → Bool
 is_unbroken text = list_all (λ code. not (is_line_break code)) text
 
--- the outcome of giving a line. `Ok`: it has no CR and no LF. `Err`: the index of its first CR or LF,
--- and nothing is changed
+-- the outcome of giving a line. `Ok`: it has no CR and no LF. `Err`: the index of its first CR or
+-- LF, and nothing is changed
 abbrev pub IsLineOutcome
     : {K : Type 0} → Saying K → List ℕ → Result (Unit {0}) ℕ → Saying K → Type 0
 IsLineOutcome old body (Ok _) new = IsFirstByte is_line_break body None
@@ -444,8 +444,8 @@ Prepares waits old (Err why) new = (why ≡ stop.Writer)
 abbrev pub ReadsWell : ChannelState → ChannelState → Type 0
 ReadsWell old new = new.output.aside.failures ≡ old.output.aside.failures
 
--- what is wanted was taken of a channel that was open: these bytes, which end where it does, or with
--- the input; and the channel goes on
+-- what is wanted was taken of a channel that was open: these bytes, which end where it does, or
+-- with the input; and the channel goes on
 pub record TakesInput (wanted : Wanted) (old new : ChannelState) : Type 0 where
   pub moves : Moves (MustRead wanted old.cursor.start old.cursor.size) old new.cursor.lent [] new
   pub may : MayHave wanted new.cursor.lent
@@ -467,7 +467,8 @@ TakesWanted wanted old (taken.Fault error) new =
     Moves (MustRead wanted old.cursor.start old.cursor.size) old [] [] new
     × Rejects wanted new.cursor.start new.cursor.size new.cursor.held new.output.aside.bytes error
     × (asked_by wanted ≡ next.Line → new.cursor.stage ≡ Refused error)
-    × (¬ (IsFinal error) → ReadsWell old new × (old.cursor.stage ≡ Open)) × (new.output.buffer.is_broken ≡ false)
+    × (¬ (IsFinal error) → ReadsWell old new × (old.cursor.stage ≡ Open))
+    × (new.output.buffer.is_broken ≡ false)
 
 -- the outcome of taking what is wanted: `TakesWanted`, or the device failed to take the replies before
 abbrev pub TakeOutcome : Wanted → ChannelState → Result Taken Stop → ChannelState → Type 0

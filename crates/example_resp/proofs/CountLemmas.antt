@@ -1,6 +1,6 @@
 -- Keys that are counted or removed, one after another.
 use Rattle.std.proofs.Common.{◌≡◌, ◌∙◌, ◌+◌, ◌<◌, ℕ, List, [], ◌∷◌, ◌++◌, None, Option}
-use Rattle.std.proofs.Common.{ap, arith, cond, get_or, is_some, length, refl, sym}
+use Rattle.std.proofs.Common.{Bool, ap, arith, cond, get_or, is_some, length, refl, subst, sym}
 use Rattle.std.proofs.Common.{take}
 use Rattle.std.proofs.lemmas.List.{map-append, take_more}
 use Rattle.std.specs.Map.{update}
@@ -40,6 +40,13 @@ texts_more : (keys : List StringState) (i : ℕ) (key : StringState) → i < len
 texts_more keys i key inside =
     ap string_texts (take_more keys i key inside)
     ∙ map-append (λ (s : StringState). s.text) (take i keys) (get_or keys i key ∷ [])
+
+-- how many values a test has found at a key
+pub one_found : (contents : Contents) (text key : List ℕ) (found is : Bool) → text ≡ key
+    → found ≡ is_some (contents text) → found ≡ is → one_at contents key ≡ cond is 1 0
+one_found contents text key found is same says held =
+    subst (λ (k : List ℕ). one_at contents k ≡ cond is 1 0) same
+    (ap (λ b. cond b 1 0) (sym says ∙ held))
 
 -- the count after one string more
 pub counts_more : (contents : Contents) (keys : List StringState) (i : ℕ) (key : StringState)

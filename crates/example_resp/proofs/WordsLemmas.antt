@@ -95,8 +95,8 @@ trimmed_shorter after rest trims = omega (
 
 -- ---- what is in quotes and cannot be kept
 
-module _ (quotes : Quotes) (text front rest inside : List ℕ) (before : HasPieces Bare text front rest)
-    (opens : Opens quotes rest inside) where
+module _ (quotes : Quotes) (text front rest inside : List ℕ)
+    (before : HasPieces Bare text front rest) (opens : Opens quotes rest inside) where
   opening : OpensQuotes quotes text front opens.0 inside
   opening = record {
     is_mark = opens.1;

@@ -101,8 +101,8 @@ abbrev pub next_after : Command → Next
 next_after Leave = next.Close
 next_after other = next.Line
 
--- the answer is the reply to the command, and asks for what comes after it; it leaves the contents that are
--- `held` after the command
+-- the answer is the reply to the command, and asks for what comes after it; it leaves the contents
+-- that are `held` after the command
 pub record Follows (held : Contents) (command : Command) (answer : Answer) : Type 0 where
   pub replies : answer.replies ≡ reply held command
   pub asks : answer.next ≡ next_after command

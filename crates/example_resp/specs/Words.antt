@@ -44,9 +44,9 @@ abbrev pub HasHexPair : List ℕ → Type 0
 HasHexPair text = (code : ℕ) × (others : List ℕ) × IsHexPair text code others
 
 -- `text` begins with what stands for `code` between these quotes, and `others` come after that.
--- `Bare`: the code itself, which is not a gap or a quote. `Single`: a quote after a backslash stands
--- for itself, and so does any other code. `Double`: so do two hexadecimal digits after `\x`, and a
--- character after a backslash
+-- `Bare`: the code itself, which is not a gap or a quote. `Single`: a quote after a backslash
+-- stands for itself, and so does any other code. `Double`: so do two hexadecimal digits after `\x`,
+-- and a character after a backslash
 abbrev pub IsPiece : Quotes → List ℕ → ℕ → List ℕ → Type 0
 IsPiece Bare text code others =
     (text ≡ code ∷ others) × ¬ (IsGap code) × (code ≢ 34) × (code ≢ 39)
@@ -73,8 +73,8 @@ IsMark Bare mark = ⊥
 IsMark Double mark = mark ≡ 34
 IsMark Single mark = mark ≡ 39
 
--- `text` begins with `front`, which is not quoted, and then with what is quoted in `quotes`, of which
--- `inside` is what comes after the quote `mark`
+-- `text` begins with `front`, which is not quoted, and then with what is quoted in `quotes`, of
+-- which `inside` is what comes after the quote `mark`
 pub record OpensQuotes (quotes : Quotes) (text front : List ℕ) (mark : ℕ) (inside : List ℕ) : Type 0
   where
     pub is_mark : IsMark quotes mark

@@ -47,8 +47,8 @@ reply_line Dark = codes "dark"
 reply_line Unknown = codes "what"
 
 -- to a line, a lamp gives its reply and asks for a line
-pub record LampAnswers (old : Lamp) (input : Line) (replies : List Reply) (asked : Next) (new : Lamp)
-    : Type 0 where
+pub record LampAnswers (old : Lamp) (input : Line) (replies : List Reply) (asked : Next)
+    (new : Lamp) : Type 0 where
   pub says : replies ≡ line_reply (reply_line (reply_to old.lit input.body)) ∷ []
   pub asks : asked ≡ next.Line
   pub lit : new.lit ≡ lit_after old.lit input.body

@@ -1,7 +1,7 @@
-use Rattle.std.proofs.Common.{◌≡◌, ◌∙◌, ap, arith, cond, get_or, subst, sym}
+use Rattle.std.proofs.Common.{◌≡◌, ◌∙◌, ap, arith, false, get_or, true}
 use Rattle.ascii.specs.StringState.{StringState}
 use Rattle.example_resp.specs.Store.{contents_of, one_at}
-use Rattle.example_resp.proofs.CountLemmas.{counts_more}
+use Rattle.example_resp.proofs.CountLemmas.{counts_more, one_found}
 use Rattle.example_resp.proofs.store.Store.count.Goals as goal
 use Rattle.example_resp.proofs.store.Store.count.Goals.{else-contains, then-contains}
 
@@ -16,15 +16,13 @@ loop-key-preserved c =
     elim c.if-contains.branch [
       | then-contains w ↦
           let one : one_at held (get_or keys i key).text ≡ 1 =
-          subst (λ text. one_at held text ≡ 1) same
-          (ap (λ b. cond b 1 0) (sym c.contains.ensures ∙ w.if-contains.true)) in (
+          one_found held _ _ _ true same c.contains.ensures w.if-contains.true in (
             omega (arith, w.count-is, c.loop-key.invariant.0, more, one),
             omega (arith, w.count-is, c.loop-key.invariant.1),
           )
       | else-contains w ↦
           let none : one_at held (get_or keys i key).text ≡ 0 =
-          subst (λ text. one_at held text ≡ 0) same
-          (ap (λ b. cond b 1 0) (sym c.contains.ensures ∙ w.if-contains.false)) in (
+          one_found held _ _ _ false same c.contains.ensures w.if-contains.false in (
             omega (arith, w.count-is, c.loop-key.invariant.0, more, none),
             omega (arith, w.count-is, c.loop-key.invariant.1),
           )

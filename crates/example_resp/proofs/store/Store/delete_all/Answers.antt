@@ -1,9 +1,9 @@
-use Rattle.std.proofs.Common.{◌≡◌, ◌∙◌, List, None, ap, arith, cond, get_or, subst, sym, ℕ}
+use Rattle.std.proofs.Common.{◌≡◌, ◌∙◌, List, None, ap, arith, false, get_or, subst, true, ℕ}
 use Rattle.std.specs.Map.{update}
 use Rattle.std.specs.Str.{bytes_eq}
 use Rattle.ascii.specs.StringState.{StringState}
 use Rattle.example_resp.specs.Store.{contents_of, one_at}
-use Rattle.example_resp.proofs.CountLemmas.{removed_more, removes_more}
+use Rattle.example_resp.proofs.CountLemmas.{one_found, removed_more, removes_more}
 use Rattle.example_resp.proofs.store.Store.delete_all.Goals as goal
 use Rattle.example_resp.proofs.store.Store.delete_all.Goals.{else-delete, then-delete}
 
@@ -24,16 +24,14 @@ loop-key-preserved c =
     elim c.if-delete.branch [
       | then-delete w ↦
           let one : one_at held (get_or keys i key).text ≡ 1 =
-          subst (λ text. one_at held text ≡ 1) same
-          (ap (λ b. cond b 1 0) (sym c.delete.ensures.found ∙ w.if-delete.true)) in (
+          one_found held _ _ _ true same c.delete.ensures.found w.if-delete.true in (
             omega (arith, w.count-is, c.loop-key.invariant.0, more, one),
             gone,
             omega (arith, w.count-is, c.loop-key.invariant.2),
           )
       | else-delete w ↦
           let none : one_at held (get_or keys i key).text ≡ 0 =
-          subst (λ text. one_at held text ≡ 0) same
-          (ap (λ b. cond b 1 0) (sym c.delete.ensures.found ∙ w.if-delete.false)) in (
+          one_found held _ _ _ false same c.delete.ensures.found w.if-delete.false in (
             omega (arith, w.count-is, c.loop-key.invariant.0, more, none),
             gone,
             omega (arith, w.count-is, c.loop-key.invariant.2),
