@@ -104,9 +104,9 @@ DIALOGUES = [
 ]
 
 
-def start(program, connection):
+def start(program, connection, *words):
     path = TOP / "crates" / program / "out" / program
-    return subprocess.Popen([path], stdin=connection, stdout=connection, stderr=subprocess.DEVNULL)
+    return subprocess.Popen([path, *words], stdin=connection, stdout=connection, stderr=subprocess.DEVNULL)
 
 
 def received(connection, size):
@@ -186,6 +186,37 @@ class SendsMail(unittest.TestCase):
             self.assertEqual(client.quit(), (221, b"bye"))
 
 
+class StoresMail(unittest.TestCase):
+    """Mails that a folder stores, or can't store: a row has the folders that are there, what the session sends after its
+    greeting and gets, and the texts of the files in `new`, in the order of their names."""
+
+    BAD_MAIL = BEGUN[0] + b"caf\xe9\r\n.\r\n"
+    TWO = BEGUN[0] + b"one\r\n..\r\n\r\n.\r\n" + BAD_MAIL + BEGUN[0] + b"two\n\r\n.\r\n" + BEGUN[0] + b"three\r\n.\r\n"
+    SAID = BEGUN[1] + OK + (BEGUN[1] + b"554 bad message\r\n") * 2 + BEGUN[1]
+    ROWS = [
+        (["tmp", "new"], TWO, SAID + OK, [b"one\r\n.\r\n\r\n", b"three\r\n"]),
+        (["tmp"], BEGUN[0] + b"one\r\n.\r\nNOOP\r\n", BEGUN[1] + b"451 not stored\r\n" + OK, []),
+        (["new"], BEGUN[0] + b"one\r\n.\r\nNOOP\r\n", BEGUN[1] + b"451 not stored\r\n" + OK, []),
+    ]
+
+    def __str__(self):
+        return "example_smtp: mails in a folder"
+
+    def runTest(self):
+        for folders, sent, wanted, texts in self.ROWS:
+            with tempfile.TemporaryDirectory() as folder:
+                for name in folders:
+                    (Path(folder) / name).mkdir()
+                client, server = socket.socketpair()
+                with start("example_smtp", server, folder), client:
+                    server.close()
+                    client.settimeout(WAIT)
+                    client.sendall(sent)
+                    client.shutdown(socket.SHUT_WR)
+                    self.assertEqual(received(client, 1 << 16), HELLO[1] + wanted, folders)
+                self.assertEqual([it.read_bytes() for it in sorted((Path(folder) / "new").glob("*"))], texts, folders)
+
+
 class Command(NamedTuple):
     """A client that may be installed: `PORT` and `FILE` in its words stand for the port and a file with `text`."""
 
@@ -237,7 +268,7 @@ class Runs(unittest.TestCase):
 
 
 def tests():
-    return [*map(Talks, DIALOGUES), SendsMail(), *map(Runs, COMMANDS)]
+    return [*map(Talks, DIALOGUES), SendsMail(), StoresMail(), *map(Runs, COMMANDS)]
 
 
 def faults():

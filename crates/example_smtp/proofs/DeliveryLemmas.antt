@@ -1,6 +1,6 @@
 -- The messages that a session delivers, exchange by exchange.
 use Rattle.std.proofs.Common.{◌≡◌, ◌≢◌, ◌⊎◌, ◌∙◌, ◌+◌, ◌*◌, ◌≤◌, ℕ, None, Option, Some}
-use Rattle.std.proofs.Common.{List, [], ◌∷◌, ◌++◌, Err, Ok, Result, ap}
+use Rattle.std.proofs.Common.{List, [], ◌∷◌, ◌++◌, Bool, Err, Ok, Result, ap, false, true}
 use Rattle.std.proofs.Common.{append-nil, append_assoc, arith, inl, inr, length, length-append}
 use Rattle.std.proofs.Common.{lit≤, map, refl, subst, sym}
 use Rattle.std.proofs.lemmas.List.{length-map, map-append}
@@ -19,13 +19,17 @@ use Rattle.ascii_lines.specs.declared.serving.Next.TheVariants as next
 use Rattle.ascii.specs.declared.iter.spans.Endings.{Endings}
 use Rattle.ascii_lines.specs.declared.serving.Next.{Next}
 use Rattle.example_smtp.specs.Commands.{IsFault, ReadsCommand, Says, name_of, reply_line}
-use Rattle.example_smtp.specs.Deliveries.{AreExchanges, Delivers, Exchange, GivesUp, Group, HasFault}
+use Rattle.example_smtp.specs.Deliveries.{AreExchanges, Delivers, Exchange, GivesUp, Group, HasFault, unstored}
 use Rattle.example_smtp.specs.Deliveries.{IsGroup, IsLast, IsOutside, IsText, answered, dropped}
 use Rattle.example_smtp.specs.Deliveries.{group_exchanges, group_messages, message, received_texts, single}
 use Rattle.example_smtp.specs.Deliveries.{session_answers, session_refuses, unanswered}
-use Rattle.example_smtp.specs.Mail.{IsFresh, Mail, State, Unstuffs, no_mail}
+use Rattle.example_smtp.specs.Mail.{IsFresh, Mail, State, Unstuffs}
 use Rattle.example_smtp.specs.Mail.{text_of_lines}
 use Rattle.example_smtp.specs.Session.{Answers, AnswersAt, AnswersCommand, AnswersLine, CarriesOut}
+use Rattle.example_smtp.specs.Mailbox.{Files, Stores}
+use Rattle.example_smtp.proofs.MailboxLemmas.{files_failed, files_none, files_stored}
+use Rattle.example_smtp.specs.declared.mailbox.FileEvent.{FileEvent}
+use Rattle.example_smtp.specs.Session.{EndsAs, IsReady}
 use Rattle.example_smtp.specs.Session.{EndsBy, Follows, Keeps, Refuses, RefusesAt, Rejects}
 use Rattle.example_smtp.specs.Session.{TakesLine, after, or_rejected, refusal_of, reply_of_fault}
 use Rattle.example_smtp.specs.Session.{reply_to, reset_stage}
@@ -37,7 +41,8 @@ use Rattle.example_smtp.specs.declared.commands.Command.TheVariants as command
 use Rattle.example_smtp.specs.declared.commands.Reply.{Reply}
 use Rattle.example_smtp.specs.declared.commands.Reply.TheVariants.{BadArgument, BadLine, BadMessage}
 use Rattle.example_smtp.specs.declared.commands.Reply.TheVariants.{BadSequence, Bye, Closing, Done}
-use Rattle.example_smtp.specs.declared.commands.Reply.TheVariants.{LargeMessage, LongLine, NoMemory, SendLines}
+use Rattle.example_smtp.specs.declared.commands.Reply.TheVariants.{LargeMessage, LongLine, NoMemory, NotStored}
+use Rattle.example_smtp.specs.declared.commands.Reply.TheVariants.{SendLines}
 use Rattle.example_smtp.specs.declared.commands.Reply.TheVariants.{TooManyRecipients, UnknownCommand}
 use Rattle.example_smtp.specs.declared.commands.Reply.TheVariants.{Unverified}
 use Rattle.example_smtp.specs.declared.commands.Verb.{Verb}
@@ -70,6 +75,7 @@ pub record Transcript (old : State) (steps : List Step) (new : State) : Type 0 w
   pub mid : State
   pub runs : Runs old exchanges mid
   pub kept : new.received ≡ mid.received
+  pub folder : new.folder ≡ mid.folder
 
 -- nothing follows the end of a conversation
 closed_ends : (endings : Endings) (old new : State) (last : Awaited) (steps : List Step)
@@ -96,6 +102,7 @@ transcript endings old new first last [] (same, is) = record {
   mid = old;
   runs = refl;
   kept = ap (λ (s : State). s.received) is;
+  folder = ap (λ (s : State). s.folder) is;
 }
 transcript endings old new first last (step ∷ steps) (after, mid, is_step, talks) =
     go first step (transcript endings mid new after last steps talks) is_step
@@ -115,6 +122,7 @@ transcript endings old new first last (step ∷ steps) (after, mid, is_step, tal
                 mid = others.mid;
                 runs = (mid, sequel, answered_it, others.runs);
                 kept = others.kept;
+                folder = others.folder;
               }
           | inr gives ↦
               let ends = closed_ends endings mid new last steps
@@ -139,6 +147,7 @@ transcript endings old new first last (step ∷ steps) (after, mid, is_step, tal
                 mid = old;
                 runs = refl;
                 kept = ap (λ (s : State). s.received) ends.1 ∙ gives.kept;
+                folder = ap (λ (s : State). s.folder) ends.1 ∙ gives.folder;
               })
         ]
     go (Input asked) (serve.rejected error replies) others
@@ -151,6 +160,7 @@ transcript endings old new first last (step ∷ steps) (after, mid, is_step, tal
           mid = others.mid;
           runs = (mid, sequel, (error, refuses), others.runs);
           kept = others.kept;
+          folder = others.folder;
         }
     go (Input asked) (skipped bytes) others none = absurd none
     go (LineEnd asked) (skipped bytes) others (is, same, stops) =
@@ -162,6 +172,7 @@ transcript endings old new first last (step ∷ steps) (after, mid, is_step, tal
           mid = others.mid;
           runs = subst (λ s. Runs s others.exchanges others.mid) same others.runs;
           kept = others.kept;
+          folder = others.folder;
         }
     go (LineEnd asked) (took input replies) others none = absurd none
     go (LineEnd asked) (serve.rejected error replies) others none = absurd none
@@ -192,6 +203,7 @@ not_begin BadLine apart is = omega (arith, ap first_codes is)
 not_begin NoMemory apart is = omega (arith, ap first_codes is)
 not_begin BadMessage apart is = omega (arith, ap first_codes is)
 not_begin LargeMessage apart is = omega (arith, ap first_codes is)
+not_begin NotStored apart is = omega (arith, ap first_codes is)
 not_begin Closing apart is = omega (arith, ap first_codes is)
 
 -- a reply other than 250 is another line
@@ -209,6 +221,7 @@ not_end BadLine apart is = omega (arith, ap first_codes is)
 not_end NoMemory apart is = omega (arith, ap first_codes is)
 not_end BadMessage apart is = omega (arith, ap first_codes is)
 not_end LargeMessage apart is = omega (arith, ap first_codes is)
+not_end NotStored apart is = omega (arith, ap first_codes is)
 not_end Closing apart is = omega (arith, ap first_codes is)
 
 -- an exchange with another reply is outside a message
@@ -259,6 +272,7 @@ pub record StaysOutside (old : State) (exchange : Exchange) (new : State) : Type
   pub outside : IsOutside exchange
   pub stage : new.stage ≢ Lines
   pub received : new.received ≡ old.received
+  pub folder : new.folder ≡ old.folder
 
 -- the exchange begins the lines of a message
 pub record BeginsMessage (old : State) (exchange : Exchange) (new : State) : Type 0 where
@@ -269,6 +283,7 @@ pub record BeginsMessage (old : State) (exchange : Exchange) (new : State) : Typ
   pub empty : new.draft.text ≡ []
   pub good : new.fault ≡ None
   pub received : new.received ≡ old.received
+  pub folder : new.folder ≡ old.folder
 
 -- a line at fault leaves the session outside a message
 faulty : (old new : State) (exchange : Exchange) (fault : Reply) → old.stage ≢ Lines
@@ -278,6 +293,7 @@ faulty old new exchange fault apart begins ends says same = record {
   outside = outside_by exchange fault says begins (λ dot. ends);
   stage = λ is. apart (ap (λ (state : State). state.stage) (sym same) ∙ is);
   received = ap (λ (state : State). state.received) same;
+  folder = ap (λ (state : State). state.folder) same;
 }
 
 -- the reply to a line that does not say a command is neither 354 nor 250
@@ -296,6 +312,7 @@ fault_apart line LongLine is = absurd (let same : LongLine ≡ BadArgument = is.
 fault_apart line BadLine is = absurd (let same : BadLine ≡ BadArgument = is.3.0 in cc)
 fault_apart line NoMemory is = absurd (let same : NoMemory ≡ BadArgument = is.3.0 in cc)
 fault_apart line BadMessage is = absurd (let same : BadMessage ≡ BadArgument = is.3.0 in cc)
+fault_apart line NotStored is = absurd (let same : NotStored ≡ BadArgument = is.3.0 in cc)
 fault_apart line LargeMessage is =
     absurd (let same : LargeMessage ≡ BadArgument = is.3.0 in cc)
 fault_apart line Closing is = absurd (let same : Closing ≡ BadArgument = is.3.0 in cc)
@@ -318,13 +335,14 @@ module _ (old new : State) (line : List ℕ) (replies : List (List ℕ)) (asked 
   stays : (command : Command) → Says line command
       → CarriesOut old command replies asked new → reply_to command ≢ SendLines
       → (after old command).stage ≢ Lines → (after old command).received ≡ old.received
-      → StaysOutside old said_here new
-  stays command says carried other stage_apart same = record {
+      → (after old command).folder ≡ old.folder → StaysOutside old said_here new
+  stays command says carried other stage_apart same there = record {
     outside = outside_by said_here (reply_to command) carried.says other
         (λ dot is. dot_says_nothing command
         (subst (λ text. Says text command) (ap text_in dot) says));
     stage = λ is. stage_apart (ap (λ (state : State). state.stage) (sym carried.state) ∙ is);
     received = ap (λ (state : State). state.received) carried.state ∙ same;
+    folder = ap (λ (state : State). state.folder) carried.state ∙ there;
   }
 
   -- a reset leaves the session outside a message
@@ -340,11 +358,11 @@ module _ (old new : State) (line : List ℕ) (replies : List (List ℕ)) (asked 
       → CarriesOut old command replies asked new
       → StaysOutside old said_here new ⊎ BeginsMessage old said_here new
   followed (Introduce domain) says carried =
-      inl (stays (Introduce domain) says carried (λ is. cc) (λ is. cc) refl)
+      inl (stays (Introduce domain) says carried (λ is. cc) (λ is. cc) refl refl)
   followed (SetSender address) says carried =
-      inl (stays (SetSender address) says carried (λ is. cc) (λ is. cc) refl)
+      inl (stays (SetSender address) says carried (λ is. cc) (λ is. cc) refl refl)
   followed (AddRecipient address) says carried =
-      inl (stays (AddRecipient address) says carried (λ is. cc) (λ is. cc) refl)
+      inl (stays (AddRecipient address) says carried (λ is. cc) (λ is. cc) refl refl)
   followed BeginLines says carried = inr (record {
     start = line;
     begins = says;
@@ -353,14 +371,15 @@ module _ (old new : State) (line : List ℕ) (replies : List (List ℕ)) (asked 
     empty = ap (λ (state : State). state.draft.text) carried.state;
     good = ap (λ (state : State). state.fault) carried.state;
     received = ap (λ (state : State). state.received) carried.state;
+    folder = ap (λ (state : State). state.folder) carried.state;
   })
   followed Reset says carried =
-      inl (stays Reset says carried (λ is. cc) (reset_apart old.stage) refl)
+      inl (stays Reset says carried (λ is. cc) (reset_apart old.stage) refl refl)
   followed (Verify mailbox) says carried =
-      inl (stays (Verify mailbox) says carried (λ is. cc) apart refl)
+      inl (stays (Verify mailbox) says carried (λ is. cc) apart refl refl)
   followed command.Reply says carried =
-      inl (stays command.Reply says carried (λ is. cc) apart refl)
-  followed Leave says carried = inl (stays Leave says carried (λ is. cc) apart refl)
+      inl (stays command.Reply says carried (λ is. cc) apart refl refl)
+  followed Leave says carried = inl (stays Leave says carried (λ is. cc) apart refl refl)
 
   -- the answer to a line begins a message, or leaves the session outside one
   by_outcome : (outcome : Result Command Reply) → ReadsCommand line outcome
@@ -424,6 +443,7 @@ pub record Follow (old : State) (exchanges : List Exchange) (new : State) : Type
   pub messages : List (List ℕ)
   pub delivers : Delivers exchanges messages
   pub received : received_texts new ≡ received_texts old ++ messages
+  pub files : Files old.folder messages new.folder
 
 -- a group comes before others
 cons_group : (group : Group) (exchanges : List Exchange) (messages : List (List ℕ))
@@ -470,9 +490,8 @@ one_more_line start sent line exchanges = ap (λ xs. answered start SendLines �
     ∙ append_assoc (map unanswered sent) (unanswered line ∷ []) exchanges)
 
 -- a session that is ready is not in the lines of a message
-ready_apart : {received : List Mail} {state : State}
-    → state ≡ record { stage = Ready; draft = no_mail; fault = None; received = received }
-    → state.stage ≢ Lines
+ready_apart : {received : List Mail} {folder : Option (List FileEvent)} {state : State}
+    → IsReady received folder state → state.stage ≢ Lines
 ready_apart same is =
     let clash : Ready ≡ Lines = sym (ap (λ (state : State). state.stage) same) ∙ is in cc
 
@@ -536,9 +555,10 @@ module _ (old mid new : State) (exchanges : List Exchange) (told : Told mid exch
     (start : List ℕ) (sent : List (Option (List ℕ))) (inside : Inside start sent old) where
   -- a line more, which is not answered
   goes_on : (exchange : Exchange) (line : Option (List ℕ)) → exchange ≡ unanswered line
-      → mid.received ≡ old.received → Inside start (sent ++ line ∷ []) mid
+      → mid.received ≡ old.received → mid.folder ≡ old.folder
+      → Inside start (sent ++ line ∷ []) mid
       → Follow old (so_far start sent (exchange ∷ exchanges)) new
-  goes_on exchange line is same more =
+  goes_on exchange line is same there more =
       let rest = told.inside start (sent ++ line ∷ []) more in
       record {
         messages = rest.messages;
@@ -547,14 +567,17 @@ module _ (old mid new : State) (exchanges : List Exchange) (told : Told mid exch
             ∙ ap (λ e. so_far start sent (e ∷ exchanges)) (sym is)) rest.delivers;
         received = rest.received
             ∙ ap (λ received. map (λ (mail : Mail). mail.text) received ++ rest.messages) same;
+        files = subst (λ folder. Files folder rest.messages new.folder) there rest.files;
       }
 
   -- a dot, which is answered
   ends : (exchange : Exchange) (group : Group) → group_exchanges group ++ exchanges ≡ so_far start sent (exchange ∷ exchanges)
       → IsGroup group → mid.stage ≢ Lines
       → received_texts mid ≡ received_texts old ++ group_messages group
+      → ((texts : List (List ℕ)) → Files mid.folder texts new.folder
+      → Files old.folder (group_messages group ++ texts) new.folder)
       → Follow old (so_far start sent (exchange ∷ exchanges)) new
-  ends exchange group is are apart received =
+  ends exchange group is are apart received files =
       let rest = told.outside apart in
       record {
         messages = group_messages group ++ rest.messages;
@@ -563,17 +586,19 @@ module _ (old mid new : State) (exchanges : List Exchange) (told : Told mid exch
         received = rest.received
             ∙ (ap (λ xs. xs ++ rest.messages) received
             ∙ append_assoc (received_texts old) (group_messages group) rest.messages);
+        files = files rest.messages rest.files;
       }
 
   module _ (line : List ℕ) (replies : List (List ℕ)) where
     abbrev here : Exchange
     here = record { line = Some line; replies = replies }
 
-    -- a dot
-    dot_line : (said : Reply) → line ≡ codes "." → replies ≡ reply_line said ∷ []
-        → (fault : Option Fault) → old.fault ≡ fault → EndsBy fault old said mid
+    -- a dot after a message without a fault
+    whole_line : (said : Reply) → line ≡ codes "." → replies ≡ reply_line said ∷ []
+        → old.fault ≡ None → (is_stored : Bool)
+        → Stores old.folder old.draft.text is_stored mid.folder → EndsAs is_stored old said mid
         → Follow old (so_far start sent (here ∷ exchanges)) new
-    dot_line said is says None whole (done, same) =
+    whole_line said is says whole true stores (done, same) =
         let (texts, sent_is, text) = subst (λ b. IsSent b sent old.draft.text) whole inside.kept in
         let dot = answered (codes ".") Done in
         let here_is : here ≡ dot =
@@ -588,6 +613,29 @@ module _ (old mid new : State) (exchanges : List Exchange) (told : Told mid exch
         (inside.begins, text) (ready_apart same)
         (ap received_texts same
         ∙ map-append (λ (mail : Mail). mail.text) old.received (old.draft ∷ []))
+        (λ others. files_stored old.folder mid.folder new.folder old.draft.text others stores)
+    whole_line said is says whole false stores (done, same) =
+        let (texts, sent_is, text) = subst (λ b. IsSent b sent old.draft.text) whole inside.kept in
+        let dot = answered (codes ".") NotStored in
+        let here_is : here ≡ dot =
+        ap (λ (l : List ℕ). record { line = Some l; replies = replies }) is
+        ∙ ap (λ (rs : List (List ℕ)). record { line = Some (codes "."); replies = rs })
+        (says ∙ ap (λ r. reply_line r ∷ []) done) in
+        ends here (unstored start texts old.draft.text)
+        (ap (λ xs. answered start SendLines ∷ xs)
+        (append_assoc (map unanswered (map Some texts)) (dot ∷ []) exchanges
+        ∙ (ap (λ s. map unanswered s ++ dot ∷ exchanges) (sym sent_is)
+        ∙ ap (λ e. map unanswered sent ++ e ∷ exchanges) (sym here_is))))
+        (inside.begins, text) (ready_apart same)
+        (ap received_texts same ∙ sym (append-nil (received_texts old)))
+        (λ others. files_failed old.folder mid.folder new.folder old.draft.text others stores)
+
+    -- a dot
+    dot_line : (said : Reply) → line ≡ codes "." → replies ≡ reply_line said ∷ []
+        → (fault : Option Fault) → old.fault ≡ fault → EndsBy fault old said mid
+        → Follow old (so_far start sent (here ∷ exchanges)) new
+    dot_line said is says None whole (is_stored, stores, ends_as) =
+        whole_line said is says whole is_stored stores ends_as
     dot_line said is says (Some fault) bad (done, same) =
         let dot = answered (codes ".") (reply_of_fault fault) in
         let here_is : here ≡ dot =
@@ -601,13 +649,15 @@ module _ (old mid new : State) (exchanges : List Exchange) (told : Told mid exch
         (inside.begins, (inside.inner, subst (λ b. IsSent b sent old.draft.text) bad inside.kept))
         (ready_apart same)
         (ap received_texts same ∙ sym (append-nil (received_texts old)))
+        (λ others. subst (λ folder. Files folder others new.folder)
+        (ap (λ (state : State). state.folder) same))
 
     -- another line, which is not answered, and after which the message is the same or has a fault
     text_line : line ≢ codes "." → replies ≡ [] → mid.received ≡ old.received
-        → mid.stage ≡ Lines → IsSent mid.fault (sent ++ Some line ∷ []) mid.draft.text
+        → mid.folder ≡ old.folder → mid.stage ≡ Lines → IsSent mid.fault (sent ++ Some line ∷ []) mid.draft.text
         → Follow old (so_far start sent (here ∷ exchanges)) new
-    text_line inner silent same stage kept = goes_on here (Some line)
-        (ap (λ (rs : List (List ℕ)). record { line = Some line; replies = rs }) silent) same
+    text_line inner silent same there stage kept = goes_on here (Some line)
+        (ap (λ (rs : List (List ℕ)). record { line = Some line; replies = rs }) silent) same there
         (record {
           begins = inside.begins;
           stage = stage;
@@ -626,6 +676,7 @@ module _ (old mid new : State) (exchanges : List Exchange) (told : Told mid exch
         elim keeps [
           | inl fits ↦
               text_line inner silent (ap (λ (state : State). state.received) fits.1)
+              (ap (λ (state : State). state.folder) fits.1)
               (ap (λ (state : State). state.stage) fits.1 ∙ inside.stage)
               (subst
               (λ (state : State). IsSent state.fault (sent ++ Some line ∷ []) state.draft.text)
@@ -636,6 +687,7 @@ module _ (old mid new : State) (exchanges : List Exchange) (told : Told mid exch
               (sym whole) (lines ++ line ∷ [], sent_are, more)))
           | inr large ↦
               text_line inner silent (ap (λ (state : State). state.received) large.1)
+              (ap (λ (state : State). state.folder) large.1)
               (ap (λ (state : State). state.stage) large.1 ∙ inside.stage)
               (subst
               (λ (state : State). IsSent state.fault (sent ++ Some line ∷ []) state.draft.text)
@@ -655,6 +707,7 @@ module _ (old mid new : State) (exchanges : List Exchange) (told : Told mid exch
     line_by inner silent None whole keeps = kept_line inner silent whole keeps
     line_by inner silent (Some fault) bad same =
         text_line inner silent (ap (λ (state : State). state.received) same)
+        (ap (λ (state : State). state.folder) same)
         (ap (λ (state : State). state.stage) same ∙ inside.stage)
         (subst (λ (state : State). IsSent state.fault (sent ++ Some line ∷ []) state.draft.text)
         (sym same)
@@ -684,7 +737,8 @@ module _ (old mid new : State) (exchanges : List Exchange) (told : Told mid exch
   inside_refused replies error (silent, same) =
       goes_on (record { line = None; replies = replies }) None
       (ap (λ (rs : List (List ℕ)). record { line = None; replies = rs }) silent)
-      (ap (λ (state : State). state.received) same) (record {
+      (ap (λ (state : State). state.received) same) (ap (λ (state : State). state.folder) same)
+      (record {
         begins = inside.begins;
         stage = ap (λ (state : State). state.stage) same ∙ inside.stage;
         inner = inner_more sent None inside.inner (λ is. cc);
@@ -706,6 +760,7 @@ module _ (old mid new : State) (exchange : Exchange) (exchanges : List Exchange)
         received = rest.received
             ∙ ap (λ received. map (λ (mail : Mail). mail.text) received ++ rest.messages)
             stays.received;
+        files = subst (λ folder. Files folder rest.messages new.folder) stays.folder rest.files;
       }
 
   -- the exchange begins a message
@@ -733,6 +788,7 @@ module _ (old mid new : State) (exchange : Exchange) (exchanges : List Exchange)
         received = rest.received
             ∙ ap (λ received. map (λ (mail : Mail). mail.text) received ++ rest.messages)
             begins.received;
+        files = subst (λ folder. Files folder rest.messages new.folder) begins.folder rest.files;
       }
 
 -- one exchange more
@@ -763,6 +819,8 @@ pub tells : (exchanges : List Exchange) (old new : State) → Runs old exchanges
 tells [] old new same =
     let none : received_texts new ≡ received_texts old ++ [] =
     ap received_texts same ∙ sym (append-nil (received_texts old)) in
+    let nothing = subst (λ (state : State). Files old.folder [] state.folder) (sym same)
+    (files_none old.folder) in
     record {
       outside = λ apart. record {
         messages = [];
@@ -775,6 +833,7 @@ tells [] old new same =
           texts = refl;
         };
         received = none;
+        files = nothing;
       };
       inside = λ start sent inside. record {
         messages = [];
@@ -793,6 +852,7 @@ tells [] old new same =
           texts = refl;
         };
         received = none;
+        files = nothing;
       };
     }
 tells (exchange ∷ exchanges) old new (mid, asked, answers, runs) =
@@ -811,13 +871,27 @@ delivers_all exchanges old new fresh runs =
     (sym (follow.received ∙ ap (λ (state : State). received_texts state ++ follow.messages) fresh))
     follow.delivers
 
+-- and its folder has stored it
+pub files_all : (exchanges : List Exchange) (old new : State) → IsFresh old
+    → Runs old exchanges new → Files old.folder (received_texts new) new.folder
+files_all exchanges old new fresh runs =
+    let told = tells exchanges old new runs in
+    let follow = told.outside
+    (λ is. let greets : old.stage ≡ Greeting = ap (λ (state : State). state.stage) fresh in
+    let clash : Greeting ≡ Lines = sym greets ∙ is in cc) in
+    subst (λ texts. Files old.folder texts new.folder)
+    (sym (follow.received ∙ ap (λ (state : State). received_texts state ++ follow.messages) fresh))
+    follow.files
+
 -- the session gives up at a line
 pub gives_up : (old new : State) (fault : Reply) → (fault ≡ NoMemory) ⊎ (fault ≡ BadLine)
-    → new.received ≡ old.received → GivesUp old (reply_line fault ∷ []) next.Close new
-gives_up old new fault why kept = record {
+    → new.received ≡ old.received → new.folder ≡ old.folder
+    → GivesUp old (reply_line fault ∷ []) next.Close new
+gives_up old new fault why kept folder = record {
   fault = fault;
   why = why;
   says = refl;
   closes = refl;
   kept = kept;
+  folder = folder;
 }

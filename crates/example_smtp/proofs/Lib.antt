@@ -1,3 +1,4 @@
 pub mod DeliveryLemmas
+pub mod MailboxLemmas
 pub mod PathLemmas
 pub mod VerbLemmas

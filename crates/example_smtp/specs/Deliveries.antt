@@ -12,10 +12,11 @@ use Rattle.ascii_lines.specs.declared.serving.Next.TheVariants as next
 use Rattle.ascii_lines.specs.declared.serving.Stop.{Stop}
 use Rattle.example_smtp.specs.Commands.{Says, reply_line}
 use Rattle.example_smtp.specs.Mail.{State, Unstuffs, text_of_lines}
+use Rattle.example_smtp.specs.Mailbox.{Files}
 use Rattle.example_smtp.specs.Session.{Answers, Refuses, most_bytes, reply_of_fault}
 use Rattle.example_smtp.specs.declared.commands.Command.TheVariants.{BeginLines}
 use Rattle.example_smtp.specs.declared.commands.Reply.{Reply}
-use Rattle.example_smtp.specs.declared.commands.Reply.TheVariants.{BadLine, Done, NoMemory}
+use Rattle.example_smtp.specs.declared.commands.Reply.TheVariants.{BadLine, Done, NoMemory, NotStored}
 use Rattle.example_smtp.specs.declared.commands.Reply.TheVariants.{SendLines}
 use Rattle.example_smtp.specs.declared.session.Fault.{Fault}
 use Rattle.example_smtp.specs.declared.session.Fault.TheVariants.{Rejected, TooLarge}
@@ -50,8 +51,8 @@ pub record IsText (sent : List (List ℕ)) (text : List ℕ) : Type 0 where
   pub undone : AllZip Unstuffs sent lines
   pub joined : text_of_lines lines ≡ text
 
--- the fault is in the lines of a message, of which none is a dot alone: one of them was rejected; or
--- the text of the first ones, none of which was rejected, is too large
+-- the fault is in the lines of a message, of which none is a dot alone: one of them was rejected;
+-- or the text of the first ones, none of which was rejected, is too large
 abbrev pub HasFault : Fault → List (Option (List ℕ)) → Type 0
 HasFault Rejected lines = (before : List (Option (List ℕ))) × (rest : List (Option (List ℕ)))
     × (lines ≡ before ++ None ∷ rest)
@@ -65,11 +66,13 @@ IsBadText fault sent = All (λ line. line ≢ Some (codes ".")) sent × HasFault
 
 -- exchanges that belong together. `single`: one outside a message. `message`: a `DATA` that is
 -- answered by 354, lines that are not answered, and a dot that is answered by 250. `dropped`: the
--- same with a fault in the lines, and a dot that is answered by 554 or 552
+-- same with a fault in the lines, and a dot that is answered by 554 or 552. `unstored`: the same as
+-- `message`, and a dot that is answered by 451
 pub data Group : Type 0 where
   single : Exchange → Group
   message : List ℕ → List (List ℕ) → List ℕ → Group
   dropped : List ℕ → List (Option (List ℕ)) → Fault → Group
+  unstored : List ℕ → List (List ℕ) → List ℕ → Group
 
 -- the exchanges of a group
 abbrev pub group_exchanges : Group → List Exchange
@@ -78,18 +81,22 @@ group_exchanges (message start sent text) = answered start SendLines
     ∷ (map unanswered (map Some sent) ++ answered (codes ".") Done ∷ [])
 group_exchanges (dropped start sent fault) = answered start SendLines
     ∷ (map unanswered sent ++ answered (codes ".") (reply_of_fault fault) ∷ [])
+group_exchanges (unstored start sent text) = answered start SendLines
+    ∷ (map unanswered (map Some sent) ++ answered (codes ".") NotStored ∷ [])
 
 -- what is said of a group: that it is outside a message, or that its first line begins one
 abbrev pub IsGroup : Group → Type 0
 IsGroup (single exchange) = IsOutside exchange
 IsGroup (message start sent text) = Says start BeginLines × IsText sent text
 IsGroup (dropped start sent fault) = Says start BeginLines × IsBadText fault sent
+IsGroup (unstored start sent text) = Says start BeginLines × IsText sent text
 
 -- the text of the message of a group, if it has one
 abbrev pub group_messages : Group → List (List ℕ)
 group_messages (single exchange) = []
 group_messages (message start sent text) = text ∷ []
 group_messages (dropped start sent fault) = []
+group_messages (unstored start sent text) = []
 
 -- `exchanges` are a `DATA` that is answered by 354 and lines that are not answered, or there are no
 -- exchanges
@@ -114,14 +121,15 @@ received_texts state = map (λ mail. mail.text) state.received
 
 -- ---- the session as a handler
 
--- the session gives up at a line, since there is no memory for it, or the input ends in it: it gives
--- one reply, closes, and the messages that were received are unchanged
+-- the session gives up at a line, since there is no memory for it, or the input ends in it: it
+-- gives one reply, closes, and the messages that were received are unchanged
 pub record GivesUp (old : State) (texts : List (List ℕ)) (asked : Next) (new : State) : Type 0 where
   pub fault : Reply
   pub why : (fault ≡ NoMemory) ⊎ (fault ≡ BadLine)
   pub says : texts ≡ reply_line fault ∷ []
   pub closes : asked ≡ next.Close
   pub kept : new.received ≡ old.received
+  pub folder : new.folder ≡ old.folder
 
 -- what a session answers, as the relation of a handler
 abbrev pub session_answers : State → Line → List serve.Reply → Next → State → Type 0
@@ -155,7 +163,8 @@ IsLast exchanges = (exchanges ≡ []) ⊎ ((line : List ℕ) × (fault : Reply)
     × ((fault ≡ NoMemory) ⊎ (fault ≡ BadLine)) × (exchanges ≡ answered line fault ∷ []))
 
 -- a conversation was held as `Serves` says. Its exchanges deliver the messages that the session has
--- received; and maybe there is a last one, at which it gave up
+-- received, and its folder, if it has one, has stored these; and maybe there is a last exchange, at
+-- which it gave up
 pub record ServesMail (old : ChannelState) (session : State) (why : Stop) (new : ChannelState)
     (last : State) : Type 0 where
   pub served : Serves session_answers session_refuses old session why new last
@@ -164,3 +173,4 @@ pub record ServesMail (old : ChannelState) (session : State) (why : Stop) (new :
   pub is_last : IsLast given_up
   pub are : AreExchanges served.talk.steps (exchanges ++ given_up)
   pub delivers : Delivers exchanges (received_texts served.talk.state)
+  pub files : Files session.folder (received_texts served.talk.state) served.talk.state.folder

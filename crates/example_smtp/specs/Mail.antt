@@ -4,6 +4,7 @@ use Rattle.std.specs.List.{flat_map}
 use Rattle.std.specs.declared.option.Option.{Option}
 use Rattle.ascii.specs.Search.{StartsWith}
 use Rattle.ascii.specs.StringState.{StringState}
+use Rattle.example_smtp.specs.declared.mailbox.FileEvent.{FileEvent}
 use Rattle.example_smtp.specs.declared.session.Fault.{Fault}
 use Rattle.example_smtp.specs.declared.session.Message.{Message}
 use Rattle.example_smtp.specs.declared.session.Stage.{Stage}
@@ -19,13 +20,14 @@ pub record Mail : Type 0 where
 abbrev pub text_of_lines : List (List ℕ) → List ℕ
 text_of_lines lines = flat_map (λ line. line ++ 13 ∷ 10 ∷ []) lines
 
--- the state of a session: what it awaits, the message that was begun, the first fault in its lines, if
--- there is one, and the messages that were received
+-- the state of a session: what it awaits, the message that was begun, the first fault in its lines,
+-- if there is one, the messages that were received, and what happened at its folder, if it has one
 pub record State : Type 0 where
   pub stage : Stage
   pub draft : Mail
   pub fault : Option Fault
   pub received : List Mail
+  pub folder : Option (List FileEvent)
 
 -- the texts of strings
 abbrev pub string_texts : List StringState → List (List ℕ)
@@ -46,7 +48,7 @@ no_mail = record { sender = []; recipients = []; text = [] }
 -- the client has not introduced itself, and nothing was received
 abbrev pub IsFresh : State → Type 0
 IsFresh state =
-    state ≡ record { stage = Greeting; draft = no_mail; fault = None; received = [] }
+    state ≡ record state { stage = Greeting; draft = no_mail; fault = None; received = [] }
 
 -- `line` is `sent` with dot-stuffing undone: without its first dot, if it begins with one
 pub record Unstuffs (sent line : List ℕ) : Type 0 where

@@ -1,6 +1,6 @@
 -- What a session answers to a line.
-use Rattle.std.specs.Prelude.{◌≡◌, ◌≢◌, ◌⊎◌, ◌<◌, ◌≤◌, ℕ, List, [], ◌∷◌, ◌++◌, MatchResult, None}
-use Rattle.std.specs.Prelude.{Some, ⊤, codes, length}
+use Rattle.std.specs.Prelude.{◌≡◌, ◌≢◌, ◌⊎◌, ◌<◌, ◌≤◌, ℕ, Bool, List, [], ◌∷◌, ◌++◌, MatchResult, None}
+use Rattle.std.specs.Prelude.{Some, ⊤, codes, false, length, true}
 use Rattle.std.specs.declared.option.Option.{Option}
 use Rattle.std.specs.declared.result.Result.{Result}
 use Rattle.ascii.specs.View.{text_of}
@@ -9,13 +9,15 @@ use Rattle.ascii_lines.specs.declared.line_reader.LineError.TheVariants.{LoneBre
 use Rattle.ascii_lines.specs.declared.serving.Next.{Next}
 use Rattle.ascii_lines.specs.declared.serving.Next.TheVariants as next
 use Rattle.example_smtp.specs.Commands.{ReadsCommand, reply_line}
-use Rattle.example_smtp.specs.Mail.{State, Unstuffs, no_mail}
+use Rattle.example_smtp.specs.Mail.{Mail, State, Unstuffs, no_mail}
+use Rattle.example_smtp.specs.Mailbox.{Stores}
 use Rattle.example_smtp.specs.declared.commands.Command.{Command}
 use Rattle.example_smtp.specs.declared.commands.Command.TheVariants.{AddRecipient, BeginLines}
 use Rattle.example_smtp.specs.declared.commands.Command.TheVariants.{Introduce, Leave, Reset}
 use Rattle.example_smtp.specs.declared.commands.Command.TheVariants.{SetSender, Verify}
 use Rattle.example_smtp.specs.declared.commands.Reply.{Reply}
 use Rattle.example_smtp.specs.declared.commands.Reply.TheVariants as reply
+use Rattle.example_smtp.specs.declared.mailbox.FileEvent.{FileEvent}
 use Rattle.example_smtp.specs.declared.session.Fault.{Fault}
 use Rattle.example_smtp.specs.declared.session.Fault.TheVariants.{Rejected, TooLarge}
 use Rattle.example_smtp.specs.declared.session.Stage.{Stage}
@@ -83,7 +85,8 @@ abbrev pub Fits : ℕ → Command → Type 0
 Fits count (AddRecipient address) = count < most_recipients
 Fits count other = ⊤
 
--- the command is allowed and carried out; or it is not allowed, or a recipient too many, and rejected
+-- the command is allowed and carried out; or it is not allowed, or a recipient too many, and
+-- rejected
 abbrev pub Follows : State → Command → List (List ℕ) → Next → State → Type 0
 Follows old command replies asked new =
     (IsAllowed old.stage command × Fits (length old.draft.recipients) command
@@ -103,8 +106,8 @@ AnswersCommand old line replies asked new = (outcome : Result Command Reply)
 abbrev pub most_bytes : ℕ
 most_bytes = 134217728
 
--- a line more in the text of the message that was begun: it is kept if it fits; otherwise the message
--- is too large, and its text is dropped
+-- a line more in the text of the message that was begun: it is kept if it fits; otherwise the
+-- message is too large, and its text is dropped
 abbrev pub KeepsLine : State → List ℕ → State → Type 0
 KeepsLine old text new = ((length text ≤ most_bytes)
     × (new ≡ record old { draft = record old.draft { text = text } }))
@@ -121,21 +124,29 @@ abbrev pub reply_of_fault : Fault → Reply
 reply_of_fault Rejected = reply.BadMessage
 reply_of_fault TooLarge = reply.LargeMessage
 
--- the message that was begun is ended with this reply, and another may begin: it is received; or it
--- is dropped, if it has a fault
+-- another message may begin after these were received
+abbrev pub IsReady : List Mail → Option (List FileEvent) → State → Type 0
+IsReady received folder new = new ≡ record {
+  stage = Ready;
+  draft = no_mail;
+  fault = None;
+  received = received;
+  folder = folder;
+}
+
+-- the reply to a message without a fault, and what was received then, by whether it was stored
+abbrev pub EndsAs : Bool → State → Reply → State → Type 0
+EndsAs true old said new =
+    (said ≡ reply.Done) × IsReady (old.received ++ old.draft ∷ []) new.folder new
+EndsAs false old said new = (said ≡ reply.NotStored) × IsReady old.received new.folder new
+
+-- the message that was begun is ended with this reply, and another may begin: it is stored and
+-- received, or could not be stored; or it is dropped, if it has a fault
 abbrev pub EndsBy : Option Fault → State → Reply → State → Type 0
-EndsBy None old said new = (said ≡ reply.Done) × (new ≡ record {
-  stage = Ready;
-  draft = no_mail;
-  fault = None;
-  received = old.received ++ old.draft ∷ [];
-})
-EndsBy (Some fault) old said new = (said ≡ reply_of_fault fault) × (new ≡ record {
-  stage = Ready;
-  draft = no_mail;
-  fault = None;
-  received = old.received;
-})
+EndsBy None old said new = (is_stored : Bool)
+    × Stores old.folder old.draft.text is_stored new.folder × EndsAs is_stored old said new
+EndsBy (Some fault) old said new =
+    (said ≡ reply_of_fault fault) × IsReady old.received old.folder new
 
 abbrev pub EndsMessage : State → Reply → State → Type 0
 EndsMessage old said new = EndsBy old.fault old said new
@@ -145,7 +156,8 @@ abbrev pub TakesLine : Option Fault → State → List ℕ → State → Type 0
 TakesLine None old sent new = Keeps old sent new
 TakesLine (Some fault) old sent new = new ≡ old
 
--- the answer to a line of a message: a dot alone ends the message; to another line there is no reply
+-- the answer to a line of a message: a dot alone ends the message; to another line there is no
+-- reply
 abbrev pub AnswersLine : State → List ℕ → List (List ℕ) → Next → State → Type 0
 AnswersLine old sent replies asked new = ((sent ≡ codes ".") × ((said : Reply)
     × (replies ≡ reply_line said ∷ []) × (asked ≡ next.Line) × EndsMessage old said new))

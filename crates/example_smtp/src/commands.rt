@@ -101,6 +101,8 @@ pub enum Reply {
     BadMessage,
     /// The message is too large.
     LargeMessage,
+    /// The message could not be stored.
+    NotStored,
     /// The input has failed.
     Closing,
 }
@@ -124,6 +126,7 @@ impl Reply {
             Reply::NoMemory => AsciiStr::literal("452 out of memory"),
             Reply::BadMessage => AsciiStr::literal("554 bad message"),
             Reply::LargeMessage => AsciiStr::literal("552 message too large"),
+            Reply::NotStored => AsciiStr::literal("451 not stored"),
             Reply::Closing => AsciiStr::literal("421 closing"),
         }
     }

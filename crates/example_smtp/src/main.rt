@@ -3,20 +3,27 @@
 #![tactic(auto)]
 
 mod commands;
+mod mailbox;
 mod paths;
 mod receiving;
 mod session;
 
 use ascii_lines::{AsciiStr, Duplex, Ending, Endings, LineChannel};
+use mailbox::Mailbox;
 use receiving::receive;
 use session::Session;
-use std::io;
+use std::{env, io};
 
 fn main(rt: HostRuntime) -> io::Result<()> {
     let alloc = rt.alloc();
     let device = Duplex::new(rt.stdin(), rt.stdout());
     let mut lines = LineChannel::new(alloc, device, 4096, Endings::CrLfStrict, Ending::CrLf)?;
-    let mut session = Session::new(alloc);
+    let folder = env::args(&rt)?.nth(1);
+    let mailbox = match &folder {
+        Some(folder) => Some(Mailbox::new(&rt, folder.as_str())),
+        None => None,
+    };
+    let mut session = Session::new(alloc, mailbox);
     if let Err(error) = lines.greet(AsciiStr::literal("220 ready")) {
         return eprintln!(rt; "{error}");
     }

@@ -15,7 +15,7 @@ use std::alloc::Allocator;
 /// Condition: the channel has not stopped at an error, and the session is a new one.
 pub fn receive<C: Channel, A: Allocator>(
     lines: &mut LineChannel<C, A>,
-    session: &mut Session,
+    session: &mut Session<'_>,
 ) -> Stop
     requires lines { IsUp lines.old.state }
     requires session { IsFresh session.old }

@@ -4,10 +4,12 @@ ghost use Rattle.std.specs.Prelude.{◌↔◌, ◌≡◌, IfOk, IsTrue, OnErr, O
 ghost use Rattle.ascii.specs.View.{text_of};
 ghost use Rattle.ascii_lines.specs.Serve.{IsRequest, Says, line_reply};
 ghost use Rattle.example_smtp.specs.Mail.{Unstuffs};
+ghost use Rattle.example_smtp.specs.Mailbox.{Stores};
 ghost use Rattle.example_smtp.specs.Session.{Fits, IsAllowed, next_after, refusal_of};
 ghost use Rattle.example_smtp.specs.Session.{reply_of_fault, reply_to, reset_stage, texts_of};
 
 use crate::commands::{Command, Reply, read_command};
+use crate::mailbox::Mailbox;
 use ascii_devices::Log;
 use ascii_lines::{AsciiStr, AsciiString, Ending, Handler, LineError, Next, Replies, Sink};
 use std::alloc::{AllocError, Allocator, Global};
@@ -76,7 +78,7 @@ pub struct Plan {
 
 /// What is awaited, the message that was begun, and the messages that were received.
 #[derive(Drop)]
-pub struct Session {
+pub struct Session<'a> {
     alloc: Global,
     stage: Stage,
     draft: Message,
@@ -85,9 +87,10 @@ pub struct Session {
     count: usize,
     // The messages that were received, for contracts: they are not kept.
     received: Log<Message>,
+    mailbox: Option<Mailbox<'a>>,
 }
 
-impl Model for Session {
+impl<'a> Model for Session<'a> {
     ghost use Rattle.std.specs.Prelude.{◌≡◌, length, map};
     ghost use Rattle.example_smtp.specs.Mail.{State, mail_of};
 
@@ -98,19 +101,22 @@ impl Model for Session {
       draft = mail_of session.draft;
       fault = session.fault;
       received = map mail_of session.received.items;
+      folder = session.mailbox;
     } };
 
     ghost invariant = { λ session. session.count ≡ length session.received.items };
 }
 
-impl Session {
+impl<'a> Session<'a> {
     ghost use Rattle.example_smtp.specs.Mail.{IsFresh, no_mail};
     ghost use Rattle.example_smtp.specs.Session.{Answers, AnswersCommand, AnswersLine, Follows};
     ghost use Rattle.example_smtp.specs.Session.{EndsMessage, Keeps, Refuses, after, texts_of};
 
-    /// Creates a session that has received nothing. Does not allocate.
-    pub fn new(alloc: Global) -> Session
-        ensures { IsFresh result }
+    /// Creates a session that has received nothing, and stores messages in the mailbox, if there is one. Does not
+    /// allocate.
+    pub fn new(alloc: Global, mailbox: Option<Mailbox<'a>>) -> Session<'a>
+        ensures fresh { IsFresh result }
+        ensures folder { result.folder ≡ mailbox.entry }
     {
         Session {
             alloc,
@@ -119,6 +125,7 @@ impl Session {
             fault: None,
             count: 0,
             received: Log::new(),
+            mailbox,
         }
     }
 
@@ -136,7 +143,7 @@ impl Session {
             (texts_of plan.reply) plan.next self.new) }
         ensures request { IfOk result (λ plan. IsRequest plan.next) }
         ensures kept { OnErr result
-            (self.new.received ≡ self.old.received) }
+            ((self.new.received ≡ self.old.received) × (self.new.folder ≡ self.old.folder)) }
     {
         match self.stage {
             Stage::Lines => self.plan_line(line),
@@ -150,7 +157,7 @@ impl Session {
             (text_of line.entry) (texts_of plan.reply) plan.next self.new) }
         ensures request { IfOk result (λ plan. IsRequest plan.next) }
         ensures kept { OnErr result
-            (self.new.received ≡ self.old.received) }
+            ((self.new.received ≡ self.old.received) × (self.new.folder ≡ self.old.folder)) }
     {
         match read_command(line) {
             Ok(command) => self.follow(command),
@@ -167,7 +174,7 @@ impl Session {
             (texts_of plan.reply) plan.next self.new) }
         ensures request { IfOk result (λ plan. IsRequest plan.next) }
         ensures kept { OnErr result
-            (self.new.received ≡ self.old.received) }
+            ((self.new.received ≡ self.old.received) × (self.new.folder ≡ self.old.folder)) }
     {
         if !is_allowed(self.stage, command) {
             return Ok(Plan {
@@ -192,7 +199,7 @@ impl Session {
     fn carry_out(&mut self, command: Command<'_>) -> Result<(), AllocError>
         ensures done { OnOk result (self.new ≡ after self.old command.entry) }
         ensures kept { OnErr result
-            (self.new.received ≡ self.old.received) }
+            ((self.new.received ≡ self.old.received) × (self.new.folder ≡ self.old.folder)) }
     {
         match command {
             Command::Introduce { .. } => {
@@ -234,7 +241,7 @@ impl Session {
             (text_of sent.entry) (texts_of plan.reply) plan.next self.new) }
         ensures request { IfOk result (λ plan. IsRequest plan.next) }
         ensures kept { OnErr result
-            (self.new.received ≡ self.old.received) }
+            ((self.new.received ≡ self.old.received) × (self.new.folder ≡ self.old.folder)) }
     {
         let mut reply = None;
         if sent.eq_str(".") {
@@ -253,7 +260,7 @@ impl Session {
         ensures keeps { OnOk result
             (Keeps self.old (text_of sent.entry) self.new) }
         ensures kept { OnErr result
-            (self.new.received ≡ self.old.received) }
+            ((self.new.received ≡ self.old.received) × (self.new.folder ≡ self.old.folder)) }
     {
         let line = unstuffed(sent);
         if line.len() + 2 > MOST_BYTES.saturating_sub(self.draft.text.len()) {
@@ -270,7 +277,7 @@ impl Session {
         ensures ends { IfOk result (λ reply.
             EndsMessage self.old reply self.new) }
         ensures kept { OnErr result
-            (self.new.received ≡ self.old.received) }
+            ((self.new.received ≡ self.old.received) × (self.new.folder ≡ self.old.folder)) }
     {
         let draft = replace(&mut self.draft, Message::new(self.alloc));
         self.stage = Stage::Ready;
@@ -278,7 +285,11 @@ impl Session {
             self.fault = None;
             return Ok(reply_of_fault(fault));
         }
-        self.count = self.count.checked_add(1).ok_or(AllocError)?;
+        let count = self.count.checked_add(1).ok_or(AllocError)?;
+        if !store(&mut self.mailbox, draft.text.as_ascii_str()) {
+            return Ok(Reply::NotStored);
+        }
+        self.count = count;
         self.received = self.received.and(&draft);
         Ok(Reply::Done)
     }
@@ -295,7 +306,7 @@ impl Session {
     }
 }
 
-impl Handler for Session {
+impl Handler for Session<'_> {
     ghost use Rattle.example_smtp.specs.Deliveries.{session_answers, session_refuses};
 
     ghost answers = { session_answers };
@@ -332,6 +343,16 @@ impl Handler for Session {
         let reply = self.reject(error);
         say(reply, replies);
         Next::Line
+    }
+}
+
+/// Stores a message in the mailbox, and returns whether that was done; without a mailbox it is.
+fn store(mailbox: &mut Option<Mailbox<'_>>, text: AsciiStr<'_>) -> bool
+    ensures { Stores mailbox.old (text_of text.entry) result mailbox.new }
+{
+    match mailbox {
+        Some(mailbox) => mailbox.store(text).is_ok(),
+        None => true,
     }
 }
 

@@ -3,7 +3,8 @@ use Rattle.ascii_lines.specs.declared.serving.Awaited.TheVariants.{Input}
 use Rattle.ascii_lines.specs.declared.serving.Next.TheVariants as next
 use Rattle.example_smtp.specs.Deliveries.{Delivers}
 use Rattle.example_smtp.specs.Mail.{Mail}
-use Rattle.example_smtp.proofs.DeliveryLemmas.{delivers_all, transcript}
+use Rattle.example_smtp.specs.Mailbox.{Files}
+use Rattle.example_smtp.proofs.DeliveryLemmas.{delivers_all, files_all, transcript}
 use Rattle.example_smtp.proofs.receiving.receive.Goals as goal
 
 pub returns : goal.returns
@@ -22,4 +23,11 @@ returns g c =
           Delivers told.exchanges (map (λ (mail : Mail). mail.text) received)) (sym told.kept)
           (delivers_all told.exchanges c.args.session.now told.mid c.requires.session
           told.runs);
+      files = subst
+          (λ (received : List Mail). Files c.args.session.now.folder
+          (map (λ (mail : Mail). mail.text) received) served.talk.state.folder) (sym told.kept)
+          (subst
+          (λ folder. Files c.args.session.now.folder (map (λ (mail : Mail). mail.text) told.mid.received)
+          folder) (sym told.folder)
+          (files_all told.exchanges c.args.session.now told.mid c.requires.session told.runs));
     }

@@ -7,7 +7,7 @@ pub returns-then-eq-clause-answers : goal.returns-then-eq-clause-answers
 returns-then-eq-clause-answers g c = (
   _,
   c.say.ensures,
-  (_, refl, inr (gives_up _ _ BadLine (inr refl) refl)),
+  (_, refl, inr (gives_up _ _ BadLine (inr refl) refl refl)),
 )
 
 pub returns-in-Ok-clause-answers : goal.returns-in-Ok-clause-answers
@@ -21,5 +21,5 @@ pub returns-in-Err-clause-answers : goal.returns-in-Err-clause-answers
 returns-in-Err-clause-answers g c = (
   _,
   c.say-in-Err.ensures,
-  (_, refl, inr (gives_up _ _ NoMemory (inl refl) c.in-Err.ensures.kept)),
+  (_, refl, inr (gives_up _ _ NoMemory (inl refl) c.in-Err.ensures.kept.0 c.in-Err.ensures.kept.1)),
 )
