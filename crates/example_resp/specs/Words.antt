@@ -20,8 +20,8 @@ use Rattle.example_resp.specs.declared.words.Quotes.TheVariants.{Bare, Double, S
 abbrev pub IsGap : ℕ → Type 0
 IsGap code = (code ≡ 32) ⊎ (code ≡ 9) ⊎ (code ≡ 13) ⊎ (code ≡ 10)
 
--- the code that a character after a backslash stands for: `n`, `r`, `t`, `b` and `a` for a control
--- code, and others for themselves
+-- the code that a character after a backslash writes: `n`, `r`, `t`, `b` and `a` a control code, and
+-- any other itself
 abbrev pub escaped_code : ℕ → ℕ
 escaped_code mark = if nat_eq mark 110 then 10 else (if nat_eq mark 114 then 13 else
     (if nat_eq mark 116 then 9 else (if nat_eq mark 98 then 8 else
@@ -43,10 +43,10 @@ pub record IsHexPair (text : List ℕ) (code : ℕ) (others : List ℕ) : Type 0
 abbrev pub HasHexPair : List ℕ → Type 0
 HasHexPair text = (code : ℕ) × (others : List ℕ) × IsHexPair text code others
 
--- `text` begins with what stands for `code` between these quotes, and `others` come after that.
--- `Bare`: the code itself, which is not a gap or a quote. `Single`: a quote after a backslash
--- stands for itself, and so does any other code. `Double`: so do two hexadecimal digits after `\x`,
--- and a character after a backslash
+-- `text` begins with the characters that write `code` between these quotes, and `others` come after
+-- them. `Bare`: the code itself, which is not a gap or a quote. `Single`: a quote after a backslash
+-- writes a quote, and any other code itself. `Double`: two hexadecimal digits after `\x` write a
+-- code, as does a character after a backslash, and any other code itself
 abbrev pub IsPiece : Quotes → List ℕ → ℕ → List ℕ → Type 0
 IsPiece Bare text code others =
     (text ≡ code ∷ others) × ¬ (IsGap code) × (code ≢ 34) × (code ≢ 39)
@@ -59,7 +59,8 @@ IsPiece Double text code others =
     × ¬ (HasHexPair (mark ∷ others)))
     ⊎ ((text ≡ code ∷ others) × (code ≢ 34) × (code ≡ 92 → others ≡ []))
 
--- `text` begins with what stands for the codes of `value`, in order, and `rest` comes after that
+-- `text` begins with the characters that write the codes of `value`, in order, and `rest` comes
+-- after them
 abbrev pub HasPieces : Quotes → List ℕ → List ℕ → List ℕ → Type 0
 HasPieces quotes text [] rest = rest ≡ text
 HasPieces quotes text (code ∷ value) rest =
@@ -80,7 +81,7 @@ pub record OpensQuotes (quotes : Quotes) (text front : List ℕ) (mark : ℕ) (i
     pub is_mark : IsMark quotes mark
     pub before : HasPieces Bare text front (mark ∷ inside)
 
--- a word in quotes: it stands for `front` and then `value`
+-- a word in quotes: its codes are `front` and then `value`
 pub record IsQuoted (text word after : List ℕ) : Type 0 where
   pub quotes : Quotes
   pub front : List ℕ
@@ -111,7 +112,7 @@ pub record IsUnbalanced (text : List ℕ) : Type 0 where
   pub bad : (rest ≡ []) ⊎ ((after : List ℕ) × (rest ≡ mark ∷ after)
       × ¬ (IfSome (slice_get after 0) IsWhitespace))
 
--- in a word, in quotes or not, something stands for a code above 127
+-- in a word, in quotes or not, some characters write a code above 127
 pub record IsNotAscii (text : List ℕ) : Type 0 where
   pub quotes : Quotes
   pub inside : List ℕ

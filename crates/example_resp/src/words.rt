@@ -27,7 +27,7 @@ pub enum Quotes {
 /// What a text begins with.
 #[derive(Clone, Copy, PartialEq, Eq, Debug)]
 pub enum Piece<'a> {
-    /// What stands for a code, and what comes after it.
+    /// A code, and what comes after the characters that write it.
     Code(u8, AsciiStr<'a>),
     /// The end of what is quoted, or of the text.
     End,
@@ -79,8 +79,8 @@ fn opened<'a>(text: AsciiStr<'a>) -> Option<(Quotes, AsciiStr<'a>)>
     }
 }
 
-/// Appends what stands for codes between these quotes, as far as the text goes or a quote ends it, and
-/// returns what comes after it.
+/// Appends the codes that are written between these quotes, up to the quote that ends them or the end of
+/// the text, and returns what comes after them.
 fn take_pieces<'a>(
     quotes: Quotes,
     text: AsciiStr<'a>,
@@ -158,7 +158,7 @@ fn double_piece<'a>(first: u8, others: AsciiStr<'a>) -> Piece<'a>
     Piece::Code(first, others)
 }
 
-/// Returns the code that a character after a backslash stands for.
+/// Returns the code that a character after a backslash writes.
 fn escaped(mark: u8) -> u8
     ensures { result ≡ escaped_code mark }
 {

@@ -121,8 +121,8 @@ received_texts state = map (λ mail. mail.text) state.received
 
 -- ---- the session as a handler
 
--- the session gives up at a line, since there is no memory for it, or the input ends in it: it
--- gives one reply, closes, and the messages that were received are unchanged
+-- the session gives up at a line, since an allocation failed, or the input ends in the line: it gives
+-- one reply, closes, and the messages that were received, and the folder, are unchanged
 pub record GivesUp (old : State) (texts : List (List ℕ)) (asked : Next) (new : State) : Type 0 where
   pub fault : Reply
   pub why : (fault ≡ NoMemory) ⊎ (fault ≡ BadLine)

@@ -26,8 +26,9 @@ IsAtom text = (text ≢ []) × All IsAtomCode text
 abbrev pub AreDotted : (List ℕ → Type 0) → List ℕ → Type 0
 AreDotted Is text = (parts : List (List ℕ)) × Pieces text 46 parts × All Is parts
 
--- the text between quotes, by whether a backslash is before it: printable characters, of which a
--- quote stands only after a backslash, and a backslash only before or after another character
+-- a text between quotes, by whether a backslash before it escapes its first character: printable
+-- characters; a quote is escaped, and so may be any other; a backslash that is not escaped escapes the
+-- character after it, which has to be there
 abbrev pub IsQuotedText : Bool → List ℕ → Type 0
 IsQuotedText escaped [] = escaped ≡ false
 IsQuotedText true (code ∷ rest) = IsPrintable code × IsQuotedText false rest
