@@ -1,5 +1,5 @@
 -- Runs of codes at the ends of a text.
-use Rattle.std.proofs.Common.{◌≡◌, ◌≢◌, ℕ, ◌+◌, ◌-◌, ◌<◌, Bool, true, false, not, List, []}
+use Rattle.std.proofs.Common.{◌≡◌, ◌≢◌, ℕ, ◌-◌, ◌<◌, Bool, true, false, not, List, []}
 use Rattle.std.proofs.Common.{◌∷◌, ◌++◌, take}
 use Rattle.std.proofs.Common.{length, get_or, refl, sym, ap, subst, ◌∙◌, arith, inl, inr}
 use Rattle.std.specs.Option.{IfSome}
@@ -122,21 +122,6 @@ module _ (Is : ℕ → Type 0) where
   not_not : (side : Bool) (code : ℕ) → IsOnSide Is (not (not side)) code → IsOnSide Is side code
   not_not true code is = is
   not_not false code is = is
-
-  -- the run after a gap, with its first code
-  pub ends_first : (side : Bool) (text : List ℕ) (start end : ℕ)
-      → EndsRun Is (not side) text 0 start → start ≢ length text
-      → EndsRun Is side text (start + 1) end → EndsRun Is side text start end
-  ends_first side text start end gap some run = record {
-    low = omega (arith, run.low);
-    high = run.high;
-    run = λ k from_on before. elim (cases_eq k start) [
-      | inl same ↦ subst (λ i. IsOnSide Is side (get_or text i 0)) (sym same)
-          (not_not side _ (gap.stop (omega (arith, gap.high, some))))
-      | inr other ↦ run.run k (omega (arith, from_on, other)) before
-    ];
-    stop = run.stop;
-  }
 
   -- the run before a gap, with its last code, in the text up to the gap
   pub starts_last : (side : Bool) (text : List ℕ) (end start : ℕ)

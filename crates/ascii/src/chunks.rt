@@ -151,8 +151,6 @@ impl<'a> AsciiChunks<'a> {
 
 /// Returns the position after the run at the start: of ASCII bytes, or of other bytes.
 fn first_run_end(bytes: &[u8], ascii: bool) -> usize
-    requires some { 0 < length bytes.now }
-    requires first { IsOnSide (λ byte. byte < 128) ascii (slice_index bytes.now 0) }
     ensures { EndsRun (λ byte. byte < 128) ascii bytes.now 0 result }
 {
     if ascii {
@@ -161,15 +159,12 @@ fn first_run_end(bytes: &[u8], ascii: bool) -> usize
             None => bytes.len(),
         }
     } else {
-        run_end::<Ascii>(bytes, 1, false)
+        run_end::<Ascii>(bytes, 0, false)
     }
 }
 
 /// Returns the position at which the run at the end starts: of ASCII bytes, or of other bytes.
 fn last_run_start(bytes: &[u8], ascii: bool) -> usize
-    requires some { 0 < length bytes.now }
-    requires last { IsOnSide (λ byte. byte < 128) ascii
-        (slice_index bytes.now (length bytes.now - 1)) }
     ensures { StartsRun (λ byte. byte < 128) ascii bytes.now (length bytes.now) result }
 {
     if ascii {
@@ -178,7 +173,7 @@ fn last_run_start(bytes: &[u8], ascii: bool) -> usize
             None => 0,
         }
     } else {
-        run_start::<Ascii>(bytes, bytes.len() - 1, false)
+        run_start::<Ascii>(bytes, bytes.len(), false)
     }
 }
 

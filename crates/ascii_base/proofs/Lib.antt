@@ -1,5 +1,4 @@
 mod CaseLemmas
-mod EndsLemmas
 mod Examples
 pub mod LanesLemmas
 pub mod RangesLemmas

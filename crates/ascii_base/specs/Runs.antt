@@ -2,12 +2,6 @@
 use Rattle.std.specs.Prelude.{ℕ, ◌-◌, ◌<◌, ◌≤◌, Bool, not, List, length, slice_index}
 use Rattle.ascii_base.specs.Bytes.{IsOnSide}
 
--- the codes of `text` from position `from` up to `to` are on one side of the class `Is`
-pub record IsRun (Is : ℕ → Type 0) (inside : Bool) (text : List ℕ) (from to : ℕ) : Type 0 where
-  pub low : from ≤ to
-  pub high : to ≤ length text
-  pub run : (k : ℕ) → from ≤ k → k < to → IsOnSide Is inside (slice_index text k)
-
 -- the codes of `text` from position `from` up to `end` are on one side of the class `Is`, and the
 -- code at `end`, if there is one, is on the other
 pub record EndsRun (Is : ℕ → Type 0) (inside : Bool) (text : List ℕ) (from end : ℕ) : Type 0 where

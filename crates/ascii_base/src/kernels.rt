@@ -14,7 +14,7 @@
 //! over the end, which may test bytes again. Up to 64 bytes take two overlapping steps of 32, 16, 8 or
 //! 4 bytes, and fewer than 4 bytes go one by one. The maps and the comparison take the same steps. A
 //! search by a class tests 16 bytes before that: most runs end there. `run_end` and `run_start` test the
-//! nearest byte alone before those 16, and fewer than 16 bytes one by one.
+//! bytes one by one.
 //!
 //! A contract sees the bytes as a list of numbers, and a position as an index in it, from 0.
 
@@ -27,7 +27,7 @@ ghost use Rattle.ascii_base.specs.Case.{upper_image, lower_image};
 ghost use Rattle.ascii_base.specs.Class.{IsWhitespace};
 ghost use Rattle.ascii_base.specs.Lanes.{AllBefore, AllFrom, FindsFirstNot, FindsLastNot, Marks};
 ghost use Rattle.ascii_base.specs.Lanes.{SameBefore};
-ghost use Rattle.ascii_base.specs.Runs.{EndsRun, IsRun, StartsRun};
+ghost use Rattle.ascii_base.specs.Runs.{EndsRun, StartsRun};
 
 use crate::classes::{Ascii, Class, ClassBy, Searched, Whitespace};
 use crate::images::{ImageBy, Lower, Upper};
@@ -85,20 +85,22 @@ pub fn last_of<C: Searched>(bytes: &[u8]) -> Option<usize>
 ///
 /// Condition: `from` is at most the length.
 ///
-/// For short runs, such as words and the gaps between them: the search is inlined and calls nothing.
+/// For short runs, such as words and the gaps between them: the bytes are tested one by one. A run that may
+/// be long ends at `first_not` or `first_of`.
 ///
 ///     run_end::<Digit>(b"v42px", 1, true) // 3
 ///     run_end::<Digit>(b"v42px", 3, false) // 5
 #[inline(always)]
-pub fn run_end<C: Searched>(bytes: &[u8], from: usize, inside: bool) -> usize
+pub fn run_end<C: Class>(bytes: &[u8], from: usize, inside: bool) -> usize
     requires { from ≤ length bytes.now }
     ensures { EndsRun C.is inside bytes.now from result }
 {
-    if inside {
-        end_from::<C, true>(bytes, from)
-    } else {
-        end_from::<C, false>(bytes, from)
+    for at in from..bytes.len() {
+        if C::has(bytes[at]) != inside {
+            return at;
+        }
     }
+    bytes.len()
 }
 
 /// Returns the position at which the run that ends at `to` starts, or `to` if the run is empty. The run
@@ -106,20 +108,22 @@ pub fn run_end<C: Searched>(bytes: &[u8], from: usize, inside: bool) -> usize
 ///
 /// Condition: `to` is at most the length.
 ///
-/// For short runs, such as words and the gaps between them: the search is inlined and calls nothing.
+/// For short runs, such as words and the gaps between them: the bytes are tested one by one. A run that may
+/// be long starts after `last_not` or `last_of`.
 ///
 ///     run_start::<Digit>(b"v42px", 3, true) // 1
 ///     run_start::<Digit>(b"v42px", 5, false) // 3
 #[inline(always)]
-pub fn run_start<C: Searched>(bytes: &[u8], to: usize, inside: bool) -> usize
+pub fn run_start<C: Class>(bytes: &[u8], to: usize, inside: bool) -> usize
     requires { to ≤ length bytes.now }
     ensures { StartsRun C.is inside bytes.now to result }
 {
-    if inside {
-        start_from::<C, true>(bytes, to)
-    } else {
-        start_from::<C, false>(bytes, to)
+    for at in (0..to).rev() {
+        if C::has(bytes[at]) != inside {
+            return at + 1;
+        }
     }
+    0
 }
 
 /// Returns the position of the first non-ASCII byte, or `None` if all bytes are ASCII.
@@ -368,95 +372,6 @@ fn first_non_ascii_long(bytes: &[u8]) -> Option<usize>
     first_from::<Ascii, true>(bytes, at)
 }
 
-/// The position after the run on the side that starts at `from`.
-#[inline(always)]
-fn end_from<C: Searched, const INSIDE: bool>(bytes: &[u8], from: usize) -> usize
-    requires { from ≤ length bytes.now }
-    ensures { EndsRun C.is INSIDE bytes.now from result }
-{
-    if from + HALF > bytes.len() {
-        return end_one_by_one::<C, INSIDE>(bytes, from);
-    }
-    if C::has(bytes[from]) != INSIDE {
-        return from;
-    }
-    match end_in::<C, HALF, INSIDE>(bytes, from) {
-        Some(end) => end,
-        None => end_past_first::<C, INSIDE>(bytes, from),
-    }
-}
-
-/// The position after the run on the side that starts at `from`, if its first 16 bytes are on it.
-#[inline(always)]
-fn end_past_first<C: Searched, const INSIDE: bool>(bytes: &[u8], from: usize) -> usize
-    requires { IsRun C.is INSIDE bytes.now from (from + HALF) }
-    ensures { EndsRun C.is INSIDE bytes.now from result }
-{
-    let mut at = from + HALF;
-    while at + LANES <= bytes.len() {
-        if let Some(end) = end_in::<C, LANES, INSIDE>(bytes, at) {
-            return end;
-        }
-        at += LANES;
-    }
-    end_of_rest::<C, INSIDE>(bytes, from, at)
-}
-
-/// The position after the run on the side that starts at `from` and goes on to `at` at least, with fewer
-/// than 32 bytes from there on: the last 16 may be tested again.
-#[inline(always)]
-fn end_of_rest<C: Searched, const INSIDE: bool>(bytes: &[u8], from: usize, at: usize) -> usize
-    requires long { from + HALF ≤ length bytes.now }
-    requires short { length bytes.now < at + LANES }
-    requires before { IsRun C.is INSIDE bytes.now from at }
-    ensures { EndsRun C.is INSIDE bytes.now from result }
-{
-    let last = bytes.len() - HALF;
-    if at < last
-        && let Some(end) = end_in::<C, HALF, INSIDE>(bytes, at)
-    {
-        return end;
-    }
-    match end_in::<C, HALF, INSIDE>(bytes, last) {
-        Some(end) => end,
-        None => bytes.len(),
-    }
-}
-
-/// The position after the run on the side that starts at `at`, or `None` if the `N` bytes from there on
-/// are all on it.
-#[inline(always)]
-fn end_in<C: ClassBy<N>, const N: usize, const INSIDE: bool>(
-    bytes: &[u8],
-    at: usize,
-) -> Option<usize>
-    requires lanes { N < 64 }
-    requires room { at + N ≤ length bytes.now }
-    ensures { MatchOption result (IsRun C.is INSIDE bytes.now at (at + N))
-        (EndsRun C.is INSIDE bytes.now at) }
-{
-    let marked = marks_past::<C, N, INSIDE>(bytes, at);
-    if marked == 0 {
-        None
-    } else {
-        Some(at + marked.trailing_zeros() as usize)
-    }
-}
-
-/// The position after the run on the side that starts at `from`, byte by byte.
-#[inline(always)]
-fn end_one_by_one<C: Class, const INSIDE: bool>(bytes: &[u8], from: usize) -> usize
-    requires { from ≤ length bytes.now }
-    ensures { EndsRun C.is INSIDE bytes.now from result }
-{
-    for at in from..bytes.len() {
-        if C::has(bytes[at]) != INSIDE {
-            return at;
-        }
-    }
-    bytes.len()
-}
-
 /// The last byte that is not on the side.
 #[inline(always)]
 fn last_past<C: Searched, const INSIDE: bool>(bytes: &[u8]) -> Option<usize>
@@ -572,95 +487,6 @@ fn last_one_by_one<C: Class, const INSIDE: bool>(
         }
     }
     None
-}
-
-/// The position at which the run on the side that ends at `to` starts.
-#[inline(always)]
-fn start_from<C: Searched, const INSIDE: bool>(bytes: &[u8], to: usize) -> usize
-    requires { to ≤ length bytes.now }
-    ensures { StartsRun C.is INSIDE bytes.now to result }
-{
-    if to < HALF {
-        return start_one_by_one::<C, INSIDE>(bytes, to);
-    }
-    if C::has(bytes[to - 1]) != INSIDE {
-        return to;
-    }
-    match start_in::<C, HALF, INSIDE>(bytes, to - HALF) {
-        Some(start) => start,
-        None => start_past_last::<C, INSIDE>(bytes, to),
-    }
-}
-
-/// The position at which the run on the side that ends at `to` starts, if its last 16 bytes are on it.
-#[inline(always)]
-fn start_past_last<C: Searched, const INSIDE: bool>(bytes: &[u8], to: usize) -> usize
-    requires some { HALF ≤ to }
-    requires after { IsRun C.is INSIDE bytes.now (to - HALF) to }
-    ensures { StartsRun C.is INSIDE bytes.now to result }
-{
-    let mut at = to - HALF;
-    while at >= LANES {
-        if let Some(start) = start_in::<C, LANES, INSIDE>(bytes, at - LANES) {
-            return start;
-        }
-        at -= LANES;
-    }
-    start_of_rest::<C, INSIDE>(bytes, to, at)
-}
-
-/// The position at which the run on the side that ends at `to` and goes back to `at` at least starts, with
-/// fewer than 32 bytes before that: the first 16 may be tested again.
-#[inline(always)]
-fn start_of_rest<C: Searched, const INSIDE: bool>(bytes: &[u8], to: usize, at: usize) -> usize
-    requires long { HALF ≤ to }
-    requires short { at < LANES }
-    requires after { IsRun C.is INSIDE bytes.now at to }
-    ensures { StartsRun C.is INSIDE bytes.now to result }
-{
-    if at > HALF
-        && let Some(start) = start_in::<C, HALF, INSIDE>(bytes, at - HALF)
-    {
-        return start;
-    }
-    match start_in::<C, HALF, INSIDE>(bytes, 0) {
-        Some(start) => start,
-        None => 0,
-    }
-}
-
-/// The position at which the run on the side that ends after the `N` bytes from `at` on starts, or `None`
-/// if these are all on it.
-#[inline(always)]
-fn start_in<C: ClassBy<N>, const N: usize, const INSIDE: bool>(
-    bytes: &[u8],
-    at: usize,
-) -> Option<usize>
-    requires lanes { N < 64 }
-    requires room { at + N ≤ length bytes.now }
-    ensures { MatchOption result (IsRun C.is INSIDE bytes.now at (at + N))
-        (StartsRun C.is INSIDE bytes.now (at + N)) }
-{
-    let marked = marks_past::<C, N, INSIDE>(bytes, at);
-    if marked == 0 {
-        None
-    } else {
-        Some(at + marked.ilog2() as usize + 1)
-    }
-}
-
-/// The position at which the run on the side that ends at `to` starts, byte by byte.
-#[inline(always)]
-fn start_one_by_one<C: Class, const INSIDE: bool>(bytes: &[u8], to: usize) -> usize
-    requires { to ≤ length bytes.now }
-    ensures { StartsRun C.is INSIDE bytes.now to result }
-{
-    for at in (0..to).rev() {
-        if C::has(bytes[at]) != INSIDE {
-            return at + 1;
-        }
-    }
-    0
 }
 
 /// Marks the bytes that are not on the side among the `N` from `at` on.

@@ -1,7 +1,7 @@
 //! The pieces of a view at the characters of a class, its words, which are the pieces that are not
 //! empty, and its runs of characters of a class.
 
-ghost use Rattle.std.specs.Prelude.{◌≡◌, ◌<◌, All, MatchOption, length, not};
+ghost use Rattle.std.specs.Prelude.{◌≡◌, ◌<◌, All, MatchOption, false, length, not};
 ghost use Rattle.std.specs.List.{slice_split};
 ghost use Rattle.ascii_base.specs.Class.{IsWhitespace};
 ghost use Rattle.ascii_base.specs.Bytes.{IsOnSide};
@@ -20,7 +20,7 @@ use crate::iter::cursor::Cursor;
 use crate::iter::items::{Cut, CutBack, Items, Spans};
 use crate::iter::spans::SplitSpan;
 use ascii_base::classes::{Searched, Whitespace};
-use ascii_base::kernels::{run_end, run_start};
+use ascii_base::kernels::{first_of, last_of, run_end, run_start};
 use std::marker::PhantomData;
 
 /// The cut at each character of a class.
@@ -38,7 +38,7 @@ impl<C: Searched> Cut for AtClass<C> {
     #[inline(always)]
     fn first<'a>(self, part: Cursor<'a>) -> Option<(SplitSpan<'a>, Option<Cursor<'a>>)> {
         let bytes = part.view.bytes;
-        let end = run_end::<C>(bytes, 0, false);
+        let end = piece_end::<C>(bytes);
         if end == bytes.len() {
             return Some((part.piece(), None));
         }
@@ -50,7 +50,7 @@ impl<C: Searched> CutBack for AtClass<C> {
     #[inline(always)]
     fn last<'a>(self, part: Cursor<'a>) -> Option<(SplitSpan<'a>, Option<Cursor<'a>>)> {
         let bytes = part.view.bytes;
-        let start = run_start::<C>(bytes, bytes.len(), false);
+        let start = piece_start::<C>(bytes);
         if start == 0 {
             return Some((part.piece(), None));
         }
@@ -76,8 +76,11 @@ impl<C: Searched, const INSIDE: bool> Cut for AtRuns<C, INSIDE> {
     #[inline(always)]
     fn first<'a>(self, part: Cursor<'a>) -> Option<(SplitSpan<'a>, Option<Cursor<'a>>)> {
         let bytes = part.view.bytes;
-        let start = first_on::<C, INSIDE>(bytes)?;
-        let end = run_end::<C>(bytes, start + 1, INSIDE);
+        let start = gap_end::<C, INSIDE>(bytes);
+        if start == bytes.len() {
+            return None;
+        }
+        let end = run_end::<C>(bytes, start, INSIDE);
         Some((part.to(end).from(start).piece(), Some(part.from(end))))
     }
 }
@@ -93,20 +96,16 @@ impl<C: Searched, const INSIDE: bool> CutBack for AtRuns<C, INSIDE> {
     }
 }
 
-/// The position of the first character on the side, if there is one.
+/// The position after the gap before the first run, or the length if there is no run. Between runs inside a class
+/// there may be many characters, between words there are few.
 #[inline(always)]
-fn first_on<C: Searched, const INSIDE: bool>(bytes: &[u8]) -> Option<usize>
-    ensures { MatchOption result (All (IsOnSide C.is (not INSIDE)) bytes.now)
-        (λ start. EndsRun C.is (not INSIDE) bytes.now 0 start × (start < length bytes.now)) }
+fn gap_end<C: Searched, const INSIDE: bool>(bytes: &[u8]) -> usize
+    ensures { EndsRun C.is (not INSIDE) bytes.now 0 result }
 {
-    if C::has(*bytes.first()?) == INSIDE {
-        return Some(0);
-    }
-    let start = run_end::<C>(bytes, 1, !INSIDE);
-    if start == bytes.len() {
-        None
+    if INSIDE {
+        piece_end::<C>(bytes)
     } else {
-        Some(start)
+        run_end::<C>(bytes, 0, true)
     }
 }
 
@@ -116,13 +115,34 @@ fn end_of_last_on<C: Searched, const INSIDE: bool>(bytes: &[u8]) -> Option<usize
     ensures { MatchOption result (All (IsOnSide C.is (not INSIDE)) bytes.now)
         (λ end. StartsRun C.is (not INSIDE) bytes.now (length bytes.now) end × (0 < end)) }
 {
-    let (last, front) = bytes.split_last()?;
-    let end = if C::has(*last) == INSIDE {
-        bytes.len()
+    let end = if INSIDE {
+        piece_start::<C>(bytes)
     } else {
-        run_start::<C>(bytes, front.len(), !INSIDE)
+        run_start::<C>(bytes, bytes.len(), true)
     };
     if end == 0 { None } else { Some(end) }
+}
+
+/// The position after the first piece outside a class.
+#[inline(always)]
+fn piece_end<C: Searched>(bytes: &[u8]) -> usize
+    ensures { EndsRun C.is false bytes.now 0 result }
+{
+    match first_of::<C>(bytes) {
+        Some(at) => at,
+        None => bytes.len(),
+    }
+}
+
+/// The position at which the last piece outside a class starts.
+#[inline(always)]
+fn piece_start<C: Searched>(bytes: &[u8]) -> usize
+    ensures { StartsRun C.is false bytes.now (length bytes.now) result }
+{
+    match last_of::<C>(bytes) {
+        Some(at) => at + 1,
+        None => 0,
+    }
 }
 
 /// The cut into words: the longest runs of characters outside a class.

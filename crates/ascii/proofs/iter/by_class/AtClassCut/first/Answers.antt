@@ -7,26 +7,26 @@ use Rattle.ascii.proofs.iter.by_class.AtClassCut.first.Goals as goal
 pub returns-then-end-bytes-clause-first : goal.returns-then-end-bytes-clause-first
 returns-then-end-bytes-clause-first g c = rw c.piece.ensures.piece
     (only_piece_by g.C.Class.is g.C.Class.test g.met.C.Class.decides c.args.part.start
-    (text_of c.args.part.view) c.run_end-end.result c.if-end-bytes.true c.run_end-end.ensures)
+    (text_of c.args.part.view) c.piece_end-end.result c.if-end-bytes.true c.piece_end-end.ensures)
 
 pub returns-then-end-bytes-clause-item : goal.returns-then-end-bytes-clause-item
 returns-then-end-bytes-clause-item g c = (
   subst (IsOutside g.C.Class.is) (sym (ap (λ span. span.item) c.piece.ensures.piece))
       (only_is_outside g.C.Class.is g.C.Class.test g.met.C.Class.decides c.args.part.start
-      (text_of c.args.part.view) c.run_end-end.result c.if-end-bytes.true c.run_end-end.ensures),
+      (text_of c.args.part.view) c.piece_end-end.result c.if-end-bytes.true c.piece_end-end.ensures),
   c.piece.ensures.fits,
 )
 
 pub returns-clause-first : goal.returns-clause-first
 returns-clause-first g c = rw (c.piece-2.ensures.piece, c.to.ensures.start, c.to.ensures.text, c.from.ensures.start, c.from.ensures.text)
     (first_piece_by g.C.Class.is g.C.Class.test g.met.C.Class.decides c.args.part.start
-    (text_of c.args.part.view) c.run_end-end.result c.if-end-bytes.false c.run_end-end.ensures)
+    (text_of c.args.part.view) c.piece_end-end.result c.if-end-bytes.false c.piece_end-end.ensures)
 
 pub returns-clause-item : goal.returns-clause-item
 returns-clause-item g c = (
   subst (IsOutside g.C.Class.is)
       (sym (ap (λ span. span.item) c.piece-2.ensures.piece ∙ c.to.ensures.text))
       (first_is_outside g.C.Class.is g.C.Class.test g.met.C.Class.decides c.args.part.start
-      (text_of c.args.part.view) c.run_end-end.result c.run_end-end.ensures),
+      (text_of c.args.part.view) c.piece_end-end.result c.piece_end-end.ensures),
   c.piece-2.ensures.fits,
 )

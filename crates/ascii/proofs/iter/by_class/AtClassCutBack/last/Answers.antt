@@ -7,28 +7,28 @@ use Rattle.ascii.proofs.iter.by_class.AtClassCutBack.last.Goals as goal
 pub returns-then-start-eq0-clause-last : goal.returns-then-start-eq0-clause-last
 returns-then-start-eq0-clause-last g c = rw c.piece.ensures.piece
     (only_piece_back g.C.Class.is g.C.Class.test g.met.C.Class.decides c.args.part.start
-    (text_of c.args.part.view) c.run_start-start.result c.if-start-eq0.true
-    c.run_start-start.ensures)
+    (text_of c.args.part.view) c.piece_start-start.result c.if-start-eq0.true
+    c.piece_start-start.ensures)
 
 pub returns-then-start-eq0-clause-item : goal.returns-then-start-eq0-clause-item
 returns-then-start-eq0-clause-item g c = (
   subst (IsOutside g.C.Class.is) (sym (ap (λ span. span.item) c.piece.ensures.piece))
       (only_back_outside g.C.Class.is g.C.Class.test g.met.C.Class.decides c.args.part.start
-      (text_of c.args.part.view) c.run_start-start.result c.if-start-eq0.true
-      c.run_start-start.ensures),
+      (text_of c.args.part.view) c.piece_start-start.result c.if-start-eq0.true
+      c.piece_start-start.ensures),
   c.piece.ensures.fits,
 )
 
 pub returns-clause-last : goal.returns-clause-last
 returns-clause-last g c = rw (c.piece-2.ensures.piece, c.to.ensures.start, c.to.ensures.text, c.from.ensures.start, c.from.ensures.text)
     (last_piece_by g.C.Class.is g.C.Class.test g.met.C.Class.decides c.args.part.start
-    (text_of c.args.part.view) c.run_start-start.result c.if-start-eq0.false c.run_start-start.ensures)
+    (text_of c.args.part.view) c.piece_start-start.result c.if-start-eq0.false c.piece_start-start.ensures)
 
 pub returns-clause-item : goal.returns-clause-item
 returns-clause-item g c = (
   subst (IsOutside g.C.Class.is)
       (sym (ap (λ span. span.item) c.piece-2.ensures.piece ∙ c.from.ensures.text))
       (last_is_outside g.C.Class.is g.C.Class.test g.met.C.Class.decides c.args.part.start
-      (text_of c.args.part.view) c.run_start-start.result c.run_start-start.ensures),
+      (text_of c.args.part.view) c.piece_start-start.result c.piece_start-start.ensures),
   c.piece-2.ensures.fits,
 )

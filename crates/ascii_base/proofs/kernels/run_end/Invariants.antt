@@ -1,0 +1,8 @@
+use Rattle.std.proofs.Common.{ℕ, ◌<◌, ◌≤◌, get_or}
+use Rattle.ascii_base.specs.Bytes.{IsOnSide}
+use Rattle.ascii_base.proofs.kernels.run_end.Given as goal
+
+-- the bytes before `at` are on the side
+abbrev pub invariant-loop-at : goal.invariant-loop-at
+invariant-loop-at g l =
+    (k : ℕ) → l.from ≤ k → k < l.at → IsOnSide g.C.Class.is l.inside (get_or l.bytes k 0)
