@@ -28,10 +28,10 @@ impl AsciiStr<'_> {
             Replaces (text_of from.entry) (text_of to.entry) (text_of self.entry) copy.text) }
         ensures empty { text_of self.entry ≡ [] → IsOk result }
     {
-        let mut copy = AsciiString::new(alloc);
         if self.is_empty() {
-            return Ok(copy);
+            return Ok(AsciiString::new(alloc));
         }
+        let mut copy = AsciiString::with_capacity(alloc, self.len())?;
         let mut rest = self;
         while let Some(at) = rest.find(from) {
             copy.push_str(rest.slice(AsciiRange::To(at)))?;

@@ -208,7 +208,10 @@ pub fn first_not_whitespace(bytes: &[u8]) -> Option<usize>
     ensures { MatchOption result (All IsWhitespace bytes.now)
         (IsFirstNot IsWhitespace bytes.now 0 (length bytes.now)) }
 {
-    first_not::<Whitespace>(bytes)
+    match bytes.first() {
+        Some(byte) if !Whitespace::has(*byte) => Some(0),
+        _ => first_not::<Whitespace>(bytes),
+    }
 }
 
 /// Returns the position of the last byte that is not whitespace, or `None` if every byte is
@@ -218,7 +221,10 @@ pub fn first_not_whitespace(bytes: &[u8]) -> Option<usize>
 pub fn last_not_whitespace(bytes: &[u8]) -> Option<usize>
     ensures { MatchOption result (All IsWhitespace bytes.now) (IsLastNot IsWhitespace bytes.now) }
 {
-    last_not::<Whitespace>(bytes)
+    match bytes.last() {
+        Some(byte) if !Whitespace::has(*byte) => Some(bytes.len() - 1),
+        _ => last_not::<Whitespace>(bytes),
+    }
 }
 
 // The searches below pass over one side of a class: its bytes if `INSIDE` is true, and the bytes that

@@ -24,4 +24,4 @@ pub returns-then-is_empty-clause-text : goal.returns-then-is_empty-clause-text
 returns-then-is_empty-clause-text g c =
     let is_empty : text_of c.args.self ≡ [] = search rules in
     replaces_nothing (text_of c.args.from) (text_of c.args.to) (text_of c.args.self)
-    c.new-copy.result.text c.requires is_empty c.new-copy.ensures.text
+    c.new.result.text c.requires is_empty c.new.ensures.text
