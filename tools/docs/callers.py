@@ -20,7 +20,7 @@ from dataclasses import dataclass, field, replace
 from functools import cache
 
 from definitions import re_exports, used_words
-from items import Wrong, read_items
+from items import Item, Wrong, read_items
 from made import LIBRARIES, PROOFS, settle
 from sources import CRATES, exported, impl_name, read, read_modules, without_braces
 
@@ -62,6 +62,7 @@ class Entry:
     quoted: list
     unsaid: list = field(default_factory=list)  # the calls that have neither a clause nor a ghost member
     docs: list = field(default_factory=list)  # the documentation of the item, or of the block
+    item: Item = None  # the item itself
 
 
 def entries_of(crate, modules):
@@ -101,10 +102,10 @@ def hidden_types(modules):
 def entry_of_named(path, item, items):
     """The entry of an item that has a path of its own."""
     if item.kind == "fn":
-        return Entry(path, function_lines(item, path), [item], calls_of(path, [item]), item.docs)
+        return Entry(path, function_lines(item, path), [item], calls_of(path, [item]), item.docs, item)
     if item.kind == "trait":
         lines = doc_line(item) + [head_with(path, item)] + inner_lines(item, path)
-        return Entry(path, lines, item.inner, calls_of(path, [i for i in item.inner if i.kind == "fn"]), item.docs)
+        return Entry(path, lines, item.inner, calls_of(path, [i for i in item.inner if i.kind == "fn"]), item.docs, item)
     models = [i for i in items if i.kind == "impl" and impl_name(i) == ("Model", item.name)]
     return type_entry(path, item, models)
 
@@ -129,7 +130,7 @@ def type_entry(path, item, models):
     members = [member for model in models for member in ghosts_of(model) if member.name != "view"]
     lines += [f"    {without_braces(member.head)}" for member in members]
     shown = [f for f in item.inner if not (f.head.startswith("ghost ") and names_private(f, item))]
-    return Entry(path, lines, shown + members, docs=item.docs)
+    return Entry(path, lines, shown + members, docs=item.docs, item=item)
 
 
 def field_lines(item):
@@ -160,16 +161,16 @@ def entries_of_impl(item, hidden, own_traits):
         calls = [(f"{of_type}::{i.name}", i) for i in item.inner if i.public]
         if any(i.kind != "fn" for _, i in calls):
             raise Wrong(f"a public item of {of_type} that no page quotes, as it is no call")
-        return [Entry(path, function_lines(i, path), [i], calls_of(path, [i]), i.docs) for path, i in calls]
+        return [Entry(path, function_lines(i, path), [i], calls_of(path, [i]), i.docs, i) for path, i in calls]
     key = f"{of_trait} for {of_type}"
     if re.sub(r"<.*", "", of_trait) in own_traits:  # the trait's own entry says each call that has no clause here
         inner = [i for i in item.inner if i.kind != "fn" or i.clauses]
     else:
         inner = item.inner
-    item = replace(item, inner=inner)
+    block, item = item, replace(item, inner=inner)
     lines = doc_line(item) + [item.head] + inner_lines(item, key)
     quoted = ghosts_of(item) + [i for i in inner if i.kind == "fn"]
-    return [Entry(key, lines, quoted, calls_of(key, inner), item.docs)]
+    return [Entry(key, lines, quoted, calls_of(key, inner), item.docs, block)]
 
 
 def ghosts_of(item):

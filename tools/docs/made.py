@@ -1,5 +1,7 @@
 """What the commands of bin/docs share: the crates, and files that are made from sources."""
-from sources import CRATES, read
+from functools import cache
+
+from sources import CRATES, read, read_modules
 
 TOP = CRATES.parent
 # The crates that have a page CALLING.md, and those whose definitions the site has.
@@ -8,6 +10,27 @@ DEFINED = [*LIBRARIES, "ascii_show", "ascii_filter", "cookbook", "example_lines"
            "ascii_c"]
 # Ghost members whose value is a proof, which says nothing of an outcome.
 PROOFS = {"laws", "total", "matches_partial_cmp", "matches_eq", "respects_eq", "holds_sure"}
+
+
+@cache
+def modules_of(crate):
+    """The items of each module of a crate, which are read once."""
+    return read_modules(crate)
+
+
+def parts_of(crate, path):
+    """The parts of the file name of a module's source."""
+    return path or ("lib" if (CRATES / crate / "src/lib.rt").is_file() else "main",)
+
+
+def module_file(crate, path):
+    """The source of a module."""
+    return CRATES / crate / "src" / ("/".join(parts_of(crate, path)) + ".rt")
+
+
+def head_lines(file):
+    """The lines of the comment at the head of a source."""
+    return [line[len("//!") :].removeprefix(" ") for line in read(file).splitlines() if line.startswith("//!")]
 
 
 def settle(file, text, command, is_check):

@@ -1,21 +1,32 @@
 """Tests of a site that `bin/docs site` wrote: `python3 tools/docs/test_site.py FOLDER`. The HTML is well formed, each link
-leads to a page and an anchor that exist, and each public call and each definition has its place. If Chromium is installed, it
-opens some pages, and follows a search to a call and to a definition. Status 1, and a line for each fault; 64: no FOLDER."""
+leads to a page and an anchor that exist, each public path and each definition has its place, each word of a clause that a `use`
+line brings is linked, and no page names a private module. If Node is installed, the search of the pages finds each page of searches.txt
+among its first three answers; if Chromium is, it opens some pages, and follows a search to a call and to a definition.
+Status 1, and a line for each fault; 64: no FOLDER."""
+import json
 import re
 import shutil
 import subprocess
 import sys
 import tempfile
+from html import unescape
 from html.parser import HTMLParser
 from pathlib import Path
 
 sys.dont_write_bytecode = True
-sys.path[:0] = [str(Path(__file__).resolve().parents[1] / it) for it in ("docs", "reader")]
-from definitions import read_definitions  # noqa: E402
+HERE = Path(__file__).resolve().parent
+sys.path[:0] = [str(HERE.parents[0] / it) for it in ("docs", "reader")]
+import calls  # noqa: E402
+from definitions import Definitions  # noqa: E402
 from made import DEFINED, LIBRARIES  # noqa: E402
-from sources import CRATES, impl_name, read_modules  # noqa: E402
+from meanings import page_of, scope  # noqa: E402
+from owners import owners  # noqa: E402
 
 VOID = {"meta", "link", "input", "img", "br", "hr", "col"}
+# Runs the search of the site over the rows of the standard input, and prints the addresses of the first three answers of each.
+SEARCH = """const { found } = require(process.argv[1] + "/search.js"), names = require(process.argv[1] + "/names.js");
+const texts = JSON.parse(require("fs").readFileSync(0));
+console.log(JSON.stringify(texts.map((text) => found(names, text).slice(0, 3).map((name) => name[2]))));"""
 
 
 class Page(HTMLParser):
@@ -48,40 +59,76 @@ class Page(HTMLParser):
 
 def faults_of(folder):
     files = {file.name for file in folder.iterdir()}
-    pages = {f.name: Page(f.name, f.read_text(encoding="utf-8")) for f in sorted(folder.glob("*.html"))}
+    texts = {f.name: f.read_text(encoding="utf-8") for f in sorted(folder.glob("*.html"))}
+    pages = {name: Page(name, text) for name, text in texts.items()}
+    anchors = {name: set(page.anchors) for name, page in pages.items()}
     faults = [fault for page in pages.values() for fault in page.faults]
     for page in pages.values():
-        for link in page.links:
-            if re.match(r"(https?|data):", link):
-                continue
-            target, _, anchor = link.partition("#")
-            target = target or page.name
-            if target not in files:
-                faults.append(f"{page.name}: no page {target}")
-            elif anchor and target in pages and anchor not in pages[target].anchors:
-                faults.append(f"{page.name}: no anchor {link}")
-        doubles = {a for a in page.anchors if page.anchors.count(a) > 1}
-        faults += [f"{page.name}: two anchors {anchor}" for anchor in sorted(doubles)]
-    return faults + missing(folder, pages)
+        faults += [f"{page.name}: {fault}" for link in {*page.links} if (fault := fault_of_link(link, page.name, files, anchors))]
+        faults += [f"{page.name}: two anchors {it}" for it in anchors[page.name] if page.anchors.count(it) > 1]
+        faults += [] if 'href="index.html"' in texts[page.name] else [f"{page.name}: no way home"]
+    return faults + missing(anchors) + unlinked(texts) + private_modules(texts) + searched(folder)
 
 
-def missing(folder, pages):
-    """The public calls and the definitions that have no place."""
-    text = (folder / "names.js").read_text(encoding="utf-8")
-    faults = []
-    for crate in LIBRARIES:
-        for items in read_modules(crate).values():
-            for item in items:
-                calls = [i for i in item.inner if i.kind == "fn" and i.public] if item.kind == "impl" else []
-                names = [f"{impl_name(item)[1]}::{call.name}" for call in calls]
-                names += [item.name] if item.public and item.kind in ("fn", "struct", "enum", "trait") else []
-                faults += [f"{crate}: no place for {name}" for name in names if f'"{name}"' not in text]
-    for crate in DEFINED:
-        for file in sorted((CRATES / crate / "specs").rglob("*.antt")):
-            for word, _ in read_definitions(file):
-                if not any(word in page.anchors for name, page in pages.items() if name.startswith(f"words-{crate}-")):
-                    faults.append(f"{crate}: no place for the definition {word}")
+def fault_of_link(link, name, files, anchors):
+    if re.match(r"(https?|data):", link):
+        return ""
+    target, _, anchor = link.partition("#")
+    target = target or name
+    if target not in files:
+        return f"no page {target}"
+    return f"no anchor {link}" if anchor and target in anchors and anchor not in anchors[target] else ""
+
+
+def missing(anchors):
+    """The public paths, the calls and the definitions that have no place."""
+    faults = [f"no page for {it.path}" for it in owners().values() if it.page not in anchors]
+    placed = {call.key for owner in owners().values() for call in owner.calls}
+    placed |= {call.key for owner in owners().values() for impl in owner.impls for call in impl.calls}
+    faults += [f"{call.crate}: no place for {call.key}" for call in calls.table() if call.key not in placed]
+    for owner in owners().values():
+        here = anchors.get(owner.page, set())
+        faults += [f"{owner.page}: no place for {call.name}" for call in owner.calls if call.name not in here]
+    for module, file in Definitions().files.items():
+        here = anchors.get(page_of(module), set())
+        if module.split(".")[1] in DEFINED:
+            faults += [f"{module}: no place for the definition {it.name}" for it in file.definitions if it.name not in here]
     return faults
+
+
+def unlinked(texts):
+    """The clauses of the libraries in which a word that a `use` line brings is not linked."""
+    faults = []
+    shown = {page: set(re.findall(r'<a href="[^"]*" title="[^"]*">([^<]*)</a>', text)) for page, text in texts.items()}
+    for owner in owners().values():
+        linked = {unescape(word) for word in shown.get(owner.page, ())}
+        for call in owner.calls if owner.crate in LIBRARIES else []:
+            words = {word for _, text in call.item.clauses for word in re.findall(r"[^\s(){}\[\];,]+", text)}
+            lacking = words & {*scope(tuple(call.item.words or ()))} - linked
+            faults += [f"{owner.page}: {call.name}: {word} has no link" for word in sorted(lacking)]
+    return faults
+
+
+def private_modules(texts):
+    """The titles that name a module that callers cannot name."""
+    known = {owner.path for owner in owners().values()}
+    titles = {name: re.findall(r"<h1><code>([\w:]+)</code></h1>", text) for name, text in texts.items()}
+    return [f"{name}: {title} cannot be imported" for name, found in titles.items() for title in found
+            if title not in known and not name.startswith("words.")]
+
+
+def searched(folder):
+    """The searches that do not find their page among the first three answers; none if Node is not installed."""
+    if not shutil.which("node"):
+        print("test_site: node is not installed: the search is not run", file=sys.stderr)
+        return []
+    lines = [line.split() for line in (HERE / "searches.txt").read_text(encoding="utf-8").splitlines() if line and line[0] != "#"]
+    texts = [text for text, _ in lines]
+    ran = subprocess.run(["node", "-e", SEARCH, str(folder.resolve())], input=json.dumps(texts), capture_output=True, text=True, timeout=60)
+    if ran.returncode:
+        return [f"search.js: {ran.stderr.strip()}"]
+    return [f"the search for {text} finds {', '.join(found)} and not {page}"
+            for (text, page), found in zip(lines, json.loads(ran.stdout)) if page not in found]
 
 
 def seen(folder, address):
@@ -99,14 +146,14 @@ def browsed(folder):
         print("test_site: chromium is not installed: no page is opened in a browser", file=sys.stderr)
         return []
     faults = []
-    for address in ("docs-START.html", "docs-MODEL.html", "ascii-bytes.html", "index.html"):
+    for address in ("index.html", "docs-START.html", "ascii.bytes.module.html"):
         faults += [f"{address}: {line}" for line in seen(folder, address)[1]]
-    answers = re.search(r'<ul id="found">(.*?)</ul>', seen(folder, "index.html?q=slice_ascii")[0], re.DOTALL)
+    answers = re.search(r'<div id="found">(.*?)</ol>', seen(folder, "index.html?q=slice_ascii")[0], re.DOTALL)
     first = re.search(r'href="([^"#]+)#([^"]+)"', answers[1]) if answers else None
     if not first or "slice_ascii" not in first[2]:
         return [*faults, "index.html: the search for slice_ascii has no answer"]
-    call = re.search(rf'<h3 id="{re.escape(first[2])}">.*?</details>', seen(folder, first[1])[0], re.DOTALL)
-    word = re.search(r'href="(words-[^"#]+)#(\w+)"', call[0]) if call else None
+    call = re.search(rf'<section class="call" id="{re.escape(first[2])}">.*?</section>', seen(folder, first[1])[0], re.DOTALL)
+    word = re.search(r'href="(words\.[^"#]+)#(\w+)"', call[0]) if call else None
     if not word or f'id="{word[2]}"' not in seen(folder, word[1])[0]:
         faults.append(f"{first[1]}: the clauses of {first[2]} lead to no definition")
     return faults

@@ -1,6 +1,6 @@
-"""Writes the documentation as static HTML into FOLDER: the pages of the repository, a page for each module of each library
-with every public call (its docs, its clauses with each word linked to its definition, what uses it, its source), a page for
-each file of definitions, and an index with a search over all names.
+"""Writes the documentation as static HTML into FOLDER: a page for each type, trait and module of functions, by the path that
+callers import, with every call (its docs, its contract with the meaning of each word, its tests and mutations, its source), a
+page for each file of definitions, the pages of the repository, the sources, and a search on every page.
 
 The pages can be read without JavaScript, on a narrow screen, on dark and on light. Nothing is downloaded. Status 69: Debian's
 package python3-markdown is missing; 73: FOLDER cannot be written; 130: interrupted, and FOLDER is as it was."""
@@ -14,250 +14,177 @@ import tempfile
 from html import escape
 from pathlib import Path
 
-from definitions import head_comment, read_definitions
-from made import DEFINED, LIBRARIES, PROOFS, TOP
-from sources import CRATES, impl_name, read, read_modules, without_braces
+import markup
+from calls import first_sentence
+from made import DEFINED, LIBRARIES, TOP, module_file, modules_of, parts_of
+from markup import FOLDER, frame, html_of, inline, link, linked_docs
+from meanings import page_of, source_page
+from owners import MAIN, by_name, owners
+from reference import Reference
+from sources import CRATES, read
 
-sys.path.append("/usr/lib/python3/dist-packages")
-try:
-    import markdown
-except ImportError:
-    markdown = None
+FIRST = ["README.md", "docs/START.md", "docs/LINES.md", "docs/PROTOCOLS.md", "docs/MODEL.md", "docs/PROVED.md"]
+OTHERS = ["CONTRIBUTING.md", "CHANGELOG.md", "bench/README.md", "tools/mutants/README.md", "tools/mutants/edits/README.md"]
+EXAMPLES = ["example_host", "example_keys", "example_lines", "example_register", "example_resp", "example_smtp"]
+# What a reader of the front page may want, and where it is.
+WAYS = [
+    ("docs-START.html", "Start", "from an empty folder to a program that runs and is proved"),
+    ("docs-LINES.html", "Lines", "reading the lines of an input in bounded memory"),
+    ("docs-PROTOCOLS.html", "Protocols", "a server over lines, with its theorem"),
+    ("docs-MODEL.html", "Contracts", "how a contract is read, and the definitions that contracts use"),
+    ("cookbook.module.html", "Recipes", "headers, settings, tables, host names, wrapped text"),
+    ("examples.html", "Examples", "whole programs, with their sources"),
+    ("ascii.classes.module.html", "A class of characters of your own", "for searches, trims and words"),
+    ("errors.html", "Errors", "each error, and the calls that return it"),
+    ("docs-PROVED.html", "Proved", "what is proved, what is tested, and what is neither"),
+    ("docs-DIFFERENCES.html", "Differences", "from the Rust crate `ascii`"),
+]
 
-PAGES = ["README.md", "docs/START.md", "docs/LINES.md", "docs/PROTOCOLS.md", "docs/MODEL.md", "docs/PROVED.md", "docs/BESIDE.md",
-         "docs/DIFFERENCES.md", "docs/ARCHITECTURE.md", "docs/DECISIONS.md", "docs/PERFORMANCE.md", "CONTRIBUTING.md", "CHANGELOG.md",
-         "bench/README.md", "tools/mutants/README.md", *(f"crates/{name}/CALLING.md" for name in LIBRARIES)]
 
-STYLE = """\
-:root { color-scheme: light dark; --ink: #1f2933; --soft: #5b6470; --paper: #fff; --panel: #f3f6f9; --link: #2563a8 }
-@media (prefers-color-scheme: dark) {
-  :root { --ink: #e4e7eb; --soft: #9aa5b1; --paper: #16191d; --panel: #21262d; --link: #7db5ec }
-}
-* { box-sizing: border-box }
-body { margin: 0 auto; max-width: 60rem; padding: 1rem; font: 1rem/1.55 system-ui, sans-serif;
-       color: var(--ink); background: var(--paper); overflow-wrap: break-word }
-a { color: var(--link) }
-pre, .table { overflow-x: auto }
-pre { background: var(--panel); padding: .7rem; border-radius: 4px }
-code, pre { font: .9rem/1.45 ui-monospace, monospace }
-table { border-collapse: collapse } th, td { text-align: left; vertical-align: top; padding: .25rem .6rem;
-       border-bottom: 1px solid var(--panel) }
-img { max-width: 100%; height: auto }
-nav { display: flex; flex-wrap: wrap; gap: .3rem 1rem; padding-bottom: .6rem; border-bottom: 1px solid var(--panel) }
-.clause { padding-left: 1.5rem; text-indent: -1.5rem } .soft, summary { color: var(--soft) }
-h3 { margin-top: 2rem } h3 code { font-size: 1.1rem } input { font: inherit; width: 100%; max-width: 30rem; padding: .3rem }
-"""
-
-SEARCH = """\
-const field = document.getElementById("search"), list = document.getElementById("found");
-const show = () => {
-  const text = field.value.toLowerCase();
-  list.replaceChildren(...(text ? NAMES.filter(([name]) => name.toLowerCase().includes(text)).slice(0, 40) : []).map(
-    ([name, where, url]) => {
-      const item = document.createElement("li"), link = document.createElement("a");
-      link.href = url;
-      link.textContent = name;
-      item.append(link, " " + where);
-      return item;
-    }));
-};
-field.hidden = false;
-field.value = new URLSearchParams(location.search).get("q") || "";
-field.addEventListener("input", show);
-show();
-"""
+def pages():
+    """The pages of the repository that the site has, those for a new reader first."""
+    found = [str(it.relative_to(TOP)) for it in sorted((TOP / "docs").glob("*.md"))]
+    callings = [f"crates/{name}/CALLING.md" for name in LIBRARIES]
+    return [it for it in dict.fromkeys([*FIRST, *found, *OTHERS, *callings]) if (TOP / it).is_file()]
 
 
 def html_name(page):
     """The file name that a page of the repository has in the site."""
-    return re.sub(r"\.md$", "", page).replace("/", "-") + ".html" if page != "README.md" else "README.html"
-
-
-def module_name(crate, path):
-    return f"{crate}-{'-'.join(path) if path else 'lib'}.html"
-
-
-def definitions_name(crate, file):
-    name = file.relative_to(CRATES / crate / "specs").with_suffix("")
-    return f"words-{crate}-{'-'.join(name.parts)}.html"
-
-
-def whole(title, body):
-    links = [("index.html", "Index"), ("README.html", "README"), ("docs-START.html", "Start"), ("docs-MODEL.html", "Model"),
-             ("docs-PROVED.html", "Proved"), *((module_name(name, ()), name) for name in LIBRARIES)]
-    nav = "".join(f'<a href="{url}">{name}</a>' for url, name in links)
-    return (f'<!DOCTYPE html>\n<html lang="en">\n<head>\n<meta charset="utf-8"/>\n<title>{escape(title)}</title>\n'
-            f'<meta name="viewport" content="width=device-width, initial-scale=1"/>\n'
-            f'<link rel="icon" href="data:,"/>\n<link rel="stylesheet" href="style.css"/>\n</head>\n<body>\n'
-            f'<nav>{nav}</nav>\n<main>\n{body}\n</main>\n</body>\n</html>\n')
+    return re.sub(r"\.md$", "", page).replace("/", "-") + ".html"
 
 
 class Site:
+    """The folder of the site, and the names that its search finds."""
+
     def __init__(self, folder):
-        self.folder, self.names = folder, []
-        self.modules = {crate: read_modules(crate) for crate in LIBRARIES}
-        self.defined = {}  # (crate, file, word) -> url
-        for crate in DEFINED:
-            for file in sorted((CRATES / crate / "specs").rglob("*.antt")):
-                stem = ".".join(file.relative_to(CRATES / crate / "specs").with_suffix("").parts)
-                for word, _ in read_definitions(file):
-                    self.defined[crate, stem, word] = f"{definitions_name(crate, file)}#{word}"
-        self.users = {str(file.relative_to(TOP)): read(file) for name in ("cookbook", "tests_callers", "tests_*")
-                      for file in sorted(CRATES.glob(f"{name}/src/**/*.rt")) if not file.name.startswith("of_")}
+        self.folder, self.pages = folder, pages()
+        self.reference = Reference(self.write)
+        self.names = self.reference.names
 
     def write(self, name, text):
         (self.folder / name).write_text(text, encoding="utf-8")
 
-    # pages
+    def all(self):
+        self.reference.all()
+        for page in self.pages:
+            self.page(page)
+        for crate in sorted(it.parent.name for it in CRATES.glob("*/src") if it.parent.name != "exports"):
+            for path in modules_of(crate):
+                self.source(crate, path)
+        self.examples()
+        self.front()
+        self.all_names()
+        self.write("names.js", f"var NAMES = {json.dumps(self.names, ensure_ascii=False, separators=(',', ':'))};\n"
+                               'if (typeof module !== "undefined") module.exports = NAMES;\n')
+        for name in ("search.js", "style.css"):
+            self.write(name, read(FOLDER / name))
+
+    # The pages of the repository
 
     def page(self, name):
-        html = with_wide_tables(markdown.markdown(read(TOP / name), extensions=["tables", "fenced_code", "toc"],
-                                                  extension_configs={"toc": {"slugify": slug}}))
-        html = re.sub(r'(href|src)="([^"#:]*)(#[^"]*)?"', lambda m: self.linked(name, *m.groups()), html)
-        title = re.search(r"^# (.*)$", read(TOP / name), re.MULTILINE)[1]
-        self.write(html_name(name), whole(title, html))
-        self.names.append((title, "page", html_name(name)))
+        """A page of the repository, with its contents beside it."""
+        text, headings = read(TOP / name), []
+        html = self.with_links(name, html_of(text, headings))
+        title = re.search(r"^# (.*)$", text, re.M)[1].replace("`", "")
+        side = "".join(f'<a href="#{anchor}">{heading}</a>' for heading, anchor in headings) if len(headings) > 2 else ""
+        self.write(html_name(name), frame(title, linked_docs(html, None), side))
+        self.names.append([title, "page", html_name(name), "", "", 0])
+        for heading, anchor in headings:
+            self.names.append([re.sub(r"<.*?>", "", heading), "page", f"{html_name(name)}#{anchor}", title, "", 0])
+
+    def with_links(self, name, html):
+        return re.sub(r'(href|src)="([^"#:]*)(#[^"]*)?"', lambda m: self.linked(name, *m.groups()), html)
 
     def linked(self, page, kind, target, anchor):
-        """A link of a page, to the site where it has the target; otherwise to the path in the repository, as text."""
+        """A link of a page, to the site where it has the target; otherwise the path in the repository, as text."""
         if not target:
             return f'{kind}="{anchor or "#"}"'
         path = (TOP / page).parent.joinpath(target).resolve()
         name = str(path.relative_to(TOP)) if TOP in path.parents else ""
-        if name in PAGES:
+        if name in self.pages:
             return f'{kind}="{html_name(name)}{anchor or ""}"'
         if path.suffix == ".svg" and path.is_file():
             self.write(path.name, read(path))
             return f'{kind}="{path.name}"'
-        for crate in DEFINED:
-            if path.suffix == ".antt" and CRATES / crate / "specs" in path.parents:
-                return f'{kind}="{definitions_name(crate, path)}"'
-            if CRATES / crate / "src" in path.parents and crate in LIBRARIES:
-                return f'{kind}="{module_name(crate, ())}"'
-        return f'title="{escape(name)} in the repository"'
+        url = url_of_file(path)
+        return f'{kind}="{url}"' if url else f'title="{escape(name)} in the repository"'
 
-    # modules
+    def source(self, crate, path):
+        """A source, with an anchor at each line and each item."""
+        file = module_file(crate, path)
+        text, starts = read(file), {}
+        for item in modules_of(crate)[path]:
+            for it in [item, *item.inner]:
+                name = f"constant.{it.name}" if it.kind == "const" else f"at.{it.at}"
+                starts.setdefault(text.count("\n", 0, it.at), []).append(name)
+        lines = []
+        for at, line in enumerate(text.splitlines()):
+            marks = "".join(f'<b id="{name}"></b>' for name in starts.get(at, []))
+            lines.append(f'<span id="{at + 1}" data-n="{at + 1}">{marks}{escape(line)}</span>')
+        shown = str(file.relative_to(TOP))
+        body = f'<h1><code>{shown}</code></h1>\n<pre class="source"><code>{"".join(lines)}</code></pre>'
+        self.write(source_page(crate, path), frame(shown, body))
 
-    def module(self, crate, path):
-        items = self.modules[crate][path]
-        name = "::".join((crate, *path))
-        file = CRATES / crate / "src" / ("/".join(path or ("lib",)) + ".rt")
-        heads = [re.sub(r"^//! ?", "", line) for line in read(file).splitlines() if line.startswith("//!")]
-        parts = [f"<h1>{name}</h1>", docs_html(heads)]
-        inner = [other for other in self.modules[crate] if other[:-1] == path and other]
-        if inner:
-            links = ", ".join(f'<a href="{module_name(crate, other)}">{other[-1]}</a>' for other in inner)
-            parts.append(f"<p>Modules: {links}</p>")
-        for item in items:
-            if item.kind == "impl":
-                of_trait, of_type = impl_name(item)
-                owner = f"{of_trait} for {of_type}" if of_trait else of_type
-                for call in [i for i in item.inner if i.kind == "fn" and (i.public or of_trait)]:
-                    parts += self.item(crate, path, f"{owner}::{call.name}", call)
-                parts += self.ghosts(item) if of_trait and of_trait != "Model" else []
-            elif item.public and item.kind in ("fn", "struct", "enum", "trait"):
-                parts += self.item(crate, path, item.name, item)
-        self.write(module_name(crate, path), whole(name, "\n".join(parts)))
-        self.names.append((name, "module", module_name(crate, path)))
+    def examples(self):
+        """The programs that come with the library: what each says of itself, and its sources."""
+        parts, side = ["<h1>Examples</h1>"], []
+        for crate in EXAMPLES:
+            text = re.sub(r"^# .*$", "", read(CRATES / crate / "README.md"), flags=re.M)
+            links = ", ".join(link(source_page(crate, path), "/".join(parts_of(crate, path)) + ".rt") for path in modules_of(crate))
+            parts.append(f'<h2 id="{crate}"><code>{crate}</code></h2>{self.with_links(f"crates/{crate}/README.md", html_of(text))}<p>{links}</p>')
+            side.append(f'<a href="#{crate}"><code>{crate}</code></a>')
+            self.names.append([crate, "page", f"examples.html#{crate}", first_sentence(text.strip().splitlines()), "", 0])
+        self.write("examples.html", frame("Examples", "\n".join(parts), "".join(side)))
 
-    def item(self, crate, path, key, item):
-        anchor = re.sub(r"[^\w:]", "-", key)
-        url = f"{module_name(crate, path)}#{anchor}"
-        self.names.append((key, f"{'::'.join((crate, *path))}, {item.kind}", url))
-        clauses = [f'<div class="clause"><code>{escape(label)} {{ {self.words(text, item)} }}</code></div>'
-                   for label, text in item.clauses]
-        users = [name for name, text in self.users.items() if re.search(rf"[.:]{item.name}(::<[^>]*>)?\(", text)]
-        used = f'<p class="soft">Used in {", ".join(users[:6])}{" .." if len(users) > 6 else ""}</p>' if users else ""
-        inner = [self.item(crate, path, f"{key}::{i.name}", i) for i in item.inner if item.kind == "trait" and i.kind == "fn"]
-        clauses += self.ghosts(item) if item.kind == "trait" else []
-        clauses += [line for part in inner for line in part]
-        return [f'<h3 id="{anchor}"><code>{escape(key)}</code></h3>', docs_html(item.docs),
-                f"<p><code>{escape(item.head)}</code></p>", *clauses, used,
-                f"<details><summary>source</summary><pre>{escape(item.source or item.head)}</pre></details>"]
+    # The front page and the list of all names
 
-    def ghosts(self, item):
-        """What an impl of a trait says of itself, for the clauses of the trait."""
-        return [f'<div class="clause"><code>{self.words(without_braces(ghost.head), ghost)}</code></div>'
-                for ghost in item.inner if ghost.kind == "ghost" and ghost.name not in PROOFS]
+    def front(self):
+        rows = [f"<tr><td>{link(by_name()[name].page, by_name()[name].path)}</td>"
+                f"<td>{inline(first_sentence(by_name()[name].docs))}</td></tr>" for name in MAIN]
+        libraries = [owners()[f"{name}::"] for name in LIBRARIES if f"{name}::" in owners()]
+        crates = [f"<tr><td>{link(it.page, it.path)}</td><td>{inline(first_sentence(it.docs))}</td></tr>" for it in libraries]
+        ways = [f'<tr><td><a href="{url}">{text}</a></td><td>{inline(what)}</td></tr>' for url, text, what in WAYS]
+        tables = [f'<h2>{title}</h2>\n<div class="table"><table>{"".join(lines)}</table></div>'
+                  for title, lines in (("Types", rows), ("Where to go", ways), ("Crates", crates))]
+        self.write("index.html", frame(markup.NAME, "\n".join([html_of(read(FOLDER / "front.md")), *tables])))
 
-    def words(self, text, item):
-        """A clause with each word linked to its definition."""
-        urls = {}
-        for line in item.words or []:
-            match = re.match(r"ghost use Rattle\.(\w+)\.specs\.([\w.]+)\.\{(.*)\}", line)
-            for word in match[3].split(",") if match else []:
-                word = word.strip()
-                for crate in (match[1], "ascii_base", "ascii", "ascii_devices"):
-                    if (crate, match[2], word) in self.defined:
-                        urls.setdefault(word, self.defined[crate, match[2], word])
-        return re.sub(r"[^\W\d][\w'-]*", lambda m: f'<a href="{urls[m[0]]}">{m[0]}</a>' if m[0] in urls else m[0],
-                      escape(text))
-
-    # definitions and the index
-
-    def definitions(self, crate, file):
-        found, text = read_definitions(file), read(file)
-        if not found and not any(word for c, s, word in self.defined if c == crate):
-            return
-        name = "/".join(file.relative_to(CRATES / crate / "specs").with_suffix("").parts)
-        parts = [f"<h1>{crate}: {name}</h1>", f"<p>{escape(head_comment(file))}</p>"]
-        for word, comment in found:
-            parts += [f'<h3 id="{escape(word)}"><code>{escape(word)}</code></h3>', f"<p>{escape(comment)}</p>"]
-            self.names.append((word, f"definition of {crate}", f"{definitions_name(crate, file)}#{word}"))
-        parts.append(f"<h2>The file</h2><pre>{escape(text)}</pre>")
-        self.write(definitions_name(crate, file), whole(f"{crate}: {name}", "\n".join(parts)))
-
-    def index(self):
-        rows = [f'<li><a href="{escape(url)}">{escape(name)}</a> <span class="soft">{escape(where)}</span></li>'
-                for name, where, url in sorted(self.names, key=lambda row: row[0].lower())]
-        body = ('<h1>Index</h1>\n<input id="search" type="search" placeholder="a name" aria-label="search" hidden=""/>\n'
-                '<ul id="found"></ul>\n<script src="names.js"></script>\n<script src="search.js"></script>\n'
-                f"<ul>{''.join(rows)}</ul>")
-        self.write("index.html", whole("Index", body))
-        self.write("names.js", f"const NAMES = {json.dumps(self.names, ensure_ascii=False)};\n")
-        self.write("search.js", SEARCH)
-        self.write("style.css", STYLE)
+    def all_names(self):
+        """Each name of the search, for a reader without scripts."""
+        parts, side, letter = ["<h1>All names</h1>"], [], ""
+        for shown, kind, url, *_ in sorted(self.names, key=lambda it: (it[0].rpartition("::")[2].lower(), it[0])):
+            first = shown.rpartition("::")[2][0].upper()
+            if first != letter and first.isalpha():
+                letter = first
+                parts.append(f'<h2 id="{letter}">{letter}</h2>')
+                side.append(f'<a href="#{letter}">{letter}</a>')
+            parts.append(f'<div>{link(url, shown)} <span class="soft">{kind}</span></div>')
+        self.write("all.html", frame("All names", "\n".join(parts), "".join(side)))
 
 
-def slug(text, separator):
-    """The anchor of a heading, as the pages of the repository write it."""
-    return re.sub(r"[^\w\- ]", "", text.lower()).replace(" ", separator)
-
-
-def with_wide_tables(html):
-    """The HTML with each table in a box that scrolls on a narrow screen."""
-    return html.replace("<table>", '<div class="table"><table>').replace("</table>", "</table></div>")
-
-
-def docs_html(docs):
-    return with_wide_tables(markdown.markdown("\n".join(docs), extensions=["tables", "fenced_code"]))
-
-
-def write_all(folder):
-    """Writes the whole site into an empty folder."""
-    site = Site(folder)
-    for crate in DEFINED:
-        for file in sorted((CRATES / crate / "specs").rglob("*.antt")):
-            if file.name != "Lib.antt":
-                site.definitions(crate, file)
-    for crate in LIBRARIES:
-        for path in site.modules[crate]:
-            site.module(crate, path)
-    for page in PAGES:
-        site.page(page)
-    site.index()
+def url_of_file(path):
+    """The page that shows a file or a folder of the repository; nothing if none does."""
+    if CRATES not in path.parents:
+        return ""
+    crate, *rest = path.relative_to(CRATES).with_suffix("").parts
+    if rest[:1] == ["specs"] and path.suffix == ".antt" and crate in DEFINED:
+        return page_of(".".join(["Rattle", crate, *rest]))
+    if rest[:1] == ["src"] and path.suffix == ".rt" and crate != "exports":
+        return source_page(crate, () if rest[1:] in (["lib"], ["main"]) else tuple(rest[1:]))
+    if crate in EXAMPLES:
+        return f"examples.html#{crate}"
+    return owners()[f"{crate}::"].page if f"{crate}::" in owners() and not rest else ""
 
 
 def run(folder):
     """Makes the site beside FOLDER, and then moves it there, so that FOLDER never has a part of it."""
-    if not markdown:
+    if not markup.markdown:
         print("bin/docs: the Markdown library is missing: install Debian's package python3-markdown", file=sys.stderr)
         return 69
     scratch = None
     try:
         folder.parent.mkdir(parents=True, exist_ok=True)
         scratch = Path(tempfile.mkdtemp(prefix=".site-", dir=folder.parent))
-        write_all(scratch)
+        Site(scratch).all()
         signal.signal(signal.SIGINT, signal.SIG_IGN)
         folder.mkdir(exist_ok=True)
         for file in scratch.iterdir():

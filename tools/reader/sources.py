@@ -28,7 +28,7 @@ def read_modules(crate, crates=CRATES):
         file = crates / crate / "src" / ("/".join(path or (root,)) + ".rt")
         modules[path] = read_items(read(file))
         give_words(modules[path], [])
-        waiting += [path + (item.name,) for item in reversed(modules[path]) if item.kind == "mod"]
+        waiting += [path + (item.name,) for item in reversed(modules[path]) if item.kind == "mod" and item.opens < 0]
     give_aliases([item for items in modules.values() for item in items])
     return modules
 

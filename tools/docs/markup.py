@@ -1,0 +1,144 @@
+"""The HTML that all pages of the site share: the frame, documentation, code, and clauses with their words linked."""
+import re
+import sys
+from functools import cache
+from html import escape
+from pathlib import Path
+
+import examples
+from made import LIBRARIES, modules_of
+from meanings import words_in
+from owners import by_name
+
+sys.path.append("/usr/lib/python3/dist-packages")
+try:
+    import markdown
+except ImportError:
+    markdown = None
+
+FOLDER = Path(__file__).resolve().parent / "site"
+NAME = "ascii for Rattle"
+EXTENSIONS = ["tables", "fenced_code", "toc"]
+
+
+def slug(text, separator):
+    """The anchor of a heading, as the pages of the repository write it."""
+    return re.sub(r"[^\w\- ]", "", text.lower()).replace(" ", separator)
+
+
+def html_of(text, headings=None):
+    """The HTML of a text in Markdown; `headings` gains the headings of the second level, with their anchors."""
+    made = markdown.Markdown(extensions=EXTENSIONS, extension_configs={"toc": {"slugify": slug}})
+    html = made.convert(text)
+    if headings is not None:
+        tops = made.toc_tokens[0]["children"] if len(made.toc_tokens) == 1 else made.toc_tokens
+        headings += [(it["name"], it["id"]) for it in tops]
+    html = html.replace("<table>", '<div class="table"><table>').replace("</table>", "</table></div>")
+    return re.sub(r"(<pre><code[^>]*>)(.*?)(</code></pre>)", lambda m: m[1] + with_comments(m[2]) + m[3], html, flags=re.S)
+
+
+def with_comments(code):
+    """Code with its comments in another color."""
+    return re.sub(r"(?m)(^|(?<= ))(//(?= )|//$|//[/!]).*$", lambda m: f'<span class="soft">{m[0]}</span>', code)
+
+
+def inline(text):
+    """A sentence in Markdown, without a paragraph around it."""
+    return re.sub(r"^<p>(.*)</p>$", r"\1", markdown.markdown(text), flags=re.S)
+
+
+def link(url, text, is_code=True):
+    shown = f"<code>{escape(text)}</code>" if is_code else escape(text)
+    return f'<a href="{escape(url)}">{shown}</a>'
+
+
+def linked_code(code):
+    """Code in which each public type and trait is linked to its page."""
+    known = by_name()
+    return re.sub(r"\b[A-Z]\w+", lambda m: f'<a href="{known[m[0]].page}">{m[0]}</a>' if m[0] in known else m[0], escape(code))
+
+
+def linked_docs(html, owner):
+    """Documentation in which the code that names a call of a page, or a type, is linked."""
+    anchors = {call.name: f"{owner.page}#{call.name}" for call in owner.calls} if owner else {}
+
+    def url(text):
+        kind, _, name = text.rpartition("::")
+        page = by_name().get(kind or name)
+        if kind and page and any(call.name == name for call in page.calls):
+            return f"{page.page}#{name}"
+        return anchors.get(text) or (page.page if page and not kind else "")
+
+    return re.sub(r"(?<!<pre>)<code>([\w:]+)</code>", lambda m: f'<a href="{url(m[1])}">{m[0]}</a>' if url(m[1]) else m[0], html)
+
+
+@cache
+def importable():
+    """The paths of the names that examples use."""
+    found = dict(examples.OTHERS)
+    for crate in LIBRARIES:
+        found |= examples.names_of(crate, modules_of(crate), found)
+    return found
+
+
+def copyable(paragraphs):
+    """The paragraphs of a documentation, the first example of which has the lines that bring its names."""
+    code = [it for it in paragraphs if it.startswith("    ")]
+    literal = lambda text: re.sub(r'\bview\((?=")', "AsciiStr::literal(", text)  # noqa: E731
+    uses = examples.imports(importable(), [literal(line) for it in code for line in it.splitlines()])
+    runtime = ["let alloc = rt.alloc();"] if re.search(r"\balloc\b", "".join(code)) and "let alloc" not in "".join(code) else []
+    for paragraph in paragraphs:
+        if paragraph in code[:1]:
+            paragraph = "\n".join([*(f"    {line}" for line in [*uses, *runtime]), paragraph])
+        yield literal(paragraph) if paragraph.startswith("    ") else paragraph
+
+
+def docs_html(docs, owner=None):
+    """Documentation, with each condition in a box."""
+    parts = [[]]
+    for paragraph in copyable("\n".join(docs).split("\n\n")):
+        if paragraph.startswith("Condition"):
+            parts += [[paragraph], []]
+        else:
+            parts[-1].append(paragraph)
+    boxes = [html_of("\n\n".join(part)) for part in parts]
+    boxes = [f'<div class="condition">{box}</div>' if at % 2 else box for at, box in enumerate(boxes) if box]
+    return linked_docs("\n".join(boxes), owner)
+
+
+def clause_html(label, text, lines):
+    """A clause with each word linked to its definition."""
+    html, at = "", 0
+    for begin, word, it in words_in(text, lines):
+        if begin >= at:
+            html += escape(text[at:begin]) + f'<a href="{escape(it.url)}" title="{escape(it.text)}">{escape(word)}</a>'
+            at = begin + len(word)
+    head = f'<span class="label">{escape(label)}</span> ' if label else ""
+    return f'<div class="clause"><code>{head}{html}{escape(text[at:])}</code></div>'
+
+
+def meanings_html(texts, lines):
+    """The words of some clauses, each with its meaning."""
+    found = {}
+    for text in texts:
+        for _, word, it in words_in(text, lines):
+            if re.match(r"\w", word):
+                found.setdefault(word, it)
+    rows = [f"<dt>{link(it.url, word)}</dt><dd>{inline(it.text) or 'its text is its meaning'}</dd>" for word, it in found.items()]
+    return f"<dl>{''.join(rows)}</dl>" if rows else ""
+
+
+def frame(title, body, side="", kind=""):
+    """A whole page."""
+    links = [("docs-START.html", "Start"), ("docs-LINES.html", "Lines"), ("docs-PROTOCOLS.html", "Protocols"),
+             ("docs-MODEL.html", "Contracts"), ("cookbook.module.html", "Recipes"), ("docs-PROVED.html", "Proved"),
+             ("errors.html", "Errors"), ("all.html", "All names")]
+    nav = "".join(f'<a href="{url}">{text}</a>' for url, text in links)
+    aside = f'<aside aria-label="On this page">{side}</aside>' if side else ""
+    whole = NAME if title == NAME else f"{title} · {NAME}"
+    return (f'<!DOCTYPE html>\n<html lang="en">\n<head>\n<meta charset="utf-8"/>\n<title>{escape(whole)}</title>\n'
+            f'<meta name="viewport" content="width=device-width, initial-scale=1"/>\n'
+            f'<link rel="icon" href="data:,"/>\n<link rel="stylesheet" href="style.css"/>\n</head>\n<body class="{kind}">\n'
+            f'<header><a class="home" href="index.html">{NAME}</a>\n<div id="search"></div>\n<nav>{nav}</nav></header>\n'
+            f'<div id="found"></div>\n<div class="columns{" with-side" if side else ""}">{aside}\n<main id="top">\n{body}\n</main></div>\n'
+            f'<script src="search.js"></script>\n</body>\n</html>\n')
