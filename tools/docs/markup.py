@@ -1,12 +1,14 @@
 """The HTML that all pages of the site share: the frame, documentation, code, and clauses with their words linked."""
 import re
 import sys
+from collections import Counter
 from functools import cache
 from html import escape
 from pathlib import Path
 
+import calls
 import examples
-from made import LIBRARIES, modules_of
+from made import LIBRARIES, TOP, modules_of
 from meanings import words_in
 from owners import by_name
 
@@ -18,6 +20,8 @@ except ImportError:
 
 FOLDER = Path(__file__).resolve().parent / "site"
 NAME = "ascii for Rattle"
+# The page that says how a contract is read.
+CONTRACTS = "docs-CONTRACTS.html" if (TOP / "docs/CONTRACTS.md").is_file() else "docs-MODEL.html"
 EXTENSIONS = ["tables", "fenced_code", "toc"]
 
 
@@ -74,18 +78,30 @@ def linked_docs(html, owner):
 
 @cache
 def importable():
-    """The paths of the names that examples use."""
-    found = dict(examples.OTHERS)
+    """The paths of the names that examples use, as callers import them; of traits only for the calls that no type has itself."""
+    found, paths = dict(examples.OTHERS), calls.paths_of_items()
     for crate in LIBRARIES:
         found |= examples.names_of(crate, modules_of(crate), found)
-    return found
+    methods = {call.name for call in calls.table_without_names() if not call.of_trait}
+    found = {name: path for name, path in found.items() if not re.match(r"(\.|::)", name) or name.strip(".:(") not in methods}
+    items = (it for crate in LIBRARIES for items in modules_of(crate).values() for it in items if id(it) in paths)
+    return found | {it.name: paths[id(it)][0] for it in items}
+
+
+def use_lines(lines):
+    """The lines that bring the names of an example, one for each module."""
+    modules = {}
+    for line in examples.imports(importable(), lines):
+        module, _, name = line.removeprefix("use ").removesuffix(";").rpartition("::")
+        modules.setdefault(module, []).append(name)
+    return [f"use {module}::{names[0] if len(names) == 1 else '{' + ', '.join(names) + '}'};" for module, names in modules.items()]
 
 
 def copyable(paragraphs):
     """The paragraphs of a documentation, the first example of which has the lines that bring its names."""
     code = [it for it in paragraphs if it.startswith("    ")]
     literal = lambda text: re.sub(r'\bview\((?=")', "AsciiStr::literal(", text)  # noqa: E731
-    uses = examples.imports(importable(), [literal(line) for it in code for line in it.splitlines()])
+    uses = use_lines([literal(line) for it in code for line in it.splitlines()])
     runtime = ["let alloc = rt.alloc();"] if re.search(r"\balloc\b", "".join(code)) and "let alloc" not in "".join(code) else []
     for paragraph in paragraphs:
         if paragraph in code[:1]:
@@ -125,13 +141,14 @@ def meanings_html(texts, lines):
             if re.match(r"\w", word):
                 found.setdefault(word, it)
     rows = [f"<dt>{link(it.url, word)}</dt><dd>{inline(it.text) or 'its text is its meaning'}</dd>" for word, it in found.items()]
-    return f"<dl>{''.join(rows)}</dl>" if rows else ""
+    reading = f'<p class="small"><a href="{CONTRACTS}">How a contract is read</a></p>'
+    return f"<dl>{''.join(rows)}</dl>{reading}" if rows else ""
 
 
 def frame(title, body, side="", kind=""):
     """A whole page."""
     links = [("docs-START.html", "Start"), ("docs-LINES.html", "Lines"), ("docs-PROTOCOLS.html", "Protocols"),
-             ("docs-MODEL.html", "Contracts"), ("cookbook.module.html", "Recipes"), ("docs-PROVED.html", "Proved"),
+             (CONTRACTS, "Contracts"), ("cookbook.module.html", "Recipes"), ("docs-PROVED.html", "Proved"),
              ("errors.html", "Errors"), ("all.html", "All names")]
     nav = "".join(f'<a href="{url}">{text}</a>' for url, text in links)
     aside = f'<aside aria-label="On this page">{side}</aside>' if side else ""
@@ -142,3 +159,29 @@ def frame(title, body, side="", kind=""):
             f'<header><a class="home" href="index.html">{NAME}</a>\n<div id="search"></div>\n<nav>{nav}</nav></header>\n'
             f'<div id="found"></div>\n<div class="columns{" with-side" if side else ""}">{aside}\n<main id="top">\n{body}\n</main></div>\n'
             f'<script src="search.js"></script>\n</body>\n</html>\n')
+
+
+def anchor_of(text):
+    return re.sub(r"[^\w.:-]+", "-", text).strip("-")
+
+
+class Page:
+    """What a page is made of: its parts, the contents beside it, and the anchors that it has."""
+
+    def __init__(self):
+        self.parts, self.side, self.anchors = [], [], Counter()
+
+    def anchor(self, name):
+        """An anchor of this name that the page does not have yet."""
+        self.anchors[name] += 1
+        return name if self.anchors[name] == 1 else f"{name}-{self.anchors[name]}"
+
+    def heading(self, text, anchor=""):
+        anchor = self.anchor(anchor or anchor_of(text.lower()))
+        self.parts.append(f'<h2 id="{anchor}">{inline(text)}</h2>')
+        self.side.append(f'<h2><a href="#{anchor}">{inline(text)}</a></h2>')
+
+
+def chips(links):
+    items = "".join(f"<li>{it}</li>" for it in links)
+    return f'<ul class="chips">{items}</ul>' if items else ""

@@ -120,3 +120,35 @@ def give_impls(crate, types):
             owner = next((types[SHOWN_AT.get(name, name)] for name in names if name in types), None)
             if owner:
                 owner.impls.append(Impl(of_trait, entry.item, crate, rows.get(id(entry.item), [])))
+
+
+# Where a call is
+
+def result_of(call):
+    return call.item.head.rpartition(") -> ")[2] if ") -> " in call.item.head else ""
+
+
+def error_of(call):
+    """The error that a call returns, by the name of its type."""
+    found = re.match(r"Result<.*?,\s*(?:\w+::)*(\w+)[^,]*>$", result_of(call).partition(" where ")[0])
+    return found[1] if found else ""
+
+
+def page_with(call):
+    """The page that has a call."""
+    if call.block and (call.block.kind == "trait" or not call.of_trait):
+        return by_name().get(SHOWN_AT.get(call.owner, call.owner))
+    if not call.block:
+        return owners()[f"{calls.paths_of_items()[id(call.item)][0].rpartition('::')[0]}::"]
+    return None
+
+
+def url_of(call):
+    """Where a call is, unless it is in an `impl` of a trait."""
+    page = page_with(call)
+    return f"{page.page}#{call.name}" if page else ""
+
+
+def short_key(call):
+    page = page_with(call)
+    return f"{page.name}::{call.name}" if page else call.key

@@ -1,64 +1,34 @@
-"""The pages of the reference: types, traits and modules with their calls, and files of definitions."""
+"""The pages of types, traits and modules, with their calls."""
 import re
-from collections import Counter
 from html import escape
 
 import callers
 import kit
-from calls import first_sentence, paths_of_items, table
-from definitions import head_comment
-from made import DEFINED, modules_of
-from markup import clause_html, docs_html, frame, inline, link, linked_code, meanings_html
-from meanings import STD_PAGE, STD_WORDS, definitions, page_of, scope, source_page
-from owners import MAIN, SHOWN_AT, by_name, owners
-from sources import CRATES, impl_name, without_braces
-
-
-def anchor_of(text):
-    return re.sub(r"[^\w.:-]+", "-", text).strip("-")
-
-
-class Page:
-    """What a page is made of: its parts, the contents beside it, and the anchors that it has."""
-
-    def __init__(self):
-        self.parts, self.side, self.anchors = [], [], Counter()
-
-    def anchor(self, name):
-        """An anchor of this name that the page does not have yet."""
-        self.anchors[name] += 1
-        return name if self.anchors[name] == 1 else f"{name}-{self.anchors[name]}"
-
-    def heading(self, text, anchor=""):
-        anchor = self.anchor(anchor or anchor_of(text.lower()))
-        self.parts.append(f'<h2 id="{anchor}">{inline(text)}</h2>')
-        self.side.append(f'<h2><a href="#{anchor}">{inline(text)}</a></h2>')
+from calls import first_sentence, table
+from definition_pages import short
+from made import modules_of
+from markup import Page, anchor_of, chips, clause_html, docs_html, frame, inline, link, linked_code, meanings_html
+from meanings import source_page
+from owners import MAIN, SHOWN_AT, by_name, error_of, owners, result_of, short_key, url_of
+from sources import impl_name, without_braces
 
 
 class Reference:
     """Writes the pages, and collects the names that the search finds."""
 
-    def __init__(self, write):
-        self.write, self.names = write, []
-        self.users_of_words = users_of_words()
+    def __init__(self, write, names):
+        self.write, self.names = write, names
 
     def name(self, shown, kind, url, docs=(), signature="", rank=0):
-        self.names.append([shown, kind, url, first_sentence(docs)[:160], signature, rank])
+        self.names.append([shown, kind, url, short(first_sentence(docs)), signature, rank])
 
     def all(self):
         for owner in owners().values():
             self.owner(owner)
-        for module, file in definitions().files.items():
-            if module.split(".")[1] in DEFINED and file.definitions:
-                self.definitions_page(module, file)
-        self.std_page()
-        self.errors_page()
-
-    # types, traits and modules
 
     def owner(self, owner):
         page = Page()
-        kind = {"type": "name of a type"}.get(owner.kind, owner.kind)
+        kind = {"type": "type alias"}.get(owner.kind, owner.kind)
         page.parts.append(f'<p class="soft">{kind} of the crate <code>{owner.path.partition("::")[0]}</code></p>')
         page.parts.append(f"<h1><code>{owner.path}</code></h1>")
         self.imports(owner, page)
@@ -72,7 +42,7 @@ class Reference:
             self.members(owner, page)
         self.call_groups(owner, page)
         self.impls(owner, page)
-        side = f'<a href="#top">{link("#top", owner.name)[len("<a href=#top>") + 2 : -4]}</a>' + "\n".join(page.side)
+        side = link("#top", owner.name) + "\n".join(page.side)
         self.write(owner.page, frame(owner.path, "\n".join(page.parts), side, "reference"))
 
     def imports(self, owner, page):
@@ -137,6 +107,9 @@ class Reference:
             links = [link(f"{shown.page}#{it.name}", it.name) for it in shown.calls]
             links += [link(f"{shown.page}#{impl_anchor(it.of_trait)}", it.of_trait) for it in shown.impls]
             page.parts.append(chips(links))
+        if owner.name in SHOWN_AT.values():
+            head = next(name for name, shown in SHOWN_AT.items() if shown == owner.name)
+            page.parts.append(f"<p>The calls below are those of {link(by_name()[head].page, head)}, so each other name of it has them too.</p>")
         if owner.name in SHOWN_AT:
             page.parts.append(f"<p>Its calls are on the page of {link(by_name()[SHOWN_AT[owner.name]].page, SHOWN_AT[owner.name])}.</p>")
         names = [it for it in owners().values() if it.kind == "type" and re.match(rf"{owner.name}\b", it.target)]
@@ -189,85 +162,6 @@ class Reference:
         return (f'<details class="impl" id="{anchor}"><summary><code>{linked_code(impl.item.head)}</code></summary><div class="docs">{of}'
                 f"{docs_html(impl.item.docs, owner)}{''.join(map(ghost_html, ghosts))}{words}{calls}</div></details>")
 
-    # definitions
-
-    def definitions_page(self, module, file):
-        page, title = Page(), module.removeprefix("Rattle.").replace(".specs", "").replace(".", "::")
-        source = CRATES / module.removeprefix("Rattle.").replace(".", "/")
-        page.parts += [f'<p class="soft">definitions, <code>crates/{source.relative_to(CRATES)}.antt</code></p>', f"<h1><code>{title}</code></h1>"]
-        page.parts.append(f"<p>{inline(head_comment(source.with_suffix('.antt')))}</p>")
-        page.parts.append(f"<p><code>ghost use {module}.{{..}};</code></p>")
-        self.name(title, "definitions", page_of(module))
-        for is_private in (False, True):
-            found = [it for it in file.definitions if it.is_private == is_private]
-            if found and is_private:
-                page.heading("Cited by private functions only", "private")
-            for it in found:
-                page.parts.append(self.definition(it, file, page))
-                page.side.append(f'<a href="#{escape(it.name)}"><code>{escape(it.name)}</code></a>')
-        side = f'<a href="#top"><code>{title}</code></a>' + "".join(page.side)
-        self.write(page_of(module), frame(title, "\n".join(page.parts), side, "definitions"))
-
-    def definition(self, it, file, page):
-        """A definition: its comment, its text, what it reaches, and the calls whose clauses name it."""
-        self.names.append([it.name, "definition", f"{page_of(it.module)}#{it.name}", it.comment[:160], "", 0])
-        text = "\n".join([it.section, *it.lines] if it.section else it.lines)
-        found = definitions().reached(" ".join(it.words()), uses_in(it, file))
-        reached = {one.path: one for one in found if one is not it}.values()
-        users = self.users_of_words.get(it.path, [])
-        page.anchor(it.name)
-        parts = [f'<section class="call" id="{escape(it.name)}"><h3><a class="perma" href="#{escape(it.name)}">§</a>'
-                 f"<code>{escape(it.name)}</code></h3>", f'<div class="docs"><p>{inline(it.comment)}</p>',
-                 f"<pre><code>{linked_definition(text, it, file)}</code></pre>"]
-        if reached:
-            links = chips(link(f"{page_of(one.module)}#{one.name}", one.name) for one in reached)
-            parts.append(f"<details><summary>reaches {len(reached)} definitions</summary>{links}</details>")
-        if users:
-            parts.append(f"<details><summary>in the contracts of {len(users)} calls</summary>"
-                         f"{chips(link(url_of(call), short_key(call)) for call in users)}</details>")
-        return "\n".join([*parts, "</div></section>"])
-
-    def std_page(self):
-        """The words of std and of the toolchain's crates that the other pages name."""
-        page = Page()
-        page.parts.append("<h1>Words of std</h1>\n<p>The words of contracts that come with the toolchain: std and its crates. Each has its "
-                          "comment there, or a sentence of ours, and its file in the toolchain's folder of libraries.</p>")
-        if not kit.folder():
-            page.parts.append("<p><strong>The toolchain was not installed where this page was made</strong>, so comments are missing.</p>")
-        for it in sorted(STD_WORDS.values(), key=lambda it: (not it.word[0].isalpha(), it.word.lower())):
-            anchor = page.anchor(it.url.partition("#")[2])
-            text = f"<pre><code>{escape(chr(10).join(it.lines))}</code></pre>" if it.lines else ""
-            page.parts.append(f'<section class="call" id="{escape(anchor)}"><h3><code>{escape(it.word)}</code><span class="src">{it.file}</span></h3>'
-                              f'<div class="docs"><p>{inline(it.text)}</p>{text}</div></section>')
-            page.side.append(f'<a href="#{escape(anchor)}"><code>{escape(it.word)}</code></a>')
-            self.names.append([it.word, "word of std", it.url, it.text[:160], "", 0])
-        self.write(STD_PAGE, frame("Words of std", "\n".join(page.parts), "".join(page.side), "definitions"))
-
-    def errors_page(self):
-        """Each error that a call returns, with the calls that return it."""
-        found, page = {}, Page()
-        for call in table():
-            if error_of(call) and url_of(call):
-                found.setdefault(error_of(call), []).append(call)
-        page.parts.append("<h1>Errors</h1>\n<p>Each error, and the public calls that return it.</p>")
-        for error, group in sorted(found.items()):
-            owner = by_name().get(error)
-            page.heading(f"`{error}`", error)
-            about = inline(first_sentence(owner.docs)) + f" {link(owner.page, error)}" if owner else inline(OTHER_ERRORS.get(error, ""))
-            page.parts.append(f"<p>{about}</p>")
-            page.parts.append(chips(link(url_of(call), short_key(call)) for call in group))
-            if not owner:
-                self.name(error, "error", f"errors.html#{error}", [OTHER_ERRORS.get(error, "")])
-        self.write("errors.html", frame("Errors", "\n".join(page.parts), "".join(page.side)))
-
-
-OTHER_ERRORS = {
-    "AllocError": "The error of std for a failed allocation, as `std::alloc::AllocError`.",
-    "Refusal": "The error of the buffer for an edit that it has no room for: `AllocError` for a `Vec`, so for `AsciiString`.",
-    "Error": "The error of the format, or of std's `TryFrom` and `fmt`.",
-}
-
-
 # The parts of a page
 
 def rank_of(name):
@@ -284,44 +178,9 @@ def impl_anchor(of_trait):
     return f"impl.{anchor_of(of_trait)}"
 
 
-def chips(links):
-    items = "".join(f"<li>{it}</li>" for it in links)
-    return f'<ul class="chips">{items}</ul>' if items else ""
-
-
 def ghost_html(ghost):
     comment = f'<div class="clause soft">{escape(" ".join(ghost.docs))}</div>' if ghost.docs else ""
     return comment + clause_html("", without_braces(ghost.head), ghost.words)
-
-
-def result_of(call):
-    return call.item.head.rpartition(") -> ")[2] if ") -> " in call.item.head else ""
-
-
-def error_of(call):
-    """The error that a call returns, by the name of its type."""
-    found = re.match(r"Result<.*?,\s*(?:\w+::)*(\w+)[^,]*>$", result_of(call).partition(" where ")[0])
-    return found[1] if found else ""
-
-
-def page_with(call):
-    """The page that has a call."""
-    if call.block and (call.block.kind == "trait" or not call.of_trait):
-        return by_name().get(SHOWN_AT.get(call.owner, call.owner))
-    if not call.block:
-        return owners()[f"{paths_of_items()[id(call.item)][0].rpartition('::')[0]}::"]
-    return None
-
-
-def url_of(call):
-    """Where a call is, unless it is in an `impl` of a trait."""
-    page = page_with(call)
-    return f"{page.page}#{call.name}" if page else ""
-
-
-def short_key(call):
-    page = page_with(call)
-    return f"{page.name}::{call.name}" if page else call.key
 
 
 def signature(call, owner):
@@ -374,33 +233,3 @@ def evidence(call):
 def place_html(place):
     crate, _, path = place.file.removeprefix("crates/").partition("/src/")
     return link(f"{source_page(crate, tuple(path.removesuffix('.rt').split('/')))}#{place.line}", place.name)
-
-
-# Definitions
-
-def users_of_words():
-    """The calls whose clauses name each definition, by its path."""
-    found = {}
-    for call in table():
-        if url_of(call):
-            words = definitions().of_words(sum((text.replace("(", " ").replace(")", " ").split() for _, text in call.item.clauses), []),
-                                           call.item.words or [])
-            for path in {it.path for it in words}:
-                found.setdefault(path, []).append(call)
-    return found
-
-
-def uses_in(it, file):
-    """The `use` lines for the words of a definition: those of its file, and the file itself."""
-    return [*file.uses, *(f"use {it.module}.{{{one.name}}}" for one in file.definitions)]
-
-
-def linked_definition(text, it, file):
-    """The text of a definition, with each word linked."""
-    lines = tuple(uses_in(it, file))
-
-    def one(word):
-        found = scope(lines).get(word) if word != it.name else None
-        return f'<a href="{escape(found.url)}" title="{escape(found.text)}">{escape(word)}</a>' if found else escape(word)
-
-    return "".join(one(part) for part in re.split(r"([^\s(){}\[\];,]+)", text))

@@ -16,6 +16,7 @@ from pathlib import Path
 
 import markup
 from calls import first_sentence
+from definition_pages import DefinitionPages
 from made import DEFINED, LIBRARIES, TOP, module_file, modules_of, parts_of
 from markup import FOLDER, frame, html_of, inline, link, linked_docs
 from meanings import page_of, source_page
@@ -31,7 +32,7 @@ WAYS = [
     ("docs-START.html", "Start", "from an empty folder to a program that runs and is proved"),
     ("docs-LINES.html", "Lines", "reading the lines of an input in bounded memory"),
     ("docs-PROTOCOLS.html", "Protocols", "a server over lines, with its theorem"),
-    ("docs-MODEL.html", "Contracts", "how a contract is read, and the definitions that contracts use"),
+    (markup.CONTRACTS, "Contracts", "how a contract is read, and the definitions that contracts use"),
     ("cookbook.module.html", "Recipes", "headers, settings, tables, host names, wrapped text"),
     ("examples.html", "Examples", "whole programs, with their sources"),
     ("ascii.classes.module.html", "A class of characters of your own", "for searches, trims and words"),
@@ -57,15 +58,16 @@ class Site:
     """The folder of the site, and the names that its search finds."""
 
     def __init__(self, folder):
-        self.folder, self.pages = folder, pages()
-        self.reference = Reference(self.write)
-        self.names = self.reference.names
+        self.folder, self.pages, self.names = folder, pages(), []
 
     def write(self, name, text):
         (self.folder / name).write_text(text, encoding="utf-8")
 
     def all(self):
-        self.reference.all()
+        words = DefinitionPages(self.write, self.names)
+        Reference(self.write, self.names).all()
+        words.all()
+        words.std()
         for page in self.pages:
             self.page(page)
         for crate in sorted(it.parent.name for it in CRATES.glob("*/src") if it.parent.name != "exports"):
