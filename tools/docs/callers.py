@@ -4,8 +4,7 @@ The text that is written by hand is in crates/NAME/CALLING.head.md. It is copied
 which are replaced:
   @needs             the folders and the lines of crates.txt that a user of the crate needs
   @caller FILE NAME  one function of a file under crates/, word for word, and its hand-written proof
-  @reading           how the quoted contracts are read
-  @index             the items by type and module, with links to their groups
+  @index             the types and modules, with links to the groups of their items
   @others            the names that the crate re-exports from other crates
   @calls KEY, KEY..  the items with these keys that no line before took, and the `ghost use` lines that import the
                      definitions of their contracts; `*` in a key is any text
@@ -21,8 +20,8 @@ from functools import cache
 
 from definitions import re_exports, used_words
 from items import Item, Wrong, read_items
-from made import LIBRARIES, PROOFS, settle
-from sources import CRATES, exported, impl_name, read, read_modules, without_braces
+from made import LIBRARIES, PROOFS, conditions, example, first_sentence, modules_of, settle
+from sources import CRATES, exported, impl_name, read, without_braces
 
 # The calls with neither a clause nor a ghost member, and the reason of each.
 SAID_ELSEWHERE = {
@@ -39,20 +38,6 @@ GIVEN_BY = {"as_str": "text", "as_slice": "items", "as_byte_slice": "bytes"}
 
 # The traits that a type may derive: the language gives a derived call its contract, out of the fields.
 DERIVED = {"Clone", "Copy", "Debug", "Drop", "Eq", "Hash", "Ord", "PartialEq", "PartialOrd"}
-
-READING = """\
-The contracts are quoted from `src/`, without bodies. `requires` is what the caller proves, and `ensures` is proved
-here (`ensures*` is an assertion of separation logic); the word before the colon is the name of the clause. `x.old` and
-`x.new` are what a `&mut` points to before and after the call, `x.now` is what a `&` points to, and `x.entry` is a
-value that borrows, as it was at the call. A parameter that a method does not declare, such as `A`, is a parameter of
-its type.
-
-The `ghost` lines of a type hold for each of its values: `Value` is what a clause sees of it. The `ghost` lines of a
-trait are what an implementor says of itself, and the clauses of its calls are about them; in an `impl` of one of std's
-traits, so are std's clauses of that trait. The clauses of a call in an `impl` replace those of the trait. A call that an
-`impl` of this crate's own trait does not quote has the clauses of the trait. A derived call has those that the language
-makes from the fields."""
-
 
 @dataclass
 class Entry:
@@ -88,7 +73,7 @@ def entries_of(crate, modules):
 @cache
 def traits_with_pages():
     """The names of the traits of the crates that have a page, which says their calls."""
-    items = (item for crate in LIBRARIES for module in read_modules(crate).values() for item in module)
+    items = (item for crate in LIBRARIES for module in modules_of(crate).values() for item in module)
     return {item.name for item in items if item.kind == "trait"}
 
 
@@ -198,7 +183,8 @@ def inner_lines(item, key):
     for ghost in ghosts_of(item):
         lines += doc_line(ghost) + [without_braces(ghost.head)]
     for call in (i for i in item.inner if i.kind == "fn"):
-        lines += function_lines(call, call.name)
+        if item.kind == "trait" or call.clauses:  # otherwise the trait says how it is called, and the ghost members what it gives
+            lines += function_lines(call, call.name)
         reason = reasons.get(f"{key}::{call.name}")
         lines += [f"    // {reason}"] if reason else []
     return [f"    {line}" for line in lines]
@@ -215,14 +201,11 @@ def check_said(crate, entries):
 
 
 def doc_line(item):
-    """The first paragraph of an item's documentation, as comment lines."""
-    text = []
-    for line in item.docs:
-        if not line or line.startswith("    "):
-            break
-        text.append(line)
+    """The first sentence of an item's documentation, its conditions and its example, as comment lines."""
     sign = "//" if item.kind == "ghost" else "///"
-    return [f"{sign} {line}" for line in textwrap.wrap(" ".join(text), 100, break_on_hyphens=False)]
+    texts = [" ".join(item.docs)] if item.kind == "ghost" else [first_sentence(item.docs), *conditions(item.docs)]
+    lines = [line for text in texts for line in textwrap.wrap(" ".join(text.split()), 100, break_on_hyphens=False)]
+    return [f"{sign} {line}" for line in [*lines, *(f"    {line}" for line in example(item.docs) if item.kind != "ghost")]]
 
 
 # The words of the contracts
@@ -388,16 +371,12 @@ def index_lines(groups):
     owners = {}
     for heading, group in groups:
         for entry in group:
-            owner, name = owner_of(entry.key)
-            owners.setdefault(owner, {}).setdefault(heading, []).append(name)
+            owners.setdefault(owner_of(entry.key)[0], {})[heading] = None
     rows = []
     for owner in sorted(owners, key=lambda owner: (not owner[:1].isupper(), owner)):
-        cells = []
-        for heading, names in owners[owner].items():
-            listed_names = ", ".join(f"`{name}`" for name in names if name)
-            cells.append(f"[{heading}](#{anchor_of(heading)})" + (f": {listed_names}" if listed_names else ""))
-        rows.append(f"| `{owner or 'functions'}` | {'<br>'.join(cells)} |")
-    return ["| Type or module | Groups and items |", "|---|---|", *rows]
+        cells = [f"[{heading}](#{anchor_of(heading)})" for heading in owners[owner]]
+        rows.append(f"| `{owner or 'functions'}` | {', '.join(cells)} |")
+    return ["| Type or module | Groups |", "|---|---|", *rows]
 
 
 def groups_of(head, entries):
@@ -415,10 +394,10 @@ def groups_of(head, entries):
 
 def page(crate):
     """The page of a crate."""
-    entries, others = entries_of(crate, read_modules(crate))
+    entries, others = entries_of(crate, modules_of(crate))
     check_said(crate, entries)
     head = read(CRATES / crate / "CALLING.head.md").splitlines()
-    groups, lines = groups_of(head, entries), []
+    groups, lines = groups_of(head, entries), ["<!-- Made by `bin/docs callers` from src/ and CALLING.head.md. -->", ""]
     waiting = [group for _, group in groups]
     for line in head:
         word, *rest = line.split(" ") if line.startswith("@") else [""]
@@ -428,8 +407,6 @@ def page(crate):
             lines += index_lines(groups)
         elif word == "@others":
             lines += others_lines(others)
-        elif word == "@reading":
-            lines += READING.splitlines()
         elif word == "@caller":
             lines += caller_lines(*rest)
         elif word == "@calls":

@@ -41,21 +41,6 @@ class Call:
     def file(self):
         return str(module_file(self.crate, self.module).relative_to(TOP))
 
-    def example(self):
-        """The lines of its example."""
-        return [line[4:] for line in self.item.docs if line.startswith("    ")]
-
-    def conditions(self):
-        """The paragraphs that begin with `Condition:`."""
-        return [text for text in "\n".join(self.item.docs).split("\n\n") if text.startswith("Condition")]
-
-
-def first_sentence(docs):
-    """The first sentence of a documentation, as one line."""
-    text = " ".join("\n".join(docs).partition("\n\n")[0].split())
-    found = re.match(r"(.*?\.)(?= [A-Z`]|$)", text)
-    return found[1] if found else text
-
 
 @cache
 def entries(crate):

@@ -3,9 +3,9 @@ import re
 from html import escape
 
 import kit
-from calls import first_sentence, table
+from calls import table
 from definitions import head_comment
-from made import DEFINED
+from made import DEFINED, first_sentence
 from markup import Page, chips, frame, inline, link
 from meanings import STD_PAGE, STD_WORDS, definitions, page_of, scope
 from owners import by_name, error_of, short_key, url_of

@@ -1,4 +1,5 @@
-"""What the commands of bin/docs share: the crates, and files that are made from sources."""
+"""What the commands of bin/docs share: the crates, their documentation, and files that are made from sources."""
+import re
 from functools import cache
 
 from sources import CRATES, read, read_modules
@@ -31,6 +32,31 @@ def module_file(crate, path):
 def head_lines(file):
     """The lines of the comment at the head of a source."""
     return [line[len("//!") :].removeprefix(" ") for line in read(file).splitlines() if line.startswith("//!")]
+
+
+# The parts of a documentation
+
+def first_sentence(docs):
+    """The first sentence of a documentation, as one line."""
+    text = " ".join("\n".join(docs).partition("\n\n")[0].split())
+    found = re.match(r"(.*?\.)(?= [A-Z`]|$)", text)
+    return found[1] if found else text
+
+
+def conditions(docs):
+    """The paragraphs that say what a caller has to prove."""
+    return [text for text in "\n".join(docs).split("\n\n") if text.startswith("Condition")]
+
+
+def example(docs):
+    """The lines of the examples of a documentation, with a view as callers make it."""
+    lines = [line[4:] for text in "\n".join(docs).split("\n\n") if text.startswith("    ") for line in text.splitlines()]
+    return [with_literals(line) for line in lines]
+
+
+def with_literals(line):
+    """A line of an example, in which `view` of the tests is the call that callers have."""
+    return re.sub(r'\bview\((?=")', "AsciiStr::literal(", line)
 
 
 def settle(file, text, command, is_check):

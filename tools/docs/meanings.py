@@ -5,9 +5,8 @@ from functools import cache
 from pathlib import Path
 
 import kit
-from calls import first_sentence
 from definitions import Definitions, used_words
-from made import LIBRARIES, modules_of, parts_of
+from made import LIBRARIES, first_sentence, modules_of, parts_of
 from owners import by_name
 from sources import read
 

@@ -4,9 +4,9 @@ from html import escape
 
 import callers
 import kit
-from calls import first_sentence, table
+from calls import table
 from definition_pages import short
-from made import modules_of
+from made import first_sentence, modules_of
 from markup import Page, anchor_of, chips, clause_html, docs_html, frame, inline, link, linked_code, meanings_html
 from meanings import source_page
 from owners import MAIN, SHOWN_AT, by_name, error_of, owners, result_of, short_key, url_of

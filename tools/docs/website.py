@@ -15,9 +15,8 @@ from html import escape
 from pathlib import Path
 
 import markup
-from calls import first_sentence
 from definition_pages import DefinitionPages
-from made import DEFINED, LIBRARIES, TOP, module_file, modules_of, parts_of
+from made import DEFINED, LIBRARIES, TOP, first_sentence, module_file, modules_of, parts_of
 from markup import FOLDER, frame, html_of, inline, link, linked_docs
 from meanings import page_of, source_page
 from owners import MAIN, by_name, owners
