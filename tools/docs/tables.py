@@ -1,0 +1,104 @@
+"""Makes the tables of pages, and the signposts in the heads of sources, from the one table of public calls; `--print` prints it.
+
+A page has a table between a line that says that it is made and a line that ends it:
+  <!-- Made by `bin/docs tables`: modules -->       a row for each module of the libraries, with its public calls
+  <!-- Made by `bin/docs tables`: calls CRATE -->   a row for each group of calls: clauses, examples, tests and mutations
+  <!-- end of the table -->
+A signpost is a paragraph at the head of a source that begins with "Made by `bin/docs tables`: the other calls of `TYPE` are in": it
+names the modules that have calls of that type, each with its calls.
+
+The table that `--print` prints has a line for each public call, with tabs between the fields: the call by the path that callers
+import, its file, its clauses, its tests, its mutations, and whether it has an example."""
+import re
+import textwrap
+from functools import cache
+
+from calls import entries, headings, table
+from made import LIBRARIES, TOP, example, first_sentence, head_lines, module_file, modules_of, settle
+from sources import CRATES, read
+
+MOST = 6
+BLOCK = re.compile(r"(<!-- Made by `bin/docs tables`: (\w+)(?: (\w+))? -->\n).*?(<!-- end of the table -->)", re.S)
+SIGNPOST = re.compile(r"^//! Made by `bin/docs tables`: the other calls of `(\w+)` are in.*\n(?://! .+\n)*", re.M)
+
+
+@cache
+def rows():
+    """The rows of the libraries."""
+    return [call for call in table() if call.crate in LIBRARIES]
+
+
+def in_code(names):
+    return ", ".join(f"`{name}`" for name in names)
+
+
+def modules_table(_):
+    """What each module has: the first sentence of its head, and its public calls, of which the first are named."""
+    lines = ["| Module | What it has | Public calls |", "|---|---|---|"]
+    for crate in LIBRARIES:
+        for path in modules_of(crate):
+            names = list(dict.fromkeys(call.name for call in rows() if (call.crate, call.module) == (crate, path)))
+            shown = in_code(names[:MOST]) + (f" and {len(names) - MOST} more" if len(names) > MOST else "")
+            about = first_sentence(head_lines(module_file(crate, path)))
+            lines.append(f"| `{'::'.join([crate, *path])}` | {about} | {shown} |")
+    return lines
+
+
+def calls_table(crate):
+    """The groups of the calls of a library, with the number of their clauses, examples, tests and mutations."""
+    lines = ["| Group | Calls | Clauses | With an example | Tests | Mutations |", "|---|--:|--:|--:|--:|--:|"]
+    shared = {id(it): entry for entry, _ in entries(crate) for it in (entry.item.inner if entry.item.kind in ("impl", "trait") else [])}
+    total = [0] * 5
+    for heading in headings(crate):
+        group = [call for call in rows() if (call.crate, call.heading) == (crate, heading)]
+        shown = [call for call in group if example(call.item.docs) or id(call.item) in shared and example(shared[id(call.item)].docs)]
+        tests = {place.name for call in group for place in call.tests}
+        mutations = {mutation.name for call in group for mutation in call.mutations}
+        counts = [len(group), sum(len(call.item.clauses) for call in group), len(shown), len(tests), len(mutations)]
+        total = [a + b for a, b in zip(total, counts)]
+        if group:
+            lines.append(f"| {heading} | {' | '.join(map(str, counts))} |")
+    return [*lines, f"| sum | {' | '.join(map(str, total))} |"]
+
+
+TABLES = {"modules": modules_table, "calls": calls_table}
+
+
+def page_with_tables(text):
+    """The text of a page with its tables made again."""
+    return BLOCK.sub(lambda m: m[1] + "\n".join(TABLES[m[2]](m[3])) + "\n" + m[4], text)
+
+
+def signpost(of_type, crate, here):
+    """The paragraph that names the other modules with calls of a type, as lines of a comment."""
+    modules = {}
+    for call in rows():
+        if call.crate == crate and call.owner == of_type and not call.of_trait and call.module != here:
+            modules.setdefault("::".join(call.module), []).append(call.name)
+    text = "; ".join(f"`{module}` ({in_code(names)})" for module, names in modules.items())
+    text = f"Made by `bin/docs tables`: the other calls of `{of_type}` are in {text}."
+    return "".join(f"//! {line}\n" for line in textwrap.wrap(text, 96, break_on_hyphens=False, break_long_words=False))
+
+
+def sources_with_signposts():
+    """The sources that have a signpost: pairs of a file, and its text with the signpost made again."""
+    for crate in LIBRARIES:
+        for path in modules_of(crate):
+            file = module_file(crate, path)
+            if SIGNPOST.search(read(file)):
+                yield file, SIGNPOST.sub(lambda m: signpost(m[1], crate, path), read(file))  # noqa: B023
+
+
+def faults(is_check):
+    """Writes the tables and the signposts, or compares them with the sources. Returns the faults."""
+    files = [(file, page_with_tables(read(file))) for file in sorted((TOP / "docs").glob("*.md"))]
+    return [fault for file, text in [*files, *sources_with_signposts()] for fault in settle(file, text, "tables", is_check)]
+
+
+def printed():
+    """The whole table, as lines."""
+    for call in rows():
+        tests, mutations = ([it.name for it in found] for found in (call.tests, call.mutations))
+        shown = "example" if example(call.item.docs) else ""
+        labels = [label for label, _ in call.item.clauses]
+        yield "\t".join([f"{call.crate}::{call.key}", call.file, ", ".join(labels), ", ".join(tests), ", ".join(mutations), shown])
