@@ -15,6 +15,7 @@ from sources import CRATES
 OTHER_ERRORS = {
     "AllocError": "The error of std for a failed allocation, as `std::alloc::AllocError`.",
     "Refusal": "The error of a buffer for an edit that it has no room for. It is `AllocError` for a `Vec`, so for `AsciiString`.",
+    "usize": "The position of the byte at fault.",
     "Error": "The error of a format, or of std's `TryFrom` and `fmt`.",
 }
 STD_INTRO = """<h1>Words of std</h1>

@@ -7,6 +7,7 @@ import calls
 from items import Item
 from made import head_lines, module_file, modules_of
 from sources import bare
+from uses import head_of, inside, simple
 
 # The name of a type on whose page its calls are, because callers have that name.
 SHOWN_AT = {"Text": "AsciiString"}
@@ -130,8 +131,9 @@ def result_of(call):
 
 def error_of(call):
     """The error that a call returns, by the name of its type."""
-    found = re.match(r"Result<.*?,\s*(?:\w+::)*(\w+)[^,]*>$", result_of(call).partition(" where ")[0])
-    return found[1] if found else ""
+    result = simple(result_of(call).partition(" where ")[0])
+    found = head_of(inside(result, 1)) if head_of(result) == "Result" else ""
+    return {"Self": call.owner, "B": "Refusal", "Refusal": "Refusal"}.get(found, found)
 
 
 def page_with(call):

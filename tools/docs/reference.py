@@ -60,7 +60,7 @@ class Reference:
             if found:
                 page.heading(title)
                 rows = [f"<tr><td>{link(it.page, it.name)}</td><td>{inline(first_sentence(it.docs))}</td></tr>" for it in found]
-                page.parts.append(f'<div class="table"><table>{"".join(rows)}</table></div>')
+                page.parts.append(f'<div class="table"><table class="names">{"".join(rows)}</table></div>')
                 page.side += [link(it.page, it.name) for it in found]
 
     def members(self, owner, page):

@@ -145,7 +145,7 @@ class Site:
         libraries = [owners()[f"{name}::"] for name in LIBRARIES if f"{name}::" in owners()]
         crates = [f"<tr><td>{link(it.page, it.path)}</td><td>{inline(first_sentence(it.docs))}</td></tr>" for it in libraries]
         ways = [f'<tr><td><a href="{url}">{text}</a></td><td>{inline(what)}</td></tr>' for url, text, what in WAYS]
-        tables = [f'<h2>{title}</h2>\n<div class="table"><table>{"".join(lines)}</table></div>'
+        tables = [f'<h2>{title}</h2>\n<div class="table"><table class="names">{"".join(lines)}</table></div>'
                   for title, lines in (("Types", rows), ("Where to go", ways), ("Crates", crates))]
         self.write("index.html", frame(markup.NAME, "\n".join([html_of(read(FOLDER / "front.md")), *tables])))
 
