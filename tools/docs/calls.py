@@ -92,7 +92,8 @@ def of_trait_and_owner(block, key):
 @cache
 def re_exports():
     """What crates re-export of others: pairs of the path of a name and its new path, that of the first crate first."""
-    pairs = [(path, f"{crate}::{path.rpartition('::')[2]}") for crate in SHOWN for path, item in exported(modules_of(crate)) if not item]
+    found = [(crate, path) for crate in SHOWN for path, item in exported(modules_of(crate)) if not item]
+    pairs = [(path, f"{crate}::{path.rpartition('::')[2]}") for crate, path in found]
     return sorted(pairs, key=lambda pair: IMPORTED_FROM.index(pair[1].partition("::")[0]))
 
 
@@ -118,7 +119,8 @@ def known():
     """What `uses` has to know of the libraries."""
     found, paths = uses.Known(), paths_of_items()
     for call in table_without_names():
-        result = re.sub(r"\bSelf\b", call.owner or "Self", uses.simple(call.item.head.partition(") -> ")[2].partition(" where ")[0]))
+        result = uses.simple(call.item.head.partition(") -> ")[2].partition(" where ")[0])
+        result = re.sub(r"\bSelf\b", call.owner or "Self", result)
         if call.owner:
             found.methods.setdefault((call.owner, call.name), (call, result))
         for path in paths.get(id(call.item), []):

@@ -44,7 +44,8 @@ class DefinitionPages:
         source = CRATES / f"{module.removeprefix('Rattle.').replace('.', '/')}.antt"
         about = head_comment(source)
         page.parts += [f'<p class="soft">definitions, <code>crates/{source.relative_to(CRATES)}</code></p>',
-                       f"<h1><code>{title}</code></h1>", f"<p>{inline(about)}</p>", f"<p><code>ghost use {module}.{{..}};</code></p>"]
+                       f"<h1><code>{title}</code></h1>", f"<p>{inline(about)}</p>",
+                       f"<p><code>ghost use {module}.{{..}};</code></p>"]
         self.name(title, "definitions", page_of(module), about)
         for is_private in (False, True):
             found = [it for it in file.definitions if it.is_private == is_private]
@@ -74,12 +75,14 @@ class DefinitionPages:
         page = Page()
         page.parts.append(STD_INTRO)
         if not kit.folder():
-            page.parts.append("<p><strong>The toolchain was not installed where this page was made</strong>, so comments are missing.</p>")
+            page.parts.append("<p><strong>The toolchain was not installed where this page was made</strong>: "
+                              "comments are missing.</p>")
         for it in sorted(STD_WORDS.values(), key=lambda it: (not it.word[0].isalpha(), it.word.lower())):
             anchor = it.url.partition("#")[2]
             text = f"<pre><code>{escape(chr(10).join(it.lines))}</code></pre>" if it.lines else ""
             page.parts.append(f'<section class="call" id="{escape(anchor)}"><h3><code>{escape(it.word)}</code>'
-                              f'<span class="src">{it.file}</span></h3><div class="docs"><p>{inline(it.text)}</p>{text}</div></section>')
+                              f'<span class="src">{it.file}</span></h3>'
+                              f'<div class="docs"><p>{inline(it.text)}</p>{text}</div></section>')
             page.side.append(link(f"#{anchor}", it.word))
             self.name(it.word, "word of std", it.url, it.text)
         self.write(STD_PAGE, frame("Words of std", "\n".join(page.parts), "".join(page.side), "definitions"))
@@ -94,7 +97,8 @@ class DefinitionPages:
         for error, group in sorted(found.items()):
             owner, text = by_name().get(error), OTHER_ERRORS.get(error, "")
             page.heading(f"`{error}`", error)
-            page.parts.append(f"<p>{inline(first_sentence(owner.docs))} {link(owner.page, error)}</p>" if owner else f"<p>{inline(text)}</p>")
+            about = f"{inline(first_sentence(owner.docs))} {link(owner.page, error)}" if owner else inline(text)
+            page.parts.append(f"<p>{about}</p>")
             page.parts.append(chips(link(url_of(call), short_key(call)) for call in group))
             if not owner:
                 self.name(error, "error", f"errors.html#{error}", text)

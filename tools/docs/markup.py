@@ -156,7 +156,8 @@ def frame(title, body, side="", kind=""):
             f'<meta name="viewport" content="width=device-width, initial-scale=1"/>\n'
             f'<link rel="icon" href="data:,"/>\n<link rel="stylesheet" href="style.css"/>\n</head>\n<body class="{kind}">\n'
             f'<header><a class="home" href="index.html">{NAME}</a>\n<div id="search"></div>\n<nav>{nav}</nav></header>\n'
-            f'<div id="found"></div>\n<div class="columns{" with-side" if side else ""}">{aside}\n<main id="top">\n{body}\n</main></div>\n'
+            f'<div id="found"></div>\n<div class="columns{" with-side" if side else ""}">{aside}\n'
+            f'<main id="top">\n{body}\n</main></div>\n'
             f'<script src="search.js"></script>\n</body>\n</html>\n')
 
 

@@ -71,7 +71,8 @@ def constant_meaning(name):
     items = ((crate, path, it) for crate in LIBRARIES for path, items in modules_of(crate).items() for it in items)
     for crate, path, item in items:
         if item.kind == "const" and item.name == name:
-            return Meaning(name, first_sentence(item.docs), f"{source_page(crate, path)}#constant.{name}", "::".join([crate, *path]))
+            url = f"{source_page(crate, path)}#constant.{name}"
+            return Meaning(name, first_sentence(item.docs), url, "::".join([crate, *path]))
     return None
 
 

@@ -6,7 +6,7 @@ import callers
 import kit
 from calls import table
 from definition_pages import short
-from made import first_sentence, modules_of
+from made import first_sentence, head_lines, module_file, modules_of
 from markup import Page, anchor_of, chips, clause_html, docs_html, frame, inline, link, linked_code, meanings_html
 from meanings import source_page
 from owners import MAIN, SHOWN_AT, by_name, error_of, owners, result_of, short_key, url_of
@@ -18,12 +18,13 @@ class Reference:
 
     def __init__(self, write, names):
         self.write, self.names = write, names
+        self.shown = {(it.crate, it.module) for it in owners().values() if it.kind == "module"}  # the modules whose heads are shown
 
     def name(self, shown, kind, url, docs=(), signature="", rank=0):
         self.names.append([shown, kind, url, short(first_sentence(docs)), signature, rank])
 
     def all(self):
-        for owner in owners().values():
+        for owner in sorted(owners().values(), key=lambda it: (it.kind != "module", -rank_of(it.name))):
             self.owner(owner)
 
     def owner(self, owner):
@@ -34,7 +35,7 @@ class Reference:
         self.imports(owner, page)
         if owner.item and owner.kind != "module":
             page.parts.append(f"<pre><code>{linked_code(declaration(owner.item))}</code></pre>")
-        page.parts.append(docs_html(owner.docs, owner))
+        page.parts += [docs_html(owner.docs, owner), self.about(owner, owner)]
         self.name(owner.path if owner.kind == "module" else owner.name, owner.kind, owner.page, owner.docs, "", rank_of(owner.name))
         if owner.kind == "module":
             self.inner(owner, page)
@@ -44,6 +45,15 @@ class Reference:
         self.impls(owner, page)
         side = link("#top", owner.name) + "\n".join(page.side)
         self.write(owner.page, frame(owner.path, "\n".join(page.parts), side, "reference"))
+
+    def about(self, it, owner):
+        """What the head of a module without a page says beyond its first paragraph, once: beside its first type or call."""
+        if (it.crate, it.module) in self.shown:
+            return ""
+        self.shown.add((it.crate, it.module))
+        paragraphs = "\n".join(head_lines(module_file(it.crate, it.module))).split("\n\n")[1:]
+        kept = [text for text in paragraphs if not re.match(r"Made by|The other methods of", text)]
+        return docs_html("\n\n".join(kept).split("\n"), owner) if kept else ""
 
     def imports(self, owner, page):
         if owner.kind == "module":
@@ -65,7 +75,8 @@ class Reference:
 
     def members(self, owner, page):
         """What a value is to a contract, its parts, the calls that return it or can fail, and other names of the type."""
-        models = [i for m in modules_of(owner.crate).values() for i in m if i.kind == "impl" and impl_name(i) == ("Model", owner.name)]
+        blocks = [it for items in modules_of(owner.crate).values() for it in items if it.kind == "impl"]
+        models = [it for it in blocks if impl_name(it) == ("Model", owner.name)]
         ghosts = [member for model in models for member in callers.ghosts_of(model) if member.name != "view"]
         ghosts += callers.ghosts_of(owner.item) if owner.kind == "trait" else []
         if ghosts:
@@ -109,9 +120,11 @@ class Reference:
             page.parts.append(chips(links))
         if owner.name in SHOWN_AT.values():
             head = next(name for name, shown in SHOWN_AT.items() if shown == owner.name)
-            page.parts.append(f"<p>The calls below are those of {link(by_name()[head].page, head)}, so each other name of it has them too.</p>")
+            of = link(by_name()[head].page, head)
+            page.parts.append(f"<p>The calls below are those of {of}, so each other name of it has them too.</p>")
         if owner.name in SHOWN_AT:
-            page.parts.append(f"<p>Its calls are on the page of {link(by_name()[SHOWN_AT[owner.name]].page, SHOWN_AT[owner.name])}.</p>")
+            shown = by_name()[SHOWN_AT[owner.name]]
+            page.parts.append(f"<p>Its calls are on the page of {link(shown.page, shown.name)}.</p>")
         names = [it for it in owners().values() if it.kind == "type" and re.match(rf"{owner.name}\b", it.target)]
         if names:
             page.heading("Names of it", "names")
@@ -121,7 +134,7 @@ class Reference:
         for heading, group in owner.groups():
             page.heading(heading)
             for call in group:
-                page.parts.append(self.call(call, owner, page))
+                page.parts += [self.about(call, owner), self.call(call, owner, page)]
                 page.side.append(f'<a href="#{call.name}"><code>{call.name}</code></a>')
 
     def call(self, call, owner, page, prefix=""):
@@ -132,7 +145,8 @@ class Reference:
             is_module = owner.kind == "module"
             shown = f"{owner.path}::{call.name}" if is_module else f"{owner.name}::{call.name}"
             kind = "method" if "self" in call.item.head else "function"
-            self.name(shown, kind, f"{owner.page}#{anchor}", call.item.docs, signature(call, owner), 0 if is_module else rank_of(owner.name))
+            rank = 0 if is_module else rank_of(owner.name)
+            self.name(shown, kind, f"{owner.page}#{anchor}", call.item.docs, signature(call, owner), rank)
         source = f"{source_page(call.crate, call.module)}#{line_anchor(call.item)}"
         return (f'<section class="call" id="{anchor}"><h3><a class="perma" href="#{anchor}" aria-label="link to {call.name}">§</a>'
                 f'<code>{linked_code(re.sub(r"^pub ", "", call.item.head))}</code><a class="src" href="{source}">source</a></h3>'
@@ -144,7 +158,8 @@ class Reference:
         if derived or owner.impls:
             page.heading("Trait implementations", "traits")
         if derived:
-            page.parts.append(f"<p>Derived, so the language gives their contracts: {', '.join(f'<code>{it}</code>' for it in derived)}</p>")
+            names = ", ".join(f"<code>{it}</code>" for it in derived)
+            page.parts.append(f"<p>Derived, so the language gives their contracts: {names}</p>")
         for impl in sorted(owner.impls, key=lambda it: it.of_trait):
             anchor = page.anchor(impl_anchor(impl.of_trait))
             page.side.append(f'<a href="#{anchor}"><code>{escape(impl.of_trait)}</code></a>')
@@ -156,10 +171,12 @@ class Reference:
     def impl(self, impl, anchor, owner, page):
         ghosts = callers.ghosts_of(impl.item)
         own = by_name().get(re.match(r"\w*", impl.of_trait)[0])
-        of = f"<p>A trait of this library: {link(own.page, own.name)}.</p>" if own and own.kind == "trait" else std_trait(impl.of_trait)
+        is_own = own and own.kind == "trait"
+        of = f"<p>A trait of this library: {link(own.page, own.name)}.</p>" if is_own else std_trait(impl.of_trait)
         calls = "".join(self.call(it, owner, page, f"{impl.of_trait}.") for it in impl.calls)
         words = meanings_html([without_braces(it.head) for it in ghosts], ghosts[0].words) if ghosts else ""
-        return (f'<details class="impl" id="{anchor}"><summary><code>{linked_code(impl.item.head)}</code></summary><div class="docs">{of}'
+        return (f'<details class="impl" id="{anchor}"><summary><code>{linked_code(impl.item.head)}</code></summary>'
+                f'<div class="docs">{of}'
                 f"{docs_html(impl.item.docs, owner)}{''.join(map(ghost_html, ghosts))}{words}{calls}</div></details>")
 
 # The parts of a page
@@ -194,12 +211,14 @@ def line_anchor(item):
 
 
 def documentation(call):
-    """The documentation of a call, and where it is from if it is that of the trait."""
+    """The documentation of a call, with that of the trait if it has no sentence, and a note where that is from."""
     own = by_name().get(re.match(r"\w*", call.of_trait)[0]) if call.of_trait else None
-    if call.item.docs or not call.of_trait:
+    has_sentence = any(line and not line.startswith("    ") for line in call.item.docs)
+    if has_sentence or not own or not own.item:
         return call.item.docs, ""
-    inherited = next((it.docs for it in own.item.inner if it.kind == "fn" and it.name == call.name), []) if own and own.item else []
-    return inherited, f'<p class="soft small">From the trait <code>{escape(call.of_trait)}</code>.</p>' if inherited else ""
+    inherited = next((it.docs for it in own.item.inner if it.kind == "fn" and it.name == call.name), [])
+    note = f'<p class="soft small">From the trait <code>{escape(call.of_trait)}</code>.</p>' if inherited else ""
+    return [*inherited, "", *call.item.docs] if call.item.docs else inherited, note
 
 
 def std_trait(of_trait):

@@ -47,11 +47,12 @@ def modules_table(_):
 def calls_table(crate):
     """The groups of the calls of a library, with the number of their clauses, examples, tests and mutations."""
     lines = ["| Group | Calls | Clauses | With an example | Tests | Mutations |", "|---|--:|--:|--:|--:|--:|"]
-    shared = {id(it): entry for entry, _ in entries(crate) for it in (entry.item.inner if entry.item.kind in ("impl", "trait") else [])}
+    blocks = [entry for entry, _ in entries(crate) if entry.item.kind in ("impl", "trait")]
+    shared = {id(it): example(entry.item.docs) for entry in blocks for it in entry.item.inner}
     total = [0] * 5
     for heading in headings(crate):
         group = [call for call in rows() if (call.crate, call.heading) == (crate, heading)]
-        shown = [call for call in group if example(call.item.docs) or id(call.item) in shared and example(shared[id(call.item)].docs)]
+        shown = [call for call in group if example(call.item.docs) or shared.get(id(call.item))]
         tests = {place.name for call in group for place in call.tests}
         mutations = {mutation.name for call in group for mutation in call.mutations}
         counts = [len(group), sum(len(call.item.clauses) for call in group), len(shown), len(tests), len(mutations)]

@@ -9,9 +9,14 @@ sys.dont_write_bytecode = True
 TOP = Path(__file__).resolve().parents[2]
 sys.path[:0] = [str(TOP / "tools" / it) for it in ("docs", "reader")]
 import reach  # noqa: E402
+import tables  # noqa: E402
+import uses  # noqa: E402
 from callers import use_lines  # noqa: E402
 from definitions import Definitions  # noqa: E402
 from examples import examples_in, names_of_tests, statements  # noqa: E402
+from functions import functions_of  # noqa: E402
+from items import read_items  # noqa: E402
+from made import conditions, example, first_sentence  # noqa: E402
 from samples import is_sample, named  # noqa: E402
 
 
@@ -46,6 +51,71 @@ class Examples(unittest.TestCase):
         lines = ["let mut a = b();", "a.next() // 1", "a.next() // 2"]
         shown = [f'    assert_debug!(rt; a.next(), "{n}");' for n in (1, 2)]
         self.assertEqual(statements(lines), [lines[0], *shown])
+
+
+class Documentation(unittest.TestCase):
+    DOCS = ["Returns it, or `None`. It is", "copied.", "", "Condition: `i` is", "small.", "", '    view("a").at(0) // 1', "    b()?"]
+
+    def test_parts(self):
+        self.assertEqual(first_sentence(self.DOCS), "Returns it, or `None`.")
+        self.assertEqual(conditions(self.DOCS), ["Condition: `i` is\nsmall."])
+        self.assertEqual(example(self.DOCS), ['AsciiStr::literal("a").at(0) // 1', "b()?"])
+
+
+# A file that uses a library of two types, with names that std has too.
+USER = """
+use lib::text::{self, View};
+use lib::Own;
+
+fn many(view: View<'_>, list: &[u8], own: &mut Own<Vec<u8>>) -> Result<(), Error> {
+    list.len();
+    view.len();
+    own.len();
+    let copy = view.copy(alloc)?;
+    copy.new();
+    own.extend(list.iter().map(|view| view.len()));
+    match text::view_of(list) {
+        Ok(found) => found.len(),
+        Err(other) => other.len(),
+    }
+    if let Some(first) = Own::make().first() {
+        first.copy(alloc);
+    }
+    list.first();
+}
+"""
+
+
+class Uses(unittest.TestCase):
+    def setUp(self):
+        self.known = uses.Known()
+        results = {("View", "len"): "usize", ("View", "copy"): "Result<Own<Vec<u8>>,Refused>", ("Own", "len"): "usize",
+                   ("Own", "new"): "Self", ("Own", "make"): "Self", ("Own", "first"): "Option<View>", ("Own", "extend"): ""}
+        self.known.methods = {key: ("::".join(key), result) for key, result in results.items()}
+        self.known.functions = {"lib::text::view_of": ("view_of", "Result<View,Refused>")}
+        self.known.types = {"lib::text::View": "View", "lib::Own": "Own"}
+
+    def found(self, text):
+        function = functions_of("", text)[0]
+        return uses.Scan(self.known, ("user", ()), uses.imports_of(read_items(text)), function, text).found
+
+    def test_a_call_is_known_by_its_path_or_by_the_type_that_it_is_made_on(self):
+        want = ["View::len", "Own::len", "View::copy", "Own::new", "Own::extend", "view_of", "View::len", "Own::make", "Own::first",
+                "View::copy"]
+        self.assertEqual(self.found(USER), want)
+
+    def test_parameters_of_a_type(self):
+        self.assertEqual(uses.inside("Result<Own<Vec<u8>,A>,Error>"), "Own<Vec<u8>,A>")
+        self.assertEqual(uses.inside("Result<Own<Vec<u8>,A>,Error>", 1), "Error")
+        self.assertEqual([uses.head_of(it) for it in ("&'a mut fmt::Text<B>", "Option<u8>", "")], ["Text", "Option", ""])
+
+
+class Tables(unittest.TestCase):
+    def test_a_table_is_made_between_its_lines(self):
+        page = "a\n<!-- Made by `bin/docs tables`: sample x -->\nold\n<!-- end of the table -->\nb\n"
+        tables.TABLES["sample"] = lambda of: [f"| {of} |"]
+        self.assertEqual(tables.page_with_tables(page), page.replace("old", "| x |"))
+        self.assertEqual(tables.page_with_tables("no table"), "no table")
 
 
 class Samples(unittest.TestCase):

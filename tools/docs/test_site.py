@@ -1,8 +1,8 @@
 """Tests of a site that `bin/docs site` wrote: `python3 tools/docs/test_site.py FOLDER`. The HTML is well formed, each link
 leads to a page and an anchor that exist, each public path and each definition has its place, each word of a clause that a `use`
-line brings is linked, and no page names a private module. If Node is installed, the search of the pages finds each page of searches.txt
-among its first three answers; if Chromium is, it opens some pages, and follows a search to a call and to a definition.
-Status 1, and a line for each fault; 64: no FOLDER."""
+line brings is linked, and no page names a private module. If Node is installed, the search of the pages finds each page of
+searches.txt among its first three answers; if Chromium is, it opens some pages, and follows a search to a call and to a
+definition. Status 1, and a line for each fault; 64: no FOLDER."""
 import json
 import re
 import shutil
@@ -124,7 +124,8 @@ def searched(folder):
         return []
     lines = [line.split() for line in (HERE / "searches.txt").read_text(encoding="utf-8").splitlines() if line and line[0] != "#"]
     texts = [text for text, _ in lines]
-    ran = subprocess.run(["node", "-e", SEARCH, str(folder.resolve())], input=json.dumps(texts), capture_output=True, text=True, timeout=60)
+    command = ["node", "-e", SEARCH, str(folder.resolve())]
+    ran = subprocess.run(command, input=json.dumps(texts), capture_output=True, text=True, timeout=60)
     if ran.returncode:
         return [f"search.js: {ran.stderr.strip()}"]
     return [f"the search for {text} finds {', '.join(found)} and not {page}"

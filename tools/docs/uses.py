@@ -5,7 +5,7 @@ import re
 from dataclasses import dataclass, field
 
 from functions import functions_of, plain
-from items import read_items
+from items import Item, read_items
 from made import TOP, module_file, modules_of
 from sources import CRATES, bare, read, used_paths
 from tokens import lex, partners, parts, skip_angles
@@ -104,7 +104,7 @@ class Scan:
                 self.bind(i)
             elif token.text == "match":
                 self.matched = self.value(i + 1, False)[0]
-            elif token.text in ("Ok", "Some", "Err") and self.word(i + 1) == "(" and self.word(i + 3) == ")" and self.word(i + 4) == "=>":
+            elif token.text in ("Ok", "Some", "Err") and [self.word(i + n) for n in (1, 3, 4)] == ["(", ")", "=>"]:
                 self.types[self.word(i + 2)] = inside(self.matched, token.text == "Err")
             elif token.text == "for" or token.text == "|":
                 self.types[self.word(i + 1)] = ""
@@ -198,7 +198,8 @@ def imports_of(items):
         if item.kind == "use":
             head = re.sub(r"^(pub(\(\w+\))? )?", "pub ", item.head)
             if "*" not in head and " as " not in head and head.count("{") <= 1:
-                found.update({path[-1]: path for path in used_paths(type(item)("use", "", head))})
+                paths = [path[:-1] if path[-1] == "self" else path for path in used_paths(Item("use", "", head))]
+                found.update({path[-1]: path for path in paths})
     return found
 
 

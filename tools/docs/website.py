@@ -132,7 +132,8 @@ class Site:
         for crate in EXAMPLES:
             text = re.sub(r"^# .*$", "", read(CRATES / crate / "README.md"), flags=re.M)
             links = ", ".join(link(source_page(crate, path), "/".join(parts_of(crate, path)) + ".rt") for path in modules_of(crate))
-            parts.append(f'<h2 id="{crate}"><code>{crate}</code></h2>{self.with_links(f"crates/{crate}/README.md", html_of(text))}<p>{links}</p>')
+            about = self.with_links(f"crates/{crate}/README.md", html_of(text))
+            parts.append(f'<h2 id="{crate}"><code>{crate}</code></h2>{about}<p>{links}</p>')
             side.append(f'<a href="#{crate}"><code>{crate}</code></a>')
             self.names.append([crate, "page", f"examples.html#{crate}", first_sentence(text.strip().splitlines()), "", 0])
         self.write("examples.html", frame("Examples", "\n".join(parts), "".join(side)))

@@ -46,7 +46,8 @@ function found(names, text, kind) {
 
 // The field at the head of each page, the answers below it, and the keys.
 function begin() {
-  const field = document.createElement("input"), panel = document.getElementById("found"), asked = new URLSearchParams(location.search).get("q");
+  const field = document.createElement("input"), panel = document.getElementById("found");
+  const asked = new URLSearchParams(location.search).get("q");
   Object.assign(field, { type: "search", placeholder: "a name, or types: AsciiStr -> usize    ( / )" });
   field.setAttribute("aria-label", "search");
   document.getElementById("search").append(field);
