@@ -35,6 +35,7 @@ def picture(width, height, title, parts):
     tip = ('<marker id="tip" viewBox="0 0 8 8" refX="7" refY="4" markerWidth="7" markerHeight="7" orient="auto">'
            '<path d="M0 0 L8 4 L0 8 z" style="fill:#7b8794"/></marker>')
     return "\n".join([
+        "<!-- Made by `bin/docs pictures`. -->",
         f'<svg xmlns="http://www.w3.org/2000/svg" viewBox="0 0 {width} {height}" width="{width}" role="img">',
         f"<title>{escape(title)}</title>", f"<style>{STYLE}</style>", f"<defs>{tip}</defs>", *parts, "</svg>"]) + "\n"
 
