@@ -282,8 +282,9 @@ def needs_lines(crate):
     kit = sorted({n for name in order for n in lines[name] if n not in lines})
     folders = listed([f"crates/{name}" for name in order])
     word = "folders" if len(order) > 1 else "folder"
-    text = (f"The {word} {folders}, and in `crates.txt` what stands here, "
-            f"before a line `CALLER: {named}` for the caller's own crate.")
+    lines_word = "these lines" if len(order) > 1 else "this line"
+    text = (f"The {word} {folders}, and in `crates.txt` {lines_word}, before a line `CALLER: {named}` for the caller's "
+            f"own crate.")
     if kit:
         text += f" {listed(kit)} {'come' if len(kit) > 1 else 'comes'} with the toolchain."
     quoted = [f"{name}: {' '.join(lines[name])}".strip() for name in order]
