@@ -10,7 +10,7 @@ import calls
 import examples
 from made import LIBRARIES, TOP, modules_of, with_literals
 from meanings import words_in
-from owners import by_name
+from owners import by_name, owners
 
 sys.path.append("/usr/lib/python3/dist-packages")
 try:
@@ -30,9 +30,12 @@ def slug(text, separator):
     return re.sub(r"[^\w\- ]", "", text.lower()).replace(" ", separator)
 
 
+TOC = {"slugify": slug, "permalink": "§", "permalink_class": "perma", "permalink_title": "a link to this section"}
+
+
 def html_of(text, headings=None):
     """The HTML of a text in Markdown; `headings` gains the headings of the second level, with their anchors."""
-    made = markdown.Markdown(extensions=EXTENSIONS, extension_configs={"toc": {"slugify": slug}})
+    made = markdown.Markdown(extensions=EXTENSIONS, extension_configs={"toc": TOC if headings is not None else {}})
     html = made.convert(text)
     if headings is not None:
         tops = made.toc_tokens[0]["children"] if len(made.toc_tokens) == 1 else made.toc_tokens
@@ -62,18 +65,22 @@ def linked_code(code):
     return re.sub(r"\b[A-Z]\w+", lambda m: f'<a href="{known[m[0]].page}">{m[0]}</a>' if m[0] in known else m[0], escape(code))
 
 
+CODE = re.compile(r"(?<!<pre>)<code>((\w+::)*\w+)((?:::&lt;[\w, ]*&gt;)?\([^<]*\))?</code>")
+
+
 def linked_docs(html, owner):
-    """Documentation in which the code that names a call of a page, or a type, is linked."""
-    anchors = {call.name: f"{owner.page}#{call.name}" for call in owner.calls} if owner else {}
+    """Documentation in which the code that names a call, a type or a module is linked."""
+    crate = owner.path.partition("::")[0] if owner else "ascii"
+    views = by_name()["AsciiStr"] if owner and owner.kind == "module" else None
 
     def url(text):
-        kind, _, name = text.rpartition("::")
-        page = by_name().get(kind or name)
-        if kind and page and any(call.name == name for call in page.calls):
-            return f"{page.page}#{name}"
-        return anchors.get(text) or (page.page if page and not kind else "")
+        of, _, name = text.rpartition("::")
+        page = owners().get(f"{crate}::{of}::") or owners().get(f"{of}::") or by_name().get(of) if of else owner
+        call = next((it for it in (page, None if of else views) if it and any(call.name == name for call in it.calls)), None)
+        whole = None if of else by_name().get(name) or views and owners().get(f"{crate}::{name}::")
+        return f"{call.page}#{name}" if call else whole.page if whole else ""
 
-    return re.sub(r"(?<!<pre>)<code>([\w:]+)</code>", lambda m: f'<a href="{url(m[1])}">{m[0]}</a>' if url(m[1]) else m[0], html)
+    return CODE.sub(lambda m: f'<a href="{url(m[1])}">{m[0]}</a>' if url(m[1]) else m[0], html)
 
 
 @cache
@@ -179,7 +186,7 @@ class Page:
 
     def heading(self, text, anchor=""):
         anchor = self.anchor(anchor or anchor_of(text.lower()))
-        self.parts.append(f'<h2 id="{anchor}">{inline(text)}</h2>')
+        self.parts.append(f'<h2 id="{anchor}">{inline(text)} <a class="perma" href="#{anchor}" aria-label="link to this group">§</a></h2>')
         self.side.append(f'<h2><a href="#{anchor}">{inline(text)}</a></h2>')
 
 

@@ -29,8 +29,8 @@ class Reference:
 
     def owner(self, owner):
         page = Page()
-        kind = {"type": "type alias"}.get(owner.kind, owner.kind)
-        page.parts.append(f'<p class="soft">{kind} of the crate <code>{owner.path.partition("::")[0]}</code></p>')
+        kind, crate = {"type": "type alias"}.get(owner.kind, owner.kind), owner.path.partition("::")[0]
+        page.parts.append(f'<p class="soft">{f"{kind} of the crate <code>{crate}</code>" if crate != owner.path else "crate"}</p>')
         page.parts.append(f"<h1><code>{owner.path}</code></h1>")
         self.imports(owner, page)
         if owner.item and owner.kind != "module":

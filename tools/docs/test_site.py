@@ -1,8 +1,8 @@
 """Tests of a site that `bin/docs site` wrote: `python3 tools/docs/test_site.py FOLDER`. The HTML is well formed, each link
 leads to a page and an anchor that exist, each public path and each definition has its place, each word of a clause that a `use`
-line brings is linked, and no page names a private module. If Node is installed, the search of the pages finds each page of
-searches.txt among its first three answers; if Chromium is, it opens some pages, and follows a search to a call and to a
-definition. Status 1, and a line for each fault; 64: no FOLDER."""
+line brings is linked, no page names a private module, and the links of the front page lead to the answers of five questions. If
+Node is installed, the search of the pages finds each page of searches.txt among its first three answers; if Chromium is, it opens
+some pages, and follows a search to a call and to a definition. Status 1, and a line for each fault; 64: no FOLDER."""
 import json
 import re
 import shutil
@@ -22,6 +22,14 @@ from made import DEFINED, LIBRARIES  # noqa: E402
 from meanings import page_of, scope  # noqa: E402
 from owners import owners  # noqa: E402
 
+# Questions of a reader: the links that lead to the answer from the front page, and a text of the answer.
+QUESTIONS = {
+    "where is rsplit_once's contract, and what does each word mean": (["ascii.AsciiStr.html", "#rsplit_once"], "otherwise the two sides"),
+    "which calls of AsciiString can fail": (["ascii.AsciiString.html"], "Calls that can fail:"),
+    "what does lines do with a last CR": (["ascii.AsciiStr.html", "#lines"], "last CR"),
+    "how is a class of one's own written": (["ascii.classes.module.html"], "A class of your own"),
+    "which test sees a wrong retain": (["ascii.AsciiString.html", "#retain"], "retain::kept_characters"),
+}
 VOID = {"meta", "link", "input", "img", "br", "hr", "col"}
 # Runs the search of the site over the rows of the standard input, and prints the addresses of the first three answers of each.
 SEARCH = """const { found } = require(process.argv[1] + "/search.js"), names = require(process.argv[1] + "/names.js");
@@ -67,7 +75,7 @@ def faults_of(folder):
         faults += [f"{page.name}: {fault}" for link in {*page.links} if (fault := fault_of_link(link, page.name, files, anchors))]
         faults += [f"{page.name}: two anchors {it}" for it in anchors[page.name] if page.anchors.count(it) > 1]
         faults += [] if 'href="index.html"' in texts[page.name] else [f"{page.name}: no way home"]
-    return faults + missing(anchors) + unlinked(texts) + private_modules(texts) + searched(folder)
+    return faults + missing(anchors) + unlinked(texts) + private_modules(texts) + unanswered(texts) + searched(folder)
 
 
 def fault_of_link(link, name, files, anchors):
@@ -115,6 +123,20 @@ def private_modules(texts):
     titles = {name: re.findall(r"<h1><code>([\w:]+)</code></h1>", text) for name, text in texts.items()}
     return [f"{name}: {title} cannot be imported" for name, found in titles.items() for title in found
             if title not in known and not name.startswith("words.")]
+
+
+def unanswered(texts):
+    """The questions whose answer the links of the front page do not lead to."""
+    faults = []
+    for question, (links, answer) in QUESTIONS.items():
+        page, shown = "index.html", texts["index.html"]
+        for link in links:
+            faults += [] if f'href="{link}"' in shown else [f"{page}: no link {link}: {question}?"]
+            page = page if link[0] == "#" else link
+            start = texts[page].find(f'<section class="call" id="{link[1:]}">') if link[0] == "#" else 0
+            shown = texts[page][start:].partition("</section>")[0] if link[0] == "#" else texts[page]
+        faults += [] if answer in shown else [f"{page}: no answer: {question}?"]
+    return faults
 
 
 def searched(folder):
