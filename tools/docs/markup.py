@@ -186,7 +186,8 @@ class Page:
 
     def heading(self, text, anchor=""):
         anchor = self.anchor(anchor or anchor_of(text.lower()))
-        self.parts.append(f'<h2 id="{anchor}">{inline(text)} <a class="perma" href="#{anchor}" aria-label="link to this group">§</a></h2>')
+        perma = f'<a class="perma" href="#{anchor}" aria-label="link to this group">§</a>'
+        self.parts.append(f'<h2 id="{anchor}">{inline(text)} {perma}</h2>')
         self.side.append(f'<h2><a href="#{anchor}">{inline(text)}</a></h2>')
 
 

@@ -54,7 +54,8 @@ class Examples(unittest.TestCase):
 
 
 class Documentation(unittest.TestCase):
-    DOCS = ["Returns it, or `None`. It is", "copied.", "", "Condition: `i` is", "small.", "", '    view("a").at(0) // 1', "    b()?"]
+    DOCS = ["Returns it, or `None`. It is", "copied.", "", "Condition: `i` is", "small.", "",
+            '    view("a").at(0) // 1', "    b()?"]
 
     def test_parts(self):
         self.assertEqual(first_sentence(self.DOCS), "Returns it, or `None`.")

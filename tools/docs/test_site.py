@@ -24,7 +24,7 @@ from owners import owners  # noqa: E402
 
 # Questions of a reader: the links that lead to the answer from the front page, and a text of the answer.
 QUESTIONS = {
-    "where is rsplit_once's contract, and what does each word mean": (["ascii.AsciiStr.html", "#rsplit_once"], "otherwise the two sides"),
+    "where is rsplit_once's contract": (["ascii.AsciiStr.html", "#rsplit_once"], "otherwise the two sides"),
     "which calls of AsciiString can fail": (["ascii.AsciiString.html"], "Calls that can fail:"),
     "what does lines do with a last CR": (["ascii.AsciiStr.html", "#lines"], "last CR"),
     "how is a class of one's own written": (["ascii.classes.module.html"], "A class of your own"),
