@@ -129,10 +129,10 @@ def docs_html(docs, owner=None):
     return linked_docs("\n".join(boxes), owner)
 
 
-def clause_html(label, text, lines):
+def clause_html(label, text, lines, bounds=""):
     """A clause with each word linked to its definition."""
     html, at = "", 0
-    for begin, word, it in words_in(text, lines):
+    for begin, word, it in words_in(text, lines, bounds):
         if begin >= at:
             html += escape(text[at:begin]) + f'<a href="{escape(it.url)}" title="{escape(it.text)}">{escape(word)}</a>'
             at = begin + len(word)
@@ -140,11 +140,11 @@ def clause_html(label, text, lines):
     return f'<div class="clause"><code>{head}{html}{escape(text[at:])}</code></div>'
 
 
-def meanings_html(texts, lines):
+def meanings_html(texts, lines, bounds=""):
     """The words of some clauses, each with its meaning."""
     found = {}
     for text in texts:
-        for _, word, it in words_in(text, lines):
+        for _, word, it in words_in(text, lines, bounds):
             if re.match(r"\w", word):
                 found.setdefault(word, it)
     rows = [f"<dt>{link(it.url, word)}</dt><dd>{inline(it.text) or 'its text is its meaning'}</dd>" for word, it in found.items()]

@@ -7,10 +7,10 @@ from pathlib import Path
 import kit
 from definitions import Definitions, used_words
 from made import LIBRARIES, first_sentence, modules_of, parts_of
-from owners import by_name
+from owners import by_name, owners
 from sources import read
 
-# The words of std that have no comment there, or one that does not stand alone: a word, and its meaning, a line.
+# The words of std that have no comment there, or one that says too little by itself: a word and its meaning a line.
 OWN_WORDS = Path(__file__).resolve().parent / "site" / "words.txt"
 STD_PAGE = "words.std.html"
 # The words of std that a page has asked for, by their anchors.
@@ -88,8 +88,13 @@ def std_meaning(module, name):
     file = found[1] if found else "built into the prover" if text else ""
     if not text and not found:
         return None
-    anchor = f"{Path(file).stem if found else 'built-in'}.{sign}"
-    STD_WORDS[anchor] = it = Meaning(sign, text, f"{STD_PAGE}#{anchor}", file, tuple(found[0].lines[:12]) if found else ())
+    return std_word(sign, text, file, tuple(found[0].lines[:12]) if found else ())
+
+
+def std_word(sign, text, file, lines=()):
+    """The meaning of a word of std, which has a place on the page of these words."""
+    anchor = f"{Path(file).stem if lines else 'built-in'}.{sign}"
+    STD_WORDS[anchor] = it = Meaning(sign, text, f"{STD_PAGE}#{anchor}", file, lines)
     return it
 
 
@@ -105,13 +110,43 @@ def scope(lines):
     return found
 
 
-def words_in(text, lines):
-    """The words of a text that have a meaning, in order: pairs of where a word is and its meaning."""
+@cache
+def members():
+    """The traits of the libraries that have each ghost member, by its name."""
+    found = {}
+    for owner in owners().values():
+        for ghost in owner.item.inner if owner.kind == "trait" else []:
+            if ghost.kind == "ghost":
+                found.setdefault(ghost.name, []).append((owner, ghost))
+    return found
+
+
+def member(word, bounds):
+    """The meaning of a member of a type parameter, as `B.sure`, or of a variant, as `End.Front`; none if the word is neither."""
+    first, *names = word.split(".")
+    if not names or not first[:1].isupper():
+        return None
+    if by_name().get(first, None) and by_name()[first].kind == "enum":
+        return declared_meaning([first], names[0])
+    if owner := by_name().get(names[0]) if len(names) == 1 else None:
+        return Meaning(word, f"the type as a `{owner.name}`", f"{owner.page}#top", owner.path)
+    own = members().get(names[-1], [])
+    owner, ghost = next((it for it in own if re.search(rf"\b{it[0].name}\b", bounds)), own[0] if own else (None, None))
+    if owner:
+        return Meaning(word, " ".join(ghost.docs), f"{owner.page}#contract", owner.path)
+    text = own_words().get(f".{names[-1]}")
+    return std_word(names[-1], text, "a ghost member of a trait of std") if text else None
+
+
+def words_in(text, lines, bounds=""):
+    """The words of a text that have a meaning, in order: where a word is, itself and its meaning. `bounds` has the bounds of the
+    type parameters that it names."""
     known = scope(tuple(lines or ()))
     for found in WORD.finditer(text):
         word = found[0]
-        at = found.start() if word in known else -1
-        if at < 0 and (head := word.partition(".")[0]) in known and head != word:
-            word, at = head, found.start()
-        if at >= 0:
-            yield at, word, known[word]
+        head = word.partition(".")[0]
+        it = known.get(word) or member(word, bounds)
+        if it:
+            yield found.start(), word, it
+        elif head in known:
+            yield found.start(), head, known[head]

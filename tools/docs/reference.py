@@ -227,10 +227,11 @@ def std_trait(of_trait):
 
 
 def contract(call):
-    clauses = [clause_html(label, text, call.item.words) for label, text in call.item.clauses]
+    bounds = f"{call.item.head} {call.block.head if call.block else ''}"
+    clauses = [clause_html(label, text, call.item.words, bounds) for label, text in call.item.clauses]
     if not clauses:
         return ""
-    meanings = meanings_html([text for _, text in call.item.clauses], call.item.words)
+    meanings = meanings_html([text for _, text in call.item.clauses], call.item.words, bounds)
     return f'<details class="contract"><summary>Contract</summary>{"".join(clauses)}{meanings}</details>'
 
 

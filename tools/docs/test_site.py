@@ -19,7 +19,7 @@ sys.path[:0] = [str(HERE.parents[0] / it) for it in ("docs", "reader")]
 import calls  # noqa: E402
 from definitions import Definitions  # noqa: E402
 from made import DEFINED, LIBRARIES  # noqa: E402
-from meanings import page_of, scope  # noqa: E402
+from meanings import page_of, scope, words_in  # noqa: E402
 from owners import owners  # noqa: E402
 
 # Questions of a reader: the links that lead to the answer from the front page, and a text of the answer.
@@ -114,6 +114,9 @@ def unlinked(texts):
             words = {word for _, text in call.item.clauses for word in re.findall(r"[^\s(){}\[\];,]+", text)}
             lacking = words & {*scope(tuple(call.item.words or ()))} - linked
             faults += [f"{owner.page}: {call.name}: {word} has no link" for word in sorted(lacking)]
+            bounds = f"{call.item.head} {call.block.head if call.block else ''}"
+            faults += [f"{owner.page}: {call.name}: a clause without a link: {text}" for _, text in call.item.clauses
+                       if not any(words_in(text, call.item.words, bounds))]
     return faults
 
 
