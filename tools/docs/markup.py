@@ -86,7 +86,8 @@ def linked_docs(html, owner):
 @cache
 def importable(crate):
     """The paths of the names that examples use, those of a crate if it has them; of traits only for the calls that no type has."""
-    found, paths = dict(examples.OTHERS), calls.paths_of_items()
+    found = {name: path for name, path in examples.OTHERS.items() if not path.startswith("super::")}
+    paths = calls.paths_of_items()
     for name in LIBRARIES:
         found |= examples.names_of(name, modules_of(name), found)
     methods = {call.name for call in calls.table_without_names() if not call.of_trait}
