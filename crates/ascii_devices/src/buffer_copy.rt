@@ -1,5 +1,5 @@
-//! Copies of bytes to a position of a buffer that has room for them. Up to 32 bytes are copied without
-//! a loop and without a call.
+//! Copies of bytes to a position of a buffer that has room for them. Up to 32 bytes, and up to 64 at the
+//! start of a longer text, are copied without a loop and without a call.
 
 ghost use Rattle.std.specs.Prelude.{◌≡◌, ◌+◌, ◌≤◌, length, take};
 ghost use Rattle.ascii_devices.specs.BufferCopy.{CopiesTo};
@@ -7,7 +7,7 @@ ghost use Rattle.ascii_devices.specs.BufferCopy.{CopiesTo};
 use std::simd::Simd;
 
 /// How many bytes `copy_front` copies.
-pub(crate) const FIXED: usize = 32;
+pub(crate) const FIXED: usize = 64;
 
 /// Copies the bytes to the position `at`, and returns the position after them. A short piece is two
 /// copies of one fixed size, which may overlap.

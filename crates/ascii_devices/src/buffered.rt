@@ -91,10 +91,10 @@ impl<A: Allocator> BufferedSink<A> {
         }
     }
 
-    /// Appends the first `n` of the bytes, as `put` does. If they are at most 32 of at least 32 bytes,
+    /// Appends the first `n` of the bytes, as `put` does. If they are at most 64 of at least 64 bytes,
     /// they are appended by one copy of a fixed size.
     ///
-    /// Condition: `n` is at most the number of bytes. A write has failed before, or fewer than
+    /// Condition: `n` is at most the number of bytes, and a write has failed before or fewer than
     /// `u64::MAX` calls of the sink have.
     ///
     ///     let mut output = Output::new(Vec::new(alloc));

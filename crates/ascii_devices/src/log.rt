@@ -13,6 +13,7 @@ use std::marker::{Model, PhantomData};
 #[derive(Drop)]
 pub struct Log<A> {
     of: PhantomData<A>,
+    // The items, in order.
     pub ghost items: { List A },
 }
 

@@ -76,6 +76,7 @@ fn put_segments<'a, K: Sink, A: Allocator>(
 }
 
 /// Appends a body and LF.
+#[inline(always)]
 pub(super) fn put_line<K: Sink, A: Allocator>(
     body: AsciiStr<'_>,
     buffer: &mut BufferedSink<A>,

@@ -7,7 +7,7 @@ pub returns : goal.returns
 returns c =
     let bytes = c.args.bytes.now in
     let n = c.args.n in
-    let long = length-take-le 32 bytes c.requires.front.1 in
-    rw (take-take n 32 bytes c.requires.front.0) at
+    let long = length-take-le 64 bytes c.requires.front.1 in
+    rw (take-take n 64 bytes c.requires.front.0) at
     (CopiesTo-take n (omega (arith, c.requires.room))
     (omega (arith, long, c.requires.front.0)) c.copy_fixed.ensures)
