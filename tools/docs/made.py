@@ -49,14 +49,8 @@ def conditions(docs):
 
 
 def example(docs):
-    """The lines of the examples of a documentation, with a view as callers make it."""
-    lines = [line[4:] for text in "\n".join(docs).split("\n\n") if text.startswith("    ") for line in text.splitlines()]
-    return [with_literals(line) for line in lines]
-
-
-def with_literals(line):
-    """A line of an example, in which `view` of the tests is the call that callers have."""
-    return re.sub(r'\bview\((?=")', "AsciiStr::literal(", line)
+    """The lines of the examples of a documentation."""
+    return [line[4:] for text in "\n".join(docs).split("\n\n") if text.startswith("    ") for line in text.splitlines()]
 
 
 def settle(file, text, command, is_check):

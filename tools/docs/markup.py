@@ -8,7 +8,7 @@ from pathlib import Path
 
 import calls
 import examples
-from made import LIBRARIES, TOP, modules_of, with_literals
+from made import LIBRARIES, TOP, modules_of
 from meanings import words_in
 from owners import by_name, owners
 
@@ -109,12 +109,12 @@ def use_lines(lines, crate):
 def copyable(paragraphs, crate):
     """The paragraphs of a documentation, the first example of which has the lines that bring its names."""
     code = [it for it in paragraphs if it.startswith("    ")]
-    uses = use_lines([with_literals(line) for it in code for line in it.splitlines()], crate)
+    uses = use_lines([line for it in code for line in it.splitlines()], crate)
     runtime = ["let alloc = rt.alloc();"] if re.search(r"\balloc\b", "".join(code)) and "let alloc" not in "".join(code) else []
     for paragraph in paragraphs:
         if paragraph in code[:1]:
             paragraph = "\n".join([*(f"    {line}" for line in [*uses, *runtime]), paragraph])
-        yield with_literals(paragraph) if paragraph.startswith("    ") else paragraph
+        yield paragraph
 
 
 def docs_html(docs, owner=None):

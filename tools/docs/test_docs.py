@@ -55,12 +55,12 @@ class Examples(unittest.TestCase):
 
 class Documentation(unittest.TestCase):
     DOCS = ["Returns it, or `None`. It is", "copied.", "", "Condition: `i` is", "small.", "",
-            '    view("a").at(0) // 1', "    b()?"]
+            '    make("a").at(0) // 1', "    b()?"]
 
     def test_parts(self):
         self.assertEqual(first_sentence(self.DOCS), "Returns it, or `None`.")
         self.assertEqual(conditions(self.DOCS), ["Condition: `i` is\nsmall."])
-        self.assertEqual(example(self.DOCS), ['AsciiStr::literal("a").at(0) // 1', "b()?"])
+        self.assertEqual(example(self.DOCS), ['make("a").at(0) // 1', "b()?"])
 
 
 # A file that uses a library of two types, with names that std has too.

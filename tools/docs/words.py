@@ -1,4 +1,4 @@
-"""Looks in the pages, and in the comments of sources and scripts, for words that a reader would stumble over.
+"""Looks in the paragraphs of pages and of the comments of sources and scripts for words that a reader would stumble over.
 
 words.txt in the folder of this file lists them, each with what to write instead."""
 import re
@@ -29,6 +29,19 @@ def prose(file):
             yield number, re.sub(r"`[^`]*`", "``", next(filter(None, comment.groups()), ""))
 
 
+def paragraphs(file):
+    """The paragraphs of prose of a file: each a text, and the number of the line at each position of it."""
+    texts, numbers = [], []
+    for number, line in prose(file):
+        if numbers and (number != numbers[-1] + 1 or not line.strip()):
+            yield " ".join(texts), [n for text, n in zip(texts, numbers) for _ in f"{text} "]
+            texts, numbers = [], []
+        if line.strip():
+            texts, numbers = [*texts, line.strip()], [*numbers, number]
+    if texts:
+        yield " ".join(texts), [n for text, n in zip(texts, numbers) for _ in f"{text} "]
+
+
 def is_script(file):
     """Whether a file without a suffix is a script: its first bytes say so, and the others may be any."""
     return not file.suffix and file.read_bytes().startswith(b"#!")
@@ -44,14 +57,13 @@ def faults():
             pattern, _, better = line.partition("=>")
             patterns.append((re.compile(pattern.strip(), re.IGNORECASE), better.strip()))
     listed = subprocess.run(["git", "ls-files"], cwd=TOP, capture_output=True, text=True, check=True).stdout.split()
-    files = [TOP / name for name in listed if not name.endswith(("CALLING.md", "words.txt"))]
+    files = [TOP / name for name in listed if not name.endswith("words.txt")]
     files = [f for f in files if f.is_file() and (f.suffix in COMMENTS or is_script(f))]
     wrong = []
     for file in files:
-        for number, line in prose(file):
-            for text in exceptions:
-                line = line.replace(text, "")
-            for pattern, better in patterns:
-                if found := pattern.search(line):
-                    wrong.append(f"{file.relative_to(TOP)}:{number}: {found.group()!r}: {better}")
+        for text, numbers in paragraphs(file):
+            for exception in exceptions:  # of the same length, so that each position keeps its line
+                text = text.replace(exception, " " * len(exception))
+            wrong += [f"{file.relative_to(TOP)}:{numbers[found.start()]}: {found.group()!r}: {better}"
+                      for pattern, better in patterns for found in pattern.finditer(text)]
     return wrong

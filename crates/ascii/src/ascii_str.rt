@@ -1,10 +1,21 @@
 //! Views of text that is known to be ASCII: reading, slicing, trimming and comparing them.
 //!
-//! The other methods of `AsciiStr` are in the modules of their subject: `chars` in `iter::chars`,
-//! `split` and `split_spans` in `iter::split`, `lines` and `line_spans` in `iter::lines`, the walks in
-//! `iter::walks`; `find`, `position` and `strip_prefix` in `search`, prefixes without case in
-//! `folded_search`, `split_once` in `splits`, `span` and `trim_matches` in `trims`; copies in `copies`;
-//! JSON values in `json`. A view is made by `bytes` and `text`.
+//! A view is made by `bytes` and `text`.
+//!
+//! Made by `bin/docs tables`: the other calls of `AsciiStr` are in `copies` (`to_ascii_string`,
+//! `to_ascii_uppercase`, `to_ascii_lowercase`, `to_chars`); `folded` (`folded`); `folded_search`
+//! (`starts_with_ignore_ascii_case`, `strip_prefix_ignore_ascii_case`,
+//! `ends_with_ignore_ascii_case`, `strip_suffix_ignore_ascii_case`); `iter::backwards` (`rsplit`,
+//! `rsplit_spans`); `iter::by_class` (`split_by`, `split_spans_by`, `words`, `split_whitespace`,
+//! `word_spans`, `runs`, `run_spans`); `iter::by_text` (`split_str`, `split_spans_str`, `matches`,
+//! `match_spans`); `iter::chars` (`chars`); `iter::ended` (`split_terminator`,
+//! `split_terminator_spans`, `split_inclusive`, `split_inclusive_spans`); `iter::lines` (`lines`,
+//! `line_spans`, `line_spans_from`); `iter::lines_by` (`lines_by`, `line_spans_by`); `iter::split`
+//! (`split`, `split_spans`, `split_spans_from`); `iter::split_n` (`splitn`); `json` (`to_json`);
+//! `numbers` (`to_number`, `take_number`); `replace` (`replace`); `search` (`find`, `rfind`,
+//! `contains`, `position`, `rposition`, `eq_text`, `starts_with`, `ends_with`, `strip_prefix`,
+//! `strip_suffix`); `splits` (`split_once`, `rsplit_once`, `split_once_str`, `rsplit_once_str`);
+//! `text` (`literal`); `trims` (`span`, `trim_matches`, `trim_start_matches`, `trim_end_matches`).
 
 ghost use Rattle.std.specs.Prelude.{◌≡◌, ◌-◌, ◌<◌, ◌↔◌, [], IsOkAnd, IsTrue, OnErr, Some, codes};
 ghost use Rattle.std.specs.Prelude.{length, map, slice_get, slice_index};
@@ -26,6 +37,8 @@ use std::fmt;
 ///
 /// The bytes are checked once, when the view is made, and read without a copy. `==`, the order and
 /// the hash are those of the bytes, so the order is lexicographic.
+///
+/// Its calls do not allocate, except those that return a `Result` with `AllocError`.
 #[derive(Clone, Copy, PartialEq, Eq, PartialOrd, Ord, Hash)]
 pub struct AsciiStr<'a> {
     pub(crate) bytes: &'a [u8],
@@ -38,7 +51,8 @@ impl<'a> AsciiStr<'a> {
 
     /// Returns the view as a `&str`. Nothing is checked or copied.
     ///
-    ///     view("foo").as_str() // "foo"
+    ///     AsciiStr::literal("foo").as_str() // "foo"
+    ///     AsciiStr::literal("").as_str() // ""
     #[inline]
     pub fn as_str(self) -> &'a str
         ensures { result.now ≡ text_of self.entry }
@@ -48,7 +62,8 @@ impl<'a> AsciiStr<'a> {
 
     /// Returns the bytes of the view, one for each character.
     ///
-    ///     view("foo").as_bytes() // [102, 111, 111]
+    ///     AsciiStr::literal("foo").as_bytes() // [102, 111, 111]
+    ///     AsciiStr::literal("").as_bytes() // []
     #[inline]
     pub fn as_bytes(self) -> &'a [u8]
         ensures codes { result.now ≡ text_of self.entry }
@@ -59,7 +74,8 @@ impl<'a> AsciiStr<'a> {
 
     /// Returns the number of characters, which is also the number of bytes.
     ///
-    ///     view("foo").len() // 3
+    ///     AsciiStr::literal("foo").len() // 3
+    ///     AsciiStr::literal("").len() // 0
     #[inline]
     pub fn len(self) -> usize
         ensures { result ≡ length (text_of self.entry) }
@@ -69,7 +85,8 @@ impl<'a> AsciiStr<'a> {
 
     /// Returns `true` if the view has no characters.
     ///
-    ///     view("").is_empty() // true
+    ///     AsciiStr::literal("").is_empty() // true
+    ///     AsciiStr::literal(" ").is_empty() // false
     #[inline]
     pub fn is_empty(self) -> bool
         ensures { IsTrue result ↔ (text_of self.entry ≡ []) }
@@ -79,7 +96,8 @@ impl<'a> AsciiStr<'a> {
 
     /// Returns the first character, or `None` if the view is empty.
     ///
-    ///     view("foo").first() // Some('f')
+    ///     AsciiStr::literal("foo").first() // Some('f')
+    ///     AsciiStr::literal("").first() // None
     #[inline]
     pub fn first(self) -> Option<AsciiChar>
         ensures { option_map code_of result ≡ slice_get (text_of self.entry) 0 }
@@ -89,7 +107,8 @@ impl<'a> AsciiStr<'a> {
 
     /// Returns the last character, or `None` if the view is empty.
     ///
-    ///     view("foo").last() // Some('o')
+    ///     AsciiStr::literal("foo").last() // Some('o')
+    ///     AsciiStr::literal("").last() // None
     #[inline]
     pub fn last(self) -> Option<AsciiChar>
         ensures { let text = text_of self.entry in
@@ -101,8 +120,8 @@ impl<'a> AsciiStr<'a> {
     /// Returns the character at position `i`, counted from 0, or `None` if `i` is not less than the
     /// length.
     ///
-    ///     view("foo").get_ascii(0) // Some('f')
-    ///     view("foo").get_ascii(3) // None
+    ///     AsciiStr::literal("foo").get_ascii(0) // Some('f')
+    ///     AsciiStr::literal("foo").get_ascii(3) // None
     #[inline]
     pub fn get_ascii(self, i: usize) -> Option<AsciiChar>
         ensures { option_map code_of result ≡ slice_get (text_of self.entry) i }
@@ -116,9 +135,11 @@ impl<'a> AsciiStr<'a> {
 
     /// Returns the character at position `i`, counted from 0.
     ///
-    /// Condition: `i` is less than the length. If that is not known, use `get_ascii`.
+    /// Condition: `i` is less than the length.
     ///
-    ///     view("foo").char_at(0) // 'f'
+    /// If that is not known, use `get_ascii`.
+    ///
+    ///     AsciiStr::literal("foo").char_at(0) // 'f'
     #[inline]
     pub fn char_at(self, i: usize) -> AsciiChar
         requires { i < length (text_of self) }
@@ -129,7 +150,7 @@ impl<'a> AsciiStr<'a> {
 
     /// Returns the view itself as `Ok`: a view never has to be checked again.
     ///
-    ///     view("foo").as_ascii_str() // Ok("foo")
+    ///     AsciiStr::literal("foo").as_ascii_str() // Ok("foo")
     #[inline]
     pub fn as_ascii_str(self) -> Result<AsciiStr<'a>, AsAsciiStrError>
         ensures { IsOkAnd result (λ view. text_of view ≡ text_of self.entry) }
@@ -140,8 +161,8 @@ impl<'a> AsciiStr<'a> {
     /// Returns the part of the view in `range`, or an error with the view's length if `range` does
     /// not fit.
     ///
-    ///     view("foo").slice_ascii(AsciiRange::To(2)) // Ok("fo")
-    ///     view("foo").slice_ascii(AsciiRange::To(4)) // Err(AsAsciiStrError(3))
+    ///     AsciiStr::literal("foo").slice_ascii(AsciiRange::To(2)) // Ok("fo")
+    ///     AsciiStr::literal("foo").slice_ascii(AsciiRange::To(4)) // Err(AsAsciiStrError(3))
     #[inline]
     pub fn slice_ascii(self, range: AsciiRange) -> Result<AsciiStr<'a>, AsAsciiStrError>
         ensures outcome { SliceOutcome (text_of self.entry) range result }
@@ -157,9 +178,12 @@ impl<'a> AsciiStr<'a> {
 
     /// Returns the part of the view in `range`. Constant time.
     ///
-    /// Condition: `range` fits the view. If that is not known, use `slice_ascii`.
+    /// Condition: `range` fits the view.
     ///
-    ///     view("foo").slice(AsciiRange::From(1)) // "oo"
+    /// If that is not known, use `slice_ascii`.
+    ///
+    ///     AsciiStr::literal("foo").slice(AsciiRange::From(1)) // "oo"
+    ///     AsciiStr::literal("foo").slice(AsciiRange::From(3)) // ""
     #[inline]
     pub fn slice(self, range: AsciiRange) -> AsciiStr<'a>
         requires { Fits range (length (text_of self)) }
@@ -177,7 +201,11 @@ impl<'a> AsciiStr<'a> {
     ///
     /// Reads only the whitespace that it removes, and up to one step of 32 bytes more at each end.
     ///
-    ///     view(" a b\r\n").trim() // "a b"
+    /// For the characters of another class use `trim_matches`.
+    ///
+    ///     AsciiStr::literal(" a b\r\n").trim() // "a b"
+    ///     AsciiStr::literal("a").trim() // "a"
+    ///     AsciiStr::literal(" \t").trim() // ""
     pub fn trim(self) -> AsciiStr<'a>
         ensures { Trims IsWhitespace (text_of self.entry) (text_of result) }
     {
@@ -186,7 +214,8 @@ impl<'a> AsciiStr<'a> {
 
     /// Returns the view without the whitespace at its start. Whitespace is that of `trim`.
     ///
-    ///     view(" a b ").trim_start() // "a b "
+    ///     AsciiStr::literal(" a b ").trim_start() // "a b "
+    ///     AsciiStr::literal(" ").trim_start() // ""
     pub fn trim_start(self) -> AsciiStr<'a>
         ensures { TrimsStart IsWhitespace (text_of self.entry) (text_of result) }
     {
@@ -198,7 +227,8 @@ impl<'a> AsciiStr<'a> {
 
     /// Returns the view without the whitespace at its end. Whitespace is that of `trim`.
     ///
-    ///     view(" a b ").trim_end() // " a b"
+    ///     AsciiStr::literal(" a b ").trim_end() // " a b"
+    ///     AsciiStr::literal(" ").trim_end() // ""
     pub fn trim_end(self) -> AsciiStr<'a>
         ensures { TrimsEnd IsWhitespace (text_of self.entry) (text_of result) }
     {
@@ -213,7 +243,10 @@ impl<'a> AsciiStr<'a> {
     /// Compares the lengths and the first character first, and stops at the first step of bytes
     /// that differ.
     ///
-    ///     view("Host").eq_ignore_ascii_case(view("HOST")) // true
+    /// For the keys of a map use `folded`.
+    ///
+    ///     AsciiStr::literal("Host").eq_ignore_ascii_case(AsciiStr::literal("HOST")) // true
+    ///     AsciiStr::literal("Host").eq_ignore_ascii_case(AsciiStr::literal("Hos")) // false
     #[inline]
     pub fn eq_ignore_ascii_case(self, other: AsciiStr<'_>) -> bool
         ensures { IsTrue result
@@ -224,7 +257,8 @@ impl<'a> AsciiStr<'a> {
 
     /// Returns `true` if the view has the same bytes as a text.
     ///
-    ///     view("foo").eq_str("foo") // true
+    ///     AsciiStr::literal("foo").eq_str("foo") // true
+    ///     AsciiStr::literal("foo").eq_str("Foo") // false
     #[inline]
     pub fn eq_str(self, other: &str) -> bool
         ensures { IsTrue result ↔ (text_of self.entry ≡ other.now) }
@@ -234,7 +268,8 @@ impl<'a> AsciiStr<'a> {
 
     /// Returns `true` if the view has these bytes.
     ///
-    ///     view("foo").eq_bytes(b"foo") // true
+    ///     AsciiStr::literal("foo").eq_bytes(b"foo") // true
+    ///     AsciiStr::literal("foo").eq_bytes(b"fo") // false
     #[inline]
     pub fn eq_bytes(self, other: &[u8]) -> bool
         ensures { IsTrue result ↔ (text_of self.entry ≡ other.now) }
@@ -263,7 +298,7 @@ impl<'a> From<AsciiStr<'a>> for &'a str {
 
     /// Returns the view as a `&str`. Nothing is checked or copied.
     ///
-    ///     <&str>::from(view("foo")) // "foo"
+    ///     <&str>::from(AsciiStr::literal("foo")) // "foo"
     fn from(view: AsciiStr<'a>) -> &'a str {
         view.as_str()
     }
@@ -276,7 +311,7 @@ impl<'a> From<AsciiStr<'a>> for &'a [u8] {
 
     /// Returns the bytes of the view, one for each character.
     ///
-    ///     <&[u8]>::from(view("foo")) // [102, 111, 111]
+    ///     <&[u8]>::from(AsciiStr::literal("foo")) // [102, 111, 111]
     fn from(view: AsciiStr<'a>) -> &'a [u8] {
         view.as_bytes()
     }
@@ -293,7 +328,7 @@ impl fmt::Display for AsciiStr<'_> {
     /// Writes the text, with the width, the alignment and the precision of the format, as for
     /// `str`.
     ///
-    ///     format!(in alloc; "{}", view("a\"b"))? // "a\"b"
+    ///     format!(in alloc; "{}", AsciiStr::literal("a\"b"))? // "a\"b"
     fn fmt<W: fmt::Write>(&self, f: &mut fmt::Formatter<W>) -> fmt::Result {
         fmt::Display::fmt(&self.as_str(), f)
     }
@@ -306,7 +341,7 @@ impl fmt::Debug for AsciiStr<'_> {
 
     /// Writes the text in double quotes, escaped as std escapes it.
     ///
-    ///     format!(in alloc; "{:?}", view("a\"b"))? // "\"a\\\"b\""
+    ///     format!(in alloc; "{:?}", AsciiStr::literal("a\"b"))? // "\"a\\\"b\""
     fn fmt<W: fmt::Write>(&self, f: &mut fmt::Formatter<W>) -> fmt::Result {
         fmt::Debug::fmt(&self.as_str(), f)
     }

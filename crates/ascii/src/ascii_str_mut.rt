@@ -1,5 +1,7 @@
 //! Mutable views: a part of a borrowed source that holds only ASCII bytes can be changed, and
 //! keeps holding only ASCII bytes.
+//!
+//! Nothing here allocates.
 
 ghost use Rattle.std.specs.Prelude.{◌≡◌, ◌<◌, ◌≤◌, ◌++◌, length, slice_set, map};
 ghost use Rattle.std.proofs.Props.{props};
@@ -71,7 +73,7 @@ impl AsciiStrMut<'_> {
         kernels::lower_in_place(&mut self.bytes[self.start..self.end]);
     }
 
-    /// Returns a view of the text, to read it. Does not allocate.
+    /// Returns a view of the text, to read it.
     ///
     ///     let mut source = *b"foo";
     ///     bytes::as_mut_ascii_str_unchecked(&mut source).as_ascii_str().len() // 3

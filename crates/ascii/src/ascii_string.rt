@@ -5,7 +5,7 @@
 //!
 //!     let mut line = AsciiString::with_capacity(alloc, 3)?;
 //!     line.push(AsciiChar::a)?;
-//!     line.push_str(view("bc"))?;
+//!     line.push_str(AsciiStr::literal("bc"))?;
 //!
 //! A contract sees a string as `string.text`, a list of codes, and `string.capacity`.
 //!
@@ -18,9 +18,11 @@
 //! | `SmallAsciiString` of `ascii_run` | the value itself, then a `SmallVec` | 24 | `usize::MAX` | `AllocError` |
 //! | `ArrayAsciiString<N>` of `ascii_run` | the value itself | `N` | `N` | `Full` |
 //!
-//! The other methods of `Text` are in the modules of their subject: `extend_chars`, `extend_strs`, `collect_chars` and
-//! `collect_strs` in `collect`, `retain` in `retain`, `from_char`, `from_chars` and `into_chars` in `copies`, `to_json`
-//! and `from_json` in `json`, the traits of std in `conversions`, those of serde in `serde_impls`. Only `AsciiString` has
+//! Made by `bin/docs tables`: the other calls of `Text` are in `collect` (`extend_chars`,
+//! `extend_strs`, `collect_chars`, `collect_strs`); `copies` (`from_char`, `from_chars`,
+//! `into_chars`); `json` (`to_json`, `from_json`); `retain` (`retain`).
+//!
+//! The traits of std are in `conversions`, those of serde in `serde_impls`. Only `AsciiString` has
 //! `from_ascii_unchecked` here, the conversion to boxed text in `boxed`, and `From` of it for a `Vec` and a `String`,
 //! since these keep its `Vec`, and in `boxed` the conversion to shared text, which copies it; the modules `vec` and
 //! `string` make it from a `Vec` or a `String`.
@@ -74,6 +76,8 @@ impl<B: NewBuffer> Text<B> {
 
     /// Creates an empty string. Does not allocate.
     ///
+    /// To make room at once, use `with_capacity`; for a copy of a view, `to_ascii_string`.
+    ///
     ///     AsciiString::new(alloc).len() // 0
     #[inline]
     pub fn new(alloc: B::Alloc) -> Text<B>
@@ -105,7 +109,7 @@ impl<B: NewBuffer> Text<B> {
     ///
     /// Allocates at most once, for the length of the view.
     ///
-    ///     AsciiString::from_ascii_str(alloc, view("foo"))? // "foo"
+    ///     AsciiString::from_ascii_str(alloc, AsciiStr::literal("foo"))? // "foo"
     pub fn from_ascii_str(alloc: B::Alloc, view: AsciiStr<'_>) -> Result<Text<B>, B::Refusal>
         ensures text { IfOk result (λ string. string.text ≡ text_of view.entry) }
         ensures room { IfOk result (λ string. length string.text ≤ string.capacity) }
@@ -124,7 +128,7 @@ impl<B: Buffer> Text<B> {
 
     /// Returns a view of the whole text.
     ///
-    ///     view("foo").to_ascii_string(alloc)?.as_ascii_str() // "foo"
+    ///     AsciiStr::literal("foo").to_ascii_string(alloc)?.as_ascii_str() // "foo"
     #[inline]
     pub fn as_ascii_str(&self) -> AsciiStr<'_>
         ensures { text_of result ≡ self.now.text }
@@ -161,10 +165,11 @@ impl<B: Buffer> Text<B> {
     /// Makes room for at least `additional` more bytes. Fails only if there is not enough room and
     /// the allocation fails. The text is unchanged.
     ///
-    /// Condition: the length and `additional` together are at most `usize::MAX`. May make more room
-    /// than that, so that repeated calls do not allocate each time.
+    /// Condition: the length and `additional` together are at most `usize::MAX`.
     ///
-    ///     let mut text = view("foo").to_ascii_string(alloc)?;
+    /// May make more room than that, so that repeated calls do not allocate each time.
+    ///
+    ///     let mut text = AsciiStr::literal("foo").to_ascii_string(alloc)?;
     ///     text.reserve(10) // Ok(())
     ///     text.capacity() >= 13 // true
     pub fn reserve(&mut self, additional: usize) -> Result<(), B::Refusal>
@@ -179,7 +184,7 @@ impl<B: Buffer> Text<B> {
     ///
     /// Condition: the length and `additional` together are at most `usize::MAX`.
     ///
-    ///     let mut text = view("foo").to_ascii_string(alloc)?;
+    ///     let mut text = AsciiStr::literal("foo").to_ascii_string(alloc)?;
     ///     text.reserve_exact(10) // Ok(())
     ///     text.capacity() >= 13 // true
     pub fn reserve_exact(&mut self, additional: usize) -> Result<(), B::Refusal>
@@ -211,7 +216,9 @@ impl<B: Buffer> Text<B> {
     ///
     /// Amortized constant time.
     ///
-    ///     let mut text = view("fo").to_ascii_string(alloc)?;
+    /// To append a view use `push_str`; to append the characters of an iterator, `extend_chars`.
+    ///
+    ///     let mut text = AsciiStr::literal("fo").to_ascii_string(alloc)?;
     ///     text.push(AsciiChar::o) // Ok(())
     ///     text // "foo"
     #[inline]
@@ -224,9 +231,12 @@ impl<B: Buffer> Text<B> {
     /// Appends a view. Fails only if the string has to grow and the allocation fails; the text is
     /// then unchanged. Never fails for the empty view.
     ///
-    ///     let mut text = view("foo").to_ascii_string(alloc)?;
-    ///     text.push_str(view("bar")) // Ok(())
+    /// To append one character use `push`; to append at another position, `insert_str`.
+    ///
+    ///     let mut text = AsciiStr::literal("foo").to_ascii_string(alloc)?;
+    ///     text.push_str(AsciiStr::literal("bar")) // Ok(())
     ///     text // "foobar"
+    ///     text.push_str(AsciiStr::literal("")) // Ok(())
     #[inline]
     pub fn push_str(&mut self, view: AsciiStr<'_>) -> Result<(), B::Refusal>
         ensures { GrowsTo (self.old.text ++ text_of view.entry) self.old self.new result }
@@ -237,7 +247,7 @@ impl<B: Buffer> Text<B> {
     /// Appends the decimal digits of `n`, after `-` if `n` is negative. Fails only if the string has
     /// to grow and the allocation fails; the text is then unchanged.
     ///
-    ///     let mut text = view("n = ").to_ascii_string(alloc)?;
+    ///     let mut text = AsciiStr::literal("n = ").to_ascii_string(alloc)?;
     ///     text.push_decimal(42u64) // Ok(())
     ///     text // "n = 42"
     pub fn push_decimal<I: Integer>(&mut self, n: I) -> Result<(), B::Refusal>
@@ -250,11 +260,16 @@ impl<B: Buffer> Text<B> {
     /// Inserts `ch` before position `idx`, or appends it if `idx` is the length. Fails only if the
     /// string has to grow and the allocation fails; the text is then unchanged.
     ///
-    /// Condition: `idx` is at most the length. Moves the bytes from `idx` on.
+    /// Condition: `idx` is at most the length.
     ///
-    ///     let mut text = view("fo").to_ascii_string(alloc)?;
+    /// Moves the bytes from `idx` on.
+    ///
+    ///     let mut text = AsciiStr::literal("fo").to_ascii_string(alloc)?;
     ///     text.insert(0, AsciiChar::z) // Ok(())
     ///     text // "zfo"
+    ///     let mut end = AsciiStr::literal("fo").to_ascii_string(alloc)?;
+    ///     end.insert(2, AsciiChar::o) // Ok(())
+    ///     end // "foo"
     pub fn insert(&mut self, idx: usize, ch: AsciiChar) -> Result<(), B::Refusal>
         requires { idx ≤ length self.old.text }
         ensures { GrowsTo (insert self.old.text idx (code_of ch)) self.old self.new result }
@@ -266,11 +281,16 @@ impl<B: Buffer> Text<B> {
     /// the string has to grow and the allocation fails; the text is then unchanged. Never fails for
     /// the empty view.
     ///
-    /// Condition: `idx` is at most the length. Moves the bytes from `idx` on.
+    /// Condition: `idx` is at most the length.
     ///
-    ///     let mut text = view("fo").to_ascii_string(alloc)?;
-    ///     text.insert_str(1, view("lo")) // Ok(())
+    /// Moves the bytes from `idx` on.
+    ///
+    ///     let mut text = AsciiStr::literal("fo").to_ascii_string(alloc)?;
+    ///     text.insert_str(1, AsciiStr::literal("lo")) // Ok(())
     ///     text // "floo"
+    ///     let mut end = AsciiStr::literal("fo").to_ascii_string(alloc)?;
+    ///     end.insert_str(2, AsciiStr::literal("rd")) // Ok(())
+    ///     end // "ford"
     pub fn insert_str(&mut self, idx: usize, view: AsciiStr<'_>) -> Result<(), B::Refusal>
         requires { idx ≤ length self.old.text }
         ensures { GrowsTo (insert_text self.old.text idx (text_of view.entry))
@@ -282,9 +302,13 @@ impl<B: Buffer> Text<B> {
 
     /// Removes the character at position `idx`, counted from 0, and returns it. Does not allocate.
     ///
-    /// Condition: `idx` is less than the length. Moves the bytes after `idx`.
+    /// Condition: `idx` is less than the length.
     ///
-    ///     let mut text = view("foo").to_ascii_string(alloc)?;
+    /// Moves the bytes after `idx`.
+    ///
+    /// To remove the last character use `pop`; to remove all that a test rejects, `retain`.
+    ///
+    ///     let mut text = AsciiStr::literal("foo").to_ascii_string(alloc)?;
     ///     text.remove(0) // 'f'
     ///     text // "oo"
     pub fn remove(&mut self, idx: usize) -> AsciiChar
@@ -298,9 +322,11 @@ impl<B: Buffer> Text<B> {
     /// Removes the last character and returns it, or returns `None` if the text is empty. Does not
     /// allocate.
     ///
-    ///     let mut text = view("fo").to_ascii_string(alloc)?;
+    ///     let mut text = AsciiStr::literal("fo").to_ascii_string(alloc)?;
     ///     text.pop() // Some('o')
     ///     text // "f"
+    ///     text.pop() // Some('f')
+    ///     text.pop() // None
     #[inline]
     pub fn pop(&mut self) -> Option<AsciiChar>
         ensures popped { let text = self.old.text in
@@ -315,8 +341,10 @@ impl<B: Buffer> Text<B> {
     /// Keeps the first `n` characters, or all if there are fewer. Does not allocate, and keeps the
     /// capacity.
     ///
-    ///     let mut text = view("foo").to_ascii_string(alloc)?;
+    ///     let mut text = AsciiStr::literal("foo").to_ascii_string(alloc)?;
     ///     text.truncate(2);
+    ///     text // "fo"
+    ///     text.truncate(7);
     ///     text // "fo"
     #[inline]
     pub fn truncate(&mut self, n: usize)
@@ -327,7 +355,7 @@ impl<B: Buffer> Text<B> {
 
     /// Removes all characters. Does not allocate, and keeps the capacity.
     ///
-    ///     let mut text = view("foo").to_ascii_string(alloc)?;
+    ///     let mut text = AsciiStr::literal("foo").to_ascii_string(alloc)?;
     ///     text.clear();
     ///     text // ""
     #[inline]
@@ -341,7 +369,7 @@ impl<B: Buffer> Text<B> {
     ///
     /// Condition: `i` is less than the length.
     ///
-    ///     let mut text = view("foo").to_ascii_string(alloc)?;
+    ///     let mut text = AsciiStr::literal("foo").to_ascii_string(alloc)?;
     ///     text.set(0, AsciiChar::z);
     ///     text // "zoo"
     #[inline]
@@ -354,7 +382,7 @@ impl<B: Buffer> Text<B> {
 
     /// Changes each letter `a` to `z` to `A` to `Z`. Every other character is unchanged.
     ///
-    ///     let mut text = view("foo").to_ascii_string(alloc)?;
+    ///     let mut text = AsciiStr::literal("foo").to_ascii_string(alloc)?;
     ///     text.make_ascii_uppercase();
     ///     text // "FOO"
     pub fn make_ascii_uppercase(&mut self)
@@ -365,7 +393,7 @@ impl<B: Buffer> Text<B> {
 
     /// Changes each letter `A` to `Z` to `a` to `z`. Every other character is unchanged.
     ///
-    ///     let mut text = view("FOO").to_ascii_string(alloc)?;
+    ///     let mut text = AsciiStr::literal("FOO").to_ascii_string(alloc)?;
     ///     text.make_ascii_lowercase();
     ///     text // "foo"
     pub fn make_ascii_lowercase(&mut self)
@@ -376,7 +404,7 @@ impl<B: Buffer> Text<B> {
 
     /// Returns the number of characters, which is also the number of bytes.
     ///
-    ///     view("foo").to_ascii_string(alloc)?.len() // 3
+    ///     AsciiStr::literal("foo").to_ascii_string(alloc)?.len() // 3
     #[inline]
     pub fn len(&self) -> usize
         ensures { result ≡ length self.now.text }
@@ -386,7 +414,8 @@ impl<B: Buffer> Text<B> {
 
     /// Returns `true` if the text is empty.
     ///
-    ///     view("foo").to_ascii_string(alloc)?.is_empty() // false
+    ///     AsciiStr::literal("foo").to_ascii_string(alloc)?.is_empty() // false
+    ///     AsciiString::new(alloc).is_empty() // true
     #[inline]
     pub fn is_empty(&self) -> bool
         ensures { IsTrue result ↔ (self.now.text ≡ []) }
@@ -431,7 +460,7 @@ impl<B: CloneBuffer> Text<B> {
     ///
     /// Condition: `at` is at most the length.
     ///
-    ///     let mut text = view("foobar").to_ascii_string(alloc)?;
+    ///     let mut text = AsciiStr::literal("foobar").to_ascii_string(alloc)?;
     ///     text.split_off(3) // Ok("bar")
     ///     text // "foo"
     pub fn split_off(&mut self, at: usize) -> Result<Text<B>, B::Refusal>
@@ -450,7 +479,7 @@ impl<B: InlineBuffer> Text<B> {
     /// Converts the string into an `AsciiString`. A text in an allocation keeps it, and this cannot
     /// fail. An inline text is copied: if the allocation fails, returns the string as the error.
     ///
-    ///     SmallAsciiString::from_ascii_str(alloc, view("foo"))?.into_ascii_string().ok() // Some("foo")
+    ///     SmallAsciiString::from_ascii_str(alloc, AsciiStr::literal("foo"))?.into_ascii_string().ok() // Some("foo")
     pub fn into_ascii_string(self) -> Result<AsciiString, Text<B>>
         ensures ok { IfOk result (λ string. string.text ≡ self.text) }
         ensures err { IfErr result (λ string. string ≡ self) }
@@ -471,7 +500,7 @@ impl<B: CloneBuffer> Clone for Text<B> {
     /// Returns a copy of the string, with a copy of its allocator. Fails only if the allocation
     /// fails; never for a `SmallAsciiString` of at most 24 characters, or an `ArrayAsciiString`.
     ///
-    ///     view("foo").to_ascii_string(alloc)?.clone()? // "foo"
+    ///     AsciiStr::literal("foo").to_ascii_string(alloc)?.clone()? // "foo"
     fn clone(&self) -> Result<Text<B>, AllocError>
         ensures cases { MatchResult result (λ copy. copy.text ≡ self.now.text)
             (λ _. ¬ (B.copies self.now)) }
@@ -496,7 +525,7 @@ impl<B: Buffer> PartialEq for Text<B> {
 
     /// Returns `true` if the two texts are equal.
     ///
-    ///     view("foo").to_ascii_string(alloc)? == view("foo").to_ascii_string(alloc)? // true
+    ///     AsciiStr::literal("foo").to_ascii_string(alloc)? == AsciiStr::literal("foo").to_ascii_string(alloc)? // true
     fn eq(&self, other: &Text<B>) -> bool {
         self.as_ascii_str() == other.as_ascii_str()
     }
@@ -523,7 +552,7 @@ impl<B: Buffer> PartialOrd for Text<B> {
 
     /// Returns the order of the two texts: that of `cmp`.
     ///
-    ///     view("foo").to_ascii_string(alloc)? < view("fop").to_ascii_string(alloc)? // true
+    ///     AsciiStr::literal("foo").to_ascii_string(alloc)? < AsciiStr::literal("fop").to_ascii_string(alloc)? // true
     fn partial_cmp(&self, other: &Text<B>) -> Option<Ordering> {
         Some(self.cmp(other))
     }
@@ -545,7 +574,7 @@ impl<B: Buffer> Ord for Text<B> {
 
     /// Returns the order of the two texts: lexicographic, by the codes.
     ///
-    ///     view("foo").to_ascii_string(alloc)?.cmp(&view("fo").to_ascii_string(alloc)?) // Greater
+    ///     AsciiStr::literal("foo").to_ascii_string(alloc)?.cmp(&AsciiStr::literal("fo").to_ascii_string(alloc)?) // Greater
     fn cmp(&self, other: &Text<B>) -> Ordering {
         self.as_ascii_str().cmp(&other.as_ascii_str())
     }
@@ -563,8 +592,8 @@ impl<B: Buffer> Hash for Text<B> {
     /// Hashes the text as a view of it is hashed.
     ///
     ///     let mut seen = HashSet::new(alloc);
-    ///     seen.insert(view("foo").to_ascii_string(alloc)?)?;
-    ///     seen.contains(&view("foo").to_ascii_string(alloc)?) // true
+    ///     seen.insert(AsciiStr::literal("foo").to_ascii_string(alloc)?)?;
+    ///     seen.contains(&AsciiStr::literal("foo").to_ascii_string(alloc)?) // true
     fn hash<H: Hasher>(&self, state: &mut H) {
         self.as_ascii_str().hash(state);
     }
@@ -581,7 +610,7 @@ impl<B: Buffer> fmt::Display for Text<B> {
     /// Writes the text, with the width, the alignment and the precision of the format, as for
     /// `str`.
     ///
-    ///     format!(in alloc; "{}", view("foo").to_ascii_string(alloc)?)? // "foo"
+    ///     format!(in alloc; "{}", AsciiStr::literal("foo").to_ascii_string(alloc)?)? // "foo"
     fn fmt<W: fmt::Write>(&self, f: &mut fmt::Formatter<W>) -> fmt::Result {
         fmt::Display::fmt(&self.as_ascii_str(), f)
     }
@@ -595,7 +624,7 @@ impl<B: Buffer> fmt::Debug for Text<B> {
 
     /// Writes the text in double quotes, escaped as std escapes it.
     ///
-    ///     format!(in alloc; "{:?}", view("foo").to_ascii_string(alloc)?)? // "\"foo\""
+    ///     format!(in alloc; "{:?}", AsciiStr::literal("foo").to_ascii_string(alloc)?)? // "\"foo\""
     fn fmt<W: fmt::Write>(&self, f: &mut fmt::Formatter<W>) -> fmt::Result {
         fmt::Debug::fmt(&self.as_ascii_str(), f)
     }
@@ -607,7 +636,7 @@ impl<B: Buffer> Text<B> {
     /// Appends a character. Fails if it is not ASCII, or if the string has to grow and the
     /// allocation fails; the text is then unchanged.
     ///
-    ///     let mut text = view("foo").to_ascii_string(alloc)?;
+    ///     let mut text = AsciiStr::literal("foo").to_ascii_string(alloc)?;
     ///     text.write_char('d') // Ok(())
     ///     text.write_char('č') // Err(Error)
     ///     text // "food"
@@ -632,7 +661,7 @@ impl<B: Buffer> fmt::Write for Text<B> {
     /// and the allocation fails; the text is then unchanged, and no part of the other one was
     /// appended.
     ///
-    ///     let mut text = view("foo").to_ascii_string(alloc)?;
+    ///     let mut text = AsciiStr::literal("foo").to_ascii_string(alloc)?;
     ///     write!(text, "{}", 7) // Ok(())
     ///     text // "foo7"
     fn write_str(&mut self, s: &str) -> fmt::Result
@@ -654,7 +683,7 @@ impl<A: Allocator> From<AsciiString<A>> for Vec<u8, A> {
 
     /// Converts the string into its bytes, keeping the buffer. Cannot fail.
     ///
-    ///     Vec::from(view("foo").to_ascii_string(alloc)?) // [102, 111, 111]
+    ///     Vec::from(AsciiStr::literal("foo").to_ascii_string(alloc)?) // [102, 111, 111]
     fn from(string: AsciiString<A>) -> Vec<u8, A> {
         string.bytes
     }
@@ -668,7 +697,7 @@ impl<A: Allocator> From<AsciiString<A>> for String<A> {
 
     /// Converts the string into a `String`, keeping the buffer. Cannot fail.
     ///
-    ///     String::from(view("foo").to_ascii_string(alloc)?) // "foo"
+    ///     String::from(AsciiStr::literal("foo").to_ascii_string(alloc)?) // "foo"
     fn from(string: AsciiString<A>) -> String<A> {
         unsafe { String::from_utf8_unchecked(string.bytes) }
     }

@@ -40,7 +40,7 @@ impl<S: AsStr> Model for Kept<S> {
 impl<S: AsStr> Kept<S> {
     /// Returns a view of the text.
     ///
-    ///     BoxedAsciiStr::from_ascii_str(alloc, view("foo"))?.as_ascii_str().len() // 3
+    ///     BoxedAsciiStr::from_ascii_str(alloc, AsciiStr::literal("foo"))?.as_ascii_str().len() // 3
     #[inline]
     pub fn as_ascii_str(&self) -> AsciiStr<'_>
         ensures { text_of result ≡ self.now }
@@ -54,7 +54,7 @@ impl<S: AsStr> Kept<S> {
 impl<A: Allocator> Kept<BoxedStr<A>> {
     /// Returns a copy of a view in a box. Fails only if the allocation fails.
     ///
-    ///     BoxedAsciiStr::from_ascii_str(alloc, view("foo"))?.as_ascii_str() // "foo"
+    ///     BoxedAsciiStr::from_ascii_str(alloc, AsciiStr::literal("foo"))?.as_ascii_str() // "foo"
     pub fn from_ascii_str(alloc: A, view: AsciiStr<'_>) -> Result<BoxedAsciiStr<A>, AllocError>
         ensures { IfOk result (λ boxed. boxed ≡ text_of view.entry) }
     {
@@ -65,7 +65,7 @@ impl<A: Allocator> Kept<BoxedStr<A>> {
 
     /// Converts the box into a string that can grow, keeping its buffer. Always returns `Ok`.
     ///
-    ///     BoxedAsciiStr::from_ascii_str(alloc, view("foo"))?.into_ascii_string().ok() // Some("foo")
+    ///     BoxedAsciiStr::from_ascii_str(alloc, AsciiStr::literal("foo"))?.into_ascii_string().ok() // Some("foo")
     pub fn into_ascii_string(self) -> Result<AsciiString<A>, BoxedAsciiStr<A>>
         ensures { IsOkAnd result (λ string. string.text ≡ self) }
     {
@@ -75,7 +75,7 @@ impl<A: Allocator> Kept<BoxedStr<A>> {
 
     /// Converts the box into a boxed `str`, keeping its buffer. Cannot fail.
     ///
-    ///     BoxedAsciiStr::from_ascii_str(alloc, view("foo"))?.into_boxed_str() // "foo"
+    ///     BoxedAsciiStr::from_ascii_str(alloc, AsciiStr::literal("foo"))?.into_boxed_str() // "foo"
     pub fn into_boxed_str(self) -> BoxedStr<A>
         ensures { boxed_str_bytes result ≡ self }
     {
@@ -86,7 +86,7 @@ impl<A: Allocator> Kept<BoxedStr<A>> {
 impl<A: Allocator> Kept<RcStr<A>> {
     /// Returns a shared copy of a view. Fails only if the allocation fails.
     ///
-    ///     RcAsciiStr::from_ascii_str(alloc, view("foo"))?.as_ascii_str() // "foo"
+    ///     RcAsciiStr::from_ascii_str(alloc, AsciiStr::literal("foo"))?.as_ascii_str() // "foo"
     pub fn from_ascii_str(alloc: A, view: AsciiStr<'_>) -> Result<RcAsciiStr<A>, AllocError>
     where
         A: Clone,
@@ -104,7 +104,7 @@ impl<A: Allocator> Clone for Kept<RcStr<A>> {
 
     /// Returns one more owner of the text. Does not allocate.
     ///
-    ///     RcAsciiStr::from_ascii_str(alloc, view("foo"))?.clone()?.as_ascii_str() // "foo"
+    ///     RcAsciiStr::from_ascii_str(alloc, AsciiStr::literal("foo"))?.clone()?.as_ascii_str() // "foo"
     fn clone(&self) -> Result<RcAsciiStr<A>, AllocError> {
         Ok(Kept {
             text: self.text.clone()?,
@@ -115,7 +115,7 @@ impl<A: Allocator> Clone for Kept<RcStr<A>> {
 impl<A: Allocator> Text<Vec<u8, A>> {
     /// Converts the string into boxed text, keeping its buffer. Always returns `Ok`.
     ///
-    ///     view("foo").to_ascii_string(alloc)?.into_boxed_ascii_str().is_ok() // true
+    ///     AsciiStr::literal("foo").to_ascii_string(alloc)?.into_boxed_ascii_str().is_ok() // true
     pub fn into_boxed_ascii_str(self) -> Result<BoxedAsciiStr<A>, AsciiString<A>>
         ensures { IsOkAnd result (λ boxed. boxed ≡ self.text) }
     {
@@ -126,7 +126,7 @@ impl<A: Allocator> Text<Vec<u8, A>> {
     /// Returns a shared copy of the text, and drops the string. If the allocation fails, returns
     /// the string as the error.
     ///
-    ///     view("foo").to_ascii_string(alloc)?.into_rc_ascii_str(alloc).is_ok() // true
+    ///     AsciiStr::literal("foo").to_ascii_string(alloc)?.into_rc_ascii_str(alloc).is_ok() // true
     pub fn into_rc_ascii_str<B: Allocator + Clone>(
         self,
         alloc: B,
@@ -155,7 +155,7 @@ impl<'a, A: Allocator> CowAsciiStr<'a, A> {
 
     /// Returns a view of the text.
     ///
-    ///     let cow: CowAsciiStr = view("foo").into();
+    ///     let cow: CowAsciiStr = AsciiStr::literal("foo").into();
     ///     cow.as_ascii_str() // "foo"
     pub fn as_ascii_str(&self) -> AsciiStr<'_>
         ensures { text_of result ≡ cow_text self.now }
@@ -169,7 +169,7 @@ impl<'a, A: Allocator> CowAsciiStr<'a, A> {
     /// Converts the text into a string: an owned one is returned as it is, a borrowed one is
     /// copied. If the allocation for the copy fails, returns the value itself as the error.
     ///
-    ///     let cow: CowAsciiStr = view("foo").into();
+    ///     let cow: CowAsciiStr = AsciiStr::literal("foo").into();
     ///     cow.into_owned(alloc).ok() // Some("foo")
     pub fn into_owned(self, alloc: A) -> Result<AsciiString<A>, CowAsciiStr<'a, A>>
         ensures ok { IfOk result (λ string. string.text ≡ cow_text self.entry) }
@@ -192,7 +192,7 @@ impl<'a, A: Allocator> From<AsciiStr<'a>> for CowAsciiStr<'a, A> {
 
     /// Wraps a view as borrowed text.
     ///
-    ///     let cow: CowAsciiStr = view("foo").into();
+    ///     let cow: CowAsciiStr = AsciiStr::literal("foo").into();
     ///     cow.as_ascii_str() // "foo"
     fn from(view: AsciiStr<'a>) -> CowAsciiStr<'a, A> {
         CowAsciiStr::Borrowed(view)
@@ -206,7 +206,7 @@ impl<'a, A: Allocator> From<AsciiString<A>> for CowAsciiStr<'a, A> {
 
     /// Wraps a string as owned text.
     ///
-    ///     let cow: CowAsciiStr = view("foo").to_ascii_string(alloc)?.into();
+    ///     let cow: CowAsciiStr = AsciiStr::literal("foo").to_ascii_string(alloc)?.into();
     ///     cow.as_ascii_str() // "foo"
     fn from(string: AsciiString<A>) -> CowAsciiStr<'a, A> {
         CowAsciiStr::Owned(string)

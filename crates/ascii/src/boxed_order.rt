@@ -22,7 +22,7 @@ impl<S: AsStr> PartialEq for Kept<S> {
 
     /// Returns `true` if the two texts are equal.
     ///
-    ///     BoxedAsciiStr::from_ascii_str(alloc, view("foo"))? == BoxedAsciiStr::from_ascii_str(alloc, view("foo"))? // true
+    ///     BoxedAsciiStr::from_ascii_str(alloc, AsciiStr::literal("foo"))? == BoxedAsciiStr::from_ascii_str(alloc, AsciiStr::literal("foo"))? // true
     fn eq(&self, other: &Kept<S>) -> bool {
         self.as_ascii_str() == other.as_ascii_str()
     }
@@ -40,7 +40,7 @@ impl<S: AsStr> PartialOrd for Kept<S> {
 
     /// Returns the order of the two texts: that of `cmp`.
     ///
-    ///     BoxedAsciiStr::from_ascii_str(alloc, view("foo"))? < BoxedAsciiStr::from_ascii_str(alloc, view("fop"))? // true
+    ///     BoxedAsciiStr::from_ascii_str(alloc, AsciiStr::literal("foo"))? < BoxedAsciiStr::from_ascii_str(alloc, AsciiStr::literal("fop"))? // true
     fn partial_cmp(&self, other: &Kept<S>) -> Option<Ordering> {
         Some(self.cmp(other))
     }
@@ -57,7 +57,7 @@ impl<S: AsStr> Ord for Kept<S> {
 
     /// Returns the order of the two texts: lexicographic, by the codes.
     ///
-    ///     BoxedAsciiStr::from_ascii_str(alloc, view("foo"))?.cmp(&BoxedAsciiStr::from_ascii_str(alloc, view("fo"))?) // Greater
+    ///     BoxedAsciiStr::from_ascii_str(alloc, AsciiStr::literal("foo"))?.cmp(&BoxedAsciiStr::from_ascii_str(alloc, AsciiStr::literal("fo"))?) // Greater
     fn cmp(&self, other: &Kept<S>) -> Ordering {
         self.as_ascii_str().cmp(&other.as_ascii_str())
     }
@@ -71,8 +71,8 @@ impl<S: AsStr> Hash for Kept<S> {
     /// Hashes the text as a view of it is hashed.
     ///
     ///     let mut seen = HashSet::new(alloc);
-    ///     seen.insert(BoxedAsciiStr::from_ascii_str(alloc, view("foo"))?)?;
-    ///     seen.contains(&BoxedAsciiStr::from_ascii_str(alloc, view("foo"))?) // true
+    ///     seen.insert(BoxedAsciiStr::from_ascii_str(alloc, AsciiStr::literal("foo"))?)?;
+    ///     seen.contains(&BoxedAsciiStr::from_ascii_str(alloc, AsciiStr::literal("foo"))?) // true
     fn hash<H: Hasher>(&self, state: &mut H) {
         self.as_ascii_str().hash(state);
     }
@@ -85,7 +85,7 @@ impl<A: Allocator> PartialEq for CowAsciiStr<'_, A> {
 
     /// Returns `true` if the two texts are equal, whether borrowed or owned.
     ///
-    ///     CowAsciiStr::<Global>::from(view("foo")) == CowAsciiStr::<Global>::from(view("foo")) // true
+    ///     CowAsciiStr::<Global>::from(AsciiStr::literal("foo")) == CowAsciiStr::<Global>::from(AsciiStr::literal("foo")) // true
     fn eq(&self, other: &CowAsciiStr<'_, A>) -> bool {
         self.as_ascii_str() == other.as_ascii_str()
     }
@@ -103,7 +103,7 @@ impl<A: Allocator> PartialOrd for CowAsciiStr<'_, A> {
 
     /// Returns the order of the two texts: that of `cmp`.
     ///
-    ///     CowAsciiStr::<Global>::from(view("foo")) < CowAsciiStr::<Global>::from(view("fop")) // true
+    ///     CowAsciiStr::<Global>::from(AsciiStr::literal("foo")) < CowAsciiStr::<Global>::from(AsciiStr::literal("fop")) // true
     fn partial_cmp(&self, other: &CowAsciiStr<'_, A>) -> Option<Ordering> {
         Some(self.cmp(other))
     }
@@ -120,7 +120,7 @@ impl<A: Allocator> Ord for CowAsciiStr<'_, A> {
 
     /// Returns the order of the two texts: lexicographic, by the codes.
     ///
-    ///     CowAsciiStr::<Global>::from(view("foo")).cmp(&CowAsciiStr::<Global>::from(view("fo"))) // Greater
+    ///     CowAsciiStr::<Global>::from(AsciiStr::literal("foo")).cmp(&CowAsciiStr::<Global>::from(AsciiStr::literal("fo"))) // Greater
     fn cmp(&self, other: &CowAsciiStr<'_, A>) -> Ordering {
         self.as_ascii_str().cmp(&other.as_ascii_str())
     }
@@ -134,8 +134,8 @@ impl<A: Allocator> Hash for CowAsciiStr<'_, A> {
     /// Hashes the text as a view of it is hashed.
     ///
     ///     let mut seen = HashSet::new(alloc);
-    ///     seen.insert(CowAsciiStr::<Global>::from(view("foo")))?;
-    ///     seen.contains(&CowAsciiStr::<Global>::from(view("foo"))) // true
+    ///     seen.insert(CowAsciiStr::<Global>::from(AsciiStr::literal("foo")))?;
+    ///     seen.contains(&CowAsciiStr::<Global>::from(AsciiStr::literal("foo"))) // true
     fn hash<H: Hasher>(&self, state: &mut H) {
         self.as_ascii_str().hash(state);
     }

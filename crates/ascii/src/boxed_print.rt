@@ -18,7 +18,7 @@ impl<S: AsStr> fmt::Display for Kept<S> {
     /// Writes the text, with the width, the alignment and the precision of the format, as for
     /// `str`.
     ///
-    ///     format!(in alloc; "{}", BoxedAsciiStr::from_ascii_str(alloc, view("a\"b"))?)? // "a\"b"
+    ///     format!(in alloc; "{}", BoxedAsciiStr::from_ascii_str(alloc, AsciiStr::literal("a\"b"))?)? // "a\"b"
     fn fmt<W: fmt::Write>(&self, f: &mut fmt::Formatter<W>) -> fmt::Result {
         fmt::Display::fmt(&self.as_ascii_str(), f)
     }
@@ -29,7 +29,7 @@ impl<S: AsStr> fmt::Debug for Kept<S> {
 
     /// Writes the text in double quotes, escaped as std escapes it.
     ///
-    ///     format!(in alloc; "{:?}", BoxedAsciiStr::from_ascii_str(alloc, view("foo"))?)? // "\"foo\""
+    ///     format!(in alloc; "{:?}", BoxedAsciiStr::from_ascii_str(alloc, AsciiStr::literal("foo"))?)? // "\"foo\""
     fn fmt<W: fmt::Write>(&self, f: &mut fmt::Formatter<W>) -> fmt::Result {
         fmt::Debug::fmt(&self.as_ascii_str(), f)
     }
@@ -43,7 +43,7 @@ impl<A: Allocator> fmt::Display for CowAsciiStr<'_, A> {
     /// Writes the text, with the width, the alignment and the precision of the format, as for
     /// `str`.
     ///
-    ///     format!(in alloc; "{}", CowAsciiStr::<Global>::from(view("a\"b")))? // "a\"b"
+    ///     format!(in alloc; "{}", CowAsciiStr::<Global>::from(AsciiStr::literal("a\"b")))? // "a\"b"
     fn fmt<W: fmt::Write>(&self, f: &mut fmt::Formatter<W>) -> fmt::Result {
         fmt::Display::fmt(&self.as_ascii_str(), f)
     }
@@ -54,7 +54,7 @@ impl<A: Allocator> fmt::Debug for CowAsciiStr<'_, A> {
 
     /// Writes the text in double quotes, escaped as std escapes it.
     ///
-    ///     format!(in alloc; "{:?}", CowAsciiStr::<Global>::from(view("foo")))? // "\"foo\""
+    ///     format!(in alloc; "{:?}", CowAsciiStr::<Global>::from(AsciiStr::literal("foo")))? // "\"foo\""
     fn fmt<W: fmt::Write>(&self, f: &mut fmt::Formatter<W>) -> fmt::Result {
         fmt::Debug::fmt(&self.as_ascii_str(), f)
     }

@@ -16,6 +16,8 @@
 //!     bytes::slice_ascii(b"ab\xc4d", AsciiRange::To(2))
 //!
 //! is a view of `ab`: the byte 0xc4, which is not ASCII, is outside the range.
+//!
+//! Only `to_ascii_string` allocates.
 
 ghost use Rattle.std.specs.Prelude.{◌≡◌, MatchResult, OnOk, length};
 ghost use Rattle.std.specs.Str.{IsAscii};
@@ -39,10 +41,13 @@ use std::alloc::Allocator;
 
 /// Returns the whole source as a view, or an error with the position of its first non-ASCII byte.
 ///
-/// Scans the source once, 32 bytes or more at a time. Does not allocate.
+/// Scans the source once, 32 bytes or more at a time.
+///
+/// For a part of the source use `slice_ascii`; for the ASCII runs of any bytes, `ascii_chunks`.
 ///
 ///     bytes::as_ascii_str(b"foo") // Ok("foo")
 ///     bytes::as_ascii_str(b"ab\xc4") // Err(AsAsciiStrError(2))
+///     bytes::as_ascii_str(b"") // Ok("")
 pub fn as_ascii_str(source: &[u8]) -> Result<AsciiStr<'_>, AsAsciiStrError>
     ensures outcome { SliceOutcome source.now AsciiRange.Full result }
     ensures ascii { OnOk result (IsAscii source.now) }
@@ -65,7 +70,7 @@ pub fn from_ascii(source: &[u8]) -> Result<AsciiStr<'_>, AsAsciiStrError>
 /// if the range does not fit, and otherwise with the position in the source of the first non-ASCII
 /// byte in the range.
 ///
-/// Bytes outside the range do not matter. Scans the range once. Does not allocate.
+/// Bytes outside the range do not matter. Scans the range once.
 ///
 ///     bytes::slice_ascii(b"ab\xc4d", AsciiRange::From(3)) // Ok("d")
 ///     bytes::slice_ascii(b"ab\xc4d", AsciiRange::From(1)) // Err(AsAsciiStrError(2))
@@ -124,7 +129,10 @@ pub fn from_ascii_unchecked(source: &[u8]) -> AsciiStr<'_>
 ///
 /// The bytes are checked before anything is allocated. A copy of no bytes never fails.
 ///
+/// If the bytes are in a `Vec` already, use `vec::into_ascii_string`, which keeps its buffer.
+///
 ///     bytes::to_ascii_string(alloc, b"foo") // Ok("foo")
+///     bytes::to_ascii_string(alloc, b"").ok() // Some("")
 pub fn to_ascii_string<A: Allocator>(
     alloc: A,
     source: &[u8],

@@ -80,7 +80,7 @@ pub fn slice_ascii_mut(
     Ok(searched.view)
 }
 
-/// Returns a mutable view of the whole source, or an error with the position of its first byte over
+/// Returns a mutable view of the whole source, or an error with the position of its first byte above
 /// 127.
 ///
 /// On error, the source is unchanged. On success, once the view is dropped, the source is the last

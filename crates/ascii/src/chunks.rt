@@ -66,7 +66,7 @@ impl Clone for AsciiChunks<'_> {
 
     ghost is_infallible = { λ _. ⊤ };
 
-    /// Returns an iterator with the same remaining chunks. Always returns `Ok`, and does not allocate.
+    /// Returns an iterator with the same remaining chunks. Always returns `Ok`.
     ///
     ///     let mut chunks = bytes::ascii_chunks(b"ab\xc4");
     ///     let mut copy = chunks.clone()?;
@@ -189,8 +189,8 @@ fn run_of(bytes: &[u8], ascii: bool) -> ByteRun<'_>
     }
 }
 
-/// Returns an iterator over the chunks of the source: its longest runs of ASCII bytes, as views, and
-/// of other bytes, each with its start. Does not allocate.
+/// Returns an iterator over the chunks of the source: its longest runs of ASCII bytes, as views,
+/// and of other bytes, each with its start.
 ///
 ///     let mut chunks = bytes::ascii_chunks(b"ab\xc4\x96cd");
 ///     chunks.next() // Some(AsciiChunk { start: 0, run: Ascii("ab") })

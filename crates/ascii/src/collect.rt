@@ -45,11 +45,12 @@ impl<B: Buffer> Text<B> {
     /// allocation fails; the characters before the first that did not fit have then been appended.
     /// Never fails if all of them fit the capacity.
     ///
-    /// Condition: the iterator can be called, and it ends. The string grows as the characters come;
-    /// the size hint is not used.
+    /// Condition: the iterator can be called, and it ends.
     ///
-    ///     let mut text = view("foo").to_ascii_string(alloc)?;
-    ///     text.extend_chars(view("bar").chars()) // Ok(())
+    /// The string grows as the characters come; the size hint is not used.
+    ///
+    ///     let mut text = AsciiStr::literal("foo").to_ascii_string(alloc)?;
+    ///     text.extend_chars(AsciiStr::literal("bar").chars()) // Ok(())
     ///     text // "foobar"
     pub fn extend_chars<I: Iterator<Item = AsciiChar> + Drop>(
         &mut self,
@@ -90,11 +91,12 @@ impl<B: Buffer> Text<B> {
     /// allocation fails; the views before the first that did not fit have then been appended, and
     /// no part of that one. Never fails if all of them fit the capacity.
     ///
-    /// Condition: the iterator can be called, and it ends. The string grows as the views come; the
-    /// size hint is not used.
+    /// Condition: the iterator can be called, and it ends.
     ///
-    ///     let mut text = view("a").to_ascii_string(alloc)?;
-    ///     text.extend_strs(view("b,c").split(AsciiChar::Comma)) // Ok(())
+    /// The string grows as the views come; the size hint is not used.
+    ///
+    ///     let mut text = AsciiStr::literal("a").to_ascii_string(alloc)?;
+    ///     text.extend_strs(AsciiStr::literal("b,c").split(AsciiChar::Comma)) // Ok(())
     ///     text // "abc"
     pub fn extend_strs<'a, I: Iterator<Item = AsciiStr<'a>> + Drop>(
         &mut self,
@@ -116,9 +118,11 @@ impl<B: NewBuffer> Text<B> {
     /// Returns a string of the characters of an iterator, in order. Fails only if an allocation
     /// fails.
     ///
-    /// Condition: the iterator can be called, and it ends. The string grows as the characters come.
+    /// Condition: the iterator can be called, and it ends.
     ///
-    ///     AsciiString::collect_chars(alloc, view("foo").chars().rev())? // "oof"
+    /// The string grows as the characters come.
+    ///
+    ///     AsciiString::collect_chars(alloc, AsciiStr::literal("foo").chars().rev())? // "oof"
     pub fn collect_chars<I: Iterator<Item = AsciiChar> + Drop>(
         alloc: B::Alloc,
         iter: I,
@@ -135,9 +139,11 @@ impl<B: NewBuffer> Text<B> {
     /// Returns a string of the views of an iterator, one after the other. Fails only if an
     /// allocation fails.
     ///
-    /// Condition: the iterator can be called, and it ends. The string grows as the views come.
+    /// Condition: the iterator can be called, and it ends.
     ///
-    ///     AsciiString::collect_strs(alloc, view("b,c").split(AsciiChar::Comma))? // "bc"
+    /// The string grows as the views come.
+    ///
+    ///     AsciiString::collect_strs(alloc, AsciiStr::literal("b,c").split(AsciiChar::Comma))? // "bc"
     pub fn collect_strs<'a, I: Iterator<Item = AsciiStr<'a>> + Drop>(
         alloc: B::Alloc,
         iter: I,

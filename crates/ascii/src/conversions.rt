@@ -25,7 +25,7 @@ impl AsStr for AsciiStr<'_> {
 
     /// Returns the view as a `&str`. Nothing is checked or copied.
     ///
-    ///     AsStr::as_str(&view("foo")) // "foo"
+    ///     AsStr::as_str(&AsciiStr::literal("foo")) // "foo"
     fn as_str(&self) -> &str {
         AsciiStr::as_str(*self)
     }
@@ -36,7 +36,7 @@ impl AsSlice<u8> for AsciiStr<'_> {
 
     /// Returns the bytes of the view, one for each character.
     ///
-    ///     view("foo").as_slice() // [102, 111, 111]
+    ///     AsciiStr::literal("foo").as_slice() // [102, 111, 111]
     fn as_slice(&self) -> &[u8] {
         self.as_bytes()
     }
@@ -47,7 +47,7 @@ impl AsBytes for AsciiStr<'_> {
 
     /// Returns the bytes of the view, one for each character.
     ///
-    ///     view("foo").as_byte_slice() // [102, 111, 111]
+    ///     AsciiStr::literal("foo").as_byte_slice() // [102, 111, 111]
     fn as_byte_slice(&self) -> &[u8] {
         self.as_bytes()
     }
@@ -58,7 +58,7 @@ impl AsPath for AsciiStr<'_> {
 
     /// Returns the view as the text of a path.
     ///
-    ///     view("a/b").path_text() // "a/b"
+    ///     AsciiStr::literal("a/b").path_text() // "a/b"
     fn path_text(&self) -> &str {
         AsciiStr::as_str(*self)
     }
@@ -69,7 +69,7 @@ impl<B: Buffer> AsStr for Text<B> {
 
     /// Returns the text as a `&str`. Nothing is checked or copied.
     ///
-    ///     AsStr::as_str(&view("foo").to_ascii_string(alloc)?) // "foo"
+    ///     AsStr::as_str(&AsciiStr::literal("foo").to_ascii_string(alloc)?) // "foo"
     fn as_str(&self) -> &str {
         self.as_ascii_str().as_str()
     }
@@ -80,7 +80,7 @@ impl<B: Buffer> AsSlice<u8> for Text<B> {
 
     /// Returns the bytes of the text, one for each character.
     ///
-    ///     view("foo").to_ascii_string(alloc)?.as_slice() // [102, 111, 111]
+    ///     AsciiStr::literal("foo").to_ascii_string(alloc)?.as_slice() // [102, 111, 111]
     fn as_slice(&self) -> &[u8] {
         self.as_ascii_str().as_bytes()
     }
@@ -91,7 +91,7 @@ impl<B: Buffer> AsBytes for Text<B> {
 
     /// Returns the bytes of the text, one for each character.
     ///
-    ///     view("foo").to_ascii_string(alloc)?.as_byte_slice() // [102, 111, 111]
+    ///     AsciiStr::literal("foo").to_ascii_string(alloc)?.as_byte_slice() // [102, 111, 111]
     fn as_byte_slice(&self) -> &[u8] {
         self.as_ascii_str().as_bytes()
     }

@@ -17,7 +17,8 @@ impl AsciiStr<'_> {
     ///
     /// Allocates once, for the length of the view.
     ///
-    ///     view("foo").to_ascii_string(alloc)? // "foo"
+    ///     AsciiStr::literal("foo").to_ascii_string(alloc)? // "foo"
+    ///     AsciiStr::literal("").to_ascii_string(alloc)? // ""
     pub fn to_ascii_string<A: Allocator>(self, alloc: A) -> Result<AsciiString<A>, AllocError>
         ensures text { IfOk result (λ string. string.text ≡ text_of self.entry) }
         ensures empty { text_of self.entry ≡ [] → IsOk result }
@@ -30,7 +31,10 @@ impl AsciiStr<'_> {
     ///
     /// Allocates once, and changes the case in the copy.
     ///
-    ///     view("foo").to_ascii_uppercase(alloc)? // "FOO"
+    /// To change a string in place use `make_ascii_uppercase`.
+    ///
+    ///     AsciiStr::literal("foo").to_ascii_uppercase(alloc)? // "FOO"
+    ///     AsciiStr::literal("a1").to_ascii_uppercase(alloc)? // "A1"
     pub fn to_ascii_uppercase<A: Allocator>(self, alloc: A) -> Result<AsciiString<A>, AllocError>
         ensures { IfOk result (λ string. string.text ≡ map upper_image (text_of self.entry)) }
     {
@@ -44,7 +48,11 @@ impl AsciiStr<'_> {
     ///
     /// Allocates once, and changes the case in the copy.
     ///
-    ///     view("FOO").to_ascii_lowercase(alloc)? // "foo"
+    /// To change a string in place use `make_ascii_lowercase`; to compare only,
+    /// `eq_ignore_ascii_case`.
+    ///
+    ///     AsciiStr::literal("FOO").to_ascii_lowercase(alloc)? // "foo"
+    ///     AsciiStr::literal("A1").to_ascii_lowercase(alloc)? // "a1"
     pub fn to_ascii_lowercase<A: Allocator>(self, alloc: A) -> Result<AsciiString<A>, AllocError>
         ensures { IfOk result (λ string. string.text ≡ map lower_image (text_of self.entry)) }
     {
@@ -55,7 +63,7 @@ impl AsciiStr<'_> {
 
     /// Returns the characters of the view as a `Vec`, in order. Fails only if the allocation fails.
     ///
-    ///     view("ab").to_chars(alloc)? // ['a', 'b']
+    ///     AsciiStr::literal("ab").to_chars(alloc)? // ['a', 'b']
     pub fn to_chars<A: Allocator>(self, alloc: A) -> Result<Vec<AsciiChar, A>, AllocError>
         ensures { IfOk result (λ chars. map code_of chars.items ≡ text_of self.entry) }
     {
@@ -98,7 +106,7 @@ impl<B: Buffer> Text<B> {
     /// Copies the characters of the string into a `Vec`, in order. If the allocation fails, returns
     /// the string as the error.
     ///
-    ///     view("ab").to_ascii_string(alloc)?.into_chars(alloc) // Ok(['a', 'b'])
+    ///     AsciiStr::literal("ab").to_ascii_string(alloc)?.into_chars(alloc) // Ok(['a', 'b'])
     pub fn into_chars<A: Allocator>(self, alloc: A) -> Result<Vec<AsciiChar, A>, Text<B>>
         ensures ok { IfOk result (λ chars. map code_of chars.items ≡ self.text) }
         ensures err { IfErr result (λ string. string ≡ self) }

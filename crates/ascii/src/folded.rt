@@ -1,7 +1,7 @@
 //! Views that are compared when the case of letters is ignored: keys of a map or a set, such as names
 //! of headers.
 //!
-//!     view("Host").folded() == view("HOST").folded() // true
+//!     AsciiStr::literal("Host").folded() == AsciiStr::literal("HOST").folded() // true
 
 ghost use Rattle.std.specs.Prelude.{◌≡◌, ◌==◌, map};
 ghost use Rattle.std.specs.Cmp.{partial_order_from_own_ties};
@@ -22,7 +22,7 @@ use std::hash::{Hash, Hasher};
 /// A view whose equality, order and hash are those of its text in lower case. It keeps the text in
 /// its own case, which is what it prints.
 ///
-///     view("Host").folded() // "Host"
+///     AsciiStr::literal("Host").folded() // "Host"
 #[derive(Clone, Copy)]
 pub struct FoldedStr<'a> {
     view: AsciiStr<'a>,
@@ -34,7 +34,7 @@ impl<'a> FoldedStr<'a> {
     /// Returns the view as one that is compared when the case of letters is ignored. Nothing is
     /// copied.
     ///
-    ///     FoldedStr::new(view("Host")) // "Host"
+    ///     FoldedStr::new(AsciiStr::literal("Host")) // "Host"
     #[inline]
     pub fn new(view: AsciiStr<'a>) -> FoldedStr<'a>
         ensures { own_text result ≡ text_of view.entry }
@@ -44,7 +44,7 @@ impl<'a> FoldedStr<'a> {
 
     /// Returns the view in its own case.
     ///
-    ///     FoldedStr::new(view("Host")).as_view() // "Host"
+    ///     FoldedStr::new(AsciiStr::literal("Host")).as_view() // "Host"
     #[inline]
     pub fn as_view(self) -> AsciiStr<'a>
         ensures { text_of result ≡ own_text self.entry }
@@ -59,7 +59,7 @@ impl<'a> AsciiStr<'a> {
     /// Returns the view as one that is compared when the case of letters is ignored. Nothing is
     /// copied.
     ///
-    ///     view("Host").folded() == view("HOST").folded() // true
+    ///     AsciiStr::literal("Host").folded() == AsciiStr::literal("HOST").folded() // true
     #[inline]
     pub fn folded(self) -> FoldedStr<'a>
         ensures { own_text result ≡ text_of self.entry }
@@ -77,7 +77,7 @@ impl PartialEq for FoldedStr<'_> {
 
     /// Returns `true` if the two texts are equal when the case of letters is ignored.
     ///
-    ///     view("Host").folded() == view("Hosts").folded() // false
+    ///     AsciiStr::literal("Host").folded() == AsciiStr::literal("Hosts").folded() // false
     fn eq(&self, other: &Self) -> bool {
         self.view.eq_ignore_ascii_case(other.view)
     }
@@ -97,7 +97,7 @@ impl PartialOrd for FoldedStr<'_> {
 
     /// Returns the order of the two texts in lower case: that of `cmp`.
     ///
-    ///     view("HOST").folded() < view("hostess").folded() // true
+    ///     AsciiStr::literal("HOST").folded() < AsciiStr::literal("hostess").folded() // true
     fn partial_cmp(&self, other: &Self) -> Option<Ordering> {
         Some(self.cmp(other))
     }
@@ -116,7 +116,7 @@ impl Ord for FoldedStr<'_> {
 
     /// Returns the order of the two texts in lower case: lexicographic, by the codes.
     ///
-    ///     view("b").folded().cmp(&view("A").folded()) // Greater
+    ///     AsciiStr::literal("b").folded().cmp(&AsciiStr::literal("A").folded()) // Greater
     fn cmp(&self, other: &Self) -> Ordering {
         compare_lower(self.view.bytes, other.view.bytes)
     }
@@ -132,8 +132,8 @@ impl Hash for FoldedStr<'_> {
     /// Hashes the text in lower case, so that equal texts have equal hashes.
     ///
     ///     let mut seen = HashSet::new(alloc);
-    ///     seen.insert(view("Host").folded())?;
-    ///     seen.contains(&view("HOST").folded()) // true
+    ///     seen.insert(AsciiStr::literal("Host").folded())?;
+    ///     seen.contains(&AsciiStr::literal("HOST").folded()) // true
     fn hash<H: Hasher>(&self, state: &mut H) {
         state.write_usize(self.view.len());
         feed_lower(self.view.bytes, state);
@@ -184,7 +184,7 @@ impl fmt::Display for FoldedStr<'_> {
     /// Writes the text in its own case, with the width, the alignment and the precision of the
     /// format, as for `str`.
     ///
-    ///     format!(in alloc; "{}", view("Host").folded())? // "Host"
+    ///     format!(in alloc; "{}", AsciiStr::literal("Host").folded())? // "Host"
     fn fmt<W: fmt::Write>(&self, f: &mut fmt::Formatter<W>) -> fmt::Result {
         fmt::Display::fmt(&self.view, f)
     }
@@ -199,7 +199,7 @@ impl fmt::Debug for FoldedStr<'_> {
 
     /// Writes the text in its own case, in double quotes, escaped as std escapes it.
     ///
-    ///     format!(in alloc; "{:?}", view("Host").folded())? // "\"Host\""
+    ///     format!(in alloc; "{:?}", AsciiStr::literal("Host").folded())? // "\"Host\""
     fn fmt<W: fmt::Write>(&self, f: &mut fmt::Formatter<W>) -> fmt::Result {
         fmt::Debug::fmt(&self.view, f)
     }

@@ -9,11 +9,10 @@ use crate::ascii_str::AsciiStr;
 use ascii_base::range::AsciiRange;
 
 impl<'a> AsciiStr<'a> {
-    /// Returns `true` if the view starts with `prefix` when the case of letters is ignored. Does not
-    /// allocate.
+    /// Returns `true` if the view starts with `prefix` when the case of letters is ignored.
     ///
-    ///     view("Host: a").starts_with_ignore_ascii_case(view("hOST")) // true
-    ///     view("Host: a").starts_with_ignore_ascii_case(view("a")) // false
+    ///     AsciiStr::literal("Host: a").starts_with_ignore_ascii_case(AsciiStr::literal("hOST")) // true
+    ///     AsciiStr::literal("Host: a").starts_with_ignore_ascii_case(AsciiStr::literal("a")) // false
     #[tactic(auto, using(crate::proofs::FoldLemmas::folded_starts))]
     pub fn starts_with_ignore_ascii_case(self, prefix: AsciiStr<'_>) -> bool
         ensures { IsTrue result ↔
@@ -22,11 +21,11 @@ impl<'a> AsciiStr<'a> {
         self.strip_prefix_ignore_ascii_case(prefix).is_some()
     }
 
-    /// Returns the view without `prefix`, or `None` if the view does not start with it when the case
-    /// of letters is ignored. Does not allocate.
+    /// Returns the view without `prefix`, or `None` if the view does not start with it when the
+    /// case of letters is ignored.
     ///
-    ///     view("Host: a").strip_prefix_ignore_ascii_case(view("hOST:")) // Some(" a")
-    ///     view("Host: a").strip_prefix_ignore_ascii_case(view("a")) // None
+    ///     AsciiStr::literal("Host: a").strip_prefix_ignore_ascii_case(AsciiStr::literal("hOST:")) // Some(" a")
+    ///     AsciiStr::literal("Host: a").strip_prefix_ignore_ascii_case(AsciiStr::literal("a")) // None
     #[tactic(auto, using(crate::proofs::FoldLemmas::folded_reads, crate::proofs::FoldLemmas::folded_fits, crate::proofs::FoldLemmas::folded_rest))]
     pub fn strip_prefix_ignore_ascii_case(self, prefix: AsciiStr<'_>) -> Option<AsciiStr<'a>>
         ensures { Strips
@@ -42,11 +41,10 @@ impl<'a> AsciiStr<'a> {
         }
     }
 
-    /// Returns `true` if the view ends with `suffix` when the case of letters is ignored. Does not
-    /// allocate.
+    /// Returns `true` if the view ends with `suffix` when the case of letters is ignored.
     ///
-    ///     view("a.HTML").ends_with_ignore_ascii_case(view(".html")) // true
-    ///     view("a.HTML").ends_with_ignore_ascii_case(view("a")) // false
+    ///     AsciiStr::literal("a.HTML").ends_with_ignore_ascii_case(AsciiStr::literal(".html")) // true
+    ///     AsciiStr::literal("a.HTML").ends_with_ignore_ascii_case(AsciiStr::literal("a")) // false
     #[tactic(auto, using(crate::proofs::FoldLemmas::folded_ends))]
     pub fn ends_with_ignore_ascii_case(self, suffix: AsciiStr<'_>) -> bool
         ensures { IsTrue result ↔
@@ -55,11 +53,11 @@ impl<'a> AsciiStr<'a> {
         self.strip_suffix_ignore_ascii_case(suffix).is_some()
     }
 
-    /// Returns the view without `suffix`, or `None` if the view does not end with it when the case of
-    /// letters is ignored. Does not allocate.
+    /// Returns the view without `suffix`, or `None` if the view does not end with it when the case
+    /// of letters is ignored.
     ///
-    ///     view("a.HTML").strip_suffix_ignore_ascii_case(view(".html")) // Some("a")
-    ///     view("a.HTML").strip_suffix_ignore_ascii_case(view("a")) // None
+    ///     AsciiStr::literal("a.HTML").strip_suffix_ignore_ascii_case(AsciiStr::literal(".html")) // Some("a")
+    ///     AsciiStr::literal("a.HTML").strip_suffix_ignore_ascii_case(AsciiStr::literal("a")) // None
     #[tactic(auto, using(crate::proofs::FoldLemmas::folded_suffix_reads, crate::proofs::FoldLemmas::folded_suffix_fits, crate::proofs::FoldLemmas::folded_front))]
     pub fn strip_suffix_ignore_ascii_case(self, suffix: AsciiStr<'_>) -> Option<AsciiStr<'a>>
         ensures { Strips

@@ -34,7 +34,7 @@ pub enum JsonError {
 impl AsciiStr<'_> {
     /// Returns the view as a JSON string, all of it ASCII. Fails only if the allocation fails.
     ///
-    ///     view("a\"b").to_json(alloc)?.to_string(alloc)? // "\"a\\\"b\""
+    ///     AsciiStr::literal("a\"b").to_json(alloc)?.to_string(alloc)? // "\"a\\\"b\""
     pub fn to_json(self, alloc: Global) -> Result<Value, AllocError>
         ensures value { IfOk result (λ value. view value ≡ string (text_of self.entry)) }
         ensures ascii { IsAscii (text_of self.entry) }
@@ -46,7 +46,7 @@ impl AsciiStr<'_> {
 impl<B: Buffer> Text<B> {
     /// Returns the text as a JSON string, all of it ASCII. Fails only if the allocation fails.
     ///
-    ///     view("foo").to_ascii_string(alloc)?.to_json(alloc)?.to_string(alloc)? // "\"foo\""
+    ///     AsciiStr::literal("foo").to_ascii_string(alloc)?.to_json(alloc)?.to_string(alloc)? // "\"foo\""
     pub fn to_json(&self, alloc: Global) -> Result<Value, AllocError>
         ensures value { IfOk result (λ value. view value ≡ string self.now.text) }
         ensures ascii { IsAscii self.now.text }

@@ -22,8 +22,7 @@
 //! fails, an edit leaves the string unchanged; an extend keeps what it has appended. A contract sees a view as
 //! `text_of view`, the list of its codes.
 //!
-//! In an example, `view("ab")` is a view of that text, `alloc` is an allocator, and the comment after `//` is the
-//! value's `{:?}` output.
+//! In an example, `alloc` is an allocator, and the comment after `//` is the value's `{:?}` output.
 #![tactic(auto)]
 
 pub mod ascii_str;

@@ -7,7 +7,9 @@
 //!
 //! Digits are `0` to `9`. There is no sign, and zeros at the start count for nothing.
 //!
-//!     view("0042").to_number::<u8>() // Ok(42)
+//!     AsciiStr::literal("0042").to_number::<u8>() // Ok(42)
+//!
+//! Nothing here allocates.
 
 ghost use Rattle.std.specs.Prelude.{◌≡◌, ℕ, ◌+◌, ◌*◌, ◌^◌, ◌-◌, ◌<◌, ◌≤◌, ◌++◌, MatchOption, MatchResult};
 ghost use Rattle.std.specs.Prelude.{length};
@@ -154,12 +156,14 @@ impl Number for usize {
 
 impl<'a> AsciiStr<'a> {
     /// Returns the number that the digits of the view write, or an error with the first position at
-    /// fault. Does not allocate.
+    /// fault.
     ///
-    ///     view("0042").to_number::<u8>() // Ok(42)
-    ///     view("4.2").to_number::<u8>() // Err(NotDigit(1))
-    ///     view("256").to_number::<u8>() // Err(TooLarge(2))
-    ///     view("").to_number::<u8>() // Err(Empty)
+    /// If something follows the digits, use `take_number`.
+    ///
+    ///     AsciiStr::literal("0042").to_number::<u8>() // Ok(42)
+    ///     AsciiStr::literal("4.2").to_number::<u8>() // Err(NotDigit(1))
+    ///     AsciiStr::literal("256").to_number::<u8>() // Err(TooLarge(2))
+    ///     AsciiStr::literal("").to_number::<u8>() // Err(Empty)
     pub fn to_number<N: Number>(self) -> Result<N, NumberError>
         ensures { let text = text_of self.entry in
             MatchResult result (λ n. WritesNumber N.most text (N.value n))
@@ -175,12 +179,14 @@ impl<'a> AsciiStr<'a> {
         }
     }
 
-    /// Returns the number that the digits at the start of the view write, and the view after them, or
-    /// an error if there are no digits or the number is more than the type holds. Does not allocate.
+    /// Returns the number that the digits at the start of the view write, and the view after them,
+    /// or an error if there are no digits or the number is more than the type holds.
     ///
-    ///     view("42 km").take_number::<u8>() // Ok((42, " km"))
-    ///     view("km").take_number::<u8>() // Err(NotDigit(0))
-    ///     view("256 km").take_number::<u8>() // Err(TooLarge(2))
+    /// If the whole view has to be a number, use `to_number`.
+    ///
+    ///     AsciiStr::literal("42 km").take_number::<u8>() // Ok((42, " km"))
+    ///     AsciiStr::literal("km").take_number::<u8>() // Err(NotDigit(0))
+    ///     AsciiStr::literal("256 km").take_number::<u8>() // Err(TooLarge(2))
     pub fn take_number<N: Number>(self) -> Result<(N, AsciiStr<'a>), NumberError>
         ensures { let text = text_of self.entry in MatchResult result
             (λ taken. StartsWithNumber N.most text (N.value taken.0) (text_of taken.1))

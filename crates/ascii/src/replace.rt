@@ -15,8 +15,8 @@ impl AsciiStr<'_> {
     ///
     /// Condition: `from` is not empty.
     ///
-    ///     view("a-b-c").replace(alloc, view("-"), view("::")) // Ok("a::b::c")
-    ///     view("aaa").replace(alloc, view("aa"), view("b")) // Ok("ba")
+    ///     AsciiStr::literal("a-b-c").replace(alloc, AsciiStr::literal("-"), AsciiStr::literal("::")) // Ok("a::b::c")
+    ///     AsciiStr::literal("aaa").replace(alloc, AsciiStr::literal("aa"), AsciiStr::literal("b")) // Ok("ba")
     pub fn replace<A: Allocator>(
         self,
         alloc: A,

@@ -16,9 +16,13 @@ impl<B: Buffer> Text<B> {
     /// Condition: `keep` may be called any number of times with any character, as a closure whose body
     /// has no condition of its own may.
     ///
-    ///     let mut text = view("a-b-c").to_ascii_string(alloc)?;
+    /// To remove one character use `remove`.
+    ///
+    ///     let mut text = AsciiStr::literal("a-b-c").to_ascii_string(alloc)?;
     ///     text.retain(|ch| ch != AsciiChar::Minus);
     ///     text // "abc"
+    ///     text.retain(|_| false);
+    ///     text // ""
     pub fn retain<F: FnMut(AsciiChar) -> bool>(&mut self, keep: F)
         requires { F.IsAlwaysCallable keep }
         ensures kept { RetainsChars F.FnMut keep self.old.text self.new.text }

@@ -14,32 +14,41 @@ use ascii_base::ascii_char::AsciiChar;
 use ascii_base::range::AsciiRange;
 
 impl<'a> AsciiStr<'a> {
-    /// Returns the position of the first `needle` in the view, or `None` if the view does not contain
-    /// it. An empty needle is found at 0. Does not allocate.
+    /// Returns the position of the first `needle` in the view, or `None` if the view does not
+    /// contain it. An empty needle is found at 0.
     ///
-    ///     view("abcabc").find(view("bc")) // Some(1)
-    ///     view("abcabc").find(view("d")) // None
+    /// To cut the view there use `split_once_str`; to ask only whether it is there, `contains`.
+    ///
+    ///     AsciiStr::literal("abcabc").find(AsciiStr::literal("bc")) // Some(1)
+    ///     AsciiStr::literal("abcabc").find(AsciiStr::literal("d")) // None
+    ///     AsciiStr::literal("abc").find(AsciiStr::literal("")) // Some(0)
     pub fn find(self, needle: AsciiStr<'_>) -> Option<usize>
         ensures { FindsNeedle (text_of self.entry) (text_of needle.entry) 0 result }
     {
         short_search::first_needle(self.bytes, needle.bytes)
     }
 
-    /// Returns the position of the last `needle` in the view, or `None` if the view does not contain
-    /// it. An empty needle is found at the length. Does not allocate.
+    /// Returns the position of the last `needle` in the view, or `None` if the view does not
+    /// contain it. An empty needle is found at the length.
     ///
-    ///     view("abcabc").rfind(view("bc")) // Some(4)
-    ///     view("abcabc").rfind(view("d")) // None
+    /// To cut the view there use `rsplit_once_str`.
+    ///
+    ///     AsciiStr::literal("abcabc").rfind(AsciiStr::literal("bc")) // Some(4)
+    ///     AsciiStr::literal("abcabc").rfind(AsciiStr::literal("d")) // None
+    ///     AsciiStr::literal("abc").rfind(AsciiStr::literal("")) // Some(3)
     pub fn rfind(self, needle: AsciiStr<'_>) -> Option<usize>
         ensures { FindsLastNeedle (text_of self.entry) (text_of needle.entry) result }
     {
         short_search::last_needle(self.bytes, needle.bytes)
     }
 
-    /// Returns `true` if the view contains `needle`. Does not allocate.
+    /// Returns `true` if the view contains `needle`.
     ///
-    ///     view("abcabc").contains(view("ca")) // true
-    ///     view("abcabc").contains(view("ac")) // false
+    /// If the position is needed too, use `find`.
+    ///
+    ///     AsciiStr::literal("abcabc").contains(AsciiStr::literal("ca")) // true
+    ///     AsciiStr::literal("abcabc").contains(AsciiStr::literal("ac")) // false
+    ///     AsciiStr::literal("abc").contains(AsciiStr::literal("")) // true
     #[tactic(auto, using(crate::proofs::CutLemmas::found_if_contained))]
     pub fn contains(self, needle: AsciiStr<'_>) -> bool
         ensures { IsTrue result ↔ ContainsText (text_of needle.entry) (text_of self.entry) }
@@ -47,22 +56,28 @@ impl<'a> AsciiStr<'a> {
         self.find(needle).is_some()
     }
 
-    /// Returns the position of the first `ch` in the view, or `None` if the view does not contain it.
-    /// Does not allocate.
+    /// Returns the position of the first `ch` in the view, or `None` if the view does not contain
+    /// it.
     ///
-    ///     view("abcabc").position(AsciiChar::b) // Some(1)
-    ///     view("abcabc").position(AsciiChar::d) // None
+    /// To cut the view there use `split_once`.
+    ///
+    ///     AsciiStr::literal("abcabc").position(AsciiChar::b) // Some(1)
+    ///     AsciiStr::literal("abcabc").position(AsciiChar::d) // None
+    ///     AsciiStr::literal("").position(AsciiChar::b) // None
     pub fn position(self, ch: AsciiChar) -> Option<usize>
         ensures { IsFirstByte (is_byte (code_of ch)) (text_of self.entry) result }
     {
         memchr::memchr(ch.as_byte(), self.bytes)
     }
 
-    /// Returns the position of the last `ch` in the view, or `None` if the view does not contain it.
-    /// Does not allocate.
+    /// Returns the position of the last `ch` in the view, or `None` if the view does not contain
+    /// it.
     ///
-    ///     view("abcabc").rposition(AsciiChar::b) // Some(4)
-    ///     view("abcabc").rposition(AsciiChar::d) // None
+    /// To cut the view there use `rsplit_once`.
+    ///
+    ///     AsciiStr::literal("abcabc").rposition(AsciiChar::b) // Some(4)
+    ///     AsciiStr::literal("abcabc").rposition(AsciiChar::d) // None
+    ///     AsciiStr::literal("").rposition(AsciiChar::b) // None
     pub fn rposition(self, ch: AsciiChar) -> Option<usize>
         ensures { IsLastByte (is_byte (code_of ch)) (text_of self.entry) result }
     {
@@ -70,41 +85,51 @@ impl<'a> AsciiStr<'a> {
     }
 
     /// Returns `true` if the two views have the same text. The clause says so in the texts, where
-    /// that of `==` compares codes. Does not allocate.
+    /// that of `==` compares codes.
     ///
-    ///     view("foo").eq_text(view("foo")) // true
-    ///     view("foo").eq_text(view("Foo")) // false
+    ///     AsciiStr::literal("foo").eq_text(AsciiStr::literal("foo")) // true
+    ///     AsciiStr::literal("foo").eq_text(AsciiStr::literal("Foo")) // false
     pub fn eq_text(self, other: AsciiStr<'_>) -> bool
         ensures { IsTrue result ↔ (text_of self.entry ≡ text_of other.entry) }
     {
         self.eq_bytes(other.as_bytes())
     }
 
-    /// Returns `true` if the view starts with `prefix`. Does not allocate.
+    /// Returns `true` if the view starts with `prefix`.
     ///
-    ///     view("foobar").starts_with(view("foo")) // true
-    ///     view("foobar").starts_with(view("bar")) // false
+    /// To take the rest too, use `strip_prefix`; if case does not matter,
+    /// `starts_with_ignore_ascii_case`.
+    ///
+    ///     AsciiStr::literal("foobar").starts_with(AsciiStr::literal("foo")) // true
+    ///     AsciiStr::literal("foobar").starts_with(AsciiStr::literal("bar")) // false
+    ///     AsciiStr::literal("foobar").starts_with(AsciiStr::literal("")) // true
     pub fn starts_with(self, prefix: AsciiStr<'_>) -> bool
         ensures { IsTrue result ↔ StartsWith (text_of prefix.entry) (text_of self.entry) }
     {
         self.strip_prefix(prefix).is_some()
     }
 
-    /// Returns `true` if the view ends with `suffix`. Does not allocate.
+    /// Returns `true` if the view ends with `suffix`.
     ///
-    ///     view("foobar").ends_with(view("bar")) // true
-    ///     view("foobar").ends_with(view("foo")) // false
+    /// To take the rest too, use `strip_suffix`; if case does not matter,
+    /// `ends_with_ignore_ascii_case`.
+    ///
+    ///     AsciiStr::literal("foobar").ends_with(AsciiStr::literal("bar")) // true
+    ///     AsciiStr::literal("foobar").ends_with(AsciiStr::literal("foo")) // false
+    ///     AsciiStr::literal("foobar").ends_with(AsciiStr::literal("")) // true
     pub fn ends_with(self, suffix: AsciiStr<'_>) -> bool
         ensures { IsTrue result ↔ EndsWith (text_of suffix.entry) (text_of self.entry) }
     {
         self.strip_suffix(suffix).is_some()
     }
 
-    /// Returns the view without `prefix`, or `None` if the view does not start with it. Does not
-    /// allocate.
+    /// Returns the view without `prefix`, or `None` if the view does not start with it.
     ///
-    ///     view("foobar").strip_prefix(view("foo")) // Some("bar")
-    ///     view("foobar").strip_prefix(view("bar")) // None
+    /// To ask only whether the view starts so, use `starts_with`.
+    ///
+    ///     AsciiStr::literal("foobar").strip_prefix(AsciiStr::literal("foo")) // Some("bar")
+    ///     AsciiStr::literal("foobar").strip_prefix(AsciiStr::literal("bar")) // None
+    ///     AsciiStr::literal("foo").strip_prefix(AsciiStr::literal("foo")) // Some("")
     #[tactic(auto, using(crate::proofs::CutLemmas::prefix_reads, crate::proofs::CutLemmas::joined_at))]
     pub fn strip_prefix(self, prefix: AsciiStr<'_>) -> Option<AsciiStr<'a>>
         ensures { Strips (StartsWith (text_of prefix.entry) (text_of self.entry))
@@ -118,11 +143,13 @@ impl<'a> AsciiStr<'a> {
         }
     }
 
-    /// Returns the view without `suffix`, or `None` if the view does not end with it. Does not
-    /// allocate.
+    /// Returns the view without `suffix`, or `None` if the view does not end with it.
     ///
-    ///     view("foobar").strip_suffix(view("bar")) // Some("foo")
-    ///     view("foobar").strip_suffix(view("foo")) // None
+    /// To ask only whether the view ends so, use `ends_with`.
+    ///
+    ///     AsciiStr::literal("foobar").strip_suffix(AsciiStr::literal("bar")) // Some("foo")
+    ///     AsciiStr::literal("foobar").strip_suffix(AsciiStr::literal("foo")) // None
+    ///     AsciiStr::literal("foo").strip_suffix(AsciiStr::literal("foo")) // Some("")
     #[tactic(auto, using(crate::proofs::CutLemmas::suffix_reads, crate::proofs::CutLemmas::suffix_fits, crate::proofs::CutLemmas::joined_at))]
     pub fn strip_suffix(self, suffix: AsciiStr<'_>) -> Option<AsciiStr<'a>>
         ensures { Strips (EndsWith (text_of suffix.entry) (text_of self.entry))

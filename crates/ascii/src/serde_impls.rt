@@ -23,7 +23,7 @@ impl Described for AsciiStr<'_> {
 impl Serialize for AsciiStr<'_> {
     /// Writes the text as a string.
     ///
-    ///     serde_json::to_string(alloc, &view("a\"b"))? // "\"a\\\"b\""
+    ///     serde_json::to_string(alloc, &AsciiStr::literal("a\"b"))? // "\"a\\\"b\""
     fn serialize<S: Serializer>(&self, out: &mut S) -> Result<(), S::Error> {
         out.str(AsciiStr::as_str(*self))
     }
@@ -36,7 +36,7 @@ impl<B: Buffer> Described for Text<B> {
 impl<B: Buffer> Serialize for Text<B> {
     /// Writes the text as a string.
     ///
-    ///     serde_json::to_string(alloc, &view("foo").to_ascii_string(alloc)?)? // "\"foo\""
+    ///     serde_json::to_string(alloc, &AsciiStr::literal("foo").to_ascii_string(alloc)?)? // "\"foo\""
     fn serialize<S: Serializer>(&self, out: &mut S) -> Result<(), S::Error> {
         out.str(self.as_ascii_str().as_str())
     }

@@ -12,11 +12,14 @@ use ascii_base::ascii_char::AsciiChar;
 use ascii_base::range::AsciiRange;
 
 impl<'a> AsciiStr<'a> {
-    /// Returns the parts of the view before and after its first `on`, or `None` if the view does not
-    /// contain `on`. Does not allocate.
+    /// Returns the parts of the view before and after its first `on`, or `None` if the view does
+    /// not contain `on`.
     ///
-    ///     view("a=b=c").split_once(AsciiChar::Equal) // Some(("a", "b=c"))
-    ///     view("abc").split_once(AsciiChar::Equal) // None
+    /// For all pieces use `split`.
+    ///
+    ///     AsciiStr::literal("a=b=c").split_once(AsciiChar::Equal) // Some(("a", "b=c"))
+    ///     AsciiStr::literal("abc").split_once(AsciiChar::Equal) // None
+    ///     AsciiStr::literal("=b").split_once(AsciiChar::Equal) // Some(("", "b"))
     pub fn split_once(self, on: AsciiChar) -> Option<(AsciiStr<'a>, AsciiStr<'a>)>
         ensures { SplitsOnce (Contains (text_of self.entry) (code_of on))
             (λ before after. ¬ (Contains before (code_of on))) (code_of on ∷ [])
@@ -29,10 +32,13 @@ impl<'a> AsciiStr<'a> {
     }
 
     /// Returns the parts of the view before and after its last `on`, or `None` if the view does not
-    /// contain `on`. Does not allocate.
+    /// contain `on`.
     ///
-    ///     view("a=b=c").rsplit_once(AsciiChar::Equal) // Some(("a=b", "c"))
-    ///     view("abc").rsplit_once(AsciiChar::Equal) // None
+    /// For all pieces, the last one first, use `rsplit`.
+    ///
+    ///     AsciiStr::literal("a=b=c").rsplit_once(AsciiChar::Equal) // Some(("a=b", "c"))
+    ///     AsciiStr::literal("abc").rsplit_once(AsciiChar::Equal) // None
+    ///     AsciiStr::literal("a=").rsplit_once(AsciiChar::Equal) // Some(("a", ""))
     #[tactic(auto, using(crate::proofs::CallerLemmas::join_with_last))]
     pub fn rsplit_once(self, on: AsciiChar) -> Option<(AsciiStr<'a>, AsciiStr<'a>)>
         ensures { SplitsOnce (Contains (text_of self.entry) (code_of on))
@@ -45,11 +51,14 @@ impl<'a> AsciiStr<'a> {
         Some((before, after))
     }
 
-    /// Returns the parts of the view before and after its first `needle`, or `None` if the view does
-    /// not contain `needle`. An empty needle is found at 0. Does not allocate.
+    /// Returns the parts of the view before and after its first `needle`, or `None` if the view
+    /// does not contain `needle`. An empty needle is found at 0.
     ///
-    ///     view("a: b: c").split_once_str(view(": ")) // Some(("a", "b: c"))
-    ///     view("a:b").split_once_str(view(": ")) // None
+    /// For all pieces use `split_str`.
+    ///
+    ///     AsciiStr::literal("a: b: c").split_once_str(AsciiStr::literal(": ")) // Some(("a", "b: c"))
+    ///     AsciiStr::literal("a:b").split_once_str(AsciiStr::literal(": ")) // None
+    ///     AsciiStr::literal("a: ").split_once_str(AsciiStr::literal(": ")) // Some(("a", ""))
     #[tactic(auto, using(crate::proofs::CutLemmas::not_found))]
     pub fn split_once_str(self, needle: AsciiStr<'_>) -> Option<(AsciiStr<'a>, AsciiStr<'a>)>
         ensures { SplitsOnce (ContainsText (text_of needle.entry) (text_of self.entry))
@@ -65,10 +74,11 @@ impl<'a> AsciiStr<'a> {
     }
 
     /// Returns the parts of the view before and after its last `needle`, or `None` if the view does
-    /// not contain `needle`. An empty needle is found at the length. Does not allocate.
+    /// not contain `needle`. An empty needle is found at the length.
     ///
-    ///     view("a: b: c").rsplit_once_str(view(": ")) // Some(("a: b", "c"))
-    ///     view("a:b").rsplit_once_str(view(": ")) // None
+    ///     AsciiStr::literal("a: b: c").rsplit_once_str(AsciiStr::literal(": ")) // Some(("a: b", "c"))
+    ///     AsciiStr::literal("a:b").rsplit_once_str(AsciiStr::literal(": ")) // None
+    ///     AsciiStr::literal(": a").rsplit_once_str(AsciiStr::literal(": ")) // Some(("", "a"))
     #[tactic(auto, using(crate::proofs::CutLemmas::not_found_last))]
     pub fn rsplit_once_str(self, needle: AsciiStr<'_>) -> Option<(AsciiStr<'a>, AsciiStr<'a>)>
         ensures { SplitsOnce (ContainsText (text_of needle.entry) (text_of self.entry))

@@ -2,6 +2,8 @@
 //!
 //! The calls are those of the module `bytes`, for a source that is UTF-8. `AsciiStr::literal` makes a view of a literal,
 //! which is checked when the caller is proved.
+//!
+//! Only `to_ascii_string` allocates.
 
 ghost use Rattle.std.specs.Prelude.{◌≡◌, IsTrue, MatchResult};
 ghost use Rattle.std.specs.Char.{is_ascii};
@@ -22,10 +24,13 @@ use std::alloc::Allocator;
 /// Returns the whole source as a view, or an error with the position in bytes of its first
 /// non-ASCII byte.
 ///
-/// Scans the source once, 32 bytes or more at a time. Does not allocate.
+/// Scans the source once, 32 bytes or more at a time.
+///
+/// For a literal use `AsciiStr::literal`, which checks nothing at run time.
 ///
 ///     text::as_ascii_str("foo") // Ok("foo")
 ///     text::as_ascii_str("abč") // Err(AsAsciiStrError(2))
+///     text::as_ascii_str("") // Ok("")
 pub fn as_ascii_str(source: &str) -> Result<AsciiStr<'_>, AsAsciiStrError>
     ensures { SliceOutcome source.now AsciiRange.Full result }
 {
@@ -48,7 +53,7 @@ pub fn from_ascii(source: &str) -> Result<AsciiStr<'_>, AsAsciiStrError>
 /// source of the first non-ASCII byte in the range.
 ///
 /// Bytes outside the range do not matter, and the range may begin or end inside a character. Scans
-/// the range once. Does not allocate.
+/// the range once.
 ///
 ///     text::slice_ascii("abčd", AsciiRange::From(4)) // Ok("d")
 ///     text::slice_ascii("abčd", AsciiRange::To(3)) // Err(AsAsciiStrError(2))
@@ -72,8 +77,10 @@ pub fn get_ascii(source: &str, i: usize) -> Option<AsciiChar>
 impl<'a> AsciiStr<'a> {
     /// Returns the view of a literal.
     ///
-    /// Condition: each byte of the literal is ASCII. The prover computes this at each call, for a literal of any length,
-    /// so that a literal that is not ASCII does not compile; nothing is checked at run time.
+    /// Condition: each byte of the literal is ASCII.
+    ///
+    /// The prover computes this at each call, for a literal of any length, so that a literal that
+    /// is not ASCII does not compile; nothing is checked at run time.
     ///
     ///     AsciiStr::literal("GET") // "GET"
     #[inline]

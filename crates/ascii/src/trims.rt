@@ -18,10 +18,11 @@ use ascii_base::kernels;
 
 impl<'a> AsciiStr<'a> {
     /// Returns the characters at the start of the view that are in the class, and the rest of the
-    /// view. The two parts join to the view. Does not allocate.
+    /// view. The two parts join to the view.
     ///
-    ///     view("42px").span::<Digit>() // ("42", "px")
-    ///     view("px").span::<Digit>() // ("", "px")
+    ///     AsciiStr::literal("42px").span::<Digit>() // ("42", "px")
+    ///     AsciiStr::literal("px").span::<Digit>() // ("", "px")
+    ///     AsciiStr::literal("").span::<Digit>() // ("", "")
     pub fn span<C: Searched>(self) -> (AsciiStr<'a>, AsciiStr<'a>)
         ensures { IsSpan C.is (text_of self.entry) (text_of result.0) (text_of result.1) }
     {
@@ -30,19 +31,23 @@ impl<'a> AsciiStr<'a> {
         (AsciiStr { bytes: front }, AsciiStr { bytes: rest })
     }
 
-    /// Returns the view without the characters at both ends that are in the class. Does not allocate.
+    /// Returns the view without the characters at both ends that are in the class.
     ///
-    ///     view(" \ta b ").trim_matches::<Blank>() // "a b"
-    ///     view("007").trim_matches::<Digit>() // ""
+    /// For whitespace use `trim`.
+    ///
+    ///     AsciiStr::literal(" \ta b ").trim_matches::<Blank>() // "a b"
+    ///     AsciiStr::literal("007").trim_matches::<Digit>() // ""
+    ///     AsciiStr::literal("a").trim_matches::<Blank>() // "a"
     pub fn trim_matches<C: Searched>(self) -> AsciiStr<'a>
         ensures { Trims C.is (text_of self.entry) (text_of result) }
     {
         self.trim_start_matches::<C>().trim_end_matches::<C>()
     }
 
-    /// Returns the view without the characters at the start that are in the class. Does not allocate.
+    /// Returns the view without the characters at the start that are in the class.
     ///
-    ///     view("42px7").trim_start_matches::<Digit>() // "px7"
+    ///     AsciiStr::literal("42px7").trim_start_matches::<Digit>() // "px7"
+    ///     AsciiStr::literal("px7").trim_start_matches::<Digit>() // "px7"
     pub fn trim_start_matches<C: Searched>(self) -> AsciiStr<'a>
         ensures { TrimsStart C.is (text_of self.entry) (text_of result) }
     {
@@ -50,9 +55,10 @@ impl<'a> AsciiStr<'a> {
         rest
     }
 
-    /// Returns the view without the characters at the end that are in the class. Does not allocate.
+    /// Returns the view without the characters at the end that are in the class.
     ///
-    ///     view("42px7").trim_end_matches::<Digit>() // "42px"
+    ///     AsciiStr::literal("42px7").trim_end_matches::<Digit>() // "42px"
+    ///     AsciiStr::literal("42").trim_end_matches::<Digit>() // ""
     pub fn trim_end_matches<C: Searched>(self) -> AsciiStr<'a>
         ensures { TrimsEnd C.is (text_of self.entry) (text_of result) }
     {

@@ -256,7 +256,9 @@ impl AsciiChar {
     /// Returns `true` if the character is a digit in `radix`: `0` to `9` count for 0 to 9, and the
     /// letters of either case for 10 to 35.
     ///
-    /// Condition: `radix` is at most 36. In radix 0 there is no digit, in radix 1 only `0`.
+    /// Condition: `radix` is at most 36.
+    ///
+    /// In radix 0 there is no digit, in radix 1 only `0`.
     ///
     ///     AsciiChar::f.is_digit(16) // true
     ///     AsciiChar::f.is_digit(10) // false
@@ -271,7 +273,9 @@ impl AsciiChar {
     /// Returns the value of the character as a digit in `radix`, or `None` if it is not a digit
     /// there: `0` to `9` count for 0 to 9, and the letters of either case for 10 to 35.
     ///
-    /// Condition: `radix` is at most 36. In radix 0 there is no digit, in radix 1 only `0`.
+    /// Condition: `radix` is at most 36.
+    ///
+    /// In radix 0 there is no digit, in radix 1 only `0`.
     ///
     ///     AsciiChar::F.to_digit(16) // Some(15)
     ///     AsciiChar::F.to_digit(15) // None

@@ -78,8 +78,9 @@ pub trait ClassBy<const N: usize>: Class {
     /// Marks the bytes that are not in the class among the `N` bytes from position `at`: bit `k` of
     /// the result is set if byte `at + k` is not in the class.
     ///
-    /// Condition: `N` is at most 64, and the `N` bytes are there. Without a test of its own, a class
-    /// tests one byte after the other.
+    /// Condition: `N` is at most 64, and the `N` bytes are there.
+    ///
+    /// Without a test of its own, a class tests one byte after the other.
     ///
     ///     <Digit as ClassBy<4>>::marks(b"42px", 0) // 12
     #[inline(always)]

@@ -80,7 +80,7 @@ pub extern "C" fn ascii_last_not_whitespace(bytes: &[u8]) -> usize
 }
 
 /// Returns `true` if the bytes from `start` up to `end` are within the source and all less than
-/// 128; `place` is then unchanged. Otherwise `place` becomes the position of the first of them over
+/// 128; `place` is then unchanged. Otherwise `place` becomes the position of the first of them above
 /// 127, or `length` if they are not within the source. For `ab\xc4` the part from 0 to 2 is
 /// accepted, the part from 1 to 3 is rejected at 2, and the part from 2 to 4 at 3.
 #[unsafe(no_mangle)]

@@ -53,7 +53,7 @@ impl<K: Sink, A: Allocator> LineWriter<K, A> {
     /// With a `size` of 0, each line goes to the sink at once.
     ///
     ///     let mut writer = LineWriter::new(alloc, Output::new(Vec::new(alloc)), 64)?;
-    ///     writer.write_line(view("ab"), Ending::CrLf) // Ok(())
+    ///     writer.write_line(AsciiStr::literal("ab"), Ending::CrLf) // Ok(())
     ///     writer.flush() // Ok(())
     ///     writer.into_sink().into_inner() // [97, 98, 13, 10]
     pub fn new(alloc: A, sink: K, size: usize) -> Result<LineWriter<K, A>, AllocError>
@@ -70,7 +70,7 @@ impl<K: Sink, A: Allocator> LineWriter<K, A> {
     /// Returns the sink. Bytes that the writer holds are lost: call `flush` first.
     ///
     ///     let mut writer = LineWriter::new(alloc, Output::new(Vec::new(alloc)), 64)?;
-    ///     writer.write_line(view("ab"), Ending::Lf) // Ok(())
+    ///     writer.write_line(AsciiStr::literal("ab"), Ending::Lf) // Ok(())
     ///     writer.into_sink().into_inner() // []
     pub fn into_sink(self) -> K
         ensures { result ≡ self.sink }
@@ -91,8 +91,8 @@ impl<K: Sink, A: Allocator> LineWriter<K, A> {
     /// `u64::MAX`; otherwise no call changes it.
     ///
     ///     let mut writer = LineWriter::new(alloc, Output::new(Vec::new(alloc)), 64)?;
-    ///     writer.write_line(view("a\nb"), Ending::Lf) // Err(LineBreak(1))
-    ///     writer.write_line(view("c"), Ending::Lf) // Ok(())
+    ///     writer.write_line(AsciiStr::literal("a\nb"), Ending::Lf) // Err(LineBreak(1))
+    ///     writer.write_line(AsciiStr::literal("c"), Ending::Lf) // Ok(())
     ///     writer.flush() // Ok(())
     ///     writer.into_sink().into_inner() // [99, 10]
     pub fn write_line(&mut self, body: AsciiStr<'_>, ending: Ending) -> Result<(), WriteError>
@@ -121,8 +121,8 @@ impl<K: Sink, A: Allocator> LineWriter<K, A> {
     /// and leaves the writer and its sink unchanged.
     ///
     ///     let mut writer = LineWriter::new(alloc, Output::new(Vec::new(alloc)), 64)?;
-    ///     writer.write_line(view("$3"), Ending::CrLf) // Ok(())
-    ///     writer.write_part(view("a\nb")) // Ok(())
+    ///     writer.write_line(AsciiStr::literal("$3"), Ending::CrLf) // Ok(())
+    ///     writer.write_part(AsciiStr::literal("a\nb")) // Ok(())
     ///     writer.flush() // Ok(())
     ///     writer.into_sink().into_inner() // [36, 51, 13, 10, 97, 10, 98]
     pub fn write_part(&mut self, part: AsciiStr<'_>) -> Result<(), WriteError>

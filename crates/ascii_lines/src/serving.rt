@@ -101,7 +101,7 @@ impl<K: Sink, A: Allocator> Replies<K, A> {
     ///
     ///     let writer = LineWriter::new(alloc, Output::new(Vec::new(alloc)), 64)?;
     ///     let mut replies = Replies::new(writer, Ending::Lf);
-    ///     Echo.answer(view("ab"), Ending::Lf, &mut replies) // Line
+    ///     Echo.answer(AsciiStr::literal("ab"), Ending::Lf, &mut replies) // Line
     ///     let mut writer = replies.into_writer();
     ///     writer.flush() // Ok(())
     ///     writer.into_sink().into_inner() // [97, 98, 10]
@@ -129,8 +129,8 @@ impl<K: Sink, A: Allocator> Replies<K, A> {
     ///
     ///     let writer = LineWriter::new(alloc, Output::new(Vec::new(alloc)), 64)?;
     ///     let mut replies = Replies::new(writer, Ending::Lf);
-    ///     replies.line(view("ab")) // Ok(())
-    ///     replies.line(view("a\nb")) // Err(1)
+    ///     replies.line(AsciiStr::literal("ab")) // Ok(())
+    ///     replies.line(AsciiStr::literal("a\nb")) // Err(1)
     pub fn line(&mut self, body: AsciiStr<'_>) -> Result<(), usize>
         ensures outcome { IsLineOutcome self.old (text_of body.entry) result self.new }
         ensures says { Says self.old (line_given (text_of body.entry) result) self.new }
@@ -167,7 +167,7 @@ impl<K: Sink, A: Allocator> Replies<K, A> {
     ///
     ///     let writer = LineWriter::new(alloc, Output::new(Vec::new(alloc)), 64)?;
     ///     let mut replies = Replies::new(writer, Ending::CrLf);
-    ///     replies.part(view("a\nb"));
+    ///     replies.part(AsciiStr::literal("a\nb"));
     ///     let mut writer = replies.into_writer();
     ///     writer.flush() // Ok(())
     ///     writer.into_sink().into_inner() // [97, 10, 98]
@@ -182,7 +182,7 @@ impl<K: Sink, A: Allocator> Replies<K, A> {
     ///
     ///     let writer = LineWriter::new(alloc, Output::new(Vec::new(alloc)), 64)?;
     ///     let mut replies = Replies::new(writer, Ending::CrLf);
-    ///     replies.text(view("a\nb"));
+    ///     replies.text(AsciiStr::literal("a\nb"));
     ///     let mut writer = replies.into_writer();
     ///     writer.flush() // Ok(())
     ///     writer.into_sink().into_inner() // [97, 10, 98, 13, 10]
@@ -265,7 +265,7 @@ pub trait Handler {
     ///
     ///     let writer = LineWriter::new(alloc, Output::new(Vec::new(alloc)), 64)?;
     ///     let mut replies = Replies::new(writer, Ending::CrLf);
-    ///     Echo.answer(view("ab"), Ending::CrLf, &mut replies) // Line
+    ///     Echo.answer(AsciiStr::literal("ab"), Ending::CrLf, &mut replies) // Line
     ///     let mut writer = replies.into_writer();
     ///     writer.flush() // Ok(())
     ///     writer.into_sink().into_inner() // [97, 98, 13, 10]
@@ -361,7 +361,7 @@ impl<C: Channel, A: Allocator> LineChannel<C, A> {
     ///
     ///     let device = Duplex::new(b"".as_slice(), Vec::new(alloc));
     ///     let mut lines = LineChannel::new(alloc, device, 64, Endings::Any, Ending::Lf)?;
-    ///     lines.greet(view("hi"))?;
+    ///     lines.greet(AsciiStr::literal("hi"))?;
     ///     serve(&mut lines, &mut Echo) // EndOfInput
     ///     let (_, output) = lines.into_device().into_parts();
     ///     output.into_inner() // [104, 105, 10]

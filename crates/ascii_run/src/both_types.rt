@@ -31,7 +31,7 @@ pub struct BothRuns {
 /// all replies and the two texts are the same. Over the `SmallAsciiString` a reply is `NoMemory`
 /// only for a copy, or for a text or room of more than 24 characters.
 ///
-///     run_both(alloc, view("foo"), &[Cmd::Upper, Cmd::Pop])?.small // "FO"
+///     run_both(alloc, AsciiStr::literal("foo"), &[Cmd::Upper, Cmd::Pop])?.small // "FO"
 pub fn run_both(alloc: Global, view: AsciiStr<'_>, cmds: &[Cmd<'_>]) -> Result<BothRuns, AllocError>
     ensures string { IfOk result (λ both.
         Run 0 (text_of view.entry) cmds.now both.replies.items both.string.text) }

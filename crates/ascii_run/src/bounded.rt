@@ -140,9 +140,10 @@ const CHUNK: usize = 131_072;
 /// `Write` a prefix of it; after `Memory` nothing was read or written. `Escape` and `Lossy` take all
 /// bytes, so they never return `NotAscii`.
 ///
-/// Condition: fewer than `u64::MAX` calls of the reader and of the writer have failed. Reads 128 KiB
-/// at a time, and before each read writes and flushes the output so far. Holds that chunk and an
-/// output buffer of at most 64 KiB.
+/// Condition: fewer than `u64::MAX` calls of the reader and of the writer have failed.
+///
+/// Reads 128 KiB at a time, and before each read writes and flushes the output so far. Holds that
+/// chunk and an output buffer of at most 64 KiB.
 ///
 ///     let mut output = Output::new(Vec::new(alloc));
 ///     let mode = BoundedMode::Upper;

@@ -5,7 +5,8 @@
 //! the next commands are carried out. An allocation that fails is a reply too (`NoMemory`).
 //!
 //!     let mut text = AsciiString::new(alloc);
-//!     let replies = run(alloc, &mut text, &[Cmd::Push(AsciiChar::a), Cmd::Remove(1), Cmd::Len])?;
+//!     let cmds: [Cmd; 3] = [Cmd::Push(AsciiChar::a), Cmd::Remove(1), Cmd::Len];
+//!     let replies = run(alloc, &mut text, &cmds)?;
 //!
 //! The replies are `Done`, `BadPosition` and `Number(1)`.
 //!
@@ -103,8 +104,9 @@ pub enum Reply<A: Allocator = Global> {
 /// `Cmd::Shrink`, if no length is sure. If no command is `Cmd::Shrink`, the capacity does not
 /// shrink, and an edit needs an allocation only for a text or room longer than the capacity before.
 ///
-///     let mut text = view("foo").to_ascii_string(alloc)?;
-///     run(alloc, &mut text, &[Cmd::Pop, Cmd::Len])? // [Char(Some('o')), Number(2)]
+///     let mut text = AsciiStr::literal("foo").to_ascii_string(alloc)?;
+///     let cmds: [Cmd; 3] = [Cmd::Pop, Cmd::Remove(7), Cmd::Len];
+///     run(alloc, &mut text, &cmds)? // [Char(Some('o')), BadPosition, Number(2)]
 ///     text // "fo"
 pub fn run<A: Allocator + Copy, B: AsciiBuf>(
     alloc: A,
@@ -131,9 +133,10 @@ pub fn run<A: Allocator + Copy, B: AsciiBuf>(
 /// Lemma with no run-time effect: if no reply of a run is `NoMemory`, then the text before and the
 /// commands decide its replies and the text that it leaves.
 ///
-///     let mut text = view("foo").to_ascii_string(alloc)?;
-///     let replies = run(alloc, &mut text, &[Cmd::Len])?;
-///     plain_run(&[Cmd::Len], &replies) // ()
+///     let mut text = AsciiStr::literal("foo").to_ascii_string(alloc)?;
+///     let cmds: [Cmd; 1] = [Cmd::Len];
+///     let replies = run(alloc, &mut text, &cmds)?;
+///     plain_run(&cmds, &replies) // ()
 pub fn plain_run<A: Allocator>(cmds: &[Cmd<'_>], replies: &[Reply<A>])
     ensures { (sure : ℕ) → (t t2 : List ℕ)
         → Run sure t cmds.now replies.now t2 → NeverOutOfMemory replies.now
@@ -143,9 +146,10 @@ pub fn plain_run<A: Allocator>(cmds: &[Cmd<'_>], replies: &[Reply<A>])
 /// Lemma with no run-time effect: two runs of one list of commands from one text have the same
 /// replies up to the first `NoMemory` of either; if neither has one, they leave the same text.
 ///
-///     let mut text = view("foo").to_ascii_string(alloc)?;
-///     let replies = run(alloc, &mut text, &[Cmd::Len])?;
-///     runs_agree(&[Cmd::Len], &replies, &replies) // ()
+///     let mut text = AsciiStr::literal("foo").to_ascii_string(alloc)?;
+///     let cmds: [Cmd; 1] = [Cmd::Len];
+///     let replies = run(alloc, &mut text, &cmds)?;
+///     runs_agree(&cmds, &replies, &replies) // ()
 pub fn runs_agree<A: Allocator, B: Allocator>(
     cmds: &[Cmd<'_>],
     first: &[Reply<A>],

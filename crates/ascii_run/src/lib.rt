@@ -13,7 +13,7 @@
 //! A contract sees a string as its text, a list of codes, and its capacity. Up to the *sure length* of its type an
 //! edit never allocates: 0 for `AsciiString`, 24 for `SmallAsciiString`, `N` for `ArrayAsciiString<N>`.
 //!
-//! In an example, `view("ab")` is a view of that text, `alloc` is an allocator, and the comment after `//` is the
+//! In an example, `alloc` is an allocator, and the comment after `//` is the
 //! value's `{:?}` output.
 #![tactic(auto)]
 

@@ -29,8 +29,10 @@ use std::alloc::Allocator;
 /// stopped. All allocations are made before the first byte is written: after `NotAscii`,
 /// `Position`, `Memory` and `Read` nothing was written; after `Write` a prefix of the output was.
 ///
-/// Condition: fewer than `u64::MAX` calls of the reader and of the writer have failed. Holds the
-/// whole input, a buffer of 32 KiB that is read into, and then one output buffer of at most 64 KiB.
+/// Condition: fewer than `u64::MAX` calls of the reader and of the writer have failed.
+///
+/// Holds the whole input, a buffer of 32 KiB that is read into, and then one output buffer of at
+/// most 64 KiB.
 ///
 ///     let mut output = Output::new(Vec::new(alloc));
 ///     engine(alloc, Mode::Tac, &mut Input::new(b"x\ny\n".as_slice()), &mut output) // Ok(())

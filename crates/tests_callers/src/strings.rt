@@ -81,8 +81,7 @@ pub fn into_bytes_with_end(string: AsciiString, end: u8) -> Result<Vec<u8>, Allo
     Ok(bytes)
 }
 
-/// A text as a `String` with one character more in the room that the string had spare. It is never
-/// fails.
+/// A text as a `String` with one character more in the room that the string had spare. It never fails.
 pub fn into_string_with_end(string: AsciiString) -> Result<String, AllocError>
     requires { length string.text < string.capacity }
     ensures { IsOkAnd result (λ text. string_bytes text ≡ string.text ++ codes ".") }

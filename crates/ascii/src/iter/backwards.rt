@@ -1,4 +1,6 @@
 //! The items of a view in reverse, from both ends.
+//!
+//! Nothing here allocates.
 
 ghost use Rattle.std.specs.Prelude.{reverse};
 ghost use Rattle.ascii_base.specs.Code.{code_of};
@@ -53,9 +55,9 @@ impl<'a> AsciiStr<'a> {
     /// Returns an iterator over the pieces of the view at each `on`, the last piece first, from both
     /// ends.
     ///
-    /// Constant time; a full walk searches the view once. Does not allocate.
+    /// Constant time; a full walk searches the view once.
     ///
-    ///     let mut pieces = view("a.b.c").rsplit(AsciiChar::Dot);
+    ///     let mut pieces = AsciiStr::literal("a.b.c").rsplit(AsciiChar::Dot);
     ///     pieces.next() // Some("c")
     ///     pieces.remainder() // Some("a.b")
     pub fn rsplit(self, on: AsciiChar) -> RSplit<'a>
@@ -71,9 +73,9 @@ impl<'a> AsciiStr<'a> {
     /// Returns an iterator over the pieces of the view at each `on`, the last piece first, from both
     /// ends, each with the position in the view at which it starts.
     ///
-    /// Constant time; a full walk searches the view once. Does not allocate.
+    /// Constant time; a full walk searches the view once.
     ///
-    ///     let mut spans = view("a.b.c").rsplit_spans(AsciiChar::Dot);
+    ///     let mut spans = AsciiStr::literal("a.b.c").rsplit_spans(AsciiChar::Dot);
     ///     spans.next() // Some(SplitSpan { start: 4, text: "c" })
     pub fn rsplit_spans(self, on: AsciiChar) -> RSplitSpans<'a>
         ensures iterates { Iterates
@@ -95,7 +97,7 @@ impl<'a> Items<'a, Backwards<AtChar>> {
     /// Returns the part of the view whose pieces remain, or `None` if there are none left. The iterator
     /// is unchanged. Constant time.
     ///
-    ///     let mut pieces = view("a.b.c").rsplit(AsciiChar::Dot);
+    ///     let mut pieces = AsciiStr::literal("a.b.c").rsplit(AsciiChar::Dot);
     ///     pieces.next() // Some("c")
     ///     pieces.remainder() // Some("a.b")
     pub fn remainder(&self) -> Option<AsciiStr<'a>>

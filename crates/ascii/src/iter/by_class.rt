@@ -1,5 +1,7 @@
 //! The pieces of a view at the characters of a class, its words, which are the pieces that are not
 //! empty, and its runs of characters of a class.
+//!
+//! Nothing here allocates.
 
 ghost use Rattle.std.specs.Prelude.{◌≡◌, ◌<◌, All, MatchOption, false, length, not};
 ghost use Rattle.std.specs.List.{slice_split};
@@ -173,12 +175,15 @@ impl<'a> AsciiStr<'a> {
     /// the class at an end of the view makes an empty piece there, and so do two in a row between
     /// them.
     ///
-    /// Constant time; a full walk searches the view once. Does not allocate.
+    /// Constant time; a full walk searches the view once.
     ///
-    ///     let mut pieces = view("a b\tc").split_by::<Blank>();
+    /// For the pieces that are not empty use `words`.
+    ///
+    ///     let mut pieces = AsciiStr::literal("a b\tc").split_by::<Blank>();
     ///     pieces.next() // Some("a")
     ///     pieces.next_back() // Some("c")
     ///     pieces.remainder() // Some("b")
+    ///     AsciiStr::literal("").split_by::<Blank>().next() // Some("")
     pub fn split_by<C: Searched>(self) -> SplitBy<'a, C>
         ensures iterates { Iterates (slice_split C.test (text_of self.entry)) result }
         ensures loops { LoopsOverItems result (λ _. IsOutside C.is) }
@@ -190,9 +195,9 @@ impl<'a> AsciiStr<'a> {
     /// Returns an iterator over the pieces of the view at each character of the class, from both
     /// ends, each with the position in the view at which it starts.
     ///
-    /// Constant time; a full walk searches the view once. Does not allocate.
+    /// Constant time; a full walk searches the view once.
     ///
-    ///     let mut spans = view("a b\tc").split_spans_by::<Blank>();
+    ///     let mut spans = AsciiStr::literal("a b\tc").split_spans_by::<Blank>();
     ///     spans.next_back() // Some(SplitSpan { start: 4, text: "c" })
     pub fn split_spans_by<C: Searched>(self) -> SplitSpansBy<'a, C>
         ensures iterates { Iterates (piece_spans_by C.test (whole (text_of self.entry))) result }
@@ -206,11 +211,14 @@ impl<'a> AsciiStr<'a> {
     /// Returns an iterator over the words of the view, from both ends: the longest runs of characters
     /// that are not in the class. There are no empty words.
     ///
-    /// Constant time; a full walk searches the view once. Does not allocate.
+    /// Constant time; a full walk searches the view once.
     ///
-    ///     let mut words = view(" to be  or not").words::<Blank>();
+    /// If an empty piece counts, use `split_by`; for words between whitespace, `split_whitespace`.
+    ///
+    ///     let mut words = AsciiStr::literal(" to be  or not").words::<Blank>();
     ///     words.next() // Some("to")
     ///     words.next_back() // Some("not")
+    ///     AsciiStr::literal(" ").words::<Blank>().next() // None
     pub fn words<C: Searched>(self) -> Words<'a, C>
         ensures iterates { Iterates (words_by C.test (text_of self.entry)) result }
         ensures loops { LoopsOverItems result (λ _. IsWord C.is) }
@@ -222,11 +230,14 @@ impl<'a> AsciiStr<'a> {
     /// Returns an iterator over the words of the view between whitespace, from both ends. There are
     /// no empty words.
     ///
-    /// Constant time; a full walk searches the view once. Does not allocate.
+    /// Constant time; a full walk searches the view once.
     ///
-    ///     let mut words = view(" to be\n or not").split_whitespace();
+    /// If each separator counts, use `split_by`.
+    ///
+    ///     let mut words = AsciiStr::literal(" to be\n or not").split_whitespace();
     ///     words.next() // Some("to")
     ///     words.next() // Some("be")
+    ///     AsciiStr::literal(" \n").split_whitespace().next() // None
     pub fn split_whitespace(self) -> Words<'a, Whitespace>
         ensures iterates { Iterates (words_by is_whitespace (text_of self.entry)) result }
         ensures loops { LoopsOverItems result (λ _. IsWord IsWhitespace) }
@@ -239,9 +250,9 @@ impl<'a> AsciiStr<'a> {
     /// view at which it starts. The words are the longest runs of characters that are not in the
     /// class.
     ///
-    /// Constant time; a full walk searches the view once. Does not allocate.
+    /// Constant time; a full walk searches the view once.
     ///
-    ///     let mut spans = view(" to be").word_spans::<Blank>();
+    ///     let mut spans = AsciiStr::literal(" to be").word_spans::<Blank>();
     ///     spans.next() // Some(SplitSpan { start: 1, text: "to" })
     pub fn word_spans<C: Searched>(self) -> WordSpans<'a, C>
         ensures iterates { Iterates (word_spans_by C.test (whole (text_of self.entry))) result }
@@ -255,11 +266,12 @@ impl<'a> AsciiStr<'a> {
     /// Returns an iterator over the longest runs of characters of the class in the view, from both
     /// ends. There are no empty runs.
     ///
-    /// Constant time; a full walk searches the view once. Does not allocate.
+    /// Constant time; a full walk searches the view once.
     ///
-    ///     let mut runs = view("v1.20").runs::<Digit>();
+    ///     let mut runs = AsciiStr::literal("v1.20").runs::<Digit>();
     ///     runs.next() // Some("1")
     ///     runs.next() // Some("20")
+    ///     AsciiStr::literal("abc").runs::<Digit>().next() // None
     pub fn runs<C: Searched>(self) -> Runs<'a, C>
         ensures iterates { Iterates
             (words_by (λ code. not (C.test code)) (text_of self.entry)) result }
@@ -272,9 +284,9 @@ impl<'a> AsciiStr<'a> {
     /// Returns an iterator over the longest runs of characters of the class in the view, from both
     /// ends, each with the position in the view at which it starts.
     ///
-    /// Constant time; a full walk searches the view once. Does not allocate.
+    /// Constant time; a full walk searches the view once.
     ///
-    ///     let mut spans = view("v1.20").run_spans::<Digit>();
+    ///     let mut spans = AsciiStr::literal("v1.20").run_spans::<Digit>();
     ///     spans.next_back() // Some(SplitSpan { start: 3, text: "20" })
     pub fn run_spans<C: Searched>(self) -> RunSpans<'a, C>
         ensures iterates { Iterates
@@ -291,7 +303,7 @@ impl<'a, C: Searched> Items<'a, AtClass<C>> {
     /// Returns the part of the view whose pieces remain, or `None` if there are none left. The
     /// iterator is unchanged. Constant time.
     ///
-    ///     let mut pieces = view("a b\tc").split_by::<Blank>();
+    ///     let mut pieces = AsciiStr::literal("a b\tc").split_by::<Blank>();
     ///     pieces.next() // Some("a")
     ///     pieces.remainder() // Some("b\tc")
     pub fn remainder(&self) -> Option<AsciiStr<'a>>
@@ -306,7 +318,7 @@ impl<'a, C: Searched> Items<'a, AtWords<C>> {
     /// Returns the part of the view whose words remain. Returns `None` only if there are none left. The
     /// iterator is unchanged. Constant time.
     ///
-    ///     let mut words = view("to be").split_whitespace();
+    ///     let mut words = AsciiStr::literal("to be").split_whitespace();
     ///     words.next() // Some("to")
     ///     words.remainder() // Some(" be")
     pub fn remainder(&self) -> Option<AsciiStr<'a>>
@@ -318,7 +330,7 @@ impl<'a, C: Searched> Items<'a, AtWords<C>> {
 
     /// Returns the part of the view whose words remain, or the empty view if `remainder` is `None`.
     ///
-    ///     let mut words = view("a b c").split_whitespace();
+    ///     let mut words = AsciiStr::literal("a b c").split_whitespace();
     ///     words.next() // Some("a")
     ///     words.as_str() // " b c"
     #[inline]
@@ -333,7 +345,7 @@ impl<'a, C: Searched> Items<'a, AtRuns<C, true>> {
     /// Returns the part of the view whose runs remain. Returns `None` only if there are none left. The
     /// iterator is unchanged. Constant time.
     ///
-    ///     let mut runs = view("v1.20").runs::<Digit>();
+    ///     let mut runs = AsciiStr::literal("v1.20").runs::<Digit>();
     ///     runs.next() // Some("1")
     ///     runs.remainder() // Some(".20")
     pub fn remainder(&self) -> Option<AsciiStr<'a>>
@@ -345,7 +357,7 @@ impl<'a, C: Searched> Items<'a, AtRuns<C, true>> {
 
     /// Returns the part of the view whose runs remain, or the empty view if `remainder` is `None`.
     ///
-    ///     let mut runs = view("v1.20").runs::<Digit>();
+    ///     let mut runs = AsciiStr::literal("v1.20").runs::<Digit>();
     ///     runs.next() // Some("1")
     ///     runs.as_str() // ".20"
     #[inline]

@@ -2,6 +2,8 @@
 //!
 //! The occurrences are found from the left, each after the end of the one before. An empty text occurs
 //! nowhere here: the view is its only piece, and there are no matches.
+//!
+//! Nothing here allocates.
 
 ghost use Rattle.std.specs.Prelude.{◌≡◌};
 ghost use Rattle.ascii.specs.ByClass.{whole};
@@ -80,12 +82,12 @@ impl<'a> AsciiStr<'a> {
     /// There is at least one piece, and `needle` does not occur in any. If `needle` is empty, the view
     /// is the only piece.
     ///
-    /// Constant time; a full walk searches the view once. Does not allocate.
+    /// Constant time; a full walk searches the view once.
     ///
-    ///     let mut pieces = view("one, two, three").split_str(view(", "));
+    ///     let mut pieces = AsciiStr::literal("one, two, three").split_str(AsciiStr::literal(", "));
     ///     pieces.next() // Some("one")
     ///     pieces.remainder() // Some("two, three")
-    ///     view("aaa").split_str(view("aa")).count() // 2
+    ///     AsciiStr::literal("aaa").split_str(AsciiStr::literal("aa")).count() // 2
     pub fn split_str<'n>(self, needle: AsciiStr<'n>) -> SplitStr<'a, 'n>
         ensures iterates { Iterates (pieces_at (text_of needle.entry) (text_of self.entry)) result }
         ensures loops { LoopsOverItems result (λ at. IsFreeOf (text_of at.needle)) }
@@ -97,9 +99,9 @@ impl<'a> AsciiStr<'a> {
     /// each with the position in the view at which it starts. If `needle` is empty, the view is the
     /// only piece.
     ///
-    /// Constant time; a full walk searches the view once. Does not allocate.
+    /// Constant time; a full walk searches the view once.
     ///
-    ///     let mut spans = view("one, two").split_spans_str(view(", "));
+    ///     let mut spans = AsciiStr::literal("one, two").split_spans_str(AsciiStr::literal(", "));
     ///     spans.next() // Some(SplitSpan { start: 0, text: "one" })
     ///     spans.next() // Some(SplitSpan { start: 5, text: "two" })
     pub fn split_spans_str<'n>(self, needle: AsciiStr<'n>) -> SplitSpansStr<'a, 'n>
@@ -114,10 +116,10 @@ impl<'a> AsciiStr<'a> {
     /// Returns an iterator over the occurrences of `needle` in the view, from the front. Each is a part
     /// of the view. There are none if `needle` is empty.
     ///
-    /// Constant time; a full walk searches the view once. Does not allocate.
+    /// Constant time; a full walk searches the view once.
     ///
-    ///     view("banana").matches(view("an")).count() // 2
-    ///     view("aaa").matches(view("aa")).count() // 1
+    ///     AsciiStr::literal("banana").matches(AsciiStr::literal("an")).count() // 2
+    ///     AsciiStr::literal("aaa").matches(AsciiStr::literal("aa")).count() // 1
     pub fn matches<'n>(self, needle: AsciiStr<'n>) -> Matches<'a, 'n>
         ensures iterates { Iterates
             (matches_at (text_of needle.entry) (text_of self.entry)) result }
@@ -129,9 +131,9 @@ impl<'a> AsciiStr<'a> {
     /// Returns an iterator over the occurrences of `needle` in the view, from the front, each with the
     /// position in the view at which it starts. There are none if `needle` is empty.
     ///
-    /// Constant time; a full walk searches the view once. Does not allocate.
+    /// Constant time; a full walk searches the view once.
     ///
-    ///     let mut spans = view("banana").match_spans(view("an"));
+    ///     let mut spans = AsciiStr::literal("banana").match_spans(AsciiStr::literal("an"));
     ///     spans.next() // Some(SplitSpan { start: 1, text: "an" })
     ///     spans.next() // Some(SplitSpan { start: 3, text: "an" })
     ///     spans.next() // None
@@ -149,7 +151,7 @@ impl<'a, 'n> Items<'a, AtText<'n>> {
     /// Returns the part of the view whose pieces remain, or `None` if there are none left. The iterator
     /// is unchanged. Constant time.
     ///
-    ///     let mut pieces = view("one, two, three").split_str(view(", "));
+    ///     let mut pieces = AsciiStr::literal("one, two, three").split_str(AsciiStr::literal(", "));
     ///     pieces.next() // Some("one")
     ///     pieces.remainder() // Some("two, three")
     pub fn remainder(&self) -> Option<AsciiStr<'a>>
@@ -164,7 +166,7 @@ impl<'a, 'n> Items<'a, AtMatches<'n>> {
     /// Returns the part of the view whose occurrences remain: what follows the last one that was
     /// yielded. There may be no occurrence in it. The iterator is unchanged. Constant time.
     ///
-    ///     let mut matches = view("banana").matches(view("an"));
+    ///     let mut matches = AsciiStr::literal("banana").matches(AsciiStr::literal("an"));
     ///     matches.next() // Some("an")
     ///     matches.remainder() // Some("ana")
     pub fn remainder(&self) -> Option<AsciiStr<'a>>

@@ -1,4 +1,6 @@
 //! The characters of a view.
+//!
+//! Nothing here allocates.
 
 ghost use Rattle.std.specs.Prelude.{⊤, ◌≡◌, IfSome, Some, length};
 ghost use Rattle.std.specs.Iterator.{UpTo, YieldsFirstBy, YieldsLastBy, item_count};
@@ -35,7 +37,7 @@ impl<'a> Model for Chars<'a> {
 impl<'a> Chars<'a> {
     /// Returns a view of the remaining characters.
     ///
-    ///     let mut chars = view("foo").chars();
+    ///     let mut chars = AsciiStr::literal("foo").chars();
     ///     chars.next() // Some('f')
     ///     chars.as_str() // "oo"
     #[inline]
@@ -53,9 +55,9 @@ impl Clone for Chars<'_> {
 
     ghost is_infallible = { λ _. ⊤ };
 
-    /// Returns an iterator over the same characters. Always returns `Ok`, and does not allocate.
+    /// Returns an iterator over the same characters. Always returns `Ok`.
     ///
-    ///     let mut chars = view("foo").chars();
+    ///     let mut chars = AsciiStr::literal("foo").chars();
     ///     let copy = chars.clone()?;
     ///     chars.next() // Some('f')
     ///     copy.as_str() // "foo"
@@ -74,7 +76,7 @@ impl<'a> Iterator for Chars<'a> {
     /// Returns the next character, or `None` if there are none left; it then keeps returning
     /// `None`.
     ///
-    ///     view("foo").chars().next() // Some('f')
+    ///     AsciiStr::literal("foo").chars().next() // Some('f')
     #[inline]
     fn next(&mut self) -> Option<AsciiChar> {
         let first = self.bytes.next()?;
@@ -83,7 +85,7 @@ impl<'a> Iterator for Chars<'a> {
 
     /// Returns the number of remaining characters, as the least and as the largest number.
     ///
-    ///     view("foo").chars().size_hint() // (3, Some(3))
+    ///     AsciiStr::literal("foo").chars().size_hint() // (3, Some(3))
     #[inline]
     fn size_hint(&self) -> (usize, Option<usize>)
         ensures lower { IsWithinCount result.0 (item_count (λ chars. chars) self.now) }
@@ -100,7 +102,7 @@ impl<'a> DoubleEndedIterator for Chars<'a> {
     /// Returns the last of the remaining characters, or `None` if there are none left; it then
     /// keeps returning `None`.
     ///
-    ///     view("foo").chars().next_back() // Some('o')
+    ///     AsciiStr::literal("foo").chars().next_back() // Some('o')
     #[inline]
     fn next_back(&mut self) -> Option<AsciiChar> {
         let last = self.bytes.next_back()?;
@@ -111,7 +113,7 @@ impl<'a> DoubleEndedIterator for Chars<'a> {
 impl ExactSizeIterator for Chars<'_> {
     /// Returns the number of remaining characters.
     ///
-    ///     view("foo").chars().len() // 3
+    ///     AsciiStr::literal("foo").chars().len() // 3
     #[inline]
     fn len(&self) -> usize {
         self.bytes.len()
@@ -137,7 +139,7 @@ impl<'a> Model for CharsRef<'a> {
 impl<'a> CharsRef<'a> {
     /// Returns a view of the remaining characters.
     ///
-    ///     view("foo").into_iter().as_str() // "foo"
+    ///     AsciiStr::literal("foo").into_iter().as_str() // "foo"
     #[inline]
     pub fn as_str(&self) -> AsciiStr<'a>
         ensures { text_of result ≡ self.now }
@@ -151,9 +153,9 @@ impl Clone for CharsRef<'_> {
 
     ghost is_infallible = { λ _. ⊤ };
 
-    /// Returns an iterator over the same characters. Always returns `Ok`, and does not allocate.
+    /// Returns an iterator over the same characters. Always returns `Ok`.
     ///
-    ///     view("foo").into_iter().clone()?.as_str() // "foo"
+    ///     AsciiStr::literal("foo").into_iter().clone()?.as_str() // "foo"
     fn clone(&self) -> Result<Self, AllocError> {
         Ok(CharsRef {
             chars: self.as_str().chars(),
@@ -171,7 +173,7 @@ impl<'a> Iterator for CharsRef<'a> {
     /// Returns the next character, or `None` if there are none left; it then keeps returning
     /// `None`.
     ///
-    ///     view("foo").into_iter().next() // Some('f')
+    ///     AsciiStr::literal("foo").into_iter().next() // Some('f')
     #[inline]
     fn next(&mut self) -> Option<AsciiChar> {
         self.chars.next()
@@ -179,7 +181,7 @@ impl<'a> Iterator for CharsRef<'a> {
 
     /// Returns the number of remaining characters, as the least and as the largest number.
     ///
-    ///     view("foo").into_iter().size_hint() // (3, Some(3))
+    ///     AsciiStr::literal("foo").into_iter().size_hint() // (3, Some(3))
     #[inline]
     fn size_hint(&self) -> (usize, Option<usize>)
         ensures lower { IsWithinCount result.0 (item_count (λ chars. chars) self.now) }
@@ -196,7 +198,7 @@ impl<'a> DoubleEndedIterator for CharsRef<'a> {
     /// Returns the last of the remaining characters, or `None` if there are none left; it then
     /// keeps returning `None`.
     ///
-    ///     view("foo").into_iter().next_back() // Some('o')
+    ///     AsciiStr::literal("foo").into_iter().next_back() // Some('o')
     #[inline]
     fn next_back(&mut self) -> Option<AsciiChar> {
         self.chars.next_back()
@@ -212,11 +214,10 @@ impl<'a> IntoIterator for AsciiStr<'a> {
 
     ghost into_iter_gives = { λ view chars. chars ≡ text_of view };
 
-    /// Returns an iterator over the characters of the view, so that `for ch in view` works. Does
-    /// not allocate.
+    /// Returns an iterator over the characters of the view, so that `for ch in view` works.
     ///
     ///     let mut digit = false;
-    ///     for ch in view("f7") {
+    ///     for ch in AsciiStr::literal("f7") {
     ///         digit = digit || ch.is_ascii_digit();
     ///     }
     ///     digit // true
@@ -229,12 +230,12 @@ impl<'a> IntoIterator for AsciiStr<'a> {
 }
 
 impl<'a> AsciiStr<'a> {
-    /// Returns an iterator over the characters of the view, from both ends. Constant time; does not
-    /// allocate.
+    /// Returns an iterator over the characters of the view, from both ends. Constant time.
     ///
-    ///     let mut chars = view("foo").chars();
+    ///     let mut chars = AsciiStr::literal("foo").chars();
     ///     chars.next() // Some('f')
     ///     chars.next_back() // Some('o')
+    ///     AsciiStr::literal("").chars().next() // None
     #[inline]
     pub fn chars(self) -> Chars<'a>
         ensures { result ≡ text_of self.entry }

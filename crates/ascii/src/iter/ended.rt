@@ -1,5 +1,7 @@
 //! The pieces of a view that a separator ends: without the empty piece after a last separator, and
 //! with their separators.
+//!
+//! Nothing here allocates.
 
 ghost use Rattle.std.specs.Prelude.{◌++◌, ◌∷◌, []};
 ghost use Rattle.ascii_base.specs.Code.{code_of};
@@ -107,14 +109,14 @@ impl<'a> AsciiStr<'a> {
     /// Returns an iterator over the pieces of the view that `on` ends, from both ends: like `split`,
     /// but without the last piece if it is empty.
     ///
-    /// Constant time; a full walk searches the view once. Does not allocate.
+    /// Constant time; a full walk searches the view once.
     ///
-    ///     let mut pieces = view("a;b;").split_terminator(AsciiChar::Semicolon);
+    ///     let mut pieces = AsciiStr::literal("a;b;").split_terminator(AsciiChar::Semicolon);
     ///     pieces.next_back() // Some("b")
     ///     pieces.next_back() // Some("a")
     ///     pieces.next_back() // None
-    ///     view("a;;").split_terminator(AsciiChar::Semicolon).count() // 2
-    ///     view("").split_terminator(AsciiChar::Semicolon).count() // 0
+    ///     AsciiStr::literal("a;;").split_terminator(AsciiChar::Semicolon).count() // 2
+    ///     AsciiStr::literal("").split_terminator(AsciiChar::Semicolon).count() // 0
     pub fn split_terminator(self, on: AsciiChar) -> SplitTerminator<'a>
         ensures iterates { Iterates (terminated (code_of on) (text_of self.entry)) result }
         ensures loops { LoopsOverItems result (λ at. IsFree (code_of at.on)) }
@@ -126,9 +128,9 @@ impl<'a> AsciiStr<'a> {
     /// Returns an iterator over the pieces of the view that `on` ends, like `split_terminator`, each
     /// with the position in the view at which it starts.
     ///
-    /// Constant time; a full walk searches the view once. Does not allocate.
+    /// Constant time; a full walk searches the view once.
     ///
-    ///     let mut spans = view("a;b;").split_terminator_spans(AsciiChar::Semicolon);
+    ///     let mut spans = AsciiStr::literal("a;b;").split_terminator_spans(AsciiChar::Semicolon);
     ///     spans.next_back() // Some(SplitSpan { start: 2, text: "b" })
     ///     spans.remainder() // Some((0, "a;"))
     pub fn split_terminator_spans(self, on: AsciiChar) -> SplitTerminatorSpans<'a>
@@ -145,9 +147,9 @@ impl<'a> AsciiStr<'a> {
     /// that ends it. A last piece without one is yielded unless it is empty. Joined, the pieces are the
     /// view.
     ///
-    /// Constant time; a full walk searches the view once. Does not allocate.
+    /// Constant time; a full walk searches the view once.
     ///
-    ///     let mut pieces = view("a;b;c").split_inclusive(AsciiChar::Semicolon);
+    ///     let mut pieces = AsciiStr::literal("a;b;c").split_inclusive(AsciiChar::Semicolon);
     ///     pieces.next() // Some("a;")
     ///     pieces.next_back() // Some("c")
     ///     pieces.next_back() // Some("b;")
@@ -163,9 +165,9 @@ impl<'a> AsciiStr<'a> {
     /// Returns an iterator over the pieces of the view at each `on`, like `split_inclusive`, each with
     /// the position in the view at which it starts.
     ///
-    /// Constant time; a full walk searches the view once. Does not allocate.
+    /// Constant time; a full walk searches the view once.
     ///
-    ///     let mut spans = view("a;b;").split_inclusive_spans(AsciiChar::Semicolon);
+    ///     let mut spans = AsciiStr::literal("a;b;").split_inclusive_spans(AsciiChar::Semicolon);
     ///     spans.next_back() // Some(SplitSpan { start: 2, text: "b;" })
     ///     spans.remainder() // Some((0, "a;"))
     pub fn split_inclusive_spans(self, on: AsciiChar) -> SplitInclusiveSpans<'a>
@@ -183,7 +185,7 @@ impl<'a> Items<'a, AtTerminator> {
     /// Returns the part of the view whose pieces remain, or `None` if there are none left. The iterator
     /// is unchanged. Constant time.
     ///
-    ///     let mut pieces = view("a;b;").split_terminator(AsciiChar::Semicolon);
+    ///     let mut pieces = AsciiStr::literal("a;b;").split_terminator(AsciiChar::Semicolon);
     ///     pieces.next_back() // Some("b")
     ///     pieces.remainder() // Some("a;")
     pub fn remainder(&self) -> Option<AsciiStr<'a>>
@@ -198,7 +200,7 @@ impl<'a> Items<'a, AtEnd> {
     /// Returns the part of the view whose pieces remain, or `None` if there are none left. The iterator
     /// is unchanged. Constant time.
     ///
-    ///     let mut pieces = view("a;b;").split_inclusive(AsciiChar::Semicolon);
+    ///     let mut pieces = AsciiStr::literal("a;b;").split_inclusive(AsciiChar::Semicolon);
     ///     pieces.next() // Some("a;")
     ///     pieces.remainder() // Some("b;")
     pub fn remainder(&self) -> Option<AsciiStr<'a>>

@@ -6,6 +6,8 @@
 //! their starts, `Items` without them.
 //!
 //! A contract sees an iterator as where it cuts, `on`, and the list of items that it has yet to yield, `items`.
+//!
+//! Nothing here allocates.
 
 ghost use Rattle.std.specs.Prelude.{⊤, ◌≡◌, ◌+◌, ◌≤◌, ℕ, List, IfSome, length};
 ghost use Rattle.std.specs.Iterator.{item_count};
@@ -84,10 +86,9 @@ impl<'a, C: Cut> Clone for Spans<'a, C> {
 
     ghost is_infallible = { λ _. ⊤ };
 
-    /// Returns an iterator with the same remaining items and starts. Always returns `Ok`, and does not
-    /// allocate.
+    /// Returns an iterator with the same remaining items and starts. Always returns `Ok`.
     ///
-    ///     view("a,b").split_spans(AsciiChar::Comma).clone()?.remainder() // Some((0, "a,b"))
+    ///     AsciiStr::literal("a,b").split_spans(AsciiChar::Comma).clone()?.remainder() // Some((0, "a,b"))
     fn clone(&self) -> Result<Self, AllocError> {
         Ok(Spans {
             rest: self.rest,
@@ -106,7 +107,7 @@ impl<'a, C: Cut> Iterator for Spans<'a, C> {
     /// Returns the next item with its start, or `None` if there are none left; it then keeps
     /// returning `None`.
     ///
-    ///     view("a,b").split_spans(AsciiChar::Comma).next() // Some(SplitSpan { start: 0, text: "a" })
+    ///     AsciiStr::literal("a,b").split_spans(AsciiChar::Comma).next() // Some(SplitSpan { start: 0, text: "a" })
     #[inline(always)]
     fn next(&mut self) -> Option<SplitSpan<'a>> {
         let (first, others) = self.on.first(self.rest?)?;
@@ -121,7 +122,7 @@ impl<'a, C: CutBack> DoubleEndedIterator for Spans<'a, C> {
     /// Returns the last of the remaining items with its start, or `None` if there are none left; it
     /// then keeps returning `None`.
     ///
-    ///     view("a,b").split_spans(AsciiChar::Comma).next_back() // Some(SplitSpan { start: 2, text: "b" })
+    ///     AsciiStr::literal("a,b").split_spans(AsciiChar::Comma).next_back() // Some(SplitSpan { start: 2, text: "b" })
     #[inline(always)]
     fn next_back(&mut self) -> Option<SplitSpan<'a>> {
         let (last, others) = self.on.last(self.rest?)?;
@@ -136,7 +137,7 @@ impl<'a, C: Cut> Spans<'a, C> {
     /// Returns the part of the text whose items remain, with its start, or `None` if there are none
     /// left. The iterator is unchanged. Constant time.
     ///
-    ///     let mut spans = view("foo;bar").split_spans(AsciiChar::Semicolon);
+    ///     let mut spans = AsciiStr::literal("foo;bar").split_spans(AsciiChar::Semicolon);
     ///     spans.next() // Some(SplitSpan { start: 0, text: "foo" })
     ///     spans.remainder() // Some((4, "bar"))
     pub fn remainder(&self) -> Option<(usize, AsciiStr<'a>)>
@@ -177,9 +178,9 @@ impl<'a, C: Cut> Clone for Items<'a, C> {
 
     ghost is_infallible = { λ _. ⊤ };
 
-    /// Returns an iterator with the same remaining items. Always returns `Ok`, and does not allocate.
+    /// Returns an iterator with the same remaining items. Always returns `Ok`.
     ///
-    ///     view("a,b").split(AsciiChar::Comma).clone()?.remainder() // Some("a,b")
+    ///     AsciiStr::literal("a,b").split(AsciiChar::Comma).clone()?.remainder() // Some("a,b")
     fn clone(&self) -> Result<Self, AllocError> {
         Ok(Items {
             spans: self.spans.clone()?,
@@ -196,7 +197,7 @@ impl<'a, C: Cut> Iterator for Items<'a, C> {
 
     /// Returns the next item, or `None` if there are none left; it then keeps returning `None`.
     ///
-    ///     view("a,b").split(AsciiChar::Comma).next() // Some("a")
+    ///     AsciiStr::literal("a,b").split(AsciiChar::Comma).next() // Some("a")
     #[inline(always)]
     fn next(&mut self) -> Option<AsciiStr<'a>> {
         let span = self.spans.next()?;
@@ -210,7 +211,7 @@ impl<'a, C: CutBack> DoubleEndedIterator for Items<'a, C> {
     /// Returns the last of the remaining items, or `None` if there are none left; it then keeps
     /// returning `None`.
     ///
-    ///     view("a,b").split(AsciiChar::Comma).next_back() // Some("b")
+    ///     AsciiStr::literal("a,b").split(AsciiChar::Comma).next_back() // Some("b")
     #[inline(always)]
     fn next_back(&mut self) -> Option<AsciiStr<'a>> {
         let span = self.spans.next_back()?;

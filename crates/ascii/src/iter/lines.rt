@@ -1,4 +1,6 @@
 //! The lines of a view, with and without their starts and endings.
+//!
+//! Nothing here allocates.
 
 ghost use Rattle.std.specs.Prelude.{⊤, ◌≡◌, ◌+◌, ◌≤◌, ◌∷◌, ◌++◌, [], IfSome, MatchOption, length};
 ghost use Rattle.std.specs.Iterator.{item_count};
@@ -116,10 +118,9 @@ impl Clone for LineSpans<'_> {
 
     ghost is_infallible = { λ _. ⊤ };
 
-    /// Returns an iterator with the same remaining lines, starts and endings. Always returns `Ok`,
-    /// and does not allocate.
+    /// Returns an iterator with the same remaining lines, starts and endings. Always returns `Ok`.
     ///
-    ///     view("x\ny").line_spans().clone()?.remainder() // Some((0, "x\ny"))
+    ///     AsciiStr::literal("x\ny").line_spans().clone()?.remainder() // Some((0, "x\ny"))
     fn clone(&self) -> Result<Self, AllocError> {
         Ok(LineSpans {
             cursor: self.cursor,
@@ -137,7 +138,7 @@ impl<'a> Iterator for LineSpans<'a> {
     /// Returns the next line with its start and its ending, or `None` if there are none left; it
     /// then keeps returning `None`.
     ///
-    ///     view("x\ny").line_spans().next() // Some(LineSpan { start: 0, text: "x", ending: Lf })
+    ///     AsciiStr::literal("x\ny").line_spans().next() // Some(LineSpan { start: 0, text: "x", ending: Lf })
     #[inline(always)]
     fn next(&mut self) -> Option<LineSpan<'a>> {
         let (first, others) = self.cursor.first_line()?;
@@ -152,7 +153,7 @@ impl<'a> DoubleEndedIterator for LineSpans<'a> {
     /// Returns the last of the remaining lines with its start and its ending, or `None` if there
     /// are none left; it then keeps returning `None`.
     ///
-    ///     view("x\ny").line_spans().next_back() // Some(LineSpan { start: 2, text: "y", ending: Absent })
+    ///     AsciiStr::literal("x\ny").line_spans().next_back() // Some(LineSpan { start: 2, text: "y", ending: Absent })
     #[inline(always)]
     fn next_back(&mut self) -> Option<LineSpan<'a>> {
         let (last, others) = self.cursor.last_line()?;
@@ -167,7 +168,7 @@ impl<'a> LineSpans<'a> {
     /// Returns the remaining lines with their endings as one view, with the start of the first one,
     /// or `None` if there are none left. The iterator is unchanged. Constant time.
     ///
-    ///     let mut spans = view("x\r\ny").line_spans();
+    ///     let mut spans = AsciiStr::literal("x\r\ny").line_spans();
     ///     spans.next() // Some(LineSpan { start: 0, text: "x", ending: CrLf })
     ///     spans.remainder() // Some((3, "y"))
     pub fn remainder(&self) -> Option<(usize, AsciiStr<'a>)>
@@ -202,10 +203,9 @@ impl Clone for Lines<'_> {
 
     ghost is_infallible = { λ _. ⊤ };
 
-    /// Returns an iterator with the same remaining lines. Always returns `Ok`, and does not
-    /// allocate.
+    /// Returns an iterator with the same remaining lines. Always returns `Ok`.
     ///
-    ///     view("x\ny").lines().clone()?.remainder() // Some("x\ny")
+    ///     AsciiStr::literal("x\ny").lines().clone()?.remainder() // Some("x\ny")
     fn clone(&self) -> Result<Self, AllocError> {
         Ok(Lines {
             spans: self.spans.clone()?,
@@ -223,7 +223,7 @@ impl<'a> Iterator for Lines<'a> {
     /// Returns the next line without its ending, or `None` if there are none left; it then keeps
     /// returning `None`.
     ///
-    ///     view("\nx").lines().next() // Some("")
+    ///     AsciiStr::literal("\nx").lines().next() // Some("")
     #[inline(always)]
     fn next(&mut self) -> Option<AsciiStr<'a>> {
         let span = self.spans.next()?;
@@ -237,7 +237,7 @@ impl<'a> DoubleEndedIterator for Lines<'a> {
     /// Returns the last of the remaining lines without its ending, or `None` if there are none
     /// left; it then keeps returning `None`.
     ///
-    ///     view("x\n").lines().next_back() // Some("x")
+    ///     AsciiStr::literal("x\n").lines().next_back() // Some("x")
     #[inline(always)]
     fn next_back(&mut self) -> Option<AsciiStr<'a>> {
         let span = self.spans.next_back()?;
@@ -251,7 +251,7 @@ impl<'a> Lines<'a> {
     /// Returns the remaining lines with their endings as one view, or `None` if there are none
     /// left. The iterator is unchanged. Constant time.
     ///
-    ///     let mut lines = view("x\r\ny").lines();
+    ///     let mut lines = AsciiStr::literal("x\r\ny").lines();
     ///     lines.next() // Some("x")
     ///     lines.remainder() // Some("y")
     #[tactic(auto, using(crate::proofs::SpansLemmas::items_some))]
@@ -268,13 +268,18 @@ impl<'a> AsciiStr<'a> {
     /// ends in LF or in CR LF; another CR belongs to its line, and so does a last CR with no LF
     /// after it. An LF at the end of the view makes no further line.
     ///
-    /// Constant time; a full walk searches the view once. Does not allocate.
+    /// Constant time; a full walk searches the view once.
     ///
-    ///     let mut lines = view("x\r\ny\nz").lines();
+    /// If only CR LF ends a line, use `lines_by`; to read the lines of an input, `LineReader` of
+    /// `ascii_lines`.
+    ///
+    ///     let mut lines = AsciiStr::literal("x\r\ny\nz").lines();
     ///     lines.next() // Some("x")
     ///     lines.next_back() // Some("z")
     ///     lines.next_back() // Some("y")
     ///     lines.next() // None
+    ///     AsciiStr::literal("x\r").lines().next() // Some("x\r")
+    ///     AsciiStr::literal("").lines().next() // None
     pub fn lines(self) -> Lines<'a>
         ensures iterates { IteratesLines (text_of self.entry) result }
         ensures loops { LoopsOverLines }
@@ -288,11 +293,12 @@ impl<'a> AsciiStr<'a> {
     /// Returns an iterator over the lines of the view, from both ends, each with its ending and the
     /// position in the view at which it starts.
     ///
-    /// Constant time; a full walk searches the view once. Does not allocate.
+    /// Constant time; a full walk searches the view once.
     ///
-    ///     let mut spans = view("x\r\ny").line_spans();
+    ///     let mut spans = AsciiStr::literal("x\r\ny").line_spans();
     ///     spans.next() // Some(LineSpan { start: 0, text: "x", ending: CrLf })
     ///     spans.next() // Some(LineSpan { start: 3, text: "y", ending: Absent })
+    ///     AsciiStr::literal("x\n").line_spans().next_back() // Some(LineSpan { start: 0, text: "x", ending: Lf })
     pub fn line_spans(self) -> LineSpans<'a>
         ensures iterates { IteratesLineSpans 0 (text_of self.entry) result }
         ensures placed { ArePlacedLines 0 (text_of self.entry) result }
@@ -307,7 +313,7 @@ impl<'a> AsciiStr<'a> {
     ///
     /// Condition: `offset` and the length together are at most `usize::MAX`.
     ///
-    ///     view("x\r\ny").line_spans_from(10).next_back() // Some(LineSpan { start: 13, text: "y", ending: Absent })
+    ///     AsciiStr::literal("x\r\ny").line_spans_from(10).next_back() // Some(LineSpan { start: 13, text: "y", ending: Absent })
     pub fn line_spans_from(self, offset: usize) -> LineSpans<'a>
         requires { offset + length (text_of self) ≤ usize.MAX }
         ensures iterates { IteratesLineSpans offset (text_of self.entry) result }

@@ -1,4 +1,6 @@
 //! The lines of a view by the endings that end them, with and without their starts and endings.
+//!
+//! Nothing here allocates.
 
 ghost use Rattle.std.specs.Prelude.{⊤, ◌≡◌, ◌+◌, ◌<◌, ◌≤◌, ◌∷◌, ◌++◌, [], IfSome, MatchOption, length};
 ghost use Rattle.std.specs.Prelude.{slice_range, take};
@@ -168,10 +170,9 @@ impl Clone for LineSpansBy<'_> {
 
     ghost is_infallible = { λ _. ⊤ };
 
-    /// Returns an iterator with the same remaining lines, starts and endings. Always returns `Ok`,
-    /// and does not allocate.
+    /// Returns an iterator with the same remaining lines, starts and endings. Always returns `Ok`.
     ///
-    ///     view("x\r\ny").line_spans_by(Endings::CrLf).clone()?.remainder() // Some((0, "x\r\ny"))
+    ///     AsciiStr::literal("x\r\ny").line_spans_by(Endings::CrLf).clone()?.remainder() // Some((0, "x\r\ny"))
     fn clone(&self) -> Result<Self, AllocError> {
         Ok(LineSpansBy {
             endings: self.endings,
@@ -191,7 +192,7 @@ impl<'a> Iterator for LineSpansBy<'a> {
     /// Returns the next line with its start and its ending, or `None` if there are none left or the
     /// next line has a lone CR or LF that the endings rule out; it then keeps returning `None`.
     ///
-    ///     view("x\r\ny").line_spans_by(Endings::CrLf).next() // Some(LineSpan { start: 0, text: "x", ending: CrLf })
+    ///     AsciiStr::literal("x\r\ny").line_spans_by(Endings::CrLf).next() // Some(LineSpan { start: 0, text: "x", ending: CrLf })
     fn next(&mut self) -> Option<LineSpan<'a>> {
         let (first, others) = self.cursor.first_line_by(self.endings)?;
         self.cursor = others;
@@ -208,7 +209,7 @@ impl<'a> DoubleEndedIterator for LineSpansBy<'a> {
     ///
     /// Searches the last line. With `CrLfStrict` the first call searches all that remains.
     ///
-    ///     let mut spans = view("x\r\ny\r\nz\n").line_spans_by(Endings::CrLfStrict);
+    ///     let mut spans = AsciiStr::literal("x\r\ny\r\nz\n").line_spans_by(Endings::CrLfStrict);
     ///     spans.next_back() // Some(LineSpan { start: 3, text: "y", ending: CrLf })
     ///     spans.remainder() // Some((0, "x\r\n"))
     ///     spans.lone_break() // Some(7)
@@ -232,7 +233,7 @@ impl<'a> LineSpansBy<'a> {
     /// what comes after that line. A step from the back cuts off what comes after the lines. The
     /// iterator is unchanged. Constant time.
     ///
-    ///     let mut spans = view("x\r\ny\nz").line_spans_by(Endings::CrLfStrict);
+    ///     let mut spans = AsciiStr::literal("x\r\ny\nz").line_spans_by(Endings::CrLfStrict);
     ///     spans.next() // Some(LineSpan { start: 0, text: "x", ending: CrLf })
     ///     spans.next() // None
     ///     spans.remainder() // Some((3, "y\nz"))
@@ -252,8 +253,8 @@ impl<'a> LineSpansBy<'a> {
     ///
     /// Searches the remaining lines, so it is fast after the last of them, or a step from the back.
     ///
-    ///     view("x\r\ny\nz").line_spans_by(Endings::CrLfStrict).lone_break() // Some(4)
-    ///     view("x\r\ny\nz").line_spans_by(Endings::CrLf).lone_break() // None
+    ///     AsciiStr::literal("x\r\ny\nz").line_spans_by(Endings::CrLfStrict).lone_break() // Some(4)
+    ///     AsciiStr::literal("x\r\ny\nz").line_spans_by(Endings::CrLf).lone_break() // None
     pub fn lone_break(&self) -> Option<usize>
         ensures { FindsStop self.now.rest result }
     {
@@ -295,10 +296,9 @@ impl Clone for LinesBy<'_> {
 
     ghost is_infallible = { λ _. ⊤ };
 
-    /// Returns an iterator with the same remaining lines. Always returns `Ok`, and does not
-    /// allocate.
+    /// Returns an iterator with the same remaining lines. Always returns `Ok`.
     ///
-    ///     view("x\r\ny").lines_by(Endings::CrLf).clone()?.remainder() // Some("x\r\ny")
+    ///     AsciiStr::literal("x\r\ny").lines_by(Endings::CrLf).clone()?.remainder() // Some("x\r\ny")
     fn clone(&self) -> Result<Self, AllocError> {
         Ok(LinesBy {
             spans: self.spans.clone()?,
@@ -316,7 +316,7 @@ impl<'a> Iterator for LinesBy<'a> {
     /// Returns the next line without its ending, or `None` if there are none left or the next line
     /// has a lone CR or LF that the endings rule out; it then keeps returning `None`.
     ///
-    ///     view("x\ny\r\nz").lines_by(Endings::CrLf).next() // Some("x\ny")
+    ///     AsciiStr::literal("x\ny\r\nz").lines_by(Endings::CrLf).next() // Some("x\ny")
     fn next(&mut self) -> Option<AsciiStr<'a>> {
         let span = self.spans.next()?;
         Some(span.text)
@@ -332,7 +332,7 @@ impl<'a> DoubleEndedIterator for LinesBy<'a> {
     ///
     /// Searches the last line. With `CrLfStrict` the first call searches all that remains.
     ///
-    ///     let mut lines = view("x\r\ny\r\nz\n").lines_by(Endings::CrLfStrict);
+    ///     let mut lines = AsciiStr::literal("x\r\ny\r\nz\n").lines_by(Endings::CrLfStrict);
     ///     lines.next_back() // Some("y")
     ///     lines.remainder() // Some("x\r\n")
     ///     lines.lone_break() // Some(7)
@@ -350,7 +350,7 @@ impl<'a> LinesBy<'a> {
     /// that line. A step from the back cuts off what comes after the lines. The iterator is unchanged.
     /// Constant time.
     ///
-    ///     let mut lines = view("x\r\ny\nz").lines_by(Endings::CrLfStrict);
+    ///     let mut lines = AsciiStr::literal("x\r\ny\nz").lines_by(Endings::CrLfStrict);
     ///     lines.next() // Some("x")
     ///     lines.next() // None
     ///     lines.remainder() // Some("y\nz")
@@ -367,8 +367,8 @@ impl<'a> LinesBy<'a> {
     ///
     /// Searches the remaining lines, so it is fast after the last of them, or a step from the back.
     ///
-    ///     view("x\r\ny\nz").lines_by(Endings::CrLfStrict).lone_break() // Some(4)
-    ///     view("x\r\ny\nz").lines_by(Endings::CrLf).lone_break() // None
+    ///     AsciiStr::literal("x\r\ny\nz").lines_by(Endings::CrLfStrict).lone_break() // Some(4)
+    ///     AsciiStr::literal("x\r\ny\nz").lines_by(Endings::CrLf).lone_break() // None
     pub fn lone_break(&self) -> Option<usize>
         ensures { FindsStop self.now.rest result }
     {
@@ -384,9 +384,9 @@ impl<'a> AsciiStr<'a> {
     /// returns its position, and `remainder` the view from that line on. An ending at the end of the
     /// view makes no further line.
     ///
-    /// Constant time; a full walk searches the view once. Does not allocate.
+    /// Constant time; a full walk searches the view once.
     ///
-    ///     let mut lines = view("x\ny\r\nz").lines_by(Endings::CrLf);
+    ///     let mut lines = AsciiStr::literal("x\ny\r\nz").lines_by(Endings::CrLf);
     ///     lines.next() // Some("x\ny")
     ///     lines.next() // Some("z")
     ///     lines.next() // None
@@ -403,9 +403,9 @@ impl<'a> AsciiStr<'a> {
     /// Returns an iterator over the lines of the view that end as `endings` says, like `lines_by`, from
     /// both ends, each with its ending and the position in the view at which it starts.
     ///
-    /// Constant time; a full walk searches the view once. Does not allocate.
+    /// Constant time; a full walk searches the view once.
     ///
-    ///     let mut spans = view("x\r\ny").line_spans_by(Endings::CrLf);
+    ///     let mut spans = AsciiStr::literal("x\r\ny").line_spans_by(Endings::CrLf);
     ///     spans.next() // Some(LineSpan { start: 0, text: "x", ending: CrLf })
     ///     spans.next() // Some(LineSpan { start: 3, text: "y", ending: Absent })
     pub fn line_spans_by(self, endings: Endings) -> LineSpansBy<'a>

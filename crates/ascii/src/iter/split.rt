@@ -1,4 +1,6 @@
 //! The pieces of a view between separators, with and without their starts.
+//!
+//! Nothing here allocates.
 
 ghost use Rattle.std.specs.Prelude.{◌≡◌, ◌+◌, ◌≤◌, length};
 ghost use Rattle.ascii_base.specs.Code.{code_of};
@@ -107,13 +109,17 @@ impl<'a> AsciiStr<'a> {
     /// least one piece, and none contains `on`. A separator at an end of the view makes an empty
     /// piece there.
     ///
-    /// Constant time; a full walk searches the view once. Does not allocate.
+    /// Constant time; a full walk searches the view once.
+    ///
+    /// Without an empty last piece use `split_terminator`; for words, `words`; for two parts,
+    /// `split_once`.
     ///
     ///     let mut pieces = AsciiStr::literal("foo;bar;baz").split(AsciiChar::Semicolon);
     ///     pieces.next() // Some("foo")
     ///     pieces.next_back() // Some("baz")
     ///     pieces.next() // Some("bar")
     ///     pieces.next() // None
+    ///     AsciiStr::literal("").split(AsciiChar::Semicolon).next() // Some("")
     pub fn split(self, on: AsciiChar) -> Split<'a>
         ensures iterates { IteratesPieces (text_of self.entry) (code_of on) result }
         ensures loops { LoopsOverPieces }
@@ -127,10 +133,11 @@ impl<'a> AsciiStr<'a> {
     /// Returns an iterator over the pieces of the view at each `on`, from both ends, each with the
     /// position in the view at which it starts.
     ///
-    /// Constant time; a full walk searches the view once. Does not allocate.
+    /// Constant time; a full walk searches the view once.
     ///
-    ///     let mut spans = view("foo;bar").split_spans(AsciiChar::Semicolon);
+    ///     let mut spans = AsciiStr::literal("foo;bar").split_spans(AsciiChar::Semicolon);
     ///     spans.next_back() // Some(SplitSpan { start: 4, text: "bar" })
+    ///     AsciiStr::literal(";").split_spans(AsciiChar::Semicolon).next_back() // Some(SplitSpan { start: 1, text: "" })
     pub fn split_spans(self, on: AsciiChar) -> SplitSpans<'a>
         ensures iterates { IteratesPieceSpans 0 (text_of self.entry) (code_of on) result }
         ensures placed { ArePlaced 0 (text_of self.entry) result.items }
@@ -145,7 +152,7 @@ impl<'a> AsciiStr<'a> {
     ///
     /// Condition: `offset` and the length together are at most `usize::MAX`.
     ///
-    ///     let mut spans = view("foo;bar").split_spans_from(AsciiChar::Semicolon, 10);
+    ///     let mut spans = AsciiStr::literal("foo;bar").split_spans_from(AsciiChar::Semicolon, 10);
     ///     spans.next_back() // Some(SplitSpan { start: 14, text: "bar" })
     pub fn split_spans_from(self, on: AsciiChar, offset: usize) -> SplitSpans<'a>
         requires { offset + length (text_of self) ≤ usize.MAX }

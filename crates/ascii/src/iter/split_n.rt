@@ -1,4 +1,6 @@
 //! At most `n` pieces of a view, of which the n-th holds the rest.
+//!
+//! Nothing here allocates.
 
 ghost use Rattle.std.specs.Prelude.{⊤, ◌≡◌};
 ghost use Rattle.std.specs.Iterator.{item_count};
@@ -39,10 +41,9 @@ impl Clone for SplitN<'_> {
 
     ghost is_infallible = { λ _. ⊤ };
 
-    /// Returns an iterator with the same remaining pieces. Always returns `Ok`, and does not
-    /// allocate.
+    /// Returns an iterator with the same remaining pieces. Always returns `Ok`.
     ///
-    ///     let mut pieces = view("a,b,c").splitn(2, AsciiChar::Comma);
+    ///     let mut pieces = AsciiStr::literal("a,b,c").splitn(2, AsciiChar::Comma);
     ///     let mut copy = pieces.clone()?;
     ///     pieces.next() // Some("a")
     ///     copy.next() // Some("a")
@@ -63,7 +64,7 @@ impl<'a> Iterator for SplitN<'a> {
 
     /// Returns the next piece, or `None` if there are none left; it then keeps returning `None`.
     ///
-    ///     view("a,b,c").splitn(1, AsciiChar::Comma).next() // Some("a,b,c")
+    ///     AsciiStr::literal("a,b,c").splitn(1, AsciiChar::Comma).next() // Some("a,b,c")
     #[inline(always)]
     fn next(&mut self) -> Option<AsciiStr<'a>> {
         match self.count {
@@ -86,10 +87,10 @@ impl<'a> SplitN<'a> {
     /// Returns the part of the view whose pieces remain, or `None` if there are none left. The iterator
     /// is unchanged. Constant time.
     ///
-    ///     let mut pieces = view("a,b,c").splitn(3, AsciiChar::Comma);
+    ///     let mut pieces = AsciiStr::literal("a,b,c").splitn(3, AsciiChar::Comma);
     ///     pieces.next() // Some("a")
     ///     pieces.remainder() // Some("b,c")
-    ///     view("a,b,c").splitn(0, AsciiChar::Comma).remainder() // None
+    ///     AsciiStr::literal("a,b,c").splitn(0, AsciiChar::Comma).remainder() // None
     pub fn remainder(&self) -> Option<AsciiStr<'a>>
         ensures { IsRemainderUpTo self.now result }
     {
@@ -101,13 +102,16 @@ impl<'a> SplitN<'a> {
 }
 
 impl<'a> AsciiStr<'a> {
-    /// Returns an iterator over at most `n` pieces of the view at `on`: the n-th piece holds the rest
-    /// of the view, with every `on` in it. There are none if `n` is 0. Does not allocate.
+    /// Returns an iterator over at most `n` pieces of the view at `on`: the n-th piece holds the
+    /// rest of the view, with every `on` in it. There are none if `n` is 0.
     ///
-    ///     let mut pieces = view("a,b,c").splitn(2, AsciiChar::Comma);
+    /// For two parts use `split_once`.
+    ///
+    ///     let mut pieces = AsciiStr::literal("a,b,c").splitn(2, AsciiChar::Comma);
     ///     pieces.next() // Some("a")
     ///     pieces.next() // Some("b,c")
     ///     pieces.next() // None
+    ///     AsciiStr::literal("a,b").splitn(0, AsciiChar::Comma).next() // None
     pub fn splitn(self, n: usize, on: AsciiChar) -> SplitN<'a>
         ensures iterates { IteratesPiecesUpTo n (text_of self.entry) (code_of on) result.items }
         ensures separator { result.on ≡ code_of on }

@@ -22,7 +22,7 @@ pub enum End {
 ///
 /// Condition: both steps of the iterator can be called.
 ///
-///     take_end(&mut view("x\ny").lines(), End::Back) // Some("y")
+///     take_end(&mut AsciiStr::literal("x\ny").lines(), End::Back) // Some("y")
 #[inline]
 pub fn take_end<I: DoubleEndedIterator>(items: &mut I, end: End) -> Option<I::Item>
     requires can_next { I.can_next items.old }
@@ -59,7 +59,7 @@ where
 /// Returns what a split of the view at `on` yields for a script of ends, one item for each end, in
 /// order, or an error if the allocation of the list fails. Does not fail for the empty script.
 ///
-///     walk_split(alloc, view("a,b"), AsciiChar::Comma, &[End::Back, End::Front, End::Back])? // [Some("b"), Some("a"), None]
+///     walk_split(alloc, AsciiStr::literal("a,b"), AsciiChar::Comma, &[End::Back, End::Front, End::Back])? // [Some("b"), Some("a"), None]
 pub fn walk_split<'a, A: Allocator>(
     alloc: A,
     view: AsciiStr<'a>,
@@ -75,7 +75,7 @@ pub fn walk_split<'a, A: Allocator>(
 /// Returns what the lines of the view yield for a script of ends, one body for each end, in order,
 /// or an error if the allocation of the list fails. Does not fail for the empty script.
 ///
-///     walk_lines(alloc, view("a\nb"), &[End::Back, End::Front])? // [Some("b"), Some("a")]
+///     walk_lines(alloc, AsciiStr::literal("a\nb"), &[End::Back, End::Front])? // [Some("b"), Some("a")]
 pub fn walk_lines<'a, A: Allocator>(
     alloc: A,
     view: AsciiStr<'a>,
@@ -91,7 +91,7 @@ pub fn walk_lines<'a, A: Allocator>(
 /// each end, in order, or an error if the allocation of the list fails. Does not fail for the empty
 /// script.
 ///
-///     walk_split_spans(alloc, view("a,b"), AsciiChar::Comma, &[End::Back])? // [Some(SplitSpan { start: 2, text: "b" })]
+///     walk_split_spans(alloc, AsciiStr::literal("a,b"), AsciiChar::Comma, &[End::Back])? // [Some(SplitSpan { start: 2, text: "b" })]
 pub fn walk_split_spans<'a, A: Allocator>(
     alloc: A,
     view: AsciiStr<'a>,
@@ -108,7 +108,7 @@ pub fn walk_split_spans<'a, A: Allocator>(
 /// item for each end, in order, or an error if the allocation of the list fails. Does not fail for
 /// the empty script.
 ///
-///     walk_line_spans(alloc, view("a\nb"), &[End::Front])? // [Some(LineSpan { start: 0, text: "a", ending: Lf })]
+///     walk_line_spans(alloc, AsciiStr::literal("a\nb"), &[End::Front])? // [Some(LineSpan { start: 0, text: "a", ending: Lf })]
 pub fn walk_line_spans<'a, A: Allocator>(
     alloc: A,
     view: AsciiStr<'a>,

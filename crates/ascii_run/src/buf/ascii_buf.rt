@@ -27,8 +27,9 @@ pub trait AsciiBuf {
         ensures { text_of result ≡ (state self.now).text };
 
     /// Makes room for `additional` more bytes. The text is unchanged. Fails only if there is no
-    /// room for them and the allocation fails; never fails if `additional` is 0. Condition: the
-    /// length and `additional` together are at most `usize::MAX`.
+    /// room for them and the allocation fails; never fails if `additional` is 0.
+    ///
+    /// Condition: the length and `additional` together are at most `usize::MAX`.
     ///
     ///     let mut text = SmallAsciiString::new(alloc);
     ///     text.reserve(24) // Ok(())
@@ -39,7 +40,7 @@ pub trait AsciiBuf {
     /// Gives back the room that the text does not need. The text is unchanged. Fails only if there
     /// is such room and the allocation fails; never fails if the sure length is not 0.
     ///
-    ///     let mut text = view("foo").to_ascii_string(alloc)?;
+    ///     let mut text = AsciiStr::literal("foo").to_ascii_string(alloc)?;
     ///     AsciiBuf::shrink_to_fit(&mut text) // Ok(())
     ///     text // "foo"
     fn shrink_to_fit(&mut self) -> Result<(), AllocError>
@@ -63,7 +64,7 @@ pub trait AsciiBuf {
     /// fails; the text is then unchanged. Never fails if the view is empty.
     ///
     ///     let mut text = SmallAsciiString::new(alloc);
-    ///     text.push_str(view("foo")) // Ok(())
+    ///     text.push_str(AsciiStr::literal("foo")) // Ok(())
     ///     text // "foo"
     fn push_str(&mut self, view: AsciiStr<'_>) -> Result<(), AllocError>
         ensures { let old = state self.old in
@@ -71,9 +72,11 @@ pub trait AsciiBuf {
 
     /// Inserts a character before the position `idx`; at the length it is appended. Fails only if
     /// the longer text does not fit the capacity and the allocation fails; the text is then
-    /// unchanged. Condition: `idx` is at most the length.
+    /// unchanged.
     ///
-    ///     let mut text = SmallAsciiString::from_ascii_str(alloc, view("fo"))?;
+    /// Condition: `idx` is at most the length.
+    ///
+    ///     let mut text = SmallAsciiString::from_ascii_str(alloc, AsciiStr::literal("fo"))?;
     ///     text.insert(0, AsciiChar::z) // Ok(())
     ///     text // "zfo"
     fn insert(&mut self, idx: usize, ch: AsciiChar) -> Result<(), AllocError>
@@ -84,10 +87,11 @@ pub trait AsciiBuf {
     /// Inserts a view before the position `idx`; at the length it is appended. Fails only if the
     /// longer text does not fit the capacity and the allocation fails; the text is then unchanged.
     /// Never fails if the view is empty.
+    ///
     /// Condition: `idx` is at most the length.
     ///
-    ///     let mut text = SmallAsciiString::from_ascii_str(alloc, view("fo"))?;
-    ///     text.insert_str(1, view("lo")) // Ok(())
+    ///     let mut text = SmallAsciiString::from_ascii_str(alloc, AsciiStr::literal("fo"))?;
+    ///     text.insert_str(1, AsciiStr::literal("lo")) // Ok(())
     ///     text // "floo"
     fn insert_str(&mut self, idx: usize, view: AsciiStr<'_>) -> Result<(), AllocError>
         requires { idx ≤ length (state self.old).text }
@@ -95,9 +99,10 @@ pub trait AsciiBuf {
             GrowsTo (insert_text old.text idx (text_of view.entry)) old (state self.new) result };
 
     /// Removes the character at the position `idx` and returns it.
+    ///
     /// Condition: `idx` is less than the length.
     ///
-    ///     let mut text = SmallAsciiString::from_ascii_str(alloc, view("foo"))?;
+    ///     let mut text = SmallAsciiString::from_ascii_str(alloc, AsciiStr::literal("foo"))?;
     ///     text.remove(0) // 'f'
     ///     text // "oo"
     fn remove(&mut self, idx: usize) -> AsciiChar
@@ -108,7 +113,7 @@ pub trait AsciiBuf {
 
     /// Removes the last character and returns it, or returns `None` if the text is empty.
     ///
-    ///     let mut text = SmallAsciiString::from_ascii_str(alloc, view("fo"))?;
+    ///     let mut text = SmallAsciiString::from_ascii_str(alloc, AsciiStr::literal("fo"))?;
     ///     text.pop() // Some('o')
     ///     text // "f"
     fn pop(&mut self) -> Option<AsciiChar>
@@ -119,7 +124,7 @@ pub trait AsciiBuf {
 
     /// Keeps the first `n` characters, or all if there are fewer.
     ///
-    ///     let mut text = SmallAsciiString::from_ascii_str(alloc, view("foo"))?;
+    ///     let mut text = SmallAsciiString::from_ascii_str(alloc, AsciiStr::literal("foo"))?;
     ///     text.truncate(2);
     ///     text // "fo"
     fn truncate(&mut self, n: usize)
@@ -128,16 +133,17 @@ pub trait AsciiBuf {
 
     /// Removes all characters. The capacity is unchanged.
     ///
-    ///     let mut text = SmallAsciiString::from_ascii_str(alloc, view("foo"))?;
+    ///     let mut text = SmallAsciiString::from_ascii_str(alloc, AsciiStr::literal("foo"))?;
     ///     text.clear();
     ///     text // ""
     fn clear(&mut self)
         ensures { EditsInPlace [] (state self.old) (state self.new) };
 
     /// Replaces the character at the position `i`.
+    ///
     /// Condition: `i` is less than the length.
     ///
-    ///     let mut text = SmallAsciiString::from_ascii_str(alloc, view("foo"))?;
+    ///     let mut text = SmallAsciiString::from_ascii_str(alloc, AsciiStr::literal("foo"))?;
     ///     text.set(0, AsciiChar::z);
     ///     text // "zoo"
     fn set(&mut self, i: usize, ch: AsciiChar)
@@ -147,7 +153,7 @@ pub trait AsciiBuf {
 
     /// Changes `a` to `z` to `A` to `Z`. Every other character is unchanged.
     ///
-    ///     let mut text = SmallAsciiString::from_ascii_str(alloc, view("foo"))?;
+    ///     let mut text = SmallAsciiString::from_ascii_str(alloc, AsciiStr::literal("foo"))?;
     ///     text.make_ascii_uppercase();
     ///     text // "FOO"
     fn make_ascii_uppercase(&mut self)
@@ -156,7 +162,7 @@ pub trait AsciiBuf {
 
     /// Changes `A` to `Z` to `a` to `z`. Every other character is unchanged.
     ///
-    ///     let mut text = SmallAsciiString::from_ascii_str(alloc, view("FOO"))?;
+    ///     let mut text = SmallAsciiString::from_ascii_str(alloc, AsciiStr::literal("FOO"))?;
     ///     text.make_ascii_lowercase();
     ///     text // "foo"
     fn make_ascii_lowercase(&mut self)

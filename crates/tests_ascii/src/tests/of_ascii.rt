@@ -25,37 +25,79 @@ use testing::{assert_debug, view};
 // AsciiStr::as_str
 #[test]
 fn as_str_of_ascii_str(rt: HostRuntime) {
-    assert_debug!(rt; view("foo").as_str(), "\"foo\"");
+    assert_debug!(
+        rt;
+        (
+            view("foo").as_str(),
+            view("").as_str(),
+        ),
+        "(\"foo\", \"\")"
+    );
 }
 
 // AsciiStr::as_bytes
 #[test]
 fn as_bytes_of_ascii_str(rt: HostRuntime) {
-    assert_debug!(rt; view("foo").as_bytes(), "[102, 111, 111]");
+    assert_debug!(
+        rt;
+        (
+            view("foo").as_bytes(),
+            view("").as_bytes(),
+        ),
+        "([102, 111, 111], [])"
+    );
 }
 
 // AsciiStr::len
 #[test]
 fn len_of_ascii_str(rt: HostRuntime) {
-    assert_debug!(rt; view("foo").len(), "3");
+    assert_debug!(
+        rt;
+        (
+            view("foo").len(),
+            view("").len(),
+        ),
+        "(3, 0)"
+    );
 }
 
 // AsciiStr::is_empty
 #[test]
 fn is_empty_of_ascii_str(rt: HostRuntime) {
-    assert_debug!(rt; view("").is_empty(), "true");
+    assert_debug!(
+        rt;
+        (
+            view("").is_empty(),
+            view(" ").is_empty(),
+        ),
+        "(true, false)"
+    );
 }
 
 // AsciiStr::first
 #[test]
 fn first_of_ascii_str(rt: HostRuntime) {
-    assert_debug!(rt; view("foo").first(), "Some('f')");
+    assert_debug!(
+        rt;
+        (
+            view("foo").first(),
+            view("").first(),
+        ),
+        "(Some('f'), None)"
+    );
 }
 
 // AsciiStr::last
 #[test]
 fn last_of_ascii_str(rt: HostRuntime) {
-    assert_debug!(rt; view("foo").last(), "Some('o')");
+    assert_debug!(
+        rt;
+        (
+            view("foo").last(),
+            view("").last(),
+        ),
+        "(Some('o'), None)"
+    );
 }
 
 // AsciiStr::get_ascii
@@ -99,43 +141,93 @@ fn slice_ascii_of_ascii_str(rt: HostRuntime) {
 // AsciiStr::slice
 #[test]
 fn slice_of_ascii_str(rt: HostRuntime) {
-    assert_debug!(rt; view("foo").slice(AsciiRange::From(1)), "\"oo\"");
+    assert_debug!(
+        rt;
+        (
+            view("foo").slice(AsciiRange::From(1)),
+            view("foo").slice(AsciiRange::From(3)),
+        ),
+        "(\"oo\", \"\")"
+    );
 }
 
 // AsciiStr::trim
 #[test]
 fn trim_of_ascii_str(rt: HostRuntime) {
-    assert_debug!(rt; view(" a b\r\n").trim(), "\"a b\"");
+    assert_debug!(
+        rt;
+        (
+            view(" a b\r\n").trim(),
+            view("a").trim(),
+            view(" \t").trim(),
+        ),
+        "(\"a b\", \"a\", \"\")"
+    );
 }
 
 // AsciiStr::trim_start
 #[test]
 fn trim_start_of_ascii_str(rt: HostRuntime) {
-    assert_debug!(rt; view(" a b ").trim_start(), "\"a b \"");
+    assert_debug!(
+        rt;
+        (
+            view(" a b ").trim_start(),
+            view(" ").trim_start(),
+        ),
+        "(\"a b \", \"\")"
+    );
 }
 
 // AsciiStr::trim_end
 #[test]
 fn trim_end_of_ascii_str(rt: HostRuntime) {
-    assert_debug!(rt; view(" a b ").trim_end(), "\" a b\"");
+    assert_debug!(
+        rt;
+        (
+            view(" a b ").trim_end(),
+            view(" ").trim_end(),
+        ),
+        "(\" a b\", \"\")"
+    );
 }
 
 // AsciiStr::eq_ignore_ascii_case
 #[test]
 fn eq_ignore_ascii_case_of_ascii_str(rt: HostRuntime) {
-    assert_debug!(rt; view("Host").eq_ignore_ascii_case(view("HOST")), "true");
+    assert_debug!(
+        rt;
+        (
+            view("Host").eq_ignore_ascii_case(view("HOST")),
+            view("Host").eq_ignore_ascii_case(view("Hos")),
+        ),
+        "(true, false)"
+    );
 }
 
 // AsciiStr::eq_str
 #[test]
 fn eq_str_of_ascii_str(rt: HostRuntime) {
-    assert_debug!(rt; view("foo").eq_str("foo"), "true");
+    assert_debug!(
+        rt;
+        (
+            view("foo").eq_str("foo"),
+            view("foo").eq_str("Foo"),
+        ),
+        "(true, false)"
+    );
 }
 
 // AsciiStr::eq_bytes
 #[test]
 fn eq_bytes_of_ascii_str(rt: HostRuntime) {
-    assert_debug!(rt; view("foo").eq_bytes(b"foo"), "true");
+    assert_debug!(
+        rt;
+        (
+            view("foo").eq_bytes(b"foo"),
+            view("foo").eq_bytes(b"fo"),
+        ),
+        "(true, false)"
+    );
 }
 
 // Default for AsciiStr::default
@@ -336,6 +428,7 @@ fn push_str_of_text(rt: HostRuntime) {
     let mut text = owned(&rt, "foo");
     assert_debug!(rt; text.push_str(view("bar")), "Ok(())");
     assert_debug!(rt; text, "\"foobar\"");
+    assert_debug!(rt; text.push_str(view("")), "Ok(())");
 }
 
 // Text::push_decimal
@@ -352,6 +445,9 @@ fn insert_of_text(rt: HostRuntime) {
     let mut text = owned(&rt, "fo");
     assert_debug!(rt; text.insert(0, AsciiChar::z), "Ok(())");
     assert_debug!(rt; text, "\"zfo\"");
+    let mut end = owned(&rt, "fo");
+    assert_debug!(rt; end.insert(2, AsciiChar::o), "Ok(())");
+    assert_debug!(rt; end, "\"foo\"");
 }
 
 // Text::insert_str
@@ -360,6 +456,9 @@ fn insert_str_of_text(rt: HostRuntime) {
     let mut text = owned(&rt, "fo");
     assert_debug!(rt; text.insert_str(1, view("lo")), "Ok(())");
     assert_debug!(rt; text, "\"floo\"");
+    let mut end = owned(&rt, "fo");
+    assert_debug!(rt; end.insert_str(2, view("rd")), "Ok(())");
+    assert_debug!(rt; end, "\"ford\"");
 }
 
 // Text::remove
@@ -376,6 +475,8 @@ fn pop_of_text(rt: HostRuntime) {
     let mut text = owned(&rt, "fo");
     assert_debug!(rt; text.pop(), "Some('o')");
     assert_debug!(rt; text, "\"f\"");
+    assert_debug!(rt; text.pop(), "Some('f')");
+    assert_debug!(rt; text.pop(), "None");
 }
 
 // Text::truncate
@@ -383,6 +484,8 @@ fn pop_of_text(rt: HostRuntime) {
 fn truncate_of_text(rt: HostRuntime) {
     let mut text = owned(&rt, "foo");
     text.truncate(2);
+    assert_debug!(rt; text, "\"fo\"");
+    text.truncate(7);
     assert_debug!(rt; text, "\"fo\"");
 }
 
@@ -427,7 +530,15 @@ fn len_of_text(rt: HostRuntime) {
 // Text::is_empty
 #[test]
 fn is_empty_of_text(rt: HostRuntime) {
-    assert_debug!(rt; owned(&rt, "foo").is_empty(), "false");
+    let alloc = rt.alloc();
+    assert_debug!(
+        rt;
+        (
+            owned(&rt, "foo").is_empty(),
+            AsciiString::new(alloc).is_empty(),
+        ),
+        "(false, true)"
+    );
 }
 
 // AsciiString::from_ascii_unchecked
@@ -773,8 +884,9 @@ fn as_ascii_str_of_bytes(rt: HostRuntime) {
         (
             bytes::as_ascii_str(b"foo"),
             bytes::as_ascii_str(b"ab\xc4"),
+            bytes::as_ascii_str(b""),
         ),
-        "(Ok(\"foo\"), Err(AsAsciiStrError(2)))"
+        "(Ok(\"foo\"), Err(AsAsciiStrError(2)), Ok(\"\"))"
     );
 }
 
@@ -827,7 +939,14 @@ fn from_ascii_unchecked_of_bytes(rt: HostRuntime) {
 #[test]
 fn to_ascii_string_of_bytes(rt: HostRuntime) {
     let alloc = rt.alloc();
-    assert_debug!(rt; bytes::to_ascii_string(alloc, b"foo"), "Ok(\"foo\")");
+    assert_debug!(
+        rt;
+        (
+            bytes::to_ascii_string(alloc, b"foo"),
+            bytes::to_ascii_string(alloc, b"").ok(),
+        ),
+        "(Ok(\"foo\"), Some(\"\"))"
+    );
 }
 
 // bytes::slice_ascii_mut_unchecked
@@ -1045,21 +1164,42 @@ fn try_from_string_of_ascii_string(rt: HostRuntime) {
 // AsciiStr::to_ascii_string
 #[test]
 fn to_ascii_string_of_ascii_str(rt: HostRuntime) {
-    assert_debug!(rt; owned(&rt, "foo"), "\"foo\"");
+    assert_debug!(
+        rt;
+        (
+            owned(&rt, "foo"),
+            owned(&rt, ""),
+        ),
+        "(\"foo\", \"\")"
+    );
 }
 
 // AsciiStr::to_ascii_uppercase
 #[test]
 fn to_ascii_uppercase_of_ascii_str(rt: HostRuntime) {
     let alloc = rt.alloc();
-    assert_debug!(rt; view("foo").to_ascii_uppercase(alloc).expect(&rt, "refused"), "\"FOO\"");
+    assert_debug!(
+        rt;
+        (
+            view("foo").to_ascii_uppercase(alloc).expect(&rt, "refused"),
+            view("a1").to_ascii_uppercase(alloc).expect(&rt, "refused"),
+        ),
+        "(\"FOO\", \"A1\")"
+    );
 }
 
 // AsciiStr::to_ascii_lowercase
 #[test]
 fn to_ascii_lowercase_of_ascii_str(rt: HostRuntime) {
     let alloc = rt.alloc();
-    assert_debug!(rt; view("FOO").to_ascii_lowercase(alloc).expect(&rt, "refused"), "\"foo\"");
+    assert_debug!(
+        rt;
+        (
+            view("FOO").to_ascii_lowercase(alloc).expect(&rt, "refused"),
+            view("A1").to_ascii_lowercase(alloc).expect(&rt, "refused"),
+        ),
+        "(\"foo\", \"a1\")"
+    );
 }
 
 // AsciiStr::to_chars
@@ -1387,6 +1527,7 @@ fn split_by_of_ascii_str(rt: HostRuntime) {
     assert_debug!(rt; pieces.next(), "Some(\"a\")");
     assert_debug!(rt; pieces.next_back(), "Some(\"c\")");
     assert_debug!(rt; pieces.remainder(), "Some(\"b\")");
+    assert_debug!(rt; view("").split_by::<Blank>().next(), "Some(\"\")");
 }
 
 // AsciiStr::split_spans_by
@@ -1402,6 +1543,7 @@ fn words_of_ascii_str(rt: HostRuntime) {
     let mut words = view(" to be  or not").words::<Blank>();
     assert_debug!(rt; words.next(), "Some(\"to\")");
     assert_debug!(rt; words.next_back(), "Some(\"not\")");
+    assert_debug!(rt; view(" ").words::<Blank>().next(), "None");
 }
 
 // AsciiStr::split_whitespace
@@ -1410,6 +1552,7 @@ fn split_whitespace_of_ascii_str(rt: HostRuntime) {
     let mut words = view(" to be\n or not").split_whitespace();
     assert_debug!(rt; words.next(), "Some(\"to\")");
     assert_debug!(rt; words.next(), "Some(\"be\")");
+    assert_debug!(rt; view(" \n").split_whitespace().next(), "None");
 }
 
 // AsciiStr::word_spans
@@ -1425,6 +1568,7 @@ fn runs_of_ascii_str(rt: HostRuntime) {
     let mut runs = view("v1.20").runs::<Digit>();
     assert_debug!(rt; runs.next(), "Some(\"1\")");
     assert_debug!(rt; runs.next(), "Some(\"20\")");
+    assert_debug!(rt; view("abc").runs::<Digit>().next(), "None");
 }
 
 // AsciiStr::run_spans
@@ -1616,6 +1760,7 @@ fn chars_of_ascii_str(rt: HostRuntime) {
     let mut chars = view("foo").chars();
     assert_debug!(rt; chars.next(), "Some('f')");
     assert_debug!(rt; chars.next_back(), "Some('o')");
+    assert_debug!(rt; view("").chars().next(), "None");
 }
 
 // AsciiStr::split_terminator
@@ -1807,6 +1952,8 @@ fn lines_of_ascii_str(rt: HostRuntime) {
     assert_debug!(rt; lines.next_back(), "Some(\"z\")");
     assert_debug!(rt; lines.next_back(), "Some(\"y\")");
     assert_debug!(rt; lines.next(), "None");
+    assert_debug!(rt; view("x\r").lines().next(), "Some(\"x\\r\")");
+    assert_debug!(rt; view("").lines().next(), "None");
 }
 
 // AsciiStr::line_spans
@@ -1815,6 +1962,11 @@ fn line_spans_of_ascii_str(rt: HostRuntime) {
     let mut spans = view("x\r\ny").line_spans();
     assert_debug!(rt; spans.next(), "Some(LineSpan { start: 0, text: \"x\", ending: CrLf })");
     assert_debug!(rt; spans.next(), "Some(LineSpan { start: 3, text: \"y\", ending: Absent })");
+    assert_debug!(
+        rt;
+        view("x\n").line_spans().next_back(),
+        "Some(LineSpan { start: 0, text: \"x\", ending: Lf })"
+    );
 }
 
 // AsciiStr::line_spans_from
@@ -1945,7 +2097,7 @@ fn line_spans_by_of_ascii_str(rt: HostRuntime) {
 // Split::remainder
 #[test]
 fn remainder_of_split(rt: HostRuntime) {
-    let mut pieces = AsciiStr::literal("foo;bar;baz").split(AsciiChar::Semicolon);
+    let mut pieces = view("foo;bar;baz").split(AsciiChar::Semicolon);
     assert_debug!(rt; pieces.next(), "Some(\"foo\")");
     assert_debug!(rt; pieces.remainder(), "Some(\"bar;baz\")");
 }
@@ -1953,11 +2105,12 @@ fn remainder_of_split(rt: HostRuntime) {
 // AsciiStr::split
 #[test]
 fn split_of_ascii_str(rt: HostRuntime) {
-    let mut pieces = AsciiStr::literal("foo;bar;baz").split(AsciiChar::Semicolon);
+    let mut pieces = view("foo;bar;baz").split(AsciiChar::Semicolon);
     assert_debug!(rt; pieces.next(), "Some(\"foo\")");
     assert_debug!(rt; pieces.next_back(), "Some(\"baz\")");
     assert_debug!(rt; pieces.next(), "Some(\"bar\")");
     assert_debug!(rt; pieces.next(), "None");
+    assert_debug!(rt; view("").split(AsciiChar::Semicolon).next(), "Some(\"\")");
 }
 
 // AsciiStr::split_spans
@@ -1965,6 +2118,11 @@ fn split_of_ascii_str(rt: HostRuntime) {
 fn split_spans_of_ascii_str(rt: HostRuntime) {
     let mut spans = view("foo;bar").split_spans(AsciiChar::Semicolon);
     assert_debug!(rt; spans.next_back(), "Some(SplitSpan { start: 4, text: \"bar\" })");
+    assert_debug!(
+        rt;
+        view(";").split_spans(AsciiChar::Semicolon).next_back(),
+        "Some(SplitSpan { start: 1, text: \"\" })"
+    );
 }
 
 // AsciiStr::split_spans_from
@@ -2005,6 +2163,7 @@ fn splitn_of_ascii_str(rt: HostRuntime) {
     assert_debug!(rt; pieces.next(), "Some(\"a\")");
     assert_debug!(rt; pieces.next(), "Some(\"b,c\")");
     assert_debug!(rt; pieces.next(), "None");
+    assert_debug!(rt; view("a,b").splitn(0, AsciiChar::Comma).next(), "None");
 }
 
 // iter::take_end
@@ -2203,6 +2362,8 @@ fn retain_of_text(rt: HostRuntime) {
     let mut text = owned(&rt, "a-b-c");
     text.retain(|ch| ch != AsciiChar::Minus);
     assert_debug!(rt; text, "\"abc\"");
+    text.retain(|_| false);
+    assert_debug!(rt; text, "\"\"");
 }
 
 // AsciiStr::find
@@ -2213,8 +2374,9 @@ fn find_of_ascii_str(rt: HostRuntime) {
         (
             view("abcabc").find(view("bc")),
             view("abcabc").find(view("d")),
+            view("abc").find(view("")),
         ),
-        "(Some(1), None)"
+        "(Some(1), None, Some(0))"
     );
 }
 
@@ -2226,8 +2388,9 @@ fn rfind_of_ascii_str(rt: HostRuntime) {
         (
             view("abcabc").rfind(view("bc")),
             view("abcabc").rfind(view("d")),
+            view("abc").rfind(view("")),
         ),
-        "(Some(4), None)"
+        "(Some(4), None, Some(3))"
     );
 }
 
@@ -2239,8 +2402,9 @@ fn contains_of_ascii_str(rt: HostRuntime) {
         (
             view("abcabc").contains(view("ca")),
             view("abcabc").contains(view("ac")),
+            view("abc").contains(view("")),
         ),
-        "(true, false)"
+        "(true, false, true)"
     );
 }
 
@@ -2252,8 +2416,9 @@ fn position_of_ascii_str(rt: HostRuntime) {
         (
             view("abcabc").position(AsciiChar::b),
             view("abcabc").position(AsciiChar::d),
+            view("").position(AsciiChar::b),
         ),
-        "(Some(1), None)"
+        "(Some(1), None, None)"
     );
 }
 
@@ -2265,8 +2430,9 @@ fn rposition_of_ascii_str(rt: HostRuntime) {
         (
             view("abcabc").rposition(AsciiChar::b),
             view("abcabc").rposition(AsciiChar::d),
+            view("").rposition(AsciiChar::b),
         ),
-        "(Some(4), None)"
+        "(Some(4), None, None)"
     );
 }
 
@@ -2291,8 +2457,9 @@ fn starts_with_of_ascii_str(rt: HostRuntime) {
         (
             view("foobar").starts_with(view("foo")),
             view("foobar").starts_with(view("bar")),
+            view("foobar").starts_with(view("")),
         ),
-        "(true, false)"
+        "(true, false, true)"
     );
 }
 
@@ -2304,8 +2471,9 @@ fn ends_with_of_ascii_str(rt: HostRuntime) {
         (
             view("foobar").ends_with(view("bar")),
             view("foobar").ends_with(view("foo")),
+            view("foobar").ends_with(view("")),
         ),
-        "(true, false)"
+        "(true, false, true)"
     );
 }
 
@@ -2317,8 +2485,9 @@ fn strip_prefix_of_ascii_str(rt: HostRuntime) {
         (
             view("foobar").strip_prefix(view("foo")),
             view("foobar").strip_prefix(view("bar")),
+            view("foo").strip_prefix(view("foo")),
         ),
-        "(Some(\"bar\"), None)"
+        "(Some(\"bar\"), None, Some(\"\"))"
     );
 }
 
@@ -2330,8 +2499,9 @@ fn strip_suffix_of_ascii_str(rt: HostRuntime) {
         (
             view("foobar").strip_suffix(view("bar")),
             view("foobar").strip_suffix(view("foo")),
+            view("foo").strip_suffix(view("foo")),
         ),
-        "(Some(\"foo\"), None)"
+        "(Some(\"foo\"), None, Some(\"\"))"
     );
 }
 
@@ -2387,8 +2557,9 @@ fn split_once_of_ascii_str(rt: HostRuntime) {
         (
             view("a=b=c").split_once(AsciiChar::Equal),
             view("abc").split_once(AsciiChar::Equal),
+            view("=b").split_once(AsciiChar::Equal),
         ),
-        "(Some((\"a\", \"b=c\")), None)"
+        "(Some((\"a\", \"b=c\")), None, Some((\"\", \"b\")))"
     );
 }
 
@@ -2400,8 +2571,9 @@ fn rsplit_once_of_ascii_str(rt: HostRuntime) {
         (
             view("a=b=c").rsplit_once(AsciiChar::Equal),
             view("abc").rsplit_once(AsciiChar::Equal),
+            view("a=").rsplit_once(AsciiChar::Equal),
         ),
-        "(Some((\"a=b\", \"c\")), None)"
+        "(Some((\"a=b\", \"c\")), None, Some((\"a\", \"\")))"
     );
 }
 
@@ -2413,8 +2585,9 @@ fn split_once_str_of_ascii_str(rt: HostRuntime) {
         (
             view("a: b: c").split_once_str(view(": ")),
             view("a:b").split_once_str(view(": ")),
+            view("a: ").split_once_str(view(": ")),
         ),
-        "(Some((\"a\", \"b: c\")), None)"
+        "(Some((\"a\", \"b: c\")), None, Some((\"a\", \"\")))"
     );
 }
 
@@ -2426,8 +2599,9 @@ fn rsplit_once_str_of_ascii_str(rt: HostRuntime) {
         (
             view("a: b: c").rsplit_once_str(view(": ")),
             view("a:b").rsplit_once_str(view(": ")),
+            view(": a").rsplit_once_str(view(": ")),
         ),
-        "(Some((\"a: b\", \"c\")), None)"
+        "(Some((\"a: b\", \"c\")), None, Some((\"\", \"a\")))"
     );
 }
 
@@ -2461,8 +2635,9 @@ fn as_ascii_str_of_the_module_text(rt: HostRuntime) {
         (
             text::as_ascii_str("foo"),
             text::as_ascii_str("abč"),
+            text::as_ascii_str(""),
         ),
-        "(Ok(\"foo\"), Err(AsAsciiStrError(2)))"
+        "(Ok(\"foo\"), Err(AsAsciiStrError(2)), Ok(\"\"))"
     );
 }
 
@@ -2531,8 +2706,9 @@ fn span_of_ascii_str(rt: HostRuntime) {
         (
             view("42px").span::<Digit>(),
             view("px").span::<Digit>(),
+            view("").span::<Digit>(),
         ),
-        "((\"42\", \"px\"), (\"\", \"px\"))"
+        "((\"42\", \"px\"), (\"\", \"px\"), (\"\", \"\"))"
     );
 }
 
@@ -2544,21 +2720,36 @@ fn trim_matches_of_ascii_str(rt: HostRuntime) {
         (
             view(" \ta b ").trim_matches::<Blank>(),
             view("007").trim_matches::<Digit>(),
+            view("a").trim_matches::<Blank>(),
         ),
-        "(\"a b\", \"\")"
+        "(\"a b\", \"\", \"a\")"
     );
 }
 
 // AsciiStr::trim_start_matches
 #[test]
 fn trim_start_matches_of_ascii_str(rt: HostRuntime) {
-    assert_debug!(rt; view("42px7").trim_start_matches::<Digit>(), "\"px7\"");
+    assert_debug!(
+        rt;
+        (
+            view("42px7").trim_start_matches::<Digit>(),
+            view("px7").trim_start_matches::<Digit>(),
+        ),
+        "(\"px7\", \"px7\")"
+    );
 }
 
 // AsciiStr::trim_end_matches
 #[test]
 fn trim_end_matches_of_ascii_str(rt: HostRuntime) {
-    assert_debug!(rt; view("42px7").trim_end_matches::<Digit>(), "\"42px\"");
+    assert_debug!(
+        rt;
+        (
+            view("42px7").trim_end_matches::<Digit>(),
+            view("42").trim_end_matches::<Digit>(),
+        ),
+        "(\"42px\", \"\")"
+    );
 }
 
 // vec::into_ascii_string

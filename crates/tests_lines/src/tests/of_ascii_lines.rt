@@ -3,8 +3,8 @@
 use super::Echo;
 use ascii_devices::Sink;
 use ascii_lines::{
-    AsciiStr, Duplex, Ending, Endings, Handler, Input, LineChannel, LineError, LineReader,
-    LineWriter, Output, Replies, WriteError, collect_lines, read_block, serve,
+    Duplex, Ending, Endings, Handler, Input, LineChannel, LineError, LineReader, LineWriter,
+    Output, Replies, WriteError, collect_lines, read_block, serve,
 };
 use std::convert::AsSlice;
 use testing::{assert_debug, view};
@@ -342,7 +342,7 @@ fn fixed_line_of_replies(rt: HostRuntime) {
     let alloc = rt.alloc();
     let writer = LineWriter::new(alloc, Output::new(Vec::new(alloc)), 64).expect(&rt, "refused");
     let mut replies = Replies::new(writer, Ending::CrLf);
-    replies.fixed_line(AsciiStr::literal("ok"));
+    replies.fixed_line(view("ok"));
     let mut writer = replies.into_writer();
     assert_debug!(rt; writer.flush(), "Ok(())");
     assert_debug!(rt; writer.into_sink().into_inner(), "[111, 107, 13, 10]");

@@ -264,10 +264,11 @@ fn make_ascii_lowercase_of_ascii_buf(rt: HostRuntime) {
 fn run_of_ascii_run(rt: HostRuntime) {
     let alloc = rt.alloc();
     let mut text = owned(&rt, "foo");
+    let cmds: [Cmd; 3] = [Cmd::Pop, Cmd::Remove(7), Cmd::Len];
     assert_debug!(
         rt;
-        run(alloc, &mut text, &[Cmd::Pop, Cmd::Len]).expect(&rt, "refused"),
-        "[Char(Some('o')), Number(2)]"
+        run(alloc, &mut text, &cmds).expect(&rt, "refused"),
+        "[Char(Some('o')), BadPosition, Number(2)]"
     );
     assert_debug!(rt; text, "\"fo\"");
 }
@@ -277,8 +278,9 @@ fn run_of_ascii_run(rt: HostRuntime) {
 fn plain_run_of_ascii_run(rt: HostRuntime) {
     let alloc = rt.alloc();
     let mut text = owned(&rt, "foo");
-    let replies = run(alloc, &mut text, &[Cmd::Len]).expect(&rt, "refused");
-    assert_debug!(rt; plain_run(&[Cmd::Len], &replies), "()");
+    let cmds: [Cmd; 1] = [Cmd::Len];
+    let replies = run(alloc, &mut text, &cmds).expect(&rt, "refused");
+    assert_debug!(rt; plain_run(&cmds, &replies), "()");
 }
 
 // runs_agree
@@ -286,8 +288,9 @@ fn plain_run_of_ascii_run(rt: HostRuntime) {
 fn runs_agree_of_ascii_run(rt: HostRuntime) {
     let alloc = rt.alloc();
     let mut text = owned(&rt, "foo");
-    let replies = run(alloc, &mut text, &[Cmd::Len]).expect(&rt, "refused");
-    assert_debug!(rt; runs_agree(&[Cmd::Len], &replies, &replies), "()");
+    let cmds: [Cmd; 1] = [Cmd::Len];
+    let replies = run(alloc, &mut text, &cmds).expect(&rt, "refused");
+    assert_debug!(rt; runs_agree(&cmds, &replies, &replies), "()");
 }
 
 // Display for EngineFault::fmt
