@@ -76,7 +76,8 @@ class Reference:
     def members(self, owner, page):
         """What a value is to a contract, its parts, the calls that return it or can fail, and other names of the type."""
         blocks = [it for items in modules_of(owner.crate).values() for it in items if it.kind == "impl"]
-        models = [it for it in blocks if impl_name(it) == ("Model", owner.name)]
+        names = {owner.name, *(name for name, shown in SHOWN_AT.items() if shown == owner.name)}
+        models = [it for it in blocks if impl_name(it)[0] == "Model" and impl_name(it)[1] in names]
         ghosts = [member for model in models for member in callers.ghosts_of(model) if member.name != "view"]
         ghosts += callers.ghosts_of(owner.item) if owner.kind == "trait" else []
         if ghosts:
@@ -241,7 +242,7 @@ def evidence(call):
     rows = [(title, places(found)) for title, found in (("Tests", call.tests), ("Used in", call.users)) if found]
     changes = [f"<code>{escape(it.name)}</code> in <code>{it.listed}</code>: " + "; ".join(
         f"<code>{escape(old[:90])}</code> to <code>{escape(new[:120])}</code>" for old, new in it.edits) for it in call.mutations]
-    rows += [("Mutations that the prover rejects", "<br/>".join(changes))] if changes else []
+    rows += [("Mutations that the prover has to reject", "<br/>".join(changes))] if changes else []
     if not rows:
         return ""
     counts = [f"{len(found)} {word}{'' if len(found) == 1 else 's'}" for word, found in
