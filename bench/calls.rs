@@ -1,9 +1,11 @@
 //! Measures single calls, and writes a line for each: what is called, the number of bytes, the
 //! implementation, nanoseconds.
-//! usage: calls ROUNDS MICROSECONDS SIZE,..
+//! usage: calls ROUNDS MICROSECONDS tasks|SIZE,..
 //!
-//! A round lasts at least the given number of microseconds, and the minimum of the rounds counts.
+//! A round lasts at least the given number of microseconds, and the minimum of the rounds counts. `tasks` measures the
+//! everyday tasks, each over one text; otherwise each call is measured over texts of the given sizes.
 
+mod everyday;
 mod peers;
 mod texts;
 
@@ -317,10 +319,22 @@ fn owned(clock: &Clock, size: usize) {
     );
 }
 
+/// The everyday tasks and the worst cases of a search.
+fn tasks(clock: &Clock) {
+    for row in everyday::rows() {
+        let (text, other) = (&row.text[..], row.other);
+        let sides = row.sides.iter().map(|(name, task)| {
+            let task = *task;
+            Side::reads(name, move || task(black_box(text), black_box(other)))
+        });
+        clock.compare(row.name, text.len(), sides.collect());
+    }
+}
+
 fn main() {
     let words: Vec<String> = std::env::args().collect();
     let [_, rounds, microseconds, sizes] = &words[..] else {
-        eprintln!("usage: calls ROUNDS MICROSECONDS SIZE,..");
+        eprintln!("usage: calls ROUNDS MICROSECONDS tasks|SIZE,..");
         std::process::exit(2);
     };
     let number = |word: &str| word.parse::<usize>().expect("a number");
@@ -328,6 +342,9 @@ fn main() {
         rounds: number(rounds),
         least: Duration::from_micros(number(microseconds) as u64),
     };
+    if sizes == "tasks" {
+        return tasks(&clock);
+    }
     for size in sizes.split(',').map(number) {
         eprintln!("calls over {size} bytes");
         checks(&clock, size);

@@ -3,12 +3,12 @@
 //! library for C is, and goes through all of its bytes in one call. A text is taken as checked on every side.
 
 /// A sum with one number more, in which the order counts.
-fn mixed(sum: usize, number: usize) -> usize {
+pub fn mixed(sum: usize, number: usize) -> usize {
     sum.wrapping_mul(31).wrapping_add(number)
 }
 
 /// The length and the last byte of a text in one number.
-fn mark(text: &[u8]) -> usize {
+pub fn mark(text: &[u8]) -> usize {
     text.len()
         .wrapping_mul(128)
         .wrapping_add(text.last().map_or(0, |byte| *byte as usize))

@@ -1,7 +1,7 @@
 //! Writes PERFORMANCE.md, performance.svg and sizes.svg out of what was measured.
 //! usage: report FOLDER PAGES REASONS
 //!
-//! FOLDER has facts, calls.tsv and programs.tsv; REASONS is a file that says why rows are slower.
+//! FOLDER has facts, tasks.tsv, calls.tsv, programs.tsv and servers.tsv; REASONS is a file that says why rows are slower.
 
 use std::collections::HashMap;
 use std::fmt::Write;
@@ -51,8 +51,7 @@ struct Calls {
 }
 
 impl Calls {
-    fn read(path: String) -> Calls {
-        let rows = rows(path);
+    fn read(rows: &[Vec<String>]) -> Calls {
         let size = |row: &Vec<String>| row[1].parse().expect("a size");
         let sizes: Vec<usize> = each_once(rows.iter().map(size));
         Calls {
@@ -140,6 +139,23 @@ impl Calls {
     }
 }
 
+/// A table of the everyday tasks: for each its text, our time, and how many times as fast as each peer ours is.
+fn tasks(calls: &Calls, rows: &[Vec<String>]) -> String {
+    let mut table = String::from(
+        "| Task | Bytes | Ours | Fastest peer | std | `memchr` | Rust crate |\n|---|--:|--:|--:|--:|--:|--:|\n",
+    );
+    for (call, size) in each_once(rows.iter().map(|row| (&row[0], row[1].parse().expect("a size")))) {
+        let ours = calls.time(call, size, "ours").map(as_time).unwrap_or_default();
+        write!(table, "| {call} | {size} | {ours} |").unwrap();
+        let ratios = ["std", "memchr", "crate"].map(|peer| calls.ratio(call, size, peer));
+        for ratio in [calls.best_ratio(call, size)].iter().chain(&ratios) {
+            write!(table, " {} |", ratio.map(as_ratio).unwrap_or_default()).unwrap();
+        }
+        table.push('\n');
+    }
+    table
+}
+
 /// What a call is compared with.
 const PEERS: [&str; 3] = ["crate", "std", "memchr"];
 
@@ -197,6 +213,19 @@ fn sizes(rows: &[Vec<String>]) -> String {
     table
 }
 
+/// A table of the example servers, each row beside redis-server if it has the row.
+fn servers(rows: &[Vec<String>]) -> String {
+    let mut table = String::from("| What | Ours | redis-server | Ratio |\n|---|--:|--:|--:|\n");
+    for row in rows {
+        let ratio = match (row[1].parse::<f64>(), row[2].parse::<f64>()) {
+            (Ok(ours), Ok(theirs)) => as_ratio(ours / theirs),
+            _ => String::new(),
+        };
+        writeln!(table, "| {} | {} | {} | {ratio} |", row[0], row[1], row[2]).unwrap();
+    }
+    table
+}
+
 /// A chart of time by the length of the input, both on a scale of powers of ten, with a line for each program.
 fn sizes_chart(rows: &[Vec<String>]) -> String {
     const COLOURS: [&str; 6] = ["#2563a8", "#8fb8de", "#b4532a", "#f2c48d", "#3f7d3a", "#a9d3a4"];
@@ -240,7 +269,8 @@ fn sizes_chart(rows: &[Vec<String>]) -> String {
         .unwrap();
     }
     format!(
-        r##"<svg xmlns="http://www.w3.org/2000/svg" width="760" height="364" viewBox="0 0 760 364"
+        r##"<!-- Made by `bin/bench`. -->
+<svg xmlns="http://www.w3.org/2000/svg" width="760" height="364" viewBox="0 0 760 364"
  font-family="system-ui, sans-serif" font-size="12.5" fill="#2b323b" role="img"
  aria-label="CPU time of programs by the length of their input">
 <rect width="760" height="364" rx="8" fill="#fafbfc"/>
@@ -316,7 +346,8 @@ fn chart(calls: &Calls, ascii: &str) -> String {
     }
     let height = y + 26.0;
     format!(
-        r##"<svg xmlns="http://www.w3.org/2000/svg" width="740" height="{height}" viewBox="0 0 740 {height}"
+        r##"<!-- Made by `bin/bench`. -->
+<svg xmlns="http://www.w3.org/2000/svg" width="740" height="{height}" viewBox="0 0 740 {height}"
  font-family="system-ui, sans-serif" font-size="12.5" fill="#2b323b" role="img"
  aria-label="Times as fast as the Rust crate and as std">
 <rect width="740" height="{height}" rx="8" fill="#fafbfc"/>
@@ -333,7 +364,9 @@ fn chart(calls: &Calls, ascii: &str) -> String {
 fn page(
     facts: &HashMap<String, String>,
     calls: &Calls,
+    tasks: &str,
     programs: &str,
+    servers: &str,
     sizes: &str,
     reasons: &str,
 ) -> String {
@@ -350,9 +383,10 @@ fn page(
         names => format!("\nNot on this machine, and left out: {names}.\n"),
     };
     format!(
-        "# Performance
+        "<!-- Made by `bin/bench`. -->
+# Performance
 
-Written by `bin/bench`, from one run. [bench/README.md](../bench/README.md) says how the calls are measured and what each
+From one run. [bench/README.md](../bench/README.md) says how the calls are measured and what each
 name means. A number in a comparison is the peer's time divided by ours: above 1, this library is faster.
 
 ![Times as fast as the Rust crate and as std](performance.svg)
@@ -366,6 +400,13 @@ name means. A number in a comparison is the peer's time divided by ours: above 1
 | Peers | {rustc}, for x86-64; ascii {ascii}, memchr {memchr} |
 | Programs | {tools} |
 {missing}
+## Everyday tasks
+
+What programs do with text, from bytes that are not checked yet: each side tests that they are ASCII. A task has one text
+and is the same code on each side, as a user of that side writes it. The last two rows are the worst cases of a search
+for a text.
+
+{tasks}
 ## Faster, level, slower
 
 Each call against the fastest of its peers: the Rust crate, std, and a bare loop over the Rust crate
@@ -396,6 +437,12 @@ With `GLIBC_TUNABLES=glibc.malloc.hugetlb=1` in the caller's environment, the C 
 `ascii_show copy` over 64 MiB at lines of 60 then takes 37 ms of CPU time instead of 55 (the minimum of 15 runs each,
 where the kernel gives huge pages on request).
 
+## Servers
+
+The store of `example_resp` beside redis-server, both with one connection, by `redis-benchmark`; and the mail server of
+`example_smtp`, which gets one mail of 64 MiB in lines of 72 bytes.
+
+{servers}
 ## Inputs of any length
 
 `ascii_filter` holds one chunk of its input. Lines of 60 bytes, CPU time, the minimum of three runs; the last row is one
@@ -433,7 +480,9 @@ fn main() {
         .into_iter()
         .map(|row| (row[0].clone(), row[1].clone()))
         .collect();
-    let calls = Calls::read(format!("{folder}/calls.tsv"));
+    let calls = Calls::read(&rows(format!("{folder}/calls.tsv")));
+    let of_tasks = rows(format!("{folder}/tasks.tsv"));
+    let tasks = tasks(&Calls::read(&of_tasks), &of_tasks);
     let (sized, timed): (Vec<_>, Vec<_>) =
         rows(format!("{folder}/programs.tsv")).into_iter().partition(|row| row[0] == "size");
     let programs = programs(&timed);
@@ -443,7 +492,9 @@ fn main() {
     };
     let reasons =
         std::fs::read_to_string(reasons).unwrap_or_else(|error| panic!("{reasons}: {error}"));
-    write("PERFORMANCE.md", page(&facts, &calls, &programs, &sizes(&sized), &reasons));
+    let servers = servers(&rows(format!("{folder}/servers.tsv")));
+    let page = page(&facts, &calls, &tasks, &programs, &servers, &sizes(&sized), &reasons);
+    write("PERFORMANCE.md", page);
     write("performance.svg", chart(&calls, &facts["ascii"]));
     write("sizes.svg", sizes_chart(&sized));
 }

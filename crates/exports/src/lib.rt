@@ -12,6 +12,7 @@ pub mod conversions;
 pub mod devices;
 pub mod edits;
 pub mod engines;
+pub mod everyday;
 pub mod lines_in_and_out;
 pub mod measured;
 pub mod prints;

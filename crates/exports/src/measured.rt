@@ -271,13 +271,13 @@ fn lowered<B: AsciiBuf + Drop>(made: Result<B, AllocError>) -> usize {
 
 /// The length and the last code of a text in one number, for which the whole text has to be made.
 #[inline(always)]
-fn mark(view: AsciiStr<'_>) -> usize {
+pub(crate) fn mark(view: AsciiStr<'_>) -> usize {
     let last = view.last().map_or(0, |ch| ch.as_byte());
     view.len().wrapping_mul(128).wrapping_add(last as usize)
 }
 
 /// A sum with one number more, in which the order counts.
 #[inline(always)]
-fn mixed(sum: usize, number: usize) -> usize {
+pub(crate) fn mixed(sum: usize, number: usize) -> usize {
     sum.wrapping_mul(31).wrapping_add(number)
 }
