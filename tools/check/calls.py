@@ -11,7 +11,8 @@ import memory_limits
 TOP = Path(__file__).resolve().parents[2]
 USAGE = b"usage: ascii_show copy|lines|tac|caret|ends [-s] SCRIPT|edit WORD..|json\n"
 ANY = b"(any)"  # of a line on standard error
-FILES = {"text": b"x\r\ny", "other": b"ab\310c", "empty": b"", "long": b"a" * 1_000_000}  # those that calls name
+# The files that calls name.
+FILES = {"text": b"x\r\ny", "other": b"ab\310c", "high": b"\310", "empty": b"", "long": b"a" * 1_000_000}
 
 
 class Call(NamedTuple):
@@ -75,6 +76,7 @@ SHOW = [
 ]
 
 NOT_ASCII = [said(f"{name}: the byte at index 2 is not ASCII") for name in ("(standard input)", "other")]
+HIGH = said("high: the byte at index 0 is not ASCII")
 MISSING = said("none: No such file or directory (os error 2)")
 FOLDER = said("folder: Is a directory (os error 21)")
 FULL = said("(standard output): No space left on device (os error 28)")
@@ -113,6 +115,9 @@ FILTER = [
     Call("an unknown mode", ["tac"], b"", 2, b"", ANY),
     Call("check of no byte", ["check", "--max", "0"], b"", 2, b"", ANY),
     Call("a pipe that closes early", ["copy", "long"], b"", 0, b"", b"", "closed"),
+    Call("a byte that was found, and a pipe that closes", ["check", "other"], b"", 1, b"", b"", "closed"),
+    Call("a file that was rejected, and a pipe that closes", ["copy", "high", "long"], b"", 1, b"", HIGH, "closed"),
+    Call("a file that is missing, and a pipe that closes", ["copy", "none", "long"], b"", 3, b"", MISSING, "closed"),
     Call("an output that is full", ["copy", "text", "none"], b"", 3, b"", FULL, "full"),
 ]
 CALLS = {"ascii_show": SHOW, "ascii_filter": FILTER}

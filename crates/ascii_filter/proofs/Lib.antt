@@ -1,2 +1,3 @@
+pub mod CheckLemmas
 pub mod ScannerLemmas
 pub mod PlaceLemmas

@@ -1,24 +1,26 @@
 -- What a scanner has passed, chunk by chunk.
 use Rattle.std.proofs.Common.{◌≡◌, ◌+◌, ◌-◌, ◌<◌, ℕ, List, [], ◌∷◌, ◌++◌, length, take, drop}
 use Rattle.std.proofs.Common.{get_or, arith, ap, sym, subst, refl, ◌∙◌, append_assoc, length-append}
-use Rattle.std.proofs.Common.{take-append-drop, length-take, drop-drop}
-use Rattle.std.proofs.KnownBytes.{Consumes-trans}
+use Rattle.std.proofs.Common.{take-append-drop, length-take, drop-drop, append-nil, false}
 use Rattle.std.proofs.lemmas.List.{drop-take, get_or-take, take_more}
 use Rattle.std.proofs.lemmas.List.Elements.{All-from_get_or}
 use Rattle.std.proofs.lemmas.Str.{IsAscii-append}
 use Rattle.std.proofs.lemmas.Str.Ascii.{IsAscii-from_all}
+use Rattle.std.proofs.Math.Seq.{take-append_seam}
+use Rattle.std.specs.Io.KnownBytes.{IsAtEnd}
 use Rattle.std.specs.Str.{IsAscii}
-use Rattle.std.specs.Io.KnownBytes.{Consumes, prepend_known}
-use Rattle.std.specs.declared.option.Option.{Option}
+use Rattle.ascii_devices.proofs.HistoryLemmas.{Gives-end, Gives-trans}
+use Rattle.ascii_devices.specs.States.{Gives}
+use Rattle.ascii_devices.specs.declared.Source as source
 use Rattle.std.specs.declared.option.Option.TheVariants.{Some, None}
-use Rattle.std.specs.declared.result.Result.TheVariants.{Ok, Err}
+use Rattle.std.specs.declared.result.Result.TheVariants.{Err}
 use Rattle.ascii.specs.Bytes.{FirstOther}
 use Rattle.ascii_filter.specs.declared.scanner.OtherByte.{OtherByte}
 use Rattle.ascii_filter.specs.declared.scanner.Place.{Place}
-use Rattle.ascii_filter.specs.declared.scanner.ScanFault.{ScanFault}
-use Rattle.ascii_filter.specs.declared.scanner.ScanFault.TheVariants.{Read, TooLong}
-use Rattle.ascii_filter.specs.Places.{FillOutcome, FindsNext, HeldNext, Passes, ScanOutcome}
-use Rattle.ascii_filter.specs.Places.{ScanState, place_after, place_after_byte}
+use Rattle.ascii_run.specs.declared.faults.BoundedFault.{BoundedFault}
+use Rattle.ascii_run.specs.declared.faults.BoundedFault.TheVariants as fault
+use Rattle.ascii_filter.specs.Places.{FillOutcome, FindsNext, HeldNext, ScanOutcome, ScanState, Skips}
+use Rattle.ascii_filter.specs.Places.{place_after, place_after_byte}
 
 -- ---- the bytes that are held
 
@@ -56,98 +58,103 @@ pub place_after-append : (place : Place) (xs ys : List ℕ)
 place_after-append place [] ys = refl
 place_after-append place (x ∷ xs) ys = place_after-append (place_after_byte place x) xs ys
 
--- ---- the bytes that are left
+-- a scanner that found the end holds none
+pub none_held : (items : List ℕ) (s e : ℕ) → s ≡ e → take (e - s) (drop s items) ≡ []
+none_held items s e same =
+    let none : e - s ≡ 0 = omega (arith, same) in ap (λ n. take n (drop s items)) none
 
--- some of those that are held were passed
-advance : (rest : Option (List ℕ)) (xs ys : List ℕ)
-    → Consumes (prepend_known (xs ++ ys) rest) (prepend_known ys rest) xs
-advance None xs ys = tt
-advance (Some left) xs ys = append_assoc xs ys left
+pub none_of : {A : Type 0} (xs : List A) → length xs ≡ 0 → xs ≡ []
+none_of [] none = refl
+none_of (x ∷ xs) none = absurd (omega (arith, none))
 
--- all of them were, and others were read
-refill : (rest left : Option (List ℕ)) (xs ys : List ℕ) → Consumes rest left ys
-    → Consumes (prepend_known xs rest) (prepend_known ys left) xs
-refill None left xs ys gave = tt
-refill (Some a) None xs ys gave = absurd gave
-refill (Some a) (Some b) xs ys gave = ap (λ zs. xs ++ zs) gave
+-- what was read to the start of a chunk is held
+pub held_of : (n size : ℕ) (bytes more : List ℕ) → length bytes ≡ size
+    → take (n - 0) (take size (bytes ++ more)) ≡ take n bytes
+held_of n size bytes more same =
+    let all : n - 0 ≡ n = omega arith in
+    (λ k. take (all k) (take (sym same k) (bytes ++ more)))
+    ∙ ap (take n) (take-append_seam bytes more)
 
--- all of them were, and none were read
-at_end : (rest left : Option (List ℕ)) (xs ys : List ℕ) → length ys ≡ 0 → Consumes rest left ys
-    → Consumes (prepend_known xs rest) left xs
-at_end None left xs ys none gave = tt
-at_end (Some a) None xs ys none gave = absurd gave
-at_end (Some a) (Some b) xs [] none gave = ap (λ zs. xs ++ zs) gave
-at_end (Some a) (Some b) xs (y ∷ ys) none gave = absurd (omega (arith, none))
+-- ---- the bytes that were given
 
-before_failure : (rest : Option (List ℕ)) (xs : List ℕ) → Consumes (prepend_known xs rest) rest xs
-before_failure None xs = tt
-before_failure (Some a) xs = refl
+-- if the source is at its end after more bytes, it is after both
+pub trans_end : {S : Type 0} (says : source.Ghosts S) (a b c : S) (bytes more : List ℕ)
+    (kept : says.failures b ≡ says.failures a) (first : Gives says a b bytes)
+    (then : Gives says b c more) → says.failures c ≡ says.failures b → IsAtEnd then.rest
+    → IsAtEnd (Gives-trans says a b c bytes more kept first then).rest
+trans_end says a b c bytes more kept first then same end =
+    Gives-end says a c (bytes ++ more) (Gives-trans says a b c bytes more kept first then)
+    (same ∙ kept) (subst IsAtEnd (sym (then.left same)) end)
 
--- ---- one turn
+-- ---- the bytes that were passed
 
--- all that were held were passed, and others were read
-pub passes_chunk : (a b c d : ScanState) (r s t : Option (List ℕ)) (passed : List ℕ)
-    → Passes a b r s passed → HeldNext b c None → Consumes s t d.held → d.place ≡ c.place
-    → Passes a d r t (passed ++ b.held)
-passes_chunk a b c d r s t passed so_far all gave same = record {
-  gave = Consumes-trans (prepend_known a.held r) (prepend_known b.held s)
-      (prepend_known d.held t) passed b.held so_far.gave (refill s t b.held d.held gave);
-  place = same ∙ (all.2 ∙ (ap (λ place. place_after place b.held) so_far.place
-      ∙ sym (place_after-append a.place passed b.held)));
+-- nothing was read yet
+pub Skips-start : (a : ScanState) → a.is_done ≡ false → IsAscii [] → Skips a a [] []
+Skips-start a undone ascii = record {
+  text = append-nil a.held;
+  ascii = ascii;
+  place = refl;
+  room = omega arith;
+  not_done = undone;
 }
 
-pub finds : (a b c : ScanState) (r s : Option (List ℕ)) (passed : List ℕ) (found : OtherByte)
-    → Passes a b r s passed → IsAscii passed → HeldNext b c (Some found)
-    → FindsNext a c r s found
-finds a b c r s passed found so_far ascii (before, held, low, high, at, next, room) =
-    let byte = found.byte in
-    let all : passed ++ (before ++ byte ∷ []) ≡ (passed ++ before) ++ byte ∷ [] =
-    sym (append_assoc passed before (byte ∷ [])) in
-    let place : found.place ≡ place_after a.place (passed ++ before) =
-    at ∙ (ap (λ place. place_after place before) so_far.place
-    ∙ sym (place_after-append a.place passed before)) in
-    let step : Consumes (prepend_known b.held s) (prepend_known c.held s) (before ++ byte ∷ []) =
-    subst (λ xs. Consumes (prepend_known xs s) (prepend_known c.held s) (before ++ byte ∷ []))
-    (append_assoc before (byte ∷ []) c.held ∙ sym held) (advance s (before ++ byte ∷ []) c.held) in
-    record {
-      before = passed ++ before;
-      ascii = IsAscii-append passed before ascii low;
-      other = high;
-      place = place;
-      passed = record {
-        gave = subst (Consumes (prepend_known a.held r) (prepend_known c.held s)) all
-            (Consumes-trans (prepend_known a.held r) (prepend_known b.held s)
-            (prepend_known c.held s) passed (before ++ byte ∷ []) so_far.gave step);
-        place = next ∙ (ap (λ place. place_after_byte place byte) place
-            ∙ sym (place_after-append a.place (passed ++ before) (byte ∷ [])));
-      };
-    }
+-- if all that were held were passed, the text is those that were passed before, and they
+passed_held : (a b : ScanState) (given passed more : List ℕ) → Skips a b given passed
+    → a.held ++ (given ++ more) ≡ (passed ++ b.held) ++ more
+passed_held a b given passed more so_far =
+    sym (append_assoc a.held given more) ∙ ap (λ xs. xs ++ more) so_far.text
 
-pub finds_none : (a b c d : ScanState) (r s t : Option (List ℕ)) (passed : List ℕ) (n : ℕ)
-    → n ≡ 0 → Passes a b r s passed → IsAscii passed → HeldNext b c None
-    → FillOutcome (Ok n) c d s t
-    → ScanOutcome (Ok None) a d r t
-finds_none a b c d r s t passed n none so_far ascii all fill = (
-  passed ++ b.held,
-  IsAscii-append passed b.held ascii all.0,
-  Consumes-trans (prepend_known a.held r) (prepend_known b.held s) t passed b.held so_far.gave
-      (at_end s t b.held d.held (fill.2 ∙ none) fill.0),
-  fill.1 none,
-)
+-- all that were held were passed, and others were read
+pub passes_chunk : (a b c d : ScanState) (given passed more : List ℕ) (n : ℕ)
+    → Skips a b given passed → HeldNext b c None → d.held ≡ more → length more ≡ n
+    → d.place ≡ c.place → c.room ≡ d.room + n → d.is_done ≡ false
+    → Skips a d (given ++ more) (passed ++ b.held)
+passes_chunk a b c d given passed more n so_far all held long same room undone = record {
+  text = passed_held a b given passed more so_far
+      ∙ ap (λ xs. (passed ++ b.held) ++ xs) (sym held);
+  ascii = IsAscii-append passed b.held so_far.ascii all.0;
+  place = same ∙ (all.2 ∙ (ap (λ place. place_after place b.held) so_far.place
+      ∙ sym (place_after-append a.place passed b.held)));
+  room = omega (arith, so_far.room, all.3, long, room, length-append given more);
+  not_done = undone;
+}
 
-pub scan_fails : (a b c d : ScanState) (r s t : Option (List ℕ)) (passed read : List ℕ)
-    (fault : ScanFault) → Passes a b r s passed → IsAscii passed → HeldNext b c None
-    → Consumes r s read → a.room ≡ b.room + length read → FillOutcome (Err fault) c d s t
-    → ScanOutcome (Err fault) a d r t
-scan_fails a b c d r s t passed read Read so_far ascii all gave room fill = (
+pub finds : (a b c : ScanState) (given passed : List ℕ) (found : OtherByte)
+    → Skips a b given passed → HeldNext b c (Some found) → FindsNext a c given found
+finds a b c given passed found so_far (before, held, low, high, at, next, room, undone) = record {
+  before = passed ++ before;
+  text = so_far.text ∙ (ap (λ xs. passed ++ xs) held
+      ∙ sym (append_assoc passed before (found.byte ∷ c.held)));
+  ascii = IsAscii-append passed before so_far.ascii low;
+  other = high;
+  place = at ∙ (ap (λ place. place_after place before) so_far.place
+      ∙ sym (place_after-append a.place passed before));
+  next = next;
+  room = omega (arith, so_far.room, room);
+  not_done = undone;
+}
+
+-- all that were held are ASCII, and no more were read
+pub all_ascii : (a b c : ScanState) (given passed more : List ℕ) → Skips a b given passed
+    → HeldNext b c None → more ≡ [] → IsAscii (a.held ++ (given ++ more))
+all_ascii a b c given passed more so_far all none =
+    subst IsAscii (sym (passed_held a b given passed more so_far
+    ∙ (ap (λ xs. (passed ++ b.held) ++ xs) none ∙ append-nil (passed ++ b.held))))
+    (IsAscii-append passed b.held so_far.ascii all.0)
+
+-- reading failed, after all that were held were passed
+pub scan_fails : (a b c d : ScanState) (given passed more : List ℕ) (why : BoundedFault)
+    (P Q : Type 0) → Skips a b given passed → HeldNext b c None
+    → FillOutcome (Err why) c d more P → ScanOutcome (Err why) a d (given ++ more) Q
+scan_fails a b c d given passed more fault.Read P Q so_far all fill =
+    all_ascii a b c given passed more so_far all fill
+scan_fails a b c d given passed more fault.TooLong P Q so_far all fill = (
   passed ++ b.held,
-  s,
-  IsAscii-append passed b.held ascii all.0,
-  Consumes-trans (prepend_known a.held r) (prepend_known b.held s) s passed b.held so_far.gave
-      (before_failure s b.held),
+  more,
+  passed_held a b given passed more so_far,
+  IsAscii-append passed b.held so_far.ascii all.0,
+  omega (arith, so_far.room, all.3, fill, length-append given more),
 )
-scan_fails a b c d r s t passed read TooLong so_far ascii all gave room (bytes, more, long) = (
-  read ++ bytes,
-  Consumes-trans r s t read bytes gave more,
-  omega (arith, room, long, all.3, length-append read bytes),
-)
+scan_fails a b c d given passed more (fault.NotAscii n) P Q so_far all fill = absurd fill
+scan_fails a b c d given passed more fault.Memory P Q so_far all fill = absurd fill
+scan_fails a b c d given passed more fault.Write P Q so_far all fill = absurd fill

@@ -1,3 +1,4 @@
+pub mod Checked
 pub mod Options
 pub mod Places
 pub mod Status

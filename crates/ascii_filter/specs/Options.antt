@@ -14,6 +14,11 @@ use Rattle.ascii_filter.specs.declared.options.Options.{Options}
 use Rattle.ascii_filter.specs.declared.options.Task.{Task}
 use Rattle.ascii_filter.specs.declared.options.Task.TheVariants.{Filter, Check}
 
+-- the task writes nothing
+abbrev pub IsQuiet : Task → Type 0
+IsQuiet (Filter mode) = ⊥
+IsQuiet (Check check) = check.is_quiet ≡ true
+
 -- a flag is as its value says, and not set if it has none
 abbrev pub IsFlagOf : Option (List ℕ) → Bool → Type 0
 IsFlagOf None flag = flag ≡ false

@@ -1,18 +1,16 @@
--- The statuses of the program, and what an answer says of its input.
-use Rattle.std.specs.Prelude.{ℕ, ◌≡◌, List, ⊤, IfSome, None, Some, false, length}
+-- The statuses of the program, and what it says of an input.
+use Rattle.std.specs.Prelude.{ℕ, ◌≡◌, ◌⊎◌, List, ⊤, None, Some, if◌then◌else◌, ◌==◌}
+use Rattle.std.specs.Prelude.{option_map, unwrap_or}
 use Rattle.std.specs.declared.option.Option.{Option}
 use Rattle.std.specs.declared.result.Result.{Result}
 use Rattle.std.specs.declared.result.Result.TheVariants.{Ok, Err}
-use Rattle.std.specs.IoError.{error_kind}
-use Rattle.std.specs.declared.io.ErrorKind.TheVariants.{BrokenPipe}
-use Rattle.ascii.specs.Bytes.{FirstOther}
 use Rattle.ascii_run.specs.Faults.{bounded_fault_text}
-use Rattle.ascii_run.specs.Streamed.{IsInput, takes_all}
-use Rattle.ascii_run.specs.declared.bounded.BoundedMode.{BoundedMode}
+use Rattle.ascii_run.specs.declared.faults.BoundedFault.{BoundedFault}
 use Rattle.ascii_run.specs.declared.faults.BoundedFault.TheVariants as bounded
 use Rattle.ascii_filter.specs.declared.failure.Failure.{Failure}
 use Rattle.ascii_filter.specs.declared.failure.Failure.TheVariants.{NotAscii, TooLong, Memory}
-use Rattle.ascii_filter.specs.declared.failure.Failure.TheVariants.{Output}
+use Rattle.ascii_filter.specs.declared.failure.Failure.TheVariants.{Input}
+use Rattle.ascii_filter.specs.declared.failure.Verdict.{Verdict}
 
 -- the status of a failure: 1 for input that is not ASCII, otherwise 3
 abbrev pub status_of : Failure → ℕ
@@ -26,21 +24,22 @@ failure_text TooLong = Some (bounded_fault_text bounded.TooLong)
 failure_text Memory = Some (bounded_fault_text bounded.Memory)
 failure_text other = None
 
--- a failure of the output
-abbrev pub IsOfOutput : Failure → Type 0
-IsOfOutput (Output error) = ⊤
-IsOfOutput other = ⊥
+-- the status of a verdict: that of its failure, or else 1 if `check` found a byte
+abbrev pub verdict_status : Verdict → ℕ
+verdict_status verdict =
+    unwrap_or (option_map status_of verdict.failure) (if verdict.found == 0 then 0 else 1)
 
--- a failure of an output that nobody reads any more
-abbrev pub IsClosedPipe : Failure → Type 0
-IsClosedPipe (Output error) = error_kind error ≡ BrokenPipe
-IsClosedPipe other = ⊥
+-- the failure says that the input could not be read
+abbrev pub IsOfDevice : Option Failure → Type 0
+IsOfDevice (Some (Input error)) = ⊤
+IsOfDevice other = ⊥
 
--- an input may be answered so by a mode, if its bytes are known. `Ok`: they are ASCII, unless the
--- mode takes all bytes. `NotAscii`: it does not, and the error holds the position of the first
--- non-ASCII byte
-abbrev pub MayAnswer : BoundedMode → Option (List ℕ) → Result (Unit {0}) Failure → Type 0
-MayAnswer mode known (Ok _) = IfSome known (IsInput mode)
-MayAnswer mode known (Err (NotAscii n)) =
-    (takes_all mode ≡ false) × IfSome known (λ bytes. FirstOther bytes 0 (length bytes) n)
-MayAnswer mode known (Err other) = ⊤
+-- what is said of the outcome of a task: the failure that names it, if the input is at fault. After
+-- `Write` it is not, unless a read had failed before.
+abbrev pub IsFailureOf : Result (Unit {0}) BoundedFault → Option Failure → Type 0
+IsFailureOf (Ok _) failure = failure ≡ None
+IsFailureOf (Err (bounded.NotAscii n)) failure = failure ≡ Some (NotAscii n)
+IsFailureOf (Err bounded.TooLong) failure = failure ≡ Some TooLong
+IsFailureOf (Err bounded.Memory) failure = failure ≡ Some Memory
+IsFailureOf (Err bounded.Read) failure = IsOfDevice failure
+IsFailureOf (Err bounded.Write) failure = (failure ≡ None) ⊎ IsOfDevice failure

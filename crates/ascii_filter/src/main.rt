@@ -1,24 +1,22 @@
 //! `ascii_filter MODE [FILE..]`: files or standard input of any length, in one of several modes, to standard output.
 #![tactic(auto)]
 
-ghost use Rattle.std.specs.Prelude.{◌≡◌, ◌≢◌, codes};
-ghost use Rattle.ascii_filter.specs.Status.{MayAnswer};
-
+mod answer;
 mod check;
 mod failure;
+mod inputs;
 mod options;
 mod scanner;
 
-use ascii_run::{BoundedFault, BoundedMode, Input, Output, bounded_engine};
-use check::name_others;
+use ascii_devices::{Output, Sink};
 use clap::error::ErrorKind;
 use clap::{ArgMatches, Error};
-use failure::Failure;
-use options::{Check, STANDARD_INPUT, Task, command, mode_names, options_of, task_of};
-use std::alloc::{AllocError, Allocator};
+use inputs::{run_file, shown_name};
+use options::{Task, command, mode_names, options_of, task_of};
+use std::alloc::AllocError;
 use std::env::{Env, FillError};
 use std::process::ExitCode;
-use std::{env, fs, io};
+use std::{env, fmt, io};
 
 /// How many arguments leave less of the stack than a call takes.
 const MANY: usize = 4_000;
@@ -29,103 +27,50 @@ const STACK: usize = 65_536;
 /// How much memory is asked for before the stack grows: enough that the system takes it back when it is freed.
 const PROBE: usize = 262_144;
 
-/// Writes the output of a mode for all bytes of an input, and flushes it, or returns why it stopped, with the
-/// error of the device that failed.
-fn filter<A: Allocator + Copy, I: io::Read + Drop, O: io::Write + Drop>(
-    alloc: A,
-    mode: BoundedMode,
-    input: I,
-    output: O,
-) -> Result<(), Failure>
-    ensures { MayAnswer mode (I.remaining input) result }
-{
-    let mut reader = Input::new(input);
-    let mut writer = Output::new(output);
-    match bounded_engine(alloc, mode, &mut reader, &mut writer) {
-        Ok(()) => Ok(()),
-        Err(BoundedFault::NotAscii(position)) => Err(Failure::NotAscii(position)),
-        Err(BoundedFault::TooLong) => Err(Failure::TooLong),
-        Err(BoundedFault::Memory) => Err(Failure::Memory),
-        Err(BoundedFault::Read) => Err(Failure::Input(reader.into_error().unwrap())),
-        Err(BoundedFault::Write) => Err(Failure::Output(writer.into_error().unwrap())),
-    }
-}
-
-/// What the program calls a file: its name, or for `-` standard input.
-fn shown_name(name: &str) -> &str
-    ensures dash { name.now ≡ codes "-" → result.now ≡ codes "(standard input)" }
-    ensures other { name.now ≢ codes "-" → result.now ≡ name.now }
-{
-    if name == "-" { STANDARD_INPUT } else { name }
-}
-
-/// Opens a file, or standard input for `-`, and carries out the task on it. Returns `true` if it has
-/// a non-ASCII byte that `check` has named.
-fn run_file(rt: &HostRuntime, task: Task, name: &str) -> Result<bool, Failure> {
-    if name == "-" {
-        return run_input(rt, task, name, rt.reader());
-    }
-    match fs::open(rt, name) {
-        Ok(file) => run_input(rt, task, name, file),
-        Err(error) => Err(Failure::Input(error)),
-    }
-}
-
-/// Carries out the task on an input.
-fn run_input<I: io::Read + Drop>(
-    rt: &HostRuntime,
-    task: Task,
-    name: &str,
-    input: I,
-) -> Result<bool, Failure> {
-    match task {
-        Task::Filter(mode) => {
-            filter(rt.alloc(), mode, input, io::writer(rt))?;
-            Ok(false)
-        }
-        Task::Check(check) => {
-            let found = name_others(rt.alloc(), check, shown_name(name), input, io::writer(rt))?;
-            Ok(found > 0)
-        }
-    }
-}
-
-/// Writes the line of a failure to standard error.
-fn report(rt: &HostRuntime, name: &str, failure: Failure) -> Result<(), AllocError> {
-    let shown = if failure.is_of_output() {
-        "(standard output)"
-    } else {
-        shown_name(name)
-    };
-    let line = format!(in rt.alloc(); "ascii_filter: {shown}: {failure}\n")?;
+/// Writes a line to standard error that says what is wrong with an input or the output.
+fn report<D: fmt::Display>(rt: &HostRuntime, name: &str, why: &D) -> Result<(), AllocError> {
+    let line = format!(in rt.alloc(); "ascii_filter: {name}: {why}\n")?;
     let _ = io::Write::write_all(&mut rt.stderr(), line.as_bytes());
     Ok(())
 }
 
-/// Carries out the task on each file in order, and returns the highest status. Stops if the output is
-/// closed, with status 0, or fails, and at the first non-ASCII byte if nothing is to be written.
-fn run_files(rt: &HostRuntime, task: Task, files: &[&str]) -> Result<u8, AllocError> {
+/// Carries out the task on each file in order, and returns the highest status. Stops if the output
+/// failed, and at the first non-ASCII byte if nothing is to be written.
+fn run_each<K: Sink>(
+    rt: &HostRuntime,
+    task: Task,
+    files: &[&str],
+    writer: &mut K,
+) -> Result<u8, AllocError> {
     let mut status = 0;
     for &name in files {
-        match run_file(rt, task, name) {
-            Ok(false) => {}
-            Ok(true) => {
-                status = status.max(1);
-                if matches!(task, Task::Check(Check { is_quiet: true, .. })) {
-                    break;
-                }
-            }
-            Err(failure) if failure.is_closed_pipe() => return Ok(0),
-            Err(failure) => {
-                report(rt, name, failure)?;
-                status = status.max(failure.status());
-                if failure.is_of_output() {
-                    break;
-                }
-            }
+        if writer.failures() > 0 {
+            break;
+        }
+        let verdict = run_file(rt, task, name, writer)?;
+        status = status.max(verdict.status());
+        if let Some(failure) = verdict.failure {
+            report(rt, shown_name(name), &failure)?;
+        }
+        if verdict.found > 0 && task.is_quiet() {
+            break;
         }
     }
     Ok(status)
+}
+
+/// Carries out the task on each file, and returns the highest status: that of an output that failed is
+/// 3, but one whose pipe is closed counts as nothing.
+fn run_files(rt: &HostRuntime, task: Task, files: &[&str]) -> Result<u8, AllocError> {
+    let mut writer = Output::new(io::writer(rt));
+    let status = run_each(rt, task, files, &mut writer)?;
+    match writer.into_error() {
+        Some(error) if error.kind() != io::ErrorKind::BrokenPipe => {
+            report(rt, "(standard output)", &error)?;
+            Ok(3)
+        }
+        _ => Ok(status),
+    }
 }
 
 /// Writes a line to standard error, and returns the status of a fault in the arguments.

@@ -1,8 +1,8 @@
 //! The options of the program.
 
-ghost use Rattle.std.specs.Prelude.{◌≡◌};
+ghost use Rattle.std.specs.Prelude.{◌≡◌, ◌↔◌, IsTrue};
 ghost use Rattle.clap.specs.Words.{found_of};
-ghost use Rattle.ascii_filter.specs.Options.{AreOptionsOf, TaskOutcome};
+ghost use Rattle.ascii_filter.specs.Options.{AreOptionsOf, IsQuiet, TaskOutcome};
 
 use ascii_run::BoundedMode;
 use clap::builder::ValueParser;
@@ -33,6 +33,15 @@ pub enum Task {
     Filter(BoundedMode),
     /// Each non-ASCII byte is named.
     Check(Check),
+}
+
+impl Task {
+    /// Returns `true` if nothing is written.
+    pub fn is_quiet(self) -> bool
+        ensures { IsTrue result ↔ IsQuiet self }
+    {
+        matches!(self, Task::Check(Check { is_quiet: true, .. }))
+    }
 }
 
 /// What the words of a call name.

@@ -1,15 +1,18 @@
 //! The non-ASCII bytes of an input of any length, with their lines and columns.
 
 ghost use Rattle.std.specs.Prelude.{◌≡◌, ℕ, List, ◌+◌, ◌<◌, ◌≤◌, ◌^◌, ◌-◌, ◌++◌, ◌∷◌, [], IfOk};
-ghost use Rattle.std.specs.Prelude.{length, MatchOption, MatchResult, OnOk};
-ghost use Rattle.std.specs.Str.{IsAscii};
-ghost use Rattle.std.specs.Io.KnownBytes.{Consumes, IsAtEnd};
-ghost use Rattle.ascii_filter.specs.Places.{FillOutcome, HeldNext, ScanOutcome, place_after};
-ghost use Rattle.ascii_filter.specs.Places.{feeds, place_after_byte};
+ghost use Rattle.std.specs.Prelude.{length, None, false, true};
+ghost use Rattle.std.specs.Result.{OnOk};
+ghost use Rattle.std.specs.Io.KnownBytes.{IsAtEnd};
+ghost use Rattle.std.specs.declared.result.Result.TheVariants.{Ok};
+ghost use Rattle.ascii_devices.specs.States.{Gives};
+ghost use Rattle.ascii_filter.specs.Places.{FillOutcome, HeldNext, IsFresh, ScanOutcome};
+ghost use Rattle.ascii_filter.specs.Places.{feeds, place_after, place_after_byte};
 ghost use Rattle.ascii_run.specs.Reading.{Counts};
 
 use ascii::kernels::first_other;
 use ascii_devices::{Source, zeros};
+use ascii_run::BoundedFault;
 use memchr::memrchr;
 use std::alloc::{AllocError, Allocator};
 use std::marker::Model;
@@ -98,15 +101,6 @@ pub struct OtherByte {
     pub byte: u8,
 }
 
-/// Why a search stopped.
-#[derive(Clone, Copy, PartialEq, Eq, Debug)]
-pub enum ScanFault {
-    /// The reader failed.
-    Read,
-    /// The input is too long for its places to be counted.
-    TooLong,
-}
-
 /// How many bytes one read asks for.
 const CHUNK: usize = 131_072;
 
@@ -121,10 +115,12 @@ pub struct Scanner<A: Allocator> {
     place: Place,
     /// How many bytes may still be read.
     room: u64,
+    /// Whether the end of the input was found.
+    is_done: bool,
 }
 
 impl<A: Allocator> Model for Scanner<A> {
-    ghost use Rattle.std.specs.Prelude.{◌≡◌, ◌+◌, ◌-◌, ◌<◌, ◌≤◌, ◌^◌, length, take, drop};
+    ghost use Rattle.std.specs.Prelude.{◌≡◌, ◌+◌, ◌-◌, ◌<◌, ◌≤◌, ◌^◌, length, take, drop, true};
     ghost use Rattle.ascii_filter.specs.Places.{ScanState};
 
     ghost Value = { ScanState };
@@ -133,20 +129,20 @@ impl<A: Allocator> Model for Scanner<A> {
       place = scanner.place;
       held = take (scanner.end - scanner.start) (drop scanner.start scanner.chunk.items);
       room = scanner.room;
+      is_done = scanner.is_done;
     } };
 
     ghost invariant = { λ scanner. (scanner.start ≤ scanner.end)
         × (scanner.end ≤ length scanner.chunk.items) × (0 < length scanner.chunk.items)
         × (1 ≤ scanner.place.column)
         × (scanner.place.line + scanner.place.column + (scanner.end - scanner.start) + scanner.room
-        < 2 ^ 64) };
+        < 2 ^ 64) × (scanner.is_done ≡ true → scanner.start ≡ scanner.end) };
 }
 
 impl<A: Allocator> Scanner<A> {
     /// Creates a scanner at the start of an input.
     pub fn new(alloc: A) -> Result<Scanner<A>, AllocError>
-        ensures { IfOk result (λ scanner. (scanner.held ≡ [])
-            × (scanner.place.line ≡ 1) × (scanner.place.column ≡ 1) × (scanner.room ≡ 2 ^ 64 - 3)) }
+        ensures { IfOk result IsFresh }
     {
         Ok(Scanner {
             chunk: zeros(alloc, CHUNK)?,
@@ -154,24 +150,35 @@ impl<A: Allocator> Scanner<A> {
             end: 0,
             place: Place { line: 1, column: 1 },
             room: u64::MAX - 2,
+            is_done: false,
         })
     }
 
-    /// Returns the next non-ASCII byte with its place, or `None` if there are none left, or an error.
+    /// Returns the next non-ASCII byte with its place, or `None` if there are none left, or an error. After
+    /// `None` it keeps returning `None`, and reads no more.
     ///
     /// Condition: fewer than `u64::MAX` reads have failed.
-    pub fn next<S: Source>(&mut self, reader: &mut S) -> Result<Option<OtherByte>, ScanFault>
+    pub fn next<S: Source>(&mut self, reader: &mut S) -> Result<Option<OtherByte>, BoundedFault>
         requires { S.failures reader.old < u64.MAX }
-        ensures outcome { ScanOutcome result
-            self.old self.new (S.rest reader.old) (S.rest reader.new) }
-        ensures count { Counts ScanFault.Read (S.failures reader.old) (S.failures reader.new) result }
+        ensures outcome { (given : List ℕ) × (gives : Gives S.Source reader.old reader.new given)
+            × ScanOutcome result self.old self.new given (IsAtEnd gives.rest) }
+        ensures done { self.old.is_done ≡ true
+            → (result ≡ Ok None) × (self.new ≡ self.old) × (reader.new ≡ reader.old) }
+        ensures count { Counts BoundedFault.Read (S.failures reader.old) (S.failures reader.new)
+            result }
     {
+        if self.is_done {
+            return Ok(None);
+        }
         'chunks: loop {
             if let Some(other) = self.next_held() {
                 return Ok(Some(other));
             }
             match self.fill(reader) {
-                Ok(0) => return Ok(None),
+                Ok(0) => {
+                    self.is_done = true;
+                    return Ok(None);
+                }
                 Ok(_) => {}
                 Err(fault) => return Err(fault),
             }
@@ -180,6 +187,7 @@ impl<A: Allocator> Scanner<A> {
 
     /// Returns the next non-ASCII byte of those that are held, or passes all of them.
     fn next_held(&mut self) -> Option<OtherByte>
+        requires { self.old.is_done ≡ false }
         ensures { HeldNext self.old self.new result }
     {
         let held = &self.chunk[self.start..self.end];
@@ -196,20 +204,22 @@ impl<A: Allocator> Scanner<A> {
     }
 
     /// Reads more bytes, and returns how many.
-    fn fill<S: Source>(&mut self, reader: &mut S) -> Result<usize, ScanFault>
+    fn fill<S: Source>(&mut self, reader: &mut S) -> Result<usize, BoundedFault>
         requires count { S.failures reader.old < u64.MAX }
         requires empty { self.old.held ≡ [] }
-        ensures outcome { FillOutcome result
-            self.old self.new (S.rest reader.old) (S.rest reader.new) }
-        ensures count { Counts ScanFault.Read (S.failures reader.old) (S.failures reader.new) result }
+        requires not_done { self.old.is_done ≡ false }
+        ensures outcome { (given : List ℕ) × (gives : Gives S.Source reader.old reader.new given)
+            × FillOutcome result self.old self.new given (IsAtEnd gives.rest) }
+        ensures count { Counts BoundedFault.Read (S.failures reader.old) (S.failures reader.new)
+            result }
     {
         let Ok(n) = reader.read(&mut self.chunk) else {
-            return Err(ScanFault::Read);
+            return Err(BoundedFault::Read);
         };
         let Some(room) = self.room.checked_sub(n as u64) else {
             self.start = 0;
             self.end = 0;
-            return Err(ScanFault::TooLong);
+            return Err(BoundedFault::TooLong);
         };
         self.room = room;
         self.start = 0;

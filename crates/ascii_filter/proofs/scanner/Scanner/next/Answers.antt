@@ -1,53 +1,89 @@
-use Rattle.std.proofs.Common.{◌≡◌, ◌++◌, arith, length-append, rules}
-use Rattle.std.proofs.KnownBytes.{Consumes-trans}
-use Rattle.std.proofs.lemmas.Str.{IsAscii-append}
-use Rattle.ascii_filter.proofs.ScannerLemmas.{finds, finds_none, passes_chunk, scan_fails}
+use Rattle.std.proofs.Common.{◌≡◌, [], ◌++◌, ◌∙◌, rules, refl, subst, sym, false}
+use Rattle.std.proofs.lemmas.Bool.{false≢true}
+use Rattle.std.proofs.lemmas.Str.Ascii.{IsAscii-nil}
+use Rattle.std.specs.Str.{IsAscii}
+use Rattle.ascii_devices.proofs.HistoryLemmas.{Gives-nil, Gives-trans}
+use Rattle.ascii_filter.proofs.ScannerLemmas.{Skips-start, all_ascii, finds, none_held, passes_chunk}
+use Rattle.ascii_filter.proofs.ScannerLemmas.{none_of, scan_fails, trans_end}
 use Rattle.ascii_filter.proofs.scanner.Scanner.next.Goals as goal
+
+pub returns-then-self-clause-outcome : goal.returns-then-self-clause-outcome
+returns-then-self-clause-outcome g c =
+    let inside = c.self.inside in
+    let none : c.args.self.now.held ≡ [] = search (rules, none_held) in (
+      [],
+      Gives-nil g.S.Source c.args.reader.now,
+      (
+        subst (λ held. IsAscii (held ++ [])) (sym none) IsAscii-nil,
+        λ undone. absurd (false≢true (sym undone ∙ search rules)),
+        search rules,
+      ),
+    )
+
+pub chunks-init : goal.chunks-init
+chunks-init g c =
+    let undone : c.args.self.now.is_done ≡ false = search rules in (
+      refl,
+      undone,
+      (
+        [],
+        [],
+        Gives-nil g.S.Source c.args.reader.now,
+        Skips-start c.args.self.now undone IsAscii-nil,
+      ),
+    )
 
 pub returns-in-Some-clause-outcome : goal.returns-in-Some-clause-outcome
 returns-in-Some-clause-outcome g c =
-    let (passed, ascii, so_far) = c.chunks.invariant.1 in
-    finds c.args.self.now c.chunks.self c.next_held.new.self (g.S.Source.rest c.args.reader.now)
-    (g.S.Source.rest c.chunks.reader) passed c.in-Some.other so_far ascii c.in-Some.ensures
+    let (given, passed, gave, so_far) = c.chunks.invariant.2 in (
+      given,
+      gave,
+      finds c.args.self.now c.chunks.self c.next_held.new.self given passed c.in-Some.other so_far
+          c.in-Some.ensures,
+    )
 
 pub returns-in-Ok-eq0-clause-outcome : goal.returns-in-Ok-eq0-clause-outcome
 returns-in-Ok-eq0-clause-outcome g c =
-    let (passed, ascii, so_far) = c.chunks.invariant.1 in
-    let none : c.in-Ok-eq0.field-0 ≡ 0 = search rules in
-    finds_none c.args.self.now c.chunks.self c.next_held.new.self c.fill.new.self
-    (g.S.Source.rest c.args.reader.now) (g.S.Source.rest c.chunks.reader)
-    (g.S.Source.rest c.fill.new.reader) passed c.in-Ok-eq0.field-0 none so_far
-    ascii c.in_default.ensures c.in-Ok-eq0.ensures.outcome
+    let (given, passed, gave, so_far) = c.chunks.invariant.2 in
+    let (more, gives, fill) = c.in-Ok-eq0.ensures.outcome in
+    let zero : c.in-Ok-eq0.field-0 ≡ 0 = search rules in (
+      given ++ more,
+      Gives-trans g.S.Source c.args.reader.now c.chunks.reader c.fill.new.reader given more
+          c.chunks.invariant.0 gave gives,
+      (
+        all_ascii c.args.self.now c.chunks.self c.next_held.new.self given passed more so_far
+            c.in_default.ensures (none_of more (fill.2 ∙ zero)),
+        λ undone. trans_end g.S.Source c.args.reader.now c.chunks.reader c.fill.new.reader given
+            more c.chunks.invariant.0 gave gives (c.in-Ok-eq0.ensures.count.1 (λ is. cc))
+            (fill.1 zero),
+        refl,
+      ),
+    )
 
 pub chunks-preserved : goal.chunks-preserved
 chunks-preserved g c =
-    let (passed, ascii, so_far) = c.chunks.invariant.1 in
-    let (read, gave, room) = c.chunks.invariant.2 in
-    let all = c.in_default.ensures in
-    let fill = c.in-Ok.ensures.outcome in
-    let rest = g.S.Source.rest in
-    let more = c.fill.new.self.held in (
+    let (given, passed, gave, so_far) = c.chunks.invariant.2 in
+    let (more, gives, fill) = c.in-Ok.ensures.outcome in (
       search rules,
+      c.chunks.invariant.1,
       (
+        given ++ more,
         passed ++ c.chunks.self.held,
-        IsAscii-append passed c.chunks.self.held ascii all.0,
-        passes_chunk c.args.self.now c.chunks.self c.next_held.new.self c.fill.new.self
-            (rest c.args.reader.now) (rest c.chunks.reader) (rest c.fill.new.reader) passed so_far
-            all fill.0 fill.3,
-      ),
-      (
-        read ++ more,
-        Consumes-trans (rest c.args.reader.now) (rest c.chunks.reader) (rest c.fill.new.reader)
-            read more gave fill.0,
-        omega (arith, room, all.3, fill.2, fill.4, length-append read more),
+        Gives-trans g.S.Source c.args.reader.now c.chunks.reader c.fill.new.reader given more
+            c.chunks.invariant.0 gave gives,
+        passes_chunk c.args.self.now c.chunks.self c.next_held.new.self c.fill.new.self given
+            passed more c.in-Ok.field-0 so_far c.in_default.ensures fill.0 fill.2 fill.3 fill.4
+            fill.5,
       ),
     )
 
 pub returns-in-Err-clause-outcome : goal.returns-in-Err-clause-outcome
 returns-in-Err-clause-outcome g c =
-    let (passed, ascii, so_far) = c.chunks.invariant.1 in
-    let (read, gave, room) = c.chunks.invariant.2 in
-    scan_fails c.args.self.now c.chunks.self c.next_held.new.self c.fill.new.self
-    (g.S.Source.rest c.args.reader.now) (g.S.Source.rest c.chunks.reader)
-    (g.S.Source.rest c.fill.new.reader) passed read c.in-Err.fault so_far ascii
-    c.in_default.ensures gave room c.in-Err.ensures.outcome
+    let (given, passed, gave, so_far) = c.chunks.invariant.2 in
+    let (more, gives, fill) = c.in-Err.ensures.outcome in (
+      given ++ more,
+      Gives-trans g.S.Source c.args.reader.now c.chunks.reader c.fill.new.reader given more
+          c.chunks.invariant.0 gave gives,
+      scan_fails c.args.self.now c.chunks.self c.next_held.new.self c.fill.new.self given passed
+          more c.in-Err.fault _ _ so_far c.in_default.ensures fill,
+    )

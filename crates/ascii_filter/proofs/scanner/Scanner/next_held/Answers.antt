@@ -24,4 +24,5 @@ returns g c =
       c.after-place.ensures.place ∙ ap (λ one. place_after one (take at held)) place,
       c.after_byte-self-inside.ensures,
       search rules,
+      search rules,
     )

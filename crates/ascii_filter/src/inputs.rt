@@ -1,0 +1,104 @@
+//! The task on one input: a file, or standard input.
+
+ghost use Rattle.std.specs.Prelude.{◌≡◌, ◌≢◌, ◌+◌, ◌<◌, ℕ, List, ◌∷◌, [], ◌++◌, codes, IfOk};
+ghost use Rattle.std.specs.Io.KnownBytes.{Consumes, IsAtEnd};
+ghost use Rattle.std.specs.declared.option.Option.{Option};
+ghost use Rattle.std.specs.declared.result.Result.TheVariants.{Err};
+ghost use Rattle.ascii_devices.specs.States.{Takes};
+ghost use Rattle.ascii_devices.specs.Wrapped.{input_failures};
+ghost use Rattle.ascii_filter.specs.Checked.{IsAnswer};
+ghost use Rattle.ascii_filter.specs.Status.{IsFailureOf};
+ghost use Rattle.ascii_filter.specs.declared.answer.Answer.{Answer};
+
+use crate::answer::{Answer, run_task};
+use crate::failure::{Failure, Verdict};
+use crate::options::{STANDARD_INPUT, Task};
+use ascii_devices::{Input, Sink};
+use ascii_run::BoundedFault;
+use std::alloc::{AllocError, Global};
+use std::{fs, io};
+
+/// What the program calls a file: its name, or for `-` standard input.
+pub fn shown_name(name: &str) -> &str
+    ensures dash { name.now ≡ codes "-" → result.now ≡ codes "(standard input)" }
+    ensures other { name.now ≢ codes "-" → result.now ≡ name.now }
+{
+    if name == "-" { STANDARD_INPUT } else { name }
+}
+
+/// What comes before each line and number of a file: what the program calls it, and a colon.
+fn label_of(alloc: Global, name: &str) -> Result<Vec<u8>, AllocError>
+    ensures { IfOk result (λ label. label.items ≡ name.now ++ 58 ∷ []) }
+{
+    let mut label = Vec::from_slice(alloc, name.as_bytes())?;
+    label.push(b':')?;
+    Ok(label)
+}
+
+/// Opens a file, or standard input for `-`, and carries out the task on it.
+pub fn run_file<K: Sink>(
+    rt: &HostRuntime,
+    task: Task,
+    name: &str,
+    writer: &mut K,
+) -> Result<Verdict, AllocError>
+    requires { K.failures writer.old < u64.MAX }
+{
+    let label = label_of(rt.alloc(), shown_name(name))?;
+    if name == "-" {
+        return Ok(run_input(rt.alloc(), task, &label, rt.reader(), writer));
+    }
+    match fs::open(rt, name) {
+        Ok(file) => Ok(run_input(rt.alloc(), task, &label, file, writer)),
+        Err(error) => {
+            let failure = Some(Failure::Input(error));
+            Ok(Verdict { found: 0, failure })
+        }
+    }
+}
+
+/// Carries out the task on an input.
+fn run_input<I: io::Read + Drop, K: Sink>(
+    alloc: Global,
+    task: Task,
+    label: &[u8],
+    input: I,
+    writer: &mut K,
+) -> Verdict
+    requires { K.failures writer.old < u64.MAX }
+    ensures { (given took : List ℕ) × (rest : Option (List ℕ)) × (answer : Answer)
+        × Consumes (I.remaining input) rest given × Takes K.Sink writer.old writer.new took
+        × IsAnswer task label.now answer given (IsAtEnd rest) took
+        (K.failures writer.old) (K.failures writer.new)
+        × (result.found ≡ answer.found) × IsFailureOf answer.outcome result.failure }
+{
+    let mut reader = Input::new(input);
+    let answer = run_task(alloc, task, label, &mut reader, writer);
+    let failure = failure_of(answer.outcome, reader);
+    Verdict {
+        found: answer.found,
+        failure,
+    }
+}
+
+/// Why an input is at fault, by the outcome of the task and the error that its reader keeps.
+///
+/// Condition: if the outcome is `Read`, a read has failed.
+fn failure_of<I: io::Read + Drop>(
+    outcome: Result<(), BoundedFault>,
+    reader: Input<I>,
+) -> Option<Failure>
+    requires { outcome ≡ Err BoundedFault.Read → 0 < input_failures reader }
+    ensures { IsFailureOf outcome result }
+{
+    match outcome {
+        Ok(()) => None,
+        Err(BoundedFault::NotAscii(position)) => Some(Failure::NotAscii(position)),
+        Err(BoundedFault::TooLong) => Some(Failure::TooLong),
+        Err(BoundedFault::Memory) => Some(Failure::Memory),
+        Err(BoundedFault::Read | BoundedFault::Write) => match reader.into_error() {
+            Some(error) => Some(Failure::Input(error)),
+            None => None,
+        },
+    }
+}
