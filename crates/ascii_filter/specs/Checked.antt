@@ -19,16 +19,17 @@ use Rattle.ascii_filter.specs.declared.scanner.OtherByte.{OtherByte}
 abbrev pub upper_hex : ℕ → ℕ
 upper_hex n = if nat_lt n 10 then 48 + n else 55 + n
 
--- the line of a non-ASCII byte: the label of its input, its line, its column and its value
-abbrev pub place_line : List ℕ → OtherByte → List ℕ
-place_line label other = label ++ (decimal other.place.line ++ (codes ":"
+-- what is said of a non-ASCII byte: its line, its column and its value
+abbrev pub place_text : OtherByte → List ℕ
+place_text other = decimal other.place.line ++ (codes ":"
     ++ (decimal other.place.column ++ (codes ": byte 0x"
-    ++ upper_hex (other.byte / 16) ∷ upper_hex (other.byte % 16) ∷ 10 ∷ []))))
+    ++ upper_hex (other.byte / 16) ∷ upper_hex (other.byte % 16) ∷ 10 ∷ [])))
 
--- what `check` writes of a byte that it finds: its line, unless it counts or is quiet
+-- what `check` writes of a byte that it finds, unless it counts or is quiet: the label of its input,
+-- and what is said of it
 abbrev pub shown_place : Check → List ℕ → OtherByte → List ℕ
 shown_place check label other =
-    if check.is_count || check.is_quiet then [] else place_line label other
+    if check.is_count || check.is_quiet then [] else label ++ place_text other
 
 -- what `check` writes at the end: the label and the number of bytes found, if it counts, is not quiet
 -- and has not failed

@@ -1,21 +1,22 @@
 //! The mode `check`: a line for each non-ASCII byte, or their number.
 
-ghost use Rattle.std.specs.Prelude.{◌≡◌, ◌+◌, ◌<◌, ◌/◌, ◌%◌, ℕ, List, [], ◌∷◌, true};
+ghost use Rattle.std.specs.Prelude.{◌≡◌, ◌++◌, ◌+◌, ◌<◌, ◌≤◌, ℕ, List, drop, true};
 ghost use Rattle.std.specs.Io.KnownBytes.{IsAtEnd};
 ghost use Rattle.std.specs.declared.result.Result.TheVariants.{Err};
 ghost use Rattle.ascii_devices.specs.Buffered.{AppendsTo, IsReady, MayFail, output_state};
 ghost use Rattle.ascii_devices.specs.States.{Gives, Takes};
 ghost use Rattle.std.specs.List.{flat_map};
-ghost use Rattle.ascii_filter.specs.Checked.{IsWritten, LooksAt, check_output, place_line, shown_count};
+ghost use Rattle.ascii_filter.specs.Checked.{IsWritten, LooksAt, check_output, place_text, shown_count};
 ghost use Rattle.ascii_filter.specs.Checked.{shown_place, upper_hex};
 ghost use Rattle.ascii_filter.specs.Places.{IsFresh, others_of};
+ghost use Rattle.ascii_filter.specs.declared.check.TheConstants.{LINE};
 
 use crate::answer::Answer;
 use crate::options::Check;
 use crate::scanner::{OtherByte, Scanner};
 use ascii_devices::{BufferedSink, Sink, Source};
 use ascii_run::BoundedFault;
-use itoa::Buffer;
+use itoa::{Buffer, write_digits};
 use std::alloc::{Allocator, Global};
 
 /// The size of the buffer before the output.
@@ -124,6 +125,16 @@ fn put_place<K: Sink, A: Allocator>(
     put_line(label, other, buffer, writer);
 }
 
+/// A line without its label, whose end is there except for the value of the byte.
+const LINE: [u8; 64] = *b"                                                    : byte 0x00\n";
+
+/// Where the end of a line begins, and where the two digits of its byte are.
+const END: usize = 52;
+
+const HIGH: usize = 61;
+
+const LOW: usize = 62;
+
 /// Appends the line of a non-ASCII byte.
 #[inline(always)]
 fn put_line<K: Sink, A: Allocator>(
@@ -134,22 +145,27 @@ fn put_line<K: Sink, A: Allocator>(
 )
     requires { MayFail (output_state K.Sink writer.old buffer.old) }
     ensures { AppendsTo K.Sink writer.old buffer.old writer.new buffer.new
-        (place_line label.now other) }
+        (label.now ++ place_text other) }
 {
-    let mut number = Buffer::new();
+    let mut room = LINE;
+    let start = write_place(other.place.line, other.place.column, other.byte, &mut room);
     buffer.put(writer, label);
-    buffer.put(writer, number.format(other.place.line).as_bytes());
-    buffer.put(writer, b":");
-    buffer.put(writer, number.format(other.place.column).as_bytes());
-    buffer.put(writer, b": byte 0x");
-    buffer.put(
-        writer,
-        &[
-            hex_digit(other.byte / 16),
-            hex_digit(other.byte % 16),
-            b'\n',
-        ],
-    );
+    buffer.put(writer, &room[start..]);
+}
+
+/// Writes what is said of a non-ASCII byte to the end of `LINE`, and returns its start.
+#[inline(always)]
+fn write_place(line: u64, column: u64, byte: u8, room: &mut [u8; 64]) -> usize
+    requires { room.old ≡ LINE }
+    ensures within { result ≤ 64 }
+    ensures text { drop result room.new ≡ place_text
+        (record { place = record { line = line; column = column }; byte = byte }) }
+{
+    room[HIGH] = hex_digit(byte / 16);
+    room[LOW] = hex_digit(byte % 16);
+    let start = write_digits(column, room, END) - 1;
+    room[start] = b':';
+    write_digits(line, room, start)
 }
 
 /// The upper-case hexadecimal digit of a number.

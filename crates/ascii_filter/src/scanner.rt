@@ -1,7 +1,7 @@
 //! The non-ASCII bytes of an input of any length, with their lines and columns.
 
 ghost use Rattle.std.specs.Prelude.{◌≡◌, ℕ, List, ◌+◌, ◌<◌, ◌≤◌, ◌^◌, ◌-◌, ◌++◌, ◌∷◌, [], IfOk};
-ghost use Rattle.std.specs.Prelude.{length, None, false, true};
+ghost use Rattle.std.specs.Prelude.{length, MatchOption, None, Some, false, true};
 ghost use Rattle.std.specs.Result.{OnOk};
 ghost use Rattle.std.specs.Io.KnownBytes.{IsAtEnd};
 ghost use Rattle.std.specs.declared.result.Result.TheVariants.{Ok};
@@ -170,6 +170,9 @@ impl<A: Allocator> Scanner<A> {
         if self.is_done {
             return Ok(None);
         }
+        if let Some(other) = self.first_held() {
+            return Ok(Some(other));
+        }
         'chunks: loop {
             if let Some(other) = self.next_held() {
                 return Ok(Some(other));
@@ -183,6 +186,24 @@ impl<A: Allocator> Scanner<A> {
                 Err(fault) => return Err(fault),
             }
         }
+    }
+
+    /// Returns the first byte of those that are held, if it is not ASCII. In some texts most bytes are not, and this
+    /// takes less than a search.
+    #[inline(always)]
+    fn first_held(&mut self) -> Option<OtherByte>
+        requires { self.old.is_done ≡ false }
+        ensures { MatchOption result (self.new ≡ self.old)
+            (λ found. HeldNext self.old self.new (Some found)) }
+    {
+        let byte = *self.chunk[self.start..self.end].first()?;
+        if byte < 128 {
+            return None;
+        }
+        let place = self.place;
+        self.place = place.after_byte(byte);
+        self.start += 1;
+        Some(OtherByte { place, byte })
     }
 
     /// Returns the next non-ASCII byte of those that are held, or passes all of them.

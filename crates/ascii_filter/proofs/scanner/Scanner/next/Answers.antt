@@ -5,6 +5,7 @@ use Rattle.std.specs.Str.{IsAscii}
 use Rattle.ascii_devices.proofs.HistoryLemmas.{Gives-nil, Gives-trans}
 use Rattle.ascii_filter.proofs.ScannerLemmas.{Skips-start, all_ascii, finds, none_held, passes_chunk}
 use Rattle.ascii_filter.proofs.ScannerLemmas.{none_of, scan_fails, trans_end}
+use Rattle.ascii_filter.specs.Places.{Skips}
 use Rattle.ascii_filter.proofs.scanner.Scanner.next.Goals as goal
 
 pub returns-then-self-clause-outcome : goal.returns-then-self-clause-outcome
@@ -29,17 +30,27 @@ chunks-init g c =
         [],
         [],
         Gives-nil g.S.Source c.args.reader.now,
-        Skips-start c.args.self.now undone IsAscii-nil,
+        subst (λ now. Skips c.args.self.now now [] []) (sym c.in_default.ensures)
+            (Skips-start c.args.self.now undone IsAscii-nil),
       ),
     )
 
 pub returns-in-Some-clause-outcome : goal.returns-in-Some-clause-outcome
 returns-in-Some-clause-outcome g c =
+    let undone : c.args.self.now.is_done ≡ false = search rules in (
+      [],
+      Gives-nil g.S.Source c.args.reader.now,
+      finds c.args.self.now c.args.self.now c.first_held.new.self [] [] c.in-Some.other
+          (Skips-start c.args.self.now undone IsAscii-nil) c.in-Some.ensures,
+    )
+
+pub returns-in-Some-next_held-clause-outcome : goal.returns-in-Some-next_held-clause-outcome
+returns-in-Some-next_held-clause-outcome g c =
     let (given, passed, gave, so_far) = c.chunks.invariant.2 in (
       given,
       gave,
-      finds c.args.self.now c.chunks.self c.next_held.new.self given passed c.in-Some.other so_far
-          c.in-Some.ensures,
+      finds c.args.self.now c.chunks.self c.next_held.new.self given passed
+          c.in-Some-next_held.other so_far c.in-Some-next_held.ensures,
     )
 
 pub returns-in-Ok-eq0-clause-outcome : goal.returns-in-Ok-eq0-clause-outcome
@@ -52,7 +63,7 @@ returns-in-Ok-eq0-clause-outcome g c =
           c.chunks.invariant.0 gave gives,
       (
         all_ascii c.args.self.now c.chunks.self c.next_held.new.self given passed more so_far
-            c.in_default.ensures (none_of more (fill.2 ∙ zero)),
+            c.in_default-next_held.ensures (none_of more (fill.2 ∙ zero)),
         λ undone. trans_end g.S.Source c.args.reader.now c.chunks.reader c.fill.new.reader given
             more c.chunks.invariant.0 gave gives (c.in-Ok-eq0.ensures.count.1 (λ is. cc))
             (fill.1 zero),
@@ -72,7 +83,7 @@ chunks-preserved g c =
         Gives-trans g.S.Source c.args.reader.now c.chunks.reader c.fill.new.reader given more
             c.chunks.invariant.0 gave gives,
         passes_chunk c.args.self.now c.chunks.self c.next_held.new.self c.fill.new.self given
-            passed more c.in-Ok.field-0 so_far c.in_default.ensures fill.0 fill.2 fill.3 fill.4
+            passed more c.in-Ok.field-0 so_far c.in_default-next_held.ensures fill.0 fill.2 fill.3 fill.4
             fill.5,
       ),
     )
@@ -85,5 +96,5 @@ returns-in-Err-clause-outcome g c =
       Gives-trans g.S.Source c.args.reader.now c.chunks.reader c.fill.new.reader given more
           c.chunks.invariant.0 gave gives,
       scan_fails c.args.self.now c.chunks.self c.next_held.new.self c.fill.new.self given passed
-          more c.in-Err.fault _ _ so_far c.in_default.ensures fill,
+          more c.in-Err.fault _ _ so_far c.in_default-next_held.ensures fill,
     )
