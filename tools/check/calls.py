@@ -1,5 +1,6 @@
 """Calls of the built programs, as data: what each writes, its status, and its line on standard error."""
 import os
+import resource
 import subprocess
 import unittest
 from collections import namedtuple
@@ -11,6 +12,8 @@ import memory_limits
 TOP = Path(__file__).resolve().parents[2]
 USAGE = b"usage: ascii_show copy|lines|tac|caret|ends [-s] SCRIPT|edit WORD..|json\n"
 ANY = b"(any)"  # of a line on standard error
+OWN = b"abc\n" * 100_000  # the file that a call writes to
+LARGEST = 4_000_000  # the size of a file at which the system stops a call
 # The files that calls name.
 FILES = {"text": b"x\r\ny", "other": b"ab\310c", "high": b"\310", "empty": b"", "long": b"a" * 1_000_000}
 
@@ -24,7 +27,8 @@ class Call(NamedTuple):
     status: int
     output: bytes = b""
     line: bytes = b""
-    to: str = ""  # "full", a device that is full, or "closed", a pipe that nobody reads
+    # "full", a device that is full, "closed", a pipe that nobody reads, or a file: "own", or "both" if it is the input too.
+    to: str = ""
 
 
 Answer = namedtuple("Answer", "status output line")
@@ -80,6 +84,7 @@ HIGH = said("high: the byte at index 0 is not ASCII")
 MISSING = said("none: No such file or directory (os error 2)")
 FOLDER = said("folder: Is a directory (os error 21)")
 FULL = said("(standard output): No space left on device (os error 28)")
+SAME = said("own: input file is output file")
 OPTIONS = said("--count, --max and --quiet are options of check")
 HELP = subprocess.run([TOP / "bin/ascii_filter", "--help"], capture_output=True).stdout
 FILTER = [
@@ -118,6 +123,12 @@ FILTER = [
     Call("a byte that was found, and a pipe that closes", ["check", "other"], b"", 1, b"", b"", "closed"),
     Call("a file that was rejected, and a pipe that closes", ["copy", "high", "long"], b"", 1, b"", HIGH, "closed"),
     Call("a file that is missing, and a pipe that closes", ["copy", "none", "long"], b"", 3, b"", MISSING, "closed"),
+    Call("its own output", ["copy", "own", "text"], b"", 3, OWN + b"x\r\ny", SAME, "own"),
+    Call("its own output by another name", ["lines", "link"], b"", 3, OWN, said("link: input file is output file"), "own"),
+    Call("its own output as standard input", ["json", "-"], b"", 3, OWN, said("(standard input): input file is output file"),
+         "both"),
+    Call("check of its own output", ["check", "own", "other"], b"", 3, OWN + b"other:1:3: byte 0xC8\n", SAME, "own"),
+    Call("check of its own output without a line", ["check", "--quiet", "own"], b"", 0, OWN, b"", "own"),
     Call("an output that is full", ["copy", "text", "none"], b"", 3, b"", FULL, "full"),
 ]
 CALLS = {"ascii_show": SHOW, "ascii_filter": FILTER}
@@ -126,22 +137,29 @@ CALLS = {"ascii_show": SHOW, "ascii_filter": FILTER}
 def answer_of(program, call, folder):
     """Makes a call in a folder that has the files."""
     command = [program, *call.arguments]
-    if call.given is None:
-        command = ["sh", "-c", 'exec "$0" "$@" <&-', *command]
+    redirected = "<&-" if call.given is None else "<own" if call.to == "both" else ""
+    if redirected:
+        command = ["sh", "-c", f'exec "$0" "$@" {redirected}', *command]
+    own = Path(folder) / "own"
+    own.write_bytes(OWN)
     output = subprocess.PIPE
     if call.to == "full":
         output = os.open("/dev/full", os.O_WRONLY)
     elif call.to == "closed":
         reads, output = os.pipe()
         os.close(reads)
+    elif call.to in ("own", "both"):
+        output = os.open(own, os.O_WRONLY | os.O_APPEND)
     streams = {"input": call.given or b"", "stdout": output, "stderr": subprocess.PIPE}
+    limit = lambda: resource.setrlimit(resource.RLIMIT_FSIZE, (LARGEST, LARGEST))
     try:
-        ran = subprocess.run(command, cwd=folder, timeout=60, **streams)
+        ran = subprocess.run(command, cwd=folder, timeout=60, preexec_fn=limit, **streams)
     finally:
         if call.to:
             os.close(output)
     line = ANY if call.line == ANY and ran.stderr else ran.stderr
-    return Answer(ran.returncode, ran.stdout or b"", line)
+    written = own.read_bytes() if call.to in ("own", "both") else ran.stdout or b""
+    return Answer(ran.returncode, written, line)
 
 
 class CallOfProgram(unittest.TestCase):
@@ -164,5 +182,6 @@ def suite(crate, names, folder):
     for name, text in FILES.items():
         (Path(folder) / name).write_bytes(text)
     (Path(folder) / "folder").mkdir()
+    (Path(folder) / "link").symlink_to("own")
     calls = [CallOfProgram(crate, call, folder) for call in CALLS[crate]] + memory_limits.tests(crate)
     return unittest.TestSuite(it for it in calls if not names or it.call.name in names)

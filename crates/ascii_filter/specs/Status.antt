@@ -1,6 +1,6 @@
 -- The statuses of the program, and what it says of an input.
 use Rattle.std.specs.Prelude.{ℕ, ◌≡◌, ◌⊎◌, List, ⊤, None, Some, if◌then◌else◌, ◌==◌}
-use Rattle.std.specs.Prelude.{option_map, unwrap_or}
+use Rattle.std.specs.Prelude.{codes, option_map, unwrap_or}
 use Rattle.std.specs.declared.option.Option.{Option}
 use Rattle.std.specs.declared.result.Result.{Result}
 use Rattle.std.specs.declared.result.Result.TheVariants.{Ok, Err}
@@ -9,7 +9,7 @@ use Rattle.ascii_run.specs.declared.faults.BoundedFault.{BoundedFault}
 use Rattle.ascii_run.specs.declared.faults.BoundedFault.TheVariants as bounded
 use Rattle.ascii_filter.specs.declared.failure.Failure.{Failure}
 use Rattle.ascii_filter.specs.declared.failure.Failure.TheVariants.{NotAscii, TooLong, Memory}
-use Rattle.ascii_filter.specs.declared.failure.Failure.TheVariants.{Input}
+use Rattle.ascii_filter.specs.declared.failure.Failure.TheVariants.{Input, IsOutput}
 use Rattle.ascii_filter.specs.declared.failure.Verdict.{Verdict}
 
 -- the status of a failure: 1 for input that is not ASCII, otherwise 3
@@ -22,6 +22,7 @@ abbrev pub failure_text : Failure → Option (List ℕ)
 failure_text (NotAscii n) = Some (bounded_fault_text (bounded.NotAscii n))
 failure_text TooLong = Some (bounded_fault_text bounded.TooLong)
 failure_text Memory = Some (bounded_fault_text bounded.Memory)
+failure_text IsOutput = Some (codes "input file is output file")
 failure_text other = None
 
 -- the status of a verdict: that of its failure, or else 1 if `check` found a byte

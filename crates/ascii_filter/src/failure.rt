@@ -1,6 +1,6 @@
 //! Why an input is at fault, and the status that this counts.
 
-ghost use Rattle.std.specs.Prelude.{◌≡◌};
+ghost use Rattle.std.specs.Prelude.{◌≡◌, Some};
 ghost use Rattle.ascii_filter.specs.Status.{failure_text, status_of, verdict_status};
 
 use ascii_run::BoundedFault;
@@ -17,6 +17,8 @@ pub enum Failure {
     Memory,
     /// The input could not be opened or read.
     Input(io::Error),
+    /// The input is the file that is written to.
+    IsOutput,
 }
 
 impl Failure {
@@ -26,7 +28,7 @@ impl Failure {
     {
         match self {
             Failure::NotAscii(_) => 1,
-            Failure::TooLong | Failure::Memory | Failure::Input(_) => 3,
+            _ => 3,
         }
     }
 }
@@ -41,6 +43,7 @@ impl fmt::Display for Failure {
             Failure::TooLong => BoundedFault::TooLong.fmt(f),
             Failure::Memory => BoundedFault::Memory.fmt(f),
             Failure::Input(error) => fmt::Display::fmt(&error, f),
+            Failure::IsOutput => f.write_str("input file is output file"),
         }
     }
 }
@@ -55,6 +58,16 @@ pub struct Verdict {
 }
 
 impl Verdict {
+    /// The verdict on an input that is at fault, in which no byte was found.
+    pub fn failed(failure: Failure) -> Verdict
+        ensures { result ≡ record { found = 0; failure = Some failure } }
+    {
+        Verdict {
+            found: 0,
+            failure: Some(failure),
+        }
+    }
+
     /// The status that the program ends with, at least.
     pub fn status(self) -> u8
         ensures { result ≡ verdict_status self }

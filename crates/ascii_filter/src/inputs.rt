@@ -16,6 +16,8 @@ use crate::options::{STANDARD_INPUT, Task};
 use ascii_devices::{Input, Sink};
 use ascii_run::BoundedFault;
 use std::alloc::{AllocError, Global};
+use std::fs::Metadata;
+use std::os::unix::fs::MetadataExt;
 use std::{fs, io};
 
 /// What the program calls a file: its name, or for `-` standard input.
@@ -35,25 +37,56 @@ fn label_of(alloc: Global, name: &str) -> Result<Vec<u8>, AllocError>
     Ok(label)
 }
 
-/// Opens a file, or standard input for `-`, and carries out the task on it.
+/// The device and the number there of a regular file.
+#[derive(Clone, Copy, PartialEq, Eq)]
+pub struct FileId {
+    device: u64,
+    number: u64,
+}
+
+/// Which file this is, if it is a regular file.
+fn id_of(file: io::Result<Metadata>) -> Option<FileId> {
+    let metadata = file.ok()?;
+    if !metadata.is_file() {
+        return None;
+    }
+    Some(FileId {
+        device: metadata.dev(),
+        number: metadata.ino(),
+    })
+}
+
+/// Which file the task writes to, if that is a regular file.
+pub fn output_of(rt: &HostRuntime, task: Task) -> Option<FileId> {
+    if task.is_quiet() {
+        return None;
+    }
+    id_of(fs::metadata(rt, "/dev/stdout"))
+}
+
+/// Opens a file, or standard input for `-`, and carries out the task on it, unless it is the output.
 pub fn run_file<K: Sink>(
     rt: &HostRuntime,
     task: Task,
     name: &str,
+    output: Option<FileId>,
     writer: &mut K,
 ) -> Result<Verdict, AllocError>
     requires { K.failures writer.old < u64.MAX }
 {
     let label = label_of(rt.alloc(), shown_name(name))?;
     if name == "-" {
+        if output.is_some() && id_of(fs::metadata(rt, "/dev/stdin")) == output {
+            return Ok(Verdict::failed(Failure::IsOutput));
+        }
         return Ok(run_input(rt.alloc(), task, &label, rt.reader(), writer));
     }
     match fs::open(rt, name) {
-        Ok(file) => Ok(run_input(rt.alloc(), task, &label, file, writer)),
-        Err(error) => {
-            let failure = Some(Failure::Input(error));
-            Ok(Verdict { found: 0, failure })
+        Ok(file) if output.is_some() && id_of(file.metadata()) == output => {
+            Ok(Verdict::failed(Failure::IsOutput))
         }
+        Ok(file) => Ok(run_input(rt.alloc(), task, &label, file, writer)),
+        Err(error) => Ok(Verdict::failed(Failure::Input(error))),
     }
 }
 

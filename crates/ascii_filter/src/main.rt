@@ -11,7 +11,7 @@ mod scanner;
 use ascii_devices::{Output, Sink};
 use clap::error::ErrorKind;
 use clap::{ArgMatches, Error};
-use inputs::{run_file, shown_name};
+use inputs::{output_of, run_file, shown_name};
 use options::{Task, command, mode_names, options_of, task_of};
 use std::alloc::AllocError;
 use std::env::{Env, FillError};
@@ -42,12 +42,13 @@ fn run_each<K: Sink>(
     files: &[&str],
     writer: &mut K,
 ) -> Result<u8, AllocError> {
+    let output = output_of(rt, task);
     let mut status = 0;
     for &name in files {
         if writer.failures() > 0 {
             break;
         }
-        let verdict = run_file(rt, task, name, writer)?;
+        let verdict = run_file(rt, task, name, output, writer)?;
         status = status.max(verdict.status());
         if let Some(failure) = verdict.failure {
             report(rt, shown_name(name), &failure)?;
