@@ -1,7 +1,9 @@
 """Calls of the built programs, as data: what each writes, its status, and its line on standard error."""
 import os
+import random
 import resource
 import subprocess
+import tempfile
 import unittest
 from collections import namedtuple
 from pathlib import Path
@@ -12,10 +14,13 @@ import memory_limits
 TOP = Path(__file__).resolve().parents[2]
 USAGE = b"usage: ascii_show copy|lines|tac|caret|ends [-s] SCRIPT|edit WORD..|json\n"
 ANY = b"(any)"  # of a line on standard error
+HOSTILE = "a\x1b[31m\nb"  # a name with an escape sequence and a line break
+QUOTED = r"'a'$'\033''[31m'$'\n''b'"
 OWN = b"abc\n" * 100_000  # the file that a call writes to
 LARGEST = 4_000_000  # the size of a file at which the system stops a call
 # The files that calls name.
-FILES = {"text": b"x\r\ny", "other": b"ab\310c", "high": b"\310", "empty": b"", "long": b"a" * 1_000_000}
+FILES = {"text": b"x\r\ny", "other": b"ab\310c", "high": b"\310", "empty": b"", "long": b"a" * 1_000_000,
+         HOSTILE: b"ab\310c", "it's": b"\200"}
 
 
 class Call(NamedTuple):
@@ -85,7 +90,15 @@ MISSING = said("none: No such file or directory (os error 2)")
 FOLDER = said("folder: Is a directory (os error 21)")
 FULL = said("(standard output): No space left on device (os error 28)")
 SAME = said("own: input file is output file")
-OPTIONS = said("--count, --max and --quiet are options of check")
+OPTIONS = said("--count, --max, --null and --quiet are options of check")
+ESCAPED = b"""error: unexpected argument '--?[31m' found
+
+  tip: to pass '--?[31m' as a value, use '-- --?[31m'
+
+Usage: ascii_filter <MODE> [FILE]...
+
+For more information, try '--help'.
+"""
 HELP = subprocess.run([TOP / "bin/ascii_filter", "--help"], capture_output=True).stdout
 FILTER = [
     Call("copy", ["copy"], b"abc", 0, b"abc"),
@@ -111,6 +124,20 @@ FILTER = [
     Call("check --count", ["check", "--count", "text", "other"], b"", 1, b"text:0\nother:1\n"),
     Call("check --max", ["check", "--max", "1"], b"\200\201\n\202", 1, b"(standard input):1:1: byte 0x80\n"),
     Call("check --quiet", ["check", "--quiet"], b"\200\201", 1),
+    Call("short options", ["check", "-c", "-m1", "text", "other"], b"", 1, b"text:0\nother:1\n"),
+    Call("check -q", ["check", "-q"], b"\200\201", 1),
+    Call("check of a hostile name", ["check", HOSTILE], b"", 1, f"{QUOTED}:1:3: byte 0xC8\n".encode()),
+    Call("check -0", ["check", "-0", HOSTILE, "it's"], b"", 1,
+         HOSTILE.encode() + b"\x001:3: byte 0xC8\nit's\x001:1: byte 0x80\n"),
+    Call("check --null --count", ["check", "--null", "--count", "-", HOSTILE], b"a", 1,
+         b"(standard input)\x000\n" + HOSTILE.encode() + b"\x001\n"),
+    Call("a hostile name that is rejected", ["copy", HOSTILE], b"", 1, b"ab", said(f"{QUOTED}: the byte at index 2 is not ASCII")),
+    Call("a hostile name that is missing", ["copy", "no\x7f\r"], b"", 3, b"",
+         said(r"'no'$'\177\r': No such file or directory (os error 2)")),
+    Call("a name with a quote", ["copy", "it's"], b"", 1, b"", said("\"it's\": the byte at index 0 is not ASCII")),
+    Call("a name that is not valid UTF-8", ["copy", b"\310", "text"], b"", 3, b"x\r\ny", said(r"''$'\310': not valid UTF-8")),
+    Call("a hostile word that is no option", ["copy", "--\x1b[31m"], b"", 2, b"", ESCAPED),
+    Call("-0 without check", ["copy", "-0"], b"", 2, b"", OPTIONS),
     Call("an option of check", ["copy", "--quiet"], b"", 2, b"", OPTIONS),
     Call("arguments that are not valid UTF-8", [b"copy\310"], b"", 2, b"", said("an argument is not valid UTF-8")),
     Call("the version", ["--version"], b"", 0, f"ascii_filter {(TOP / 'VERSION').read_text()}".encode()),
@@ -162,6 +189,38 @@ def answer_of(program, call, folder):
     return Answer(ran.returncode, written, line)
 
 
+def names_of_many_bytes():
+    """Names of files that do not exist: each byte alone and between two letters, and short ones of bytes that shells know."""
+    bytes_of = [bytes([code]) for code in range(1, 128) if code != ord("/")]
+    chosen = random.Random(1)
+    short = [b"".join(chosen.choices(bytes_of, k=chosen.randint(2, 8))) for _ in range(2000)]
+    return [b"no" + name for name in bytes_of + short] + [name + b"no" for name in bytes_of + short if name[:1] != b"-"]
+
+
+def is_quoted_alike(name, got, want):
+    """Coreutils 9.1 write two quotes more at the start of a name that has a single quote and ends with an escape."""
+    return got == want or b"'" in name and want == b"''" + got
+
+
+class QuotedNames(unittest.TestCase):
+    """Names in messages, compared with those of GNU coreutils."""
+
+    call = namedtuple("Named", "name")("names as coreutils quote them")
+
+    def runTest(self):
+        if b"GNU coreutils" not in subprocess.run(["cat", "--version"], capture_output=True).stdout:
+            self.skipTest("cat is not that of GNU coreutils")
+        names, program = names_of_many_bytes(), TOP / "crates/ascii_filter/out/ascii_filter"
+        with tempfile.TemporaryDirectory() as folder:
+            run = lambda *words: subprocess.run([*words, "--", *names], cwd=folder, capture_output=True, env={"LC_ALL": "C"})
+            theirs, ours = run("cat").stderr.splitlines(), run(program, "copy").stderr.splitlines()
+        end, longer = b": No such file or directory", b" (os error 2)"
+        want = [line.removeprefix(b"cat: ").removesuffix(end) for line in theirs]
+        got = [line.removeprefix(b"ascii_filter: ").removesuffix(end + longer) for line in ours]
+        self.assertEqual([row for row in zip(names, got, want) if not is_quoted_alike(*row)], [])
+        self.assertEqual((len(got), len(want)), (len(names), len(names)))
+
+
 class CallOfProgram(unittest.TestCase):
     """One call. Its name is that of the call, so that it can be run alone."""
 
@@ -184,4 +243,5 @@ def suite(crate, names, folder):
     (Path(folder) / "folder").mkdir()
     (Path(folder) / "link").symlink_to("own")
     calls = [CallOfProgram(crate, call, folder) for call in CALLS[crate]] + memory_limits.tests(crate)
+    calls += [QuotedNames()] if crate == "ascii_filter" else []
     return unittest.TestSuite(it for it in calls if not names or it.call.name in names)

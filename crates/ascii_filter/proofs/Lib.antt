@@ -1,3 +1,4 @@
 pub mod CheckLemmas
-pub mod ScannerLemmas
 pub mod PlaceLemmas
+pub mod QuotedLemmas
+pub mod ScannerLemmas

@@ -1,4 +1,5 @@
 pub mod Checked
 pub mod Options
 pub mod Places
+pub mod Quoted
 pub mod Status

@@ -19,6 +19,11 @@ abbrev pub IsQuiet : Task → Type 0
 IsQuiet (Filter mode) = ⊥
 IsQuiet (Check check) = check.is_quiet ≡ true
 
+-- the task writes names for machines
+abbrev pub IsNull : Task → Type 0
+IsNull (Filter mode) = ⊥
+IsNull (Check check) = check.is_null ≡ true
+
 -- a flag is as its value says, and not set if it has none
 abbrev pub IsFlagOf : Option (List ℕ) → Bool → Type 0
 IsFlagOf None flag = flag ≡ false
@@ -32,12 +37,14 @@ pub record AreOptionsOf (found : Found) (options : Options) : Type 0 where
       ≡ length (unwrap_or (option_map raw_values (matched_of found (codes "FILE"))) [])
   pub count : IsFlagOf (one_text found (codes "count")) options.is_count
   pub quiet : IsFlagOf (one_text found (codes "quiet")) options.is_quiet
+  pub null : IsFlagOf (one_text found (codes "null")) options.is_null
   pub max : one_text found (codes "max") ≡ None → options.max ≡ None
 
 -- no option of `check` was set
 abbrev pub HasNoOptionOfCheck : Options → Type 0
 HasNoOptionOfCheck options =
-    (options.is_count ≡ false) × (options.is_quiet ≡ false) × (options.max ≡ None)
+    (options.is_count ≡ false) × (options.is_quiet ≡ false) × (options.is_null ≡ false)
+    × (options.max ≡ None)
 
 -- the outcome of the options: the task, or the line that says what is wrong with them
 abbrev pub TaskOutcome : Options → Result Task (Bor (List ℕ)) → Type 0
@@ -46,12 +53,12 @@ TaskOutcome options (Ok (Filter mode)) =
     × (mode ≡ Json → options.files ≤ 1)
 TaskOutcome options (Ok (Check check)) =
     (options.mode.now ≡ codes "check") × (check.is_count ≡ options.is_count)
-    × (check.is_quiet ≡ options.is_quiet)
+    × (check.is_quiet ≡ options.is_quiet) × (check.is_null ≡ options.is_null)
     × (check.most ≡ if options.is_quiet then 1 else unwrap_or options.max (2 ^ 64 - 1))
 TaskOutcome options (Err line) =
     ((line.now ≡ codes "ascii_filter: there is no such mode\n")
     × (options.mode.now ≢ codes "check") × ¬ (IsBoundedName options.mode.now))
-    ⊎ (((line.now ≡ codes "ascii_filter: --count, --max and --quiet are options of check\n")
+    ⊎ (((line.now ≡ codes "ascii_filter: --count, --max, --null and --quiet are options of check\n")
     × IsBoundedName options.mode.now × ¬ (HasNoOptionOfCheck options))
     ⊎ ((line.now ≡ codes "ascii_filter: json takes one input\n")
     × (options.mode.now ≡ bounded_name Json) × HasNoOptionOfCheck options

@@ -9,7 +9,7 @@ use Rattle.ascii_run.specs.declared.faults.BoundedFault.{BoundedFault}
 use Rattle.ascii_run.specs.declared.faults.BoundedFault.TheVariants as bounded
 use Rattle.ascii_filter.specs.declared.failure.Failure.{Failure}
 use Rattle.ascii_filter.specs.declared.failure.Failure.TheVariants.{NotAscii, TooLong, Memory}
-use Rattle.ascii_filter.specs.declared.failure.Failure.TheVariants.{Input, IsOutput}
+use Rattle.ascii_filter.specs.declared.failure.Failure.TheVariants.{Input, IsOutput, NotUtf8}
 use Rattle.ascii_filter.specs.declared.failure.Verdict.{Verdict}
 
 -- the status of a failure: 1 for input that is not ASCII, otherwise 3
@@ -23,6 +23,7 @@ failure_text (NotAscii n) = Some (bounded_fault_text (bounded.NotAscii n))
 failure_text TooLong = Some (bounded_fault_text bounded.TooLong)
 failure_text Memory = Some (bounded_fault_text bounded.Memory)
 failure_text IsOutput = Some (codes "input file is output file")
+failure_text NotUtf8 = Some (codes "not valid UTF-8")
 failure_text other = None
 
 -- the status of a verdict: that of its failure, or else 1 if `check` found a byte

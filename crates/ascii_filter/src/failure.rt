@@ -19,6 +19,8 @@ pub enum Failure {
     Input(io::Error),
     /// The input is the file that is written to.
     IsOutput,
+    /// The name of the input is not valid UTF-8.
+    NotUtf8,
 }
 
 impl Failure {
@@ -44,6 +46,7 @@ impl fmt::Display for Failure {
             Failure::Memory => BoundedFault::Memory.fmt(f),
             Failure::Input(error) => fmt::Display::fmt(&error, f),
             Failure::IsOutput => f.write_str("input file is output file"),
+            Failure::NotUtf8 => f.write_str("not valid UTF-8"),
         }
     }
 }

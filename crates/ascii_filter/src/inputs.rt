@@ -1,6 +1,6 @@
 //! The task on one input: a file, or standard input.
 
-ghost use Rattle.std.specs.Prelude.{◌≡◌, ◌≢◌, ◌+◌, ◌<◌, ℕ, List, ◌∷◌, [], ◌++◌, codes, IfOk};
+ghost use Rattle.std.specs.Prelude.{◌≡◌, ◌+◌, ◌<◌, ℕ, List};
 ghost use Rattle.std.specs.Io.KnownBytes.{Consumes, IsAtEnd};
 ghost use Rattle.std.specs.declared.option.Option.{Option};
 ghost use Rattle.std.specs.declared.result.Result.TheVariants.{Err};
@@ -12,30 +12,14 @@ ghost use Rattle.ascii_filter.specs.declared.answer.Answer.{Answer};
 
 use crate::answer::{Answer, run_task};
 use crate::failure::{Failure, Verdict};
-use crate::options::{STANDARD_INPUT, Task};
+use crate::names::is_text;
+use crate::options::Task;
 use ascii_devices::{Input, Sink};
 use ascii_run::BoundedFault;
-use std::alloc::{AllocError, Global};
+use std::alloc::Global;
 use std::fs::Metadata;
 use std::os::unix::fs::MetadataExt;
 use std::{fs, io};
-
-/// What the program calls a file: its name, or for `-` standard input.
-pub fn shown_name(name: &str) -> &str
-    ensures dash { name.now ≡ codes "-" → result.now ≡ codes "(standard input)" }
-    ensures other { name.now ≢ codes "-" → result.now ≡ name.now }
-{
-    if name == "-" { STANDARD_INPUT } else { name }
-}
-
-/// What comes before each line and number of a file: what the program calls it, and a colon.
-fn label_of(alloc: Global, name: &str) -> Result<Vec<u8>, AllocError>
-    ensures { IfOk result (λ label. label.items ≡ name.now ++ 58 ∷ []) }
-{
-    let mut label = Vec::from_slice(alloc, name.as_bytes())?;
-    label.push(b':')?;
-    Ok(label)
-}
 
 /// The device and the number there of a regular file.
 #[derive(Clone, Copy, PartialEq, Eq)]
@@ -68,25 +52,28 @@ pub fn output_of(rt: &HostRuntime, task: Task) -> Option<FileId> {
 pub fn run_file<K: Sink>(
     rt: &HostRuntime,
     task: Task,
-    name: &str,
+    word: &str,
+    label: &[u8],
     output: Option<FileId>,
     writer: &mut K,
-) -> Result<Verdict, AllocError>
+) -> Verdict
     requires { K.failures writer.old < u64.MAX }
 {
-    let label = label_of(rt.alloc(), shown_name(name))?;
-    if name == "-" {
-        if output.is_some() && id_of(fs::metadata(rt, "/dev/stdin")) == output {
-            return Ok(Verdict::failed(Failure::IsOutput));
-        }
-        return Ok(run_input(rt.alloc(), task, &label, rt.reader(), writer));
+    if !is_text(word) {
+        return Verdict::failed(Failure::NotUtf8);
     }
-    match fs::open(rt, name) {
-        Ok(file) if output.is_some() && id_of(file.metadata()) == output => {
-            Ok(Verdict::failed(Failure::IsOutput))
+    if word == "-" {
+        if output.is_some() && id_of(fs::metadata(rt, "/dev/stdin")) == output {
+            return Verdict::failed(Failure::IsOutput);
         }
-        Ok(file) => Ok(run_input(rt.alloc(), task, &label, file, writer)),
-        Err(error) => Ok(Verdict::failed(Failure::Input(error))),
+        return run_input(rt.alloc(), task, label, rt.reader(), writer);
+    }
+    match fs::open(rt, word) {
+        Ok(file) if output.is_some() && id_of(file.metadata()) == output => {
+            Verdict::failed(Failure::IsOutput)
+        }
+        Ok(file) => run_input(rt.alloc(), task, label, file, writer),
+        Err(error) => Verdict::failed(Failure::Input(error)),
     }
 }
 

@@ -5,18 +5,21 @@ mod answer;
 mod check;
 mod failure;
 mod inputs;
+mod names;
 mod options;
+mod quoted;
 mod scanner;
 
-use ascii_devices::{Output, Sink};
+use ascii_devices::{Output, Sink, zeros};
 use clap::error::ErrorKind;
 use clap::{ArgMatches, Error};
-use inputs::{output_of, run_file, shown_name};
+use inputs::{output_of, run_file};
+use names::{is_text, label_of, make_plain, name_of, shown_name, word_of};
 use options::{Task, command, mode_names, options_of, task_of};
 use std::alloc::AllocError;
 use std::env::{Env, FillError};
 use std::process::ExitCode;
-use std::{env, fmt, io};
+use std::{fmt, io};
 
 /// How many arguments leave less of the stack than a call takes.
 const MANY: usize = 4_000;
@@ -27,10 +30,13 @@ const STACK: usize = 65_536;
 /// How much memory is asked for before the stack grows: enough that the system takes it back when it is freed.
 const PROBE: usize = 262_144;
 
-/// Writes a line to standard error that says what is wrong with an input or the output.
-fn report<D: fmt::Display>(rt: &HostRuntime, name: &str, why: &D) -> Result<(), AllocError> {
-    let line = format!(in rt.alloc(); "ascii_filter: {name}: {why}\n")?;
-    let _ = io::Write::write_all(&mut rt.stderr(), line.as_bytes());
+/// Writes a line to standard error that says what is wrong with an input or the output, in one write.
+fn report<D: fmt::Display>(rt: &HostRuntime, name: &[u8], why: &D) -> Result<(), AllocError> {
+    let mut line = Vec::from_slice(rt.alloc(), b"ascii_filter: ")?;
+    line.extend_from_slice(name)?;
+    let end = format!(in rt.alloc(); ": {why}\n")?;
+    line.extend_from_slice(end.as_bytes())?;
+    let _ = io::Write::write_all(&mut rt.stderr(), &line);
     Ok(())
 }
 
@@ -40,18 +46,22 @@ fn run_each<K: Sink>(
     rt: &HostRuntime,
     task: Task,
     files: &[&str],
+    arguments: &[Vec<u8>],
     writer: &mut K,
 ) -> Result<u8, AllocError> {
     let output = output_of(rt, task);
     let mut status = 0;
-    for &name in files {
+    for &word in files {
         if writer.failures() > 0 {
             break;
         }
-        let verdict = run_file(rt, task, name, output, writer)?;
+        let name = name_of(word, arguments);
+        let shown = shown_name(rt.alloc(), word, name)?;
+        let label = label_of(rt.alloc(), task.is_null(), name, &shown)?;
+        let verdict = run_file(rt, task, word, &label, output, writer);
         status = status.max(verdict.status());
         if let Some(failure) = verdict.failure {
-            report(rt, shown_name(name), &failure)?;
+            report(rt, &shown, &failure)?;
         }
         if verdict.found > 0 && task.is_quiet() {
             break;
@@ -62,12 +72,17 @@ fn run_each<K: Sink>(
 
 /// Carries out the task on each file, and returns the highest status: that of an output that failed is
 /// 3, but one whose pipe is closed counts as nothing.
-fn run_files(rt: &HostRuntime, task: Task, files: &[&str]) -> Result<u8, AllocError> {
+fn run_files(
+    rt: &HostRuntime,
+    task: Task,
+    files: &[&str],
+    arguments: &[Vec<u8>],
+) -> Result<u8, AllocError> {
     let mut writer = Output::new(io::writer(rt));
-    let status = run_each(rt, task, files, &mut writer)?;
+    let status = run_each(rt, task, files, arguments, &mut writer)?;
     match writer.into_error() {
         Some(error) if error.kind() != io::ErrorKind::BrokenPipe => {
-            report(rt, "(standard output)", &error)?;
+            report(rt, b"(standard output)", &error)?;
             Ok(3)
         }
         _ => Ok(status),
@@ -80,29 +95,59 @@ fn refuse(rt: &HostRuntime, line: &str) -> u8 {
     2
 }
 
-/// Prints why the arguments are not a call, the help or the version, and returns the status.
-fn print_error(rt: &HostRuntime, error: &Error) -> u8 {
-    let _ = error.print(rt);
-    if error.use_stderr() { 2 } else { 0 }
+/// Prints the help or the version, or why the arguments are not a call, in plain text; and returns the status.
+fn print_error(rt: &HostRuntime, error: &Error) -> Result<u8, AllocError> {
+    if !error.use_stderr() {
+        let _ = error.print(rt);
+        return Ok(0);
+    }
+    let mut text = format!(in rt.alloc(); "{error}")?.into_bytes();
+    make_plain(&mut text);
+    let _ = io::Write::write_all(&mut rt.stderr(), &text);
+    Ok(2)
 }
 
 /// Runs the arguments that were parsed.
-fn run_matches(rt: &HostRuntime, matches: &ArgMatches<'_>) -> Result<u8, AllocError> {
+fn run_matches(
+    rt: &HostRuntime,
+    matches: &ArgMatches<'_>,
+    arguments: &[Vec<u8>],
+) -> Result<u8, AllocError> {
     let files = matches.get_strs("FILE").unwrap_or_default();
     match task_of(options_of(matches)) {
-        Ok(task) => run_files(rt, task, files),
+        Ok(task) => run_files(rt, task, files, arguments),
         Err(line) => Ok(refuse(rt, line)),
     }
 }
 
 /// Parses the arguments, before any input is read, and runs them.
-fn run_words(rt: &HostRuntime, words: &[String]) -> Result<u8, AllocError> {
+fn run_words(rt: &HostRuntime, words: &[String], arguments: &[Vec<u8>]) -> Result<u8, AllocError> {
     let names = mode_names(rt.alloc())?;
     match command(rt.alloc(), &names)?.try_get_matches_from(words) {
-        Ok(matches) => run_matches(rt, &matches),
+        Ok(matches) => run_matches(rt, &matches, arguments),
         Err(error) if matches!(error.kind(), ErrorKind::OutOfMemory) => Err(AllocError),
-        Err(error) => Ok(print_error(rt, &error)),
+        Err(_) if words.iter().any(|word| !is_text(word)) => {
+            Ok(refuse(rt, "ascii_filter: an argument is not valid UTF-8\n"))
+        }
+        Err(error) => print_error(rt, &error),
     }
+}
+
+/// How many bytes of an argument are asked for first.
+const ROOM: usize = 256;
+
+/// Reads the arguments of the system.
+fn read_arguments(rt: &HostRuntime) -> Result<Vec<Vec<u8>>, AllocError> {
+    let mut room = zeros(rt.alloc(), ROOM)?;
+    let mut arguments = Vec::new(rt.alloc());
+    for _ in 0..u64::MAX {
+        match rt.arg(arguments.len(), &mut room) {
+            Ok(n) => arguments.push(Vec::from_slice(rt.alloc(), &room[..n])?)?,
+            Err(FillError::TooLong) => room = zeros(rt.alloc(), room.len().saturating_mul(2))?,
+            Err(FillError::NotPresent) => break,
+        }
+    }
+    Ok(arguments)
 }
 
 /// Lets the stack grow to what a call takes, or returns an error if there is less memory. The system sets 128 KiB aside
@@ -127,19 +172,12 @@ fn run(rt: &HostRuntime) -> Result<u8, AllocError> {
     if !matches!(rt.arg(MANY, &mut []), Err(FillError::NotPresent)) {
         grow_stack(rt)?;
     }
-    let args = match env::args(rt) {
-        Ok(args) => args,
-        Err(error) if matches!(error.kind(), io::ErrorKind::OutOfMemory) => return Err(AllocError),
-        Err(_) => {
-            let line = "ascii_filter: an argument is not valid UTF-8\n";
-            return Ok(refuse(rt, line));
-        }
-    };
+    let arguments = read_arguments(rt)?;
     let mut words = Vec::new(rt.alloc());
-    for word in args {
-        words.push(word)?;
+    for (index, argument) in arguments.iter().enumerate() {
+        words.push(word_of(rt.alloc(), index, argument)?)?;
     }
-    run_words(rt, &words)
+    run_words(rt, &words, &arguments)
 }
 
 fn main(rt: HostRuntime) -> ExitCode {

@@ -2,7 +2,7 @@
 
 ghost use Rattle.std.specs.Prelude.{◌≡◌, ◌↔◌, IsTrue};
 ghost use Rattle.clap.specs.Words.{found_of};
-ghost use Rattle.ascii_filter.specs.Options.{AreOptionsOf, IsQuiet, TaskOutcome};
+ghost use Rattle.ascii_filter.specs.Options.{AreOptionsOf, IsNull, IsQuiet, TaskOutcome};
 
 use ascii_run::BoundedMode;
 use clap::builder::ValueParser;
@@ -24,6 +24,8 @@ pub struct Check {
     pub is_count: bool,
     /// Whether nothing is written.
     pub is_quiet: bool,
+    /// Whether NUL ends each name, which is not quoted.
+    pub is_null: bool,
 }
 
 /// What is done with each input.
@@ -42,6 +44,13 @@ impl Task {
     {
         matches!(self, Task::Check(Check { is_quiet: true, .. }))
     }
+
+    /// Returns `true` if NUL ends each name, which is not quoted.
+    pub fn is_null(self) -> bool
+        ensures { IsTrue result ↔ IsNull self }
+    {
+        matches!(self, Task::Check(Check { is_null: true, .. }))
+    }
 }
 
 /// What the words of a call name.
@@ -55,6 +64,8 @@ pub struct Options<'a> {
     pub is_count: bool,
     /// Whether `--quiet` is there.
     pub is_quiet: bool,
+    /// Whether `--null` is there.
+    pub is_null: bool,
     /// The number after `--max`.
     pub max: Option<u64>,
 }
@@ -68,6 +79,7 @@ pub fn options_of<'a>(matches: &ArgMatches<'a>) -> Options<'a>
         files: matches.get_strs("FILE").unwrap_or_default().len(),
         is_count: matches.get_flag("count"),
         is_quiet: matches.get_flag("quiet"),
+        is_null: matches.get_flag("null"),
         max: matches.get_one::<u64>("max"),
     }
 }
@@ -79,6 +91,7 @@ pub fn task_of(options: Options<'_>) -> Result<Task, &'static str>
     let Options {
         is_count,
         is_quiet,
+        is_null,
         max,
         ..
     } = options;
@@ -88,13 +101,14 @@ pub fn task_of(options: Options<'_>) -> Result<Task, &'static str>
             most,
             is_count,
             is_quiet,
+            is_null,
         }));
     }
     let Some(mode) = BoundedMode::from_name(options.mode) else {
         return Err("ascii_filter: there is no such mode\n");
     };
-    if is_count || is_quiet || max.is_some() {
-        return Err("ascii_filter: --count, --max and --quiet are options of check\n");
+    if is_count || is_quiet || is_null || max.is_some() {
+        return Err("ascii_filter: --count, --max, --null and --quiet are options of check\n");
     }
     if mode == BoundedMode::Json && options.files > 1 {
         return Err("ascii_filter: json takes one input\n");
@@ -112,6 +126,31 @@ pub fn mode_names(alloc: Global) -> Result<Vec<&'static str>, AllocError> {
     Ok(names)
 }
 
+/// What the help says after the options.
+const AFTER_HELP: &str = "\
+Modes:
+  copy    The text itself
+  lines   The body of each line and LF
+  caret   Each character; a control character other than LF as `^` and its caret letter
+  json    The text as a JSON string; takes one input
+  upper   The text with its letters in upper case
+  lower   The text with its letters in lower case
+  escape  Each byte as `u8::escape_ascii` of Rust writes it; takes any bytes
+  lossy   Each byte, one above 127 as `?`; takes any bytes
+  check   A line for each byte above 127: the file, the line, the column and the byte
+
+Exit status:
+  0  Every input was ASCII, or the mode takes any bytes
+  1  An input has a byte above 127
+  2  The arguments are not a call; nothing was read
+  3  An input could not be read, or is the output; a write failed; or there was no memory
+
+Of several, the status is the highest. A pipe that its reader has closed counts as nothing.
+
+Examples:
+  ascii_filter check -m 1 *.txt     The first byte above 127 of each file
+  ascii_filter lossy old.txt > new  A copy with `?` for each byte above 127";
+
 /// The command line of the program, with these names of modes.
 pub fn command<'a>(alloc: Global, names: &'a [&'a str]) -> Result<Command<'a>, AllocError> {
     let mode = Arg::new(alloc, "MODE")
@@ -124,25 +163,35 @@ pub fn command<'a>(alloc: Global, names: &'a [&'a str]) -> Result<Command<'a>, A
         .default_value("-")
         .help("The files to read, each as an input of its own; `-` is standard input");
     let count = Arg::new(alloc, "count")
+        .short('c')
         .long("count")
         .action(ArgAction::SetTrue)
-        .help("check: write the number of bytes over 127 of each file");
+        .help("check: write the number of bytes above 127 of each file");
     let max = Arg::new(alloc, "max")
+        .short('m')
         .long("max")
         .value_name("N")
         .action(ArgAction::Set)
         .value_parser(ValueParser::unsigned(1, u64::MAX))
         .help("check: stop after N of them in a file");
     let quiet = Arg::new(alloc, "quiet")
+        .short('q')
         .long("quiet")
         .action(ArgAction::SetTrue)
         .help("check: write nothing, and stop at the first of them");
+    let null = Arg::new(alloc, "null")
+        .short('0')
+        .long("null")
+        .action(ArgAction::SetTrue)
+        .help("check: write NUL in place of the colon after each name, and quote no name");
     Command::new(alloc, "ascii_filter")
         .version("0.1.0")
         .about("Writes ASCII inputs of any length in one of several modes")
+        .after_help(AFTER_HELP)
         .arg(mode)?
         .arg(files)?
         .arg(count)?
         .arg(max)?
-        .arg(quiet)
+        .arg(quiet)?
+        .arg(null)
 }
