@@ -1,6 +1,7 @@
 """Calls of the programs with little memory, by a limit on the address space. Such a call reports that there is none
 and writes nothing; or it writes its whole output; or it cannot start, and the loader or a signal ends it. The least
-limits at which a program starts, and at which it writes its output, are searched."""
+limits at which a program starts, and at which it writes its output, are searched. With little stack, a call writes its
+whole output, or a signal ends it."""
 import os
 import resource
 import subprocess
@@ -107,5 +108,38 @@ class Limits(unittest.TestCase):
         return wrong
 
 
+class Stacks(unittest.TestCase):
+    """The runs of one mode under limits on the stack, in KiB; `ENOUGH` is enough for each."""
+
+    ENOUGH = 64
+
+    def __init__(self, crate, arguments):
+        super().__init__()
+        self.call = Limited(f"{' '.join(arguments)} with little stack", arguments, [])
+        self.program = str(CRATES / crate / "out" / crate)
+
+    def limited(self, kib):
+        limit = lambda: resource.setrlimit(resource.RLIMIT_STACK, (kib * 1024, kib * 1024))
+        command = [self.program, *self.call.arguments]
+        try:
+            ran = subprocess.run(command, input=INPUT, capture_output=True, timeout=60, env={}, preexec_fn=limit)
+        except OSError:
+            return 126, b""
+        return ran.returncode, ran.stdout
+
+    def runTest(self):
+        whole = self.limited(8192)
+        self.assertEqual(whole[0], 0)
+        runs = {kib: self.limited(kib) for kib in range(4, 2 * self.ENOUGH, 4)}
+        wrong = {kib: run for kib, run in runs.items() if run != whole and (run[0] == 0 or kib >= self.ENOUGH)}
+        self.assertEqual(wrong, {})
+
+
+STACKS = {
+    "ascii_show": [["copy"], ["tac"], ["ends", "-s", "FBBF"], ["edit", "i1:def", "r0", "u"], ["json"]],
+    "ascii_filter": [["copy"], ["lines"], ["caret"], ["json"], ["check", "-c"]],
+}
+
+
 def tests(crate):
-    return [Limits(crate, call) for call in CALLS[crate]]
+    return [Limits(crate, call) for call in CALLS[crate]] + [Stacks(crate, words) for words in STACKS[crate]]

@@ -23,7 +23,7 @@ from owners import MAIN, by_name, owners
 from reference import Reference
 from sources import CRATES, read
 
-FIRST = ["README.md", "docs/START.md", "docs/LINES.md", "docs/PROTOCOLS.md", "docs/MODEL.md", "docs/PROVED.md"]
+FIRST = ["README.md", "docs/START.md", "docs/LINES.md", "docs/PROTOCOLS.md", "docs/PROGRAMS.md", "docs/MODEL.md", "docs/PROVED.md"]
 OTHERS = ["CONTRIBUTING.md", "CHANGELOG.md", "bench/README.md", "tools/mutants/README.md", "tools/mutants/edits/README.md"]
 EXAMPLES = ["example_host", "example_keys", "example_lines", "example_register", "example_resp", "example_smtp"]
 # What a reader of the front page may want, and where it is.
