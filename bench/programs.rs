@@ -3,8 +3,9 @@
 //! the peak.
 //! usage: programs ROUNDS BYTES FOLDER SHOW FILTER BY_CRATE [cat] [tac] [iconv] [jq] [tr] [grep]
 //!
-//! Lines that begin with `size` are of texts of other lengths, with lines of 60 bytes, each measured three times; the last
-//! line is `ascii_filter copy` from a pipe through which 80 times BYTES go.
+//! Lines that begin with `size` are of texts of other lengths, with lines of 60 bytes, each measured three times; then
+//! `ascii_filter check` over Cyrillic text, of which it names nearly each byte; the last line is `ascii_filter copy` from a
+//! pipe through which 80 times BYTES go.
 //!
 //! The memory of a program that is started counts from what its starter had, so this one goes through texts
 //! and outputs by small parts.
@@ -238,6 +239,41 @@ fn measure_sizes(bytes: usize, folder: &str, filter: &str, tools: &[String]) {
     std::fs::remove_file(&text).expect("the text can be removed");
 }
 
+/// A text of lines of Cyrillic letters: a space for one character in eight, and a LF for one in 64.
+fn write_cyrillic(path: &str, bytes: usize) -> std::io::Result<()> {
+    let mut numbers = texts::Numbers::new(64);
+    let mut file = BufWriter::new(File::create(path)?);
+    let mut left = bytes;
+    while left > 1 {
+        let character = match numbers.under(64) {
+            0 => '\n',
+            1..=8 => ' ',
+            _ => char::from_u32(0x430 + numbers.under(32) as u32).expect("a letter"),
+        };
+        write!(file, "{character}")?;
+        left -= character.len_utf8().min(left);
+    }
+    file.flush()
+}
+
+/// Measures `check` over a text of which nearly each byte is named. It ends with status 1, as is expected here.
+fn measure_named(bytes: usize, folder: &str, filter: &str) {
+    let size = bytes / 2;
+    eprintln!("ascii_filter check over {} MiB of Cyrillic text", size >> 20);
+    let text = format!("{folder}/cyrillic");
+    write_cyrillic(&text, size).expect("the folder can be written");
+    let command = format!("'{filter}' check || :");
+    let name = "ascii_filter check, Cyrillic text";
+    let mut program = Program::new("check", name, &["sh", "-c", &command]);
+    for _ in 0..3 {
+        let (milliseconds, peak) = program.run(&text, Stdio::null());
+        program.best = program.best.min(milliseconds);
+        program.peak = program.peak.max(peak);
+    }
+    println!("size\t{size}\t{name}\t{:.1}\t{}", program.best, program.peak);
+    std::fs::remove_file(&text).expect("the text can be removed");
+}
+
 /// Passes many bytes through a pipe to `ascii_filter copy`.
 fn measure_pipe(bytes: usize, filter: &str) {
     eprintln!("ascii_filter over {} MiB from a pipe", bytes >> 20);
@@ -289,6 +325,7 @@ fn main() {
     }
     let bytes = bytes.parse().expect("a number of bytes");
     measure_sizes(bytes, folder, filter, tools);
+    measure_named(bytes, folder, filter);
     measure_pipe(80 * bytes, filter);
     for name in ["output_of_ours", "output_of_peer"] {
         std::fs::remove_file(format!("{folder}/{name}")).expect("the outputs can be removed");
