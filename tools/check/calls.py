@@ -114,6 +114,7 @@ FILTER = [
     Call("a byte above 127", ["copy"], b"ab\310c", 1, b"ab", NOT_ASCII[0]),
     Call("files", ["upper", "text", "-", "empty", "text"], b"abc", 0, b"X\r\nYABCX\r\nY"),
     Call("a file that is not ASCII, on a line of its own", ["lines", "other", "text"], b"", 1, b"ab\nx\ny\n", NOT_ASCII[1]),
+    Call("two files with open lines", ["lines", "text", "text"], b"", 0, b"x\ny\nx\ny\n"),
     Call("a file that is missing", ["lines", "none", "text"], b"", 3, b"x\ny\n", MISSING),
     Call("a folder", ["copy", "folder", "text"], b"", 3, b"x\r\ny", FOLDER),
     Call("two inputs as json", ["json", "text", "text"], b"", 2, b"", b"ascii_filter: json takes one input\n"),

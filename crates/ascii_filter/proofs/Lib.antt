@@ -2,3 +2,4 @@ pub mod CheckLemmas
 pub mod PlaceLemmas
 pub mod QuotedLemmas
 pub mod ScannerLemmas
+pub mod VisitLemmas

@@ -19,7 +19,8 @@ use Rattle.ascii_filter.specs.declared.scanner.OtherByte.{OtherByte}
 use Rattle.ascii_filter.specs.declared.scanner.Place.{Place}
 use Rattle.ascii_run.specs.declared.faults.BoundedFault.{BoundedFault}
 use Rattle.ascii_run.specs.declared.faults.BoundedFault.TheVariants as fault
-use Rattle.ascii_filter.specs.Places.{FillOutcome, FindsNext, HeldNext, ScanOutcome, ScanState, Skips}
+use Rattle.ascii_filter.specs.Places.{FillOutcome, FindsNext, HeldNext, ScanOutcome, ScanState}
+use Rattle.ascii_filter.specs.Places.{Skips}
 use Rattle.ascii_filter.specs.Places.{place_after, place_after_byte}
 
 -- ---- the bytes that are held

@@ -1,5 +1,6 @@
 -- What a task comes to at an input: what was written of which bytes, and why it stopped.
-use Rattle.std.specs.Prelude.{◌≡◌, ◌≢◌, ◌⊎◌, ℕ, ◌+◌, ◌-◌, ◌<◌, ◌≤◌, ◌^◌, ◌/◌, ◌%◌, List, [], ◌∷◌, ◌++◌, ⊤}
+use Rattle.std.specs.Prelude.{◌≡◌, ◌≢◌, ◌⊎◌, ℕ, ◌+◌, ◌-◌, ◌<◌, ◌≤◌, ◌^◌, ◌/◌, ◌%◌, List, [], ◌∷◌}
+use Rattle.std.specs.Prelude.{◌++◌, ⊤}
 use Rattle.std.specs.Prelude.{◌||◌, if◌then◌else◌, nat_lt, codes, decimal, length}
 use Rattle.std.specs.List.{flat_map}
 use Rattle.std.specs.declared.result.Result.{Result}
@@ -25,14 +26,14 @@ place_text other = decimal other.place.line ++ (codes ":"
     ++ (decimal other.place.column ++ (codes ": byte 0x"
     ++ upper_hex (other.byte / 16) ∷ upper_hex (other.byte % 16) ∷ 10 ∷ [])))
 
--- what `check` writes of a byte that it finds, unless it counts or is quiet: the label of its input,
--- and what is said of it
+-- what `check` writes of a byte that it finds, unless it counts or is quiet: the label of its
+-- input, and what is said of it
 abbrev pub shown_place : Check → List ℕ → OtherByte → List ℕ
 shown_place check label other =
     if check.is_count || check.is_quiet then [] else label ++ place_text other
 
--- what `check` writes at the end: the label and the number of bytes found, if it counts, is not quiet
--- and has not failed
+-- what `check` writes at the end: the label and the number of bytes found, if it counts, is not
+-- quiet and has not failed
 abbrev pub shown_count : Check → List ℕ → ℕ → Result (Unit {0}) BoundedFault → List ℕ
 shown_count check label found (Ok _) = if check.is_quiet then [] else
     (if check.is_count then label ++ (decimal found ++ codes "\n") else [])
@@ -51,8 +52,8 @@ StopsAt (Err Memory) check found given others at_end = given ≡ []
 StopsAt (Err Write) check found given others at_end = ⊤
 StopsAt (Err other) check found given others at_end = ⊥
 
--- `check` looked at `text`, the first of the bytes that were given, and found its non-ASCII bytes, at
--- most as many as were asked for
+-- `check` looked at `text`, the first of the bytes that were given, and found its non-ASCII bytes,
+-- at most as many as were asked for
 pub record LooksAt (check : Check) (answer : Answer) (given : List ℕ) (at_end : Type 0)
     (text : List ℕ) : Type 0 where
   pub others : List ℕ
@@ -74,8 +75,8 @@ IsWritten answer output took was now =
     ((took ≡ output) × (now ≡ was) × (answer.outcome ≢ Err Write))
     ⊎ ((others : List ℕ) × (took ++ others ≡ output) × (now ≡ was + 1))
 
--- the answer of a task to an input with this label, by the bytes that the reader gave, whether it is
--- at its end, the bytes that the writer took, and the writer's counts of failures before and after.
+-- the answer of a task to an input with this label, by the bytes that the reader gave, whether it
+-- is at its end, the bytes that the writer took, and the writer's counts of failures before and after.
 -- A mode: it found nothing, and its outcome is that of a run in bounded memory. `check`: its output
 -- was written, or a prefix of it.
 abbrev pub IsAnswer : Task → List ℕ → Answer → List ℕ → Type 0 → List ℕ → ℕ → ℕ → Type 0

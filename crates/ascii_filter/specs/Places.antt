@@ -37,8 +37,8 @@ start = record { line = 1; column = 1 }
 abbrev pub others_of : List ℕ → List OtherByte
 others_of = others_from start
 
--- a scanner: the place of the next byte, the bytes that it has read and not passed, how many more it
--- may read, and whether it found the end
+-- a scanner: the place of the next byte, the bytes that it has read and not passed, how many more
+-- it may read, and whether it found the end
 pub record ScanState : Type 0 where
   pub place : Place
   pub held : List ℕ

@@ -6,8 +6,8 @@ use Rattle.std.specs.List.{All}
 use Rattle.ascii.specs.Class.{IsPrintable}
 
 -- where a shell is in a word: outside quotes, after a backslash there, after `$` there, in single
--- quotes, in double quotes, in `$'..'`, after a backslash there, and after one or two octal digits of
--- an escape with their value
+-- quotes, in double quotes, in `$'..'`, after a backslash there, and after one or two octal digits
+-- of an escape with their value
 pub data Reading : Type 0 where
   bare : Reading
   after_backslash : Reading
@@ -19,7 +19,7 @@ pub data Reading : Type 0 where
   one_digit : ℕ → Reading
   two_digits : ℕ → Reading
 
--- where it is after one more byte: 34 is `"`, 36 is `$`, 39 is `'`, 92 is the backslash, and 56 is `8`
+-- where it is after one more byte: 34 is `"`, 36 is `$`, 39 is `'`, 92 is the backslash, 56 is `8`
 abbrev pub next_reading : Reading → ℕ → Reading
 next_reading bare c =
     if c == 39 then single else if c == 34 then double else if c == 92 then after_backslash
@@ -39,7 +39,7 @@ letter_value c =
     if c == 97 then 7 else if c == 98 then 8 else if c == 116 then 9 else if c == 110 then 10
     else if c == 118 then 11 else if c == 102 then 12 else if c == 114 then 13 else c
 
--- the bytes of the word that this byte gives: itself, unless it is part of the quotes or of an escape
+-- the bytes of the word that this byte gives: itself, unless it is part of quotes or of an escape
 abbrev pub bytes_given : Reading → ℕ → List ℕ
 bytes_given bare c =
     if c == 39 || (c == 34 || (c == 92 || c == 36)) then [] else c ∷ []

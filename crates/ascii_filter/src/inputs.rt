@@ -7,7 +7,7 @@ ghost use Rattle.std.specs.declared.result.Result.TheVariants.{Err};
 ghost use Rattle.ascii_devices.specs.States.{Takes};
 ghost use Rattle.ascii_devices.specs.Wrapped.{input_failures};
 ghost use Rattle.ascii_filter.specs.Checked.{IsAnswer};
-ghost use Rattle.ascii_filter.specs.Status.{IsFailureOf};
+ghost use Rattle.ascii_filter.specs.Status.{IsFailureOf, IsVisit};
 ghost use Rattle.ascii_filter.specs.declared.answer.Answer.{Answer};
 
 use crate::answer::{Answer, run_task};
@@ -58,6 +58,8 @@ pub fn run_file<K: Sink>(
     writer: &mut K,
 ) -> Verdict
     requires { K.failures writer.old < u64.MAX }
+    ensures { (took : List ℕ) × Takes K.Sink writer.old writer.new took
+        × IsVisit task label.now took (K.failures writer.old) (K.failures writer.new) result }
 {
     if !is_text(word) {
         return Verdict::failed(Failure::NotUtf8);

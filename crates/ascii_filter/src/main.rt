@@ -1,6 +1,9 @@
 //! `ascii_filter MODE [FILE..]`: files or standard input of any length, in one of several modes, to standard output.
 #![tactic(auto)]
 
+ghost use Rattle.std.specs.Prelude.{IfOk};
+ghost use Rattle.ascii_filter.specs.Status.{Visits};
+
 mod answer;
 mod check;
 mod failure;
@@ -48,12 +51,14 @@ fn run_each<K: Sink>(
     files: &[&str],
     arguments: &[Vec<u8>],
     writer: &mut K,
-) -> Result<u8, AllocError> {
+) -> Result<u8, AllocError>
+    ensures { IfOk result (Visits K.Sink task writer.old writer.new) }
+{
     let output = output_of(rt, task);
     let mut status = 0;
     for &word in files {
         if writer.failures() > 0 {
-            break;
+            return Ok(status);
         }
         let name = name_of(word, arguments);
         let shown = shown_name(rt.alloc(), word, name)?;
@@ -64,7 +69,7 @@ fn run_each<K: Sink>(
             report(rt, &shown, &failure)?;
         }
         if verdict.found > 0 && task.is_quiet() {
-            break;
+            return Ok(status);
         }
     }
     Ok(status)

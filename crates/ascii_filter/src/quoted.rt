@@ -1,12 +1,14 @@
 //! Names in printable ASCII, quoted so that a shell reads them back.
 
-ghost use Rattle.std.specs.Prelude.{◌≡◌, ◌++◌, ⊤, [], IfOk, IsTrue, MatchOption, codes, if◌then◌else◌};
+ghost use Rattle.std.specs.Prelude.{◌≡◌, ◌++◌, ⊤, [], IfOk, IsTrue, MatchOption, codes};
+ghost use Rattle.std.specs.Prelude.{if◌then◌else◌};
 ghost use Rattle.std.specs.Int.{IsInRange};
 ghost use Rattle.std.specs.List.{All};
 ghost use Rattle.std.specs.Result.{OnOk};
 ghost use Rattle.std.proofs.Common.{rules};
 ghost use Rattle.ascii.specs.Class.{IsPrintable};
-ghost use Rattle.ascii_filter.specs.Quoted.{Adds, IsBare, IsDoubled, Reads, letter_value, reading_of};
+ghost use Rattle.ascii_filter.specs.Quoted.{Adds, IsBare, IsDoubled, Reads, letter_value};
+ghost use Rattle.ascii_filter.specs.Quoted.{reading_of};
 ghost use Rattle.ascii_filter.specs.Quoted.{ansi};
 ghost use Rattle.ascii_filter.specs.declared.quoted.TheConstants.{BARE, DOUBLED};
 
@@ -191,7 +193,8 @@ fn put_escape<A: Allocator>(quoted: &mut Vec<u8, A>, byte: u8) -> Result<(), All
 
 /// The letter that C has for a control character.
 fn letter_of(byte: u8) -> Option<u8>
-    ensures { MatchOption result ⊤ (λ letter. IsInRange 97 122 letter × (letter_value letter ≡ byte)) }
+    ensures { MatchOption result ⊤
+        (λ letter. IsInRange 97 122 letter × (letter_value letter ≡ byte)) }
 {
     match byte {
         0x07 => Some(b'a'),

@@ -2,7 +2,8 @@ use Rattle.std.proofs.Common.{◌+◌, [], ◌++◌, arith, ap, ◌∙◌, inr, 
 use Rattle.std.specs.Io.KnownBytes.{IsAtEnd}
 use Rattle.std.specs.List.{flat_map}
 use Rattle.std.specs.declared.result.Result.TheVariants.{Err, Ok}
-use Rattle.ascii_devices.proofs.BufferedLemmas.{AppendsBytes-is, AppendsBytes-nil, AppendsBytes-trans}
+use Rattle.ascii_devices.proofs.BufferedLemmas.{AppendsBytes-is, AppendsBytes-nil}
+use Rattle.ascii_devices.proofs.BufferedLemmas.{AppendsBytes-trans}
 use Rattle.ascii_devices.proofs.BufferedLemmas.{MayFail-still}
 use Rattle.ascii_devices.proofs.HistoryLemmas.{Gives-nil, Gives-trans}
 use Rattle.ascii_run.specs.declared.faults.BoundedFault.TheVariants.{Write}

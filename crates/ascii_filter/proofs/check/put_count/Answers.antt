@@ -1,6 +1,7 @@
 use Rattle.std.proofs.Common.{◌≡◌, rules, true, false, [], ◌++◌, ap, ◌∙◌, sym, if◌then◌else◌}
 use Rattle.std.specs.Prelude.{codes, decimal}
-use Rattle.ascii_devices.proofs.BufferedLemmas.{AppendsBytes-is, AppendsBytes-nil, AppendsBytes-trans}
+use Rattle.ascii_devices.proofs.BufferedLemmas.{AppendsBytes-is, AppendsBytes-nil}
+use Rattle.ascii_devices.proofs.BufferedLemmas.{AppendsBytes-trans}
 use Rattle.ascii_filter.specs.Checked.{shown_count}
 use Rattle.ascii_filter.proofs.check.put_count.Goals as goal
 

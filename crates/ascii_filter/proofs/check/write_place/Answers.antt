@@ -40,7 +40,8 @@ returns-clause-text c =
     let end : drop 52 (set (set c.args.room.now 61 c.hex_digit.result) 62 c.hex_digit-2.result)
     ≡ codes ": byte 0x" ++ c.hex_digit.result ∷ c.hex_digit-2.result ∷ 10 ∷ [] =
     ap (λ all. drop 52 (set (set all 61 c.hex_digit.result) 62 c.hex_digit-2.result)) c.requires in
-    let hex : drop 52 (set (set c.args.room.now 61 c.hex_digit.result) 62 c.hex_digit-2.result) ≡ _ =
+    let hex : drop 52 (set (set c.args.room.now 61 c.hex_digit.result) 62 c.hex_digit-2.result)
+    ≡ _ =
     end ∙ (λ k. codes ": byte 0x" ++ c.hex_digit.ensures k ∷ c.hex_digit-2.ensures k ∷ 10 ∷ []) in
     c.write_digits.ensures.written
     ∙ ap (λ xs. decimal c.args.line ++ xs) (drop-set room (start - 1) 58 inside

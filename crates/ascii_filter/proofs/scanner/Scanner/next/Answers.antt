@@ -3,7 +3,8 @@ use Rattle.std.proofs.lemmas.Bool.{false≢true}
 use Rattle.std.proofs.lemmas.Str.Ascii.{IsAscii-nil}
 use Rattle.std.specs.Str.{IsAscii}
 use Rattle.ascii_devices.proofs.HistoryLemmas.{Gives-nil, Gives-trans}
-use Rattle.ascii_filter.proofs.ScannerLemmas.{Skips-start, all_ascii, finds, none_held, passes_chunk}
+use Rattle.ascii_filter.proofs.ScannerLemmas.{Skips-start, all_ascii, finds, none_held}
+use Rattle.ascii_filter.proofs.ScannerLemmas.{passes_chunk}
 use Rattle.ascii_filter.proofs.ScannerLemmas.{none_of, scan_fails, trans_end}
 use Rattle.ascii_filter.specs.Places.{Skips}
 use Rattle.ascii_filter.proofs.scanner.Scanner.next.Goals as goal
@@ -83,8 +84,8 @@ chunks-preserved g c =
         Gives-trans g.S.Source c.args.reader.now c.chunks.reader c.fill.new.reader given more
             c.chunks.invariant.0 gave gives,
         passes_chunk c.args.self.now c.chunks.self c.next_held.new.self c.fill.new.self given
-            passed more c.in-Ok.field-0 so_far c.in_default-next_held.ensures fill.0 fill.2 fill.3 fill.4
-            fill.5,
+            passed more c.in-Ok.field-0 so_far c.in_default-next_held.ensures fill.0 fill.2 fill.3
+            fill.4 fill.5,
       ),
     )
 
