@@ -21,7 +21,7 @@ except ImportError:
 FOLDER = Path(__file__).resolve().parent / "site"
 NAME = "ascii for Rattle"
 # The page that says how a contract is read.
-CONTRACTS = "docs-CONTRACTS.html" if (TOP / "docs/CONTRACTS.md").is_file() else "docs-MODEL.html"
+CONTRACTS = "docs-CONTRACTS.html"
 EXTENSIONS = ["tables", "fenced_code", "toc"]
 
 
@@ -156,7 +156,7 @@ def meanings_html(texts, lines, bounds=""):
 def frame(title, body, side="", kind=""):
     """A whole page."""
     links = [("docs-START.html", "Start"), ("docs-LINES.html", "Lines"), ("docs-PROTOCOLS.html", "Protocols"),
-             (CONTRACTS, "Contracts"), ("cookbook.module.html", "Recipes"), ("docs-PROVED.html", "Proved"),
+             (CONTRACTS, "Contracts"), ("docs-RECIPES.html", "Recipes"), ("docs-PROVED.html", "Proved"),
              ("errors.html", "Errors"), ("all.html", "All names")]
     nav = "".join(f'<a href="{url}">{text}</a>' for url, text in links)
     aside = f'<aside aria-label="On this page">{side}</aside>' if side else ""

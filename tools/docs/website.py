@@ -23,21 +23,22 @@ from owners import MAIN, by_name, owners
 from reference import Reference
 from sources import CRATES, read
 
-FIRST = ["README.md", "docs/START.md", "docs/LINES.md", "docs/PROTOCOLS.md", "docs/PROGRAMS.md", "docs/MODEL.md", "docs/PROVED.md"]
+FIRST = ["README.md", "docs/START.md", "docs/CONTRACTS.md", "docs/LINES.md", "docs/PROTOCOLS.md", "docs/RECIPES.md", "docs/PROGRAMS.md",
+         "docs/PORTING.md", "docs/PROVED.md", "docs/EVIDENCE.md", "docs/TRUST.md", "docs/MODEL.md", "SECURITY.md"]
 OTHERS = ["CONTRIBUTING.md", "CHANGELOG.md", "bench/README.md", "tools/mutants/README.md", "tools/mutants/edits/README.md"]
 EXAMPLES = ["example_host", "example_keys", "example_lines", "example_register", "example_resp", "example_smtp"]
 # What a reader of the front page may want, and where it is.
 WAYS = [
-    ("docs-START.html", "Start", "from an empty folder to a program that runs and is proved"),
+    ("docs-START.html", "Start", "a program that runs within a minute, and its proof"),
     ("docs-LINES.html", "Lines", "reading the lines of an input in bounded memory"),
     ("docs-PROTOCOLS.html", "Protocols", "a server over lines, with its theorem"),
     (markup.CONTRACTS, "Contracts", "how a contract is read, and the definitions that contracts use"),
-    ("cookbook.module.html", "Recipes", "headers, settings, tables, host names, wrapped text"),
+    ("docs-RECIPES.html", "Recipes", "headers, settings, tables, host names, wrapped text"),
     ("examples.html", "Examples", "whole programs, with their sources"),
     ("ascii.classes.module.html", "A class of characters of your own", "for searches, trims and words"),
     ("errors.html", "Errors", "each error, and the calls that return it"),
-    ("docs-PROVED.html", "Proved", "what is proved, what is tested, and what is neither"),
-    ("docs-DIFFERENCES.html", "Differences", "from the Rust crate `ascii`"),
+    ("docs-PROVED.html", "Proved", "ten claims, each with what it does not say; what is tested, and what is assumed"),
+    ("docs-PORTING.html", "Porting", "from the Rust crate `ascii`: old and new code side by side"),
 ]
 
 
