@@ -2,7 +2,7 @@
 
 A page is followed block by block: a block that names a file is written there, a block of `sh` is executed, and a block of
 `text` is compared with what the last command printed. The commands that prove are left out, or done if they are asked for. A
-`console` block of the README is executed in a clone of the repository."""
+`console` block of the README is executed in a clone of the repository. The rows of PORTING are compiled, unproved."""
 import os
 import re
 import shutil
@@ -16,6 +16,7 @@ BLOCK = re.compile(r"^```(\w+)\n(.*?)^```$", re.MULTILINE | re.DOTALL)
 NAMED = re.compile(r"(?://|#|--) (\S+)\n")
 PROVES = re.compile(r"\brt (check|test|run)\b")
 FOLLOWED = ["README.md", "docs/START.md", "docs/PROTOCOLS.md"]
+COMPILED = "docs/PORTING.md"
 
 
 class Wrong(NamedTuple):
@@ -143,3 +144,45 @@ def rejected(wrong):
     faults = [f"{page}: the check does not print: {line}" for page, line in quotes if line not in lines]
     silent = [page for page in wrong.pages if page not in {it for it, _ in quotes}]
     return faults + [f"{page}: no line of the check's answer is quoted" for page in silent]
+
+
+# What the cells of PORTING name, with their types.
+NAMES = {
+    "alloc": "Global", "view": "AsciiStr<'_>", "other": "AsciiStr<'_>", "part": "mut AsciiStrMut<'_>", "string": "mut AsciiString",
+    "boxed": "BoxedAsciiStr", "ch": "AsciiChar", "source": "&[u8]", "mutable": "&mut [u8]", "bytes": "Vec<u8>", "s": "&str",
+    "text": "String", "chars": "&[AsciiChar]",
+}
+USES = """#![tactic(auto)]
+
+use ascii::{AsciiChar, AsciiRange, AsciiStr, AsciiStrMut, AsciiString, BoxedAsciiStr, ToAsciiChar, bytes, caret_encode, string, text, vec};
+use std::alloc::Global;
+use std::io;
+"""
+
+
+def row_function(number, code):
+    """A function that has the code of a row in its body, and takes what the code names."""
+    names = [it for it in NAMES if re.search(rf"(?<![\w:.\"]){it}(?!\w|::|\")", code)]
+    taken = [f"{'mut ' * NAMES[it].startswith('mut ')}{it}: {NAMES[it].removeprefix('mut ')}" for it in names]
+    body = code if code.startswith("for ") else f"let _ = {code.removesuffix('?')};"
+    return f"\nfn row_{number}({', '.join(taken)}) {{\n    {body}\n}}\n"
+
+
+def compiled():
+    """Compiles the column *Here* of PORTING, unproved. Returns the faults."""
+    rows = re.findall(r"^\| .*? \| `([^`]*)` \|", (TOP / COMPILED).read_text(encoding="utf-8"), re.MULTILINE)
+    program = USES + "".join(row_function(number, code) for number, code in enumerate(rows))
+    program += '\nfn main(rt: HostRuntime) -> io::Result<()> {\n    println!(rt; "compiled")\n}\n'
+    with tempfile.TemporaryDirectory() as scratch:
+        top, crate = Path(scratch), Path(scratch) / "crates/rows"
+        for name in ("ascii_base", "ascii"):
+            shutil.copytree(TOP / "crates" / name, top / "crates" / name, ignore=shutil.ignore_patterns("out", "must-fail"))
+        (crate / "src").mkdir(parents=True)
+        (crate / "src/main.rt").write_text(program, encoding="utf-8")
+        lines = [line for line in (TOP / "crates.txt").read_text().splitlines() if re.match(r"(ascii|ascii_base):", line)]
+        (top / "crates.txt").write_text("\n".join([*lines, "rows: ascii"]) + "\n")
+        shutil.copy(TOP / "HANDLES", top / "HANDLES")
+        status, printed, said = run(["rt", "try"], crate)
+    if printed == "compiled\n" and rows:
+        return []
+    return [f"{COMPILED}: status {status}\n{said[-3000:]}"]

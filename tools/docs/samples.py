@@ -1,6 +1,7 @@
 """Compares the samples of the pages with the sources.
 
-Each block of Rust or antt of README.md, docs/CONTRACTS.md, docs/MODEL.md, docs/LINES.md, docs/START.md, docs/PROTOCOLS.md and
+Each block of Rust or antt of README.md, docs/CONTRACTS.md, docs/MODEL.md, docs/LINES.md, docs/PORTING.md,
+docs/START.md, docs/PROTOCOLS.md and
 the front page of the site is in a source of a crate word for word. A block that begins with `// FILE`, `-- FILE` or `# FILE` is
 in that file, which may be the `stdout` of a stored run; one of docs/START.md or docs/PROTOCOLS.md, from which a reader
 makes the file, is the whole file. A line of crates.txt that a page quotes is in crates.txt, and the tests that
@@ -11,7 +12,7 @@ from made import TOP
 from sources import read
 
 FOLLOWED = ["docs/START.md", "docs/PROTOCOLS.md"]
-PAGES = ["README.md", "docs/CONTRACTS.md", "docs/MODEL.md", "docs/LINES.md", "tools/docs/site/front.md", *FOLLOWED]
+PAGES = ["README.md", "docs/CONTRACTS.md", "docs/MODEL.md", "docs/LINES.md", "docs/PORTING.md", "tools/docs/site/front.md", *FOLLOWED]
 BLOCK = re.compile(r"^```(\w+)\n(.*?)^```$", re.MULTILINE | re.DOTALL)
 
 
