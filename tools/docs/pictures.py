@@ -1,5 +1,6 @@
 """Draws the pictures of the pages, as SVG that can be read on dark and on light: docs/pieces.svg (a text with its pieces,
-their starts and a walk from both ends), docs/layers.svg (the crates), docs/bytes.svg (how bytes pass through the program)."""
+their starts and a walk from both ends), docs/layers.svg (the crates), docs/bytes.svg (how bytes pass through the program),
+docs/edit.svg (how an edit reaches its buffer)."""
 from html import escape
 
 from made import TOP, settle
@@ -66,28 +67,42 @@ def pieces():
     return picture(580, 320, "Pieces of a text, their starts, and a walk from both ends", parts)
 
 
+# The crates of the picture of layers: the row from the top, the first and the last column of 12, and what a crate is.
+LAYERS = {
+    "ascii_show": (0, 0, 1.9, "a program"), "ascii_filter": (0, 2, 3.9, "a program"), "cookbook": (0, 4, 5.9, "recipes"),
+    "example_resp": (0, 7.4, 9.6, "a store"), "example_smtp": (0, 9.7, 12, "mail"),
+    "ascii_c": (1, 0, 2.4, "the library for C"), "ascii_run": (1, 2.6, 7.2, "string types, commands, engines"),
+    "ascii_lines": (1, 7.6, 12, "lines in and out, a server"),
+    "ascii": (2, 0, 7.2, "views, iterators, searches, strings, JSON, serde"), "ascii_devices": (2, 7.6, 12, "sources, sinks"),
+    "ascii_base": (3, 0, 7.2, "characters, classes of bytes, kernels, ranges"),
+}
+
+
+def direct_uses():
+    """Pairs of a crate of the picture and one that it uses, except those that it reaches through another one."""
+    lines = [line.partition(":") for line in (TOP / "crates.txt").read_text(encoding="utf-8").splitlines() if ":" in line]
+    uses = {name.split()[0]: [it for it in used.split() if it in LAYERS] for name, _, used in lines if name.split()[0] in LAYERS}
+    reached = lambda name: {other for it in uses[name] for other in [it, *reached(it)]}  # noqa: E731
+    return [(name, it) for name in LAYERS for it in uses[name] if not any(it in reached(other) for other in uses[name])]
+
+
 def layers():
-    """The crates, each over what it uses, in rows from the top; a crate has its first and last column of 12."""
-    rows = [
-        [("ascii_show", "a program", 2.5, 4.3), ("ascii_filter", "a program", 4.3, 6.4), ("cookbook", "recipes", 6.4, 8),
-         ("example_resp", "a store", 8, 10), ("example_smtp", "mail", 10, 12)],
-        [("ascii_c", "the library for C", 0, 2.5), ("ascii_run", "string types, commands, engines", 2.5, 8),
-         ("ascii_lines", "lines in and out, a server", 8, 12)],
-        [("ascii", "views, iterators, searches, strings, JSON, serde", 0, 9), ("ascii_devices", "sources, sinks", 9, 12)],
-        [("ascii_base", "characters, classes of bytes, kernels, ranges", 0, 9)],
-        [("std and the kit's crates", "memchr, itoa, serde, smallvec, ..", 0, 12)],
-    ]
-    column, gap, parts, y = 58, 10, [], 14
-    for row in rows:
-        for name, what, first, last in row:
-            x, each = 20 + first * column, (last - first) * column - gap
-            kind = "mark" if name in ("ascii", "ascii_lines") else "box"
-            parts += [box(x, y, each, 48, kind), text(x + each / 2, y + 20, name, "code"),
-                      text(x + each / 2, y + 38, what, "small")]
-        y += 48 + gap
-    parts.append(text(20, y + 12, "A user of text names ascii; a reader of lines names ascii_lines. ascii_run uses ascii_devices too.",
-                      "small", "start"))
-    return picture(12 * column + 30, y + 24, "The crates, each over those that it uses", parts)
+    """The crates, with an arrow from each to those that it uses."""
+    column, parts, places = 58, [], {}
+    for name, (row, first, last, what) in LAYERS.items():
+        x, y, width = 20 + first * column, 14 + row * 84, (last - first) * column
+        places[name] = (x, y, width)
+        kind = "mark" if name in ("ascii", "ascii_lines") else "box"
+        parts += [box(x, y, width, 48, kind), text(x + width / 2, y + 20, name, "code"), text(x + width / 2, y + 38, what, "small")]
+    for name, used in direct_uses():
+        (x, y, width), (below, top, wide) = places[name], places[used]
+        start, end = max(x, below), min(x + width, below + wide)
+        if start < end:  # straight down where the boxes overlap
+            parts.append(arrow((start + end) / 2, y + 50, (start + end) / 2, top - 2))
+        else:
+            parts.append(arrow(x + (0 if below < x else width), y + 48, below + (wide if below < x else 0), top - 2))
+    parts.append(text(20, 14 + 4 * 84, "A user of text names ascii; a reader of lines names ascii_lines.", "small", "start"))
+    return picture(12 * column + 40, 14 + 4 * 84 + 16, "The crates, each with arrows to those that it uses", parts)
 
 
 def bytes_through():
@@ -114,7 +129,28 @@ def bytes_through():
     return picture(930, y - 20, "How bytes pass through the program, and a rejected input", parts)
 
 
+def edit():
+    """How `push` of a string reaches the bytes of its buffer."""
+    parts, y = [text(20, 20, "string.push(AsciiChar::A)", "code", "start")], 34
+    steps = [("Text<B>", "GrowsTo (text ++ 65 ∷ [])"), ("Buffer::append_byte", "the same, of bytes"), ("a buffer", "one of three")]
+    for at, (name, what) in enumerate(steps):
+        x = 20 + at * 200
+        parts += [box(x, y + 44, 180, 54, "mark" if at == 0 else "box"), text(x + 90, y + 66, name, "code"),
+                  text(x + 90, y + 86, what, "small")]
+        if at:
+            parts.append(arrow(x - 18, y + 71, x - 2, y + 71))
+    buffers = [("Vec<u8, A>", "AsciiString: the allocation may fail"), ("Inline", "SmallAsciiString: up to 24 never fail"),
+               ("Array<N>", "ArrayAsciiString: Full after N")]
+    for row, (name, what) in enumerate(buffers):
+        top = y + row * 48
+        parts += [box(640, top, 290, 42), text(785, top + 18, name, "code"), text(785, top + 34, what, "small"),
+                  arrow(602, y + 71, 638, top + 21)]
+    parts.append(text(20, y + 164, "Ok: the text has one code more. Err: the text is as before, and did not fit the old capacity with it.",
+                      "small", "start"))
+    return picture(950, y + 180, "How an edit of a string reaches its buffer", parts)
+
+
 def faults(is_check):
     """Draws the pictures, or compares them with what would be drawn. Returns the faults."""
-    drawn = {"pieces": pieces, "layers": layers, "bytes": bytes_through}
+    drawn = {"pieces": pieces, "layers": layers, "bytes": bytes_through, "edit": edit}
     return [fault for name, draw in drawn.items() for fault in settle(TOP / "docs" / f"{name}.svg", draw(), "pictures", is_check)]
