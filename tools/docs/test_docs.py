@@ -8,7 +8,9 @@ from pathlib import Path
 sys.dont_write_bytecode = True
 TOP = Path(__file__).resolve().parents[2]
 sys.path[:0] = [str(TOP / "tools" / it) for it in ("docs", "reader")]
+import lengths  # noqa: E402
 import reach  # noqa: E402
+import recipes  # noqa: E402
 import tables  # noqa: E402
 import uses  # noqa: E402
 from callers import use_lines  # noqa: E402
@@ -18,6 +20,25 @@ from functions import functions_of  # noqa: E402
 from items import read_items  # noqa: E402
 from made import conditions, example, first_sentence  # noqa: E402
 from samples import is_sample, named  # noqa: E402
+
+
+class Lengths(unittest.TestCase):
+    PAGE = "# Title\n\nOne `a.b()` is here. Two\nis there: `x`.\n\n- An item.\n  More of it.\n\n| A | B |\n|---|---|\n| a cell | |\n\n    code here\n"
+
+    def test_sentences_of_paragraphs_items_and_cells(self):
+        want = ["One CODE is here.", "Two is there: CODE.", "An item.", "More of it.", "A", "B", "a cell"]
+        self.assertEqual(lengths.sentences(lengths.plain(self.PAGE)), want)
+
+    def test_made_tables_code_and_targets_do_not_count(self):
+        text = "<!-- Made by `x` -->\n| a |\n<!-- end of the table -->\n```sh\nb\n```\n[two words](some/where.md)\n"
+        self.assertEqual(lengths.words(lengths.plain(text)), 2)
+
+
+class Recipes(unittest.TestCase):
+    def test_each_row_is_a_module_with_a_call(self):
+        self.assertEqual(len(recipes.rows()), 10)
+        for row in recipes.rows():
+            self.assertTrue([line for line in recipes.recipe(*row) if line.startswith("### ")], row)
 
 
 class Examples(unittest.TestCase):
