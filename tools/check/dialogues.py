@@ -98,7 +98,7 @@ DIALOGUES = [
     store("a reply before more is sent", (b"SET a 1\r\n", b"+OK\r\n"), (b"GET a\r\n", b"$1\r\n1\r\n")),
     store("2,000 requests in one packet", (b"PING\r\n" * 2000, b"+PONG\r\n" * 2000)),
     store("a value with breaks", (b"*3\r\n$3\r\nSET\r\n$1\r\nk\r\n$5\r\na\r\n\nb\r\nGET k\r\n", b"+OK\r\n$5\r\na\r\n\nb\r\n")),
-    store("a refused length, and requests in its payload", (b"*2\r\n$3\r\nGET\r\n$9999\r\nSET a 1\r\nGET a\r\n", b"-ERR the length is not a number or too large\r\n")),
+    store("a rejected length, and requests in its payload", (b"*2\r\n$3\r\nGET\r\n$9999\r\nSET a 1\r\nGET a\r\n", b"-ERR the length is not a number or too large\r\n")),
     store("a byte above 127", (b"PING\r\n\xff\r\nPING\r\n", b"+PONG\r\n-ERR Protocol error: bad input\r\n")),
     store("an input that ends in a value", (b"*1\r\n$4\r\nPI", b""), then=b"-ERR Protocol error: bad input\r\n"),
 ]

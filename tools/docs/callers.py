@@ -145,7 +145,7 @@ def entries_of_impl(item, hidden, own_traits):
     if not of_trait:
         calls = [(f"{of_type}::{i.name}", i) for i in item.inner if i.public]
         if any(i.kind != "fn" for _, i in calls):
-            raise Wrong(f"a public item of {of_type} that no page quotes, as it is no call")
+            raise Wrong(f"a public item of {of_type} that no page quotes, because it is not a call")
         return [Entry(path, function_lines(i, path), [i], calls_of(path, [i]), i.docs, i) for path, i in calls]
     key = f"{of_trait} for {of_type}"
     if re.sub(r"<.*", "", of_trait) in own_traits:  # the trait's own entry says each call that has no clause here

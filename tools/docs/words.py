@@ -1,4 +1,5 @@
-"""Looks in the paragraphs of pages and of the comments of sources and scripts for words that a reader would stumble over.
+"""Looks in the paragraphs of pages, in the comments of sources and scripts, and in the texts that programs print, for words that
+a reader would stumble over.
 
 words.txt in the folder of this file lists them, each with what to write instead."""
 import re
@@ -13,6 +14,25 @@ FOLDER = Path(__file__).resolve().parent
 # The prose of a file: all of a page but its blocks of code, and the comments of the other files.
 COMMENTS = {".rt": r"//[/!]?(.*)", ".rs": r"//[/!]?(.*)", ".antt": r"--(.*)", ".edit": r"^#(.*)", ".h": r"[/ ]\*+(.*)",
             ".c": r"[/ ]\*+(.*)", ".py": r"#(.*)|\"{3}(.*)", ".md": None}
+
+
+# A text that a program may print: a literal of a line that has some words.
+LITERAL = re.compile(r'"((?:[^"\\\n]|\\.)*)"')
+FEWEST_WORDS = 4
+PROGRAMS = {".rt", ".rs", ".c", ".py"}
+
+
+def literals(file):
+    """The texts of the literals of a program, each with its line, except those of its tests."""
+    text = read(file)
+    kind = ".py" if text.startswith("#!") else file.suffix
+    if kind not in PROGRAMS or "test" in str(file.relative_to(TOP)):
+        return
+    for number, line in enumerate(text.splitlines(), 1):
+        if not re.match(r"\s*(//|#|--|\"\"\")", line):
+            for found in LITERAL.finditer(line):
+                if len(re.findall(r"[A-Za-z]{2,}", found[1])) >= FEWEST_WORDS:
+                    yield found[1], [number] * (len(found[1]) + 1)
 
 
 def prose(file):
@@ -61,7 +81,7 @@ def faults():
     files = [f for f in files if f.is_file() and (f.suffix in COMMENTS or is_script(f))]
     wrong = []
     for file in files:
-        for text, numbers in paragraphs(file):
+        for text, numbers in [*paragraphs(file), *literals(file)]:
             for exception in exceptions:  # of the same length, so that each position keeps its line
                 text = text.replace(exception, " " * len(exception))
             wrong += [f"{file.relative_to(TOP)}:{numbers[found.start()]}: {found.group()!r}: {better}"
