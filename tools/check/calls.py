@@ -137,7 +137,7 @@ FILTER = [
          said(r"'no'$'\177\r': No such file or directory (os error 2)")),
     Call("a name with a quote", ["copy", "it's"], b"", 1, b"", said("\"it's\": the byte at index 0 is not ASCII")),
     Call("a name that is not valid UTF-8", ["copy", b"\310", "text"], b"", 3, b"x\r\ny", said(r"''$'\310': not valid UTF-8")),
-    Call("a hostile word that is no option", ["copy", "--\x1b[31m"], b"", 2, b"", ESCAPED),
+    Call("a hostile word that is not an option", ["copy", "--\x1b[31m"], b"", 2, b"", ESCAPED),
     Call("-0 without check", ["copy", "-0"], b"", 2, b"", OPTIONS),
     Call("an option of check", ["copy", "--quiet"], b"", 2, b"", OPTIONS),
     Call("arguments that are not valid UTF-8", [b"copy\310"], b"", 2, b"", said("an argument is not valid UTF-8")),
