@@ -156,6 +156,21 @@ fn tasks(calls: &Calls, rows: &[Vec<String>]) -> String {
     table
 }
 
+/// The table of the README: each task and the fastest peer's time divided by ours, three tasks to a row.
+fn short_tasks(calls: &Calls, rows: &[Vec<String>]) -> String {
+    let cells: Vec<String> = each_once(rows.iter().map(|row| (&row[0], row[1].parse().expect("a size"))))
+        .into_iter()
+        .map(|(call, size)| format!("{call} | {} |", calls.best_ratio(call, size).map(as_ratio).unwrap_or_default()))
+        .collect();
+    let third = cells.len().div_ceil(3);
+    let mut table = String::from("| Task | | Task | | Task | |\n|---|--:|---|--:|---|--:|\n");
+    for at in 0..third {
+        let row = (0..3).map(|column| cells.get(at + column * third).map_or(" | |", String::as_str));
+        writeln!(table, "| {}", row.collect::<Vec<_>>().join(" ")).unwrap();
+    }
+    table
+}
+
 /// What a call is compared with.
 const PEERS: [&str; 3] = ["crate", "std", "memchr"];
 
@@ -281,6 +296,10 @@ fn sizes_chart(rows: &[Vec<String>]) -> String {
 }
 
 const CHART_SIZE: usize = 1024;
+
+/// What is before and after the table of the README.
+const BEFORE_TASKS: &str = "<!-- Made by `bin/bench`. -->\n\n";
+const AFTER_TASKS: &str = "<!-- end of the table -->";
 
 /// The calls of the chart, with how it names them.
 const CHART: [(&str, &str); 7] = [
@@ -481,8 +500,9 @@ fn main() {
         .map(|row| (row[0].clone(), row[1].clone()))
         .collect();
     let calls = Calls::read(&rows(format!("{folder}/calls.tsv")));
-    let of_tasks = rows(format!("{folder}/tasks.tsv"));
-    let tasks = tasks(&Calls::read(&of_tasks), &of_tasks);
+    let task_rows = rows(format!("{folder}/tasks.tsv"));
+    let of_tasks = Calls::read(&task_rows);
+    let tasks = tasks(&of_tasks, &task_rows);
     let (sized, timed): (Vec<_>, Vec<_>) =
         rows(format!("{folder}/programs.tsv")).into_iter().partition(|row| row[0] == "size");
     let programs = programs(&timed);
@@ -495,6 +515,13 @@ fn main() {
     let servers = servers(&rows(format!("{folder}/servers.tsv")));
     let page = page(&facts, &calls, &tasks, &programs, &servers, &sizes(&sized), &reasons);
     write("PERFORMANCE.md", page);
+    if pages == "docs" {
+        let readme = std::fs::read_to_string("README.md").expect("README.md");
+        let (before, rest) = readme.split_once(BEFORE_TASKS).expect("the place of the table in README.md");
+        let (_, after) = rest.split_once(AFTER_TASKS).expect("the end of the table in README.md");
+        let table = short_tasks(&of_tasks, &task_rows);
+        std::fs::write("README.md", [before, BEFORE_TASKS, &table, AFTER_TASKS, after].concat()).expect("README.md");
+    }
     write("performance.svg", chart(&calls, &facts["ascii"]));
     write("sizes.svg", sizes_chart(&sized));
 }
