@@ -288,6 +288,7 @@ fn sizes_chart(rows: &[Vec<String>]) -> String {
 <svg xmlns="http://www.w3.org/2000/svg" width="760" height="364" viewBox="0 0 760 364"
  font-family="system-ui, sans-serif" font-size="12.5" fill="#2b323b" role="img"
  aria-label="CPU time of programs by the length of their input">
+{DARK}
 <rect width="760" height="364" rx="8" fill="#fafbfc"/>
 <text x="20" y="24" font-size="15" font-weight="600">CPU time by the length of the input, lines of 60 bytes</text>
 {marks}{lines}</svg>
@@ -296,6 +297,11 @@ fn sizes_chart(rows: &[Vec<String>]) -> String {
 }
 
 const CHART_SIZE: usize = 1024;
+
+/// The colors of a chart on dark.
+const DARK: &str = r##"<style>@media (prefers-color-scheme: dark) {
+svg { fill: #e4e7eb } rect[fill="#fafbfc"] { fill: #16191d } text[fill="#5b6470"] { fill: #9aa5b1 }
+line[stroke="#e1e5ea"] { stroke: #30363d } line[stroke="#5b6470"] { stroke: #9aa5b1 } }</style>"##;
 
 /// What is before and after the table of the README.
 const BEFORE_TASKS: &str = "<!-- Made by `bin/bench`. -->\n\n";
@@ -369,6 +375,7 @@ fn chart(calls: &Calls, ascii: &str) -> String {
 <svg xmlns="http://www.w3.org/2000/svg" width="740" height="{height}" viewBox="0 0 740 {height}"
  font-family="system-ui, sans-serif" font-size="12.5" fill="#2b323b" role="img"
  aria-label="Times as fast as the Rust crate and as std">
+{DARK}
 <rect width="740" height="{height}" rx="8" fill="#fafbfc"/>
 <text x="20" y="24" font-size="15" font-weight="600">Times as fast, over 1 KiB (right: ours is faster)</text>
 <rect x="20" y="35" width="11" height="11" rx="2" fill="#8fb8de"/>
