@@ -76,9 +76,9 @@ IsWritten answer output took was now =
     ⊎ ((others : List ℕ) × (took ++ others ≡ output) × (now ≡ was + 1))
 
 -- the answer of a task to an input with this label, by the bytes that the reader gave, whether it
--- is at its end, the bytes that the writer took, and the writer's counts of failures before and after.
--- A mode: it found nothing, and its outcome is that of a run in bounded memory. `check`: its output
--- was written, or a prefix of it.
+-- is at its end, the bytes that the writer took, and the writer's counts of failures before and
+-- after. A mode: it found nothing, and its outcome is that of a run in bounded memory. `check`: its
+-- output was written, or a prefix of it.
 abbrev pub IsAnswer : Task → List ℕ → Answer → List ℕ → Type 0 → List ℕ → ℕ → ℕ → Type 0
 IsAnswer (task.Filter mode) label answer given at_end took was now =
     (answer.found ≡ 0) × BoundedOutcome mode answer.outcome given at_end took

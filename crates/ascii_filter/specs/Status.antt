@@ -54,8 +54,8 @@ IsFailureOf (Err bounded.Read) failure = IsOfDevice failure
 IsFailureOf (Err bounded.Write) failure = (failure ≡ None) ⊎ IsOfDevice failure
 
 -- what the program does with one input with this label: it wrote nothing, and the input is at
--- fault; or the verdict is that of an answer of the task, by the bytes that the input gave and those
--- that are left of it
+-- fault; or the verdict is that of an answer of the task, by the bytes that the input gave and
+-- those that are left of it
 abbrev pub IsVisit : Task → List ℕ → List ℕ → ℕ → ℕ → Verdict → Type 0
 IsVisit task label took was now verdict =
     ((took ≡ []) × (verdict.found ≡ 0) × IsSome verdict.failure × (now ≡ was))

@@ -1,7 +1,7 @@
 //! The names of inputs: what the option parser, the system and a reader of messages have of each.
 
-ghost use Rattle.std.specs.Prelude.{◌≡◌, ◌≢◌, ◌++◌, ◌∷◌, [], EachIndex, IfOk, codes, if◌then◌else◌};
-ghost use Rattle.std.specs.Prelude.{slice_index};
+ghost use Rattle.std.specs.Prelude.{◌≡◌, ◌≢◌, ◌↔◌, ◌++◌, ◌∷◌, [], EachIndex, IfOk, IsTrue, Some};
+ghost use Rattle.std.specs.Prelude.{codes, if◌then◌else◌, slice_get, slice_index};
 ghost use Rattle.std.specs.List.{All};
 ghost use Rattle.ascii.specs.Class.{IsPrintable};
 ghost use Rattle.ascii_filter.specs.Quoted.{IsPlain, Reads};
@@ -10,7 +10,8 @@ use crate::options::STANDARD_INPUT;
 use crate::quoted::quoted;
 use std::alloc::{AllocError, Global};
 
-/// What begins a word that stands for an argument that is not valid UTF-8. No argument has a NUL.
+/// What begins the word that the parser has in place of an argument that is not valid UTF-8. No
+/// argument has a NUL.
 const MARK: &str = "\0";
 
 /// Returns what the option parser has of an argument: its text, or if it is not valid UTF-8, a NUL and its index.
@@ -21,17 +22,23 @@ pub fn word_of(alloc: Global, index: usize, argument: &[u8]) -> Result<String, A
     }
 }
 
-/// Returns `true` if the argument is valid UTF-8.
-pub fn is_text(word: &str) -> bool {
-    !word.starts_with(MARK)
+/// Returns `true` if the argument is valid UTF-8: its word does not begin with NUL.
+pub fn is_text(word: &str) -> bool
+    ensures { IsTrue result ↔ (slice_get word.now 0 ≢ Some 0) }
+{
+    word.as_bytes().first() != Some(&0)
 }
 
 /// Returns the bytes of the argument that the parser has as this word; for `-` the name of standard input.
 pub fn name_of<'a>(word: &'a str, arguments: &'a [Vec<u8>]) -> &'a [u8]
     ensures dash { word.now ≡ codes "-" → result.now ≡ codes "(standard input)" }
+    ensures text { word.now ≢ codes "-" → slice_get word.now 0 ≢ Some 0 → result.now ≡ word.now }
 {
     if word == "-" {
         return STANDARD_INPUT.as_bytes();
+    }
+    if is_text(word) {
+        return word.as_bytes();
     }
     let Some(digits) = word.strip_prefix(MARK) else {
         return word.as_bytes();
