@@ -69,6 +69,21 @@ IsTokenCode n = IsAlphanumeric n ⊎ Contains (codes "!#$%&'*+-.^_`|~") n
 abbrev pub IsLabelCode : ℕ → Type 0
 IsLabelCode n = IsAlphanumeric n ⊎ (n ≡ 45)
 
+-- a character of the value of an HTTP header field: tab, space or a visible (graphic) character
+abbrev pub IsFieldTextCode : ℕ → Type 0
+IsFieldTextCode n = (n ≡ 9) ⊎ IsInRange 32 126 n
+
+-- a character that a quoted string of HTTP or mail may have without a backslash before it: tab,
+-- space or a visible (graphic) character, but not `"` or a backslash
+abbrev pub IsQuotableCode : ℕ → Type 0
+IsQuotableCode n = (n ≡ 9) ⊎ IsInRange 32 33 n ⊎ IsInRange 35 91 n ⊎ IsInRange 93 126 n
+
+-- a character of an atom of a mail header: a letter, a digit, or one of `!`, `#` to `'`, `*`, `+`,
+-- `-`, `/`, `=`, `?`, `^`, `_`, a backquote and `{` to `~`
+abbrev pub IsAtomCode : ℕ → Type 0
+IsAtomCode n = IsAlphanumeric n ⊎ (n ≡ 33) ⊎ IsInRange 35 39 n ⊎ IsInRange 42 43 n ⊎ (n ≡ 45)
+    ⊎ (n ≡ 47) ⊎ (n ≡ 61) ⊎ (n ≡ 63) ⊎ IsInRange 94 96 n ⊎ IsInRange 123 126 n
+
 -- the value of a code as a digit: 0 to 9 for `0` to `9`, and 10 to 35 for a letter of either case
 abbrev pub digit_value : ℕ → Option ℕ
 digit_value n = if nat_le 48 n && nat_le n 57 then Some (n - 48)

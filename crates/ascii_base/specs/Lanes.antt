@@ -30,6 +30,6 @@ FindsFirstNot Is bytes e found =
 abbrev pub FindsLastNot : (ℕ → Type 0) → List ℕ → ℕ → Option ℕ → Type 0
 FindsLastNot Is bytes s found = MatchOption found (AllFrom Is bytes s) (IsLastNot Is bytes)
 
--- the bytes before position `e` are equal in both sources when the case of letters is ignored
+-- the bytes before position `e` are equal in both sources, ignoring ASCII case
 abbrev pub SameBefore : List ℕ → List ℕ → ℕ → Type 0
 SameBefore xs ys e = map lower_image (take e xs) ≡ map lower_image (take e ys)

@@ -515,7 +515,7 @@ impl AsciiChar {
         }
     }
 
-    /// Returns `true` if the two characters are equal when the case of letters is ignored.
+    /// Returns `true` if the two characters are equal, ignoring ASCII case.
     ///
     ///     AsciiChar::a.eq_ignore_ascii_case(&AsciiChar::A) // true
     #[inline]

@@ -40,9 +40,10 @@ ghost use Rattle.std.specs.Prelude.{ℕ, Bool, ◌≡◌, ◌<◌, ◌≤◌, �
 ghost use Rattle.std.specs.List.{Contains};
 ghost use Rattle.std.specs.Bool.{Decides};
 ghost use Rattle.std.proofs.Common.{rules};
-ghost use Rattle.ascii_base.specs.Class.{IsAlphabetic, IsAlphanumeric, IsAsciiWhitespace, IsBlank};
-ghost use Rattle.ascii_base.specs.Class.{IsControl, IsDigit, IsGraphic, IsHexdigit, IsLabelCode};
-ghost use Rattle.ascii_base.specs.Class.{IsLowercase, IsPrintable, IsPunctuation, IsTokenCode};
+ghost use Rattle.ascii_base.specs.Class.{IsAlphabetic, IsAlphanumeric, IsAsciiWhitespace, IsAtomCode};
+ghost use Rattle.ascii_base.specs.Class.{IsBlank, IsControl, IsDigit, IsFieldTextCode, IsGraphic};
+ghost use Rattle.ascii_base.specs.Class.{IsHexdigit, IsLabelCode, IsLowercase, IsPrintable};
+ghost use Rattle.ascii_base.specs.Class.{IsPunctuation, IsQuotableCode, IsTokenCode};
 ghost use Rattle.ascii_base.specs.Class.{IsUppercase, IsWhitespace, in_ranges};
 ghost use Rattle.ascii_base.specs.Lanes.{Marks};
 ghost use Rattle.ascii_base.specs.Tests.{is_ascii, is_ascii-decides, is_token, is_token-decides};
@@ -51,6 +52,7 @@ ghost use Rattle.ascii_base.specs.declared.classes.TheConstants.{ALPHABETIC, DIG
 ghost use Rattle.ascii_base.specs.declared.classes.TheConstants.{HEXDIGIT, BLANK, ASCII_WHITESPACE};
 ghost use Rattle.ascii_base.specs.declared.classes.TheConstants.{CONTROL, GRAPHIC, PRINTABLE};
 ghost use Rattle.ascii_base.specs.declared.classes.TheConstants.{PUNCTUATION, TOKEN, LABEL};
+ghost use Rattle.ascii_base.specs.declared.classes.TheConstants.{FIELD_TEXT, QUOTABLE, ATOM};
 
 use std::marker::PhantomData;
 use std::simd::prelude::*;
@@ -545,3 +547,75 @@ impl Ranges for LabelRanges {
 
 /// The characters of a label of a host name: letters, digits and `-`.
 pub type Label = ByRanges<LabelRanges>;
+
+/// The ranges of `FieldText`.
+pub struct FieldTextRanges;
+
+const FIELD_TEXT: [(u8, u8); 2] = [(b'\t', b'\t'), (b' ', b'~')];
+
+impl Ranges for FieldTextRanges {
+    ghost set = { IsFieldTextCode };
+
+    ghost list = { FIELD_TEXT };
+
+    ghost matches = { λ n. Prim.search rules };
+
+    fn ranges() -> &'static [(u8, u8)] {
+        &FIELD_TEXT
+    }
+}
+
+/// The characters of the value of an HTTP header field: tab, space and the visible (graphic) characters.
+pub type FieldText = ByRanges<FieldTextRanges>;
+
+/// The ranges of `Quotable`.
+pub struct QuotableRanges;
+
+const QUOTABLE: [(u8, u8); 4] = [(b'\t', b'\t'), (b' ', b'!'), (b'#', b'['), (b']', b'~')];
+
+impl Ranges for QuotableRanges {
+    ghost set = { IsQuotableCode };
+
+    ghost list = { QUOTABLE };
+
+    ghost matches = { λ n. Prim.search rules };
+
+    fn ranges() -> &'static [(u8, u8)] {
+        &QUOTABLE
+    }
+}
+
+/// The characters that a quoted string of HTTP or mail may have without a backslash before them: tab,
+/// space and the visible (graphic) characters, but not `"` or a backslash.
+pub type Quotable = ByRanges<QuotableRanges>;
+
+/// The ranges of `Atom`.
+pub struct AtomRanges;
+
+const ATOM: [(u8, u8); 9] = [
+    (b'!', b'!'),
+    (b'#', b'\''),
+    (b'*', b'+'),
+    (b'-', b'-'),
+    (b'/', b'9'),
+    (b'=', b'='),
+    (b'?', b'?'),
+    (b'A', b'Z'),
+    (b'^', b'~'),
+];
+
+impl Ranges for AtomRanges {
+    ghost set = { IsAtomCode };
+
+    ghost list = { ATOM };
+
+    ghost matches = { λ n. Prim.search rules };
+
+    fn ranges() -> &'static [(u8, u8)] {
+        &ATOM
+    }
+}
+
+/// The characters of an atom of a mail header, such as the part of an address before `@`: letters, digits
+/// and nineteen marks.
+pub type Atom = ByRanges<AtomRanges>;

@@ -8,7 +8,7 @@
 //! | the first non-ASCII byte | `first_other` |
 //! | the first or the last byte that is not whitespace | `first_not_whitespace`, `last_not_whitespace` |
 //! | the case of letters, in place | `upper_in_place`, `lower_in_place` |
-//! | whether two byte strings are equal when case is ignored | `eq_ignore_case` |
+//! | whether two byte strings are equal, ignoring ASCII case | `eq_ignore_case` |
 //!
 //! None of them allocates. A search goes through the bytes 32 at a time and ends with one step of 32
 //! over the end, which may test bytes again. Up to 64 bytes take two overlapping steps of 32, 16, 8 or
@@ -173,7 +173,7 @@ pub fn lower_in_place(bytes: &mut [u8])
     map_in_place::<Lower>(bytes);
 }
 
-/// Returns `true` if the two byte strings are equal when the case of letters is ignored.
+/// Returns `true` if the two byte strings are equal, ignoring ASCII case.
 ///
 ///     eq_ignore_case(b"Host", b"HOST") // true
 pub fn eq_ignore_case(first: &[u8], second: &[u8]) -> bool
@@ -558,7 +558,7 @@ fn are_apart(first: u8, second: u8) -> bool
     (first ^ second) & 0xdf != 0
 }
 
-/// Whether the bytes from `from` on are the same in both when case is ignored, 64 at a time.
+/// Whether the bytes from `from` on are the same in both, ignoring ASCII case, 64 at a time.
 #[inline(always)]
 fn same_from(first: &[u8], second: &[u8], from: usize) -> bool
     requires same_length { length first.now ≡ length second.now }
@@ -577,7 +577,7 @@ fn same_from(first: &[u8], second: &[u8], from: usize) -> bool
     same_in_two::<LANES>(first, second, at)
 }
 
-/// Whether at most twice `N` bytes from `at` on are the same in both when case is ignored: the first
+/// Whether at most twice `N` bytes from `at` on are the same in both, ignoring ASCII case: the first
 /// `N` of them and the last `N`.
 #[inline(always)]
 fn same_in_two<const N: usize>(first: &[u8], second: &[u8], at: usize) -> bool

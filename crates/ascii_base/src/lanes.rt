@@ -29,8 +29,8 @@ pub(crate) fn is_ascii_block(bytes: &[u8], at: usize) -> bool
     front | back == 0
 }
 
-/// Whether the `N` bytes from `at` on are equal in both when the case of letters is ignored: two
-/// bytes at one position differ in no bit, except the bit of the case if the first is a letter.
+/// Whether the `N` bytes from `at` on are equal in both, ignoring ASCII case: two bytes at one
+/// position differ in no bit, except the bit of the case if the first is a letter.
 #[inline(always)]
 pub(crate) fn eq_lanes<const N: usize>(first: &[u8], second: &[u8], at: usize) -> bool
     requires lanes { N ≤ 64 }

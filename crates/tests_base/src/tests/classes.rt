@@ -1,6 +1,7 @@
 use ascii_base::classes::{
-    Alphabetic, Alphanumeric, Ascii, AsciiWhitespace, Blank, Class, ClassBy, Control, Digit,
-    Graphic, Hexdigit, Label, Lowercase, Printable, Punctuation, Token, Uppercase, Whitespace,
+    Alphabetic, Alphanumeric, Ascii, AsciiWhitespace, Atom, Blank, Class, ClassBy, Control, Digit,
+    FieldText, Graphic, Hexdigit, Label, Lowercase, Printable, Punctuation, Quotable, Token,
+    Uppercase, Whitespace,
 };
 use testing::assert_row;
 
@@ -42,6 +43,7 @@ fn each_byte_by_std(rt: HostRuntime) {
 #[test]
 fn each_byte_by_list(rt: HostRuntime) {
     let marks = b"!#$%&'*+-.^_`|~";
+    let atom_marks = b"!#$%&'*+-/=?^_`{|}~";
     for byte in 0..=255u8 {
         let found = [
             Blank::has(byte),
@@ -49,13 +51,20 @@ fn each_byte_by_list(rt: HostRuntime) {
             Printable::has(byte),
             Token::has(byte),
             Label::has(byte),
+            FieldText::has(byte),
+            Quotable::has(byte),
+            Atom::has(byte),
         ];
+        let is_text = b" \t".contains(&byte) || byte.is_ascii_graphic();
         let expected = [
             b" \t".contains(&byte),
             b" \t\n\x0b\x0c\r".contains(&byte),
             byte == b' ' || byte.is_ascii_graphic(),
             byte.is_ascii_alphanumeric() || marks.contains(&byte),
             byte.is_ascii_alphanumeric() || byte == b'-',
+            is_text,
+            is_text && !b"\"\\".contains(&byte),
+            byte.is_ascii_alphanumeric() || atom_marks.contains(&byte),
         ];
         assert!(rt; found == expected, "{byte}");
     }
