@@ -3,23 +3,29 @@
 use Rattle.std.proofs.Common.{◌≡◌, ◌≢◌, ℕ, ◌+◌, ◌≤◌, List, [], ◌∷◌, ◌++◌, length, append-nil, refl}
 use Rattle.std.proofs.Common.{arith, append_assoc, ap, ◌∙◌, Result, IsOk, OnOk, ◌-◌, ◌<◌, Option}
 use Rattle.std.proofs.Common.{Some, get_or, length-append, map, sym, subst, Bool, true, false, cond}
-use Rattle.std.proofs.Common.{◌⊎◌, ◌↔◌, inl, inr}
+use Rattle.std.proofs.Common.{◌⊎◌, ◌↔◌, None, drop, inl, inr, is_some}
 use Rattle.std.specs.Char.{is_ascii}
 use Rattle.std.specs.Iterator.{YieldsFirstBy}
 use Rattle.std.specs.Fn.{Called, Mut}
-use Rattle.std.specs.List.{All, Contains, filter, flat_map, join_with_byte, list_all, slice_get}
+use Rattle.std.specs.List.{All, Contains, filter, flat_map, items_where_true, join_with_byte}
+use Rattle.std.specs.List.{FoldsTo, list_all, slice_get}
+use Rattle.std.specs.List.Retain.{ReturnsInTurn}
 use Rattle.std.specs.Prelude.{IsTrue}
 use Rattle.std.specs.Str.{IsAscii}
 use Rattle.std.specs.declared.alloc.AllocError.{AllocError}
 use Rattle.std.proofs.lemmas.Grind.{flat_map-append, common_steps}
 use Rattle.std.proofs.lemmas.Iterator.{YieldsList}
 use Rattle.std.proofs.lemmas.Iterator.Consumers.{YieldsList-from_first}
-use Rattle.std.proofs.lemmas.List.{same_from_push, map_push}
+use Rattle.std.proofs.lemmas.List.{drop_more, length-map, same_from_push, map_push}
 use Rattle.std.proofs.lemmas.List.Elements.{All-cons, All-nil, All-get_or, All-head}
 use Rattle.std.proofs.lemmas.List.Elements.{filter_from_retain}
+use Rattle.memchr.specs.Find.{FindsNeedle}
 use Rattle.ascii_base.specs.Code.{code_of, code_text}
 use Rattle.ascii_base.specs.declared.ascii_char.AsciiChar.{AsciiChar}
-use Rattle.ascii.specs.Chunks.{ChunksOf, Run}
+use Rattle.ascii.specs.ByClass.{whole, word_spans_by, words_by}
+use Rattle.ascii.specs.ByClosure.{FindsBy}
+use Rattle.ascii.specs.declared.chunks.AsciiChunk.{AsciiChunk}
+use Rattle.ascii.specs.Chunks.{ChunksOf, Run, chunk_in, run_in}
 use Rattle.ascii.specs.Extend.{Collects, Extends}
 use Rattle.ascii.specs.declared.iter.spans.Ending.{Ending}
 use Rattle.ascii.specs.declared.iter.spans.Ending.TheVariants as ending
@@ -37,13 +43,15 @@ use Rattle.ascii.specs.Spans.{with_starts}
 use Rattle.ascii.specs.Steps.{DropsFirst, StepsPiece, YieldsFirstAnd}
 use Rattle.ascii.specs.StringState.{StringState}
 use Rattle.ascii.specs.View.{text_of}
+use Rattle.ascii.proofs.ByClassLemmas.{words_of_spans}
+use Rattle.ascii.proofs.CutLemmas.{found_if_contained}
 use Rattle.ascii.proofs.ExtendLemmas.{all_from_extends, ok_from_extends, pieces_from_drains}
 use Rattle.ascii.proofs.ExtendLemmas.{singles}
 use Rattle.ascii.proofs.PiecesLemmas.{HasNo-from_absent, Pieces-only, Pieces-pieces_of}
 use Rattle.ascii.proofs.PiecesLemmas.{pieces_of-free, pieces_of-split_at_last}
 use Rattle.ascii.proofs.SpansLemmas.{piece_spans_found, room, room-lines, room-pieces, with_starts-last}
 use Rattle.ascii.proofs.StepsLemmas.{road_from_first_and}
-use Rattle.std.specs.Option.{IfSome, IsSomeAnd}
+use Rattle.std.specs.Option.{IfSome, IsSomeAnd, MatchOption}
 use Rattle.std.proofs.Math.Seq.{get_or-append_seam, take-append_seam}
 use Rattle.std.proofs.lemmas.Bool.{and_parts, lt-ltb, ltb-true}
 use Rattle.std.proofs.lemmas.Bool.Decides.{nat_tests}
@@ -53,7 +61,7 @@ use Rattle.std.proofs.lemmas.Option.{slice_get-get_or}
 use Rattle.ascii_base.specs.Case.{lower_image, upper_image}
 use Rattle.ascii.specs.First.{IsFirstAt}
 use Rattle.ascii.specs.Found.{piece_spans, pieces_of}
-use Rattle.ascii.specs.Search.{IsCut}
+use Rattle.ascii.specs.Search.{ContainsText, IsCut}
 use Rattle.ascii.specs.Trim.{IsSpan, Trims, TrimsEnd}
 
 -- ---- ASCII by a test
@@ -69,6 +77,13 @@ ascii_by_test (code ∷ others) pass =
 pub test_by_ascii : (text : List ℕ) → IsAscii text → IsTrue (list_all is_ascii text)
 test_by_ascii text ascii = list_all-from_AllPass is_ascii text (λ k d inside.
     lt-ltb (get_or text k d) 128 (All-from_ascii text ascii k d inside))
+
+-- ---- a search
+
+-- a text contains a needle exactly if a search from the start finds it
+pub contains_if_found : (text needle : List ℕ) (found : Option ℕ) → FindsNeedle text needle 0 found
+    → IsTrue (is_some found) ↔ ContainsText needle text
+contains_if_found text needle found finds = found_if_contained text needle found finds
 
 -- ---- one item more at the back
 
@@ -218,40 +233,6 @@ pub rest_of_piece_spans : (on start : ℕ) (text : List ℕ) (spans : List (With
 rest_of_piece_spans on start text spans is = subst (PieceSpans start text on) is
     (piece_spans_found on (record { start = start; item = text }))
 
--- ---- where spans lie
-
--- items that are laid end to end end where all of them end, or before
-inside_with_starts : {A : Type 0} (size : A → ℕ) (start : ℕ) (items : List A) (end : ℕ)
-    → start + room size items ≤ end
-    → All (λ span. span.start + size span.item ≤ end) (with_starts size start items)
-inside_with_starts size start [] end fits = All-nil _
-inside_with_starts {A} size start (item ∷ items) end fits =
-    let next = start + size item in
-    All-cons (λ (span : WithStart A). span.start + size span.item ≤ end)
-    (record { start = start; item = item }) (with_starts size next items) (omega arith)
-    (inside_with_starts size next items end (omega arith))
-
--- every piece lies inside the text that starts at `start`
-pub piece_spans_inside : (start on : ℕ) (text : List ℕ) (spans : List (WithStart (List ℕ)))
-    → PieceSpans start text on spans
-    → All (λ span. span.start + length span.item ≤ start + length text) spans
-piece_spans_inside start on text spans whole k d inside =
-    let within : All (λ span. span.start + piece_size span.item ≤ start + length text + 1) spans =
-    rw whole.starts (inside_with_starts piece_size start (items_of spans) _ (omega (
-      arith,
-      room-pieces on (items_of spans) whole.pieces.some,
-      ap length whole.pieces.joined,
-    ))) in
-    omega (arith, within k d inside)
-
--- every line lies, with its ending, inside the text that starts at `start`
-pub line_spans_inside : (start : ℕ) (text : List ℕ) (spans : List (WithStart Line))
-    → LineSpansOf start text spans
-    → All (λ span. span.start + line_size span.item ≤ start + length text) spans
-line_spans_inside start text spans whole =
-    rw whole.starts (inside_with_starts line_size start (items_of spans) _
-    (omega (arith, room-lines (items_of spans), ap length whole.lines.joined)))
-
 -- ---- extends and collects over `chars()`, `split()` and `lines()`
 
 chars_road : (iter all : List ℕ) → iter ≡ all
@@ -315,12 +296,6 @@ collects_lines lines text collects =
     (road_from_first_and _ _ DropsFirst (bodies lines) refl)
 
 -- ---- a text and its start in a class
-
--- a text of which nothing follows its start in the class is all in the class
-pub span_all : (Is : ℕ → Type 0) (text front rest : List ℕ) → IsSpan Is text front rest
-    → rest ≡ [] → All Is text
-span_all Is text front rest span none = subst (All Is)
-    (sym (append-nil front) ∙ (ap (λ r. front ++ r) (sym none) ∙ span.joined)) span.within
 
 -- what follows the start in the class begins with the first code outside it
 pub span_first : (Is : ℕ → Type 0) (text front rest : List ℕ) → IsSpan Is text front rest
@@ -424,3 +399,76 @@ kept_by_code calls test says keep old new is =
     (λ ch. test (code_of ch)) says keep is.all is.kept is.chosen in
     sym is.stay ∙ (ap (map code_of) kept
     ∙ (codes_kept test is.all ∙ ap (filter test) is.are))
+
+-- a closure that returns `true` only for codes of the class leaves only codes of the class
+pub kept_in_class : {F : Type 0} (calls : Mut F (AsciiChar × Unit {0}) Bool) (Is : ℕ → Type 0)
+    (keep : F) (old new : List ℕ) → RetainsChars calls keep old new
+    → ((f : F) (ch : AsciiChar) (g : F) → Called calls f (ch, tt) true g → Is (code_of ch))
+    → All Is new
+kept_in_class {F} calls Is keep old new is says =
+    subst (All Is) is.stay (each keep is.all is.chosen.0 is.chosen.1 is.chosen.2 is.kept
+    is.chosen.3 is.chosen.4)
+  where
+    R : F → AsciiChar → Bool → F → Type 0
+    R f ch stays g = Called calls f (ch, tt) stays g
+
+    each : (f : F) (chars : List AsciiChar) (answers : List Bool) (last : F)
+        → length answers ≡ length chars → (kept : List AsciiChar)
+        → ReturnsInTurn R f answers chars last → kept ≡ items_where_true answers chars
+        → All Is (map code_of kept)
+    each f [] [] last many kept called are = rw are (All-nil Is)
+    each f [] (b ∷ answers) last many kept called are = absurd (omega (arith, many))
+    each f (ch ∷ chars) [] last many kept called are = absurd (omega (arith, many))
+    each f (ch ∷ chars) (true ∷ answers) last many kept called are =
+        rw are (All-cons Is (code_of ch) (map code_of (items_where_true answers chars))
+        (says f ch called.0 called.1)
+        (each called.0 chars answers last (omega (arith, many)) (items_where_true answers chars)
+        called.2 refl))
+    each f (ch ∷ chars) (false ∷ answers) last many kept called are =
+        each called.0 chars answers last (omega (arith, many)) kept called.2 are
+
+-- ---- a closure that is asked about each character
+
+module _ {F : Type 0} (calls : Mut F (AsciiChar × Unit {0}) Bool) (test : ℕ → Bool)
+    (says : (f : F) (ch : AsciiChar) (answer : Bool) (g : F) → Called calls f (ch, tt) answer g
+    → answer ≡ test (code_of ch)) where
+  none_pass : (f g : F) (chars : List AsciiChar)
+      → FoldsTo (λ p ch q. Called calls p (ch, tt) false q) f chars g
+      → All (λ code. test code ≡ false) (map code_of chars)
+  none_pass f g [] asked = All-nil (λ code. test code ≡ false)
+  none_pass f g (ch ∷ chars) asked =
+      All-cons (λ code. test code ≡ false) (code_of ch) (map code_of chars)
+      (sym (says f ch false asked.0 asked.1)) (none_pass asked.0 g chars asked.2)
+
+  -- a closure that tests the code of each character finds the first code that passes the test
+  pub position_by_code : (closure : F) (text : List ℕ) (found : Option ℕ)
+      → FindsBy calls closure text found
+      → MatchOption found (All (λ code. test code ≡ false) text)
+      (IsFirstAt (λ code. test code ≡ false) (λ code. test code ≡ true) text)
+  position_by_code closure text None finds =
+      let asks = finds.1 in
+      subst (All (λ code. test code ≡ false)) asks.are
+      (none_pass closure asks.before asks.chars asks.asked)
+  position_by_code closure text (Some k) finds =
+      let asks = finds.1.1 in
+      let first : slice_get (drop k text) 0 ≡ Some (get_or text k 0) =
+      ap (λ t. slice_get t 0) (drop_more text k 0 finds.0) in
+      let stop = subst (λ found. MatchOption found (finds.1.0 ≡ asks.before) (λ code.
+      (ch : AsciiChar) × (code_of ch ≡ code)
+      × Called calls asks.before (ch, tt) true finds.1.0)) first asks.ended in
+      record {
+        here = subst (λ found. IsSomeAnd found (λ code. test code ≡ true))
+            (sym (slice_get-get_or text k 0 finds.0))
+            (ap test (sym stop.1) ∙ sym (says asks.before stop.0 true finds.1.0 stop.2));
+        before = subst (All (λ code. test code ≡ false)) asks.are
+            (none_pass closure asks.before asks.chars asks.asked);
+      }
+
+-- ---- words
+
+-- a text has as many words as words with their starts
+pub as_many_words : (test : ℕ → Bool) (text : List ℕ)
+    → length (word_spans_by test (whole text)) ≡ length (words_by test text)
+as_many_words test text =
+    sym (length-map (word_spans_by test (whole text)) (λ span. span.item))
+    ∙ ap length (words_of_spans test 0 text)

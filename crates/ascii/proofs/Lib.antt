@@ -1,4 +1,5 @@
 pub mod ByClassLemmas
+pub mod ByClosureLemmas
 pub mod ByTextLemmas
 pub mod CallerLemmas
 pub mod ChunkLemmas
@@ -9,6 +10,7 @@ pub mod EndingsLemmas
 pub mod EndsLemmas
 mod Examples
 pub mod ExtendLemmas
+pub mod FoldFindLemmas
 pub mod FoldLemmas
 pub mod JsonLemmas
 pub mod LastLineLemmas
@@ -20,6 +22,7 @@ pub mod MasksLemmas
 pub mod NumbersLemmas
 pub mod OrderLemmas
 pub mod PiecesLemmas
+pub mod PlaceLemmas
 pub mod PlacedLemmas
 pub mod ReplaceLemmas
 pub mod RestsLemmas
@@ -27,7 +30,9 @@ pub mod RetainLemmas
 pub mod RunLemmas
 pub mod SearchLemmas
 pub mod SliceLemmas
+pub mod SpannedLemmas
 pub mod SpansLemmas
+pub mod SpliceLemmas
 pub mod StepsLemmas
 pub mod TextLemmas
 pub mod TrimLemmas

@@ -1,10 +1,10 @@
 -- Edits of a text leave codes alone.
 use Rattle.std.proofs.Common.{ℕ, ◌≡◌, map, ◌<◌, List, ◌++◌, ◌≤◌, length, take, drop, arith, Err, Ok}
-use Rattle.std.proofs.Common.{ap, refl, subst, suc, sym, ◌∙◌}
+use Rattle.std.proofs.Common.{[], ap, refl, subst, suc, sym, zero, ◌∙◌}
 use Rattle.std.proofs.Math.Seq.{take-append_seam}
 use Rattle.std.proofs.lemmas.Bool.Decides.{nat_tests}
 use Rattle.std.specs.Str.{IsAscii}
-use Rattle.std.specs.List.{insert, refill, remove}
+use Rattle.std.specs.List.{insert, refill, remove, repeat}
 use Rattle.std.proofs.lemmas.Str.{IsAscii-take, IsAscii-drop, IsAscii-append}
 use Rattle.std.proofs.lemmas.Str.Ascii.{IsAscii-cons, IsAscii-map, IsAscii-nil}
 use Rattle.std.specs.declared.fmt.Error.{Error}
@@ -85,3 +85,14 @@ Writes-refused piece held e room none = record {
   capacity = omega arith;
   room = room;
 }
+
+-- copies of a text are a text
+pub ascii_repeated : (n : ℕ) (t : List ℕ) → IsAscii t → IsAscii (repeat n t)
+ascii_repeated zero t ascii = IsAscii-nil
+ascii_repeated (suc n) t ascii =
+    IsAscii-append t (repeat n t) ascii (ascii_repeated n t ascii)
+
+-- copies of the empty text are the empty text
+pub nothing_repeated : (n : ℕ) (t : List ℕ) → t ≡ [] → repeat n t ≡ []
+nothing_repeated zero t none = refl
+nothing_repeated (suc n) t none = rw none (nothing_repeated n [] refl)

@@ -1,10 +1,12 @@
 -- What extending a string from an iterator does.
 use Rattle.std.specs.Prelude.{◌≡◌, ℕ, ◌+◌, ◌<◌, ◌≤◌, List, [], ◌∷◌, ◌++◌, length, map, take}
 use Rattle.std.specs.Prelude.{Option, Some, None, MatchResult}
-use Rattle.std.specs.List.{flat_map}
+use Rattle.std.specs.List.{flat_map, join_by}
 use Rattle.std.specs.Iterator.{Drains, Yields}
 use Rattle.std.specs.declared.result.Result.{Result}
+use Rattle.ascii.specs.declared.ascii_str.AsciiStr.{AsciiStr}
 use Rattle.ascii.specs.StringState.{StringState}
+use Rattle.ascii.specs.View.{text_of}
 
 -- The new text is the old text followed by the pieces of the items taken. `Ok`: the iterator has no
 -- further item. `Err`: it yielded one more, of which nothing was appended, and with which the text
@@ -25,6 +27,13 @@ abbrev pub Collects : {S A : Type 0} → (S → Option A → S → Type 0) → (
     → Type 0
 Collects {A = A} steps piece iter text =
     (items : List A) × Drains steps iter items × (text ≡ flat_map piece items)
+
+-- the text is the texts of the views that the iterator yielded before it ended, with `separator`
+-- between each two
+abbrev pub CollectsJoined : {S : Type 0} → (S → Option AsciiStr → S → Type 0) → List ℕ → S
+    → List ℕ → Type 0
+CollectsJoined steps separator iter text = (views : List AsciiStr) × Drains steps iter views
+    × (text ≡ join_by text_of separator views)
 
 -- ---- cited by private functions only
 

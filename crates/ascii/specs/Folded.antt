@@ -1,4 +1,4 @@
--- What contracts see of a view that is compared when the case of letters is ignored.
+-- What contracts see of a view that is compared ignoring ASCII case.
 use Rattle.std.specs.Prelude.{ℕ, List, map}
 use Rattle.ascii_base.specs.Case.{lower_image}
 use Rattle.ascii.specs.declared.folded.FoldedStr.{FoldedStr}

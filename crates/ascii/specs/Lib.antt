@@ -1,5 +1,6 @@
 pub mod Buffer
 pub mod ByClass
+pub mod ByClosure
 pub mod ByText
 pub mod Chunks
 pub mod ConversionError
@@ -14,14 +15,17 @@ pub mod Found
 pub mod Json
 pub mod Lines
 pub mod LinesBy
+pub mod Maps
 pub mod Masks
 pub mod Numbers
 pub mod Pieces
 pub mod Placed
+pub mod Places
 pub mod Replace
 pub mod Retain
 pub mod Search
 pub mod Slice
+pub mod Spanned
 pub mod Spans
 pub mod Steps
 pub mod StringState

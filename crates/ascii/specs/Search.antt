@@ -30,7 +30,7 @@ EndsWith suffix text = (rest : List ℕ) × IsSuffix suffix text rest
 abbrev pub Strips : Type 0 → (List ℕ → Type 0) → Option AsciiStr → Type 0
 Strips Has IsRest result = MatchOption result (¬ Has) (λ rest. IsRest (text_of rest))
 
--- `Is` is true of `other`, which is `text` when the case of letters is ignored
+-- `Is` is true of `other`, which is `text`, ignoring ASCII case
 pub record IgnoringCase (Is : List ℕ → Type 0) (text : List ℕ) : Type 0 where
   pub other : List ℕ
   pub same : map lower_image other ≡ map lower_image text

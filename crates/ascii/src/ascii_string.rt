@@ -19,8 +19,9 @@
 //! | `ArrayAsciiString<N>` of `ascii_run` | the value itself | `N` | `N` | `Full` |
 //!
 //! Made by `bin/docs tables`: the other calls of `Text` are in `collect` (`extend_chars`,
-//! `extend_strs`, `collect_chars`, `collect_strs`); `copies` (`from_char`, `from_chars`,
-//! `into_chars`); `json` (`to_json`, `from_json`); `retain` (`retain`).
+//! `extend_strs`, `collect_chars`, `collect_strs`, `collect_joined`); `copies` (`from_char`,
+//! `from_chars`, `into_chars`); `json` (`to_json`, `from_json`); `range_edits` (`remove_range`,
+//! `replace_range`); `retain` (`retain`).
 //!
 //! The traits of std are in `conversions`, those of serde in `serde_impls`. Only `AsciiString` has
 //! `from_ascii_unchecked` here, the conversion to boxed text in `boxed`, and `From` of it for a `Vec` and a `String`,
@@ -425,7 +426,11 @@ impl<B: Buffer> Text<B> {
 }
 
 /// Inserts bytes before position `idx`. If the allocation fails, the bytes are unchanged.
-fn insert_bytes<B: Buffer>(bytes: &mut B, idx: usize, piece: &[u8]) -> Result<(), B::Refusal>
+pub(crate) fn insert_bytes<B: Buffer>(
+    bytes: &mut B,
+    idx: usize,
+    piece: &[u8],
+) -> Result<(), B::Refusal>
     requires { idx ≤ length (B.state bytes.old).text }
     ensures { let old = B.state bytes.old in
         GrowsTo (insert_text old.text idx piece.now) old (B.state bytes.new) result }

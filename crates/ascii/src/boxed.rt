@@ -140,8 +140,8 @@ impl<A: Allocator> Text<Vec<u8, A>> {
 
 /// ASCII text that is borrowed or owned.
 ///
-/// It is an enum with public variants, as std's `Cow`: a contract sees the variant, and its text is `cow_text`. So it is no
-/// `Kept`, which a contract sees as its text.
+/// It is an enum with public variants, as std's `Cow`: a contract sees the variant, and its text is `cow_text`. So it is not
+/// a `Kept`, which a contract sees as its text.
 #[derive(Drop)]
 pub enum CowAsciiStr<'a, A: Allocator = Global> {
     /// Borrowed text: a view.

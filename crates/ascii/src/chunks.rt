@@ -42,7 +42,7 @@ pub struct AsciiChunk<'a> {
     pub run: ByteRun<'a>,
 }
 
-/// An iterator over the chunks of bytes, from both ends.
+/// A double-ended iterator over the chunks of bytes.
 #[derive(Drop)]
 pub struct AsciiChunks<'a> {
     // Where the bytes start whose chunks remain.

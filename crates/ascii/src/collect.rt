@@ -7,7 +7,7 @@ ghost use Rattle.std.specs.Str.{IsAscii};
 ghost use Rattle.ascii_base.specs.Code.{code_of, code_text};
 ghost use Rattle.ascii_base.specs.declared.ascii_char.AsciiChar.{AsciiChar as Char};
 ghost use Rattle.ascii.specs.declared.ascii_str.AsciiStr.{AsciiStr as View};
-ghost use Rattle.ascii.specs.Extend.{Collects, Extends, Fills, TakesFront};
+ghost use Rattle.ascii.specs.Extend.{Collects, CollectsJoined, Extends, Fills, TakesFront};
 ghost use Rattle.ascii.specs.View.{text_of};
 
 use crate::ascii_str::AsciiStr;
@@ -154,6 +154,41 @@ impl<B: NewBuffer> Text<B> {
     {
         let mut string = Text::new(alloc);
         string.extend_strs(iter)?;
+        Ok(string)
+    }
+
+    /// Returns a string of the views of an iterator, with `separator` between each two. Fails only if
+    /// an allocation fails.
+    ///
+    /// Condition: the iterator can be called, and it ends.
+    ///
+    /// The string grows as the views come.
+    ///
+    /// For no separator use `collect_strs`.
+    ///
+    ///     AsciiString::collect_joined(alloc, AsciiStr::literal("a b").split_whitespace(), AsciiStr::literal(", "))? // "a, b"
+    ///     AsciiString::collect_joined(alloc, AsciiStr::literal("a").split_whitespace(), AsciiStr::literal(", "))? // "a"
+    ///     AsciiString::collect_joined(alloc, AsciiStr::literal("").split_whitespace(), AsciiStr::literal(", "))? // ""
+    pub fn collect_joined<'a, I: Iterator<Item = AsciiStr<'a>> + Drop>(
+        alloc: B::Alloc,
+        iter: I,
+        separator: AsciiStr<'_>,
+    ) -> Result<Text<B>, B::Refusal>
+        requires can { I.can_next iter }
+        requires ends { IsFinite (I.remaining iter) }
+        ensures { IfOk result (λ string.
+            CollectsJoined I.next_gives (text_of separator.entry) iter string.text) }
+    {
+        let mut iter = iter;
+        let mut string = Text::new(alloc);
+        let Some(first) = iter.next() else {
+            return Ok(string);
+        };
+        string.push_str(first)?;
+        for piece in iter {
+            string.push_str(separator)?;
+            string.push_str(piece)?;
+        }
         Ok(string)
     }
 }

@@ -1,6 +1,7 @@
 //! Owned copies of views and of lists of characters.
 
 ghost use Rattle.std.specs.Prelude.{◌≡◌, [], ◌∷◌, IfErr, IfOk, IsOk, map};
+ghost use Rattle.std.specs.List.{repeat};
 ghost use Rattle.ascii_base.specs.Case.{lower_image, upper_image};
 ghost use Rattle.ascii_base.specs.Code.{code_of, code_text};
 ghost use Rattle.ascii.specs.View.{text_of};
@@ -59,6 +60,26 @@ impl AsciiStr<'_> {
         let mut string = self.to_ascii_string(alloc)?;
         string.make_ascii_lowercase();
         Ok(string)
+    }
+
+    /// Returns a string of `n` copies of the view, one after the other. Fails only if the allocation
+    /// fails, or if the copies have more than `usize::MAX` bytes; never for the empty view.
+    ///
+    /// Allocates once, for the length of the string.
+    ///
+    ///     AsciiStr::literal("ab").repeat(alloc, 3)? // "ababab"
+    ///     AsciiStr::literal("ab").repeat(alloc, 0)? // ""
+    ///     AsciiStr::literal("ab").repeat(alloc, usize::MAX).is_err() // true
+    #[tactic(auto, using(crate::proofs::TextLemmas::ascii_repeated, crate::proofs::TextLemmas::nothing_repeated))]
+    pub fn repeat<A: Allocator>(self, alloc: A, n: usize) -> Result<AsciiString<A>, AllocError>
+        ensures text { IfOk result (λ string. string.text ≡ repeat n (text_of self.entry)) }
+        ensures empty { text_of self.entry ≡ [] → IsOk result }
+    {
+        if self.is_empty() {
+            return Ok(AsciiString::new(alloc));
+        }
+        let text = self.as_str().repeat(alloc, n)?;
+        Ok(AsciiString::from_ascii_unchecked(text.into_bytes()))
     }
 
     /// Returns the characters of the view as a `Vec`, in order. Fails only if the allocation fails.

@@ -1,7 +1,8 @@
-//! Views that are compared when the case of letters is ignored: keys of a map or a set, such as names
-//! of headers.
+//! Views that are compared ignoring ASCII case: keys of a map or a set, such as names of headers.
 //!
 //!     AsciiStr::literal("Host").folded() == AsciiStr::literal("HOST").folded() // true
+//!
+//! A `FoldedString` is such a key that owns its text.
 
 ghost use Rattle.std.specs.Prelude.{◌≡◌, ◌==◌, map};
 ghost use Rattle.std.specs.Cmp.{partial_order_from_own_ties};
@@ -15,6 +16,7 @@ ghost use Rattle.ascii_base.specs.Case.{lower_image};
 ghost use Rattle.ascii.specs.View.{text_of};
 
 use crate::ascii_str::AsciiStr;
+pub use crate::folded_text::{FoldedString, FoldedText};
 use std::cmp::Ordering;
 use std::fmt;
 use std::hash::{Hash, Hasher};
@@ -31,8 +33,7 @@ pub struct FoldedStr<'a> {
 impl<'a> FoldedStr<'a> {
     ghost use Rattle.ascii.specs.Folded.{own_text};
 
-    /// Returns the view as one that is compared when the case of letters is ignored. Nothing is
-    /// copied.
+    /// Returns the view as one that is compared ignoring ASCII case. Nothing is copied.
     ///
     ///     FoldedStr::new(AsciiStr::literal("Host")) // "Host"
     #[inline]
@@ -56,8 +57,7 @@ impl<'a> FoldedStr<'a> {
 impl<'a> AsciiStr<'a> {
     ghost use Rattle.ascii.specs.Folded.{own_text};
 
-    /// Returns the view as one that is compared when the case of letters is ignored. Nothing is
-    /// copied.
+    /// Returns the view as one that is compared ignoring ASCII case. Nothing is copied.
     ///
     ///     AsciiStr::literal("Host").folded() == AsciiStr::literal("HOST").folded() // true
     #[inline]
@@ -75,7 +75,7 @@ impl PartialEq for FoldedStr<'_> {
 
     ghost laws = { Prim.search (comparing, rules) };
 
-    /// Returns `true` if the two texts are equal when the case of letters is ignored.
+    /// Returns `true` if the two texts are equal, ignoring ASCII case.
     ///
     ///     AsciiStr::literal("Host").folded() == AsciiStr::literal("Hosts").folded() // false
     fn eq(&self, other: &Self) -> bool {

@@ -16,7 +16,7 @@
 //! | lines | `lines()` | `line_spans()`, also with their endings | yes |
 //! | lines by the endings that you choose | `lines_by(endings)` | `line_spans_by(endings)`, also with their endings | yes |
 //!
-//! A double-ended iterator yields from either end, in any order. `remainder`, or `as_str` of `chars`, returns what is left
+//! A double-ended iterator yields from the front and from the back, in any order. `remainder`, or `as_str` of `chars`, returns what is left
 //! as a view, which can be iterated again:
 //!
 //!     let mut pieces = AsciiStr::literal("a,b,c").split(AsciiChar::Comma);

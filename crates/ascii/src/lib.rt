@@ -10,10 +10,12 @@
 //! | a view of bytes or of a `str` | `bytes::as_ascii_str`, `text::as_ascii_str`; a literal: `AsciiStr::literal` |
 //! | to edit a part of a source in place | `bytes::slice_ascii_mut`, which returns an `AsciiStrMut` |
 //! | an owned string | `AsciiString`; the buffer of a `Vec<u8>` or a `String`: the modules `vec` and `string` |
-//! | characters, pieces, lines or words, from both ends | `chars`, `split`, `lines`, `split_whitespace` of a view |
+//! | characters, pieces, lines or words, by a double-ended iterator | `chars`, `split`, `lines`, `split_whitespace` of a view |
 //! | the positions of pieces, lines or words | `split_spans`, `line_spans`, `word_spans` |
 //! | lines that end in CR LF only | `lines_by` and `line_spans_by` of a view, with `Endings` of the module `iter` |
 //! | to search for a text, a character or a class | `find`, `position`, `span::<C>()` of a view |
+//! | a part that keeps its position; a line and a column | `Spanned` of the module `spanned`; `line_and_column` |
+//! | keys that ignore case; a map asked by a view | the module `folded`; `AsciiMap` of the module `maps` |
 //! | the ASCII runs of bytes that may hold others | `bytes::ascii_chunks` |
 //! | a class of characters of your own | the module `classes` |
 //! | JSON values, serde | the module `json`; the traits of `serde` |
@@ -33,6 +35,7 @@ mod boxed;
 mod boxed_order;
 mod boxed_print;
 pub mod buffer;
+mod by_closure;
 pub mod bytes;
 mod bytes_mut;
 pub mod chunks;
@@ -43,15 +46,21 @@ pub mod endings;
 mod errors;
 pub mod folded;
 mod folded_search;
+mod folded_text;
 mod from_ascii;
 pub mod iter;
 pub mod json;
+mod line_feeds;
+pub mod maps;
 pub mod numbers;
+pub mod places;
+mod range_edits;
 mod replace;
 mod retain;
 mod search;
 mod serde_impls;
 mod short_search;
+pub mod spanned;
 mod splits;
 pub mod string;
 pub mod text;

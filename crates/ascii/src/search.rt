@@ -1,16 +1,21 @@
-//! Searching views: where a text or a character is, and whether a view contains, starts with or ends
-//! with a text. No call of this module allocates.
+//! Searching views: where a text, a character or a class of characters is, and whether a view contains,
+//! starts with or ends with a text. No call of this module allocates.
 
-ghost use Rattle.std.specs.Prelude.{◌≡◌, ◌↔◌, IsTrue};
+ghost use Rattle.std.specs.Prelude.{◌≡◌, ◌↔◌, IsTrue, MatchOption, length};
+ghost use Rattle.std.specs.List.{All};
 ghost use Rattle.memchr.specs.Find.{FindsLastNeedle, FindsNeedle, IsFirstByte, IsLastByte};
 ghost use Rattle.memchr.specs.Find.{is_byte};
+ghost use Rattle.ascii_base.specs.Bytes.{IsFirstNot};
 ghost use Rattle.ascii_base.specs.Code.{code_of};
+ghost use Rattle.ascii.specs.ByText.{matches_at};
 ghost use Rattle.ascii.specs.Search.{ContainsText, EndsWith, IsPrefix, IsSuffix, StartsWith, Strips};
 ghost use Rattle.ascii.specs.View.{text_of};
 
 use crate::ascii_str::AsciiStr;
 use crate::short_search;
 use ascii_base::ascii_char::AsciiChar;
+use ascii_base::classes::Searched;
+use ascii_base::kernels;
 use ascii_base::range::AsciiRange;
 
 impl<'a> AsciiStr<'a> {
@@ -56,6 +61,20 @@ impl<'a> AsciiStr<'a> {
         self.find(needle).is_some()
     }
 
+    /// Returns the number of occurrences of `needle` in the view: those of `matches`, which are found
+    /// from the left and do not overlap. An empty needle occurs nowhere.
+    ///
+    /// Searches the view once. If the occurrences are needed too, use `matches`.
+    ///
+    ///     AsciiStr::literal("banana").count(AsciiStr::literal("an")) // 2
+    ///     AsciiStr::literal("aaa").count(AsciiStr::literal("aa")) // 1
+    ///     AsciiStr::literal("aaa").count(AsciiStr::literal("")) // 0
+    pub fn count(self, needle: AsciiStr<'_>) -> usize
+        ensures { result ≡ length (matches_at (text_of needle.entry) (text_of self.entry)) }
+    {
+        self.matches(needle).count()
+    }
+
     /// Returns the position of the first `ch` in the view, or `None` if the view does not contain
     /// it.
     ///
@@ -84,6 +103,37 @@ impl<'a> AsciiStr<'a> {
         memchr::memrchr(ch.as_byte(), self.bytes)
     }
 
+    /// Returns `true` if all characters of the view are in the class. The empty view has no other
+    /// character, so for it the result is `true`.
+    ///
+    /// Scans the view once, 32 bytes at a time. If the position of the first other one is needed
+    /// too, use `first_not`; to take those at the start, `span`.
+    ///
+    ///     AsciiStr::literal("2024").is_all::<Digit>() // true
+    ///     AsciiStr::literal("2024!").is_all::<Digit>() // false
+    ///     AsciiStr::literal("").is_all::<Digit>() // true
+    pub fn is_all<C: Searched>(self) -> bool
+        ensures { IsTrue result ↔ All C.is (text_of self.entry) }
+    {
+        self.first_not::<C>().is_none()
+    }
+
+    /// Returns the position of the first character of the view that is not in the class, or `None`
+    /// if all of them are in it.
+    ///
+    /// Scans the view once, 32 bytes at a time. If the position does not matter, use `is_all`; to
+    /// cut the view there, `span`.
+    ///
+    ///     AsciiStr::literal("42px").first_not::<Digit>() // Some(2)
+    ///     AsciiStr::literal("42").first_not::<Digit>() // None
+    ///     AsciiStr::literal("").first_not::<Digit>() // None
+    pub fn first_not<C: Searched>(self) -> Option<usize>
+        ensures { let text = text_of self.entry in
+            MatchOption result (All C.is text) (IsFirstNot C.is text 0 (length text)) }
+    {
+        kernels::first_not::<C>(self.bytes)
+    }
+
     /// Returns `true` if the two views have the same text. The clause says so in the texts, where
     /// that of `==` compares codes.
     ///
@@ -97,8 +147,7 @@ impl<'a> AsciiStr<'a> {
 
     /// Returns `true` if the view starts with `prefix`.
     ///
-    /// To take the rest too, use `strip_prefix`; if case does not matter,
-    /// `starts_with_ignore_ascii_case`.
+    /// To take the rest too, use `strip_prefix`; ignoring ASCII case, `starts_with_ignore_ascii_case`.
     ///
     ///     AsciiStr::literal("foobar").starts_with(AsciiStr::literal("foo")) // true
     ///     AsciiStr::literal("foobar").starts_with(AsciiStr::literal("bar")) // false
@@ -111,8 +160,7 @@ impl<'a> AsciiStr<'a> {
 
     /// Returns `true` if the view ends with `suffix`.
     ///
-    /// To take the rest too, use `strip_suffix`; if case does not matter,
-    /// `ends_with_ignore_ascii_case`.
+    /// To take the rest too, use `strip_suffix`; ignoring ASCII case, `ends_with_ignore_ascii_case`.
     ///
     ///     AsciiStr::literal("foobar").ends_with(AsciiStr::literal("bar")) // true
     ///     AsciiStr::literal("foobar").ends_with(AsciiStr::literal("foo")) // false

@@ -1,6 +1,6 @@
 //! Cutting a view in two at a character or a text. No call of this module allocates.
 
-ghost use Rattle.std.specs.Prelude.{◌+◌, ◌∷◌, [], length};
+ghost use Rattle.std.specs.Prelude.{◌≡◌, ◌+◌, ◌≤◌, ◌∷◌, [], drop, length, take};
 ghost use Rattle.std.specs.List.{Contains};
 ghost use Rattle.ascii_base.specs.Code.{code_of};
 ghost use Rattle.memchr.specs.Find.{Nowhere, OccursAt};
@@ -49,6 +49,24 @@ impl<'a> AsciiStr<'a> {
         let after = pieces.next_back()?;
         let before = pieces.remainder()?;
         Some((before, after))
+    }
+
+    /// Returns the first `mid` characters of the view, and the others. Constant time.
+    ///
+    /// Condition: `mid` is at most the length.
+    ///
+    /// If that is not known, use `slice_ascii`.
+    ///
+    ///     AsciiStr::literal("foobar").split_at(3) // ("foo", "bar")
+    ///     AsciiStr::literal("foo").split_at(3) // ("foo", "")
+    #[inline]
+    pub fn split_at(self, mid: usize) -> (AsciiStr<'a>, AsciiStr<'a>)
+        requires { mid ≤ length (text_of self) }
+        ensures front { text_of result.0 ≡ take mid (text_of self.entry) }
+        ensures rest { text_of result.1 ≡ drop mid (text_of self.entry) }
+    {
+        let (front, rest) = self.bytes.split_at(mid);
+        (AsciiStr { bytes: front }, AsciiStr { bytes: rest })
     }
 
     /// Returns the parts of the view before and after its first `needle`, or `None` if the view

@@ -1,4 +1,4 @@
-//! The items of a view in reverse, from both ends.
+//! The items of a view in reverse, by double-ended iterators.
 //!
 //! Nothing here allocates.
 
@@ -44,16 +44,16 @@ impl<C: CutBack> CutBack for Backwards<C> {
     }
 }
 
-/// An iterator over the pieces of a view between separators, the last piece first, from both ends.
+/// A double-ended iterator over the pieces of a view between separators, the last piece first.
 pub type RSplit<'a> = Items<'a, Backwards<AtChar>>;
 
-/// An iterator over the pieces of a view between separators with their starts, the last piece first,
-/// from both ends.
+/// A double-ended iterator over the pieces of a view between separators with their starts, the last
+/// piece first.
 pub type RSplitSpans<'a> = Spans<'a, Backwards<AtChar>>;
 
 impl<'a> AsciiStr<'a> {
-    /// Returns an iterator over the pieces of the view at each `on`, the last piece first, from both
-    /// ends.
+    /// Returns a double-ended iterator over the pieces of the view at each `on`, the last piece
+    /// first.
     ///
     /// Constant time; a full walk searches the view once.
     ///
@@ -70,8 +70,8 @@ impl<'a> AsciiStr<'a> {
         })
     }
 
-    /// Returns an iterator over the pieces of the view at each `on`, the last piece first, from both
-    /// ends, each with the position in the view at which it starts.
+    /// Returns a double-ended iterator over the pieces of the view at each `on`, the last piece
+    /// first, each with the position in the view at which it starts.
     ///
     /// Constant time; a full walk searches the view once.
     ///

@@ -150,30 +150,29 @@ fn piece_start<C: Searched>(bytes: &[u8]) -> usize
 /// The cut into words: the longest runs of characters outside a class.
 pub type AtWords<C> = AtRuns<C, false>;
 
-/// An iterator over the pieces of a view between characters of a class, from both ends.
+/// A double-ended iterator over the pieces of a view between characters of a class.
 pub type SplitBy<'a, C> = Items<'a, AtClass<C>>;
 
-/// An iterator over the pieces of a view between characters of a class, each with its start, from
-/// both ends.
+/// A double-ended iterator over the pieces of a view between characters of a class, each with its
+/// start.
 pub type SplitSpansBy<'a, C> = Spans<'a, AtClass<C>>;
 
-/// An iterator over the words of a view, from both ends.
+/// A double-ended iterator over the words of a view.
 pub type Words<'a, C> = Items<'a, AtWords<C>>;
 
-/// An iterator over the words of a view, each with its start, from both ends.
+/// A double-ended iterator over the words of a view, each with its start.
 pub type WordSpans<'a, C> = Spans<'a, AtWords<C>>;
 
-/// An iterator over the runs of characters of a class, from both ends.
+/// A double-ended iterator over the runs of characters of a class.
 pub type Runs<'a, C> = Items<'a, AtRuns<C, true>>;
 
-/// An iterator over the runs of characters of a class, each with its start, from both ends.
+/// A double-ended iterator over the runs of characters of a class, each with its start.
 pub type RunSpans<'a, C> = Spans<'a, AtRuns<C, true>>;
 
 impl<'a> AsciiStr<'a> {
-    /// Returns an iterator over the pieces of the view at each character of the class, from both
-    /// ends. There is at least one piece, and none contains a character of the class. A character of
-    /// the class at an end of the view makes an empty piece there, and so do two in a row between
-    /// them.
+    /// Returns a double-ended iterator over the pieces of the view at each character of the class.
+    /// There is at least one piece, and none contains a character of the class. A character of the
+    /// class at an end of the view makes an empty piece there, and so do two in a row between them.
     ///
     /// Constant time; a full walk searches the view once.
     ///
@@ -192,8 +191,8 @@ impl<'a> AsciiStr<'a> {
         self.items_at(AtClass { class: PhantomData })
     }
 
-    /// Returns an iterator over the pieces of the view at each character of the class, from both
-    /// ends, each with the position in the view at which it starts.
+    /// Returns a double-ended iterator over the pieces of the view at each character of the class,
+    /// each with the position in the view at which it starts.
     ///
     /// Constant time; a full walk searches the view once.
     ///
@@ -208,7 +207,7 @@ impl<'a> AsciiStr<'a> {
         self.spans_at(AtClass { class: PhantomData }, 0)
     }
 
-    /// Returns an iterator over the words of the view, from both ends: the longest runs of characters
+    /// Returns a double-ended iterator over the words of the view: the longest runs of characters
     /// that are not in the class. There are no empty words.
     ///
     /// Constant time; a full walk searches the view once.
@@ -227,8 +226,8 @@ impl<'a> AsciiStr<'a> {
         self.items_at(AtRuns { class: PhantomData })
     }
 
-    /// Returns an iterator over the words of the view between whitespace, from both ends. There are
-    /// no empty words.
+    /// Returns a double-ended iterator over the words of the view between whitespace. There are no
+    /// empty words.
     ///
     /// Constant time; a full walk searches the view once.
     ///
@@ -246,7 +245,7 @@ impl<'a> AsciiStr<'a> {
         self.words::<Whitespace>()
     }
 
-    /// Returns an iterator over the words of the view, from both ends, each with the position in the
+    /// Returns a double-ended iterator over the words of the view, each with the position in the
     /// view at which it starts. The words are the longest runs of characters that are not in the
     /// class.
     ///
@@ -263,8 +262,8 @@ impl<'a> AsciiStr<'a> {
         self.spans_at(AtRuns { class: PhantomData }, 0)
     }
 
-    /// Returns an iterator over the longest runs of characters of the class in the view, from both
-    /// ends. There are no empty runs.
+    /// Returns a double-ended iterator over the longest runs of characters of the class in the
+    /// view. There are no empty runs.
     ///
     /// Constant time; a full walk searches the view once.
     ///
@@ -281,8 +280,8 @@ impl<'a> AsciiStr<'a> {
         self.items_at(AtRuns { class: PhantomData })
     }
 
-    /// Returns an iterator over the longest runs of characters of the class in the view, from both
-    /// ends, each with the position in the view at which it starts.
+    /// Returns a double-ended iterator over the longest runs of characters of the class in the
+    /// view, each with the position in the view at which it starts.
     ///
     /// Constant time; a full walk searches the view once.
     ///

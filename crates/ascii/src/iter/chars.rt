@@ -18,7 +18,7 @@ use std::iter::FusedIterator;
 use std::marker::Model;
 use std::slice;
 
-/// An iterator over the characters of a view, from both ends, which knows how many remain.
+/// A double-ended iterator over the characters of a view, which knows how many remain.
 #[derive(Drop)]
 pub struct Chars<'a> {
     bytes: slice::Iter<'a, u8>,
@@ -122,7 +122,7 @@ impl ExactSizeIterator for Chars<'_> {
 
 impl FusedIterator for Chars<'_> {}
 
-/// An iterator over the characters of a view, from both ends: the one that `for ch in view` uses.
+/// A double-ended iterator over the characters of a view: the one that `for ch in view` uses.
 #[derive(Drop)]
 pub struct CharsRef<'a> {
     chars: Chars<'a>,
@@ -230,7 +230,7 @@ impl<'a> IntoIterator for AsciiStr<'a> {
 }
 
 impl<'a> AsciiStr<'a> {
-    /// Returns an iterator over the characters of the view, from both ends. Constant time.
+    /// Returns a double-ended iterator over the characters of the view. Constant time.
     ///
     ///     let mut chars = AsciiStr::literal("foo").chars();
     ///     chars.next() // Some('f')

@@ -92,21 +92,21 @@ impl CutBack for AtEnd {
     }
 }
 
-/// An iterator over the pieces of a view that a character ends, from both ends.
+/// A double-ended iterator over the pieces of a view that a character ends.
 pub type SplitTerminator<'a> = Items<'a, AtTerminator>;
 
-/// An iterator over the pieces of a view that a character ends, with their starts, from both ends.
+/// A double-ended iterator over the pieces of a view that a character ends, with their starts.
 pub type SplitTerminatorSpans<'a> = Spans<'a, AtTerminator>;
 
-/// An iterator over the pieces of a view with the separators that end them, from both ends.
+/// A double-ended iterator over the pieces of a view with the separators that end them.
 pub type SplitInclusive<'a> = Items<'a, AtEnd>;
 
-/// An iterator over the pieces of a view with the separators that end them, each with its start, from
-/// both ends.
+/// A double-ended iterator over the pieces of a view with the separators that end them, each with
+/// its start.
 pub type SplitInclusiveSpans<'a> = Spans<'a, AtEnd>;
 
 impl<'a> AsciiStr<'a> {
-    /// Returns an iterator over the pieces of the view that `on` ends, from both ends: like `split`,
+    /// Returns a double-ended iterator over the pieces of the view that `on` ends: like `split`,
     /// but without the last piece if it is empty.
     ///
     /// Constant time; a full walk searches the view once.
@@ -143,9 +143,9 @@ impl<'a> AsciiStr<'a> {
         self.spans_at(AtTerminator { on }, 0)
     }
 
-    /// Returns an iterator over the pieces of the view at each `on`, from both ends, each with the `on`
-    /// that ends it. A last piece without one is yielded unless it is empty. Joined, the pieces are the
-    /// view.
+    /// Returns a double-ended iterator over the pieces of the view at each `on`, each with the `on`
+    /// that ends it. A last piece without one is yielded unless it is empty. Joined, the pieces are
+    /// the view.
     ///
     /// Constant time; a full walk searches the view once.
     ///

@@ -95,7 +95,7 @@ impl<'a> Cursor<'a> {
     }
 }
 
-/// An iterator over the lines of a view, each with its start and its ending, from both ends.
+/// A double-ended iterator over the lines of a view, each with its start and its ending.
 #[derive(Drop)]
 pub struct LineSpans<'a> {
     // The lines that are left, with their endings.
@@ -182,7 +182,7 @@ impl<'a> LineSpans<'a> {
     }
 }
 
-/// An iterator over the lines of a view without their endings, from both ends.
+/// A double-ended iterator over the lines of a view without their endings.
 #[derive(Drop)]
 pub struct Lines<'a> {
     spans: LineSpans<'a>,
@@ -264,7 +264,7 @@ impl<'a> Lines<'a> {
 }
 
 impl<'a> AsciiStr<'a> {
-    /// Returns an iterator over the lines of the view without their endings, from both ends. A line
+    /// Returns a double-ended iterator over the lines of the view without their endings. A line
     /// ends in LF or in CR LF; another CR belongs to its line, and so does a last CR with no LF
     /// after it. An LF at the end of the view makes no further line.
     ///
@@ -290,7 +290,7 @@ impl<'a> AsciiStr<'a> {
         }
     }
 
-    /// Returns an iterator over the lines of the view, from both ends, each with its ending and the
+    /// Returns a double-ended iterator over the lines of the view, each with its ending and the
     /// position in the view at which it starts.
     ///
     /// Constant time; a full walk searches the view once.

@@ -136,8 +136,8 @@ fn line_length(endings: Endings, text: &[u8]) -> usize
     }
 }
 
-/// An iterator over the lines of a view by the endings that end them, each with its start and its
-/// ending, from both ends.
+/// A double-ended iterator over the lines of a view by the endings that end them, each with its
+/// start and its ending.
 #[derive(Drop)]
 pub struct LineSpansBy<'a> {
     endings: Endings,
@@ -269,8 +269,8 @@ impl<'a> LineSpansBy<'a> {
     }
 }
 
-/// An iterator over the lines of a view by the endings that end them, without the endings, from both
-/// ends.
+/// A double-ended iterator over the lines of a view by the endings that end them, without the
+/// endings.
 #[derive(Drop)]
 pub struct LinesBy<'a> {
     spans: LineSpansBy<'a>,
@@ -377,12 +377,12 @@ impl<'a> LinesBy<'a> {
 }
 
 impl<'a> AsciiStr<'a> {
-    /// Returns an iterator over the lines of the view without their endings, from both ends, which end
-    /// as `endings` says: with `Any` in LF or CR LF, as for `lines`; with `CrLf` in CR LF only, so that
-    /// another CR or LF belongs to its line. With `CrLfStrict` they end in CR LF too, and they stop at
-    /// the first CR or LF that is not part of one: the line that has it is not yielded, `lone_break`
-    /// returns its position, and `remainder` the view from that line on. An ending at the end of the
-    /// view makes no further line.
+    /// Returns a double-ended iterator over the lines of the view without their endings, which end
+    /// as `endings` says: with `Any` in LF or CR LF, as for `lines`; with `CrLf` in CR LF only, so
+    /// that another CR or LF belongs to its line. With `CrLfStrict` they end in CR LF too, and they
+    /// stop at the first CR or LF that is not part of one: the line that has it is not yielded,
+    /// `lone_break` returns its position, and `remainder` the view from that line on. An ending at
+    /// the end of the view makes no further line.
     ///
     /// Constant time; a full walk searches the view once.
     ///
@@ -400,8 +400,8 @@ impl<'a> AsciiStr<'a> {
         }
     }
 
-    /// Returns an iterator over the lines of the view that end as `endings` says, like `lines_by`, from
-    /// both ends, each with its ending and the position in the view at which it starts.
+    /// Returns a double-ended iterator over the lines of the view that end as `endings` says, like
+    /// `lines_by`, each with its ending and the position in the view at which it starts.
     ///
     /// Constant time; a full walk searches the view once.
     ///

@@ -83,10 +83,10 @@ impl<'a> Cursor<'a> {
     }
 }
 
-/// An iterator over the pieces of a view between separators, each with its start, from both ends.
+/// A double-ended iterator over the pieces of a view between separators, each with its start.
 pub type SplitSpans<'a> = Spans<'a, AtChar>;
 
-/// An iterator over the pieces of a view between separators, from both ends.
+/// A double-ended iterator over the pieces of a view between separators.
 pub type Split<'a> = Items<'a, AtChar>;
 
 impl<'a> Items<'a, AtChar> {
@@ -105,9 +105,9 @@ impl<'a> Items<'a, AtChar> {
 }
 
 impl<'a> AsciiStr<'a> {
-    /// Returns an iterator over the pieces of the view at each `on`, from both ends. There is at
-    /// least one piece, and none contains `on`. A separator at an end of the view makes an empty
-    /// piece there.
+    /// Returns a double-ended iterator over the pieces of the view at each `on`. There is at least
+    /// one piece, and none contains `on`. A separator at an end of the view makes an empty piece
+    /// there.
     ///
     /// Constant time; a full walk searches the view once.
     ///
@@ -130,7 +130,7 @@ impl<'a> AsciiStr<'a> {
         }
     }
 
-    /// Returns an iterator over the pieces of the view at each `on`, from both ends, each with the
+    /// Returns a double-ended iterator over the pieces of the view at each `on`, each with the
     /// position in the view at which it starts.
     ///
     /// Constant time; a full walk searches the view once.
