@@ -33,7 +33,7 @@ void ascii_to_upper(uint8_t *bytes, size_t length);
 /* Changes each byte of A to Z to that of a to z. Every other byte is unchanged. Ab-1 becomes ab-1. */
 void ascii_to_lower(uint8_t *bytes, size_t length);
 
-/* Returns true if two texts are equal when the case of ASCII letters is ignored. Host and HOST are. */
+/* Returns true if two texts are equal, ignoring ASCII case. Host and HOST are. */
 bool ascii_equal_ignoring_case(const uint8_t *first, size_t first_length, const uint8_t *second, size_t second_length);
 
 /* Returns the position of the first byte that is not whitespace, or the length if every byte is. For " ab " it

@@ -5,7 +5,7 @@
 //! | the first non-ASCII byte | `ascii_first_other` |
 //! | whether a part of a source is ASCII, and if not, the position | `ascii_accepts_part` |
 //! | the case of letters, in place | `ascii_to_upper`, `ascii_to_lower` |
-//! | whether two texts are equal when case is ignored | `ascii_equal_ignoring_case` |
+//! | whether two texts are equal, ignoring ASCII case | `ascii_equal_ignoring_case` |
 //! | the whitespace at the ends of a text | `ascii_trim_start`, `ascii_trim_end` |
 //!
 //! Bytes are passed as a pointer and a length; `ascii.h` declares the calls. Nothing is allocated. A call
@@ -52,8 +52,7 @@ pub extern "C" fn ascii_to_lower(bytes: &mut [u8])
     kernels::lower_in_place(bytes);
 }
 
-/// Returns `true` if two texts are equal when the case of ASCII letters is ignored. `Host` and
-/// `HOST` are.
+/// Returns `true` if two texts are equal, ignoring ASCII case. `Host` and `HOST` are.
 #[unsafe(no_mangle)]
 pub extern "C" fn ascii_equal_ignoring_case(first: &[u8], second: &[u8]) -> bool
     ensures { IsTrue result ↔ (map lower_image first.now ≡ map lower_image second.now) }

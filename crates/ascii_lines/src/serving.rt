@@ -3,7 +3,7 @@
 //! A `LineChannel` reads lines from a device of both directions and writes replies to it. `serve` hands each line, or
 //! each part that the handler has asked for, to a `Handler`, which writes its replies and says what it asks for next.
 //! Replies are sent when the channel has to read its device before it can go on: so no reply waits for bytes that a
-//! client sends only after it, and requests that come together are answered by one write.
+//! client sends only after it, and the replies to requests that come together are gathered in the buffer.
 
 ghost use Rattle.std.specs.Prelude.{if◌then◌else◌, ◌≡◌, ◌-◌, ◌^◌, ◌∷◌, [], IfOk, IsTrue, List};
 ghost use Rattle.std.specs.Prelude.{Err, Ok, false};

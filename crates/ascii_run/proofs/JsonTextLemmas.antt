@@ -1,4 +1,4 @@
--- The compact JSON text of a text is what the kit's writer gives, and is itself a text.
+-- The compact JSON text of a text is what the toolchain's writer gives, and is itself a text.
 use Rattle.std.proofs.Common.{◌≡◌, ℕ, ◌<◌, List, [], ◌∷◌, ◌++◌, refl, ap, ◌∙◌, sym, arith}
 use Rattle.std.proofs.Common.{append-nil, length, map, take, drop, length-append, ◌+◌, ◌-◌, ◌≤◌}
 use Rattle.std.proofs.Common.{subst, nat_lt, Bool, true, ⊎_elim, get_or}

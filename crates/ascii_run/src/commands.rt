@@ -67,7 +67,7 @@ pub enum Cmd<'a> {
     Get(usize),
     /// Asks for a copy of the part that a range names.
     Copy(AsciiRange),
-    /// Asks whether the text equals a view when the case of letters does not count.
+    /// Asks whether the text equals a view, ignoring ASCII case.
     EqIgnoreCase(AsciiStr<'a>),
 }
 
