@@ -16,12 +16,12 @@ use Rattle.std.specs.declared.option.Option.TheVariants.{Some, None}
 use Rattle.std.specs.declared.result.Result.TheVariants.{Err}
 use Rattle.ascii.specs.Bytes.{FirstOther}
 use Rattle.ascii_filter.specs.declared.scanner.OtherByte.{OtherByte}
-use Rattle.ascii_filter.specs.declared.scanner.Place.{Place}
 use Rattle.ascii_run.specs.declared.faults.BoundedFault.{BoundedFault}
 use Rattle.ascii_run.specs.declared.faults.BoundedFault.TheVariants as fault
 use Rattle.ascii_filter.specs.Places.{FillOutcome, FindsNext, HeldNext, ScanOutcome, ScanState}
 use Rattle.ascii_filter.specs.Places.{Skips}
-use Rattle.ascii_filter.specs.Places.{place_after, place_after_byte}
+use Rattle.ascii.specs.Places.{place_after}
+use Rattle.ascii.proofs.PlaceLemmas.{place_after-append}
 
 -- ---- the bytes that are held
 
@@ -51,13 +51,6 @@ ascii_before bytes at first = IsAscii-from_all (take at bytes)
     let short : k < at = omega (arith, inside, length-take at bytes) in
     subst (λ b. b < 128) (sym (get_or-take at bytes k 0 short))
     (first.least k (omega arith) short)))
-
--- ---- places
-
-pub place_after-append : (place : Place) (xs ys : List ℕ)
-    → place_after place (xs ++ ys) ≡ place_after (place_after place xs) ys
-place_after-append place [] ys = refl
-place_after-append place (x ∷ xs) ys = place_after-append (place_after_byte place x) xs ys
 
 -- a scanner that found the end holds none
 pub none_held : (items : List ℕ) (s e : ℕ) → s ≡ e → take (e - s) (drop s items) ≡ []

@@ -1,6 +1,6 @@
 -- The places of bytes in the lines of an input, and what a scanner finds.
-use Rattle.std.specs.Prelude.{◌≡◌, ℕ, ◌+◌, ◌<◌, ◌≤◌, List, [], ◌∷◌, ◌++◌, if◌then◌else◌, ◌==◌}
-use Rattle.std.specs.Prelude.{length, suc, ◌^◌, ◌-◌, nat_lt, Bool, true, false}
+use Rattle.std.specs.Prelude.{◌≡◌, ℕ, ◌+◌, ◌<◌, ◌≤◌, List, [], ◌∷◌, ◌++◌, if◌then◌else◌}
+use Rattle.std.specs.Prelude.{length, ◌^◌, ◌-◌, nat_lt, Bool, true, false}
 use Rattle.std.specs.Str.{IsAscii}
 use Rattle.std.specs.declared.option.Option.{Option}
 use Rattle.std.specs.declared.option.Option.TheVariants.{Some, None}
@@ -9,18 +9,8 @@ use Rattle.std.specs.declared.result.Result.TheVariants.{Ok, Err}
 use Rattle.ascii_run.specs.declared.faults.BoundedFault.{BoundedFault}
 use Rattle.ascii_run.specs.declared.faults.BoundedFault.TheVariants.{Read, TooLong}
 use Rattle.ascii_filter.specs.declared.scanner.OtherByte.{OtherByte}
-use Rattle.ascii_filter.specs.declared.scanner.Place.{Place}
-
--- the place after a byte: the start of the next line after LF, otherwise the next column
-abbrev pub place_after_byte : Place → ℕ → Place
-place_after_byte place byte =
-    if byte == 10 then record { line = place.line + 1; column = 1 }
-    else record { line = place.line; column = place.column + 1 }
-
--- the place after all of the bytes
-abbrev pub place_after : Place → List ℕ → Place
-place_after place [] = place
-place_after place (byte ∷ bytes) = place_after (place_after_byte place byte) bytes
+use Rattle.ascii.specs.declared.places.Place.{Place}
+use Rattle.ascii.specs.Places.{place_after, place_after_byte, start}
 
 -- the non-ASCII bytes of a text that begins at a place, in order, each with its place
 abbrev pub others_from : Place → List ℕ → List OtherByte
@@ -28,10 +18,6 @@ others_from place [] = []
 others_from place (byte ∷ bytes) =
     if nat_lt byte 128 then others_from (place_after_byte place byte) bytes
     else record { place = place; byte = byte } ∷ others_from (place_after_byte place byte) bytes
-
--- the place of the first byte of an input
-abbrev pub start : Place
-start = record { line = 1; column = 1 }
 
 -- the non-ASCII bytes of an input, in order, each with its place
 abbrev pub others_of : List ℕ → List OtherByte
@@ -79,11 +65,6 @@ ScanOutcome (Err TooLong) old new given at_end =
 ScanOutcome (Err other) old new given at_end = ⊥
 
 -- ---- cited by private functions only
-
--- the number of LF among the bytes
-abbrev pub feeds : List ℕ → ℕ
-feeds [] = 0
-feeds (byte ∷ bytes) = if byte == 10 then suc (feeds bytes) else feeds bytes
 
 -- of the bytes that are held, the next above 127 was found, or all are ASCII and were passed
 abbrev pub HeldNext : ScanState → ScanState → Option OtherByte → Type 0

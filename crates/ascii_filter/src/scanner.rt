@@ -7,92 +7,14 @@ ghost use Rattle.std.specs.Io.KnownBytes.{IsAtEnd};
 ghost use Rattle.std.specs.declared.result.Result.TheVariants.{Ok};
 ghost use Rattle.ascii_devices.specs.States.{Gives};
 ghost use Rattle.ascii_filter.specs.Places.{FillOutcome, HeldNext, IsFresh, ScanOutcome};
-ghost use Rattle.ascii_filter.specs.Places.{feeds, place_after, place_after_byte};
 ghost use Rattle.ascii_run.specs.Reading.{Counts};
 
 use ascii::kernels::first_other;
+use ascii::places::Place;
 use ascii_devices::{Source, zeros};
 use ascii_run::BoundedFault;
-use memchr::memrchr;
 use std::alloc::{AllocError, Allocator};
 use std::marker::Model;
-
-/// A line and a column, both counted from 1, columns in bytes.
-#[derive(Clone, Copy, PartialEq, Eq, Debug)]
-pub struct Place {
-    pub line: u64,
-    pub column: u64,
-}
-
-impl Place {
-    /// The place after a byte.
-    fn after_byte(self, byte: u8) -> Place
-        requires { self.line + self.column < 2 ^ 64 - 1 }
-        ensures { result ≡ place_after_byte self byte }
-    {
-        if byte == b'\n' {
-            Place {
-                line: self.line + 1,
-                column: 1,
-            }
-        } else {
-            Place {
-                line: self.line,
-                column: self.column + 1,
-            }
-        }
-    }
-
-    /// The place after all of the bytes, by the number of LF and the last one.
-    fn after(self, bytes: &[u8]) -> Place
-        requires { (1 ≤ self.column) × (self.line + self.column + length bytes.now < 2 ^ 64) }
-        ensures place { result ≡ place_after self bytes.now }
-        ensures room { (1 ≤ result.column)
-            × (result.line + result.column ≤ self.line + self.column + length bytes.now) }
-    {
-        match memrchr(b'\n', bytes) {
-            Some(at) => Place {
-                line: self.line + count_feeds(bytes),
-                column: (bytes.len() - at) as u64,
-            },
-            None => Place {
-                line: self.line,
-                column: self.column + bytes.len() as u64,
-            },
-        }
-    }
-}
-
-/// How many bytes `count_few` takes at most, so that it counts in a byte.
-const FEW: usize = 255;
-
-/// The number of LF among the bytes.
-fn count_feeds(bytes: &[u8]) -> u64
-    ensures count { result ≡ feeds bytes.now }
-    ensures most { result ≤ length bytes.now }
-{
-    let mut rest = bytes;
-    let mut count = 0;
-    'parts: while rest.len() > FEW {
-        let (part, others) = rest.split_at(FEW);
-        count += u64::from(count_few(part));
-        rest = others;
-    }
-    count + u64::from(count_few(rest))
-}
-
-/// The number of LF among a few bytes.
-fn count_few(bytes: &[u8]) -> u8
-    requires { length bytes.now ≤ FEW }
-    ensures count { result ≡ feeds bytes.now }
-    ensures most { result ≤ length bytes.now }
-{
-    let mut count = 0;
-    for &byte in bytes {
-        count += u8::from(byte == b'\n');
-    }
-    count
-}
 
 /// A non-ASCII byte and its place.
 #[derive(Clone, Copy, PartialEq, Eq, Debug)]

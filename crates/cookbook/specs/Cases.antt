@@ -9,7 +9,7 @@ use Rattle.ascii.specs.Case.{lower_image}
 abbrev pub lower_text : List ℕ → List ℕ
 lower_text text = map lower_image text
 
--- `a` and `b` are equal if the case of letters is ignored
+-- `a` and `b` are equal, ignoring ASCII case
 abbrev pub EqIgnoringCase : List ℕ → List ℕ → Type 0
 EqIgnoringCase a b = lower_text a ≡ lower_text b
 

@@ -70,7 +70,7 @@ ReadsHeaders block result = (lines : List (WithStart Line)) × LineSpansOf 0 blo
 
 -- ---- headers by name
 
--- the name of `header` is `name` if the case of letters is ignored
+-- the name of `header` is `name`, ignoring ASCII case
 abbrev pub IsNamed : List ℕ → Header → Type 0
 IsNamed name header = EqIgnoringCase (text_of header.name) name
 

@@ -1,5 +1,5 @@
-//! A map from header names to values. Names are compared when case is ignored: `HOST` finds the value
-//! of `Host: a.example`.
+//! A map from header names to values. Names are compared ignoring ASCII case: `HOST` finds the value of
+//! `Host: a.example`.
 
 use crate::headers::Header;
 use ascii::AsciiStr;
@@ -7,8 +7,8 @@ use ascii::folded::FoldedStr;
 use std::alloc::{AllocError, Global};
 use std::collections::BTreeMap;
 
-/// The values of headers by name, when case is ignored. If a name occurs more than once, its last
-/// value counts.
+/// The values of headers by name, ignoring ASCII case. If a name occurs more than once, its last value
+/// counts.
 #[derive(Drop)]
 pub struct HeaderMap<'a> {
     values: BTreeMap<FoldedStr<'a>, AsciiStr<'a>>,
@@ -32,8 +32,8 @@ impl<'a> HeaderMap<'a> {
         Ok(HeaderMap { values })
     }
 
-    /// Returns the value of the last header with the name, when case is ignored, or `None` if no
-    /// header has the name. The name has to live as long as the headers, as a literal does.
+    /// Returns the value of the last header with the name, ignoring ASCII case, or `None` if no header
+    /// has the name. The name has to live as long as the headers, as a literal does.
     pub fn get(&self, name: AsciiStr<'a>) -> Option<AsciiStr<'a>>
         ensures { option_map text_of result ≡ values_of self.now (text_of name.entry) }
     {

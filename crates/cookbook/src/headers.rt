@@ -1,4 +1,4 @@
-//! Reading the header lines of a message: a name, a colon and a value. A header is found by its name, ignoring case.
+//! Reading the header lines of a message: a name, a colon and a value. A header is found by its name, ignoring ASCII case.
 //!
 //! Only spaces and tabs around a value are removed. Another character there, such as a vertical tab, stays in the value;
 //! the value of a well-formed message has none.
@@ -84,7 +84,6 @@ pub fn read_headers<'a>(
 
 /// Returns the header of one line without its ending, or an error. For `Host: a.example`, the name
 /// is `Host` and the value `a.example`.
-#[tactic(auto, using(ascii::proofs::CallerLemmas::span_all, ascii::proofs::CallerLemmas::span_first))]
 pub fn read_header<'a>(line: AsciiStr<'a>) -> Result<Header<'a>, HeaderError>
     ensures { ReadsHeader (text_of line.entry) result }
 {
@@ -102,8 +101,8 @@ pub fn read_header<'a>(line: AsciiStr<'a>) -> Result<Header<'a>, HeaderError>
     Ok(Header { name, value })
 }
 
-/// Returns the first header with the name, when case is ignored, or `None` if there is none: `HOST`
-/// finds `Host: a.example`.
+/// Returns the first header with the name, ignoring ASCII case, or `None` if there is none: `HOST` finds
+/// `Host: a.example`.
 pub fn find_header<'a>(headers: &[Header<'a>], name: AsciiStr<'_>) -> Option<Header<'a>>
     ensures { FindsHeader headers.now (text_of name.entry) result }
 {

@@ -16,7 +16,7 @@ use std::alloc::{AllocError, Global};
 use std::cmp::Ordering;
 
 /// A host name. It is kept in lower case, so that `==`, the order and the hash, which are those of
-/// what is kept, ignore case. A name of at most 24 characters does not allocate.
+/// what is kept, ignore ASCII case. A name of at most 24 characters does not allocate.
 #[derive(PartialEq, Eq, PartialOrd, Ord, Hash, Debug, Drop)]
 pub struct HostName {
     name: SmallAsciiString,
@@ -105,7 +105,6 @@ pub fn host_order(
 }
 
 /// Returns an error if the piece is not a valid label.
-#[tactic(auto, using(ascii::proofs::CallerLemmas::span_all, ascii::proofs::CallerLemmas::span_first))]
 fn check_label(label: SplitSpan<'_>) -> Result<(), HostNameError>
     requires { label.start + length (text_of label.text) ≤ usize.MAX }
     ensures { MatchResult result (λ _. IsLabel (text_of label.entry.text))

@@ -3,8 +3,8 @@
 //! | You have | You want | Module |
 //! |---|---|---|
 //! | the header lines of a message | names and values, or the first line that is not a header | `headers` |
-//! | headers | the last value at a name, when case is ignored | `header_map` |
-//! | a host name | to check it, and to compare it when case is ignored | `hosts` |
+//! | headers | the last value at a name, ignoring ASCII case | `header_map` |
+//! | a host name | to check it, and to compare it ignoring ASCII case | `hosts` |
 //! | a settings file, `key = value # comment` | the key and the value of a line | `settings` |
 //! | a table with tabs between the fields | the fields of a row | `table` |
 //! | a text that begins with an identifier | the identifier and the rest, by a class of one's own | `identifiers` |

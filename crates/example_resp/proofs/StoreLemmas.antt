@@ -1,11 +1,9 @@
 -- What a change of a map is as a change of the contents of a store.
 use Rattle.std.proofs.Common.{◌≡◌, ◌∙◌, Bool, List, None, Option, Some, ap, cond, false, refl}
 use Rattle.std.proofs.Common.{is_some, true, ℕ}
-use Rattle.std.proofs.lemmas.Map.Text.{hash_map_updates_text}
-use Rattle.std.specs.HashMap.{UpdatesBy, get_by_text}
 use Rattle.std.specs.Option.{option_map}
 use Rattle.std.specs.Str.{bytes_eq}
-use Rattle.std.specs.String.{string_bytes, string_eq}
+use Rattle.ascii.specs.Maps.{ChangesAt, value_at}
 use Rattle.ascii.specs.StringState.{StringState}
 use Rattle.example_resp.specs.Store.{Changes, contents_of}
 use Rattle.example_resp.specs.declared.store.Store.{Store}
@@ -22,15 +20,15 @@ text_in-cond false x y = refl
 
 -- a map that is changed at a key of these bytes has changed contents
 pub changes_contents : (old new : Store) (bytes : List ℕ) (value : Option StringState)
-    → UpdatesBy string_eq (λ k. bytes_eq bytes (string_bytes k)) old.entries new.entries value
+    → ChangesAt bytes value old.entries new.entries
     → Changes (contents_of old) bytes (text_in value) (contents_of new)
 changes_contents old new bytes value updates = λ other.
-    ap text_in (hash_map_updates_text bytes old.entries new.entries value updates other)
-    ∙ text_in-cond (bytes_eq bytes other) value (get_by_text old.entries other)
+    ap text_in (updates other)
+    ∙ text_in-cond (bytes_eq bytes other) value (value_at old.entries other)
 
 -- a value was found at a key of these bytes if the contents have one
 pub found_in_contents : (store : Store) (bytes : List ℕ) (value : Option StringState)
-    (found : Bool) → value ≡ get_by_text store.entries bytes → found ≡ is_some value
+    (found : Bool) → value ≡ value_at store.entries bytes → found ≡ is_some value
     → found ≡ is_some (contents_of store bytes)
 found_in_contents store bytes value found is says =
     says ∙ (some_text value ∙ ap (λ (value : Option StringState). is_some (text_in value)) is)

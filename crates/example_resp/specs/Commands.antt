@@ -41,7 +41,7 @@ IsCount Exists count = 0 < count
 IsCount Ping count = (count ≡ 0) ⊎ (count ≡ 1)
 IsCount Quit count = count ≡ 0
 
--- `word` is the name of `verb` if the case of letters is ignored
+-- `word` is the name of `verb`, ignoring ASCII case
 abbrev pub IsNameOf : Verb → List ℕ → Type 0
 IsNameOf verb word = map lower_image word ≡ name_of verb
 

@@ -1,10 +1,10 @@
 -- What a store holds: a function from keys to values. `update` is std's word for a function that is
 -- changed at one key.
-use Rattle.std.specs.HashMap.{get_by_text}
 use Rattle.std.specs.Map.{update}
 use Rattle.std.specs.Option.{option_map}
 use Rattle.std.specs.Prelude.{◌≡◌, ◌+◌, ℕ, List, [], ◌∷◌, None, Option, if◌then◌else◌, is_some, map}
 use Rattle.std.specs.Str.{bytes_eq}
+use Rattle.ascii.specs.Maps.{value_at}
 use Rattle.ascii.specs.StringState.{StringState}
 use Rattle.example_resp.specs.declared.store.Store.{Store}
 
@@ -18,7 +18,7 @@ Contents = List ℕ → Option (List ℕ)
 
 -- the contents of `store`
 abbrev pub contents_of : Store → Contents
-contents_of store key = option_map (λ value. value.text) (get_by_text store.entries key)
+contents_of store key = option_map (λ value. value.text) (value_at store.entries key)
 
 -- the contents `new` are `old`, except that they have `value` at the key `key`
 abbrev pub Changes : Contents → List ℕ → Option (List ℕ) → Contents → Type 0

@@ -109,7 +109,7 @@ pub fn read_command<'a>(words: &'a [AsciiString]) -> Result<Command<'a>, Rejecti
     }
 }
 
-/// Returns the verb with this name when case is ignored, or `None` if there is none.
+/// Returns the verb with this name, ignoring ASCII case, or `None` if there is none.
 fn read_verb(name: AsciiStr<'_>) -> Option<Verb>
     ensures { MatchOption result ((verb : Verb) → ¬ (IsNameOf verb (text_of name.entry)))
         (λ verb. IsNameOf verb (text_of name.entry)) }

@@ -1,13 +1,13 @@
 //! A store: a value for each key that was set.
 
+use ascii::maps::AsciiMap;
 use ascii::{AsciiStr, AsciiString};
 use std::alloc::{AllocError, Global};
-use std::collections::HashMap;
 
 /// A map from keys to values.
 #[derive(Drop)]
 pub struct Store {
-    entries: HashMap<String, AsciiString>,
+    entries: AsciiMap<AsciiString>,
 }
 
 impl Store {
@@ -24,7 +24,7 @@ impl Store {
         ensures { (key : List ℕ) → contents_of result key ≡ None }
     {
         Store {
-            entries: HashMap::new(alloc),
+            entries: AsciiMap::new(alloc),
         }
     }
 
@@ -32,7 +32,7 @@ impl Store {
     pub fn get(&self, key: AsciiStr<'_>) -> Option<AsciiStr<'_>>
         ensures { option_map text_of result ≡ contents_of self.now (text_of key.entry) }
     {
-        match self.entries.get(key.as_str()) {
+        match self.entries.get(key) {
             Some(value) => Some(value.as_ascii_str()),
             None => None,
         }
@@ -42,7 +42,7 @@ impl Store {
     fn contains(&self, key: AsciiStr<'_>) -> bool
         ensures { result ≡ is_some (contents_of self.now (text_of key.entry)) }
     {
-        self.entries.get(key.as_str()).is_some()
+        self.entries.contains_key(key)
     }
 
     /// Sets the value at the key, or returns an error if an allocation fails.
@@ -55,7 +55,6 @@ impl Store {
         ensures { OnOk result (Changes (contents_of self.old) (text_of key.entry)
             (Some (text_of value.entry)) (contents_of self.new)) }
     {
-        let key = String::from_str(alloc, key.as_str())?;
         let value = value.to_ascii_string(alloc)?;
         self.entries.insert(key, value)?;
         Ok(())
@@ -67,7 +66,7 @@ impl Store {
         ensures removed { Changes (contents_of self.old) (text_of key.entry) None
             (contents_of self.new) }
     {
-        self.entries.remove(key.as_str()).is_some()
+        self.entries.remove(key).is_some()
     }
 
     /// Returns the number of keys at which there is a value. A key that comes twice counts twice.

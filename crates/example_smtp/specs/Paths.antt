@@ -3,20 +3,16 @@ use Rattle.std.specs.Prelude.{◌≡◌, ◌≢◌, ◌⊎◌, ◌≤◌, ◌-�
 use Rattle.std.specs.Prelude.{codes, false, length, map, slice_get, true}
 use Rattle.std.specs.List.{All, Contains}
 use Rattle.ascii.specs.Case.{lower_image}
-use Rattle.ascii.specs.Class.{IsLabelCode, IsPrintable, in_ranges}
+use Rattle.ascii.specs.Class.{IsAtomCode, IsLabelCode, IsPrintable, in_ranges}
 use Rattle.ascii.specs.Pieces.{Pieces}
 use Rattle.ascii.specs.Search.{IsCut}
-use Rattle.example_smtp.specs.declared.paths.TheConstants.{ADDRESS, ATOM}
+use Rattle.example_smtp.specs.declared.paths.TheConstants.{ADDRESS}
 
 -- `text` is `inner` between `start` and `end`
 abbrev pub IsBetween : List ℕ → List ℕ → List ℕ → List ℕ → Type 0
 IsBetween start end text inner = start ++ (inner ++ end) ≡ text
 
 -- ---- the part before the `@`
-
--- a character of an atom: a letter, a digit, or one of the marks !#$%&'*+-/=?^_`{|}~
-abbrev pub IsAtomCode : ℕ → Type 0
-IsAtomCode code = IsTrue (in_ranges ATOM code)
 
 -- an atom: one at least of these characters
 abbrev pub IsAtom : List ℕ → Type 0

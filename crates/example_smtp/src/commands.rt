@@ -151,7 +151,7 @@ pub fn read_command<'a>(line: AsciiStr<'a>) -> Result<Command<'a>, Reply>
     }
 }
 
-/// Returns the verb with whose name the line begins when case is ignored, and the text after it; or
+/// Returns the verb with whose name the line begins, ignoring ASCII case, and the text after it; or
 /// `None` if there is none.
 #[tactic(auto, using(crate::proofs::VerbLemmas::none_begins))]
 fn read_verb<'a>(line: AsciiStr<'a>) -> Option<Call<'a>>
@@ -188,8 +188,8 @@ fn read_verb<'a>(line: AsciiStr<'a>) -> Option<Call<'a>>
     None
 }
 
-/// Returns the verb and the text after its name, or `None` if the line does not begin with the name
-/// when case is ignored.
+/// Returns the verb and the text after its name, or `None` if the line does not begin with the name,
+/// ignoring ASCII case.
 fn call_of<'a>(line: AsciiStr<'a>, verb: Verb) -> Option<Call<'a>>
     ensures { MatchOption result (¬ (BeginsWithVerb (text_of line.entry) verb))
         (λ call. (call.verb ≡ verb)

@@ -1,15 +1,13 @@
 //! The paths of mail: whom it comes from, and whom it goes to.
 
 ghost use Rattle.std.specs.Prelude.{◌↔◌, ℕ, IsTrue, List, MatchOption, false};
-ghost use Rattle.std.specs.List.{All};
 ghost use Rattle.ascii.specs.View.{text_of};
-ghost use Rattle.example_smtp.specs.Paths.{AreDotted, IsAddressCode, IsAtom, IsAtomCode};
+ghost use Rattle.example_smtp.specs.Paths.{AreDotted, IsAddressCode, IsAtom};
 ghost use Rattle.example_smtp.specs.Paths.{IsBetween, IsDomain, IsLabel, IsLiteral, IsMailbox};
 ghost use Rattle.example_smtp.specs.Paths.{IsName, IsQuoted, IsQuotedText, IsRecipient, IsSender};
-ghost use Rattle.example_smtp.specs.declared.paths.TheConstants.{ADDRESS, ATOM};
+ghost use Rattle.example_smtp.specs.declared.paths.TheConstants.{ADDRESS};
 
-use ascii::classes::{ByRanges, Label, Ranges, Searched};
-use ascii::kernels::first_not;
+use ascii::classes::{self, ByRanges, Label, Ranges};
 use ascii::{AsciiChar, AsciiStr};
 
 /// The most characters of the name of a mailbox.
@@ -17,37 +15,6 @@ const MOST_OF_NAME: usize = 64;
 
 /// The most characters of a domain.
 const MOST_OF_DOMAIN: usize = 255;
-
-/// The ranges of `AtomText`.
-pub struct AtomRanges;
-
-const ATOM: [(u8, u8); 10] = [
-    (b'!', b'!'),
-    (b'#', b'\''),
-    (b'*', b'+'),
-    (b'-', b'-'),
-    (b'/', b'9'),
-    (b'=', b'='),
-    (b'?', b'?'),
-    (b'A', b'Z'),
-    (b'^', b'z'),
-    (b'{', b'~'),
-];
-
-impl Ranges for AtomRanges {
-    ghost set = { IsAtomCode };
-
-    ghost list = { ATOM };
-
-    ghost matches = { λ _. (λ is. is, λ is. is) };
-
-    fn ranges() -> &'static [(u8, u8)] {
-        &ATOM
-    }
-}
-
-/// The characters of an atom.
-type AtomText = ByRanges<AtomRanges>;
 
 /// The ranges of `AddressText`.
 pub struct AddressRanges;
@@ -124,7 +91,7 @@ impl Part for Atom {
     ghost is = { IsAtom };
 
     fn accepts(text: AsciiStr<'_>) -> bool {
-        !text.is_empty() && is_all::<AtomText>(text)
+        !text.is_empty() && text.is_all::<classes::Atom>()
     }
 }
 
@@ -136,17 +103,10 @@ impl Part for DomainLabel {
 
     fn accepts(text: AsciiStr<'_>) -> bool {
         !text.is_empty()
-            && is_all::<Label>(text)
+            && text.is_all::<Label>()
             && text.first() != Some(AsciiChar::Minus)
             && text.last() != Some(AsciiChar::Minus)
     }
-}
-
-/// Returns `true` if all characters of the text are in the class.
-fn is_all<C: Searched>(text: AsciiStr<'_>) -> bool
-    ensures { IsTrue result ↔ All C.is (text_of text.entry) }
-{
-    first_not::<C>(text.as_bytes()).is_none()
 }
 
 /// Returns `true` if each part of the text between dots is accepted.
@@ -190,7 +150,7 @@ fn is_literal(text: AsciiStr<'_>) -> bool
     ensures { IsTrue result ↔ IsLiteral (text_of text.entry) }
 {
     match between(text, AsciiStr::literal("["), AsciiStr::literal("]")) {
-        Some(inner) => !inner.is_empty() && is_all::<AddressText>(inner),
+        Some(inner) => !inner.is_empty() && inner.is_all::<AddressText>(),
         None => false,
     }
 }

@@ -1,12 +1,11 @@
-use Rattle.std.proofs.Common.{◌≡◌, Some, rules, string_bytes}
+use Rattle.std.proofs.Common.{◌≡◌, Some, rules}
 use Rattle.ascii.specs.View.{text_of}
 use Rattle.example_resp.proofs.StoreLemmas.{changes_contents}
 use Rattle.example_resp.proofs.store.Store.set.Goals as goal
 
 pub returns : goal.returns
 returns c =
-    let key : string_bytes c.in_ok-key.key ≡ text_of c.args.key = search rules in
     let value : c.in_ok-value.value.text ≡ text_of c.args.value = search rules in
-    rw (← key, ← value)
+    rw (← value)
     (changes_contents c.args.self.now (record { entries = c.insert.new.self })
-    (string_bytes c.in_ok-key.key) (Some c.in_ok-value.value) c.in_ok-insert.ensures.updates)
+    (text_of c.args.key) (Some c.in_ok-value.value) c.in_ok-insert.ensures.puts)

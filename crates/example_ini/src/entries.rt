@@ -1,0 +1,141 @@
+//! The entries of a settings file: `key = value` in sections `[name]`, comments after `;`.
+
+ghost use Rattle.std.specs.Prelude.{◌≡◌, ℕ, All, IfErr, IfOk, List};
+ghost use Rattle.ascii.specs.Spanned.{LiesIn};
+ghost use Rattle.ascii.specs.View.{text_of};
+ghost use Rattle.example_ini.specs.Entries.{ArePlacesIn, IsEntryOf, IsFaultOf, SaysFault};
+
+use ascii::spanned::Spanned;
+use ascii::{AsciiChar, AsciiStr};
+use std::alloc::{AllocFailed, Global};
+use std::fmt;
+
+/// A setting: the section that it is in, its key and its value, each with its start in the text.
+#[derive(Clone, Copy)]
+pub struct Entry<'a> {
+    pub section: Spanned<'a>,
+    pub key: Spanned<'a>,
+    pub value: Spanned<'a>,
+}
+
+/// What a line says.
+#[derive(Clone, Copy)]
+pub enum Parsed<'a> {
+    Blank,
+    Section(Spanned<'a>),
+    Setting {
+        key: Spanned<'a>,
+        value: Spanned<'a>,
+    },
+}
+
+/// What is wrong with a line.
+#[derive(Clone, Copy)]
+pub enum What {
+    OpenSection,
+    NoEquals,
+    NoKey,
+}
+
+/// Why a text was rejected: the position in the text and what is wrong there, or a lack of memory.
+#[derive(Clone, Copy)]
+pub enum IniError {
+    At(usize, What),
+    Memory,
+}
+
+impl fmt::Display for What {
+    fn fmt<W: fmt::Write>(&self, f: &mut fmt::Formatter<W>) -> fmt::Result {
+        f.write_str(match self {
+            What::OpenSection => "no ']' after the name of the section",
+            What::NoEquals => "no '='",
+            What::NoKey => "no key before the '='",
+        })
+    }
+}
+
+impl<T: Drop> From<AllocFailed<T>> for IniError {
+    ghost use Rattle.example_ini.specs.declared.entries.IniError.TheVariants.{Memory};
+
+    ghost from_gives = { λ _ error. error ≡ Memory };
+
+    fn from(_: AllocFailed<T>) -> IniError {
+        IniError::Memory
+    }
+}
+
+/// Returns the entries of a text, in order. Each part is where it says.
+pub fn read_entries<'a>(alloc: Global, text: AsciiStr<'a>) -> Result<Vec<Entry<'a>>, IniError>
+    ensures { IfOk result (λ entries. All (IsEntryOf (text_of text.entry)) entries.items) }
+{
+    let mut entries = Vec::new(alloc);
+    let mut rest = Spanned::whole(text);
+    let (mut section, _) = rest.split_at(0);
+    'lines: while let Some((line, after)) = rest.split_once(AsciiChar::LineFeed) {
+        section = add_line(&mut entries, section, line)?;
+        rest = after;
+    }
+    add_line(&mut entries, section, rest)?;
+    Ok(entries)
+}
+
+/// Appends the entry of a line, if it has one, and returns the section after it.
+fn add_line<'a>(
+    entries: &mut Vec<Entry<'a>>,
+    section: Spanned<'a>,
+    line: Spanned<'a>,
+) -> Result<Spanned<'a>, IniError>
+    ensures { (whole : List ℕ) → LiesIn whole section.entry → LiesIn whole line.entry
+        → All (IsEntryOf whole) entries.old.items → IfOk result (λ section.
+        LiesIn whole section × All (IsEntryOf whole) entries.new.items) }
+{
+    match read_line(line)? {
+        Parsed::Blank => Ok(section),
+        Parsed::Section(name) => Ok(name),
+        Parsed::Setting { key, value } => {
+            entries.push(Entry {
+                section,
+                key,
+                value,
+            })?;
+            Ok(section)
+        }
+    }
+}
+
+/// Returns what a line says, with the places of its parts.
+fn read_line<'a>(line: Spanned<'a>) -> Result<Parsed<'a>, IniError>
+    ensures places { (whole : List ℕ) → LiesIn whole line.entry
+        → IfOk result (ArePlacesIn whole) }
+    ensures fault { SaysFault line.entry result }
+{
+    read_body(line.trim())
+}
+
+/// Returns what a line without whitespace at its ends says.
+fn read_body<'a>(body: Spanned<'a>) -> Result<Parsed<'a>, IniError>
+    ensures places { (whole : List ℕ) → LiesIn whole body.entry
+        → IfOk result (ArePlacesIn whole) }
+    ensures fault { IfErr result (IsFaultOf body.entry) }
+{
+    if body.text.is_empty() || body.text.starts_with(AsciiStr::literal(";")) {
+        return Ok(Parsed::Blank);
+    }
+    if let Some(rest) = body.strip_prefix(AsciiStr::literal("[")) {
+        return match rest.split_once(AsciiChar::BracketClose) {
+            Some((name, after)) if after.text.is_empty() => Ok(Parsed::Section(name)),
+            _ => Err(IniError::At(body.start, What::OpenSection)),
+        };
+    }
+    let Some((key, value)) = body.split_once(AsciiChar::Equal) else {
+        return Err(IniError::At(body.start, What::NoEquals));
+    };
+    let key = key.trim();
+    if key.text.is_empty() {
+        return Err(IniError::At(body.start, What::NoKey));
+    }
+    Ok(Parsed::Setting {
+        key,
+        value: value.trim(),
+    })
+}
