@@ -7,7 +7,7 @@ use crate::calls;
 use crate::random::Random;
 
 /// The classes, in the order of `ask_class`.
-const CLASSES: [fn(u8) -> bool; 17] = [
+const CLASSES: [fn(u8) -> bool; 20] = [
     |byte| byte.is_ascii(),
     is_white,
     |byte| byte.is_ascii_uppercase(),
@@ -25,6 +25,9 @@ const CLASSES: [fn(u8) -> bool; 17] = [
     is_token,
     |byte| byte.is_ascii_alphanumeric() || byte == b'-',
     |byte| byte.is_ascii_alphanumeric() || byte == b'_',
+    |byte| byte == 9 || matches!(byte, 32..=126),
+    |byte| (byte == 9 || matches!(byte, 32..=126)) && !matches!(byte, b'"' | b'\\'),
+    |byte| byte.is_ascii_alphanumeric() || b"!#$%&'*+-/=?^_`{|}~".contains(&byte),
 ];
 
 pub fn is_token(byte: u8) -> bool {

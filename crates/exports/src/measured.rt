@@ -28,7 +28,7 @@ pub fn bench_upper(source: &mut [u8])
     bytes::as_mut_ascii_str_unchecked(source).make_ascii_uppercase();
 }
 
-/// Whether two texts are equal when the case of letters is ignored.
+/// Whether two texts are equal, ignoring ASCII case.
 pub fn bench_equal(first: &[u8], second: &[u8]) -> bool
     requires first { IsAscii first.now }
     requires second { IsAscii second.now }

@@ -5,8 +5,9 @@ ghost use Rattle.std.specs.Str.{IsAscii};
 use crate::answer::Answer;
 use crate::walks::{start_and_text, step};
 use ascii::classes::{
-    Alphabetic, Alphanumeric, Ascii, AsciiWhitespace, Blank, Control, Digit, Graphic, Hexdigit,
-    Label, Lowercase, Printable, Punctuation, Searched, Token, Uppercase, Whitespace,
+    Alphabetic, Alphanumeric, Ascii, AsciiWhitespace, Atom, Blank, Control, Digit, FieldText,
+    Graphic, Hexdigit, Label, Lowercase, Printable, Punctuation, Quotable, Searched, Token,
+    Uppercase, Whitespace,
 };
 use ascii::numbers::{Number, NumberError};
 use ascii::{AsciiChar, AsciiStr, bytes, kernels};
@@ -37,7 +38,10 @@ pub fn ask_class(alloc: Global, class: u8, source: &[u8], script: &[u8], room: &
         13 => search::<Punctuation>(source, script, &mut answer),
         14 => search::<Token>(source, script, &mut answer),
         15 => search::<Label>(source, script, &mut answer),
-        _ => search::<Identifier>(source, script, &mut answer),
+        16 => search::<Identifier>(source, script, &mut answer),
+        17 => search::<FieldText>(source, script, &mut answer),
+        18 => search::<Quotable>(source, script, &mut answer),
+        _ => search::<Atom>(source, script, &mut answer),
     }
     answer.finish(room)
 }

@@ -1,4 +1,4 @@
-//! Texts in either form: one that keeps short texts inline, and any form that a caller is handed.
+//! Strings of both types, and of any type that a caller is passed: their edits and runs of commands.
 
 ghost use Rattle.std.specs.Prelude.{◌≡◌, ◌+◌, ◌≤◌, ◌++◌, ◌∷◌, [], IfOk, IsOk, OnErr, OnOk, length};
 ghost use Rattle.std.specs.Prelude.{map};
@@ -6,10 +6,10 @@ ghost use Rattle.ascii.specs.Case.{lower_image};
 ghost use Rattle.ascii.specs.Code.{code_of};
 ghost use Rattle.ascii.specs.View.{text_of};
 ghost use Rattle.ascii_run.specs.Inline.{inline_size};
-ghost use Rattle.ascii_run.specs.Run.{NeverShrinks, RunOf};
+ghost use Rattle.ascii_run.specs.Run.{Agree, IsPlainRun, NeverOutOfMemory, NeverShrinks, RunOf, outcome};
 
 use ascii::{AsciiChar, AsciiStr, AsciiString};
-use ascii_run::{AsciiBuf, Cmd, Reply, SmallAsciiString, run};
+use ascii_run::{AsciiBuf, Cmd, Reply, SmallAsciiString, plain_run, run, runs_agree};
 use std::alloc::{AllocError, Allocator, Global};
 
 /// The name of a header in lower case. Up to 24 characters it never fails.
@@ -22,7 +22,7 @@ pub fn header_name(alloc: Global, name: AsciiStr<'_>) -> Result<SmallAsciiString
     Ok(string)
 }
 
-/// A letter as a text of its own, which takes no memory.
+/// A letter as a text of its own. Does not allocate.
 pub fn letter(alloc: Global, ch: AsciiChar) -> SmallAsciiString
     ensures { result.text ≡ code_of ch ∷ [] }
 {
@@ -68,4 +68,38 @@ pub fn count_replies<A: Allocator + Copy, B: AsciiBuf>(
     ensures { IfOk result (λ count. count ≡ length cmds.now) }
 {
     Ok(run(alloc, buf, cmds)?.len())
+}
+
+/// Runs the commands. If no reply is `NoMemory`, the text before and the commands decide the replies
+/// and the text.
+pub fn run_plainly<A: Allocator + Copy, B: AsciiBuf>(
+    alloc: A,
+    buf: &mut B,
+    cmds: &[Cmd<'_>],
+) -> Result<Vec<Reply<A>, A>, AllocError>
+    ensures { IfOk result (λ replies. NeverOutOfMemory replies.items
+        → IsPlainRun (B.state buf.old).text cmds.now
+        (outcome replies.items (B.state buf.new).text)) }
+{
+    let replies = run(alloc, buf, cmds)?;
+    plain_run(cmds, &replies);
+    Ok(replies)
+}
+
+/// Runs the commands over two strings with the same text, which may be of two types. The replies are
+/// the same up to the first `NoMemory` of either.
+pub fn run_twice<A: Allocator + Copy, B: AsciiBuf, D: AsciiBuf>(
+    alloc: A,
+    first: &mut B,
+    second: &mut D,
+    cmds: &[Cmd<'_>],
+) -> Result<(Vec<Reply<A>, A>, Vec<Reply<A>, A>), AllocError>
+    requires { (D.state second.old).text ≡ (B.state first.old).text }
+    ensures { IfOk result (λ both. Agree (outcome both.0.items (B.state first.new).text)
+        (outcome both.1.items (D.state second.new).text)) }
+{
+    let replies = run(alloc, first, cmds)?;
+    let others = run(alloc, second, cmds)?;
+    runs_agree(cmds, &replies, &others);
+    Ok((replies, others))
 }

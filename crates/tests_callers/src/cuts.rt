@@ -1,20 +1,23 @@
-//! Callers that cut a view: at a prefix, at its last separator, at the end of a class, and into words.
+//! Callers that cut a view at a prefix, at its last separator, at the end of a class, or into words, or
+//! that trim it.
 
-ghost use Rattle.std.specs.Prelude.{◌≡◌, ◌↔◌, ◌⊎◌, ◌∷◌, ℕ, [], Contains, IfOk, IsTrue, List};
-ghost use Rattle.std.specs.Prelude.{MatchOption, codes, length, map};
+ghost use Rattle.std.specs.Prelude.{◌≡◌, ◌==◌, ◌↔◌, ◌⊎◌, ◌∷◌, ℕ, [], Contains, IfOk, IsSomeAnd, IsTrue};
+ghost use Rattle.std.specs.Prelude.{List, MatchOption, codes, false, length, map, true};
+ghost use Rattle.std.specs.List.{All};
 ghost use Rattle.std.specs.Str.{IsAscii};
-ghost use Rattle.ascii.specs.Class.{IsDigit};
+ghost use Rattle.ascii.specs.Class.{IsDigit, IsWhitespace};
 ghost use Rattle.ascii.specs.Code.{code_of};
+ghost use Rattle.ascii.specs.First.{IsFirstAt};
 ghost use Rattle.ascii.specs.Pieces.{OfPieces};
-ghost use Rattle.ascii.specs.Search.{IsPrefix, StartsWith};
-ghost use Rattle.ascii.specs.Trim.{IsSpan};
+ghost use Rattle.ascii.specs.Search.{ContainsText, IsPrefix, StartsWith};
+ghost use Rattle.ascii.specs.Trim.{IsSpan, Trims};
 ghost use Rattle.ascii.specs.View.{text_of};
 ghost use Rattle.ascii.specs.ByClass.{words_by};
 ghost use Rattle.ascii.specs.Tests.{is_whitespace};
 ghost use Rattle.ascii.specs.Words.{OfWords};
 ghost use Rattle.tests_callers.specs.Cuts.{EndsWithPiece};
 
-use ascii::classes::{Digit, Searched};
+use ascii::classes::{Digit, Searched, Whitespace};
 use ascii::{AsciiChar, AsciiStr};
 use std::alloc::{AllocError, Global};
 
@@ -25,6 +28,23 @@ pub fn without_prefix<'a>(view: AsciiStr<'a>, prefix: AsciiStr<'_>) -> AsciiStr<
         × ¬ (StartsWith (text_of prefix.entry) (text_of view.entry))) }
 {
     view.strip_prefix(prefix).unwrap_or(view)
+}
+
+/// Whether a view has a mark, by the search that gives its position too.
+#[tactic(auto, using(ascii::proofs::CallerLemmas::contains_if_found))]
+pub fn has_mark(view: AsciiStr<'_>, mark: AsciiStr<'_>) -> bool
+    ensures { IsTrue result ↔ ContainsText (text_of mark.entry) (text_of view.entry) }
+{
+    view.find(mark).is_some()
+}
+
+/// The position of the first comma of a view, by a closure.
+pub fn first_comma(view: AsciiStr<'_>) -> Option<usize>
+    ensures { let text = text_of view.entry in
+        MatchOption result (All (λ code. (code == 44) ≡ false) text)
+        (IsFirstAt (λ code. (code == 44) ≡ false) (λ code. (code == 44) ≡ true) text) }
+{
+    view.position_by(|ch| ch == AsciiChar::Comma)
 }
 
 /// The text after the last dot of a file name, or `None` if it has no dot.
@@ -57,6 +77,14 @@ pub fn word_count(view: AsciiStr<'_>) -> usize
     ensures { result ≡ length (words_by is_whitespace (text_of view.entry)) }
 {
     view.split_whitespace().count()
+}
+
+/// The number of words of a view, by the words with their starts.
+#[tactic(auto, using(ascii::proofs::CallerLemmas::as_many_words))]
+pub fn word_span_count(view: AsciiStr<'_>) -> usize
+    ensures { result ≡ length (words_by is_whitespace (text_of view.entry)) }
+{
+    view.word_spans::<Whitespace>().count()
 }
 
 /// The number of words of a view between characters of a class, by what the words are.
@@ -97,4 +125,20 @@ pub fn known_text<'a>(text: &'a str) -> AsciiStr<'a>
     ensures { text_of result ≡ text.now }
 {
     AsciiStr::literal(text)
+}
+
+/// The only piece of a view that does not contain the separator: the view itself.
+#[tactic(auto, using(ascii::proofs::CallerLemmas::one_piece))]
+pub fn only_piece<'a>(view: AsciiStr<'a>, on: AsciiChar) -> Option<AsciiStr<'a>>
+    requires { ¬ (Contains (text_of view) (code_of on)) }
+    ensures { IsSomeAnd result (λ piece. text_of piece ≡ text_of view.entry) }
+{
+    view.split(on).next()
+}
+
+/// A view that is trimmed twice: what one trim leaves.
+pub fn trim_twice<'a>(view: AsciiStr<'a>) -> AsciiStr<'a>
+    ensures { Trims IsWhitespace (text_of view.entry) (text_of result) }
+{
+    view.trim().trim()
 }

@@ -1,4 +1,4 @@
-//! Views that are compared when the case of letters is ignored.
+//! Views that are compared ignoring ASCII case.
 
 ghost use Rattle.std.specs.Prelude.{◌≡◌, ◌↔◌, IsTrue};
 ghost use Rattle.ascii.specs.Folded.{folded_text};

@@ -21,7 +21,8 @@ pub fn upper_in(source: &mut [u8], range: AsciiRange) -> Result<(), AsAsciiStrEr
     Ok(())
 }
 
-/// The same as `upper_in`, by one call that searches the part and lends it.
+/// Changes a part of the source to upper case as `upper_in` does, by one call that searches the part
+/// and returns a view of it.
 pub fn upper_in_one_call(source: &mut [u8], range: AsciiRange) -> Result<(), AsAsciiStrError>
     ensures done { OnOk result (source.new ≡ upper_part source.old range) }
     ensures unchanged { OnErr result (source.new ≡ source.old) }
@@ -29,7 +30,7 @@ pub fn upper_in_one_call(source: &mut [u8], range: AsciiRange) -> Result<(), AsA
 {
     match bytes::slice_ascii_mut(source, range) {
         Ok(view) => {
-            // The edit is made; the view that comes back tells the prover what the source is then.
+            // The edit is made; the view that is returned tells the prover what the source is then.
             let _raised = upper_view(view);
             Ok(())
         }

@@ -37,7 +37,7 @@ pub fn piece_lengths(
     Ok(lengths)
 }
 
-/// The same by a map.
+/// The lengths of the pieces of a view between separators, by a map.
 pub fn piece_lengths_by_map(
     alloc: Global,
     view: AsciiStr<'_>,
@@ -143,6 +143,14 @@ pub fn copy_chars(alloc: Global, view: AsciiStr<'_>) -> Result<AsciiString, Allo
     Ok(string)
 }
 
+/// Appends the characters of a view one by one to a string that has room for them. It never fails.
+pub fn fill_chars(string: &mut AsciiString, view: AsciiStr<'_>) -> Result<(), AllocError>
+    requires { length string.old.text + length (text_of view) ≤ string.old.capacity }
+    ensures { IsOk result }
+{
+    string.extend_chars(view.chars())
+}
+
 /// Appends the characters of a view in upper case. If an allocation fails, those before the one that
 /// did not fit have been appended; it never fails if all of them fit the capacity.
 pub fn push_upper(string: &mut AsciiString, view: AsciiStr<'_>) -> Result<(), AllocError>
@@ -154,6 +162,19 @@ pub fn push_upper(string: &mut AsciiString, view: AsciiStr<'_>) -> Result<(), Al
         → IsOk result }
 {
     string.extend_chars(view.chars().map(|ch| ch.to_ascii_uppercase()))
+}
+
+/// Appends the pieces of a view between separators. On error, the pieces before the one that did not
+/// fit have been appended.
+pub fn append_pieces(
+    string: &mut AsciiString,
+    view: AsciiStr<'_>,
+    on: AsciiChar,
+) -> Result<(), AllocError>
+    ensures { OnOk result (OfPieces view.entry on (λ pieces.
+        string.new.text ≡ string.old.text ++ flat_map (λ piece. piece) pieces)) }
+{
+    string.extend_strs(view.split(on))
 }
 
 /// The text of a view without its separators.

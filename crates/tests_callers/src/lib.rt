@@ -3,12 +3,14 @@
 #![tactic(auto)]
 
 pub mod both_types;
+pub mod chunks;
 pub mod cuts;
 pub mod engines;
 pub mod folded;
 pub mod in_place;
 pub mod iterators;
 pub mod numbers;
+pub mod places;
 pub mod prefixes;
 pub mod remainders;
 pub mod servers;

@@ -1,18 +1,18 @@
-//! Callers that stop in the middle of a walk: they count what is left, hand it over as a view, and take
+//! Callers that stop in the middle of a walk: they count what is left, return it as a view, and take
 //! it up again.
 
-ghost use Rattle.std.specs.Prelude.{◌≡◌, ◌-◌, ◌∷◌, ℕ, IfOk, IfSome, List, MatchOption, [], drop};
-ghost use Rattle.std.specs.Prelude.{length, map};
+ghost use Rattle.std.specs.Prelude.{◌≡◌, ◌+◌, ◌-◌, ◌++◌, ◌∷◌, ℕ, IfOk, IfSome, List, MatchOption, []};
+ghost use Rattle.std.specs.Prelude.{drop, length, map};
 ghost use Rattle.std.specs.List.{join_with_byte};
 ghost use Rattle.std.specs.Option.{option_map};
 ghost use Rattle.ascii.specs.Code.{code_of};
 ghost use Rattle.ascii.specs.Walks.{TakesEnd};
-ghost use Rattle.ascii.specs.Lines.{LinesOf, OfLines};
+ghost use Rattle.ascii.specs.Lines.{Line, LinesOf, OfLines, line_text};
 ghost use Rattle.ascii.specs.Pieces.{Pieces, PiecesUpTo, OfPieces};
 ghost use Rattle.ascii.specs.Spans.{line_in};
 ghost use Rattle.ascii.specs.View.{text_of};
 
-use ascii::iter::{End, LineSpan, LineSpans, Lines, Split, SplitSpans, take_end};
+use ascii::iter::{End, LineSpan, LineSpans, Lines, Split, SplitSpan, SplitSpans, take_end};
 use ascii::{AsciiChar, AsciiStr};
 use std::alloc::{AllocError, Global};
 
@@ -115,4 +115,62 @@ pub fn after_first_piece<'a>(view: AsciiStr<'a>, n: usize, on: AsciiChar) -> Opt
     let mut pieces = view.splitn(n, on);
     pieces.next()?;
     pieces.remainder()
+}
+
+/// The folder and the name of a path, which its last slash separates, or `None` if it has no slash.
+#[tactic(auto, using(ascii::proofs::CallerLemmas::join_with_last))]
+pub fn folder_and_name<'a>(path: AsciiStr<'a>) -> Option<(AsciiStr<'a>, AsciiStr<'a>)>
+    ensures { IfSome result (λ parts.
+        text_of parts.0 ++ code_of AsciiChar.Slash ∷ text_of parts.1 ≡ text_of path.entry) }
+{
+    let mut pieces = path.split(AsciiChar::Slash);
+    let name = pieces.next_back()?;
+    let folder = pieces.remainder()?;
+    Some((folder, name))
+}
+
+/// The name of a file without its last extension, or `None` if it has no dot.
+pub fn stem<'a>(name: AsciiStr<'a>) -> Option<AsciiStr<'a>>
+    ensures { IfSome result (λ stem. (extension : List ℕ)
+        × (text_of stem ++ code_of AsciiChar.Dot ∷ extension ≡ text_of name.entry)) }
+{
+    let mut pieces = name.split(AsciiChar::Dot);
+    pieces.next_back()?;
+    pieces.remainder()
+}
+
+/// The columns of a row before the last one, and the last one with its start, or `None` if the row
+/// has one column.
+pub fn last_column<'a>(row: AsciiStr<'a>, on: AsciiChar) -> Option<(AsciiStr<'a>, SplitSpan<'a>)>
+    ensures { IfSome result (λ parts.
+        (parts.1.start ≡ length (text_of parts.0) + 1)
+        × (text_of parts.0 ++ code_of on ∷ text_of parts.1.text ≡ text_of row.entry)) }
+{
+    let mut columns = row.split_spans(on);
+    let last = columns.next_back()?;
+    let (_start, others) = columns.remainder()?;
+    Some((others, last))
+}
+
+/// A text without its last line, or `None` if it has one line at most.
+pub fn without_last_line<'a>(view: AsciiStr<'a>) -> Option<AsciiStr<'a>>
+    ensures { IfSome result (λ others. (last : Line)
+        × (text_of others ++ line_text last ≡ text_of view.entry)) }
+{
+    let mut lines = view.lines();
+    lines.next_back()?;
+    lines.remainder()
+}
+
+/// The lines of a text before the last one, and the last one with its start and its ending, or `None`
+/// if there is one line at most.
+pub fn last_line_span<'a>(view: AsciiStr<'a>) -> Option<(AsciiStr<'a>, LineSpan<'a>)>
+    ensures { IfSome result (λ parts. let line = line_in parts.1 in
+        (line.start ≡ length (text_of parts.0))
+        × (text_of parts.0 ++ line_text line.item ≡ text_of view.entry)) }
+{
+    let mut lines = view.line_spans();
+    let last = lines.next_back()?;
+    let (_start, others) = lines.remainder()?;
+    Some((others, last))
 }

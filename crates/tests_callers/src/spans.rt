@@ -26,7 +26,7 @@ pub fn piece_starts(
     view.split_spans(on).map(|span| span.start).collect(alloc)
 }
 
-/// The same by a loop.
+/// The starts of the pieces of a view, by a loop.
 pub fn piece_starts_by_for(
     alloc: Global,
     view: AsciiStr<'_>,
@@ -69,7 +69,7 @@ pub fn line_starts(alloc: Global, view: AsciiStr<'_>) -> Result<Vec<usize>, Allo
     view.line_spans().map(|span| span.start).collect(alloc)
 }
 
-/// The same by a loop.
+/// The starts of the lines of a view, by a loop.
 pub fn line_starts_by_for(alloc: Global, view: AsciiStr<'_>) -> Result<Vec<usize>, AllocError>
     ensures { IfOk result (λ starts.
         OfLineSpans view.entry (λ spans. starts.items ≡ map (λ span. span.start) spans)) }

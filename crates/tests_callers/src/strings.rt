@@ -1,10 +1,13 @@
 //! Strings that are written again in the room that they have.
 
 ghost use Rattle.std.specs.Prelude.{◌≡◌, ◌+◌, ◌-◌, ◌<◌, ◌++◌, ◌∷◌, ◌==◌, [], IsOk, IsOkAnd};
-ghost use Rattle.std.specs.Prelude.{codes, filter, length, not, remove, slice_index, string_bytes};
-ghost use Rattle.std.specs.Prelude.{take};
+ghost use Rattle.std.specs.Prelude.{codes, filter, length, map, not, remove, slice_index};
+ghost use Rattle.std.specs.Prelude.{string_bytes, take};
+ghost use Rattle.std.specs.List.{All};
+ghost use Rattle.ascii.specs.Case.{lower_image, upper_image};
 ghost use Rattle.ascii.specs.Code.{code_of};
 
+use ascii::classes::Class;
 use ascii::{AsciiChar, AsciiString};
 use std::alloc::AllocError;
 use std::fmt::{self, Write};
@@ -103,4 +106,29 @@ pub fn remove_minus(text: &mut AsciiString)
     ensures { text.new.text ≡ filter (λ code. not (code == 45)) text.old.text }
 {
     text.retain(|ch| ch != AsciiChar::Minus);
+}
+
+/// Changes the letters of a text to upper case twice: what one change leaves.
+#[tactic(auto, using(ascii::proofs::CallerLemmas::upper_twice))]
+pub fn upper_twice(text: &mut AsciiString)
+    ensures { text.new.text ≡ map upper_image text.old.text }
+{
+    text.make_ascii_uppercase();
+    text.make_ascii_uppercase();
+}
+
+/// Changes the letters of a text to lower case twice: what one change leaves.
+#[tactic(auto, using(ascii::proofs::CallerLemmas::lower_twice))]
+pub fn lower_twice(text: &mut AsciiString)
+    ensures { text.new.text ≡ map lower_image text.old.text }
+{
+    text.make_ascii_lowercase();
+    text.make_ascii_lowercase();
+}
+
+/// Removes each character that is not in a class.
+pub fn keep_class<C: Class>(text: &mut AsciiString)
+    ensures { All C.is text.new.text }
+{
+    text.retain(|ch| C::has(ch.as_byte()));
 }

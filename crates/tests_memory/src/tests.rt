@@ -12,6 +12,7 @@ mod fail_nth;
 mod json_values;
 mod long_callers;
 mod long_lines;
+mod long_maps;
 mod long_recipes;
 mod long_searches;
 mod long_strings;

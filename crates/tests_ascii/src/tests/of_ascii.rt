@@ -3,12 +3,15 @@
 use super::{boxed, owned, shared};
 use ascii::classes::{Blank, Digit, Ranges};
 use ascii::endings::{ends_in_cr_lf, find_end, lone_break, split_ending};
-use ascii::folded::FoldedStr;
+use ascii::folded::{FoldedStr, FoldedText};
 use ascii::iter::{
     Cut, CutBack, End, Endings, take_end, walk_line_spans, walk_lines, walk_split, walk_split_spans,
 };
 use ascii::json::{JsonError, char_from_json, char_to_json, str_from_json, string_from_json};
+use ascii::maps::AsciiMap;
 use ascii::numbers::{Number, NumberError};
+use ascii::places::Place;
+use ascii::spanned::Spanned;
 use ascii::{
     AsAsciiStrError, AsciiChar, AsciiRange, AsciiStr, AsciiString, Buffer, CloneBuffer,
     CowAsciiStr, NewBuffer, bytes, string, text, vec,
@@ -876,6 +879,34 @@ fn clone_buffer_of_ascii(rt: HostRuntime) {
     assert_debug!(rt; bytes.copy(), "Ok([102, 111, 111])");
 }
 
+// AsciiStr::position_by
+#[test]
+fn position_by_of_ascii_str(rt: HostRuntime) {
+    assert_debug!(
+        rt;
+        (
+            view("a-b").position_by(|ch| ch == AsciiChar::Minus),
+            view("a-b").position_by(|ch| ch == AsciiChar::c),
+            view("").position_by(|_| true),
+        ),
+        "(Some(1), None, None)"
+    );
+}
+
+// AsciiStr::trim_by
+#[test]
+fn trim_by_of_ascii_str(rt: HostRuntime) {
+    assert_debug!(
+        rt;
+        (
+            view("--a-b-").trim_by(|ch| ch == AsciiChar::Minus),
+            view("a").trim_by(|ch| ch == AsciiChar::Minus),
+            view("ab").trim_by(|_| true),
+        ),
+        "(\"a-b\", \"a\", \"\")"
+    );
+}
+
 // bytes::as_ascii_str
 #[test]
 fn as_ascii_str_of_bytes(rt: HostRuntime) {
@@ -1071,6 +1102,21 @@ fn collect_strs_of_text(rt: HostRuntime) {
     );
 }
 
+// Text::collect_joined
+#[test]
+fn collect_joined_of_text(rt: HostRuntime) {
+    let alloc = rt.alloc();
+    assert_debug!(
+        rt;
+        (
+            AsciiString::collect_joined(alloc, view("a b").split_whitespace(), view(", ")).expect(&rt, "refused"),
+            AsciiString::collect_joined(alloc, view("a").split_whitespace(), view(", ")).expect(&rt, "refused"),
+            AsciiString::collect_joined(alloc, view("").split_whitespace(), view(", ")).expect(&rt, "refused"),
+        ),
+        "(\"a, b\", \"a\", \"\")"
+    );
+}
+
 // AsStr for AsciiStr::as_str
 #[test]
 fn as_str_as_str_of_ascii_str(rt: HostRuntime) {
@@ -1199,6 +1245,21 @@ fn to_ascii_lowercase_of_ascii_str(rt: HostRuntime) {
             view("A1").to_ascii_lowercase(alloc).expect(&rt, "refused"),
         ),
         "(\"foo\", \"a1\")"
+    );
+}
+
+// AsciiStr::repeat
+#[test]
+fn repeat_of_ascii_str(rt: HostRuntime) {
+    let alloc = rt.alloc();
+    assert_debug!(
+        rt;
+        (
+            view("ab").repeat(alloc, 3).expect(&rt, "refused"),
+            view("ab").repeat(alloc, 0).expect(&rt, "refused"),
+            view("ab").repeat(alloc, usize::MAX).is_err(),
+        ),
+        "(\"ababab\", \"\", true)"
     );
 }
 
@@ -1401,6 +1462,48 @@ fn debug_of_folded_str(rt: HostRuntime) {
     );
 }
 
+// AsciiStr::find_ignore_ascii_case
+#[test]
+fn find_ignore_ascii_case_of_ascii_str(rt: HostRuntime) {
+    assert_debug!(
+        rt;
+        (
+            view("a Host: b").find_ignore_ascii_case(view("hOST")),
+            view("a Host: b").find_ignore_ascii_case(view("hosts")),
+            view("abc").find_ignore_ascii_case(view("")),
+        ),
+        "(Some(2), None, Some(0))"
+    );
+}
+
+// AsciiStr::rfind_ignore_ascii_case
+#[test]
+fn rfind_ignore_ascii_case_of_ascii_str(rt: HostRuntime) {
+    assert_debug!(
+        rt;
+        (
+            view("ab aB").rfind_ignore_ascii_case(view("AB")),
+            view("ab aB").rfind_ignore_ascii_case(view("BA")),
+            view("abc").rfind_ignore_ascii_case(view("")),
+        ),
+        "(Some(3), None, Some(3))"
+    );
+}
+
+// AsciiStr::contains_ignore_ascii_case
+#[test]
+fn contains_ignore_ascii_case_of_ascii_str(rt: HostRuntime) {
+    assert_debug!(
+        rt;
+        (
+            view("Keep-Alive, close").contains_ignore_ascii_case(view("CLOSE")),
+            view("Keep-Alive").contains_ignore_ascii_case(view("CLOSE")),
+            view("abc").contains_ignore_ascii_case(view("")),
+        ),
+        "(true, false, true)"
+    );
+}
+
 // AsciiStr::starts_with_ignore_ascii_case
 #[test]
 fn starts_with_ignore_ascii_case_of_ascii_str(rt: HostRuntime) {
@@ -1450,6 +1553,119 @@ fn strip_suffix_ignore_ascii_case_of_ascii_str(rt: HostRuntime) {
             view("a.HTML").strip_suffix_ignore_ascii_case(view("a")),
         ),
         "(Some(\"a\"), None)"
+    );
+}
+
+// FoldedText::new
+#[test]
+fn new_of_folded_text(rt: HostRuntime) {
+    assert_debug!(rt; FoldedText::new(owned(&rt, "Host")), "\"Host\"");
+}
+
+// FoldedText::as_folded
+#[test]
+fn as_folded_of_folded_text(rt: HostRuntime) {
+    assert_debug!(
+        rt;
+        FoldedText::new(owned(&rt, "Host")).as_folded() == view("HOST").folded(),
+        "true"
+    );
+}
+
+// FoldedText::as_ascii_str
+#[test]
+fn as_ascii_str_of_folded_text(rt: HostRuntime) {
+    assert_debug!(rt; FoldedText::new(owned(&rt, "Host")).as_ascii_str(), "\"Host\"");
+}
+
+// FoldedText::into_text
+#[test]
+fn into_text_of_folded_text(rt: HostRuntime) {
+    assert_debug!(rt; FoldedText::new(owned(&rt, "Host")).into_text(), "\"Host\"");
+}
+
+// FoldedStr::to_folded_string
+#[test]
+fn to_folded_string_of_folded_str(rt: HostRuntime) {
+    let alloc = rt.alloc();
+    assert_debug!(
+        rt;
+        view("Host").folded().to_folded_string(alloc).expect(&rt, "refused"),
+        "\"Host\""
+    );
+}
+
+// PartialEq for FoldedText::eq
+#[test]
+fn eq_of_folded_text(rt: HostRuntime) {
+    let alloc = rt.alloc();
+    assert_debug!(
+        rt;
+        view("Host").folded().to_folded_string(alloc).expect(&rt, "refused") == view("HOST").folded().to_folded_string(alloc).expect(&rt, "refused"),
+        "true"
+    );
+}
+
+// PartialOrd for FoldedText::partial_cmp
+#[test]
+fn partial_cmp_of_folded_text(rt: HostRuntime) {
+    let alloc = rt.alloc();
+    assert_debug!(
+        rt;
+        view("A").folded().to_folded_string(alloc).expect(&rt, "refused") < view("b").folded().to_folded_string(alloc).expect(&rt, "refused"),
+        "true"
+    );
+}
+
+// Ord for FoldedText::cmp
+#[test]
+fn cmp_of_folded_text(rt: HostRuntime) {
+    let alloc = rt.alloc();
+    assert_debug!(
+        rt;
+        view("b").folded().to_folded_string(alloc).expect(&rt, "refused").cmp(&view("A").folded().to_folded_string(alloc).expect(&rt, "refused")),
+        "Greater"
+    );
+}
+
+// Hash for FoldedText::hash
+#[test]
+fn hash_of_folded_text(rt: HostRuntime) {
+    let alloc = rt.alloc();
+    let mut seen = HashSet::new(alloc);
+    seen.insert(
+        view("Host")
+            .folded()
+            .to_folded_string(alloc)
+            .expect(&rt, "refused"),
+    )
+    .expect(&rt, "refused");
+    assert_debug!(
+        rt;
+        seen.contains(&view("HOST").folded().to_folded_string(alloc).expect(&rt, "refused")),
+        "true"
+    );
+}
+
+// Display for FoldedText::fmt
+#[test]
+fn display_of_folded_text(rt: HostRuntime) {
+    let alloc = rt.alloc();
+    assert_debug!(
+        rt;
+        format!(in alloc; "{}", view("Host").folded().to_folded_string(alloc).expect(&rt, "refused")).expect(&rt, "refused"),
+        "\"Host\""
+    );
+}
+
+// Debug for FoldedText::fmt
+#[test]
+fn debug_of_folded_text(rt: HostRuntime) {
+    let alloc = rt.alloc();
+    assert_debug!(
+        rt;
+        format!(in alloc; "{:?}", view("Host").folded().to_folded_string(alloc).expect(&rt, "refused")).expect(&rt, "refused"),
+        "\"\\\"Host\\\"\""
     );
 }
 
@@ -2299,6 +2515,63 @@ fn string_from_json_of_json(rt: HostRuntime) {
     );
 }
 
+// AsciiMap::new
+#[test]
+fn new_of_ascii_map(rt: HostRuntime) {
+    let alloc = rt.alloc();
+    assert_debug!(rt; AsciiMap::<u8>::new(alloc).is_empty(), "true");
+}
+
+// AsciiMap::get
+#[test]
+fn get_of_ascii_map(rt: HostRuntime) {
+    let alloc = rt.alloc();
+    let mut ports = AsciiMap::new(alloc);
+    ports.insert(view("http"), 80).expect(&rt, "refused");
+    assert_debug!(rt; ports.get(view("http")), "Some(80)");
+    assert_debug!(rt; ports.get(view("ftp")), "None");
+}
+
+// AsciiMap::contains_key
+#[test]
+fn contains_key_of_ascii_map(rt: HostRuntime) {
+    let alloc = rt.alloc();
+    assert_debug!(rt; AsciiMap::<u8>::new(alloc).contains_key(view("http")), "false");
+}
+
+// AsciiMap::insert
+#[test]
+fn insert_of_ascii_map(rt: HostRuntime) {
+    let alloc = rt.alloc();
+    let mut ports = AsciiMap::new(alloc);
+    assert_debug!(rt; ports.insert(view("http"), 80).expect(&rt, "refused"), "None");
+    assert_debug!(rt; ports.insert(view("http"), 8_080).expect(&rt, "refused"), "Some(80)");
+}
+
+// AsciiMap::remove
+#[test]
+fn remove_of_ascii_map(rt: HostRuntime) {
+    let alloc = rt.alloc();
+    let mut ports = AsciiMap::new(alloc);
+    ports.insert(view("http"), 80).expect(&rt, "refused");
+    assert_debug!(rt; ports.remove(view("http")), "Some(80)");
+    assert_debug!(rt; ports.remove(view("http")), "None");
+}
+
+// AsciiMap::len
+#[test]
+fn len_of_ascii_map(rt: HostRuntime) {
+    let alloc = rt.alloc();
+    assert_debug!(rt; AsciiMap::<u8>::new(alloc).len(), "0");
+}
+
+// AsciiMap::is_empty
+#[test]
+fn is_empty_of_ascii_map(rt: HostRuntime) {
+    let alloc = rt.alloc();
+    assert_debug!(rt; AsciiMap::<u8>::new(alloc).is_empty(), "true");
+}
+
 // numbers::Number
 #[test]
 fn number_of_numbers(rt: HostRuntime) {
@@ -2340,6 +2613,77 @@ fn take_number_of_ascii_str(rt: HostRuntime) {
         ),
         "(Ok((42, \" km\")), Err(NotDigit(0)), Err(TooLarge(2)))"
     );
+}
+
+// Place::after_byte
+#[test]
+fn after_byte_of_place(rt: HostRuntime) {
+    assert_debug!(
+        rt;
+        (
+            Place { line: 1, column: 3 }.after_byte(b'a'),
+            Place { line: 1, column: 3 }.after_byte(b'\n'),
+        ),
+        "(Place { line: 1, column: 4 }, Place { line: 2, column: 1 })"
+    );
+}
+
+// Place::after
+#[test]
+fn after_of_place(rt: HostRuntime) {
+    assert_debug!(
+        rt;
+        (
+            Place { line: 1, column: 1 }.after(b"ab\ncd"),
+            Place { line: 1, column: 1 }.after(b""),
+        ),
+        "(Place { line: 2, column: 3 }, Place { line: 1, column: 1 })"
+    );
+}
+
+// Display for Place::fmt
+#[test]
+fn fmt_of_place(rt: HostRuntime) {
+    let alloc = rt.alloc();
+    assert_debug!(
+        rt;
+        Place { line: 3, column: 10 }.to_string(alloc).expect(&rt, "refused"),
+        "\"3:10\""
+    );
+}
+
+// AsciiStr::line_and_column
+#[test]
+fn line_and_column_of_ascii_str(rt: HostRuntime) {
+    assert_debug!(
+        rt;
+        (
+            view("ab\ncd").line_and_column(2),
+            view("ab\ncd").line_and_column(3),
+            view("").line_and_column(0),
+        ),
+        "(Place { line: 1, column: 3 }, Place { line: 2, column: 1 }, Place { line: 1, column: 1 })"
+    );
+}
+
+// Text::remove_range
+#[test]
+fn remove_range_of_text(rt: HostRuntime) {
+    let mut text = owned(&rt, "foobar");
+    text.remove_range(AsciiRange::Range(1, 4));
+    assert_debug!(rt; text, "\"far\"");
+    text.remove_range(AsciiRange::Full);
+    assert_debug!(rt; text, "\"\"");
+}
+
+// Text::replace_range
+#[test]
+fn replace_range_of_text(rt: HostRuntime) {
+    let mut text = owned(&rt, "foobar");
+    assert_debug!(rt; text.replace_range(AsciiRange::Range(0, 3), view("crow")), "Ok(())");
+    assert_debug!(rt; text, "\"crowbar\"");
+    assert_debug!(rt; text.replace_range(AsciiRange::From(4), view("")), "Ok(())");
+    assert_debug!(rt; text, "\"crow\"");
 }
 
 // AsciiStr::replace
@@ -2408,6 +2752,20 @@ fn contains_of_ascii_str(rt: HostRuntime) {
     );
 }
 
+// AsciiStr::count
+#[test]
+fn count_of_ascii_str(rt: HostRuntime) {
+    assert_debug!(
+        rt;
+        (
+            view("banana").count(view("an")),
+            view("aaa").count(view("aa")),
+            view("aaa").count(view("")),
+        ),
+        "(2, 1, 0)"
+    );
+}
+
 // AsciiStr::position
 #[test]
 fn position_of_ascii_str(rt: HostRuntime) {
@@ -2433,6 +2791,34 @@ fn rposition_of_ascii_str(rt: HostRuntime) {
             view("").rposition(AsciiChar::b),
         ),
         "(Some(4), None, None)"
+    );
+}
+
+// AsciiStr::is_all
+#[test]
+fn is_all_of_ascii_str(rt: HostRuntime) {
+    assert_debug!(
+        rt;
+        (
+            view("2024").is_all::<Digit>(),
+            view("2024!").is_all::<Digit>(),
+            view("").is_all::<Digit>(),
+        ),
+        "(true, false, true)"
+    );
+}
+
+// AsciiStr::first_not
+#[test]
+fn first_not_of_ascii_str(rt: HostRuntime) {
+    assert_debug!(
+        rt;
+        (
+            view("42px").first_not::<Digit>(),
+            view("42").first_not::<Digit>(),
+            view("").first_not::<Digit>(),
+        ),
+        "(Some(2), None, None)"
     );
 }
 
@@ -2549,6 +2935,135 @@ fn deserialize_of_ascii_string(rt: HostRuntime) {
     assert_debug!(rt; serde_json::from_str::<AsciiString>(alloc, "\"foo\"").ok(), "Some(\"foo\")");
 }
 
+// Spanned::whole
+#[test]
+fn whole_of_spanned(rt: HostRuntime) {
+    assert_debug!(rt; Spanned::whole(view("ab")), "Spanned { start: 0, text: \"ab\" }");
+}
+
+// Spanned::end
+#[test]
+fn end_of_spanned(rt: HostRuntime) {
+    assert_debug!(rt; Spanned::whole(view("ab")).end(), "2");
+}
+
+// Spanned::trim
+#[test]
+fn trim_of_spanned(rt: HostRuntime) {
+    assert_debug!(
+        rt;
+        (
+            Spanned::whole(view(" a b\r\n")).trim(),
+            Spanned::whole(view(" \t")).trim(),
+        ),
+        "(Spanned { start: 1, text: \"a b\" }, Spanned { start: 2, text: \"\" })"
+    );
+}
+
+// Spanned::trim_start
+#[test]
+fn trim_start_of_spanned(rt: HostRuntime) {
+    assert_debug!(
+        rt;
+        (
+            Spanned::whole(view(" a ")).trim_start(),
+            Spanned::whole(view("a")).trim_start(),
+        ),
+        "(Spanned { start: 1, text: \"a \" }, Spanned { start: 0, text: \"a\" })"
+    );
+}
+
+// Spanned::trim_end
+#[test]
+fn trim_end_of_spanned(rt: HostRuntime) {
+    assert_debug!(
+        rt;
+        (
+            Spanned::whole(view(" a ")).trim_end(),
+            Spanned::whole(view(" ")).trim_end(),
+        ),
+        "(Spanned { start: 0, text: \" a\" }, Spanned { start: 0, text: \"\" })"
+    );
+}
+
+// Spanned::trim_matches
+#[test]
+fn trim_matches_of_spanned(rt: HostRuntime) {
+    assert_debug!(
+        rt;
+        (
+            Spanned::whole(view(" \ta b ")).trim_matches::<Blank>(),
+            Spanned::whole(view("007")).trim_matches::<Digit>(),
+        ),
+        "(Spanned { start: 2, text: \"a b\" }, Spanned { start: 3, text: \"\" })"
+    );
+}
+
+// Spanned::split_once
+#[test]
+fn split_once_of_spanned(rt: HostRuntime) {
+    assert_debug!(
+        rt;
+        (
+            Spanned::whole(view("a=b")).split_once(AsciiChar::Equal).map(|sides| sides.1),
+            Spanned::whole(view("ab")).split_once(AsciiChar::Equal),
+        ),
+        "(Some(Spanned { start: 2, text: \"b\" }), None)"
+    );
+}
+
+// Spanned::split_at
+#[test]
+fn split_at_of_spanned(rt: HostRuntime) {
+    assert_debug!(
+        rt;
+        (
+            Spanned::whole(view("abc")).split_at(1).1,
+            Spanned::whole(view("abc")).split_at(3).1,
+        ),
+        "(Spanned { start: 1, text: \"bc\" }, Spanned { start: 3, text: \"\" })"
+    );
+}
+
+// Spanned::strip_prefix
+#[test]
+fn strip_prefix_of_spanned(rt: HostRuntime) {
+    assert_debug!(
+        rt;
+        (
+            Spanned::whole(view("foobar")).strip_prefix(view("foo")),
+            Spanned::whole(view("foobar")).strip_prefix(view("bar")),
+        ),
+        "(Some(Spanned { start: 3, text: \"bar\" }), None)"
+    );
+}
+
+// Spanned::span
+#[test]
+fn span_of_spanned(rt: HostRuntime) {
+    assert_debug!(
+        rt;
+        (
+            Spanned::whole(view("42px")).span::<Digit>().1,
+            Spanned::whole(view("px")).span::<Digit>().0,
+        ),
+        "(Spanned { start: 2, text: \"px\" }, Spanned { start: 0, text: \"\" })"
+    );
+}
+
+// Spanned::to_number
+#[test]
+fn to_number_of_spanned(rt: HostRuntime) {
+    assert_debug!(
+        rt;
+        (
+            Spanned::whole(view("x=42")).split_at(2).1.to_number::<u8>(),
+            Spanned::whole(view("x=4a")).split_at(2).1.to_number::<u8>(),
+        ),
+        "(Ok(42), Err(NotDigit(3)))"
+    );
+}
+
 // AsciiStr::split_once
 #[test]
 fn split_once_of_ascii_str(rt: HostRuntime) {
@@ -2574,6 +3089,19 @@ fn rsplit_once_of_ascii_str(rt: HostRuntime) {
             view("a=").rsplit_once(AsciiChar::Equal),
         ),
         "(Some((\"a=b\", \"c\")), None, Some((\"a\", \"\")))"
+    );
+}
+
+// AsciiStr::split_at
+#[test]
+fn split_at_of_ascii_str(rt: HostRuntime) {
+    assert_debug!(
+        rt;
+        (
+            view("foobar").split_at(3),
+            view("foo").split_at(3),
+        ),
+        "((\"foo\", \"bar\"), (\"foo\", \"\"))"
     );
 }
 

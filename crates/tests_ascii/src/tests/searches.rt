@@ -1,5 +1,7 @@
 //! Searches and cuts of views, compared with those of std's `str` over the same text.
 
+use super::small_text::{SIZES, small_text};
+use ascii::classes::{Punctuation, Whitespace};
 use ascii::{AsciiChar, AsciiStr, AsciiString, bytes};
 use std::process::Abort;
 use testing::{ascii, assert_row};
@@ -169,7 +171,7 @@ fn a_character_is_found_and_cut_at(rt: HostRuntime) {
     }
 }
 
-/// A text, a prefix, and what follows the prefix if the case of letters is ignored.
+/// A text, a prefix, and what follows the prefix, ignoring ASCII case.
 static FOLDED: [(&str, &str, Option<&str>); 6] = [
     ("Host: a", "hOST:", Some(" a")),
     ("Host: a", "", Some("Host: a")),
@@ -188,7 +190,7 @@ fn prefixes_ignore_the_case_of_letters_alone(rt: HostRuntime) {
     }
 }
 
-/// A text, a suffix, and what comes before the suffix if the case of letters is ignored.
+/// A text, a suffix, and what comes before the suffix, ignoring ASCII case.
 static FOLDED_ENDS: [(&str, &str, Option<&str>); 6] = [
     ("a.HTML", ".html", Some("a")),
     ("a.HTML", "", Some("a.HTML")),
@@ -204,5 +206,88 @@ fn suffixes_ignore_the_case_of_letters_alone(rt: HostRuntime) {
         let (view, text) = (ascii(source), ascii(suffix));
         assert_row!(rt; text_in(view.strip_suffix_ignore_ascii_case(text)), want);
         assert_row!(rt; view.ends_with_ignore_ascii_case(text), want.is_some());
+    }
+}
+
+/// Letters in both cases, the marks beside them, and a digit. Each two of the first are neighbors.
+static MIXED: &str = "aAbBaBAbb@`[{A@a{B1bAaA1BbAaBA";
+
+/// Searches that ignore the case of letters find what `str` finds if both texts are in lower case.
+fn compare_folded<R: Abort + AllocGlobal>(rt: &R, source: &[u8], needle: &[u8]) {
+    let view = bytes::as_ascii_str(source).unwrap_or_default();
+    let text = bytes::as_ascii_str(needle).unwrap_or_default();
+    let low: Result<String, _> = view.as_str().to_ascii_lowercase(rt.alloc());
+    let low_text: Result<String, _> = text.as_str().to_ascii_lowercase(rt.alloc());
+    let (low, low_text) = (
+        low.expect(rt, "no memory"),
+        low_text.expect(rt, "no memory"),
+    );
+    let (source, needle) = (low.as_str(), low_text.as_str());
+    assert_row!(rt; view.find_ignore_ascii_case(text), source.find(needle));
+    assert_row!(rt; view.rfind_ignore_ascii_case(text), source.rfind(needle));
+    assert_row!(rt; view.contains_ignore_ascii_case(text), source.contains(needle));
+}
+
+#[test]
+fn a_text_is_found_as_in_lower_case(rt: HostRuntime) {
+    compare_folded(&rt, b"", b"");
+    compare_folded(&rt, b"", b"a");
+    compare_folded(&rt, b"aB", b"");
+    for needle_length in 1..4 {
+        for needle in MIXED.as_bytes().windows(needle_length) {
+            for length in 1..13 {
+                for source in MIXED.as_bytes().windows(length) {
+                    compare_folded(&rt, source, needle);
+                }
+            }
+        }
+    }
+}
+
+#[test]
+fn a_folded_needle_is_found_in_long_texts(rt: HostRuntime) {
+    for &(needle, filler, count) in &NEEDLES {
+        let text = around(&rt, needle, filler, count);
+        let upper = ascii(needle).to_ascii_uppercase(rt.alloc());
+        let upper = upper.expect(&rt, "no memory");
+        let (view, upper) = (text.as_ascii_str(), upper.as_ascii_str());
+        let source = view.as_str();
+        assert_row!(rt; view.find_ignore_ascii_case(upper), source.find(needle));
+        assert_row!(rt; view.rfind_ignore_ascii_case(upper), source.rfind(needle));
+    }
+}
+
+#[test]
+fn occurrences_are_counted_as_in_str(rt: HostRuntime) {
+    for needle_length in 1..5 {
+        for needle in FOURS.as_bytes().windows(needle_length) {
+            let needle = bytes::as_ascii_str(needle).unwrap_or_default();
+            for length in 1..9 {
+                for source in EIGHTS.as_bytes().windows(length) {
+                    let view = bytes::as_ascii_str(source).unwrap_or_default();
+                    let want = view.as_str().matches(needle.as_str()).count();
+                    assert_row!(rt; view.count(needle), want);
+                }
+            }
+        }
+    }
+}
+
+/// Whether all characters are of a class, and where the first other one is, as std says it of the text.
+fn compare_classes(rt: &impl Abort, view: AsciiStr<'_>) {
+    let text = view.as_str();
+    let first = text.find(|ch: char| !ch.is_ascii_punctuation());
+    assert_row!(rt; view.first_not::<Punctuation>(), first);
+    assert_row!(rt; view.is_all::<Punctuation>(), first.is_none());
+    assert_row!(rt; view.is_all::<Whitespace>(), text.trim().is_empty());
+}
+
+#[test]
+fn the_first_of_no_class_is_that_of_str(rt: HostRuntime) {
+    for (length, count) in SIZES {
+        for number in 0..count {
+            let text = small_text(&rt, length, number);
+            compare_classes(&rt, bytes::as_ascii_str(&text).unwrap_or_default());
+        }
     }
 }

@@ -27,6 +27,10 @@ fn made_over<B: NewBuffer<Refusal = AllocError>>(
             let pieces = source.split(AsciiChar::Comma);
             shown(alloc, Text::<B>::collect_strs(heap, pieces))
         }
+        "collect_joined" => {
+            let pieces = source.split(AsciiChar::Comma);
+            shown(alloc, Text::<B>::collect_joined(heap, pieces, view("--")))
+        }
         _ => Err(AllocError),
     }
 }
@@ -39,6 +43,7 @@ fn made(alloc: Global, heap: &Heap, call: &str) -> Result<String, AllocError> {
         "to_ascii_uppercase" => shown_string(alloc, source.to_ascii_uppercase(heap)),
         "to_ascii_lowercase" => shown_string(alloc, source.to_ascii_lowercase(heap)),
         "replace" => replaced(alloc, heap, source),
+        "repeat" => shown_string(alloc, source.repeat(heap, 2)),
         "to_chars" => shown(alloc, source.to_chars(heap)),
         "clone" => cloned_over::<Vec<u8, &Heap>>(alloc, heap, source),
         _ => made_over::<Vec<u8, &Heap>>(alloc, heap, call),
@@ -66,16 +71,18 @@ fn cloned_over<B: NewBuffer<Refusal = AllocError> + CloneBuffer>(
 }
 
 /// A call that makes a text, and its answers.
-static TEXTS: [(&str, &[&str]); 11] = [
+static TEXTS: [(&str, &[&str]); 13] = [
     ("with_capacity", &["Err(AllocError)", "Ok(\"\")"]),
     ("from_char", &["Err(AllocError)", "Ok(\"a\")"]),
     ("from_chars", &["Err(AllocError)", "Ok(\"aB\")"]),
     ("collect_chars", &["Ok(\"aB,c\")"]),
     ("collect_strs", &["Err(AllocError)", "Ok(\"aBc\")"]),
+    ("collect_joined", &["Err(AllocError)", "Ok(\"aB--c\")"]),
     ("to_ascii_string", &["Err(AllocError)", "Ok(\"aB,c\")"]),
     ("to_ascii_uppercase", &["Err(AllocError)", "Ok(\"AB,C\")"]),
     ("to_ascii_lowercase", &["Err(AllocError)", "Ok(\"ab,c\")"]),
     ("replace", &["Err(AllocError)", "Ok(\"aB--c\")"]),
+    ("repeat", &["Err(AllocError)", "Ok(\"aB,caB,c\")"]),
     ("to_chars", &["Err(AllocError)", "Ok(['a', 'B', ',', 'c'])"]),
     (
         "clone",

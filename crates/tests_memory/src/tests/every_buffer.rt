@@ -2,7 +2,7 @@
 
 use super::each_allocation::{Heap, told, view, with_each_allocation_failing};
 use super::each_free_block::{Scarce, with_each_free_block};
-use ascii::{AsciiChar, AsciiString, Buffer, Text};
+use ascii::{AsciiChar, AsciiRange, AsciiString, Buffer, Text};
 use ascii_run::{ArrayAsciiString, SmallAsciiString};
 use std::alloc::{AllocError, Global};
 use std::fmt::Write;
@@ -25,6 +25,7 @@ fn edited<B: Buffer>(string: &mut Text<B>, call: &str) -> Result<(), Reason> {
         "push_decimal" => string.push_decimal(42u64),
         "insert" => string.insert(0, AsciiChar::w),
         "insert_str" => string.insert_str(0, view("ww")),
+        "replace_range" => string.replace_range(AsciiRange::To(0), view("ww")),
         "extend_strs" => string.extend_strs(view("yy").split(AsciiChar::Comma)),
         "reserve" if string.len() <= 100 => string.reserve(100),
         "reserve_exact" if string.len() <= 100 => string.reserve_exact(100),
@@ -36,12 +37,13 @@ fn edited<B: Buffer>(string: &mut Text<B>, call: &str) -> Result<(), Reason> {
 }
 
 /// An edit, its error, and what it puts before the text and after it.
-static EDITS: [(&str, &str, &str, &str); 10] = [
+static EDITS: [(&str, &str, &str, &str); 11] = [
     ("push", "Refused", "", "y"),
     ("push_str", "Refused", "", "yy"),
     ("push_decimal", "Refused", "", "42"),
     ("insert", "Refused", "w", ""),
     ("insert_str", "Refused", "ww", ""),
+    ("replace_range", "Refused", "ww", ""),
     ("extend_strs", "Refused", "", "yy"),
     ("write_str", "Error", "", "yy"),
     ("write_char", "Error", "", "y"),

@@ -2,14 +2,16 @@
 
 use super::repeated;
 use ascii::{AsciiChar, AsciiStr, AsciiString};
+use ascii_run::{Cmd, SmallAsciiString};
 use std::alloc::AllocError;
 use std::process::Abort;
 use testing::{ascii, assert_row};
-use tests_callers::both_types::{append, header_name};
+use tests_callers::both_types::{append, header_name, run_plainly, run_twice};
+use tests_callers::chunks::join_chunks;
 use tests_callers::cuts::all_words;
 use tests_callers::iterators::{
-    append_chars, bodies_reversed, copy_chars, in_brackets, in_quotes, line_lengths, piece_lengths,
-    pieces_reversed, without_line_endings, without_separators,
+    append_chars, append_pieces, bodies_reversed, copy_chars, in_brackets, in_quotes, line_lengths,
+    piece_lengths, pieces_reversed, without_line_endings, without_separators,
 };
 use tests_callers::prefixes::{first_bodies, first_pieces};
 use tests_callers::spans::{line_starts, piece_starts};
@@ -80,6 +82,9 @@ fn pieces_are_collected(rt: HostRuntime) {
     assert_row!(rt; reversed.len(), 4_001);
     let joined = without_separators(alloc, view, comma).expect(&rt, "no memory");
     assert!(rt; joined == repeated(&rt, "abcd", 4_000));
+    let mut string = AsciiString::new(alloc);
+    append_pieces(&mut string, view, comma).expect(&rt, "no memory");
+    assert!(rt; string == joined);
 }
 
 #[test]
@@ -107,4 +112,27 @@ fn words_are_listed(rt: HostRuntime) {
         4_000,
         ascii("word"),
     );
+}
+
+#[test]
+fn chunks_are_joined(rt: HostRuntime) {
+    let text = repeated(&rt, "abcd", 4_000);
+    let source = text.as_ascii_str().as_bytes();
+    let joined = join_chunks(rt.alloc(), source).expect(&rt, "no memory");
+    assert!(rt; joined.as_slice() == source);
+}
+
+#[test]
+fn commands_are_run(rt: HostRuntime) {
+    let alloc = rt.alloc();
+    let mut cmds = Vec::new(alloc);
+    for _ in 0..20_000usize {
+        cmds.push(Cmd::Len).expect(&rt, "no memory");
+    }
+    let mut string = AsciiString::new(alloc);
+    let replies = run_plainly(alloc, &mut string, &cmds).expect(&rt, "no memory");
+    assert_row!(rt; replies.len(), 20_000);
+    let (mut string, mut small) = (AsciiString::new(alloc), SmallAsciiString::new(alloc));
+    let both = run_twice(alloc, &mut string, &mut small, &cmds).expect(&rt, "no memory");
+    assert_row!(rt; both.1.len(), 20_000);
 }

@@ -1,7 +1,7 @@
 //! Edits that allocate, on strings of 20,000 characters.
 
 use super::repeated;
-use ascii::AsciiChar;
+use ascii::{AsciiChar, AsciiRange, AsciiString};
 use ascii_run::{AsciiBuf, SmallAsciiString};
 use testing::{ascii, assert_row};
 
@@ -22,6 +22,26 @@ fn cut_in_two(rt: HostRuntime) {
     let end = text.split_off(5_000).expect(&rt, "no memory");
     assert!(rt; text == repeated(&rt, "ab", 2_500));
     assert!(rt; end == repeated(&rt, "ab", 7_500));
+}
+
+#[test]
+fn long_texts_are_joined(rt: HostRuntime) {
+    let text = repeated(&rt, "a,", 10_000);
+    let pieces = text.as_ascii_str().split(AsciiChar::Comma);
+    let joined = AsciiString::collect_joined(rt.alloc(), pieces, ascii(", "));
+    assert!(rt; joined.expect(&rt, "no memory") == repeated(&rt, "a, ", 10_000));
+}
+
+#[test]
+fn long_texts_are_repeated_and_spliced(rt: HostRuntime) {
+    let text = repeated(&rt, "ab", 5_000);
+    let view = text.as_ascii_str();
+    let twice = view.repeat(rt.alloc(), 2).expect(&rt, "no memory");
+    assert!(rt; twice == repeated(&rt, "ab", 10_000));
+    let mut text = view.to_ascii_string(rt.alloc()).expect(&rt, "no memory");
+    text.replace_range(AsciiRange::To(0), twice.as_ascii_str())
+        .expect(&rt, "no memory");
+    assert!(rt; text == repeated(&rt, "ab", 15_000));
 }
 
 #[test]

@@ -1,10 +1,15 @@
 //! The callers of `tests_callers`, a file for each of its modules.
 
 mod both_types;
+mod chunks;
 mod cuts;
 mod engines;
+mod folded;
 mod in_place;
 mod iterators;
+mod numbers;
+mod places;
 mod servers;
 mod spans;
 mod texts;
+mod writers;

@@ -1,4 +1,4 @@
-//! Lists of edits over both forms, against a table that was made with the Rust crate.
+//! Lists of edits over both string types, against a table that was made with the Rust crate.
 
 use super::edit_table::RAN;
 use super::pseudo_random::Picks;

@@ -1,9 +1,11 @@
-//! The callers over either form, each once.
+//! The callers over strings of both types, each once.
 
 use ascii::{AsciiChar, AsciiString};
 use ascii_run::{Cmd, Reply, SmallAsciiString};
-use testing::{ascii, assert_row};
-use tests_callers::both_types::{append, count_replies, header_name, letter, run_over_a_string};
+use testing::{ascii, assert_debug, assert_row};
+use tests_callers::both_types::{
+    append, count_replies, header_name, letter, run_over_a_string, run_plainly, run_twice,
+};
 
 #[test]
 fn names_and_letters(rt: HostRuntime) {
@@ -28,4 +30,16 @@ fn a_run_over_a_string(rt: HostRuntime) {
     assert_row!(rt; string.as_ascii_str().as_str(), "abc");
     let count = count_replies(rt.alloc(), &mut string, &cmds).expect(&rt, "refused");
     assert_row!(rt; count, 2);
+}
+
+#[test]
+fn runs_that_agree(rt: HostRuntime) {
+    let alloc = rt.alloc();
+    let mut string = AsciiString::new(alloc);
+    let mut small = SmallAsciiString::new(alloc);
+    let cmds = [Cmd::PushStr(ascii("abc")), Cmd::Pop, Cmd::Remove(2)];
+    let want = "Ok(([Done, Char(Some('c')), BadPosition], [Done, Char(Some('c')), BadPosition]))";
+    assert_debug!(rt; run_twice(alloc, &mut string, &mut small, &cmds), want);
+    let replies = run_plainly(alloc, &mut small, &[Cmd::Len]);
+    assert_debug!(rt; replies, "Ok([Number(2)])");
 }

@@ -1,11 +1,12 @@
 //! The callers that cut a view, each once.
 
-use ascii::AsciiStr;
 use ascii::classes::Whitespace;
+use ascii::{AsciiChar, AsciiStr};
 use testing::{ascii, assert_row};
 use tests_callers::cuts::{
-    all_words, extension, first_word, help_reply, is_get, known_text, number_and_unit,
-    without_prefix, word_count, word_count_by,
+    all_words, extension, first_comma, first_word, has_mark, help_reply, is_get, known_text,
+    number_and_unit, only_piece, trim_twice, without_prefix, word_count, word_count_by,
+    word_span_count,
 };
 
 fn text_in<'a>(part: Option<AsciiStr<'a>>) -> Option<&'a str> {
@@ -20,8 +21,14 @@ fn cuts(rt: HostRuntime) {
     assert_row!(rt; number.as_str(), "42");
     assert_row!(rt; unit.as_str(), "px");
     assert_row!(rt; is_get(ascii("GET")), true);
+    assert_row!(rt; has_mark(ascii("a: b"), ascii(": ")), true);
+    assert_row!(rt; first_comma(ascii("a,b,c")), Some(1));
     assert_row!(rt; help_reply().as_bytes().last(), Some(&b'F'));
     assert_row!(rt; known_text("foo").as_str(), "foo");
+    assert_row!(rt; trim_twice(ascii(" a b\n")).as_str(), "a b");
+    let view = ascii("a b");
+    assert!(rt; view.split_once(AsciiChar::Comma).is_none());
+    assert_row!(rt; text_in(only_piece(view, AsciiChar::Comma)), Some("a b"));
 }
 
 #[test]
@@ -30,6 +37,7 @@ fn words(rt: HostRuntime) {
     assert_row!(rt; text_in(first_word(view)), Some("one"));
     assert_row!(rt; word_count(view), 2);
     assert_row!(rt; word_count_by::<Whitespace>(view), 2);
+    assert_row!(rt; word_span_count(view), 2);
     let words = all_words(rt.alloc(), view).expect(&rt, "refused");
     assert_row!(rt; words.len(), 2);
 }

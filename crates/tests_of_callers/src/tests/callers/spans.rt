@@ -10,8 +10,8 @@ use tests_callers::iterators::{
 use tests_callers::prefixes::{first_bodies, first_line_spans, first_piece_spans, first_pieces};
 use tests_callers::remainders::{
     after_first_piece, after_two_separators, count_after_first, count_and_lines, count_before_last,
-    lengths_left, resume_line_spans, resume_lines, resume_split, resume_split_spans,
-    take_line_span,
+    folder_and_name, last_column, last_line_span, lengths_left, resume_line_spans, resume_lines,
+    resume_split, resume_split_spans, stem, take_line_span, without_last_line,
 };
 use tests_callers::spans::{
     line_span_count, line_spans_reversed, line_starts, line_starts_by_for, piece_span_count,
@@ -96,4 +96,18 @@ fn stopped_over_lines(rt: HostRuntime) {
     let want = "Some(LineSpan { start: 5, text: \"c\", ending: Absent })";
     assert_debug!(rt; again, want);
     assert_debug!(rt; take_line_span(&mut lines, End::Back), want);
+}
+
+#[test]
+fn last_items(rt: HostRuntime) {
+    assert_debug!(rt; folder_and_name(ascii("/a/b")), "Some((\"/a\", \"b\"))");
+    assert_debug!(rt; folder_and_name(ascii("b")), "None");
+    assert_debug!(rt; stem(ascii("a.tar.gz")), "Some(\"a.tar\")");
+    let want = "Some((\"ab,\", SplitSpan { start: 4, text: \"c\" }))";
+    assert_debug!(rt; last_column(ascii("ab,,c"), AsciiChar::Comma), want);
+    let view = ascii("ab\r\n\nc");
+    assert_debug!(rt; without_last_line(view), "Some(\"ab\\r\\n\\n\")");
+    let want = "Some((\"ab\\r\\n\\n\", LineSpan { start: 5, text: \"c\", ending: Absent }))";
+    assert_debug!(rt; last_line_span(view), want);
+    assert_debug!(rt; last_line_span(ascii("c")), "None");
 }
