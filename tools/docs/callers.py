@@ -185,6 +185,7 @@ def inner_lines(item, key):
     for call in (i for i in item.inner if i.kind == "fn"):
         if item.kind == "trait" or call.clauses:  # otherwise the trait says how it is called, and the ghost members what it gives
             lines += function_lines(call, call.name)
+        lines += ["    // default body"] if item.kind == "trait" and call.opens >= 0 else []
         reason = reasons.get(f"{key}::{call.name}")
         lines += [f"    // {reason}"] if reason else []
     return [f"    {line}" for line in lines]

@@ -10,7 +10,7 @@ from sources import read
 MOST_WORDS, LONG_SENTENCE, LONG_CELL = 16_000, 25, 40
 FEW_SENTENCES, MOST_LONG = 40, 0.08
 # Pages of docs/ that a program writes, or fills from what it measures.
-MADE = {"PERFORMANCE.md", "PROGRAMS.md", "RECIPES.md"}
+MADE = {"PERFORMANCE.md", "RECIPES.md"}
 TABLE = re.compile(r"<!-- Made by .*?<!-- end of the table -->", re.DOTALL)
 CODE = re.compile(r"^```.*?^```$", re.DOTALL | re.MULTILINE)
 END = re.compile(r"(?<=[.?!])[)*]*\s+(?=[A-Z`*\[(])")
