@@ -12,6 +12,7 @@ mod Examples
 pub mod ExtendLemmas
 pub mod FoldFindLemmas
 pub mod FoldLemmas
+pub mod FoldedMapLemmas
 pub mod JsonLemmas
 pub mod LastLineLemmas
 pub mod LinesByLemmas

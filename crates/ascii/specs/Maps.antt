@@ -1,10 +1,26 @@
--- What contracts see of a map from texts to values: a function from texts. `update` is std's word for
--- a function that is changed at one text.
+-- What contracts see of a map from texts to values: a function from texts. `update` is std's word
+-- for a function that is changed at one text, `lookup` for the first entry whose key passes a test.
+use Rattle.std.specs.Cmp.Lexicographic.{slice_cmp}
 use Rattle.std.specs.HashMap.{get_by_text, hash_map_len}
-use Rattle.std.specs.Map.{update}
-use Rattle.std.specs.Prelude.{◌≡◌, ℕ, List, Option}
+use Rattle.std.specs.List.{HoldsAt}
+use Rattle.std.specs.List.Sorted.{IsPartitionPoint}
+use Rattle.std.specs.Map.{lookup, update}
+use Rattle.std.specs.Ordering.{nat_cmp, on}
+use Rattle.std.specs.Prelude.{◌≡◌, ℕ, ◌<◌, ◌≤◌, Bool, List, Option, length, map, slice_index_or}
 use Rattle.std.specs.Str.{bytes_eq}
+use Rattle.std.specs.declared.cmp.Ordering.{Ordering}
+use Rattle.std.specs.declared.cmp.Ordering.TheVariants.{Equal, Greater, Less}
+use Rattle.ascii_base.specs.Case.{lower_image}
 use Rattle.ascii.specs.declared.maps.AsciiMap.{AsciiMap}
+
+-- a value at each text, or `None` if there is none
+abbrev pub Values : Type 0 → Type 0
+Values V = List ℕ → Option V
+
+-- the values `new` are `old`, except that they have `value` at each text that is `key` by `same`
+abbrev pub Changes : {V : Type 0} → (List ℕ → List ℕ → Bool) → Values V → List ℕ → Option V
+    → Values V → Type 0
+Changes same old key value new = (other : List ℕ) → new other ≡ update same old key value other
 
 -- the value that `map` has at `key`, or `None` if it has none
 abbrev pub value_at : {V : Type 0} → AsciiMap V → List ℕ → Option V
@@ -16,10 +32,45 @@ size_of map = hash_map_len map.entries
 
 -- `new` has what `old` has, except that it has `value` at `key`
 abbrev pub ChangesAt : {V : Type 0} → List ℕ → Option V → AsciiMap V → AsciiMap V → Type 0
-ChangesAt key value old new =
-    (other : List ℕ) → value_at new other ≡ update bytes_eq (value_at old) key value other
+ChangesAt key value old new = Changes bytes_eq (value_at old) key value (value_at new)
 
 -- `new` has what `old` has
 abbrev pub HasSame : {V : Type 0} → AsciiMap V → AsciiMap V → Type 0
 HasSame old new =
     (size_of new ≡ size_of old) × ((key : List ℕ) → value_at new key ≡ value_at old key)
+
+-- ---- a map that ignores ASCII case: a list of texts with their values
+
+-- texts with their values
+abbrev pub Entries : Type 0 → Type 0
+Entries V = List (List ℕ × V)
+
+-- whether two texts are equal, ignoring ASCII case
+abbrev pub same_folded : List ℕ → List ℕ → Bool
+same_folded = on (map lower_image) bytes_eq
+
+-- the order of two texts in lower case
+abbrev pub folded_order : List ℕ → List ℕ → Ordering
+folded_order = on (map lower_image) (slice_cmp nat_cmp)
+
+-- the value in `entries` at `key`, ignoring ASCII case, or `None` if there is none
+abbrev pub folded_value_at : {V : Type 0} → Entries V → Values V
+folded_value_at entries key = lookup (same_folded key) entries
+
+-- the texts of `entries` ascend in lower case, so no two are equal
+abbrev pub IsInOrder : {V : Type 0} → Entries V → Type 0
+IsInOrder {V} entries = (i j : ℕ) (d : List ℕ × V) → i < j → j < length entries
+    → folded_order (slice_index_or entries i d).0 (slice_index_or entries j d).0 ≡ Less
+
+-- ---- only private calls cite the following
+
+-- the entry at `place` is that of `key`
+pub record IsPlaceOf {V : Type 0} (entries : Entries V) (key : List ℕ) (place : ℕ) : Type 0 where
+  pub inside : place < length entries
+  pub equal : HoldsAt (λ entry. folded_order entry.0 key ≡ Equal) entries place
+
+-- the entry of `key` would be at `place`: before it are lower texts, and from it on higher ones
+pub record IsGapFor {V : Type 0} (entries : Entries V) (key : List ℕ) (place : ℕ) : Type 0 where
+  pub inside : place ≤ length entries
+  pub parted : IsPartitionPoint (λ entry. folded_order entry.0 key ≡ Less)
+      (λ entry. folded_order entry.0 key ≡ Greater) entries place

@@ -15,7 +15,7 @@
 //! | lines that end in CR LF only | `lines_by` and `line_spans_by` of a view, with `Endings` of the module `iter` |
 //! | to search for a text, a character or a class | `find`, `position`, `span::<C>()` of a view |
 //! | a part that keeps its position; a line and a column | `Spanned` of the module `spanned`; `line_and_column` |
-//! | keys that ignore case; a map asked by a view | the module `folded`; `AsciiMap` of the module `maps` |
+//! | keys that ignore case; a map asked by a view | the module `folded`; the module `maps` |
 //! | the ASCII runs of bytes that may hold others | `bytes::ascii_chunks` |
 //! | a class of characters of your own | the module `classes` |
 //! | JSON values, serde | the module `json`; the traits of `serde` |

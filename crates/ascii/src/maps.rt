@@ -5,7 +5,13 @@
 //!     ports.get(AsciiStr::literal("http")) // Some(80)
 //!     ports.get(AsciiStr::literal("HTTP")) // None
 //!
-//! A contract sees a map as a function from texts to values (`value_at`). A look-up does not allocate.
+//! | Map | Keys | A look-up | An insert |
+//! |---|---|---|---|
+//! | `AsciiMap` | by bytes | hashes | hashes |
+//! | `FoldedMap` | ignoring ASCII case | compares with few keys | moves the entries after it |
+//!
+//! A contract sees a map as a function from texts to values (`value_at`, `folded_value_at`). A
+//! look-up does not allocate.
 
 ghost use Rattle.std.specs.Prelude.{◌≡◌, ◌+◌, ◌↔◌, ℕ, List, None, Some, IfOk, IsTrue, OnErr, OnOk};
 ghost use Rattle.std.specs.Prelude.{if◌then◌else◌, is_some};
@@ -13,8 +19,12 @@ ghost use Rattle.std.specs.Option.{option_copied};
 ghost use Rattle.ascii.specs.View.{text_of};
 
 use crate::ascii_str::AsciiStr;
+use crate::folded_text::FoldedString;
 use std::alloc::{AllocError, Global};
+use std::cmp::Ordering;
 use std::collections::HashMap;
+use std::marker::Model;
+use std::mem;
 
 /// A map from texts to values. The order of its entries is not kept.
 #[derive(Drop)]
@@ -109,5 +119,131 @@ impl<V: Drop> AsciiMap<V> {
         ensures { IsTrue result ↔ (size_of self.now ≡ 0) }
     {
         self.entries.is_empty()
+    }
+}
+
+/// A map from texts to values that ignores ASCII case, in the order of its keys in lower case. It
+/// is for keys that are few, such as the headers of a request: an insert moves the entries after
+/// it, and with some hundred keys a `HashMap` with keys of `FoldedString` is faster.
+#[derive(Drop)]
+pub struct FoldedMap<V> {
+    alloc: Global,
+    entries: Vec<(FoldedString, V)>,
+}
+
+impl<V> Model for FoldedMap<V> {
+    ghost use Rattle.ascii.specs.Maps.{Entries, IsInOrder};
+
+    ghost Value = { Entries V };
+
+    ghost view = { λ map. map.entries.items };
+
+    ghost invariant = { λ map. IsInOrder map.entries.items };
+}
+
+impl<V: Drop> FoldedMap<V> {
+    ghost use Rattle.std.specs.Prelude.{[], ◌<◌, IfErr, All, length};
+    ghost use Rattle.ascii.specs.Maps.{Changes, folded_value_at, same_folded};
+    ghost use Rattle.ascii.specs.Maps.{IsGapFor, IsPlaceOf, folded_order};
+
+    /// Creates an empty map. Does not allocate.
+    ///
+    ///     FoldedMap::<u8>::new(alloc).is_empty() // true
+    pub fn new(alloc: Global) -> FoldedMap<V>
+        ensures { result ≡ [] }
+    {
+        let entries = Vec::new(alloc);
+        FoldedMap { alloc, entries }
+    }
+
+    /// Returns the value at `key`, ignoring ASCII case, or `None` if there is none.
+    ///
+    ///     let mut headers = FoldedMap::new(alloc);
+    ///     headers.insert(AsciiStr::literal("Host"), 1)?;
+    ///     headers.get(AsciiStr::literal("HOST")) // Some(1)
+    ///     headers.get(AsciiStr::literal("Hosts")) // None
+    pub fn get(&self, key: AsciiStr<'_>) -> Option<&V>
+        ensures { option_copied result ≡ folded_value_at self.now (text_of key.entry) }
+    {
+        match self.place_of(key) {
+            Ok(place) => Some(&self.entries[place].1),
+            Err(_) => None,
+        }
+    }
+
+    /// Puts a value at `key`, ignoring ASCII case, and returns the one that was there. Fails only
+    /// if an allocation fails; the map is then unchanged, and the value is dropped.
+    ///
+    /// Copies the key, unless it is there: then it stays as it was first written.
+    ///
+    ///     let mut headers = FoldedMap::new(alloc);
+    ///     headers.insert(AsciiStr::literal("Host"), 1)? // None
+    ///     headers.insert(AsciiStr::literal("HOST"), 2)? // Some(1)
+    pub fn insert(&mut self, key: AsciiStr<'_>, value: V) -> Result<Option<V>, AllocError>
+        ensures before { IfOk result (λ before.
+            before ≡ folded_value_at self.old (text_of key.entry)) }
+        ensures puts { OnOk result (Changes same_folded (folded_value_at self.old)
+            (text_of key.entry) (Some value) (folded_value_at self.new)) }
+        ensures size { IfOk result (λ before.
+            length self.new ≡ length self.old + (if is_some before then 0 else 1)) }
+        ensures unchanged { OnErr result (self.new ≡ self.old) }
+    {
+        match self.place_of(key) {
+            Ok(place) => Ok(Some(mem::replace(&mut self.entries[place].1, value))),
+            Err(place) => {
+                let key = key.folded().to_folded_string(self.alloc)?;
+                self.entries.insert(place, (key, value))?;
+                Ok(None)
+            }
+        }
+    }
+
+    /// Removes the value at `key`, ignoring ASCII case, and returns it, or returns `None` if there
+    /// is none. Does not allocate.
+    ///
+    ///     let mut headers = FoldedMap::new(alloc);
+    ///     headers.insert(AsciiStr::literal("Host"), 1)?;
+    ///     headers.remove(AsciiStr::literal("HOST")) // Some(1)
+    ///     headers.remove(AsciiStr::literal("Host")) // None
+    pub fn remove(&mut self, key: AsciiStr<'_>) -> Option<V>
+        ensures before { result ≡ folded_value_at self.old (text_of key.entry) }
+        ensures size { length self.new + (if is_some result then 1 else 0) ≡ length self.old }
+        ensures removes { Changes same_folded (folded_value_at self.old) (text_of key.entry) None
+            (folded_value_at self.new) }
+    {
+        match self.place_of(key) {
+            Ok(place) => Some(self.entries.remove(place).1),
+            Err(_) => None,
+        }
+    }
+
+    /// Returns the number of keys that have a value.
+    ///
+    ///     FoldedMap::<u8>::new(alloc).len() // 0
+    pub fn len(&self) -> usize
+        ensures { result ≡ length self.now }
+    {
+        self.entries.len()
+    }
+
+    /// Returns `true` if no key has a value.
+    ///
+    ///     FoldedMap::<u8>::new(alloc).is_empty() // true
+    pub fn is_empty(&self) -> bool
+        ensures { IsTrue result ↔ (self.now ≡ []) }
+    {
+        self.entries.is_empty()
+    }
+
+    /// Returns the place of the entry at `key`, or the place where its entry would be.
+    fn place_of(&self, key: AsciiStr<'_>) -> Result<usize, usize>
+        ensures found { IfOk result (IsPlaceOf self.now (text_of key.entry)) }
+        ensures absent { IfErr result (IsGapFor self.now (text_of key.entry)) }
+    {
+        self.entries.binary_search_by(
+            |entry: &(FoldedString, V)| -> Ordering
+                ensures { result ≡ folded_order entry.now.0 (text_of key.entry) }
+            { entry.0.as_folded().cmp(&key.folded()) },
+        )
     }
 }

@@ -1,12 +1,9 @@
 -- A map from header names to values: a function from names.
-use Rattle.std.specs.BTreeMap.{BTreeMap, get_by}
 use Rattle.std.specs.Option.{option_map}
 use Rattle.std.specs.Prelude.{◌≡◌, ℕ, List, Option, reverse}
-use Rattle.ascii.specs.Folded.{own_text}
+use Rattle.ascii.specs.Maps.{Entries, folded_value_at}
 use Rattle.ascii.specs.View.{text_of}
 use Rattle.ascii.specs.declared.ascii_str.AsciiStr.{AsciiStr}
-use Rattle.ascii.specs.declared.folded.FoldedStr.{FoldedStr}
-use Rattle.cookbook.specs.Cases.{order_ignoring_case}
 use Rattle.cookbook.specs.Headers.{FindsHeader}
 use Rattle.cookbook.specs.declared.header_map.HeaderMap.{HeaderMap}
 use Rattle.cookbook.specs.declared.headers.Header.{Header}
@@ -15,11 +12,9 @@ use Rattle.cookbook.specs.declared.headers.Header.{Header}
 abbrev pub Values : Type 0
 Values = List ℕ → Option (List ℕ)
 
--- the values in `entries`: at a name, the value at the key that is equal to it if the case of
--- letters is ignored
-abbrev pub values_in : BTreeMap FoldedStr AsciiStr → Values
-values_in entries name =
-    option_map text_of (get_by (λ key. order_ignoring_case name (own_text key)) entries)
+-- the values in `entries`: at a name, the value at the key that is equal to it, ignoring ASCII case
+abbrev pub values_in : Entries AsciiStr → Values
+values_in entries name = option_map text_of (folded_value_at entries name)
 
 -- the values of a map by name
 abbrev pub values_of : HeaderMap → Values

@@ -8,7 +8,7 @@ use ascii::iter::{
     Cut, CutBack, End, Endings, take_end, walk_line_spans, walk_lines, walk_split, walk_split_spans,
 };
 use ascii::json::{JsonError, char_from_json, char_to_json, str_from_json, string_from_json};
-use ascii::maps::AsciiMap;
+use ascii::maps::{AsciiMap, FoldedMap};
 use ascii::numbers::{Number, NumberError};
 use ascii::places::Place;
 use ascii::spanned::Spanned;
@@ -2570,6 +2570,56 @@ fn len_of_ascii_map(rt: HostRuntime) {
 fn is_empty_of_ascii_map(rt: HostRuntime) {
     let alloc = rt.alloc();
     assert_debug!(rt; AsciiMap::<u8>::new(alloc).is_empty(), "true");
+}
+
+// FoldedMap::new
+#[test]
+fn new_of_folded_map(rt: HostRuntime) {
+    let alloc = rt.alloc();
+    assert_debug!(rt; FoldedMap::<u8>::new(alloc).is_empty(), "true");
+}
+
+// FoldedMap::get
+#[test]
+fn get_of_folded_map(rt: HostRuntime) {
+    let alloc = rt.alloc();
+    let mut headers = FoldedMap::new(alloc);
+    headers.insert(view("Host"), 1).expect(&rt, "refused");
+    assert_debug!(rt; headers.get(view("HOST")), "Some(1)");
+    assert_debug!(rt; headers.get(view("Hosts")), "None");
+}
+
+// FoldedMap::insert
+#[test]
+fn insert_of_folded_map(rt: HostRuntime) {
+    let alloc = rt.alloc();
+    let mut headers = FoldedMap::new(alloc);
+    assert_debug!(rt; headers.insert(view("Host"), 1).expect(&rt, "refused"), "None");
+    assert_debug!(rt; headers.insert(view("HOST"), 2).expect(&rt, "refused"), "Some(1)");
+}
+
+// FoldedMap::remove
+#[test]
+fn remove_of_folded_map(rt: HostRuntime) {
+    let alloc = rt.alloc();
+    let mut headers = FoldedMap::new(alloc);
+    headers.insert(view("Host"), 1).expect(&rt, "refused");
+    assert_debug!(rt; headers.remove(view("HOST")), "Some(1)");
+    assert_debug!(rt; headers.remove(view("Host")), "None");
+}
+
+// FoldedMap::len
+#[test]
+fn len_of_folded_map(rt: HostRuntime) {
+    let alloc = rt.alloc();
+    assert_debug!(rt; FoldedMap::<u8>::new(alloc).len(), "0");
+}
+
+// FoldedMap::is_empty
+#[test]
+fn is_empty_of_folded_map(rt: HostRuntime) {
+    let alloc = rt.alloc();
+    assert_debug!(rt; FoldedMap::<u8>::new(alloc).is_empty(), "true");
 }
 
 // numbers::Number

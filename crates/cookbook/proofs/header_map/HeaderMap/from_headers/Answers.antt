@@ -4,7 +4,7 @@ use Rattle.cookbook.proofs.HeaderMapLemmas.{no_values, values_next}
 use Rattle.cookbook.proofs.header_map.HeaderMap.from_headers.Goals as goal
 
 pub loop-header-init : goal.loop-header-init
-loop-header-init c = no_values c.new-values.result c.new-values.ensures.empty
+loop-header-init c = rw c.new-values.ensures no_values
 
 pub loop-header-preserved : goal.loop-header-preserved
 loop-header-preserved c =
@@ -12,7 +12,7 @@ loop-header-preserved c =
     let item = c.header-item.result in
     rw (take_more c.args.headers.now at item c.loop-header-test.true, ← c.header-item.is)
     (values_next c.loop-header.values c.insert.new.self (take at c.args.headers.now) item
-    c.folded.result c.folded.ensures c.in_ok-insert.ensures.updates c.loop-header.invariant)
+    c.in_ok-insert.ensures.puts c.loop-header.invariant)
 
 pub returns : goal.returns
 returns c =

@@ -1,0 +1,37 @@
+use Rattle.std.proofs.Common.{sym}
+use Rattle.ascii.specs.View.{text_of}
+use Rattle.ascii.proofs.FoldedMapLemmas.{insert_in_order, insert_there, no_value, set_there}
+use Rattle.ascii.proofs.FoldedMapLemmas.{value_there}
+use Rattle.ascii.proofs.maps.FoldedMap.insert.Goals as goal
+
+pub invariant_of-self-in-Err : goal.invariant_of-self-in-Err
+invariant_of-self-in-Err over c =
+    rw (c.in_ok-insert-in-Err.ensures.items, c.in_ok-key-in-Err.ensures, c.folded.ensures)
+    (insert_in_order c.self.inside.entries.items (text_of c.args.key) c.in-Err.place
+    (rw c.self.view_is c.in-Err.ensures.absent) c.args.value c.self.invariant)
+
+pub returns-in-Ok-clause-before : goal.returns-in-Ok-clause-before
+returns-in-Ok-clause-before over c = rw (← c.self.view_is, c.replace.ensures.value)
+    (sym (value_there c.self.inside.entries.items c.self.invariant (text_of c.args.key)
+    c.in-Ok.place (rw c.self.view_is c.in-Ok.ensures.found) c.index_mut.result.now
+    c.index_mut.ensures.value))
+
+pub returns-in-Ok-clause-puts : goal.returns-in-Ok-clause-puts
+returns-in-Ok-clause-puts over c = rw (← c.self.view_is, c.replace.ensures.after)
+    (set_there c.self.inside.entries.items c.self.invariant (text_of c.args.key) c.in-Ok.place
+    (rw c.self.view_is c.in-Ok.ensures.found) c.index_mut.result.now c.index_mut.ensures.value
+    c.args.value)
+
+pub returns-in_ok-insert-in-Err-clause-before : goal.returns-in_ok-insert-in-Err-clause-before
+returns-in_ok-insert-in-Err-clause-before over c =
+    sym (no_value c.args.self.now (text_of c.args.key) _ c.in-Err.ensures.absent)
+
+pub returns-in_ok-insert-in-Err-clause-puts : goal.returns-in_ok-insert-in-Err-clause-puts
+returns-in_ok-insert-in-Err-clause-puts over c =
+    rw (
+      c.in_ok-insert-in-Err.ensures.items,
+      c.in_ok-key-in-Err.ensures,
+      c.folded.ensures,
+      c.self.view_is,
+    ) (insert_there
+    c.args.self.now (text_of c.args.key) c.in-Err.place c.in-Err.ensures.absent c.args.value)

@@ -1,0 +1,28 @@
+use Rattle.std.proofs.Common.{sym}
+use Rattle.ascii.specs.View.{text_of}
+use Rattle.ascii.proofs.FoldedMapLemmas.{no_value, none_there, remove_in_order, remove_there}
+use Rattle.ascii.proofs.FoldedMapLemmas.{value_there}
+use Rattle.ascii.proofs.maps.FoldedMap.remove.Goals as goal
+
+pub invariant_of-self : goal.invariant_of-self
+invariant_of-self over c = rw c.remove.ensures.items (remove_in_order
+    c.self.inside.entries.items c.self.invariant (text_of c.args.key) c.in-Ok.place
+    (rw c.self.view_is c.in-Ok.ensures.found))
+
+pub returns-in-Ok-clause-before : goal.returns-in-Ok-clause-before
+returns-in-Ok-clause-before over c = rw (← c.self.view_is)
+    (sym (value_there c.self.inside.entries.items c.self.invariant (text_of c.args.key)
+    c.in-Ok.place (rw c.self.view_is c.in-Ok.ensures.found) c.remove.result c.remove.ensures.value))
+
+pub returns-in-Ok-clause-removes : goal.returns-in-Ok-clause-removes
+returns-in-Ok-clause-removes over c = rw (c.remove.ensures.items, ← c.self.view_is)
+    (remove_there c.self.inside.entries.items c.self.invariant (text_of c.args.key) c.in-Ok.place
+    (rw c.self.view_is c.in-Ok.ensures.found) c.remove.result c.remove.ensures.value)
+
+pub returns-in-Err-clause-before : goal.returns-in-Err-clause-before
+returns-in-Err-clause-before over c =
+    sym (no_value c.args.self.now (text_of c.args.key) _ c.in-Err.ensures.absent)
+
+pub returns-in-Err-clause-removes : goal.returns-in-Err-clause-removes
+returns-in-Err-clause-removes over c =
+    none_there c.args.self.now (text_of c.args.key) _ c.in-Err.ensures.absent
