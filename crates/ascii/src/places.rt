@@ -88,6 +88,33 @@ impl fmt::Display for Place {
     }
 }
 
+/// What is wrong in a text, and where.
+///
+///     AsciiStr::literal("a\nb c").fault_at(3, "no '='").to_string(alloc)? // "2:2: no '='"
+#[derive(Clone, Copy, PartialEq, Eq, Debug)]
+pub struct Fault<E> {
+    /// The line and the column of the fault.
+    pub place: Place,
+    /// What is wrong there.
+    pub what: E,
+}
+
+impl<E: fmt::Display> fmt::Display for Fault<E> {
+    ghost use Rattle.std.specs.Fmt.{◌++?◌};
+    ghost use Rattle.std.specs.Prelude.{◌++◌, codes};
+    ghost use Rattle.ascii.specs.Places.{place_text};
+
+    ghost output = { λ fault. Some (place_text fault.place ++ codes ": ") ++? E.output fault.what };
+
+    /// Writes the place, a colon, a space and what is wrong.
+    ///
+    ///     AsciiStr::literal("").fault_at(0, "empty").to_string(alloc)? // "1:1: empty"
+    fn fmt<W: fmt::Write>(&self, f: &mut fmt::Formatter<W>) -> fmt::Result {
+        let Fault { place, what } = self;
+        write!(f, "{place}: {what}")
+    }
+}
+
 impl AsciiStr<'_> {
     ghost use Rattle.ascii.specs.Places.{place_at};
     ghost use Rattle.ascii.specs.View.{text_of};
@@ -106,5 +133,17 @@ impl AsciiStr<'_> {
     {
         let first = Place { line: 1, column: 1 };
         first.after(&self.bytes[..position])
+    }
+    /// Returns what is wrong at a position, with its line and column, which `line_and_column` counts.
+    ///
+    /// Condition: `position` is at most the length.
+    ///
+    ///     AsciiStr::literal("ab\ncd").fault_at(4, "no '='") // Fault { place: Place { line: 2, column: 2 }, what: "no '='" }
+    pub fn fault_at<E>(self, position: usize, what: E) -> Fault<E>
+        requires { position ≤ length (text_of self) }
+        ensures { result ≡ record { place = place_at (text_of self.entry) position; what = what } }
+    {
+        let place = self.line_and_column(position);
+        Fault { place, what }
     }
 }

@@ -27,7 +27,7 @@ fn main(rt: HostRuntime) -> io::Result<()> {
             Ok(())
         }
         Err(IniError::At(start, what)) => {
-            println!(rt; "{}: {what}", view.line_and_column(start.min(view.len())))
+            println!(rt; "{}", view.fault_at(start.min(view.len()), what))
         }
         Err(IniError::Memory) => println!(rt; "no memory"),
     }

@@ -2702,6 +2702,28 @@ fn fmt_of_place(rt: HostRuntime) {
     );
 }
 
+// places::Fault
+#[test]
+fn fault_of_places(rt: HostRuntime) {
+    let alloc = rt.alloc();
+    assert_debug!(
+        rt;
+        view("a\nb c").fault_at(3, "no '='").to_string(alloc).expect(&rt, "refused"),
+        "\"2:2: no '='\""
+    );
+}
+
+// Display for Fault::fmt
+#[test]
+fn fmt_of_fault(rt: HostRuntime) {
+    let alloc = rt.alloc();
+    assert_debug!(
+        rt;
+        view("").fault_at(0, "empty").to_string(alloc).expect(&rt, "refused"),
+        "\"1:1: empty\""
+    );
+}
+
 // AsciiStr::line_and_column
 #[test]
 fn line_and_column_of_ascii_str(rt: HostRuntime) {
@@ -2713,6 +2735,16 @@ fn line_and_column_of_ascii_str(rt: HostRuntime) {
             view("").line_and_column(0),
         ),
         "(Place { line: 1, column: 3 }, Place { line: 2, column: 1 }, Place { line: 1, column: 1 })"
+    );
+}
+
+// AsciiStr::fault_at
+#[test]
+fn fault_at_of_ascii_str(rt: HostRuntime) {
+    assert_debug!(
+        rt;
+        view("ab\ncd").fault_at(4, "no '='"),
+        "Fault { place: Place { line: 2, column: 2 }, what: \"no '='\" }"
     );
 }
 

@@ -1,0 +1,81 @@
+//! The request line and the headers.
+
+ghost use Rattle.std.specs.Prelude.{◌≡◌, IfSome};
+ghost use Rattle.ascii.specs.View.{text_of};
+ghost use Rattle.example_head.specs.Head.{IsRequestLine};
+
+use ascii::classes::{Blank, Graphic, Token};
+use ascii::maps::FoldedMap;
+use ascii_lines::{AsciiChar, AsciiStr, OwnedLine};
+use std::alloc::{AllocError, Global};
+
+/// The parts of a request line. For `GET / HTTP/1.1` the minor version is 1.
+#[derive(Clone, Copy)]
+pub struct RequestLine<'a> {
+    pub method: AsciiStr<'a>,
+    pub target: AsciiStr<'a>,
+    pub minor: u8,
+}
+
+/// Why lines are not headers: the line at this index, counted from 0, is none or has the name of an earlier one, or
+/// a lack of memory.
+#[derive(Clone, Copy)]
+pub enum HeaderError {
+    NotHeader(usize),
+    Twice(usize),
+    Memory,
+}
+
+impl From<AllocError> for HeaderError {
+    ghost use Rattle.example_head.specs.declared.head.HeaderError.TheVariants.{Memory};
+
+    ghost from_gives = { λ _ error. error ≡ Memory };
+
+    fn from(_: AllocError) -> HeaderError {
+        HeaderError::Memory
+    }
+}
+
+/// Returns the parts of a request line, or `None` if the line is none.
+pub fn read_request_line<'a>(line: AsciiStr<'a>) -> Option<RequestLine<'a>>
+    ensures { IfSome result (IsRequestLine (text_of line.entry)) }
+{
+    let (method, rest) = line.split_once(AsciiChar::Space)?;
+    let (target, version) = rest.split_once(AsciiChar::Space)?;
+    let digits = version.strip_prefix(AsciiStr::literal("HTTP/1."))?;
+    let minor = digits.to_number::<u8>().ok()?;
+    if method.is_empty() || !method.is_all::<Token>() {
+        return None;
+    }
+    if target.is_empty() || !target.is_all::<Graphic>() {
+        return None;
+    }
+    Some(RequestLine {
+        method,
+        target,
+        minor,
+    })
+}
+
+/// Returns the values of the headers by their names, ignoring ASCII case.
+pub fn read_headers<'a>(
+    alloc: Global,
+    lines: &'a [OwnedLine],
+) -> Result<FoldedMap<AsciiStr<'a>>, HeaderError> {
+    let mut headers = FoldedMap::new(alloc);
+    for (index, line) in lines.iter().enumerate() {
+        let Some((name, value)) = line.text.as_ascii_str().split_once(AsciiChar::Colon) else {
+            return Err(HeaderError::NotHeader(index));
+        };
+        if name.is_empty() || !name.is_all::<Token>() {
+            return Err(HeaderError::NotHeader(index));
+        }
+        if headers
+            .insert(name, value.trim_matches::<Blank>())?
+            .is_some()
+        {
+            return Err(HeaderError::Twice(index));
+        }
+    }
+    Ok(headers)
+}
