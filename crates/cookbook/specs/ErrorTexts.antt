@@ -1,5 +1,6 @@
 -- The texts of the errors of the cookbook. Positions, fields and lines are counted from 0.
 use Rattle.std.specs.Prelude.{List, ℕ, ◌++◌, codes, decimal}
+use Rattle.ascii.specs.Places.{place_text}
 use Rattle.cookbook.specs.declared.headers.HeaderBlockError.{HeaderBlockError}
 use Rattle.cookbook.specs.declared.headers.HeaderBlockError.TheVariants.{InLine}
 use Rattle.cookbook.specs.declared.headers.HeaderError.{HeaderError}
@@ -9,6 +10,10 @@ use Rattle.cookbook.specs.declared.hosts.HostNameError.TheVariants.{TooLong, Emp
 use Rattle.cookbook.specs.declared.hosts.HostNameError.TheVariants.{Character, Hyphen}
 use Rattle.cookbook.specs.declared.settings.SettingError.{SettingError}
 use Rattle.cookbook.specs.declared.settings.SettingError.TheVariants.{NoEquals, NoKey}
+use Rattle.cookbook.specs.declared.settings.SettingFault.{SettingFault}
+use Rattle.cookbook.specs.declared.settings.SettingFault.TheVariants as what
+use Rattle.cookbook.specs.declared.settings.SettingsError.{SettingsError}
+use Rattle.cookbook.specs.declared.settings.SettingsError.TheVariants.{At}
 use Rattle.cookbook.specs.declared.table.RowError.{RowError}
 use Rattle.cookbook.specs.declared.table.RowError.TheVariants.{Empty, TooFew, TooMany}
 
@@ -25,6 +30,17 @@ row_error_text other = codes "no memory"
 abbrev pub setting_error_text : SettingError → List ℕ
 setting_error_text (NoEquals start) = codes "no '=' in the text at index " ++ decimal start
 setting_error_text (NoKey position) = codes "no key before the '=' at index " ++ decimal position
+
+-- the text of what is wrong with a line of settings
+abbrev pub setting_fault_text : SettingFault → List ℕ
+setting_fault_text what.NoEquals = codes "no '='"
+setting_fault_text what.NoKey = codes "no key before the '='"
+
+-- the text of an error of `read_settings`: the line, the column, and what is wrong there
+abbrev pub settings_error_text : SettingsError → List ℕ
+settings_error_text (At fault) =
+    place_text fault.place ++ (codes ": " ++ setting_fault_text fault.what)
+settings_error_text other = codes "no memory"
 
 -- the text of an error of `read_header`
 abbrev pub header_error_text : HeaderError → List ℕ

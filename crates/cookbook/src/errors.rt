@@ -5,7 +5,7 @@ ghost use Rattle.std.specs.Prelude.{Some};
 
 use crate::headers::{HeaderBlockError, HeaderError};
 use crate::hosts::HostNameError;
-use crate::settings::SettingError;
+use crate::settings::{SettingError, SettingFault, SettingsError};
 use crate::table::RowError;
 use std::error::Error;
 use std::fmt;
@@ -46,6 +46,34 @@ impl fmt::Display for SettingError {
 }
 
 impl Error for SettingError {}
+
+impl fmt::Display for SettingFault {
+    ghost use Rattle.cookbook.specs.ErrorTexts.{setting_fault_text};
+
+    ghost output = { λ fault. Some (setting_fault_text fault) };
+
+    fn fmt<W: fmt::Write>(&self, f: &mut fmt::Formatter<W>) -> fmt::Result {
+        f.write_str(match self {
+            SettingFault::NoEquals => "no '='",
+            SettingFault::NoKey => "no key before the '='",
+        })
+    }
+}
+
+impl fmt::Display for SettingsError {
+    ghost use Rattle.cookbook.specs.ErrorTexts.{settings_error_text};
+
+    ghost output = { λ error. Some (settings_error_text error) };
+
+    fn fmt<W: fmt::Write>(&self, f: &mut fmt::Formatter<W>) -> fmt::Result {
+        match self {
+            SettingsError::At(fault) => write!(f, "{fault}"),
+            SettingsError::Memory => f.write_str("no memory"),
+        }
+    }
+}
+
+impl Error for SettingsError {}
 
 impl fmt::Display for HeaderError {
     ghost use Rattle.cookbook.specs.ErrorTexts.{header_error_text};

@@ -1,4 +1,4 @@
-//! The recipes: rows of 300 columns, blocks of 2,000 headers, texts of 20,000 characters, host names of 253.
+//! The recipes: rows of 300 columns, blocks of 2,000 headers, files of 2,000 settings, texts of 20,000 characters, host names of 253.
 
 use super::repeated;
 use ascii::{AsciiChar, AsciiString};
@@ -7,6 +7,7 @@ use cookbook::header_map::HeaderMap;
 use cookbook::headers::read_headers;
 use cookbook::hosts::{HostName, host_order, same_host};
 use cookbook::screen::wrap_for_screen;
+use cookbook::settings::read_settings;
 use cookbook::table::read_row;
 use cookbook::values::through_json;
 use std::cmp::Ordering;
@@ -19,6 +20,14 @@ fn a_row_of_300_columns(rt: HostRuntime) {
     let fields = read_row(rt.alloc(), row.as_ascii_str(), 300).expect(&rt, "no memory");
     assert_row!(rt; fields.len(), 300);
     assert_row!(rt; fields.last().copied(), Some(ascii("last")));
+}
+
+#[test]
+fn a_file_of_2000_settings(rt: HostRuntime) {
+    let file = repeated(&rt, "key = some value\n", 2_000);
+    let settings = read_settings(rt.alloc(), file.as_ascii_str()).expect(&rt, "no memory");
+    assert_row!(rt; settings.len(), 2_000);
+    assert_row!(rt; settings.last().map(|last| last.value), Some(ascii("some value")));
 }
 
 #[test]
