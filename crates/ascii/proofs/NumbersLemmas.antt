@@ -2,9 +2,9 @@
 use Rattle.std.proofs.Common.{◌≡◌, ◌≢◌, ℕ, ◌+◌, ◌-◌, ◌*◌, ◌^◌, ◌<◌, ◌≤◌, List, [], ◌∷◌, length, take}
 use Rattle.std.proofs.Common.{drop, get_or, zero, suc, arith, ap, sym, subst, ◌∙◌, lit≤, Result, Ok, Err}
 use Rattle.std.specs.Prelude.{◌&&◌, ◌==◌, IfSome, MatchResult, decimal, slice_get, slice_index}
-use Rattle.std.specs.Prelude.{FitsSigned, ℤ, pos, negsuc, neg_ℤ, false, unsigned_abs}
+use Rattle.std.specs.Prelude.{FitsSigned, ℤ, pos, negsuc, neg_ℤ, false}
 use Rattle.std.specs.Fmt.{signed_decimal}
-use Rattle.std.specs.Int.{Width}
+use Rattle.std.specs.Int.{Width, w8, w16, w32, w64, w128}
 use mir.Val.{hbits}
 use Rattle.std.proofs.lemmas.Fmt.{decimal_is_IsNumeral_wide}
 use Rattle.std.proofs.lemmas.List.{drop-take, get_or-drop, get_or-take, length-drop, take_all}
@@ -35,18 +35,22 @@ one_more text start i order =
     between text start (i + 1) (omega (arith, order))
     ∙ ap (λ n. take n (drop start text)) (omega (arith, order))
 
+-- the code at a position is among those from `start` on
+code_at : (text : List ℕ) (start i : ℕ) → start ≤ i
+    → get_or (drop start text) (i - start) 0 ≡ get_or text i 0
+code_at text start i order =
+    let parts : start + (i - start) ≡ i = omega (arith, order) in
+    get_or-drop start text (i - start) 0 ∙ ap (λ k. get_or text k 0) parts
+
 -- digits with one more digit are digits
 pub more_digits : (radix : ℕ) (text : List ℕ) (start i : ℕ) → start ≤ i → i < length text
     → AllDigits radix (drop start (take i text)) → digit_value (get_or text i 0) < radix
     → AllDigits radix (drop start (take (i + 1) text))
 more_digits radix text start i order inside digits is =
-    let m = i - start in
-    let parts : start + m ≡ i = omega (arith, order) in
-    let next : get_or (drop start text) m 0 ≡ get_or text i 0 =
-    get_or-drop start text m 0 ∙ ap (λ n. get_or text n 0) parts in
-    let more = digits_more radix (drop start text) m (omega (arith, inside, length-drop start text))
+    let more = digits_more radix (drop start text) (i - start)
+    (omega (arith, order, inside, length-drop start text))
     (subst (AllDigits radix) (between text start i order) digits)
-    (omega (arith, is, ap digit_value next)) in
+    (omega (arith, is, ap digit_value (code_at text start i order))) in
     subst (AllDigits radix) (sym (one_more text start i order)) more
 
 -- the number of digits with one more digit
@@ -54,13 +58,16 @@ pub more_value : (radix : ℕ) (text : List ℕ) (start i n digit : ℕ) → sta
     → n ≡ digits_value radix (drop start (take i text)) → digit ≡ digit_value (get_or text i 0)
     → n * radix + digit ≡ digits_value radix (drop start (take (i + 1) text))
 more_value radix text start i n digit order inside value is =
-    let m = i - start in
-    let parts : start + m ≡ i = omega (arith, order) in
-    let next : get_or (drop start text) m 0 ≡ get_or text i 0 =
-    get_or-drop start text m 0 ∙ ap (λ k. get_or text k 0) parts in
-    let more = digits_value_more radix (drop start text) m
-    (omega (arith, inside, length-drop start text)) in
-    rw (one_more text start i order, more, ← between text start i order, next, ← value, ← is)
+    let more = digits_value_more radix (drop start text) (i - start)
+    (omega (arith, order, inside, length-drop start text)) in
+    rw (
+      one_more text start i order,
+      more,
+      ← between text start i order,
+      code_at text start i order,
+      ← value,
+      ← is,
+    )
 
 -- digits up to the end of the text are the whole number
 pub whole_number : {N : Type 0} (range : NumberRange N) (radix : ℕ) (text : List ℕ) (n : N) (end : ℕ)
@@ -143,9 +150,7 @@ no_fault_in range radix text Empty some numeral fits fault =
     omega (arith, numeral.0, ap length fault)
 no_fault_in range radix text (NotDigit p) some numeral fits fault =
     let start = from_bool (has_sign range text) in
-    let parts : start + (p - start) ≡ p = omega (arith, fault.0.after) in
-    let at : get_or (drop start text) (p - start) 0 ≡ get_or text p 0 =
-    get_or-drop start text (p - start) 0 ∙ ap (λ i. get_or text i 0) parts in
+    let at = code_at text start p fault.0.after in
     let digit = digit_in radix (drop start text) (p - start) numeral.1
     (omega (arith, fault.0.inside, fault.0.after, length-drop start text)) in
     omega (arith, fault.1, digit, ap digit_value at)
@@ -192,14 +197,22 @@ reads_decimal most n result says wide fits =
     reads_number most (decimal n) result says numeral.0 (omega (arith, numeral.1, fits))
     ∙ ap Ok numeral.1
 
+-- the size of a number of a signed type is far below the numbers of which `decimal` is known
+size_below : (w : Width) → 2 ^ hbits w < 10 ^ 64
+size_below w8 = lit≤ tt
+size_below w16 = lit≤ tt
+size_below w32 = lit≤ tt
+size_below w64 = lit≤ tt
+size_below w128 = lit≤ tt
+
 -- the sign and the digits that `signed_decimal` writes of a number are read as it
 pub reads_signed_decimal : (w : Width) (z : ℤ) (result : Result ℤ NumberError)
     → let text = signed_decimal z in let range = signed_up_to (2 ^ hbits w - 1) in
     MatchResult result (WritesNumberIn range 10 text) (IsFaultIn range 10 text)
-    → unsigned_abs z < 10 ^ 64 → FitsSigned w z → result ≡ Ok z
-reads_signed_decimal w (pos n) result says wide fits =
+    → FitsSigned w z → result ≡ Ok z
+reads_signed_decimal w (pos n) result says fits =
     let range = signed_up_to (2 ^ hbits w - 1) in
-    let numeral = decimal_is_IsNumeral_wide n wide in
+    let numeral = decimal_is_IsNumeral_wide n (omega (arith, fits.sfits, size_below w)) in
     let bound : digits_value 10 (decimal n) ≤ 2 ^ hbits w - 1 = omega (arith, numeral.1, fits.sfits) in
     let plain : has_sign range (decimal n) ≡ false = ne_eqb (get_or (decimal n) 0 0) 45
     (λ minus. omega (arith, minus, digit_at (decimal n) 0 numeral.0.1 numeral.0.0)) in
@@ -209,8 +222,8 @@ reads_signed_decimal w (pos n) result says wide fits =
     (sym plain) bound)
     ∙ ap (λ minus. Ok (range.number minus (digits_value 10 (drop (from_bool minus) (decimal n)))))
     plain ∙ ap (λ m. Ok (pos m)) numeral.1
-reads_signed_decimal w (negsuc n) result says wide fits =
-    let numeral = decimal_is_IsNumeral_wide (suc n) wide in
+reads_signed_decimal w (negsuc n) result says fits =
+    let numeral = decimal_is_IsNumeral_wide (suc n) (omega (arith, fits.sfits, size_below w)) in
     let bound : digits_value 10 (decimal (suc n)) ≤ 2 ^ hbits w - 1 + 1 =
     omega (arith, numeral.1, fits.sfits) in
     reads_number_in (signed_up_to (2 ^ hbits w - 1)) 10 (signed_decimal (negsuc n)) result says

@@ -77,8 +77,8 @@ pub record IsAfterNumber {N : Type 0} (range : NumberRange N) (radix : ℕ) (tex
   pub number : IsNumberUpTo radix (range.most (has_sign range text))
       (drop (from_bool (has_sign range text)) (take p text))
 
--- Why a text does not write a number of the range. `Empty`: it has no digits, and at most a sign.
--- Otherwise the first position at fault: of a character that is not a digit, or of the digit with
+-- Why a text does not write a number of the range. `Empty`: it is empty, or a sign alone. Otherwise
+-- the first position at fault: of a character that is not a digit, or of the digit with
 -- which the number leaves the range.
 abbrev pub IsFaultIn : {N : Type 0} → NumberRange N → ℕ → List ℕ → NumberError → Type 0
 IsFaultIn range radix text Empty = without_sign range text ≡ []

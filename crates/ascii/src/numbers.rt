@@ -41,7 +41,8 @@ pub enum NumberError {
 /// The types of integers: `u8` to `u128` and `usize`, and `i8` to `i128` and `isize`. A clause sees
 /// the numbers of a type as `range`.
 ///
-/// A number's size is the number without its sign. `minus` asks for the numbers below 0, and 0.
+/// The size of a number is the number without its sign. `minus` says that a `-` comes before the
+/// digits, so that the number is below 0, or 0.
 ///
 ///     <u8 as Number>::zero() // 0
 ///     <i8 as Number>::is_signed() // true
@@ -62,8 +63,9 @@ pub trait Number: Copy {
 
     /// Returns the number with `digit` appended in `radix`, or `None` if the type does not hold it.
     ///
-    /// Condition: `digit` is less than `radix`, which is at most 36. The number is not above 0 if
-    /// `minus`, and not below 0 otherwise.
+    /// Condition: `digit` is less than `radix`, which is at most 36.
+    ///
+    /// Condition: the number is not above 0 if `minus`, and not below 0 otherwise.
     fn with_digit(self, minus: bool, radix: u8, digit: u8) -> Option<Self>
         requires digit { digit < radix }
         requires radix { radix ≤ 36 }

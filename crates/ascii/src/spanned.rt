@@ -189,7 +189,8 @@ impl<'a> Spanned<'a> {
     }
 
     /// Returns the number that the digits of the part write, or an error with the first position at
-    /// fault, counted from the start of the whole text. `Empty` has no position: it is the start.
+    /// fault, counted from the start of the whole text. `Empty` has no position: the part is empty, or
+    /// for a signed type `-` alone.
     ///
     ///     Spanned::whole(AsciiStr::literal("x=42")).split_at(2).1.to_number::<u8>() // Ok(42)
     ///     Spanned::whole(AsciiStr::literal("x=4a")).split_at(2).1.to_number::<u8>() // Err(NotDigit(3))
