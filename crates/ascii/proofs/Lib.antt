@@ -22,6 +22,7 @@ pub mod ListLemmas
 pub mod MasksLemmas
 pub mod NumbersLemmas
 pub mod OrderLemmas
+pub mod PaddingLemmas
 pub mod PiecesLemmas
 pub mod PlaceLemmas
 pub mod PlacedLemmas

@@ -18,6 +18,7 @@ pub mod LinesBy
 pub mod Maps
 pub mod Masks
 pub mod Numbers
+pub mod Padding
 pub mod Pieces
 pub mod Placed
 pub mod Places

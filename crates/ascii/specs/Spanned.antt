@@ -4,7 +4,7 @@ use Rattle.std.specs.List.{Contains}
 use Rattle.ascii.specs.declared.numbers.NumberError.{NumberError}
 use Rattle.ascii.specs.declared.numbers.NumberError.TheVariants.{Empty, NotDigit, TooLarge}
 use Rattle.ascii.specs.declared.spanned.Spanned.{Spanned}
-use Rattle.ascii.specs.Numbers.{IsNumberFault}
+use Rattle.ascii.specs.Numbers.{IsFaultIn, NumberRange}
 use Rattle.ascii.specs.Search.{IsCutAt}
 use Rattle.ascii.specs.Trim.{TrimsEnd, TrimsStart}
 use Rattle.ascii.specs.View.{text_of}
@@ -57,8 +57,8 @@ fault_from start Empty = Empty
 fault_from start (NotDigit p) = NotDigit (start + p)
 fault_from start (TooLarge p) = TooLarge (start + p)
 
--- why the text of `part` does not write a number of at most `most`, with the position in the text
--- in which `part` lies
-abbrev pub IsSpannedFault : ℕ → Spanned → NumberError → Type 0
-IsSpannedFault most part error = (own : NumberError)
-    × IsNumberFault most (text_of part.text) own × (error ≡ fault_from part.start own)
+-- why the text of `part` does not write a number of the range in decimal digits, with the position in
+-- the text in which `part` lies
+abbrev pub IsSpannedFault : {N : Type 0} → NumberRange N → Spanned → NumberError → Type 0
+IsSpannedFault range part error = (own : NumberError)
+    × IsFaultIn range 10 (text_of part.text) own × (error ≡ fault_from part.start own)

@@ -53,6 +53,7 @@ pub mod json;
 mod line_feeds;
 pub mod maps;
 pub mod numbers;
+mod padding;
 pub mod places;
 mod range_edits;
 mod replace;

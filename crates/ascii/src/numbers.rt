@@ -1,67 +1,88 @@
-//! Numbers that the decimal digits of a view write. `AsciiString::push_decimal` writes them.
+//! Numbers that the digits of a view write. `AsciiString::push_decimal` writes them.
 //!
 //! | Call | What it reads |
 //! |---|---|
-//! | `to_number` | the whole view |
-//! | `take_number` | the digits at the start, and it returns the view after them |
+//! | `to_number` | the whole view, in decimal digits |
+//! | `to_number_radix` | the whole view, in digits of a radix from 2 to 36 |
+//! | `take_number` | the decimal digits at the start, and it returns the view after them |
 //!
-//! Digits are `0` to `9`. There is no sign, and zeros at the start count for nothing.
+//! Decimal digits are `0` to `9`; in a larger radix the letters of either case follow. Zeros at the
+//! start count for nothing. For a signed type a `-` at the start is a sign; a `+` never is.
 //!
 //!     AsciiStr::literal("0042").to_number::<u8>() // Ok(42)
+//!     AsciiStr::literal("-128").to_number::<i8>() // Ok(-128)
 //!
 //! Nothing here allocates.
 
-ghost use Rattle.std.specs.Prelude.{◌≡◌, ℕ, ◌+◌, ◌*◌, ◌^◌, ◌-◌, ◌<◌, ◌≤◌, ◌++◌, MatchOption, MatchResult};
+ghost use Rattle.std.specs.Prelude.{◌≡◌, ℕ, Bool, ◌+◌, ◌*◌, ◌^◌, ◌-◌, ◌<◌, ◌≤◌, ◌++◌, MatchOption, MatchResult};
 ghost use Rattle.std.specs.Prelude.{length};
-ghost use Rattle.ascii.specs.Numbers.{IsNumberFault, IsStartFault, LeadsWithNumber};
-ghost use Rattle.ascii.specs.Numbers.{StartsWithNumber, WritesNumber};
+ghost use Rattle.std.specs.Int.{from_bool};
+ghost use Rattle.ascii.specs.Numbers.{IsFaultIn, IsStartFault, LeadsWithNumber, NumberRange};
+ghost use Rattle.ascii.specs.Numbers.{StartsWithNumber, WritesNumberIn, has_sign};
+ghost use Rattle.ascii.specs.Numbers.{signed_up_to, unsigned_up_to};
 ghost use Rattle.ascii.specs.View.{text_of};
 
 use crate::ascii_str::AsciiStr;
-use ascii_base::classes::{Class, Digit};
 use ascii_base::range::AsciiRange;
 
 /// The error of a view that does not write a number of the type: the first position at fault.
 ///
-/// Positions are counted from 0, from the left: digits after a fault do not matter.
+/// Positions are counted from 0, from the left, a sign included: digits after a fault do not matter.
 #[derive(Clone, Copy, PartialEq, Eq, Debug)]
 pub enum NumberError {
-    /// The view is empty.
+    /// There are no digits: the view is empty, or for a signed type `-` alone.
     Empty,
     /// The position of a character that is not a digit.
     NotDigit(usize),
-    /// The position of the digit with which the number is more than the type holds.
+    /// The position of the digit with which the number is beyond what the type holds.
     TooLarge(usize),
 }
 
-/// The unsigned types: `u8`, `u16`, `u32`, `u64`, `u128` and `usize`. A clause sees a number as
-/// `value`, and the most that the type holds as `most`.
+/// The types of integers: `u8` to `u128` and `usize`, and `i8` to `i128` and `isize`. A clause sees
+/// the numbers of a type as `range`.
+///
+/// The size of a number is the number without its sign. `minus` says that a `-` comes before the
+/// digits, so that the number is below 0, or 0.
 ///
 ///     <u8 as Number>::zero() // 0
-///     25u8.with_digit(5) // Some(255)
-///     25u8.with_digit(6) // None
+///     <i8 as Number>::is_signed() // true
+///     25u8.with_digit(false, 10, 5) // Some(255)
+///     25u8.with_digit(false, 10, 6) // None
+///     (-12i8).with_digit(true, 10, 8) // Some(-128)
 pub trait Number: Copy {
-    ghost most: { ℕ };
+    ghost range: { NumberRange Self };
 
-    ghost value: { Self → ℕ };
+    /// Returns `true` if a `-` before the digits is a sign.
+    fn is_signed() -> bool
+        ensures { result ≡ range.signed };
 
     /// Returns 0.
     fn zero() -> Self
-        ensures { value result ≡ 0 };
+        ensures number { (minus : Bool) → result ≡ range.number minus 0 }
+        ensures size { range.size result ≡ 0 };
 
-    /// Returns the number with `digit` appended, or `None` if it is more than the type holds.
+    /// Returns the number with `digit` appended in `radix`, or `None` if the type does not hold it.
     ///
-    /// Condition: `digit` is less than 10.
-    fn with_digit(self, digit: u8) -> Option<Self>
-        requires { digit < 10 }
-        ensures { MatchOption result (most < value self * 10 + digit)
-            (λ n. (value n ≡ value self * 10 + digit) × (value n ≤ most)) };
+    /// Condition: `digit` is less than `radix`, which is at most 36.
+    ///
+    /// Condition: the number is not above 0 if `minus`, and not below 0 otherwise.
+    fn with_digit(self, minus: bool, radix: u8, digit: u8) -> Option<Self>
+        requires digit { digit < radix }
+        requires radix { radix ≤ 36 }
+        requires side { self ≡ range.number minus (range.size self) }
+        ensures { let size = range.size self * radix + digit in
+            MatchOption result (range.most minus < size)
+            (λ n. (n ≡ range.number minus size) × (range.size n ≡ size)
+            × (size ≤ range.most minus)) };
 }
 
 impl Number for u8 {
-    ghost most = { 2 ^ 8 - 1 };
+    ghost range = { unsigned_up_to (2 ^ 8 - 1) };
 
-    ghost value = { λ n. n };
+    #[inline]
+    fn is_signed() -> bool {
+        false
+    }
 
     #[inline]
     fn zero() -> u8 {
@@ -69,15 +90,18 @@ impl Number for u8 {
     }
 
     #[inline]
-    fn with_digit(self, digit: u8) -> Option<u8> {
-        self.checked_mul(10)?.checked_add(digit)
+    fn with_digit(self, _minus: bool, radix: u8, digit: u8) -> Option<u8> {
+        self.checked_mul(radix)?.checked_add(digit)
     }
 }
 
 impl Number for u16 {
-    ghost most = { 2 ^ 16 - 1 };
+    ghost range = { unsigned_up_to (2 ^ 16 - 1) };
 
-    ghost value = { λ n. n };
+    #[inline]
+    fn is_signed() -> bool {
+        false
+    }
 
     #[inline]
     fn zero() -> u16 {
@@ -85,15 +109,18 @@ impl Number for u16 {
     }
 
     #[inline]
-    fn with_digit(self, digit: u8) -> Option<u16> {
-        self.checked_mul(10)?.checked_add(digit.into())
+    fn with_digit(self, _minus: bool, radix: u8, digit: u8) -> Option<u16> {
+        self.checked_mul(radix.into())?.checked_add(digit.into())
     }
 }
 
 impl Number for u32 {
-    ghost most = { 2 ^ 32 - 1 };
+    ghost range = { unsigned_up_to (2 ^ 32 - 1) };
 
-    ghost value = { λ n. n };
+    #[inline]
+    fn is_signed() -> bool {
+        false
+    }
 
     #[inline]
     fn zero() -> u32 {
@@ -101,15 +128,18 @@ impl Number for u32 {
     }
 
     #[inline]
-    fn with_digit(self, digit: u8) -> Option<u32> {
-        self.checked_mul(10)?.checked_add(digit.into())
+    fn with_digit(self, _minus: bool, radix: u8, digit: u8) -> Option<u32> {
+        self.checked_mul(radix.into())?.checked_add(digit.into())
     }
 }
 
 impl Number for u64 {
-    ghost most = { 2 ^ 64 - 1 };
+    ghost range = { unsigned_up_to (2 ^ 64 - 1) };
 
-    ghost value = { λ n. n };
+    #[inline]
+    fn is_signed() -> bool {
+        false
+    }
 
     #[inline]
     fn zero() -> u64 {
@@ -117,15 +147,18 @@ impl Number for u64 {
     }
 
     #[inline]
-    fn with_digit(self, digit: u8) -> Option<u64> {
-        self.checked_mul(10)?.checked_add(digit.into())
+    fn with_digit(self, _minus: bool, radix: u8, digit: u8) -> Option<u64> {
+        self.checked_mul(radix.into())?.checked_add(digit.into())
     }
 }
 
 impl Number for u128 {
-    ghost most = { 2 ^ 128 - 1 };
+    ghost range = { unsigned_up_to (2 ^ 128 - 1) };
 
-    ghost value = { λ n. n };
+    #[inline]
+    fn is_signed() -> bool {
+        false
+    }
 
     #[inline]
     fn zero() -> u128 {
@@ -133,15 +166,18 @@ impl Number for u128 {
     }
 
     #[inline]
-    fn with_digit(self, digit: u8) -> Option<u128> {
-        self.checked_mul(10)?.checked_add(digit.into())
+    fn with_digit(self, _minus: bool, radix: u8, digit: u8) -> Option<u128> {
+        self.checked_mul(radix.into())?.checked_add(digit.into())
     }
 }
 
 impl Number for usize {
-    ghost most = { 2 ^ 64 - 1 };
+    ghost range = { unsigned_up_to (2 ^ 64 - 1) };
 
-    ghost value = { λ n. n };
+    #[inline]
+    fn is_signed() -> bool {
+        false
+    }
 
     #[inline]
     fn zero() -> usize {
@@ -149,74 +185,279 @@ impl Number for usize {
     }
 
     #[inline]
-    fn with_digit(self, digit: u8) -> Option<usize> {
-        self.checked_mul(10)?.checked_add(digit.into())
+    fn with_digit(self, _minus: bool, radix: u8, digit: u8) -> Option<usize> {
+        self.checked_mul(radix.into())?.checked_add(digit.into())
+    }
+}
+
+impl Number for i8 {
+    ghost range = { signed_up_to (2 ^ 7 - 1) };
+
+    #[inline]
+    fn is_signed() -> bool {
+        true
+    }
+
+    #[inline]
+    fn zero() -> i8 {
+        0
+    }
+
+    #[inline]
+    fn with_digit(self, minus: bool, radix: u8, digit: u8) -> Option<i8> {
+        let size = self.unsigned_abs().checked_mul(radix)?.checked_add(digit)?;
+        if minus {
+            0i8.checked_sub_unsigned(size)
+        } else {
+            0i8.checked_add_unsigned(size)
+        }
+    }
+}
+
+impl Number for i16 {
+    ghost range = { signed_up_to (2 ^ 15 - 1) };
+
+    #[inline]
+    fn is_signed() -> bool {
+        true
+    }
+
+    #[inline]
+    fn zero() -> i16 {
+        0
+    }
+
+    #[inline]
+    fn with_digit(self, minus: bool, radix: u8, digit: u8) -> Option<i16> {
+        let size = self
+            .unsigned_abs()
+            .checked_mul(radix.into())?
+            .checked_add(digit.into())?;
+        if minus {
+            0i16.checked_sub_unsigned(size)
+        } else {
+            0i16.checked_add_unsigned(size)
+        }
+    }
+}
+
+impl Number for i32 {
+    ghost range = { signed_up_to (2 ^ 31 - 1) };
+
+    #[inline]
+    fn is_signed() -> bool {
+        true
+    }
+
+    #[inline]
+    fn zero() -> i32 {
+        0
+    }
+
+    #[inline]
+    fn with_digit(self, minus: bool, radix: u8, digit: u8) -> Option<i32> {
+        let size = self
+            .unsigned_abs()
+            .checked_mul(radix.into())?
+            .checked_add(digit.into())?;
+        if minus {
+            0i32.checked_sub_unsigned(size)
+        } else {
+            0i32.checked_add_unsigned(size)
+        }
+    }
+}
+
+impl Number for i64 {
+    ghost range = { signed_up_to (2 ^ 63 - 1) };
+
+    #[inline]
+    fn is_signed() -> bool {
+        true
+    }
+
+    #[inline]
+    fn zero() -> i64 {
+        0
+    }
+
+    #[inline]
+    fn with_digit(self, minus: bool, radix: u8, digit: u8) -> Option<i64> {
+        let size = self
+            .unsigned_abs()
+            .checked_mul(radix.into())?
+            .checked_add(digit.into())?;
+        if minus {
+            0i64.checked_sub_unsigned(size)
+        } else {
+            0i64.checked_add_unsigned(size)
+        }
+    }
+}
+
+impl Number for i128 {
+    ghost range = { signed_up_to (2 ^ 127 - 1) };
+
+    #[inline]
+    fn is_signed() -> bool {
+        true
+    }
+
+    #[inline]
+    fn zero() -> i128 {
+        0
+    }
+
+    #[inline]
+    fn with_digit(self, minus: bool, radix: u8, digit: u8) -> Option<i128> {
+        let size = self
+            .unsigned_abs()
+            .checked_mul(radix.into())?
+            .checked_add(digit.into())?;
+        if minus {
+            0i128.checked_sub_unsigned(size)
+        } else {
+            0i128.checked_add_unsigned(size)
+        }
+    }
+}
+
+impl Number for isize {
+    ghost range = { signed_up_to (2 ^ 63 - 1) };
+
+    #[inline]
+    fn is_signed() -> bool {
+        true
+    }
+
+    #[inline]
+    fn zero() -> isize {
+        0
+    }
+
+    #[inline]
+    fn with_digit(self, minus: bool, radix: u8, digit: u8) -> Option<isize> {
+        let size = self
+            .unsigned_abs()
+            .checked_mul(radix.into())?
+            .checked_add(digit.into())?;
+        if minus {
+            0isize.checked_sub_unsigned(size)
+        } else {
+            0isize.checked_add_unsigned(size)
+        }
     }
 }
 
 impl<'a> AsciiStr<'a> {
-    /// Returns the number that the digits of the view write, or an error with the first position at
-    /// fault.
+    /// Returns the number that the decimal digits of the view write, or an error with the first
+    /// position at fault.
     ///
-    /// If something follows the digits, use `take_number`.
+    /// For a signed type a `-` before the digits is a sign. For another radix use `to_number_radix`;
+    /// if something follows the digits, `take_number`.
     ///
     ///     AsciiStr::literal("0042").to_number::<u8>() // Ok(42)
+    ///     AsciiStr::literal("-128").to_number::<i8>() // Ok(-128)
     ///     AsciiStr::literal("4.2").to_number::<u8>() // Err(NotDigit(1))
     ///     AsciiStr::literal("256").to_number::<u8>() // Err(TooLarge(2))
+    ///     AsciiStr::literal("-129").to_number::<i8>() // Err(TooLarge(3))
     ///     AsciiStr::literal("").to_number::<u8>() // Err(Empty)
     pub fn to_number<N: Number>(self) -> Result<N, NumberError>
         ensures { let text = text_of self.entry in
-            MatchResult result (λ n. WritesNumber N.most text (N.value n))
-            (IsNumberFault N.most text) }
+            MatchResult result (WritesNumberIn N.range 10 text) (IsFaultIn N.range 10 text) }
     {
-        let (number, end) = leading_number(self).map_err(NumberError::TooLarge)?;
+        self.to_number_radix(10)
+    }
+
+    /// Returns the number that the digits of the view write in `radix`, or an error with the first
+    /// position at fault.
+    ///
+    /// Condition: `radix` is from 2 to 36.
+    ///
+    /// The digits are `0` to `9` and the letters of either case, as far as the radix has them. For a
+    /// signed type a `-` before them is a sign. A `+` is an error, which `from_str_radix` of std
+    /// accepts.
+    ///
+    ///     AsciiStr::literal("fF").to_number_radix::<u8>(16) // Ok(255)
+    ///     AsciiStr::literal("-1000").to_number_radix::<i8>(2) // Ok(-8)
+    ///     AsciiStr::literal("+F").to_number_radix::<u8>(16) // Err(NotDigit(0))
+    ///     AsciiStr::literal("128").to_number_radix::<u8>(8) // Err(NotDigit(2))
+    ///     AsciiStr::literal("100").to_number_radix::<u8>(16) // Err(TooLarge(2))
+    pub fn to_number_radix<N: Number>(self, radix: u32) -> Result<N, NumberError>
+        requires two { 2 ≤ radix }
+        requires most { radix ≤ 36 }
+        ensures { let text = text_of self.entry in
+            MatchResult result (WritesNumberIn N.range radix text) (IsFaultIn N.range radix text) }
+    {
+        let minus = begins_with_sign::<N>(self);
+        let (number, end) = leading_number(self, minus, radix as u8).map_err(
+            NumberError::TooLarge,
+        )?;
         if end < self.len() {
             Err(NumberError::NotDigit(end))
-        } else if self.is_empty() {
+        } else if end == usize::from(minus) {
             Err(NumberError::Empty)
         } else {
             Ok(number)
         }
     }
 
-    /// Returns the number that the digits at the start of the view write, and the view after them,
-    /// or an error if there are no digits or the number is more than the type holds.
+    /// Returns the number that the decimal digits at the start of the view write, and the view after
+    /// them, or an error if there are no digits or the type does not hold the number.
     ///
-    /// If the whole view has to be a number, use `to_number`.
+    /// For a signed type a `-` before the digits is a sign. If the whole view has to be a number, use
+    /// `to_number`.
     ///
     ///     AsciiStr::literal("42 km").take_number::<u8>() // Ok((42, " km"))
+    ///     AsciiStr::literal("-3 C").take_number::<i8>() // Ok((-3, " C"))
     ///     AsciiStr::literal("km").take_number::<u8>() // Err(NotDigit(0))
     ///     AsciiStr::literal("256 km").take_number::<u8>() // Err(TooLarge(2))
     pub fn take_number<N: Number>(self) -> Result<(N, AsciiStr<'a>), NumberError>
         ensures { let text = text_of self.entry in MatchResult result
-            (λ taken. StartsWithNumber N.most text (N.value taken.0) (text_of taken.1))
-            (IsStartFault N.most text) }
+            (λ taken. StartsWithNumber N.range 10 text taken.0 (text_of taken.1))
+            (IsStartFault N.range 10 text) }
     {
-        let (number, end) = leading_number(self).map_err(NumberError::TooLarge)?;
-        if 0 < end {
+        let minus = begins_with_sign::<N>(self);
+        let (number, end) = leading_number(self, minus, 10).map_err(NumberError::TooLarge)?;
+        if usize::from(minus) < end {
             Ok((number, self.slice(AsciiRange::From(end))))
-        } else if self.is_empty() {
-            Err(NumberError::Empty)
+        } else if end < self.len() {
+            Err(NumberError::NotDigit(end))
         } else {
-            Err(NumberError::NotDigit(0))
+            Err(NumberError::Empty)
         }
     }
 }
 
-/// The number that the longest run of digits at the start writes, 0 for none, and the run's end; or
-/// the position of the digit with which the number is too large.
-#[tactic(auto, using(crate::proofs::NumbersLemmas::more_digits, crate::proofs::NumbersLemmas::more_value))]
-fn leading_number<N: Number>(view: AsciiStr<'_>) -> Result<(N, usize), usize>
+/// Returns `true` if the view begins with a sign of the type.
+#[inline]
+fn begins_with_sign<N: Number>(view: AsciiStr<'_>) -> bool
+    ensures { result ≡ has_sign N.range (text_of view.entry) }
+{
+    N::is_signed() && view.bytes.first() == Some(&b'-')
+}
+
+/// The number that the longest run of digits after the sign writes, 0 for none, and the run's end; or
+/// the position of the digit with which the number leaves the range.
+#[inline]
+fn leading_number<N: Number>(
+    view: AsciiStr<'_>,
+    minus: bool,
+    radix: u8,
+) -> Result<(N, usize), usize>
+    requires sign { minus ≡ has_sign N.range (text_of view) }
+    requires two { 2 ≤ radix }
+    requires most { radix ≤ 36 }
     ensures { let text = text_of view.entry in MatchResult result
-        (λ read. LeadsWithNumber N.most text (N.value read.0) read.1)
-        (λ p. IsNumberFault N.most text (NumberError.TooLarge p)) }
+        (λ read. LeadsWithNumber N.range radix text read.0 read.1)
+        (λ p. IsFaultIn N.range radix text (NumberError.TooLarge p)) }
 {
     let mut number = N::zero();
-    for (position, byte) in view.bytes.iter().enumerate() {
-        if !Digit::has(*byte) {
+    for position in usize::from(minus)..view.len() {
+        let Some(digit) = char::from(view.bytes[position]).to_digit(radix.into()) else {
             return Ok((number, position));
-        }
-        let Some(longer) = number.with_digit(*byte - b'0') else {
+        };
+        let Some(longer) = number.with_digit(minus, radix, digit as u8) else {
             return Err(position);
         };
         number = longer;

@@ -22,7 +22,7 @@ ghost use Rattle.std.specs.Prelude.{drop, length, take};
 ghost use Rattle.std.proofs.Props.{props};
 ghost use Rattle.ascii_base.specs.Class.{IsWhitespace};
 ghost use Rattle.ascii_base.specs.Code.{code_of};
-ghost use Rattle.ascii.specs.Numbers.{WritesNumber};
+ghost use Rattle.ascii.specs.Numbers.{WritesNumberIn};
 ghost use Rattle.ascii.specs.Search.{EndsWith, IsPrefix, StartsWith};
 ghost use Rattle.ascii.specs.Trim.{IsSpan, TrimsEnd, TrimsStart};
 ghost use Rattle.ascii.specs.View.{text_of};
@@ -189,14 +189,15 @@ impl<'a> Spanned<'a> {
     }
 
     /// Returns the number that the digits of the part write, or an error with the first position at
-    /// fault, counted from the start of the whole text. `Empty` has no position: it is the start.
+    /// fault, counted from the start of the whole text. `Empty` has no position: the part is empty, or
+    /// for a signed type `-` alone.
     ///
     ///     Spanned::whole(AsciiStr::literal("x=42")).split_at(2).1.to_number::<u8>() // Ok(42)
     ///     Spanned::whole(AsciiStr::literal("x=4a")).split_at(2).1.to_number::<u8>() // Err(NotDigit(3))
     pub fn to_number<N: Number>(self) -> Result<N, NumberError>
         ensures { MatchResult result
-            (λ n. WritesNumber N.most (text_of self.entry.text) (N.value n))
-            (IsSpannedFault N.most self.entry) }
+            (WritesNumberIn N.range 10 (text_of self.entry.text))
+            (IsSpannedFault N.range self.entry) }
     {
         match self.text.to_number::<N>() {
             Ok(number) => Ok(number),

@@ -16,6 +16,7 @@ mod maps;
 mod mutable_views;
 mod numbers;
 mod of_ascii;
+mod padding;
 mod pieces;
 mod remainders;
 mod replace;

@@ -1,4 +1,5 @@
-use Rattle.std.proofs.Common.{◌≡◌, take}
+use Rattle.std.proofs.Common.{◌≡◌, drop, take}
+use Rattle.std.specs.Int.{from_bool}
 use Rattle.std.specs.Str.Parse.{digits_value}
 use Rattle.ascii.specs.Numbers.{IsNumberUpTo}
 use Rattle.ascii.specs.View.{text_of}
@@ -7,5 +8,8 @@ use Rattle.ascii.proofs.numbers.leading_number.Given as goal
 -- the number so far is that of the digits so far
 abbrev pub invariant-loop-position : goal.invariant-loop-position
 invariant-loop-position g l =
-    let digits = take l.position (text_of l.view) in
-    IsNumberUpTo g.N.Number.most digits × (g.N.Number.value l.number ≡ digits_value 10 digits)
+    let range = g.N.Number.range in
+    let digits = drop (from_bool l.minus) (take l.position (text_of l.view)) in
+    IsNumberUpTo l.radix (range.most l.minus) digits
+    × (l.number ≡ range.number l.minus (digits_value l.radix digits))
+    × (range.size l.number ≡ digits_value l.radix digits)
