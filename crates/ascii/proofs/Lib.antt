@@ -20,6 +20,7 @@ pub mod LinesLeftLemmas
 pub mod LinesLemmas
 pub mod ListLemmas
 pub mod MasksLemmas
+pub mod NotationsLemmas
 pub mod NumbersLemmas
 pub mod OrderLemmas
 pub mod PaddingLemmas

@@ -17,6 +17,7 @@ pub mod Lines
 pub mod LinesBy
 pub mod Maps
 pub mod Masks
+pub mod Notations
 pub mod Numbers
 pub mod Padding
 pub mod Pieces

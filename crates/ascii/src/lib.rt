@@ -52,6 +52,7 @@ pub mod iter;
 pub mod json;
 mod line_feeds;
 pub mod maps;
+pub mod notations;
 pub mod numbers;
 mod padding;
 pub mod places;

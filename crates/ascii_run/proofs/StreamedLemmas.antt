@@ -8,12 +8,12 @@ use Rattle.std.proofs.lemmas.List.{map-append}
 use Rattle.std.specs.Char.Escape.{escape_ascii}
 use Rattle.std.specs.List.{flat_map}
 use Rattle.ascii.specs.Case.{lower_image, upper_image}
+use Rattle.ascii.specs.Notations.{caret_text}
 use Rattle.ascii_run.specs.declared.bounded.BoundedMode.{BoundedMode}
 use Rattle.ascii_run.specs.declared.bounded.BoundedMode.TheVariants.{Copy, Lines, Caret, Json}
 use Rattle.ascii_run.specs.declared.bounded.BoundedMode.TheVariants.{Upper, Lower, Escape, Lossy}
 use Rattle.ascii_run.specs.Streamed.{IsCutOutput, IsWholeOutput, Stream, cut_off, front, last_after}
 use Rattle.ascii_run.specs.Streamed.{lines_closing, lines_part, stream, whole}
-use Rattle.ascii_run.specs.Modes.Caret.{caret_text}
 use Rattle.ascii_run.specs.Modes.Json.{json_code}
 use Rattle.ascii_run.specs.Modes.Lossy.{lossy_text}
 use Rattle.ascii_run.proofs.LineFeedLemmas.{ShowsLines-feeds, front_feeds, with_line_feeds}

@@ -10,11 +10,11 @@ use Rattle.std.specs.Prelude.{◌≡◌, ℕ, List, None, Ok, Option, reverse}
 use Rattle.std.specs.List.{flat_map}
 use Rattle.std.specs.Result.{result_err}
 use Rattle.ascii.specs.Lines.{bodies}
+use Rattle.ascii.specs.Notations.{caret_text}
 use Rattle.ascii.specs.Spans.{line_size, with_starts}
 use Rattle.ascii_run.specs.declared.modes.Mode.{Mode}
 use Rattle.ascii_run.specs.declared.modes.Mode.TheVariants as mode
 use Rattle.ascii_run.specs.Edit.{edits}
-use Rattle.ascii_run.specs.Modes.Caret.{caret_text}
 use Rattle.ascii_run.specs.Modes.Ends.{answer_text, answers, span_text}
 use Rattle.ascii_run.specs.Modes.Json.{json_text}
 use Rattle.ascii_run.specs.Modes.Lines.{ShowsLines, with_line_feed}

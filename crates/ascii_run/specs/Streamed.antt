@@ -9,10 +9,10 @@ use Rattle.memchr.specs.Find.{Nowhere, OccursAt}
 use Rattle.ascii.specs.Bytes.{FirstOther}
 use Rattle.ascii.specs.Case.{lower_image, upper_image}
 use Rattle.ascii.specs.Lines.{bodies}
+use Rattle.ascii.specs.Notations.{caret_text}
 use Rattle.ascii_run.specs.declared.bounded.BoundedMode.{BoundedMode}
 use Rattle.ascii_run.specs.declared.bounded.BoundedMode.TheVariants.{Copy, Lines, Caret, Json}
 use Rattle.ascii_run.specs.declared.bounded.BoundedMode.TheVariants.{Upper, Lower, Escape, Lossy}
-use Rattle.ascii_run.specs.Modes.Caret.{caret_text}
 use Rattle.ascii_run.specs.Modes.Json.{json_code, json_text}
 use Rattle.ascii_run.specs.Modes.Lines.{ShowsLines, with_line_feed}
 use Rattle.ascii_run.specs.Modes.Lossy.{lossy_text}

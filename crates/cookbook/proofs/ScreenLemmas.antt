@@ -9,7 +9,8 @@ use Rattle.std.proofs.lemmas.Bool.{cases_eq, cases_lt}
 use Rattle.std.proofs.lemmas.Bool.Decides.{nat_tests}
 use Rattle.std.proofs.lemmas.List.Elements.{All-append, All-cons, All-head, All-nil, All-tail}
 use Rattle.std.proofs.lemmas.List.Elements.{All-take}
-use Rattle.ascii_run.specs.Modes.Caret.{IsShown, caret_text}
+use Rattle.ascii.specs.Notations.{caret_text}
+use Rattle.ascii_run.specs.Modes.Caret.{IsShown}
 use Rattle.cookbook.specs.Screen.{IsNoWider, cell_text, column_after, char_on_screen, screen_text}
 
 -- a character that takes a column

@@ -2,7 +2,8 @@
 use Rattle.std.specs.Prelude.{◌≡◌, ◌≢◌, ℕ, ◌+◌, ◌-◌, ◌%◌, ◌≤◌, List, [], ◌∷◌, ◌++◌, ◌==◌}
 use Rattle.std.specs.Prelude.{if◌then◌else◌, nat_le, codes, length, min, take}
 use Rattle.std.specs.List.{All}
-use Rattle.ascii_run.specs.Modes.Caret.{IsShown, caret_text}
+use Rattle.ascii.specs.Notations.{caret_text}
+use Rattle.ascii_run.specs.Modes.Caret.{IsShown}
 
 -- the output for a code that is not LF, if it has room at `column`: for a tab, spaces up to the
 -- next column that 8 divides or to the edge of the screen; otherwise its caret form

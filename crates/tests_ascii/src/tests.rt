@@ -14,6 +14,7 @@ mod lines_by;
 mod long_texts;
 mod maps;
 mod mutable_views;
+mod notations;
 mod numbers;
 mod of_ascii;
 mod padding;

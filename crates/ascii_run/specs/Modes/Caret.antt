@@ -1,20 +1,12 @@
--- The mode `Caret`: each code as it is shown.
+-- The mode `Caret`: the codes that caret notation writes as themselves.
 use Rattle.std.specs.Prelude.{◌&&◌, ◌||◌, Bool, not}
 use Rattle.std.specs.Bool.{Decides}
 use Rattle.std.proofs.Common.{arith, eqb, inl, inr, leb, refl, subst, sym}
 use Rattle.std.proofs.lemmas.Bool.{leb-true, le-leb}
 use Rattle.std.proofs.lemmas.Bool.Decides.{Decides-and, Decides-eqb, Decides-not, Decides-or}
 use Rattle.std.proofs.lemmas.Bool.Decides.{nat_tests}
-use Rattle.std.specs.Prelude.{◌≡◌, ◌≢◌, ℕ, ◌+◌, ◌≤◌, ◌⊎◌, List, [], ◌∷◌, ◌++◌}
-use Rattle.std.specs.Prelude.{if◌then◌else◌, nat_lt, ◌==◌, codes}
-
--- what `caret` shows of a code: for a control character other than LF, `^` and its caret letter;
--- otherwise the code itself
-abbrev pub caret_text : ℕ → List ℕ
-caret_text n =
-    if n == 10 then n ∷ []
-    else (if nat_lt n 32 then codes "^" ++ (n + 64) ∷ []
-    else (if n == 127 then codes "^?" else n ∷ []))
+use Rattle.std.specs.Prelude.{◌≡◌, ◌≢◌, ℕ, ◌≤◌, ◌⊎◌, [], ◌∷◌}
+use Rattle.ascii.specs.Notations.{caret_text}
 
 -- `caret` shows the code as itself: it is LF, or at least 32 and not 127
 abbrev pub IsShown : ℕ → Type 0

@@ -2,8 +2,8 @@
 
 ghost use Rattle.std.specs.Prelude.{◌≤◌, ◌+◌, ⊤, length};
 ghost use Rattle.ascii.specs.Lanes.{Marks};
-ghost use Rattle.ascii_run.specs.Modes.Caret.{IsShown, caret_text, is_shown, is_shown-decides};
-ghost use Rattle.ascii_run.specs.Modes.Caret.{caret_plain};
+ghost use Rattle.ascii.specs.Notations.{caret_text};
+ghost use Rattle.ascii_run.specs.Modes.Caret.{IsShown, caret_plain, is_shown, is_shown-decides};
 
 use super::mapped::Show;
 use ascii::caret_encode;

@@ -1,10 +1,14 @@
 //! The library together with std and the toolchain's crates, one combination a test. docs/BESIDE.md quotes them.
 
 use anyhow::Context;
-use ascii::{AsAsciiStrError, AsciiChar, AsciiStr, AsciiString, bytes, string};
+use ascii::{AsAsciiStrError, AsciiChar, AsciiRange, AsciiStr, AsciiString, bytes, string, vec};
+use base64::engine::general_purpose::STANDARD;
 use bstr::ByteSlice;
+use httparse::Status;
+use httparse::spans::{EMPTY_HEADER_SPAN, parse_headers};
 use indexmap::IndexMap;
 use itertools::Itertools;
+use percent_encoding::{NON_ALPHANUMERIC, percent_decode, percent_encode};
 use std::alloc::{AllocError, Global};
 use std::collections::{BTreeMap, HashMap, HashSet};
 use std::io::{BufRead, BufReader};
@@ -222,4 +226,69 @@ fn lines_of_a_reader_of_std(rt: HostRuntime) {
         length = length.wrapping_add(string::into_ascii_string(line).map_or(0, |line| line.len()));
     }
     assert_row!(rt; length, 3);
+}
+
+/// The bytes in percent encoding, which is ASCII: nothing is checked.
+fn percent_encoded(alloc: Global, source: &[u8]) -> Result<AsciiString, AllocError> {
+    let mut text = String::new(alloc);
+    percent_encode(source, NON_ALPHANUMERIC).append_to(&mut text)?;
+    Ok(AsciiString::from_ascii_unchecked(text.into_bytes()))
+}
+
+#[test]
+fn percent_encoding_gives_a_string(rt: HostRuntime) {
+    let alloc = rt.alloc();
+    let encoded = percent_encoded(alloc, "a b/ü".as_bytes()).expect(&rt, "no memory");
+    assert_row!(rt; encoded.as_ascii_str(), AsciiStr::literal("a%20b%2F%C3%BC"));
+    let mut decoded = Vec::new(alloc);
+    percent_decode(encoded.as_ascii_str().as_bytes())
+        .append_to(&mut decoded)
+        .expect(&rt, "no memory");
+    let rejected = bytes::as_ascii_str(&decoded).map_err(AsAsciiStrError::valid_up_to);
+    assert_row!(rt; rejected, Err(4));
+}
+
+/// The bytes in hexadecimal, which is ASCII: nothing is checked.
+fn hex_encoded(alloc: Global, source: &[u8]) -> Result<AsciiString, AllocError> {
+    let text = hex::encode(alloc, source)?;
+    Ok(AsciiString::from_ascii_unchecked(text.into_bytes()))
+}
+
+#[test]
+fn hex_gives_a_string(rt: HostRuntime) {
+    let alloc = rt.alloc();
+    let encoded = hex_encoded(alloc, b"Host").expect(&rt, "no memory");
+    assert_row!(rt; encoded.as_ascii_str(), AsciiStr::literal("486f7374"));
+    let decoded = hex::decode(alloc, encoded.as_ascii_str()).expect(&rt, "not hexadecimal");
+    let host = vec::into_ascii_string(decoded).expect(&rt, "not ASCII");
+    assert_row!(rt; host.as_ascii_str(), AsciiStr::literal("Host"));
+}
+
+/// The bytes in base64, which is ASCII: nothing is checked.
+fn base64_encoded(alloc: Global, source: &[u8]) -> Result<AsciiString, AllocError> {
+    let text = STANDARD.encode(alloc, source)?;
+    Ok(AsciiString::from_ascii_unchecked(text.into_bytes()))
+}
+
+#[test]
+fn base64_gives_a_string(rt: HostRuntime) {
+    let alloc = rt.alloc();
+    let encoded = base64_encoded(alloc, b"foob").expect(&rt, "no memory");
+    assert_row!(rt; encoded.as_ascii_str(), AsciiStr::literal("Zm9vYg=="));
+    let decoded = STANDARD
+        .decode(alloc, encoded.as_ascii_str().as_bytes())
+        .expect(&rt, "not base64");
+    let text = vec::into_ascii_string(decoded).expect(&rt, "not ASCII");
+    assert_row!(rt; text.as_ascii_str(), AsciiStr::literal("foob"));
+}
+
+#[test]
+fn httparse_over_a_view(rt: HostRuntime) {
+    let block = AsciiStr::literal("Host: a.example\r\nAccept: */*\r\n\r\n");
+    let mut headers = [EMPTY_HEADER_SPAN; 4];
+    let found = parse_headers(block.as_bytes(), &mut headers).ok();
+    assert_row!(rt; found == Some(Status::Complete((block.len(), 2))), true);
+    let value = headers[0].value;
+    let value = block.slice_ascii(AsciiRange::Range(value.start, value.end));
+    assert_row!(rt; value.ok(), Some(AsciiStr::literal("a.example")));
 }
