@@ -9,6 +9,7 @@ use ascii::iter::{
 };
 use ascii::json::{JsonError, char_from_json, char_to_json, str_from_json, string_from_json};
 use ascii::maps::{AsciiMap, FoldedMap};
+use ascii::notations::{Carets, Escapes, Notation};
 use ascii::numbers::{Number, NumberError};
 use ascii::places::Place;
 use ascii::spanned::Spanned;
@@ -2622,6 +2623,83 @@ fn is_empty_of_folded_map(rt: HostRuntime) {
     assert_debug!(rt; FoldedMap::<u8>::new(alloc).is_empty(), "true");
 }
 
+// notations::Notation
+#[test]
+fn notation_of_notations(rt: HostRuntime) {
+    assert_debug!(
+        rt;
+        (
+            Escapes::write(AsciiChar::Tab),
+            Carets::write(AsciiChar::Tab),
+        ),
+        "(\"\\\\t\", \"^I\")"
+    );
+}
+
+// Clone for Written::clone
+#[test]
+fn clone_of_written(rt: HostRuntime) {
+    assert_debug!(
+        rt;
+        view("\t").escape_ascii().clone().expect(&rt, "refused").next(),
+        "Some('\\\\')"
+    );
+}
+
+// Iterator for Written::next
+#[test]
+fn next_of_written(rt: HostRuntime) {
+    let mut caret = view("\t").caret();
+    assert_debug!(rt; caret.next(), "Some('^')");
+    assert_debug!(rt; caret.next(), "Some('I')");
+    assert_debug!(rt; caret.next(), "None");
+}
+
+// DoubleEndedIterator for Written::next_back
+#[test]
+fn next_back_of_written(rt: HostRuntime) {
+    assert_debug!(rt; view("\t").caret().next_back(), "Some('I')");
+}
+
+// Display for Written::fmt
+#[test]
+fn fmt_of_written(rt: HostRuntime) {
+    let alloc = rt.alloc();
+    assert_debug!(
+        rt;
+        format!(in alloc; "{}", view("a\0").escape_ascii()).expect(&rt, "refused"),
+        "\"a\\\\x00\""
+    );
+}
+
+// AsciiStr::escape_ascii
+#[test]
+fn escape_ascii_of_ascii_str(rt: HostRuntime) {
+    let alloc = rt.alloc();
+    assert_debug!(
+        rt;
+        (
+            view("a\tb\x7f").escape_ascii().to_string(alloc).expect(&rt, "refused"),
+            view("").escape_ascii().next(),
+        ),
+        "(\"a\\\\tb\\\\x7f\", None)"
+    );
+}
+
+// AsciiStr::caret
+#[test]
+fn caret_of_ascii_str(rt: HostRuntime) {
+    let alloc = rt.alloc();
+    assert_debug!(
+        rt;
+        (
+            view("a\tb\x7f").caret().to_string(alloc).expect(&rt, "refused"),
+            view("a\n").caret().to_string(alloc).expect(&rt, "refused"),
+        ),
+        "(\"a^Ib^?\", \"a\\n\")"
+    );
+}
+
 // numbers::Number
 #[test]
 fn number_of_numbers(rt: HostRuntime) {
@@ -2629,10 +2707,12 @@ fn number_of_numbers(rt: HostRuntime) {
         rt;
         (
             <u8 as Number>::zero(),
-            25u8.with_digit(5),
-            25u8.with_digit(6),
+            <i8 as Number>::is_signed(),
+            25u8.with_digit(false, 10, 5),
+            25u8.with_digit(false, 10, 6),
+            (-12i8).with_digit(true, 10, 8),
         ),
-        "(0, Some(255), None)"
+        "(0, true, Some(255), None, Some(-128))"
     );
 }
 
@@ -2643,11 +2723,29 @@ fn to_number_of_ascii_str(rt: HostRuntime) {
         rt;
         (
             view("0042").to_number::<u8>(),
+            view("-128").to_number::<i8>(),
             view("4.2").to_number::<u8>(),
             view("256").to_number::<u8>(),
+            view("-129").to_number::<i8>(),
             view("").to_number::<u8>(),
         ),
-        "(Ok(42), Err(NotDigit(1)), Err(TooLarge(2)), Err(Empty))"
+        "(Ok(42), Ok(-128), Err(NotDigit(1)), Err(TooLarge(2)), Err(TooLarge(3)), Err(Empty))"
+    );
+}
+
+// AsciiStr::to_number_radix
+#[test]
+fn to_number_radix_of_ascii_str(rt: HostRuntime) {
+    assert_debug!(
+        rt;
+        (
+            view("fF").to_number_radix::<u8>(16),
+            view("-1000").to_number_radix::<i8>(2),
+            view("+F").to_number_radix::<u8>(16),
+            view("128").to_number_radix::<u8>(8),
+            view("100").to_number_radix::<u8>(16),
+        ),
+        "(Ok(255), Ok(-8), Err(NotDigit(0)), Err(NotDigit(2)), Err(TooLarge(2)))"
     );
 }
 
@@ -2658,11 +2756,40 @@ fn take_number_of_ascii_str(rt: HostRuntime) {
         rt;
         (
             view("42 km").take_number::<u8>(),
+            view("-3 C").take_number::<i8>(),
             view("km").take_number::<u8>(),
             view("256 km").take_number::<u8>(),
         ),
-        "(Ok((42, \" km\")), Err(NotDigit(0)), Err(TooLarge(2)))"
+        "(Ok((42, \" km\")), Ok((-3, \" C\")), Err(NotDigit(0)), Err(TooLarge(2)))"
     );
+}
+
+// Text::push_padded
+#[test]
+fn push_padded_of_text(rt: HostRuntime) {
+    let alloc = rt.alloc();
+    let mut text = AsciiString::new(alloc);
+    assert_debug!(rt; text.push_padded(view("ab"), 5, AsciiChar::Dot, Alignment::Right), "Ok(())");
+    assert_debug!(rt; text, "\"...ab\"");
+    assert_debug!(
+        rt;
+        text.push_padded(view("ab"), 5, AsciiChar::Space, Alignment::Center),
+        "Ok(())"
+    );
+    assert_debug!(rt; text, "\"...ab ab  \"");
+    assert_debug!(rt; text.push_padded(view("ab"), 1, AsciiChar::Dot, Alignment::Left), "Ok(())");
+    assert_debug!(rt; text, "\"...ab ab  ab\"");
+}
+
+// Text::push_hex
+#[test]
+fn push_hex_of_text(rt: HostRuntime) {
+    let alloc = rt.alloc();
+    let mut text = AsciiString::new(alloc);
+    assert_debug!(rt; text.push_hex(0xbeef, 8), "Ok(())");
+    assert_debug!(rt; text, "\"0000beef\"");
+    assert_debug!(rt; text.push_hex(0, 0), "Ok(())");
+    assert_debug!(rt; text, "\"0000beef0\"");
 }
 
 // Place::after_byte
