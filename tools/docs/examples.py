@@ -51,6 +51,7 @@ OTHERS = {
     "Echo": "super::Echo",
     "AsStr": "std::convert::AsStr",
     "Global": "std::alloc::Global",
+    "Alignment": "std::fmt::Alignment",
     "HashSet": "std::collections::HashSet",
     "Value": "serde_json::Value",
     ".as_byte_slice(": "std::io::AsBytes",

@@ -21,7 +21,7 @@ use serde_json::Value;
 use std::alloc::Global;
 use std::collections::HashSet;
 use std::convert::{AsSlice, AsStr};
-use std::fmt::Write;
+use std::fmt::{Alignment, Write};
 use std::io::AsBytes;
 use std::path::AsPath;
 use testing::{assert_debug, view};
