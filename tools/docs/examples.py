@@ -47,6 +47,7 @@ BEGINNINGS = {
 
 # What else an example may name.
 OTHERS = {
+    "Alignment": "std::fmt::Alignment",
     "AllocError": "std::alloc::AllocError",
     "Echo": "super::Echo",
     "AsStr": "std::convert::AsStr",
