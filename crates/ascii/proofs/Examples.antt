@@ -1,11 +1,15 @@
 -- Worked values of the definitions. docs/MODEL.md quotes them.
 use Rattle.std.proofs.Common.{◌≡◌, [], ◌∷◌, rules, refl}
-use Rattle.std.specs.Prelude.{codes}
+use Rattle.std.specs.Prelude.{codes, negsuc}
+use Rattle.std.below.core.specs.declared.fmt.formatter.Alignment.TheVariants as align
 use Rattle.ascii_base.specs.declared.range.AsciiRange.TheVariants as range
 use Rattle.ascii_base.specs.Range.{Fits, part_of}
 use Rattle.ascii.specs.Found.{lines_of, pieces_of}
+use Rattle.ascii.specs.Numbers.{IsFaultIn, WritesNumberIn, signed_up_to}
+use Rattle.ascii.specs.Padding.{padded}
 use Rattle.ascii.specs.Spans.{piece_size, with_starts}
 use Rattle.ascii.specs.StringState.{insert_text}
+use Rattle.ascii.specs.declared.numbers.NumberError.TheVariants.{TooLarge}
 use Rattle.ascii.specs.declared.iter.spans.Ending.TheVariants.{Absent, CrLf, Lf}
 
 -- a text is the list of its codes
@@ -40,3 +44,14 @@ last_feed = refl
 -- an insertion before position 1
 insertion : insert_text (codes "ac") 1 (codes "b") ≡ codes "abc"
 insertion = refl
+
+-- the least number of an `i8`, and the position of the digit with which one less leaves the range
+least : WritesNumberIn (signed_up_to 127) 10 (codes "-128") (negsuc 127)
+least = search rules
+
+one_less : IsFaultIn (signed_up_to 127) 10 (codes "-129") (TooLarge 3)
+one_less = search rules
+
+-- two characters in the center of five: one more comes after them
+center : padded align.Center 5 46 (codes "ab") ≡ codes ".ab.."
+center = refl

@@ -1,6 +1,7 @@
 -- Numbers that grow digit by digit.
-use Rattle.std.proofs.Common.{◌≡◌, ◌≢◌, ℕ, ◌+◌, ◌-◌, ◌*◌, ◌^◌, ◌<◌, ◌≤◌, List, [], ◌∷◌, length, take}
-use Rattle.std.proofs.Common.{drop, get_or, zero, suc, arith, ap, sym, subst, ◌∙◌, lit≤, Result, Ok, Err}
+use Rattle.std.proofs.Common.{◌≡◌, ◌≢◌, ℕ, zero, suc, ◌+◌, ◌-◌, ◌*◌, ◌^◌, ◌<◌, ◌≤◌, List, [], ◌∷◌}
+use Rattle.std.proofs.Common.{drop, get_or, length, take, Result, Ok, Err}
+use Rattle.std.proofs.Common.{arith, ap, sym, subst, ◌∙◌, lit≤}
 use Rattle.std.specs.Prelude.{◌&&◌, ◌==◌, IfSome, MatchResult, decimal, slice_get, slice_index}
 use Rattle.std.specs.Prelude.{FitsSigned, ℤ, pos, negsuc, neg_ℤ, false}
 use Rattle.std.specs.Fmt.{signed_decimal}
@@ -16,8 +17,8 @@ use Rattle.std.specs.Char.{digit_value}
 use Rattle.std.specs.Int.{from_bool}
 use Rattle.std.specs.Str.Parse.{AllDigits, IsNumeral, digits_value}
 use Rattle.ascii.specs.Numbers.{IsFaultIn, IsNumberFault, IsNumberUpTo, LeadsWithNumber}
-use Rattle.ascii.specs.Numbers.{NumberRange, StartsWithNumber, WritesNumber, WritesNumberIn, has_sign}
-use Rattle.ascii.specs.Numbers.{signed_up_to, unsigned_up_to, without_sign}
+use Rattle.ascii.specs.Numbers.{NumberRange, StartsWithNumber, WritesNumber, WritesNumberIn}
+use Rattle.ascii.specs.Numbers.{has_sign, signed_up_to, unsigned_up_to, without_sign}
 use Rattle.ascii.specs.declared.numbers.NumberError.{NumberError}
 use Rattle.ascii.specs.declared.numbers.NumberError.TheVariants.{Empty, NotDigit, TooLarge}
 
@@ -70,11 +71,12 @@ more_value radix text start i n digit order inside value is =
     )
 
 -- digits up to the end of the text are the whole number
-pub whole_number : {N : Type 0} (range : NumberRange N) (radix : ℕ) (text : List ℕ) (n : N) (end : ℕ)
-    → LeadsWithNumber range radix text n end → length text ≤ end
+pub whole_number : {N : Type 0} (range : NumberRange N) (radix : ℕ) (text : List ℕ) (n : N)
+    (end : ℕ) → LeadsWithNumber range radix text n end → length text ≤ end
     → end ≢ from_bool (has_sign range text) → WritesNumberIn range radix text n
 whole_number range radix text n end read all some =
-    let start = from_bool (has_sign range text) in
+    let minus = has_sign range text in
+    let start = from_bool minus in
     let whole : take end text ≡ text = take_all end text all in
     record {
       some = λ none. some (omega (
@@ -85,10 +87,10 @@ whole_number range radix text n end read all some =
         length-drop start text,
         all,
       ));
-      number = subst (λ part. IsNumberUpTo radix (range.most (has_sign range text)) (drop start part))
-          whole read.number;
+      number = subst (λ part. IsNumberUpTo radix (range.most minus) (drop start part)) whole
+          read.number;
       value = read.value
-          ∙ ap (λ part. range.number (has_sign range text) (digits_value radix (drop start part))) whole;
+          ∙ ap (λ part. range.number minus (digits_value radix (drop start part))) whole;
     }
 
 -- the start of a text has the sign of the text
@@ -103,7 +105,8 @@ next_code : (P : ℕ → Type 0) (text : List ℕ) (end : ℕ)
 next_code P [] zero is = tt
 next_code P [] (suc end) is = tt
 next_code P (code ∷ codes) zero is = is (omega arith)
-next_code P (code ∷ codes) (suc end) is = next_code P codes end (λ inside. is (omega (arith, inside)))
+next_code P (code ∷ codes) (suc end) is =
+    next_code P codes end (λ inside. is (omega (arith, inside)))
 
 -- digits up to `end` are a number at the start
 pub number_at_start : {N : Type 0} (range : NumberRange N) (radix : ℕ) (text : List ℕ) (n : N)
@@ -125,10 +128,10 @@ number_at_start range radix text n end read some =
           length-drop (from_bool (has_sign range part)) part,
           length-take end text,
         ));
-        number = subst (λ minus. IsNumberUpTo radix (range.most minus) (drop (from_bool minus) part))
-            same read.number;
+        number = subst (λ m. IsNumberUpTo radix (range.most m) (drop (from_bool m) part)) same
+            read.number;
         value = read.value
-            ∙ ap (λ minus. range.number minus (digits_value radix (drop (from_bool minus) part))) same;
+            ∙ ap (λ m. range.number m (digits_value radix (drop (from_bool m) part))) same;
       };
       longest = next_code _ text end read.longest;
     }
@@ -170,7 +173,8 @@ pub reads_number_in : {N : Type 0} (range : NumberRange N) (radix : ℕ) (text :
     → MatchResult result (WritesNumberIn range radix text) (IsFaultIn range radix text)
     → 1 ≤ radix → IsNumeral radix (without_sign range text)
     → digits_value radix (without_sign range text) ≤ range.most (has_sign range text)
-    → result ≡ Ok (range.number (has_sign range text) (digits_value radix (without_sign range text)))
+    → result
+    ≡ Ok (range.number (has_sign range text) (digits_value radix (without_sign range text)))
 reads_number_in range radix text (Ok n) says some numeral fits = ap Ok says.value
 reads_number_in range radix text (Err e) says some numeral fits =
     absurd (no_fault_in range radix text e some numeral fits says)
@@ -213,7 +217,8 @@ pub reads_signed_decimal : (w : Width) (z : ℤ) (result : Result ℤ NumberErro
 reads_signed_decimal w (pos n) result says fits =
     let range = signed_up_to (2 ^ hbits w - 1) in
     let numeral = decimal_is_IsNumeral_wide n (omega (arith, fits.sfits, size_below w)) in
-    let bound : digits_value 10 (decimal n) ≤ 2 ^ hbits w - 1 = omega (arith, numeral.1, fits.sfits) in
+    let bound : digits_value 10 (decimal n) ≤ 2 ^ hbits w - 1 =
+    omega (arith, numeral.1, fits.sfits) in
     let plain : has_sign range (decimal n) ≡ false = ne_eqb (get_or (decimal n) 0 0) 45
     (λ minus. omega (arith, minus, digit_at (decimal n) 0 numeral.0.1 numeral.0.0)) in
     reads_number_in range 10 (decimal n) result says (lit≤ tt)

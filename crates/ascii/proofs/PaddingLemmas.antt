@@ -1,5 +1,6 @@
 -- Appending a text in parts.
-use Rattle.std.proofs.Common.{◌≡◌, ℕ, zero, suc, ◌+◌, ◌-◌, ◌<◌, ◌≤◌, List, [], ◌∷◌, ◌++◌, length, replicate, drop, set, false}
+use Rattle.std.proofs.Common.{◌≡◌, ℕ, zero, suc, ◌+◌, ◌-◌, ◌<◌, ◌≤◌, List, [], ◌∷◌, ◌++◌, length}
+use Rattle.std.proofs.Common.{drop, false, replicate, set}
 use Rattle.std.proofs.Common.{Ok, Err, Result, length-append, arith, ap, refl, subst, sym, ◌∙◌}
 use Rattle.std.proofs.lemmas.List.{append_assoc, append-nil, drop_all}
 use Rattle.std.proofs.lemmas.List.{replicate-append-replicate}
@@ -160,14 +161,16 @@ pub digit_written : (room : List ℕ) (written rest n : ℕ) → length room ≡
     ≡ digits 16 false n
 digit_written room written rest n size inside so_far more =
     let glyph = digit_glyph false (rest % 16) in
+    let longer = set room (15 - written) glyph in
     let left : 64 - (written + 1) ≡ 63 - written = omega (arith, inside) in
     let at : 16 - (written + 1) ≡ 15 - written = omega (arith, inside) in
     let turns : 64 - written ≡ suc (63 - written) = omega (arith, inside) in
-    ap (λ k. digits_onto k 16 false (rest / 16) (drop (16 - (written + 1)) (set room (15 - written) glyph)))
+    ap (λ k. digits_onto k 16 false (rest / 16) (drop (16 - (written + 1)) longer))
     left
-    ∙ ap (λ k. digits_onto (63 - written) 16 false (rest / 16) (drop k (set room (15 - written) glyph)))
+    ∙ ap (λ k. digits_onto (63 - written) 16 false (rest / 16) (drop k longer))
     at
-    ∙ ap (digits_onto (63 - written) 16 false (rest / 16)) (after_digit room written glyph size inside)
+    ∙ ap (digits_onto (63 - written) 16 false (rest / 16))
+    (after_digit room written glyph size inside)
     ∙ sym (more_digits (63 - written) rest (drop (16 - written) room) more)
     ∙ ap (λ k. digits_onto k 16 false rest (drop (16 - written) room)) (sym turns) ∙ so_far
 

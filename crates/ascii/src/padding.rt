@@ -17,10 +17,11 @@ use ascii_base::ascii_char::AsciiChar;
 use std::fmt::Alignment;
 
 impl<B: Buffer> Text<B> {
-    /// Appends a view, and as many `fill` as it is shorter than `width`: after it for
-    /// `Alignment::Left`, before it for `Right`, and on both sides for `Center`, with one more after
-    /// it if their number is odd. Fails only if the string has to grow and the allocation fails; the
-    /// text is then unchanged.
+    /// Appends a view, filled up to `width` characters by `fill`. Fails only if the string has to grow
+    /// and the allocation fails; the text is then unchanged.
+    ///
+    /// The fill comes after the view for `Alignment::Left` and before it for `Right`. For `Center` it
+    /// comes on both sides, with one more after the view if its number is odd.
     ///
     /// A view that is not shorter than `width` is appended as it is. Asks for room once.
     ///
@@ -53,8 +54,8 @@ impl<B: Buffer> Text<B> {
         self.push_between(fill, before, view, padding - before)
     }
 
-    /// Appends the lower-case hexadecimal digits of `n`, with as many `0` before them as they are fewer
-    /// than `width`. Fails only if the string has to grow and the allocation fails; the text is then
+    /// Appends the lower-case hexadecimal digits of `n`, at least `width` of them: if there are fewer,
+    /// zeros come first. Fails only if the string has to grow and the allocation fails; the text is then
     /// unchanged.
     ///
     /// Asks for room once. For decimal digits use `push_decimal`.

@@ -7,7 +7,7 @@ use ascii::{
 };
 use ascii_run::{Cmd, Inline, Input, Mode, Output, Reply, engine, run_both};
 use std::alloc::{AllocError, Global};
-use std::fmt::Write;
+use std::fmt::{Alignment, Write};
 use std::process::Abort;
 use testing::assert_row;
 
@@ -36,6 +36,7 @@ fn grown<B: NewBuffer<Alloc = Global, Refusal = AllocError>, R: Abort + AllocGlo
     source: AsciiStr<'_>,
 ) {
     let length = source.len();
+    assert!(rt; length <= 5_000);
     let mut string = Text::<B>::from_ascii_str(rt.alloc(), source).expect(rt, "refused");
     string.shrink_to_fit().expect(rt, "refused");
     string.push(AsciiChar::b).expect(rt, "refused");
@@ -48,8 +49,13 @@ fn grown<B: NewBuffer<Alloc = Global, Refusal = AllocError>, R: Abort + AllocGlo
     string
         .extend_strs(source.split(AsciiChar::Comma))
         .expect(rt, "refused");
-    assert!(rt; length <= 5_000);
-    assert_row!(rt; string.len(), 5 * length + 3);
+    string.shrink_to_fit().expect(rt, "refused");
+    string
+        .push_padded(source, length + 3, AsciiChar::b, Alignment::Center)
+        .expect(rt, "refused");
+    string.shrink_to_fit().expect(rt, "refused");
+    string.push_hex(10, 2).expect(rt, "refused");
+    assert_row!(rt; string.len(), 6 * length + 8);
 }
 
 /// Turns a string of the view into each of the boxes and back.

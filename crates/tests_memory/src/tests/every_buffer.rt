@@ -5,7 +5,7 @@ use super::each_free_block::{Scarce, with_each_free_block};
 use ascii::{AsciiChar, AsciiRange, AsciiString, Buffer, Text};
 use ascii_run::{ArrayAsciiString, SmallAsciiString};
 use std::alloc::{AllocError, Global};
-use std::fmt::Write;
+use std::fmt::{Alignment, Write};
 use testing::assert_row;
 
 /// Why an edit failed.
@@ -23,6 +23,8 @@ fn edited<B: Buffer>(string: &mut Text<B>, call: &str) -> Result<(), Reason> {
         "push" => string.push(AsciiChar::y),
         "push_str" => string.push_str(view("yy")),
         "push_decimal" => string.push_decimal(42u64),
+        "push_padded" => string.push_padded(view("y"), 2, AsciiChar::x, Alignment::Right),
+        "push_hex" => string.push_hex(10, 2),
         "insert" => string.insert(0, AsciiChar::w),
         "insert_str" => string.insert_str(0, view("ww")),
         "replace_range" => string.replace_range(AsciiRange::To(0), view("ww")),
@@ -37,10 +39,12 @@ fn edited<B: Buffer>(string: &mut Text<B>, call: &str) -> Result<(), Reason> {
 }
 
 /// An edit, its error, and what it puts before the text and after it.
-static EDITS: [(&str, &str, &str, &str); 11] = [
+static EDITS: [(&str, &str, &str, &str); 13] = [
     ("push", "Refused", "", "y"),
     ("push_str", "Refused", "", "yy"),
     ("push_decimal", "Refused", "", "42"),
+    ("push_padded", "Refused", "", "xy"),
+    ("push_hex", "Refused", "", "0a"),
     ("insert", "Refused", "w", ""),
     ("insert_str", "Refused", "ww", ""),
     ("replace_range", "Refused", "ww", ""),
@@ -103,7 +107,7 @@ fn of_an_inline_buffer(rt: HostRuntime) {
 fn of_an_inline_buffer_with_room(rt: HostRuntime) {
     let alloc = rt.alloc();
     // All but those that ask for more room than there is inline.
-    for &(call, _, before, behind) in &EDITS[..8] {
+    for &(call, _, before, behind) in &EDITS[..10] {
         let ample = format!(in alloc;
             "Ok(()) {before}{SHORT}{behind} {before}{SHORT}{behind}z"
         ).expect(&rt, "refused");

@@ -4,20 +4,26 @@ use Rattle.ascii.proofs.PaddingLemmas.{digit_written, digits_written, fewer_digi
 use Rattle.ascii.proofs.padding.write_hex.Goals as goal
 
 pub loop-written-init : goal.loop-written-init
-loop-written-init c = (no_digits c.args.room.now c.args.n c.requires, omega (arith, c.ranges.n.fits), inl refl)
+loop-written-init c = (
+  no_digits c.args.room.now c.args.n c.requires,
+  omega (arith, c.ranges.n.fits),
+  inl refl,
+)
 
 pub returns-then-rest-eq0-clause-digits : goal.returns-then-rest-eq0-clause-digits
 returns-then-rest-eq0-clause-digits c =
-    rw c.hex_digit.ensures (digits_written c.loop-written.room c.loop-written.written c.loop-written.rest
-    c.args.n (search rules) c.loop-written-test.true c.loop-written.invariant.0 c.if-rest-eq0.true)
+    let at = c.loop-written in
+    rw c.hex_digit.ensures (digits_written at.room at.written at.rest c.args.n (search rules)
+    c.loop-written-test.true at.invariant.0 c.if-rest-eq0.true)
 
 pub loop-written-preserved : goal.loop-written-preserved
-loop-written-preserved c = (
-  rw c.hex_digit.ensures (digit_written c.loop-written.room c.loop-written.written c.loop-written.rest
-      c.args.n (search rules) c.loop-written-test.true c.loop-written.invariant.0 c.if-rest-eq0.false),
-  fewer_digits c.loop-written.rest c.loop-written.written c.loop-written-test.true c.loop-written.invariant.1,
-  inr (omega (arith, c.if-rest-eq0.false)),
-)
+loop-written-preserved c =
+    let at = c.loop-written in (
+      rw c.hex_digit.ensures (digit_written at.room at.written at.rest c.args.n (search rules)
+          c.loop-written-test.true at.invariant.0 c.if-rest-eq0.false),
+      fewer_digits at.rest at.written c.loop-written-test.true at.invariant.1,
+      inr (omega (arith, c.if-rest-eq0.false)),
+    )
 
 pub returns-clause-digits : goal.returns-clause-digits
 returns-clause-digits c = absurd (⊎_elim
