@@ -25,6 +25,7 @@ pub mod OrderLemmas
 pub mod PiecesLemmas
 pub mod PlaceLemmas
 pub mod PlacedLemmas
+pub mod QuotesLemmas
 pub mod ReplaceLemmas
 pub mod RestsLemmas
 pub mod RetainLemmas

@@ -22,6 +22,7 @@ pub mod Numbers
 pub mod Pieces
 pub mod Placed
 pub mod Places
+pub mod Quotes
 pub mod Replace
 pub mod Retain
 pub mod Search

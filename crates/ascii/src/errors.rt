@@ -6,6 +6,7 @@ use crate::ascii_str::AsAsciiStrError;
 use crate::from_ascii::{CopyError, FromAsciiError};
 use crate::json::JsonError;
 use crate::numbers::NumberError;
+use crate::quotes::QuoteError;
 use std::error::Error;
 use std::fmt;
 
@@ -74,3 +75,24 @@ impl fmt::Display for NumberError {
 }
 
 impl Error for NumberError {}
+
+impl fmt::Display for QuoteError {
+    ghost use Rattle.ascii.specs.Quotes.{quote_error_text};
+
+    ghost output = { λ e. Some (quote_error_text e) };
+
+    /// Writes the line of the error.
+    ///
+    ///     QuoteError::NoQuote.to_string(alloc)? // "no quote at the start"
+    ///     QuoteError::NotClosed(2).to_string(alloc)? // "the text ends at index 2 within quotes"
+    fn fmt<W: fmt::Write>(&self, f: &mut fmt::Formatter<W>) -> fmt::Result {
+        match self {
+            QuoteError::NoQuote => f.write_str("no quote at the start"),
+            QuoteError::NotClosed(position) => {
+                write!(f, "the text ends at index {position} within quotes")
+            }
+        }
+    }
+}
+
+impl Error for QuoteError {}

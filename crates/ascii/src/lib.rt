@@ -55,6 +55,7 @@ pub mod maps;
 pub mod notations;
 pub mod numbers;
 pub mod places;
+pub mod quotes;
 mod range_edits;
 mod replace;
 mod retain;

@@ -18,6 +18,7 @@ mod notations;
 mod numbers;
 mod of_ascii;
 mod pieces;
+mod quotes;
 mod remainders;
 mod replace;
 mod retain;

@@ -12,6 +12,7 @@ pub mod iterators;
 pub mod numbers;
 pub mod places;
 pub mod prefixes;
+pub mod quotes;
 pub mod remainders;
 pub mod servers;
 pub mod spans;
