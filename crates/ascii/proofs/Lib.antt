@@ -38,6 +38,7 @@ pub mod SpliceLemmas
 pub mod StepsLemmas
 pub mod TextLemmas
 pub mod TrimLemmas
+pub mod UnescapeLemmas
 pub mod UpToLemmas
 pub mod WritingViewLemmas
 pub use Rattle.ascii_base.proofs.LanesLemmas

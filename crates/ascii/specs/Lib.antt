@@ -32,6 +32,7 @@ pub mod Spans
 pub mod Steps
 pub mod StringState
 pub mod Trim
+pub mod Unescape
 pub mod View
 pub mod Walks
 pub mod Words

@@ -7,6 +7,7 @@ use crate::from_ascii::{CopyError, FromAsciiError};
 use crate::json::JsonError;
 use crate::numbers::NumberError;
 use crate::quotes::QuoteError;
+use crate::unescape::UnescapeError;
 use std::error::Error;
 use std::fmt;
 
@@ -96,3 +97,26 @@ impl fmt::Display for QuoteError {
 }
 
 impl Error for QuoteError {}
+
+impl fmt::Display for UnescapeError {
+    ghost use Rattle.ascii.specs.Unescape.{unescape_error_text};
+
+    ghost output = { λ e. Some (unescape_error_text e) };
+
+    /// Writes the line of the error.
+    ///
+    ///     UnescapeError::Invalid(1).to_string(alloc)? // "no escape at index 1"
+    ///     UnescapeError::NotAscii(0).to_string(alloc)? // "the escape at index 0 is not ASCII"
+    ///     UnescapeError::Memory.to_string(alloc)? // "no memory"
+    fn fmt<W: fmt::Write>(&self, f: &mut fmt::Formatter<W>) -> fmt::Result {
+        match self {
+            UnescapeError::Invalid(position) => write!(f, "no escape at index {position}"),
+            UnescapeError::NotAscii(position) => {
+                write!(f, "the escape at index {position} is not ASCII")
+            }
+            UnescapeError::Memory => f.write_str("no memory"),
+        }
+    }
+}
+
+impl Error for UnescapeError {}

@@ -67,6 +67,7 @@ mod splits;
 pub mod string;
 pub mod text;
 mod trims;
+pub mod unescape;
 pub mod vec;
 
 pub use ascii_base::ascii_char::{AsciiChar, ToAsciiChar, ToAsciiCharError};

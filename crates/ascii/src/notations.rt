@@ -254,7 +254,7 @@ impl<'a> AsciiStr<'a> {
     ///
     /// Tab, CR, LF, the quotes and the backslash are written as `\t`, `\r`, `\n`, `\'`, `\"` and `\\`,
     /// the other control characters as `\x` and two hexadecimal digits in lower case, and all others
-    /// as themselves.
+    /// as themselves. To read them back, use `unescape`.
     ///
     ///     AsciiStr::literal("a\tb\x7f").escape_ascii().to_string(alloc)? // "a\\tb\\x7f"
     ///     AsciiStr::literal("").escape_ascii().next() // None

@@ -33,6 +33,7 @@ mod split_off;
 mod strings;
 mod traits;
 mod trims;
+mod unescape;
 mod upstream_vectors;
 mod upstream_walks;
 mod views;

@@ -6,6 +6,7 @@ pub mod both_types;
 pub mod chunks;
 pub mod cuts;
 pub mod engines;
+pub mod escapes;
 pub mod folded;
 pub mod in_place;
 pub mod iterators;
