@@ -7,9 +7,10 @@ use Rattle.std.proofs.lemmas.List.{drop_all}
 use Rattle.std.proofs.lemmas.Option.{get_or_from_slice_get, slice_get_within}
 use Rattle.std.proofs.lemmas.List.Elements.{All-cons, All-head, All-nil, All-tail}
 use Rattle.std.specs.List.{All, concat}
-use Rattle.std.specs.Prelude.{◌↔◌, IfSome, Some, slice_get}
+use Rattle.std.specs.Prelude.{◌↔◌, Err, IfSome, IsOkAnd, MatchResult, Ok, Result, Some, slice_get}
 use Rattle.ascii.specs.Quotes.{ClosesBefore, IsEscapeAt, IsQuoteFault, IsQuotedCode, StartsQuoted}
-use Rattle.ascii.specs.declared.quotes.QuoteError.TheVariants.{NotClosed}
+use Rattle.ascii.specs.declared.quotes.QuoteError.{QuoteError}
+use Rattle.ascii.specs.declared.quotes.QuoteError.TheVariants.{NoQuote, NotClosed}
 
 -- what comes after the quote that closes does not make it an escape
 abbrev EndsAt : ℕ → ℕ → List ℕ → Type 0
@@ -234,3 +235,81 @@ not_quoted q e text first none = (
     subst (λ whole. StartsQuoted q e whole inside rest) (left_at text 0 q first) starts,
   ),
 )
+
+-- ---- a text is quoted in one way only
+
+-- a quote that is not an escape closes the text
+quote_out : (q e : ℕ) (x y : List ℕ) (pieces : List (List ℕ)) → EndsAt q e x
+    → All (IsQuotedCode q e) pieces → concat pieces ++ q ∷ y ≡ q ∷ x → x ≡ y
+quote_out q e x y [] ends each joined = sym (ap (drop 1) joined)
+quote_out q e x y (piece ∷ pieces) ends each joined =
+    elim (All-head (IsQuotedCode q e) piece pieces each) [
+      | inl h ↦
+          let same : h.0 ∷ (concat pieces ++ q ∷ y) ≡ q ∷ x = rw h.1 at joined in
+          absurd (h.2 (ap (λ l. get_or l 0 0) same))
+      | inr h ↦
+          let same : e ∷ h.0 ∷ (concat pieces ++ q ∷ y) ≡ q ∷ x = rw h.1 at joined in
+          let is_quote : e ≡ q = ap (λ l. get_or l 0 0) same in
+          let next = ends is_quote in
+          absurd ((rw (sym (ap (drop 1) same)) at next) (h.2 is_quote))
+    ]
+
+closes_once : (q e : ℕ) (text x y : List ℕ) (pieces : List (List ℕ)) → EndsAt q e x
+    → All (IsQuotedCode q e) pieces → concat pieces ++ q ∷ x ≡ text → ClosesBefore q e text y
+    → x ≡ y
+closes_once q e text x y [] ends each joined closes =
+    quote_out q e x y closes.1.quotable.0 ends closes.1.quotable.1
+    (joined_pieces q e text y closes.0 closes.1 ∙ sym joined)
+closes_once q e text x y (piece ∷ pieces) ends each joined closes =
+    let rest = concat pieces ++ q ∷ x in
+    let others = All-tail (IsQuotedCode q e) piece pieces each in
+    elim (All-head (IsQuotedCode q e) piece pieces each) [
+      | inl h ↦
+          let same : h.0 ∷ rest ≡ text = rw h.1 at joined in
+          let closes_same = subst (λ t. ClosesBefore q e t y) (sym same) closes in
+          closes_once q e rest x y pieces ends others refl
+          ((past_plain q e h.0 rest y h.2 h.3).0 closes_same)
+      | inr h ↦
+          let same : e ∷ h.0 ∷ rest ≡ text = rw h.1 at joined in
+          let closes_same = subst (λ t. ClosesBefore q e t y) (sym same) closes in
+          closes_once q e rest x y pieces ends others refl
+          ((past_escape q e (h.0 ∷ rest) y (λ is_quote. ap Some (h.2 is_quote))).0 closes_same)
+    ]
+
+-- two ways in which a text is quoted are one
+pub quoted_once : (q e : ℕ) (text a b x y : List ℕ) → StartsQuoted q e text a x
+    → StartsQuoted q e text b y → (a ≡ b) × (x ≡ y)
+quoted_once q e text a b x y first second =
+    let body = drop 1 text in
+    let whole = ap (drop 1) first.joined in
+    let closes : ClosesBefore q e body y = (
+      b,
+      subst (λ t. StartsQuoted q e t b y) (sym first.joined
+          ∙ ap (λ l. q ∷ l) whole) second,
+    ) in
+    let rest : x ≡ y = closes_once q e body x y first.quotable.0 first.ends first.quotable.1
+    (ap (λ l. l ++ q ∷ x) first.quotable.2 ∙ whole) closes in
+    let same : a ++ q ∷ x ≡ b ++ q ∷ y = whole ∙ sym (ap (drop 1) second.joined) in
+    let size : length a ≡ length b = omega (
+      arith,
+      ap length same,
+      ap length rest,
+      length-append a (q ∷ x),
+      length-append b (q ∷ y),
+    ) in (
+      sym (take-append_seam a (q ∷ x)) ∙ ap₂ take size same ∙ take-append_seam b (q ∷ y),
+      rest,
+    )
+
+-- a text that is quoted is taken in that way
+pub quoted_taken : {A : Type 0} (inside_of rest_of : A → List ℕ) (q e : ℕ) (text a x : List ℕ)
+    (result : Result A QuoteError) → StartsQuoted q e text a x
+    → MatchResult result (λ t. StartsQuoted q e text (inside_of t) (rest_of t))
+    (IsQuoteFault q e text)
+    → IsOkAnd result (λ t. (inside_of t ≡ a) × (rest_of t ≡ x))
+quoted_taken inside_of rest_of q e text a x (Ok t) starts taken =
+    quoted_once q e text (inside_of t) a (rest_of t) x taken starts
+quoted_taken inside_of rest_of q e text a x (Err NoQuote) starts fault =
+    absurd (fault (a ++ q ∷ x) (sym starts.joined))
+quoted_taken inside_of rest_of q e text a x (Err (NotClosed p)) starts fault =
+    absurd (fault.2 a x starts)
