@@ -27,6 +27,7 @@ pub mod PaddingLemmas
 pub mod PiecesLemmas
 pub mod PlaceLemmas
 pub mod PlacedLemmas
+pub mod QuotesLemmas
 pub mod ReplaceLemmas
 pub mod RestsLemmas
 pub mod RetainLemmas
@@ -39,6 +40,7 @@ pub mod SpliceLemmas
 pub mod StepsLemmas
 pub mod TextLemmas
 pub mod TrimLemmas
+pub mod UnescapeLemmas
 pub mod UpToLemmas
 pub mod WritingViewLemmas
 pub use Rattle.ascii_base.proofs.LanesLemmas

@@ -23,6 +23,7 @@ pub mod Padding
 pub mod Pieces
 pub mod Placed
 pub mod Places
+pub mod Quotes
 pub mod Replace
 pub mod Retain
 pub mod Search
@@ -32,6 +33,7 @@ pub mod Spans
 pub mod Steps
 pub mod StringState
 pub mod Trim
+pub mod Unescape
 pub mod View
 pub mod Walks
 pub mod Words

@@ -14,6 +14,8 @@
 //! | the positions of pieces, lines or words | `split_spans`, `line_spans`, `word_spans` |
 //! | lines that end in CR LF only | `lines_by` and `line_spans_by` of a view, with `Endings` of the module `iter` |
 //! | to search for a text, a character or a class | `find`, `position`, `span::<C>()` of a view |
+//! | a quoted text at the start of a view | `take_quoted` |
+//! | a view in escapes or in caret notation; escapes read back | `escape_ascii`, `caret`; `unescape` |
 //! | a part that keeps its position; a line and a column | `Spanned` of the module `spanned`; `line_and_column` |
 //! | keys that ignore case; a map asked by a view | the module `folded`; the module `maps` |
 //! | the ASCII runs of bytes that may hold others | `bytes::ascii_chunks` |
@@ -56,6 +58,7 @@ pub mod notations;
 pub mod numbers;
 mod padding;
 pub mod places;
+pub mod quotes;
 mod range_edits;
 mod replace;
 mod retain;
@@ -67,6 +70,7 @@ mod splits;
 pub mod string;
 pub mod text;
 mod trims;
+pub mod unescape;
 pub mod vec;
 
 pub use ascii_base::ascii_char::{AsciiChar, ToAsciiChar, ToAsciiCharError};

@@ -252,8 +252,9 @@ impl<'a> AsciiStr<'a> {
     /// Returns an iterator over the characters of the view as std's `escape_ascii` writes them. `{}`
     /// prints them.
     ///
-    /// Tab, CR, LF, the quotes and the backslash are written as `\t`, `\r`, `\n`, `\'`, `\"` and `\\`, the other control characters
-    /// as `\x` and two hexadecimal digits in lower case, and all others as themselves.
+    /// Tab, CR, LF, the quotes and the backslash are written as `\t`, `\r`, `\n`, `\'`, `\"` and `\\`,
+    /// the other control characters as `\x` and two hexadecimal digits in lower case, and all others
+    /// as themselves. To read them back, use `unescape`.
     ///
     ///     AsciiStr::literal("a\tb\x7f").escape_ascii().to_string(alloc)? // "a\\tb\\x7f"
     ///     AsciiStr::literal("").escape_ascii().next() // None

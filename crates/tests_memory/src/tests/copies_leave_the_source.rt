@@ -44,6 +44,7 @@ fn made(alloc: Global, heap: &Heap, call: &str) -> Result<String, AllocError> {
         "to_ascii_lowercase" => shown_string(alloc, source.to_ascii_lowercase(heap)),
         "replace" => replaced(alloc, heap, source),
         "repeat" => shown_string(alloc, source.repeat(heap, 2)),
+        "unescape" => shown_string(alloc, view("a\\tB").unescape(heap)),
         "to_chars" => shown(alloc, source.to_chars(heap)),
         "clone" => cloned_over::<Vec<u8, &Heap>>(alloc, heap, source),
         _ => made_over::<Vec<u8, &Heap>>(alloc, heap, call),
@@ -71,7 +72,7 @@ fn cloned_over<B: NewBuffer<Refusal = AllocError> + CloneBuffer>(
 }
 
 /// A call that makes a text, and its answers.
-static TEXTS: [(&str, &[&str]); 13] = [
+static TEXTS: [(&str, &[&str]); 14] = [
     ("with_capacity", &["Err(AllocError)", "Ok(\"\")"]),
     ("from_char", &["Err(AllocError)", "Ok(\"a\")"]),
     ("from_chars", &["Err(AllocError)", "Ok(\"aB\")"]),
@@ -83,6 +84,7 @@ static TEXTS: [(&str, &[&str]); 13] = [
     ("to_ascii_lowercase", &["Err(AllocError)", "Ok(\"ab,c\")"]),
     ("replace", &["Err(AllocError)", "Ok(\"aB--c\")"]),
     ("repeat", &["Err(AllocError)", "Ok(\"aB,caB,c\")"]),
+    ("unescape", &["Err(Memory)", "Ok(\"a\\tB\")"]),
     ("to_chars", &["Err(AllocError)", "Ok(['a', 'B', ',', 'c'])"]),
     (
         "clone",

@@ -16,6 +16,16 @@ fn every_occurrence_is_replaced(rt: HostRuntime) {
 }
 
 #[test]
+fn a_long_text_is_unescaped(rt: HostRuntime) {
+    let text = repeated(&rt, "a\\n", 10_000);
+    let new = text
+        .as_ascii_str()
+        .unescape(rt.alloc())
+        .expect(&rt, "no memory");
+    assert!(rt; new == repeated(&rt, "a\n", 10_000));
+}
+
+#[test]
 fn cut_in_two(rt: HostRuntime) {
     let mut text = repeated(&rt, "ab", 10_000);
     assert!(rt; text.len() == 20_000);

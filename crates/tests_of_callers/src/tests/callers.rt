@@ -4,6 +4,7 @@ mod both_types;
 mod chunks;
 mod cuts;
 mod engines;
+mod escapes;
 mod folded;
 mod in_place;
 mod iterators;

@@ -1,0 +1,60 @@
+-- The inverse of std's `escape_ascii`: what a text stands for in which characters are escaped.
+use Rattle.std.specs.Prelude.{◌≡◌, ◌≢◌, ℕ, ◌+◌, ◌*◌, ◌<◌, ◌≤◌, ◌⊎◌, List, [], ◌∷◌, ◌++◌, codes}
+use Rattle.std.specs.Prelude.{decimal, drop, length, take}
+use Rattle.std.specs.Char.{digit_value}
+use Rattle.std.specs.Char.Escape.{backslash, short_escape}
+use Rattle.std.specs.List.{AllZip, concat}
+use Rattle.ascii.specs.declared.unescape.UnescapeError.{UnescapeError}
+use Rattle.ascii.specs.declared.unescape.UnescapeError.TheVariants.{Invalid, Memory, NotAscii}
+
+-- `piece` is a backslash and the letter of the code, as in `\n`
+abbrev pub IsShortEscapeOf : List ℕ → ℕ → Type 0
+IsShortEscapeOf piece code =
+    (piece ≡ backslash ∷ short_escape code ∷ []) × (0 < short_escape code)
+
+-- `piece` is `\x` and two hexadecimal digits, in either case, that write the code
+abbrev pub IsHexEscapeOf : List ℕ → ℕ → Type 0
+IsHexEscapeOf piece code = (high low : ℕ) × (piece ≡ backslash ∷ 120 ∷ high ∷ low ∷ [])
+    × (digit_value high < 16) × (digit_value low < 16)
+    × (code ≡ digit_value high * 16 + digit_value low)
+
+-- `piece` stands for the code: it is the code itself, not a backslash, or an escape of it
+abbrev pub StandsFor : List ℕ → ℕ → Type 0
+StandsFor piece code = ((piece ≡ code ∷ []) × (code ≢ backslash))
+    ⊎ (IsShortEscapeOf piece code ⊎ IsHexEscapeOf piece code)
+
+-- `text` is pieces that stand for the codes of `result`, one by one
+abbrev pub Unescapes : List ℕ → List ℕ → Type 0
+Unescapes text result =
+    (pieces : List (List ℕ)) × (concat pieces ≡ text) × AllZip StandsFor pieces result
+
+-- no piece at the start of `text` stands for a code
+abbrev pub HasNoPiece : List ℕ → Type 0
+HasNoPiece text = (piece rest : List ℕ) (code : ℕ) → piece ++ rest ≡ text → ¬ (StandsFor piece code)
+
+-- the position `p` is in the text, and what comes before it can be unescaped
+abbrev pub IsReadUpTo : List ℕ → ℕ → Type 0
+IsReadUpTo text p = (p < length text) × ((result : List ℕ) × Unescapes (take p text) result)
+
+-- Why `text` is not unescaped. `Invalid`: no piece at `p` stands for a code. `NotAscii`: the piece
+-- at `p` stands for a code above 127. `Memory`: the text is not empty.
+abbrev pub IsUnescapeFault : List ℕ → UnescapeError → Type 0
+IsUnescapeFault text (Invalid p) = IsReadUpTo text p × HasNoPiece (drop p text)
+IsUnescapeFault text (NotAscii p) = IsReadUpTo text p
+    × ((size code : ℕ) × StandsFor (take size (drop p text)) code × (128 ≤ code))
+IsUnescapeFault text Memory = text ≢ []
+
+-- the output of an error
+abbrev pub unescape_error_text : UnescapeError → List ℕ
+unescape_error_text (Invalid p) = codes "no escape at index " ++ decimal p
+unescape_error_text (NotAscii p) =
+    codes "the escape at index " ++ decimal p ++ codes " is not ASCII"
+unescape_error_text Memory = codes "no memory"
+
+-- ---- cited by private functions only
+
+-- the first `size` codes of `text` stand for `code`
+pub record StartsWithPiece (text : List ℕ) (code size : ℕ) : Type 0 where
+  pub some : 0 < size
+  pub inside : size ≤ length text
+  pub stands : StandsFor (take size text) code

@@ -1,0 +1,109 @@
+//! Texts in which characters are escaped, read back: the inverse of `escape_ascii`.
+//!
+//! The escapes are those of std: `\t`, `\r`, `\n`, `\'`, `\"`, `\\`, and `\x` with two hexadecimal digits in either case.
+//!
+//!     AsciiStr::literal("a\\tb").unescape(alloc) // Ok("a\tb")
+//!     AsciiStr::literal("a\\tb").escape_ascii().to_string(alloc) // Ok("a\\\\tb")
+
+ghost use Rattle.std.specs.Prelude.{◌≡◌, ◌<◌, MatchOption, MatchResult, length, slice_index};
+ghost use Rattle.ascii.specs.Unescape.{HasNoPiece, StartsWithPiece};
+ghost use Rattle.ascii.specs.View.{text_of};
+
+use crate::ascii_str::AsciiStr;
+use crate::ascii_string::AsciiString;
+use ascii_base::ascii_char::AsciiChar;
+use std::alloc::Allocator;
+
+/// Why a text is not unescaped.
+#[derive(Clone, Copy, PartialEq, Eq, Debug)]
+pub enum UnescapeError {
+    /// The backslash at this position does not begin an escape.
+    Invalid(usize),
+    /// The escape at this position is of a byte above 127.
+    NotAscii(usize),
+    /// The allocation failed.
+    Memory,
+}
+
+impl AsciiStr<'_> {
+    ghost use Rattle.ascii.specs.Unescape.{IsUnescapeFault, Unescapes};
+
+    /// Returns the text that the view stands for, in which characters are escaped as by std's
+    /// `escape_ascii`, or an error: with the position of the first backslash that does not begin an
+    /// escape, or of the first escape of a byte above 127, whichever comes first; or `Memory` if the
+    /// allocation fails.
+    ///
+    /// Characters other than a backslash stand for themselves. An escape is `\t`, `\r`, `\n`, `\'`,
+    /// `\"`, `\\`, or `\x` with two hexadecimal digits, in either case.
+    ///
+    /// Allocates once, for the length of the view. Never fails for the empty view.
+    ///
+    ///     AsciiStr::literal("a\\tb\\x41").unescape(alloc) // Ok("a\tbA")
+    ///     AsciiStr::literal("").unescape(alloc) // Ok("")
+    ///     AsciiStr::literal("a\\q").unescape(alloc) // Err(Invalid(1))
+    ///     AsciiStr::literal("\\xc4").unescape(alloc) // Err(NotAscii(0))
+    pub fn unescape<A: Allocator>(self, alloc: A) -> Result<AsciiString<A>, UnescapeError>
+        ensures { let text = text_of self.entry in
+            MatchResult result (λ string. Unescapes text string.text) (IsUnescapeFault text) }
+    {
+        let Ok(mut string) = AsciiString::with_capacity(alloc, self.len()) else {
+            return Err(UnescapeError::Memory);
+        };
+        let mut at = 0;
+        'pieces: while at < self.len() {
+            let Some((code, size)) = read_piece(&self.bytes[at..]) else {
+                return Err(UnescapeError::Invalid(at));
+            };
+            if code > 127 {
+                return Err(UnescapeError::NotAscii(at));
+            }
+            let Ok(()) = string.push(AsciiChar::from_ascii_unchecked(code)) else {
+                return Err(UnescapeError::Memory);
+            };
+            at += size;
+        }
+        Ok(string)
+    }
+}
+
+/// The code that the piece at the start of the bytes stands for, and the size of that piece, or
+/// `None` if there is no piece.
+fn read_piece(bytes: &[u8]) -> Option<(u8, usize)>
+    requires { 0 < length bytes.now }
+    ensures { MatchOption result (HasNoPiece bytes.now)
+        (λ piece. StartsWithPiece bytes.now piece.0 piece.1) }
+{
+    if bytes[0] != b'\\' {
+        return Some((bytes[0], 1));
+    }
+    if bytes.len() < 2 {
+        return None;
+    }
+    match bytes[1] {
+        b't' => Some((b'\t', 2)),
+        b'r' => Some((b'\r', 2)),
+        b'n' => Some((b'\n', 2)),
+        b'\'' => Some((b'\'', 2)),
+        b'"' => Some((b'"', 2)),
+        b'\\' => Some((b'\\', 2)),
+        b'x' => read_hex(bytes),
+        _ => None,
+    }
+}
+
+/// The code of a piece that begins with `\x`, and its size, or `None` if no two hexadecimal digits
+/// follow.
+fn read_hex(bytes: &[u8]) -> Option<(u8, usize)>
+    requires inside { 1 < length bytes.now }
+    requires backslash { slice_index bytes.now 0 ≡ 92 }
+    requires x { slice_index bytes.now 1 ≡ 120 }
+    ensures { MatchOption result (HasNoPiece bytes.now)
+        (λ piece. StartsWithPiece bytes.now piece.0 piece.1) }
+{
+    if bytes.len() < 4 {
+        return None;
+    }
+    let high = char::from(bytes[2]).to_digit(16)?;
+    let low = char::from(bytes[3]).to_digit(16)?;
+    Some(((high * 16 + low) as u8, 4))
+}
