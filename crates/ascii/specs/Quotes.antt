@@ -1,5 +1,5 @@
--- Quoted texts: `quote`, the text inside, and `quote`. An `escape` inside stands before a code that
--- does not end the text. If `escape` is `quote` itself, each quote inside is doubled, as in CSV.
+-- Quoted texts: `quote`, the text inside, and `quote`. A code after an `escape` inside does not end
+-- the text. If `escape` is `quote` itself, each quote inside is doubled, as in CSV.
 use Rattle.std.specs.Prelude.{◌≡◌, ◌≢◌, ℕ, ◌+◌, ◌⊎◌, List, [], ◌∷◌, ◌++◌, IfSome, Some, codes}
 use Rattle.std.specs.Prelude.{decimal, length, slice_get}
 use Rattle.std.specs.List.{All, concat}

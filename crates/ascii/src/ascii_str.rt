@@ -15,11 +15,12 @@
 //! `line_spans`, `line_spans_from`); `iter::lines_by` (`lines_by`, `line_spans_by`); `iter::split`
 //! (`split`, `split_spans`, `split_spans_from`); `iter::split_n` (`splitn`); `json` (`to_json`);
 //! `notations` (`escape_ascii`, `caret`); `numbers` (`to_number`, `to_number_radix`,
-//! `take_number`); `places` (`line_and_column`, `fault_at`); `replace` (`replace`); `search`
-//! (`find`, `rfind`, `contains`, `count`, `position`, `rposition`, `is_all`, `first_not`,
-//! `eq_text`, `starts_with`, `ends_with`, `strip_prefix`, `strip_suffix`); `splits` (`split_once`,
-//! `rsplit_once`, `split_at`, `split_once_str`, `rsplit_once_str`); `text` (`literal`); `trims`
-//! (`span`, `trim_matches`, `trim_start_matches`, `trim_end_matches`).
+//! `take_number`); `places` (`line_and_column`, `fault_at`); `quotes` (`take_quoted`); `replace`
+//! (`replace`); `search` (`find`, `rfind`, `contains`, `count`, `position`, `rposition`, `is_all`,
+//! `first_not`, `eq_text`, `starts_with`, `ends_with`, `strip_prefix`, `strip_suffix`); `splits`
+//! (`split_once`, `rsplit_once`, `split_at`, `split_once_str`, `rsplit_once_str`); `text`
+//! (`literal`); `trims` (`span`, `trim_matches`, `trim_start_matches`, `trim_end_matches`);
+//! `unescape` (`unescape`).
 
 ghost use Rattle.std.specs.Prelude.{◌≡◌, ◌-◌, ◌<◌, ◌↔◌, [], IsOkAnd, IsTrue, OnErr, Some, codes};
 ghost use Rattle.std.specs.Prelude.{length, map, slice_get, slice_index};

@@ -12,7 +12,9 @@ use ascii::maps::{AsciiMap, FoldedMap};
 use ascii::notations::{Carets, Escapes, Notation};
 use ascii::numbers::{Number, NumberError};
 use ascii::places::Place;
+use ascii::quotes::QuoteError;
 use ascii::spanned::Spanned;
+use ascii::unescape::UnescapeError;
 use ascii::{
     AsAsciiStrError, AsciiChar, AsciiRange, AsciiStr, AsciiString, Buffer, CloneBuffer,
     CowAsciiStr, NewBuffer, bytes, string, text, vec,
@@ -1387,6 +1389,35 @@ fn fmt_of_number_error(rt: HostRuntime) {
             NumberError::TooLarge(2).to_string(alloc).expect(&rt, "refused"),
         ),
         "(\"no digits\", \"the character at index 1 is not a digit\", \"the number is too large at index 2\")"
+    );
+}
+
+// Display for QuoteError::fmt
+#[test]
+fn fmt_of_quote_error(rt: HostRuntime) {
+    let alloc = rt.alloc();
+    assert_debug!(
+        rt;
+        (
+            QuoteError::NoQuote.to_string(alloc).expect(&rt, "refused"),
+            QuoteError::NotClosed(2).to_string(alloc).expect(&rt, "refused"),
+        ),
+        "(\"no quote at the start\", \"the text ends at index 2 within quotes\")"
+    );
+}
+
+// Display for UnescapeError::fmt
+#[test]
+fn fmt_of_unescape_error(rt: HostRuntime) {
+    let alloc = rt.alloc();
+    assert_debug!(
+        rt;
+        (
+            UnescapeError::Invalid(1).to_string(alloc).expect(&rt, "refused"),
+            UnescapeError::NotAscii(0).to_string(alloc).expect(&rt, "refused"),
+            UnescapeError::Memory.to_string(alloc).expect(&rt, "refused"),
+        ),
+        "(\"no escape at index 1\", \"the escape at index 0 is not ASCII\", \"no memory\")"
     );
 }
 
@@ -2875,6 +2906,22 @@ fn fault_at_of_ascii_str(rt: HostRuntime) {
     );
 }
 
+// AsciiStr::take_quoted
+#[test]
+fn take_quoted_of_ascii_str(rt: HostRuntime) {
+    assert_debug!(
+        rt;
+        (
+            view("'a\\'b' c").take_quoted(AsciiChar::Apostrophe, AsciiChar::BackSlash),
+            view("'a''b' c").take_quoted(AsciiChar::Apostrophe, AsciiChar::Apostrophe),
+            view("''").take_quoted(AsciiChar::Apostrophe, AsciiChar::BackSlash),
+            view("a").take_quoted(AsciiChar::Apostrophe, AsciiChar::BackSlash),
+            view("'a").take_quoted(AsciiChar::Apostrophe, AsciiChar::BackSlash),
+        ),
+        "(Ok((\"a\\\\'b\", \" c\")), Ok((\"a''b\", \" c\")), Ok((\"\", \"\")), Err(NoQuote), Err(NotClosed(2)))"
+    );
+}
+
 // Text::remove_range
 #[test]
 fn remove_range_of_text(rt: HostRuntime) {
@@ -3486,6 +3533,22 @@ fn trim_end_matches_of_ascii_str(rt: HostRuntime) {
             view("42").trim_end_matches::<Digit>(),
         ),
         "(\"42px\", \"\")"
+    );
+}
+
+// AsciiStr::unescape
+#[test]
+fn unescape_of_ascii_str(rt: HostRuntime) {
+    let alloc = rt.alloc();
+    assert_debug!(
+        rt;
+        (
+            view("a\\tb\\x41").unescape(alloc),
+            view("").unescape(alloc),
+            view("a\\q").unescape(alloc),
+            view("\\xc4").unescape(alloc),
+        ),
+        "(Ok(\"a\\tbA\"), Ok(\"\"), Err(Invalid(1)), Err(NotAscii(0)))"
     );
 }
 
