@@ -5,6 +5,7 @@ pub mod CallerLemmas
 pub mod ChunkLemmas
 pub mod CutLemmas
 pub mod DebugLemmas
+pub mod DecimalsLemmas
 pub mod EndedLemmas
 pub mod EndingsLemmas
 pub mod EndsLemmas

@@ -6,6 +6,7 @@ pub mod Chunks
 pub mod ConversionError
 pub mod Cow
 pub mod Cuts
+pub mod Decimals
 pub mod Ended
 pub mod Endings
 pub mod Extend

@@ -44,6 +44,7 @@ pub mod chunks;
 mod collect;
 mod conversions;
 mod copies;
+pub mod decimals;
 pub mod endings;
 mod errors;
 pub mod folded;

@@ -1,0 +1,367 @@
+-- The parts of a decimal number, and the faults in them.
+use Rattle.std.proofs.Common.{◌≡◌, ◌≢◌, ◌⊎◌, ℕ, zero, suc, ◌+◌, ◌-◌, ◌*◌, ◌^◌, ◌<◌, ◌≤◌, List, [], ◌∷◌}
+use Rattle.std.proofs.Common.{◌++◌, All, Bool, Contains, None, Option, Some, drop, false}
+use Rattle.std.proofs.Common.{get_or, length, take, true}
+use Rattle.std.proofs.Common.{lit≤, append_assoc, append-nil, ap, arith, inl, inr, length-append, length-drop, refl}
+use Rattle.std.proofs.Common.{subst, sym, ⊎_elim, ◌∙◌, eq-eqb, ne_eqb, get_or-append-add, get_or-drop}
+use Rattle.std.proofs.Math.ListN.{get_or-append}
+use Rattle.std.proofs.Math.Seq.{drop-append-add, take-append-add, take-suc}
+use Rattle.std.proofs.lemmas.Bool.{cases_eq}
+use Rattle.std.proofs.lemmas.List.{take-append-le}
+use Rattle.std.proofs.lemmas.List.Elements.{All-get_or, All-head, All-nil, All-tail}
+use Rattle.std.proofs.lemmas.Option.{none-some, slice_get-get_or}
+use Rattle.std.specs.Prelude.{Err, IfSome, IsErrAnd, MatchResult, Ok, Result}
+use Rattle.std.specs.Char.{digit_value}
+use Rattle.std.specs.Int.{from_bool}
+use Rattle.std.specs.Str.Parse.{AllDigits, digits_value, digits_value_after, starts_with_minus}
+use Rattle.ascii.specs.Decimals.{ComesBefore, IsDecimalFault, IsDigitFault, IsZeroCode}
+use Rattle.ascii.specs.Decimals.{StartsDecimal, WritesDecimal, point_digits, sign_text}
+use Rattle.ascii.specs.declared.numbers.NumberError.{NumberError}
+use Rattle.ascii.specs.declared.numbers.NumberError.TheVariants.{Empty, NotDigit, TooLarge}
+use Rattle.ascii.specs.Trim.{TrimsEnd}
+
+-- ---- digits
+
+-- the number of digits after others is that of the digits that go on from the number of the others
+pub value_append : (number : ℕ) (some more : List ℕ)
+    → digits_value_after 10 number (some ++ more)
+    ≡ digits_value_after 10 (digits_value_after 10 number some) more
+value_append number [] more = refl
+value_append number (digit ∷ digits) more =
+    value_append (number * 10 + digit_value digit) digits more
+
+-- one more code
+take_more : (codes : List ℕ) (i : ℕ) → i < length codes
+    → take (i + 1) codes ≡ take i codes ++ (get_or codes i 0 ∷ [])
+take_more codes i inside =
+    let next : i + 1 ≡ suc i = omega arith in
+    ap (λ n. take n codes) next ∙ take-suc codes i 0 inside
+
+-- the number with one more digit
+pub value_more : (number : ℕ) (codes : List ℕ) (i : ℕ) → i < length codes
+    → digits_value_after 10 number (take (i + 1) codes)
+    ≡ digits_value_after 10 number (take i codes) * 10 + digit_value (get_or codes i 0)
+value_more number codes i inside =
+    ap (digits_value_after 10 number) (take_more codes i inside)
+    ∙ value_append number (take i codes) (get_or codes i 0 ∷ [])
+
+-- digits after digits are digits
+digits_append : (some more : List ℕ) → AllDigits 10 some → AllDigits 10 more
+    → AllDigits 10 (some ++ more)
+digits_append [] more first then = then
+digits_append (digit ∷ digits) more first then = (first.0, digits_append digits more first.1 then)
+
+-- zeros are digits
+zeros_are_digits : (codes : List ℕ) → All IsZeroCode codes → AllDigits 10 codes
+zeros_are_digits [] zeros = tt
+zeros_are_digits (code ∷ codes) zeros = (
+  subst (λ c. digit_value c < 10) (sym (All-head IsZeroCode code codes zeros)) (lit≤ tt),
+  zeros_are_digits codes (All-tail IsZeroCode code codes zeros),
+)
+
+-- ---- positions
+
+-- a text is its sign and what comes after it
+pub signed : (text : List ℕ)
+    → sign_text (starts_with_minus text) ++ drop (from_bool (starts_with_minus text)) text ≡ text
+signed [] = refl
+signed (code ∷ codes) = elim (cases_eq code 45) [
+  | inl is ↦ rw (eq-eqb code 45 is) (ap (λ c. c ∷ codes) (sym is))
+  | inr is ↦ rw (ne_eqb code 45 is) refl
+]
+
+-- how long a sign is
+sign_length : (minus : Bool) → length (sign_text minus) ≡ from_bool minus
+sign_length true = refl
+sign_length false = refl
+
+-- the codes up to one of `digits`
+take_inside : (before digits after : List ℕ) (i : ℕ) → i ≤ length digits
+    → take (length before + i) (before ++ (digits ++ after)) ≡ before ++ take i digits
+take_inside before digits after i order =
+    take-append-add before (digits ++ after) i
+    ∙ ap (λ l. before ++ l) (take-append-le i digits after order)
+
+-- a code of `digits`
+code_inside : (before digits after : List ℕ) (i : ℕ) → i < length digits
+    → get_or (before ++ (digits ++ after)) (length before + i) 0 ≡ get_or digits i 0
+code_inside before digits after i inside =
+    get_or-append-add before (digits ++ after) i 0 ∙ get_or-append digits after 0 i inside
+
+-- a code of `digits` at the position `p` of the text
+code_is : (text before digits after : List ℕ) (i p : ℕ) → before ++ (digits ++ after) ≡ text
+    → p ≡ length before + i → i < length digits → get_or text p 0 ≡ get_or digits i 0
+code_is text before digits after i p joined at inside =
+    ap (λ n. get_or text n 0) at
+    ∙ ap (λ l. get_or l (length before + i) 0) (sym joined)
+    ∙ code_inside before digits after i inside
+
+-- what comes before it
+comes_before : (text before digits after whole : List ℕ) (fraction : Option (List ℕ)) (i p : ℕ)
+    → before ++ (digits ++ after) ≡ text → p ≡ length before + i → i < length digits
+    → StartsDecimal (starts_with_minus text) whole fraction (before ++ take i digits)
+    → digits_value 10 (whole ++ point_digits fraction) < 2 ^ 64
+    → ComesBefore whole fraction text p
+comes_before text before digits after whole fraction i p joined at inside start fits =
+    let front : take p text ≡ before ++ take i digits =
+    ap (λ n. take n text) at ∙ ap (λ l. take (length before + i) l) (sym joined)
+    ∙ take_inside before digits after i (omega (arith, inside)) in
+    record {
+      inside = omega (
+        arith,
+        at,
+        inside,
+        ap length joined,
+        length-append before (digits ++ after),
+        length-append digits after,
+      );
+      start = subst (StartsDecimal (starts_with_minus text) whole fraction) (sym front) start;
+      fits = fits;
+    }
+
+-- ---- faults
+
+-- the parts up to a position before a point
+whole_start : (minus : Bool) (whole : List ℕ) → AllDigits 10 whole
+    → StartsDecimal minus whole None (sign_text minus ++ whole)
+whole_start minus whole digits = record {
+  joined = ap (λ l. sign_text minus ++ l) (append-nil whole);
+  digits = subst (AllDigits 10) (sym (append-nil whole)) digits;
+  point = tt;
+}
+
+-- a code that is a point
+in_place : (codes : List ℕ) (i : ℕ) → get_or codes i 0 ≡ 46 → i < length codes
+    → get_or codes i 46 ≡ 46
+in_place [] i is inside = refl
+in_place (code ∷ codes) zero is inside = is
+in_place (code ∷ codes) (suc i) is inside = in_place codes i is (omega (arith, inside))
+
+-- a fault in the digits before a point, or in those of a text without a point
+pub whole_fault : (text whole after : List ℕ) (e : NumberError)
+    → sign_text (starts_with_minus text) ++ (whole ++ after) ≡ text → ¬ (Contains whole 46)
+    → IsDigitFault (from_bool (starts_with_minus text)) 0 whole e → IsDecimalFault text e
+whole_fault text whole after Empty joined free fault = absurd fault
+whole_fault text whole after (NotDigit p) joined free (i, at, before, is) =
+    let sign = sign_text (starts_with_minus text) in
+    let place : p ≡ length sign + i = omega (arith, at, sign_length (starts_with_minus text)) in
+    let code = code_is text sign whole after i p joined place before.inside in (
+      take i whole,
+      None,
+      comes_before text sign whole after (take i whole) None i p joined place before.inside
+          (whole_start (starts_with_minus text) (take i whole) before.digits)
+          (subst (λ l. digits_value 10 l < 2 ^ 64) (sym (append-nil (take i whole))) before.fits),
+      omega (arith, is, ap digit_value code),
+      λ point. free (i, before.inside, in_place whole i (sym code ∙ point.0) before.inside),
+    )
+whole_fault text whole after (TooLarge p) joined free (i, at, before, is, large) =
+    let sign = sign_text (starts_with_minus text) in
+    let place : p ≡ length sign + i = omega (arith, at, sign_length (starts_with_minus text)) in
+    let code = code_is text sign whole after i p joined place before.inside in (
+      take i whole,
+      None,
+      comes_before text sign whole after (take i whole) None i p joined place before.inside
+          (whole_start (starts_with_minus text) (take i whole) before.digits)
+          (subst (λ l. digits_value 10 l < 2 ^ 64) (sym (append-nil (take i whole))) before.fits),
+      omega (arith, is, ap digit_value code),
+      subst (λ c. 2 ^ 64 ≤ digits_value 10 (take i whole ++ c ∷ [])) (sym code)
+          (subst (λ l. 2 ^ 64 ≤ digits_value 10 l) (take_more whole i before.inside) large),
+      λ dropped. dropped.0 refl,
+    )
+
+-- a fault at the point: no digit comes before it, or nothing comes after it
+pub point_fault : (text whole fraction : List ℕ)
+    → sign_text (starts_with_minus text) ++ (whole ++ 46 ∷ fraction) ≡ text
+    → AllDigits 10 whole → digits_value 10 whole < 2 ^ 64 → (whole ≡ []) ⊎ (fraction ≡ [])
+    → IsDecimalFault text (NotDigit (from_bool (starts_with_minus text) + length whole))
+point_fault text whole fraction joined digits fits none =
+    let minus = starts_with_minus text in
+    let sign = sign_text minus in
+    let p = from_bool minus + length whole in
+    let front : (sign ++ whole) ++ ((46 ∷ []) ++ fraction) ≡ text =
+    append_assoc sign whole (46 ∷ fraction) ∙ joined in
+    let place : p ≡ length (sign ++ whole) + 0 =
+    omega (arith, sign_length minus, length-append sign whole) in
+    let code = code_is text (sign ++ whole) (46 ∷ []) fraction 0 p front place (omega arith) in (
+      whole,
+      None,
+      comes_before text (sign ++ whole) (46 ∷ []) fraction whole None 0 p front place (omega arith)
+          (subst (StartsDecimal minus whole None) (sym (append-nil (sign ++ whole)))
+          (whole_start minus whole digits))
+          (subst (λ l. digits_value 10 l < 2 ^ 64) (sym (append-nil whole)) fits),
+      omega (arith, ap digit_value code),
+      λ point. ⊎_elim point.2
+          (λ last. omega (
+            arith,
+            point.3,
+            place,
+            ap length last,
+            ap length front,
+            length-append (sign ++ whole) (46 ∷ fraction),
+          )) none,
+    )
+
+-- the parts up to a position after a point
+fraction_start : (minus : Bool) (whole digits : List ℕ) → whole ≢ []
+    → AllDigits 10 whole → AllDigits 10 digits
+    → StartsDecimal minus whole (Some digits) ((sign_text minus ++ (whole ++ 46 ∷ [])) ++ digits)
+fraction_start minus whole digits some first then = record {
+  joined = ap (λ l. sign_text minus ++ l) (sym (append_assoc whole (46 ∷ []) digits))
+      ∙ sym (append_assoc (sign_text minus) (whole ++ 46 ∷ []) digits);
+  digits = digits_append whole digits first then;
+  point = some;
+}
+
+-- the last of the digits that are kept is no zero, so from none of them on there are only zeros
+not_dropped : (digits kept : List ℕ) (i : ℕ) → TrimsEnd IsZeroCode digits kept → i < length kept
+    → ¬ (All IsZeroCode (drop i digits))
+not_dropped digits kept i trimmed inside zeros =
+    let last = length kept - 1 in
+    let is : get_or (drop i digits) (last - i) 0 ≡ 48 =
+    All-get_or IsZeroCode (drop i digits) (last - i) 0 (omega (
+      arith,
+      inside,
+      length-drop i digits,
+      ap length trimmed.joined,
+      length-append kept trimmed.cut,
+    )) zeros in
+    let at : i + (last - i) ≡ last = omega (arith, inside) in
+    let code : get_or (drop i digits) (last - i) 0 ≡ get_or kept last 0 =
+    get_or-drop i digits (last - i) 0 ∙ ap (λ n. get_or digits n 0) at
+    ∙ ap (λ l. get_or l last 0) (sym trimmed.joined)
+    ∙ get_or-append kept trimmed.cut 0 last (omega (arith, inside)) in
+    let found = slice_get-get_or kept last 0 (omega (arith, inside)) in
+    let bounded : IfSome (Some (get_or kept last 0)) (λ code. ¬ (IsZeroCode code)) =
+    subst (λ o. IfSome o (λ code. ¬ (IsZeroCode code))) found trimmed.bounded in
+    bounded (sym code ∙ is)
+
+-- the text up to its point, the digits after it that are kept, and the zeros
+after_point : (text whole fraction kept zeros : List ℕ)
+    → sign_text (starts_with_minus text) ++ (whole ++ 46 ∷ fraction) ≡ text
+    → kept ++ zeros ≡ fraction
+    → (sign_text (starts_with_minus text) ++ (whole ++ 46 ∷ [])) ++ (kept ++ zeros) ≡ text
+after_point text whole fraction kept zeros joined parts =
+    let sign = sign_text (starts_with_minus text) in
+    ap (λ l. (sign ++ (whole ++ 46 ∷ [])) ++ l) parts
+    ∙ append_assoc sign (whole ++ 46 ∷ []) fraction
+    ∙ ap (λ l. sign ++ l) (append_assoc whole (46 ∷ []) fraction) ∙ joined
+
+-- a fault in the digits after a point
+pub fraction_fault : (text whole fraction kept : List ℕ) (e : NumberError)
+    → sign_text (starts_with_minus text) ++ (whole ++ 46 ∷ fraction) ≡ text
+    → AllDigits 10 whole → whole ≢ [] → TrimsEnd IsZeroCode fraction kept
+    → IsDigitFault (from_bool (starts_with_minus text) + length whole + 1) (digits_value 10 whole)
+    kept e
+    → IsDecimalFault text e
+fraction_fault text whole fraction kept Empty joined digits some trimmed fault = absurd fault
+fraction_fault text whole fraction kept (NotDigit p) joined digits some trimmed
+    (i, at, before, is) =
+    let minus = starts_with_minus text in
+    let front = sign_text minus ++ (whole ++ 46 ∷ []) in
+    let same = after_point text whole fraction kept trimmed.cut joined trimmed.joined in
+    let place : p ≡ length front + i =
+    omega (
+      arith,
+      at,
+      sign_length minus,
+      length-append (sign_text minus) (whole ++ 46 ∷ []),
+      length-append whole (46 ∷ []),
+    ) in
+    let code = code_is text front kept trimmed.cut i p same place before.inside in (
+      whole,
+      Some (take i kept),
+      comes_before text front kept trimmed.cut whole (Some (take i kept)) i p same place
+          before.inside (fraction_start minus whole (take i kept) some digits before.digits)
+          (omega (arith, before.fits, value_append 0 whole (take i kept))),
+      omega (arith, is, ap digit_value code),
+      λ point. none-some (take i kept) (sym point.1),
+    )
+fraction_fault text whole fraction kept (TooLarge p) joined digits some trimmed
+    (i, at, before, is, large) =
+    let minus = starts_with_minus text in
+    let front = sign_text minus ++ (whole ++ 46 ∷ []) in
+    let same = after_point text whole fraction kept trimmed.cut joined trimmed.joined in
+    let place : p ≡ length front + i =
+    omega (
+      arith,
+      at,
+      sign_length minus,
+      length-append (sign_text minus) (whole ++ 46 ∷ []),
+      length-append whole (46 ∷ []),
+    ) in
+    let code = code_is text front kept trimmed.cut i p same place before.inside in
+    let rest : drop p text ≡ drop i fraction =
+    ap (λ n. drop n text) place ∙ ap (λ l. drop (length front + i) l) (sym same)
+    ∙ drop-append-add front (kept ++ trimmed.cut) i ∙ ap (drop i) trimmed.joined in (
+      whole,
+      Some (take i kept),
+      comes_before text front kept trimmed.cut whole (Some (take i kept)) i p same place
+          before.inside (fraction_start minus whole (take i kept) some digits before.digits)
+          (omega (arith, before.fits, value_append 0 whole (take i kept))),
+      omega (arith, is, ap digit_value code),
+      subst (λ c. 2 ^ 64 ≤ digits_value 10 (whole ++ (take i kept ++ c ∷ []))) (sym code)
+          (subst (λ l. 2 ^ 64 ≤ digits_value 10 (whole ++ l)) (take_more kept i before.inside)
+          (omega (arith, large, value_append 0 whole (take (i + 1) kept)))),
+      λ dropped. not_dropped fraction kept i trimmed before.inside
+          (subst (All IsZeroCode) rest dropped.1),
+    )
+
+-- an error that is passed on
+pub fails_with : {T E : Type 0} (result : Result T E) (fault : E) (P : T → Type 0) (Q : E → Type 0)
+    → IsErrAnd result (λ e. e ≡ fault) → Q fault → MatchResult result P Q
+fails_with (Ok _) fault P Q is holds = absurd is
+fails_with (Err e) fault P Q is holds = subst Q (sym is) holds
+
+-- ---- numbers
+
+-- a text without a point
+pub writes_whole : (text whole : List ℕ) (n : ℕ)
+    → sign_text (starts_with_minus text) ++ whole ≡ text → whole ≢ []
+    → AllDigits 10 whole → n ≡ digits_value 10 whole → n < 2 ^ 64
+    → WritesDecimal text (record {
+      negative = starts_with_minus text;
+      digits = n;
+      places = 0;
+    })
+writes_whole text whole n joined some digits value fits = record {
+  whole = whole;
+  fraction = None;
+  kept = [];
+  parts = subst (StartsDecimal (starts_with_minus text) whole None) joined
+      (whole_start (starts_with_minus text) whole digits);
+  some = some;
+  after = tt;
+  trimmed = record { cut = []; joined = refl; within = All-nil IsZeroCode; bounded = tt };
+  digits = value ∙ ap (digits_value 10) (sym (append-nil whole));
+  fits = fits;
+  places = refl;
+}
+
+-- a text with a point
+pub writes_fraction : (text whole fraction kept : List ℕ) (n : ℕ)
+    → sign_text (starts_with_minus text) ++ (whole ++ 46 ∷ fraction) ≡ text
+    → AllDigits 10 whole → whole ≢ [] → fraction ≢ [] → TrimsEnd IsZeroCode fraction kept
+    → AllDigits 10 kept → n ≡ digits_value_after 10 (digits_value 10 whole) kept → n < 2 ^ 64
+    → WritesDecimal text (record {
+      negative = starts_with_minus text;
+      digits = n;
+      places = length kept;
+    })
+writes_fraction text whole fraction kept n joined digits some after trimmed more value fits =
+    record {
+      whole = whole;
+      fraction = Some fraction;
+      kept = kept;
+      parts = record {
+        joined = joined;
+        digits = digits_append whole fraction digits (subst (AllDigits 10) trimmed.joined
+            (digits_append kept trimmed.cut more (zeros_are_digits trimmed.cut trimmed.within)));
+        point = some;
+      };
+      some = some;
+      after = after;
+      trimmed = trimmed;
+      digits = value ∙ sym (value_append 0 whole kept);
+      fits = fits;
+      places = refl;
+    }

@@ -1,0 +1,150 @@
+//! Decimal numbers that a view writes, read without rounding.
+//!
+//! A decimal number is an optional `-`, one digit or more, and optionally a `.` and one digit or more. It is
+//! read into a `Decimal`, which has the digits as a whole number and how many of them come after the point.
+//! Zeros at the start and at the end of the fraction count for nothing, so there may be any number of them.
+//!
+//!     AsciiStr::literal("-12.50").to_decimal() // Ok(Decimal { negative: true, digits: 125, places: 1 })
+//!     AsciiStr::literal("7").to_decimal() // Ok(Decimal { negative: false, digits: 7, places: 0 })
+//!
+//! For whole numbers see the module `numbers`. Nothing here allocates.
+
+ghost use Rattle.std.specs.Prelude.{◌≡◌, ◌+◌, ◌^◌, ◌-◌, ◌≤◌, MatchResult, drop, length};
+ghost use Rattle.std.specs.Int.{from_bool};
+ghost use Rattle.std.specs.Str.Parse.{AllDigits, digits_value_after, starts_with_minus};
+ghost use Rattle.std.proofs.Common.{rules};
+ghost use Rattle.ascii.specs.Decimals.{IsDecimalFault, IsDigitFault, IsZeroCode, WritesDecimal};
+ghost use Rattle.ascii.specs.Trim.{TrimsEnd};
+ghost use Rattle.ascii.specs.View.{text_of};
+
+use crate::ascii_str::AsciiStr;
+use crate::numbers::{Number, NumberError};
+use ascii_base::ascii_char::AsciiChar;
+use ascii_base::classes::{ByRanges, Ranges};
+use ascii_base::range::AsciiRange;
+
+/// A decimal number: `digits / 10^places`, or the negative of it.
+///
+///     let price = Decimal { negative: false, digits: 995, places: 2 };
+///     AsciiStr::literal("9.95").to_decimal() == Ok(price) // true
+#[derive(Clone, Copy, PartialEq, Eq, Debug)]
+pub struct Decimal {
+    /// Whether a `-` comes before the digits. It may also come before 0.
+    pub negative: bool,
+    /// The number of all its digits, without the point.
+    pub digits: u64,
+    /// The number of digits after the point.
+    pub places: usize,
+}
+
+/// The ranges of `Zero`.
+struct ZeroRanges;
+
+const ZERO: [(u8, u8); 1] = [(b'0', b'0')];
+
+impl Ranges for ZeroRanges {
+    ghost use Rattle.ascii.specs.declared.decimals.TheConstants.{ZERO};
+
+    ghost set = { IsZeroCode };
+
+    ghost list = { ZERO };
+
+    ghost matches = { λ n. Prim.search rules };
+
+    fn ranges() -> &'static [(u8, u8)] {
+        &ZERO
+    }
+}
+
+/// The digit `0`.
+type Zero = ByRanges<ZeroRanges>;
+
+impl<'a> AsciiStr<'a> {
+    /// Returns the decimal number that the view writes, or an error with the first position at fault.
+    ///
+    /// A decimal number is an optional `-`, one digit or more, and optionally a `.` and one digit or
+    /// more. Zeros at the start count for nothing. Those at the end of the fraction are dropped, and
+    /// `places` is the number of the digits after the point that are left.
+    ///
+    /// The error is `Empty` if the view is empty or `-` alone. Otherwise the position is that of a
+    /// character that is not a digit, or of a point with no digit before it or nothing after it; or of
+    /// the digit with which the digits that count are more than a `u64` holds.
+    ///
+    ///     AsciiStr::literal("-12.50").to_decimal() // Ok(Decimal { negative: true, digits: 125, places: 1 })
+    ///     AsciiStr::literal("0.05").to_decimal() // Ok(Decimal { negative: false, digits: 5, places: 2 })
+    ///     AsciiStr::literal("2.000").to_decimal() // Ok(Decimal { negative: false, digits: 2, places: 0 })
+    ///     AsciiStr::literal("1e3").to_decimal() // Err(NotDigit(1))
+    ///     AsciiStr::literal("5.").to_decimal() // Err(NotDigit(1))
+    ///     AsciiStr::literal("18446744073709551616").to_decimal() // Err(TooLarge(19))
+    ///     AsciiStr::literal("-").to_decimal() // Err(Empty)
+    pub fn to_decimal(self) -> Result<Decimal, NumberError>
+        ensures { let text = text_of self.entry in
+            MatchResult result (WritesDecimal text) (IsDecimalFault text) }
+    {
+        let (negative, unsigned) = split_sign(self);
+        let start = usize::from(negative);
+        let Some((whole, fraction)) = unsigned.split_once(AsciiChar::Dot) else {
+            let digits = continue_number(0, unsigned, start)?;
+            if unsigned.is_empty() {
+                return Err(NumberError::Empty);
+            }
+            return Ok(Decimal {
+                negative,
+                digits,
+                places: 0,
+            });
+        };
+        let point = start + whole.len();
+        let number = continue_number(0, whole, start)?;
+        if whole.is_empty() || fraction.is_empty() {
+            return Err(NumberError::NotDigit(point));
+        }
+        let kept = without_zeros(fraction);
+        let digits = continue_number(number, kept, point + 1)?;
+        Ok(Decimal {
+            negative,
+            digits,
+            places: kept.len(),
+        })
+    }
+}
+
+/// Whether the view begins with `-`, and the view after it.
+fn split_sign(view: AsciiStr<'_>) -> (bool, AsciiStr<'_>)
+    ensures minus { result.0 ≡ starts_with_minus (text_of view.entry) }
+    ensures rest { let text = text_of view.entry in
+        text_of result.1 ≡ drop (from_bool (starts_with_minus text)) text }
+{
+    let negative = view.bytes.first() == Some(&b'-');
+    let start = usize::from(negative);
+    (negative, view.slice(AsciiRange::From(start)))
+}
+
+/// The view without the zeros at its end.
+fn without_zeros(digits: AsciiStr<'_>) -> AsciiStr<'_>
+    ensures { TrimsEnd IsZeroCode (text_of digits.entry) (text_of result) }
+{
+    digits.trim_end_matches::<Zero>()
+}
+
+/// The number that the digits write after those of `number`, or the first position at fault. The
+/// digits start at position `start`.
+#[inline]
+fn continue_number(number: u64, digits: AsciiStr<'_>, start: usize) -> Result<u64, NumberError>
+    requires { start + length (text_of digits) ≤ 2 ^ 64 - 1 }
+    ensures { let codes = text_of digits.entry in MatchResult result
+        (λ n. AllDigits 10 codes × (n ≡ digits_value_after 10 number codes))
+        (IsDigitFault start number codes) }
+{
+    let mut longer = number;
+    for at in 0..digits.len() {
+        let Some(digit) = char::from(digits.bytes[at]).to_digit(10) else {
+            return Err(NumberError::NotDigit(start + at));
+        };
+        let Some(appended) = longer.with_digit(false, 10, digit as u8) else {
+            return Err(NumberError::TooLarge(start + at));
+        };
+        longer = appended;
+    }
+    Ok(longer)
+}
