@@ -7,7 +7,7 @@ ghost use Rattle.example_head.specs.Head.{IsRequestLine};
 use ascii::classes::{Blank, Graphic, Token};
 use ascii::maps::FoldedMap;
 use ascii_lines::{AsciiChar, AsciiStr, OwnedLine};
-use std::alloc::{AllocError, Global};
+use std::alloc::Global;
 
 /// The parts of a request line. For `GET / HTTP/1.1` the minor version is 1.
 #[derive(Clone, Copy)]
@@ -24,16 +24,6 @@ pub enum HeaderError {
     NotHeader(usize),
     Twice(usize),
     Memory,
-}
-
-impl From<AllocError> for HeaderError {
-    ghost use Rattle.example_head.specs.declared.head.HeaderError.TheVariants.{Memory};
-
-    ghost from_gives = { λ _ error. error ≡ Memory };
-
-    fn from(_: AllocError) -> HeaderError {
-        HeaderError::Memory
-    }
 }
 
 /// Returns the parts of a request line, or `None` if the line is none.
@@ -70,11 +60,10 @@ pub fn read_headers<'a>(
         if name.is_empty() || !name.is_all::<Token>() {
             return Err(HeaderError::NotHeader(index));
         }
-        if headers
-            .insert(name, value.trim_matches::<Blank>())?
-            .is_some()
-        {
-            return Err(HeaderError::Twice(index));
+        match headers.insert(name, value.trim_matches::<Blank>()) {
+            Ok(None) => {}
+            Ok(Some(_)) => return Err(HeaderError::Twice(index)),
+            Err(_) => return Err(HeaderError::Memory),
         }
     }
     Ok(headers)

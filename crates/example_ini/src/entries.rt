@@ -7,7 +7,7 @@ ghost use Rattle.example_ini.specs.Entries.{ArePlacesIn, IsEntryOf, IsFaultOf, S
 
 use ascii::spanned::Spanned;
 use ascii::{AsciiChar, AsciiStr};
-use std::alloc::{AllocFailed, Global};
+use std::alloc::Global;
 use std::fmt;
 
 /// A setting: the section that it is in, its key and its value, each with its start in the text.
@@ -54,16 +54,6 @@ impl fmt::Display for What {
     }
 }
 
-impl<T: Drop> From<AllocFailed<T>> for IniError {
-    ghost use Rattle.example_ini.specs.declared.entries.IniError.TheVariants.{Memory};
-
-    ghost from_gives = { λ _ error. error ≡ Memory };
-
-    fn from(_: AllocFailed<T>) -> IniError {
-        IniError::Memory
-    }
-}
-
 /// Returns the entries of a text, in order. Each part is where it says.
 pub fn read_entries<'a>(alloc: Global, text: AsciiStr<'a>) -> Result<Vec<Entry<'a>>, IniError>
     ensures { IfOk result (λ entries. All (IsEntryOf (text_of text.entry)) entries.items) }
@@ -93,12 +83,15 @@ fn add_line<'a>(
         Parsed::Blank => Ok(section),
         Parsed::Section(name) => Ok(name),
         Parsed::Setting { key, value } => {
-            entries.push(Entry {
+            let entry = Entry {
                 section,
                 key,
                 value,
-            })?;
-            Ok(section)
+            };
+            match entries.push(entry) {
+                Ok(()) => Ok(section),
+                Err(_) => Err(IniError::Memory),
+            }
         }
     }
 }

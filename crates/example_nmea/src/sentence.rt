@@ -1,0 +1,126 @@
+//! The body of a sentence, its fields, and the position that a GGA sentence reports.
+
+ghost use Rattle.std.specs.Prelude.{◌≡◌, IfOk, IfSome, Some, slice_get};
+ghost use Rattle.ascii.specs.Pieces.{OfPieces};
+ghost use Rattle.ascii.specs.View.{text_of};
+ghost use Rattle.example_nmea.specs.Sentence.{HasDecimal, HasSum, IsSentence, ReportsFix, xor_of};
+
+use ascii::decimals::Decimal;
+use ascii::{AsciiChar, AsciiStr};
+use std::fmt;
+
+/// Why a line has no position.
+#[derive(Clone, Copy, PartialEq, Eq, Debug)]
+pub enum FixError {
+    /// The line does not start with `$`, or does not end in `*` and two hexadecimal digits.
+    NoSentence,
+    /// The line says another checksum than this.
+    WrongChecksum(u8),
+    /// The sentence is not a GGA sentence.
+    OtherSentence,
+    /// The field at this index, counted from 0, is at fault.
+    Field(usize),
+}
+
+impl fmt::Display for FixError {
+    fn fmt<W: fmt::Write>(&self, f: &mut fmt::Formatter<W>) -> fmt::Result {
+        match *self {
+            FixError::NoSentence => f.write_str("not a sentence"),
+            FixError::WrongChecksum(sum) => write!(f, "the checksum is {sum:02X}"),
+            FixError::OtherSentence => f.write_str("not a GGA sentence"),
+            FixError::Field(index) => write!(f, "field {index} is at fault"),
+        }
+    }
+}
+
+/// A position.
+#[derive(Clone, Copy)]
+pub struct Fix {
+    pub latitude: Decimal,
+    pub north: bool,
+    pub longitude: Decimal,
+    pub east: bool,
+    pub quality: u8,
+    pub altitude: Decimal,
+}
+
+/// Returns the position of a GGA sentence.
+pub fn read_fix(line: AsciiStr<'_>) -> Result<Fix, FixError>
+    ensures { IfOk result (ReportsFix (text_of line.entry)) }
+{
+    let body = checked_body(line)?;
+    if !field(body, 0)?.ends_with(AsciiStr::literal("GGA")) {
+        return Err(FixError::OtherSentence);
+    }
+    Ok(Fix {
+        latitude: decimal_in(body, 2)?,
+        north: letter_in(body, 3, "N", "S")?,
+        longitude: decimal_in(body, 4)?,
+        east: letter_in(body, 5, "E", "W")?,
+        quality: field(body, 6)?
+            .to_number::<u8>()
+            .map_err(|_| FixError::Field(6))?,
+        altitude: decimal_in(body, 9)?,
+    })
+}
+
+/// Returns the text between `$` and `*hh`, if `hh` is its checksum.
+fn checked_body<'a>(line: AsciiStr<'a>) -> Result<AsciiStr<'a>, FixError>
+    ensures { IfOk result (λ body. IsSentence (text_of line.entry) (text_of body)) }
+{
+    let Some((body, sum)) = body_and_sum(line) else {
+        return Err(FixError::NoSentence);
+    };
+    if sum != checksum(body) {
+        return Err(FixError::WrongChecksum(checksum(body)));
+    }
+    Ok(body)
+}
+
+/// Returns the text between `$` and `*`, and the byte that the two hexadecimal digits after it write.
+fn body_and_sum<'a>(line: AsciiStr<'a>) -> Option<(AsciiStr<'a>, u8)>
+    ensures { IfSome result (λ it. HasSum (text_of line.entry) (text_of it.0) it.1) }
+{
+    let rest = line.strip_prefix(AsciiStr::literal("$"))?;
+    let (body, digits) = rest.rsplit_once(AsciiChar::Asterisk)?;
+    if digits.len() != 2 {
+        return None;
+    }
+    Some((body, digits.to_number_radix::<u8>(16).ok()?))
+}
+
+/// Returns the exclusive or of the codes.
+fn checksum(body: AsciiStr<'_>) -> u8
+    ensures { result ≡ xor_of (text_of body.entry) }
+{
+    body.as_bytes().iter().fold(0, |sum, byte| sum ^ *byte)
+}
+
+/// Returns the field at the index, counted from 0.
+fn field<'a>(body: AsciiStr<'a>, index: usize) -> Result<AsciiStr<'a>, FixError>
+    ensures { OfPieces body.entry AsciiChar.Comma
+        (λ pieces. IfOk result (λ field. slice_get pieces index ≡ Some (text_of field))) }
+{
+    match body.split(AsciiChar::Comma).nth(index) {
+        Some(field) => Ok(field),
+        None => Err(FixError::Field(index)),
+    }
+}
+
+/// Returns the number in a field.
+fn decimal_in(body: AsciiStr<'_>, index: usize) -> Result<Decimal, FixError>
+    ensures { IfOk result (HasDecimal (text_of body.entry) index) }
+{
+    field(body, index)?
+        .to_decimal()
+        .map_err(|_| FixError::Field(index))
+}
+
+/// Returns whether a field has the first of two letters.
+fn letter_in(body: AsciiStr<'_>, index: usize, yes: &str, no: &str) -> Result<bool, FixError> {
+    match field(body, index)? {
+        letter if letter.eq_str(yes) => Ok(true),
+        letter if letter.eq_str(no) => Ok(false),
+        _ => Err(FixError::Field(index)),
+    }
+}
