@@ -3,7 +3,7 @@ use Rattle.std.proofs.Common.{◌≡◌, ◌≢◌, ◌⊎◌, ℕ, zero, suc, �
 use Rattle.std.proofs.Common.{◌++◌, All, Bool, Contains, None, Option, Some, drop, false}
 use Rattle.std.proofs.Common.{get_or, length, take, true}
 use Rattle.std.proofs.Common.{lit≤, append_assoc, append-nil, ap, arith, inl, inr, length-append, length-drop, refl}
-use Rattle.std.proofs.Common.{subst, sym, ⊎_elim, ◌∙◌, eq-eqb, ne_eqb, get_or-append-add, get_or-drop}
+use Rattle.std.proofs.Common.{pow-suc, subst, sym, ⊎_elim, ◌∙◌, eq-eqb, ne_eqb, get_or-append-add, get_or-drop}
 use Rattle.std.proofs.Math.ListN.{get_or-append}
 use Rattle.std.proofs.Math.Seq.{drop-append-add, take-append-add, take-suc}
 use Rattle.std.proofs.lemmas.Bool.{cases_eq}
@@ -15,7 +15,12 @@ use Rattle.std.specs.Char.{digit_value}
 use Rattle.std.specs.Int.{from_bool}
 use Rattle.std.specs.Str.Parse.{AllDigits, digits_value, digits_value_after, starts_with_minus}
 use Rattle.ascii.specs.Decimals.{ComesBefore, IsDecimalFault, IsDigitFault, IsZeroCode}
-use Rattle.ascii.specs.Decimals.{StartsDecimal, WritesDecimal, point_digits, sign_text}
+use Rattle.ascii.specs.Decimals.{StartsDecimal, WritesDecimal, decimal_text, point_digits, sign_text}
+use Rattle.ascii.specs.declared.decimals.Decimal.{Decimal}
+use Rattle.std.proofs.Common.{◌/◌, ◌%◌, replicate}
+use Rattle.std.specs.Prelude.{decimal}
+use Rattle.std.below.core.specs.declared.fmt.formatter.FormatSpec.{FormatSpec}
+use Rattle.std.specs.Fmt.{char_count, format_spec, padded_integral, styled_decimal}
 use Rattle.ascii.specs.declared.numbers.NumberError.{NumberError}
 use Rattle.ascii.specs.declared.numbers.NumberError.TheVariants.{Empty, NotDigit, TooLarge}
 use Rattle.ascii.specs.Trim.{TrimsEnd}
@@ -365,3 +370,33 @@ writes_fraction text whole fraction kept n joined digits some after trimmed more
       fits = fits;
       places = refl;
     }
+
+-- ---- output
+
+-- ten to the number of 20 places or more is more than a `u64` holds
+pub many_places : (k : ℕ) → 2 ^ 64 ≤ 10 ^ (k + 20)
+many_places zero = lit≤ tt
+many_places (suc k) =
+    let next : suc k + 20 ≡ suc (k + 20) = omega arith in
+    omega (arith, many_places k, ap (λ n. 10 ^ n) next, pow-suc 10 (k + 20))
+
+-- what `{:0places$}` writes of a number
+filled : (places n : ℕ) → places ≢ 0
+    → styled_decimal (format_spec 32 0 4 places (2 ^ 64 - 1)) n
+    ≡ replicate (places - length (decimal n)) 48 ++ decimal n
+unfolding padded_integral char_count
+filled places n some =
+    let padding : places - length (decimal n) - 0 - 0 ≡ places - length (decimal n) = omega arith in
+    rw (ne_eqb places 0 some)
+    (ap (λ k. replicate k 48 ++ (decimal n ++ [])) padding
+    ∙ ap (λ l. replicate (places - length (decimal n)) 48 ++ l) (append-nil (decimal n)))
+
+-- the parts that are written are the output
+pub output_is : (d : Decimal) (sign : List ℕ) (whole fraction : ℕ) (spec : FormatSpec)
+    → sign ≡ sign_text d.negative → whole ≡ d.digits / 10 ^ d.places
+    → fraction ≡ d.digits % 10 ^ d.places
+    → spec ≡ format_spec 32 0 4 d.places (2 ^ 64 - 1) → d.places ≢ 0
+    → sign ++ (decimal whole ++ 46 ∷ styled_decimal spec fraction) ≡ decimal_text d
+output_is d sign whole fraction spec minus front back options some =
+    let shown = ap (λ s. styled_decimal s fraction) options ∙ filled d.places fraction some in
+    rw (ne_eqb d.places 0 some, minus, front, shown, back) refl

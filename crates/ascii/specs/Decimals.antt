@@ -4,7 +4,7 @@
 -- is less than 10.
 use Rattle.std.specs.Prelude.{◌≡◌, ◌≢◌, ℕ, ◌+◌, ◌^◌, ◌<◌, ◌≤◌, List, [], ◌∷◌, ◌++◌, All, Bool}
 use Rattle.std.specs.Prelude.{IfSome, None, Option, Some, codes, cond, drop, length, slice_index}
-use Rattle.std.specs.Prelude.{take}
+use Rattle.std.specs.Prelude.{take, ◌-◌, ◌/◌, ◌%◌, ◌==◌, decimal, replicate}
 use Rattle.std.specs.Char.{digit_value}
 use Rattle.std.specs.Int.{from_bool}
 use Rattle.std.specs.Str.Parse.{AllDigits, digits_value, digits_value_after, starts_with_minus}
@@ -86,6 +86,17 @@ IsDecimalFault text (TooLarge p) = (whole : List ℕ) × (fraction : Option (Lis
     × (digit_value (slice_index text p) < 10)
     × (2 ^ 64 ≤ digits_value 10 (whole ++ (point_digits fraction ++ slice_index text p ∷ [])))
     × ¬ (IsDropped fraction text p)
+
+-- the point and the fraction of `digits / 10 ^ places`, in as many digits as there are places
+abbrev pub fraction_text : ℕ → ℕ → List ℕ
+fraction_text digits places =
+    let fraction = decimal (digits % 10 ^ places) in
+    cond (places == 0) [] (46 ∷ (replicate (places - length fraction) 48 ++ fraction))
+
+-- the output of a decimal number: its sign, the digits before the point, and the fraction
+abbrev pub decimal_text : Decimal → List ℕ
+decimal_text d =
+    sign_text d.negative ++ (decimal (d.digits / 10 ^ d.places) ++ fraction_text d.digits d.places)
 
 -- ---- only private calls cite the following
 

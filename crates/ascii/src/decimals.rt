@@ -9,11 +9,12 @@
 //!
 //! For whole numbers see the module `numbers`. Nothing here allocates.
 
-ghost use Rattle.std.specs.Prelude.{◌≡◌, ◌+◌, ◌^◌, ◌-◌, ◌≤◌, MatchResult, drop, length};
+ghost use Rattle.std.specs.Prelude.{◌≡◌, ◌+◌, ◌^◌, ◌-◌, ◌/◌, ◌%◌, ◌≤◌, MatchResult, Some, drop, length};
 ghost use Rattle.std.specs.Int.{from_bool};
 ghost use Rattle.std.specs.Str.Parse.{AllDigits, digits_value_after, starts_with_minus};
 ghost use Rattle.std.proofs.Common.{rules};
 ghost use Rattle.ascii.specs.Decimals.{IsDecimalFault, IsDigitFault, IsZeroCode, WritesDecimal};
+ghost use Rattle.ascii.specs.Decimals.{decimal_text};
 ghost use Rattle.ascii.specs.Trim.{TrimsEnd};
 ghost use Rattle.ascii.specs.View.{text_of};
 
@@ -22,6 +23,7 @@ use crate::numbers::{Number, NumberError};
 use ascii_base::ascii_char::AsciiChar;
 use ascii_base::classes::{ByRanges, Ranges};
 use ascii_base::range::AsciiRange;
+use std::fmt;
 
 /// A decimal number: `digits / 10^places`, or the negative of it.
 ///
@@ -35,6 +37,42 @@ pub struct Decimal {
     pub digits: u64,
     /// The number of digits after the point.
     pub places: usize,
+}
+
+impl Decimal {
+    /// The digits before the point and those after it, as two numbers.
+    fn parts(self) -> (u64, u64)
+        ensures whole { result.0 ≡ self.digits / 10 ^ self.places }
+        ensures fraction { result.1 ≡ self.digits % 10 ^ self.places }
+    {
+        if self.places < 20 {
+            let scale = 10u64.pow(self.places as u32);
+            (self.digits / scale, self.digits % scale)
+        } else {
+            (0, self.digits)
+        }
+    }
+}
+
+impl fmt::Display for Decimal {
+    ghost output = { λ d. Some (decimal_text d) };
+
+    /// Writes the number: a `-` if it is negative, the digits before the point, at least one, and
+    /// after a point as many digits as it has places. If it has none, no point is written.
+    ///
+    ///     Decimal { negative: true, digits: 125, places: 1 }.to_string(alloc)? // "-12.5"
+    ///     Decimal { negative: false, digits: 5, places: 2 }.to_string(alloc)? // "0.05"
+    ///     Decimal { negative: false, digits: 7, places: 0 }.to_string(alloc)? // "7"
+    fn fmt<W: fmt::Write>(&self, f: &mut fmt::Formatter<W>) -> fmt::Result {
+        let sign = if self.negative { "-" } else { "" };
+        let (whole, fraction) = self.parts();
+        let places = self.places;
+        if places == 0 {
+            write!(f, "{sign}{whole}")
+        } else {
+            write!(f, "{sign}{whole}.{fraction:0places$}")
+        }
+    }
 }
 
 /// The ranges of `Zero`.

@@ -7,6 +7,7 @@ mod both_ends;
 mod by_class;
 mod chunks;
 mod clones;
+mod decimals;
 mod folded;
 mod joins;
 mod json;
