@@ -19,7 +19,7 @@ fn main(rt: HostRuntime) -> io::Result<()> {
     for line in view.lines() {
         match read_fix(line) {
             Ok(fix) => println!(rt;
-                "{:?}{} {:?}{} at {:?} m, quality {}",
+                "{}{} {}{} at {} m, quality {}",
                 fix.latitude,
                 if fix.north { 'N' } else { 'S' },
                 fix.longitude,
