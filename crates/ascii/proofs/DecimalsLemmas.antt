@@ -1,26 +1,27 @@
 -- The parts of a decimal number, and the faults in them.
-use Rattle.std.proofs.Common.{◌≡◌, ◌≢◌, ◌⊎◌, ℕ, zero, suc, ◌+◌, ◌-◌, ◌*◌, ◌^◌, ◌<◌, ◌≤◌, List, [], ◌∷◌}
-use Rattle.std.proofs.Common.{◌++◌, All, Bool, Contains, None, Option, Some, drop, false}
-use Rattle.std.proofs.Common.{get_or, length, take, true}
-use Rattle.std.proofs.Common.{lit≤, append_assoc, append-nil, ap, arith, inl, inr, length-append, length-drop, refl}
-use Rattle.std.proofs.Common.{pow-suc, subst, sym, ⊎_elim, ◌∙◌, eq-eqb, ne_eqb, get_or-append-add, get_or-drop}
+use Rattle.std.proofs.Common.{◌≡◌, ◌≢◌, ◌⊎◌, ℕ, zero, suc, ◌+◌, ◌-◌, ◌*◌, ◌/◌, ◌%◌, ◌^◌, ◌<◌, ◌≤◌}
+use Rattle.std.proofs.Common.{List, [], ◌∷◌, ◌++◌, All, Bool, Contains, None, Option, Some, drop}
+use Rattle.std.proofs.Common.{false, get_or, inl, inr, length, replicate, take, true}
+use Rattle.std.proofs.Common.{ap, ap₂, append_assoc, append-nil, arith, length-append, length-drop}
+use Rattle.std.proofs.Common.{lit≤, pow-suc, refl, subst, sym, ⊎_elim, ◌∙◌, eq-eqb, ne_eqb}
+use Rattle.std.proofs.Common.{get_or-append-add, get_or-drop}
 use Rattle.std.proofs.Math.ListN.{get_or-append}
-use Rattle.std.proofs.Math.Seq.{drop-append-add, take-append-add, take-suc}
-use Rattle.std.proofs.lemmas.Bool.{cases_eq}
-use Rattle.std.proofs.lemmas.List.{take-append-le}
+use Rattle.std.proofs.Math.Seq.{drop-append-add, drop-append_seam, take-append-add, take-append_seam}
+use Rattle.std.proofs.Math.Seq.{take-suc}
+use Rattle.std.proofs.lemmas.Bool.{cases_eq, cases_lt}
+use Rattle.std.proofs.lemmas.List.{append_cancel_left, take-append-le}
 use Rattle.std.proofs.lemmas.List.Elements.{All-get_or, All-head, All-nil, All-tail}
 use Rattle.std.proofs.lemmas.Option.{none-some, slice_get-get_or}
-use Rattle.std.specs.Prelude.{Err, IfSome, IsErrAnd, MatchResult, Ok, Result}
+use Rattle.std.below.core.specs.declared.fmt.formatter.FormatSpec.{FormatSpec}
+use Rattle.std.specs.Prelude.{Err, IfSome, IsErrAnd, MatchResult, Ok, Result, decimal}
 use Rattle.std.specs.Char.{digit_value}
+use Rattle.std.specs.Fmt.{char_count, format_spec, padded_integral, styled_decimal}
 use Rattle.std.specs.Int.{from_bool}
 use Rattle.std.specs.Str.Parse.{AllDigits, digits_value, digits_value_after, starts_with_minus}
 use Rattle.ascii.specs.Decimals.{ComesBefore, IsDecimalFault, IsDigitFault, IsZeroCode}
-use Rattle.ascii.specs.Decimals.{StartsDecimal, WritesDecimal, decimal_text, point_digits, sign_text}
+use Rattle.ascii.specs.Decimals.{StartsDecimal, WritesDecimal, decimal_text, point_digits, point_text}
+use Rattle.ascii.specs.Decimals.{sign_text}
 use Rattle.ascii.specs.declared.decimals.Decimal.{Decimal}
-use Rattle.std.proofs.Common.{◌/◌, ◌%◌, replicate}
-use Rattle.std.specs.Prelude.{decimal}
-use Rattle.std.below.core.specs.declared.fmt.formatter.FormatSpec.{FormatSpec}
-use Rattle.std.specs.Fmt.{char_count, format_spec, padded_integral, styled_decimal}
 use Rattle.ascii.specs.declared.numbers.NumberError.{NumberError}
 use Rattle.ascii.specs.declared.numbers.NumberError.TheVariants.{Empty, NotDigit, TooLarge}
 use Rattle.ascii.specs.Trim.{TrimsEnd}
@@ -370,6 +371,96 @@ writes_fraction text whole fraction kept n joined digits some after trimmed more
       fits = fits;
       places = refl;
     }
+
+-- ---- the only number
+
+-- the sign of a text is that of the parts that join to it
+sign_is : (minus : Bool) (whole : List ℕ) (fraction : Option (List ℕ)) (text : List ℕ)
+    → StartsDecimal minus whole fraction text → whole ≢ [] → starts_with_minus text ≡ minus
+sign_is true whole fraction text parts some = ap starts_with_minus (sym parts.joined)
+sign_is false [] fraction text parts some = absurd (some refl)
+sign_is false (digit ∷ digits) fraction text parts some =
+    ap starts_with_minus (sym parts.joined)
+    ∙ ne_eqb digit 45 (λ minus. omega (arith, parts.digits.0, ap digit_value minus))
+
+-- digits before a point or the end are all digits up to there
+same_parts : (whole other : List ℕ) (fraction last : Option (List ℕ)) → AllDigits 10 whole
+    → AllDigits 10 other → whole ++ point_text fraction ≡ other ++ point_text last
+    → (whole ≡ other) × (point_text fraction ≡ point_text last)
+same_parts [] [] fraction last digits others joined = (refl, joined)
+same_parts [] (digit ∷ more) None last digits others joined = absurd (omega (arith, ap length joined))
+same_parts [] (digit ∷ more) (Some f) last digits others joined =
+    let point = ap (λ l. get_or l 0 0) joined in
+    absurd (omega (arith, others.0, ap digit_value point))
+same_parts (digit ∷ more) [] fraction None digits others joined =
+    absurd (omega (arith, ap length joined))
+same_parts (digit ∷ more) [] fraction (Some f) digits others joined =
+    let point = ap (λ l. get_or l 0 0) joined in
+    absurd (omega (arith, digits.0, ap digit_value point))
+same_parts (digit ∷ more) (other ∷ others) fraction last first then joined =
+    let rest = same_parts more others fraction last first.1 then.1 (ap (drop 1) joined) in
+    (ap₂ (λ c l. c ∷ l) (ap (λ l. get_or l 0 0) joined) rest.0, rest.1)
+
+-- the digits after a point are those after the first code
+digits_after : (fraction : Option (List ℕ)) → drop 1 (point_text fraction) ≡ point_digits fraction
+digits_after None = refl
+digits_after (Some digits) = refl
+
+-- the first digits of a text of parts
+first_digits : (whole more : List ℕ) → AllDigits 10 (whole ++ more) → AllDigits 10 whole
+first_digits [] more digits = tt
+first_digits (digit ∷ others) more digits = (digits.0, first_digits others more digits.1)
+
+-- one of two texts without their zeros at the end is not shorter than the other
+not_shorter : (digits kept other : List ℕ) → TrimsEnd IsZeroCode digits kept
+    → TrimsEnd IsZeroCode digits other → length other ≤ length kept
+not_shorter digits kept other trimmed trims = ⊎_elim
+    (λ shorter. absurd (not_dropped digits other (length kept) trims shorter
+    (subst (All IsZeroCode) (sym (ap (drop (length kept)) (sym trimmed.joined)
+    ∙ drop-append_seam kept trimmed.cut)) trimmed.within)))
+    (λ order. order) (cases_lt (length kept) (length other))
+
+-- there is one text without the zeros at the end
+one_trimmed : (digits kept other : List ℕ) → TrimsEnd IsZeroCode digits kept
+    → TrimsEnd IsZeroCode digits other → kept ≡ other
+one_trimmed digits kept other trimmed trims =
+    let same : length kept ≡ length other = omega (
+      arith,
+      not_shorter digits kept other trimmed trims,
+      not_shorter digits other kept trims trimmed,
+    ) in
+    sym (take-append_seam kept trimmed.cut) ∙ ap (take (length kept)) (trimmed.joined ∙ sym trims.joined)
+    ∙ ap (λ n. take n (other ++ trims.cut)) same ∙ take-append_seam other trims.cut
+
+-- numbers with the same parts are the same
+same_decimal : (d e : Decimal) → d.negative ≡ e.negative → d.digits ≡ e.digits
+    → d.places ≡ e.places → d ≡ e
+same_decimal d e minus digits places =
+    ap (λ m. record { negative = m; digits = d.digits; places = d.places }) minus
+    ∙ ap (λ n. record { negative = e.negative; digits = n; places = d.places }) digits
+    ∙ ap (λ n. record { negative = e.negative; digits = e.digits; places = n }) places
+
+-- a text writes one decimal number at most
+pub one_decimal : (text : List ℕ) (d e : Decimal) → WritesDecimal text d → WritesDecimal text e
+    → d ≡ e
+one_decimal text d e one other =
+    let minus : d.negative ≡ e.negative =
+    sym (sign_is d.negative one.whole one.fraction text one.parts one.some)
+    ∙ sign_is e.negative other.whole other.fraction text other.parts other.some in
+    let joined = append_cancel_left (sign_text d.negative) (one.whole ++ point_text one.fraction)
+    (other.whole ++ point_text other.fraction) (one.parts.joined ∙ sym other.parts.joined
+    ∙ ap (λ m. sign_text m ++ (other.whole ++ point_text other.fraction)) (sym minus)) in
+    let parts = same_parts one.whole other.whole one.fraction other.fraction
+    (first_digits one.whole (point_digits one.fraction) one.parts.digits)
+    (first_digits other.whole (point_digits other.fraction) other.parts.digits) joined in
+    let after = sym (digits_after one.fraction) ∙ ap (drop 1) parts.1
+    ∙ digits_after other.fraction in
+    let kept = one_trimmed (point_digits one.fraction) one.kept other.kept one.trimmed
+    (subst (λ l. TrimsEnd IsZeroCode l other.kept) (sym after) other.trimmed) in
+    let digits : d.digits ≡ e.digits =
+    one.digits ∙ ap₂ (λ w k. digits_value 10 (w ++ k)) parts.0 kept ∙ sym other.digits in
+    let places : d.places ≡ e.places = one.places ∙ ap length kept ∙ sym other.places in
+    same_decimal d e minus digits places
 
 -- ---- output
 
