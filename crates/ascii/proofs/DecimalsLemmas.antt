@@ -1,26 +1,28 @@
 -- The parts of a decimal number, and the faults in them.
-use Rattle.std.proofs.Common.{◌≡◌, ◌≢◌, ◌⊎◌, ℕ, zero, suc, ◌+◌, ◌-◌, ◌*◌, ◌^◌, ◌<◌, ◌≤◌, List, [], ◌∷◌}
-use Rattle.std.proofs.Common.{◌++◌, All, Bool, Contains, None, Option, Some, drop, false}
-use Rattle.std.proofs.Common.{get_or, length, take, true}
-use Rattle.std.proofs.Common.{lit≤, append_assoc, append-nil, ap, arith, inl, inr, length-append, length-drop, refl}
-use Rattle.std.proofs.Common.{pow-suc, subst, sym, ⊎_elim, ◌∙◌, eq-eqb, ne_eqb, get_or-append-add, get_or-drop}
+use Rattle.std.proofs.Common.{◌≡◌, ◌≢◌, ◌⊎◌, ℕ, zero, suc, ◌+◌, ◌-◌, ◌*◌, ◌/◌, ◌%◌, ◌^◌, ◌<◌, ◌≤◌}
+use Rattle.std.proofs.Common.{List, [], ◌∷◌, ◌++◌, All, Bool, Contains, None, Option, Some, drop}
+use Rattle.std.proofs.Common.{false, get_or, inl, inr, length, replicate, take, true}
+use Rattle.std.proofs.Common.{ap, ap₂, append_assoc, append-nil, arith, length-append, length-drop}
+use Rattle.std.proofs.Common.{lit≤, pow-suc, refl, subst, sym, ⊎_elim, ◌∙◌, eq-eqb, ne_eqb}
+use Rattle.std.proofs.Common.{drop-cons, get_or-append-add, get_or-drop, take-append-drop}
 use Rattle.std.proofs.Math.ListN.{get_or-append}
-use Rattle.std.proofs.Math.Seq.{drop-append-add, take-append-add, take-suc}
-use Rattle.std.proofs.lemmas.Bool.{cases_eq}
-use Rattle.std.proofs.lemmas.List.{take-append-le}
+use Rattle.std.proofs.Math.Seq.{drop-append-add, drop-append_seam, take-append-add, take-append_seam}
+use Rattle.std.proofs.Math.Seq.{take-suc}
+use Rattle.std.proofs.lemmas.Bool.{cases_eq, cases_lt}
+use Rattle.std.proofs.lemmas.Str.Parse.{digits_value-take-le}
+use Rattle.std.proofs.lemmas.List.{append_cancel_left, take-append-le}
 use Rattle.std.proofs.lemmas.List.Elements.{All-get_or, All-head, All-nil, All-tail}
 use Rattle.std.proofs.lemmas.Option.{none-some, slice_get-get_or}
-use Rattle.std.specs.Prelude.{Err, IfSome, IsErrAnd, MatchResult, Ok, Result}
+use Rattle.std.below.core.specs.declared.fmt.formatter.FormatSpec.{FormatSpec}
+use Rattle.std.specs.Prelude.{Err, IfSome, IsErrAnd, MatchResult, Ok, Result, decimal, slice_index}
 use Rattle.std.specs.Char.{digit_value}
+use Rattle.std.specs.Fmt.{char_count, format_spec, padded_integral, styled_decimal}
 use Rattle.std.specs.Int.{from_bool}
 use Rattle.std.specs.Str.Parse.{AllDigits, digits_value, digits_value_after, starts_with_minus}
 use Rattle.ascii.specs.Decimals.{ComesBefore, IsDecimalFault, IsDigitFault, IsZeroCode}
-use Rattle.ascii.specs.Decimals.{StartsDecimal, WritesDecimal, decimal_text, point_digits, sign_text}
+use Rattle.ascii.specs.Decimals.{StartsDecimal, WritesDecimal, decimal_text, point_digits, point_text}
+use Rattle.ascii.specs.Decimals.{sign_text}
 use Rattle.ascii.specs.declared.decimals.Decimal.{Decimal}
-use Rattle.std.proofs.Common.{◌/◌, ◌%◌, replicate}
-use Rattle.std.specs.Prelude.{decimal}
-use Rattle.std.below.core.specs.declared.fmt.formatter.FormatSpec.{FormatSpec}
-use Rattle.std.specs.Fmt.{char_count, format_spec, padded_integral, styled_decimal}
 use Rattle.ascii.specs.declared.numbers.NumberError.{NumberError}
 use Rattle.ascii.specs.declared.numbers.NumberError.TheVariants.{Empty, NotDigit, TooLarge}
 use Rattle.ascii.specs.Trim.{TrimsEnd}
@@ -370,6 +372,294 @@ writes_fraction text whole fraction kept n joined digits some after trimmed more
       fits = fits;
       places = refl;
     }
+
+-- ---- the only number
+
+-- the sign of a text is that of the parts that join to it
+sign_is : (minus : Bool) (whole : List ℕ) (fraction : Option (List ℕ)) (text : List ℕ)
+    → StartsDecimal minus whole fraction text → whole ≢ [] → starts_with_minus text ≡ minus
+sign_is true whole fraction text parts some = ap starts_with_minus (sym parts.joined)
+sign_is false [] fraction text parts some = absurd (some refl)
+sign_is false (digit ∷ digits) fraction text parts some =
+    ap starts_with_minus (sym parts.joined)
+    ∙ ne_eqb digit 45 (λ minus. omega (arith, parts.digits.0, ap digit_value minus))
+
+-- digits before a point or the end are all digits up to there
+same_parts : (whole other : List ℕ) (fraction last : Option (List ℕ)) → AllDigits 10 whole
+    → AllDigits 10 other → whole ++ point_text fraction ≡ other ++ point_text last
+    → (whole ≡ other) × (point_text fraction ≡ point_text last)
+same_parts [] [] fraction last digits others joined = (refl, joined)
+same_parts [] (digit ∷ more) None last digits others joined = absurd (omega (arith, ap length joined))
+same_parts [] (digit ∷ more) (Some f) last digits others joined =
+    let point = ap (λ l. get_or l 0 0) joined in
+    absurd (omega (arith, others.0, ap digit_value point))
+same_parts (digit ∷ more) [] fraction None digits others joined =
+    absurd (omega (arith, ap length joined))
+same_parts (digit ∷ more) [] fraction (Some f) digits others joined =
+    let point = ap (λ l. get_or l 0 0) joined in
+    absurd (omega (arith, digits.0, ap digit_value point))
+same_parts (digit ∷ more) (other ∷ others) fraction last first then joined =
+    let rest = same_parts more others fraction last first.1 then.1 (ap (drop 1) joined) in
+    (ap₂ (λ c l. c ∷ l) (ap (λ l. get_or l 0 0) joined) rest.0, rest.1)
+
+-- the digits after a point are those after the first code
+digits_after : (fraction : Option (List ℕ)) → drop 1 (point_text fraction) ≡ point_digits fraction
+digits_after None = refl
+digits_after (Some digits) = refl
+
+-- the first digits of a text of parts
+first_digits : (whole more : List ℕ) → AllDigits 10 (whole ++ more) → AllDigits 10 whole
+first_digits [] more digits = tt
+first_digits (digit ∷ others) more digits = (digits.0, first_digits others more digits.1)
+
+-- one of two texts without their zeros at the end is not shorter than the other
+not_shorter : (digits kept other : List ℕ) → TrimsEnd IsZeroCode digits kept
+    → TrimsEnd IsZeroCode digits other → length other ≤ length kept
+not_shorter digits kept other trimmed trims = ⊎_elim
+    (λ shorter. absurd (not_dropped digits other (length kept) trims shorter
+    (subst (All IsZeroCode) (sym (ap (drop (length kept)) (sym trimmed.joined)
+    ∙ drop-append_seam kept trimmed.cut)) trimmed.within)))
+    (λ order. order) (cases_lt (length kept) (length other))
+
+-- there is one text without the zeros at the end
+one_trimmed : (digits kept other : List ℕ) → TrimsEnd IsZeroCode digits kept
+    → TrimsEnd IsZeroCode digits other → kept ≡ other
+one_trimmed digits kept other trimmed trims =
+    let same : length kept ≡ length other = omega (
+      arith,
+      not_shorter digits kept other trimmed trims,
+      not_shorter digits other kept trims trimmed,
+    ) in
+    sym (take-append_seam kept trimmed.cut) ∙ ap (take (length kept)) (trimmed.joined ∙ sym trims.joined)
+    ∙ ap (λ n. take n (other ++ trims.cut)) same ∙ take-append_seam other trims.cut
+
+-- numbers with the same parts are the same
+same_decimal : (d e : Decimal) → d.negative ≡ e.negative → d.digits ≡ e.digits
+    → d.places ≡ e.places → d ≡ e
+same_decimal d e minus digits places =
+    ap (λ m. record { negative = m; digits = d.digits; places = d.places }) minus
+    ∙ ap (λ n. record { negative = e.negative; digits = n; places = d.places }) digits
+    ∙ ap (λ n. record { negative = e.negative; digits = e.digits; places = n }) places
+
+-- a text writes one decimal number at most
+pub one_decimal : (text : List ℕ) (d e : Decimal) → WritesDecimal text d → WritesDecimal text e
+    → d ≡ e
+one_decimal text d e one other =
+    let minus : d.negative ≡ e.negative =
+    sym (sign_is d.negative one.whole one.fraction text one.parts one.some)
+    ∙ sign_is e.negative other.whole other.fraction text other.parts other.some in
+    let joined = append_cancel_left (sign_text d.negative) (one.whole ++ point_text one.fraction)
+    (other.whole ++ point_text other.fraction) (one.parts.joined ∙ sym other.parts.joined
+    ∙ ap (λ m. sign_text m ++ (other.whole ++ point_text other.fraction)) (sym minus)) in
+    let parts = same_parts one.whole other.whole one.fraction other.fraction
+    (first_digits one.whole (point_digits one.fraction) one.parts.digits)
+    (first_digits other.whole (point_digits other.fraction) other.parts.digits) joined in
+    let after = sym (digits_after one.fraction) ∙ ap (drop 1) parts.1
+    ∙ digits_after other.fraction in
+    let kept = one_trimmed (point_digits one.fraction) one.kept other.kept one.trimmed
+    (subst (λ l. TrimsEnd IsZeroCode l other.kept) (sym after) other.trimmed) in
+    let digits : d.digits ≡ e.digits =
+    one.digits ∙ ap₂ (λ w k. digits_value 10 (w ++ k)) parts.0 kept ∙ sym other.digits in
+    let places : d.places ≡ e.places = one.places ∙ ap length kept ∙ sym other.places in
+    same_decimal d e minus digits places
+
+-- ---- a text that writes a number is not at fault
+
+-- a list that is not empty has a length above 0
+has_length : (codes : List ℕ) → codes ≢ [] → 0 < length codes
+has_length [] some = absurd (some refl)
+has_length (code ∷ codes) some = omega arith
+
+-- digits at the start of parts are at the start of the digits before the point
+digits_of_whole : (whole digits more : List ℕ) (fraction : Option (List ℕ)) → AllDigits 10 digits
+    → whole ++ point_text fraction ≡ digits ++ more → (rest : List ℕ) × (whole ≡ digits ++ rest)
+digits_of_whole whole [] more fraction all joined = (whole, refl)
+digits_of_whole [] (digit ∷ digits) more None all joined = absurd (omega (arith, ap length joined))
+digits_of_whole [] (digit ∷ digits) more (Some f) all joined =
+    let point = ap (λ l. get_or l 0 0) joined in
+    absurd (omega (arith, all.0, ap digit_value point))
+digits_of_whole (code ∷ codes) (digit ∷ digits) more fraction all joined =
+    let rest = digits_of_whole codes digits more fraction all.1 (ap (drop 1) joined) in
+    (rest.0, ap₂ (λ c l. c ∷ l) (ap (λ l. get_or l 0 0) joined) rest.1)
+
+-- digits up to another code are all digits before the point or the end
+stops_at : (whole digits more : List ℕ) (fraction : Option (List ℕ)) (code : ℕ)
+    → AllDigits 10 whole → AllDigits 10 digits → 10 ≤ digit_value code
+    → whole ++ point_text fraction ≡ digits ++ code ∷ more
+    → (whole ≡ digits) × (point_text fraction ≡ code ∷ more)
+stops_at [] [] more fraction code first then other joined = (refl, joined)
+stops_at [] (digit ∷ digits) more None code first then other joined =
+    absurd (omega (arith, ap length joined))
+stops_at [] (digit ∷ digits) more (Some f) code first then other joined =
+    let point = ap (λ l. get_or l 0 0) joined in
+    absurd (omega (arith, then.0, ap digit_value point))
+stops_at (digit ∷ digits) [] more fraction code first then other joined =
+    let same = ap (λ l. get_or l 0 0) joined in
+    absurd (omega (arith, first.0, other, ap digit_value same))
+stops_at (digit ∷ digits) (next ∷ others) more fraction code first then other joined =
+    let rest = stops_at digits others more fraction code first.1 then.1 other (ap (drop 1) joined) in
+    (ap₂ (λ c l. c ∷ l) (ap (λ l. get_or l 0 0) joined) rest.0, rest.1)
+
+-- more digits do not make the number smaller
+value_of_start : (some more : List ℕ) → digits_value 10 some ≤ digits_value 10 (some ++ more)
+value_of_start some more =
+    subst (λ l. digits_value 10 l ≤ digits_value 10 (some ++ more)) (take-append_seam some more)
+    (digits_value-take-le 10 (some ++ more) (length some) (lit≤ tt))
+
+-- a code of digits is a digit
+digit_among : (some more : List ℕ) (code : ℕ) → AllDigits 10 (some ++ code ∷ more)
+    → digit_value code < 10
+digit_among [] more code digits = digits.0
+digit_among (digit ∷ others) more code digits = digit_among others more code digits.1
+
+-- the digits of parts after the first
+last_digits : (whole more : List ℕ) → AllDigits 10 (whole ++ more) → AllDigits 10 more
+last_digits [] more digits = digits
+last_digits (digit ∷ others) more digits = last_digits others more digits.1
+
+-- a point that stops digits has digits after it
+some_after : (fraction : Option (List ℕ)) (code : ℕ) (more : List ℕ)
+    → point_text fraction ≡ code ∷ more → IfSome fraction (λ digits. digits ≢ [])
+    → (code ≡ 46) × (0 < length more)
+some_after None code more joined some = absurd (omega (arith, ap length joined))
+some_after (Some digits) code more joined some = (
+  sym (ap (λ l. get_or l 0 0) joined),
+  omega (arith, has_length digits some, ap length joined),
+)
+
+-- what comes after the codes that are kept is among the zeros
+zeros_past : (kept zeros front rest : List ℕ) → kept ++ zeros ≡ front ++ rest
+    → length kept ≤ length front → All IsZeroCode zeros → All IsZeroCode rest
+zeros_past [] zeros [] rest joined order all = subst (All IsZeroCode) joined all
+zeros_past [] (zero_code ∷ zeros) (code ∷ front) rest joined order all =
+    zeros_past [] zeros front rest (ap (drop 1) joined) (omega arith)
+    (All-tail IsZeroCode zero_code zeros all)
+zeros_past [] [] (code ∷ front) rest joined order all = absurd (omega (arith, ap length joined))
+zeros_past (digit ∷ kept) zeros [] rest joined order all = absurd (omega (arith, order))
+zeros_past (digit ∷ kept) zeros (code ∷ front) rest joined order all =
+    zeros_past kept zeros front rest (ap (drop 1) joined) (omega (arith, order)) all
+
+-- the parts of a text, up to a position and from there on
+parts_at : (text whole : List ℕ) (fraction : Option (List ℕ)) (p : ℕ) (d : Decimal)
+    → ComesBefore whole fraction text p → (one : WritesDecimal text d)
+    → one.whole ++ point_text one.fraction
+    ≡ whole ++ (point_text fraction ++ slice_index text p ∷ drop (p + 1) text)
+parts_at text whole fraction p d before one =
+    let sign = sign_text (starts_with_minus text) in
+    let code = get_or text p 0 in
+    let next : suc p ≡ p + 1 = omega arith in
+    let rest : drop p text ≡ code ∷ drop (p + 1) text =
+    drop-cons text p 0 before.inside ∙ ap (λ n. code ∷ drop n text) next in
+    let minus = sign_is d.negative one.whole one.fraction text one.parts one.some in
+    let whole_text : sign ++ (whole ++ (point_text fraction ++ code ∷ drop (p + 1) text)) ≡ text =
+    ap (λ l. sign ++ l) (sym (append_assoc whole (point_text fraction) (code ∷ drop (p + 1) text)))
+    ∙ sym (append_assoc sign (whole ++ point_text fraction) (code ∷ drop (p + 1) text))
+    ∙ ap₂ (λ a b. a ++ b) before.start.joined (sym rest) ∙ take-append-drop p text in
+    append_cancel_left sign (one.whole ++ point_text one.fraction)
+    (whole ++ (point_text fraction ++ code ∷ drop (p + 1) text))
+    (ap (λ m. sign_text m ++ (one.whole ++ point_text one.fraction)) minus
+    ∙ one.parts.joined ∙ sym whole_text)
+
+-- a text that writes a decimal number is not at fault
+pub no_decimal_fault : (text : List ℕ) (d : Decimal) (e : NumberError) → WritesDecimal text d
+    → ¬ (IsDecimalFault text e)
+no_decimal_fault text d Empty one fault =
+    let minus = sign_is d.negative one.whole one.fraction text one.parts one.some in
+    let lengths = ap length (one.parts.joined ∙ sym (signed text)) in
+    omega (
+      arith,
+      lengths,
+      ap length fault,
+      ap (λ m. length (sign_text m)) minus,
+      has_length one.whole one.some,
+      length-append (sign_text d.negative) (one.whole ++ point_text one.fraction),
+      length-append one.whole (point_text one.fraction),
+      length-append (sign_text (starts_with_minus text))
+          (drop (from_bool (starts_with_minus text)) text),
+    )
+no_decimal_fault text d (NotDigit p) one (whole, None, before, is, point) =
+    let code = slice_index text p in
+    let stop = stops_at one.whole whole (drop (p + 1) text) one.fraction code
+    (first_digits one.whole (point_digits one.fraction) one.parts.digits)
+    (first_digits whole [] before.start.digits) is (parts_at text whole None p d before one) in
+    let fraction = some_after one.fraction code (drop (p + 1) text) stop.1 one.after in
+    point (
+      fraction.0,
+      refl,
+      λ none. one.some (stop.0 ∙ none),
+      omega (
+        arith,
+        fraction.1,
+        length-drop (p + 1) text,
+      ),
+    )
+no_decimal_fault text d (NotDigit p) one (whole, Some f, before, is, point) =
+    let code = slice_index text p in
+    let same = same_parts one.whole whole one.fraction (Some (f ++ code ∷ drop (p + 1) text))
+    (first_digits one.whole (point_digits one.fraction) one.parts.digits)
+    (first_digits whole f before.start.digits) (parts_at text whole (Some f) p d before one) in
+    let digits = subst (AllDigits 10) (sym (digits_after one.fraction) ∙ ap (drop 1) same.1)
+    (last_digits one.whole (point_digits one.fraction) one.parts.digits) in
+    omega (arith, is, digit_among f (drop (p + 1) text) code digits)
+no_decimal_fault text d (TooLarge p) one (whole, None, before, is, large, counts) =
+    let code = slice_index text p in
+    let more = drop (p + 1) text in
+    let joined = parts_at text whole None p d before one
+    ∙ sym (append_assoc whole (code ∷ []) more) in
+    let digits = digits_append whole (code ∷ []) (first_digits whole [] before.start.digits)
+    (is, tt) in
+    let start = digits_of_whole one.whole (whole ++ code ∷ []) more one.fraction digits joined in
+    omega (
+      arith,
+      large,
+      value_of_start (whole ++ code ∷ []) start.0,
+      ap (digits_value 10) start.1,
+      value_of_start one.whole one.kept,
+      one.digits,
+      one.fits,
+    )
+no_decimal_fault text d (TooLarge p) one (whole, Some f, before, is, large, counts) =
+    let code = slice_index text p in
+    let more = drop (p + 1) text in
+    let same = same_parts one.whole whole one.fraction (Some (f ++ code ∷ more))
+    (first_digits one.whole (point_digits one.fraction) one.parts.digits)
+    (first_digits whole f before.start.digits) (parts_at text whole (Some f) p d before one) in
+    let fraction = sym (digits_after one.fraction) ∙ ap (drop 1) same.1 in
+    let trimmed = subst (λ l. TrimsEnd IsZeroCode l one.kept) fraction one.trimmed in
+    let next : suc p ≡ p + 1 = omega arith in
+    let rest : drop p text ≡ code ∷ more =
+    drop-cons text p 0 before.inside ∙ ap (λ n. code ∷ drop n text) next in
+    ⊎_elim
+    (λ inside.
+    let kept : f ++ code ∷ [] ≡ take (length f + 1) one.kept =
+    sym (take-append-add f (code ∷ more) 1)
+    ∙ ap (take (length f + 1)) (sym trimmed.joined)
+    ∙ take-append-le (length f + 1) one.kept trimmed.cut (omega (arith, inside)) in
+    let parts : one.whole ++ one.kept
+    ≡ (whole ++ (f ++ code ∷ [])) ++ drop (length f + 1) one.kept =
+    ap₂ (λ w k. w ++ k) same.0 (sym (take-append-drop (length f + 1) one.kept)
+    ∙ ap (λ l. l ++ drop (length f + 1) one.kept) (sym kept))
+    ∙ sym (append_assoc whole (f ++ code ∷ []) (drop (length f + 1) one.kept)) in
+    omega (
+      arith,
+      large,
+      value_of_start (whole ++ (f ++ code ∷ [])) (drop (length f + 1) one.kept),
+      ap (digits_value 10) parts,
+      one.digits,
+      one.fits,
+    ))
+    (λ past. counts (
+      λ none. none-some f (sym none),
+      subst (All IsZeroCode) (sym rest) (zeros_past one.kept trimmed.cut f (code ∷ more)
+          trimmed.joined past trimmed.within),
+    )) (cases_lt (length f) (length one.kept))
+
+-- a text that writes a decimal number is read as that number
+pub reads_decimal_number : (text : List ℕ) (d : Decimal) (result : Result Decimal NumberError)
+    → MatchResult result (WritesDecimal text) (IsDecimalFault text) → WritesDecimal text d
+    → result ≡ Ok d
+reads_decimal_number text d (Ok other) says one = ap Ok (one_decimal text other d says one)
+reads_decimal_number text d (Err e) says one = absurd (no_decimal_fault text d e one says)
 
 -- ---- output
 

@@ -5,6 +5,7 @@
 //! | `to_number` | the whole view, in decimal digits |
 //! | `to_number_radix` | the whole view, in digits of a radix from 2 to 36 |
 //! | `take_number` | the decimal digits at the start, and it returns the view after them |
+//! | `to_decimal` of the module `decimals` | the whole view, in decimal digits with a point |
 //!
 //! Decimal digits are `0` to `9`; in a larger radix the letters of either case follow. Zeros at the
 //! start count for nothing. For a signed type a `-` at the start is a sign; a `+` never is.

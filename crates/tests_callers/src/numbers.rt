@@ -2,8 +2,10 @@
 
 ghost use Rattle.std.specs.Prelude.{◌≡◌, ◌<◌, ◌^◌, IfOk, Ok};
 ghost use Rattle.std.specs.Str.Parse.{IsNumeral, digits_value};
+ghost use Rattle.ascii.specs.Decimals.{WritesDecimal};
 ghost use Rattle.ascii.specs.View.{text_of};
 
+use ascii::decimals::Decimal;
 use ascii::numbers::NumberError;
 use ascii::{AsciiStr, AsciiString};
 use std::alloc::{AllocError, Global};
@@ -33,4 +35,12 @@ pub fn read_hex(digits: AsciiStr<'_>) -> Result<u32, NumberError>
     ensures { result ≡ Ok (digits_value 16 (text_of digits.entry)) }
 {
     digits.to_number_radix(16)
+}
+
+/// The decimal number of a view that writes `number`: it is `number`, and never an error.
+pub fn read_decimal(view: AsciiStr<'_>, number: Decimal) -> Result<Decimal, NumberError>
+    requires { WritesDecimal (text_of view) number }
+    ensures { result ≡ Ok number }
+{
+    view.to_decimal()
 }
