@@ -4,12 +4,12 @@
 //!
 //! Made by `bin/docs tables`: the other calls of `AsciiStr` are in `by_closure` (`position_by`,
 //! `trim_by`); `copies` (`to_ascii_string`, `to_ascii_uppercase`, `to_ascii_lowercase`, `repeat`,
-//! `to_chars`); `folded` (`folded`); `folded_search` (`find_ignore_ascii_case`,
-//! `rfind_ignore_ascii_case`, `contains_ignore_ascii_case`, `starts_with_ignore_ascii_case`,
-//! `strip_prefix_ignore_ascii_case`, `ends_with_ignore_ascii_case`,
-//! `strip_suffix_ignore_ascii_case`); `iter::backwards` (`rsplit`, `rsplit_spans`);
-//! `iter::by_class` (`split_by`, `split_spans_by`, `words`, `split_whitespace`, `word_spans`,
-//! `runs`, `run_spans`); `iter::by_text` (`split_str`, `split_spans_str`, `matches`,
+//! `to_chars`); `decimals` (`to_decimal`); `folded` (`folded`); `folded_search`
+//! (`find_ignore_ascii_case`, `rfind_ignore_ascii_case`, `contains_ignore_ascii_case`,
+//! `starts_with_ignore_ascii_case`, `strip_prefix_ignore_ascii_case`,
+//! `ends_with_ignore_ascii_case`, `strip_suffix_ignore_ascii_case`); `iter::backwards` (`rsplit`,
+//! `rsplit_spans`); `iter::by_class` (`split_by`, `split_spans_by`, `words`, `split_whitespace`,
+//! `word_spans`, `runs`, `run_spans`); `iter::by_text` (`split_str`, `split_spans_str`, `matches`,
 //! `match_spans`); `iter::chars` (`chars`); `iter::ended` (`split_terminator`,
 //! `split_terminator_spans`, `split_inclusive`, `split_inclusive_spans`); `iter::lines` (`lines`,
 //! `line_spans`, `line_spans_from`); `iter::lines_by` (`lines_by`, `line_spans_by`); `iter::split`

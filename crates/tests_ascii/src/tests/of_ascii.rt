@@ -2,6 +2,7 @@
 
 use super::{boxed, owned, shared};
 use ascii::classes::{Blank, Digit, Ranges};
+use ascii::decimals::Decimal;
 use ascii::endings::{ends_in_cr_lf, find_end, lone_break, split_ending};
 use ascii::folded::{FoldedStr, FoldedText};
 use ascii::iter::{
@@ -1296,6 +1297,50 @@ fn from_chars_of_text(rt: HostRuntime) {
 fn into_chars_of_text(rt: HostRuntime) {
     let alloc = rt.alloc();
     assert_debug!(rt; owned(&rt, "ab").into_chars(alloc), "Ok(['a', 'b'])");
+}
+
+// decimals::Decimal
+#[test]
+fn decimal_of_decimals(rt: HostRuntime) {
+    let price = Decimal {
+        negative: false,
+        digits: 995,
+        places: 2,
+    };
+    assert_debug!(rt; view("9.95").to_decimal() == Ok(price), "true");
+}
+
+// Display for Decimal::fmt
+#[test]
+fn fmt_of_decimal(rt: HostRuntime) {
+    let alloc = rt.alloc();
+    assert_debug!(
+        rt;
+        (
+            Decimal { negative: true, digits: 125, places: 1 }.to_string(alloc).expect(&rt, "refused"),
+            Decimal { negative: false, digits: 5, places: 2 }.to_string(alloc).expect(&rt, "refused"),
+            Decimal { negative: false, digits: 7, places: 0 }.to_string(alloc).expect(&rt, "refused"),
+        ),
+        "(\"-12.5\", \"0.05\", \"7\")"
+    );
+}
+
+// AsciiStr::to_decimal
+#[test]
+fn to_decimal_of_ascii_str(rt: HostRuntime) {
+    assert_debug!(
+        rt;
+        (
+            view("-12.50").to_decimal(),
+            view("0.05").to_decimal(),
+            view("2.000").to_decimal(),
+            view("1e3").to_decimal(),
+            view("5.").to_decimal(),
+            view("18446744073709551616").to_decimal(),
+            view("-").to_decimal(),
+        ),
+        "(Ok(Decimal { negative: true, digits: 125, places: 1 }), Ok(Decimal { negative: false, digits: 5, places: 2 }), Ok(Decimal { negative: false, digits: 2, places: 0 }), Err(NotDigit(1)), Err(NotDigit(1)), Err(TooLarge(19)), Err(Empty))"
+    );
 }
 
 // endings::find_end
