@@ -219,7 +219,7 @@ fraction_start minus whole digits some first then = record {
   point = some;
 }
 
--- the last of the digits that are kept is no zero, so from none of them on there are only zeros
+-- the last of the digits that are kept is not a zero, so from none of them on there are only zeros
 not_dropped : (digits kept : List ℕ) (i : ℕ) → TrimsEnd IsZeroCode digits kept → i < length kept
     → ¬ (All IsZeroCode (drop i digits))
 not_dropped digits kept i trimmed inside zeros =
