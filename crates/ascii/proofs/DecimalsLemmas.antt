@@ -6,8 +6,8 @@ use Rattle.std.proofs.Common.{ap, ap₂, append_assoc, append-nil, arith, length
 use Rattle.std.proofs.Common.{lit≤, pow-suc, refl, subst, sym, ⊎_elim, ◌∙◌, eq-eqb, ne_eqb}
 use Rattle.std.proofs.Common.{drop-cons, get_or-append-add, get_or-drop, take-append-drop}
 use Rattle.std.proofs.Math.ListN.{get_or-append}
-use Rattle.std.proofs.Math.Seq.{drop-append-add, drop-append_seam, take-append-add, take-append_seam}
-use Rattle.std.proofs.Math.Seq.{take-suc}
+use Rattle.std.proofs.Math.Seq.{drop-append-add, drop-append_seam, take-append-add}
+use Rattle.std.proofs.Math.Seq.{take-append_seam, take-suc}
 use Rattle.std.proofs.lemmas.Bool.{cases_eq, cases_lt}
 use Rattle.std.proofs.lemmas.Str.Parse.{digits_value-take-le}
 use Rattle.std.proofs.lemmas.List.{append_cancel_left, take-append-le}
@@ -20,8 +20,8 @@ use Rattle.std.specs.Fmt.{char_count, format_spec, padded_integral, styled_decim
 use Rattle.std.specs.Int.{from_bool}
 use Rattle.std.specs.Str.Parse.{AllDigits, digits_value, digits_value_after, starts_with_minus}
 use Rattle.ascii.specs.Decimals.{ComesBefore, IsDecimalFault, IsDigitFault, IsZeroCode}
-use Rattle.ascii.specs.Decimals.{StartsDecimal, WritesDecimal, decimal_text, point_digits, point_text}
-use Rattle.ascii.specs.Decimals.{sign_text}
+use Rattle.ascii.specs.Decimals.{StartsDecimal, WritesDecimal, decimal_text, point_digits}
+use Rattle.ascii.specs.Decimals.{point_text, sign_text}
 use Rattle.ascii.specs.declared.decimals.Decimal.{Decimal}
 use Rattle.ascii.specs.declared.numbers.NumberError.{NumberError}
 use Rattle.ascii.specs.declared.numbers.NumberError.TheVariants.{Empty, NotDigit, TooLarge}
@@ -219,7 +219,7 @@ fraction_start minus whole digits some first then = record {
   point = some;
 }
 
--- the last of the digits that are kept is no zero, so from none of them on there are only zeros
+-- the last of the digits that are kept is not a zero, so from none of them on there are only zeros
 not_dropped : (digits kept : List ℕ) (i : ℕ) → TrimsEnd IsZeroCode digits kept → i < length kept
     → ¬ (All IsZeroCode (drop i digits))
 not_dropped digits kept i trimmed inside zeros =
@@ -389,7 +389,8 @@ same_parts : (whole other : List ℕ) (fraction last : Option (List ℕ)) → Al
     → AllDigits 10 other → whole ++ point_text fraction ≡ other ++ point_text last
     → (whole ≡ other) × (point_text fraction ≡ point_text last)
 same_parts [] [] fraction last digits others joined = (refl, joined)
-same_parts [] (digit ∷ more) None last digits others joined = absurd (omega (arith, ap length joined))
+same_parts [] (digit ∷ more) None last digits others joined =
+    absurd (omega (arith, ap length joined))
 same_parts [] (digit ∷ more) (Some f) last digits others joined =
     let point = ap (λ l. get_or l 0 0) joined in
     absurd (omega (arith, others.0, ap digit_value point))
@@ -430,7 +431,8 @@ one_trimmed digits kept other trimmed trims =
       not_shorter digits kept other trimmed trims,
       not_shorter digits other kept trims trimmed,
     ) in
-    sym (take-append_seam kept trimmed.cut) ∙ ap (take (length kept)) (trimmed.joined ∙ sym trims.joined)
+    sym (take-append_seam kept trimmed.cut)
+    ∙ ap (take (length kept)) (trimmed.joined ∙ sym trims.joined)
     ∙ ap (λ n. take n (other ++ trims.cut)) same ∙ take-append_seam other trims.cut
 
 -- numbers with the same parts are the same
@@ -497,7 +499,8 @@ stops_at (digit ∷ digits) [] more fraction code first then other joined =
     let same = ap (λ l. get_or l 0 0) joined in
     absurd (omega (arith, first.0, other, ap digit_value same))
 stops_at (digit ∷ digits) (next ∷ others) more fraction code first then other joined =
-    let rest = stops_at digits others more fraction code first.1 then.1 other (ap (drop 1) joined) in
+    let rest =
+    stops_at digits others more fraction code first.1 then.1 other (ap (drop 1) joined) in
     (ap₂ (λ c l. c ∷ l) (ap (λ l. get_or l 0 0) joined) rest.0, rest.1)
 
 -- more digits do not make the number smaller

@@ -9,7 +9,8 @@
 //!
 //! For whole numbers see the module `numbers`. Nothing here allocates.
 
-ghost use Rattle.std.specs.Prelude.{◌≡◌, ◌+◌, ◌^◌, ◌-◌, ◌/◌, ◌%◌, ◌≤◌, MatchResult, Some, drop, length};
+ghost use Rattle.std.specs.Prelude.{◌≡◌, ◌+◌, ◌^◌, ◌-◌, ◌/◌, ◌%◌, ◌≤◌, MatchResult, Some};
+ghost use Rattle.std.specs.Prelude.{drop, length};
 ghost use Rattle.std.specs.Int.{from_bool};
 ghost use Rattle.std.specs.Str.Parse.{AllDigits, digits_value_after, starts_with_minus};
 ghost use Rattle.std.proofs.Common.{rules};
