@@ -57,8 +57,8 @@ fault_from start Empty = Empty
 fault_from start (NotDigit p) = NotDigit (start + p)
 fault_from start (TooLarge p) = TooLarge (start + p)
 
--- why the text of `part` does not write a number of the range in decimal digits, with the position in
--- the text in which `part` lies
+-- why the text of `part` does not write a number of the range in decimal digits, with the position
+-- in the text in which `part` lies
 abbrev pub IsSpannedFault : {N : Type 0} → NumberRange N → Spanned → NumberError → Type 0
 IsSpannedFault range part error = (own : NumberError)
     × IsFaultIn range 10 (text_of part.text) own × (error ≡ fault_from part.start own)

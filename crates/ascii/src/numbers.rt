@@ -15,8 +15,8 @@
 //!
 //! Nothing here allocates.
 
-ghost use Rattle.std.specs.Prelude.{◌≡◌, ℕ, Bool, ◌+◌, ◌*◌, ◌^◌, ◌-◌, ◌<◌, ◌≤◌, ◌++◌, MatchOption, MatchResult};
-ghost use Rattle.std.specs.Prelude.{length};
+ghost use Rattle.std.specs.Prelude.{◌≡◌, ℕ, Bool, ◌+◌, ◌*◌, ◌^◌, ◌-◌, ◌<◌, ◌≤◌, ◌++◌};
+ghost use Rattle.std.specs.Prelude.{MatchOption, MatchResult, length};
 ghost use Rattle.std.specs.Int.{from_bool};
 ghost use Rattle.ascii.specs.Numbers.{IsFaultIn, IsStartFault, LeadsWithNumber, NumberRange};
 ghost use Rattle.ascii.specs.Numbers.{StartsWithNumber, WritesNumberIn, has_sign};

@@ -9,7 +9,8 @@
 //!
 //! Nothing here allocates.
 
-ghost use Rattle.std.specs.Prelude.{◌≡◌, ◌<◌, ◌+◌, ◌↔◌, ℕ, List, IsTrue, MatchOption, MatchResult, drop, length};
+ghost use Rattle.std.specs.Prelude.{◌≡◌, ◌<◌, ◌+◌, ◌↔◌, ℕ, List, IsTrue, MatchOption, MatchResult};
+ghost use Rattle.std.specs.Prelude.{drop, length};
 ghost use Rattle.ascii_base.specs.Code.{code_of};
 ghost use Rattle.ascii.specs.Quotes.{ClosesBefore, IsEscapeAt};
 ghost use Rattle.ascii.specs.View.{text_of};

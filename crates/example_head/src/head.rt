@@ -1,6 +1,6 @@
 //! The request line and the headers.
 
-ghost use Rattle.std.specs.Prelude.{◌≡◌, IfSome};
+ghost use Rattle.std.specs.Prelude.{◌≡◌, IfOk, IfSome, length};
 ghost use Rattle.ascii.specs.View.{text_of};
 ghost use Rattle.example_head.specs.Head.{IsRequestLine};
 
@@ -47,11 +47,13 @@ pub fn read_request_line<'a>(line: AsciiStr<'a>) -> Option<RequestLine<'a>>
     })
 }
 
-/// Returns the values of the headers by their names, ignoring ASCII case.
+/// Returns the values of the headers by their names, ignoring ASCII case. There is one for each line.
 pub fn read_headers<'a>(
     alloc: Global,
     lines: &'a [OwnedLine],
-) -> Result<FoldedMap<AsciiStr<'a>>, HeaderError> {
+) -> Result<FoldedMap<AsciiStr<'a>>, HeaderError>
+    ensures { IfOk result (λ headers. length headers ≡ length lines.now) }
+{
     let mut headers = FoldedMap::new(alloc);
     for (index, line) in lines.iter().enumerate() {
         let Some((name, value)) = line.text.as_ascii_str().split_once(AsciiChar::Colon) else {

@@ -15,7 +15,8 @@ Has Ignored word line = ContainsText (map lower_image word) (map lower_image lin
 
 -- none of the lines from the index `i` on contains `word`
 abbrev pub NoneFrom : ℕ → CaseMode → List ℕ → List AsciiStr → Type 0
-NoneFrom i mode word lines = AllWithin (λ line. ¬ (Has mode word (text_of line))) lines i (length lines)
+NoneFrom i mode word lines =
+    AllWithin (λ line. ¬ (Has mode word (text_of line))) lines i (length lines)
 
 -- the last index of a line that contains `word`, or `None` if there is none
 abbrev pub IsLastWith : CaseMode → List ℕ → List AsciiStr → Option ℕ → Type 0
