@@ -7,11 +7,15 @@ import os
 import re
 import shutil
 import subprocess
+import sys
 import tempfile
 from pathlib import Path
 from typing import NamedTuple
 
 TOP = Path(__file__).resolve().parents[2]
+sys.path.insert(0, str(TOP / "bin" / "lib"))
+import libraries  # noqa: E402
+
 BLOCK = re.compile(r"^```(\w+)\n(.*?)^```$", re.MULTILINE | re.DOTALL)
 NAMED = re.compile(r"(?://|#|--) (\S+)\n")
 PROVES = re.compile(r"\brt (check|test|run)\b")
@@ -124,6 +128,14 @@ def quoted(page, crate):
     return [line for line in lines if line.startswith("note: ") or line.startswith(f"fn {crate}::")]
 
 
+def checking(crate):
+    """The command that checks a program in its folder: over the libraries that `rt ci` left, or else over those that it proves."""
+    uses, _ = libraries.listed()
+    if not libraries.are_built(libraries.below(crate, uses)):
+        return ["rt", "check"]
+    return libraries.words("check", crate, "src/main.rt", uses[crate], uses)
+
+
 def rejected(wrong):
     """Plants a wrong body in a copy of the crates, and compares the check's answer with the pages. Returns the faults."""
     with tempfile.TemporaryDirectory() as scratch:
@@ -136,7 +148,7 @@ def rejected(wrong):
         if text.count(wrong.old) != 1:
             return [f"{wrong.file} of {wrong.crate}: {wrong.old} is not there exactly once"]
         file.write_text(text.replace(wrong.old, wrong.new), encoding="utf-8")
-        status, printed, said = run(["rt", "check", "--only", wrong.function], copy / "crates" / wrong.crate)
+        status, printed, said = run([*checking(wrong.crate), "--only", wrong.function], file.parents[1])
     lines = {line.strip() for line in (printed + said).splitlines()}
     if status != 1:
         return [f"{wrong.function} of {wrong.crate} with {wrong.new}: status {status}\n{(printed + said)[-1500:]}"]
