@@ -8,7 +8,7 @@ ghost use Rattle.example_ini.specs.Entries.{ArePlacesIn, IsEntryOf, IsFaultOf, S
 use ascii::spanned::Spanned;
 use ascii::{AsciiChar, AsciiStr};
 use std::alloc::Global;
-use std::fmt;
+use thiserror::Error;
 
 /// A setting: the section that it is in, its key and its value, each with its start in the text.
 #[derive(Clone, Copy)]
@@ -30,10 +30,13 @@ pub enum Parsed<'a> {
 }
 
 /// What is wrong with a line.
-#[derive(Clone, Copy)]
+#[derive(Clone, Copy, Debug, Error)]
 pub enum What {
+    #[error("no ']' after the name of the section")]
     OpenSection,
+    #[error("no '='")]
     NoEquals,
+    #[error("no key before the '='")]
     NoKey,
 }
 
@@ -42,16 +45,6 @@ pub enum What {
 pub enum IniError {
     At(usize, What),
     Memory,
-}
-
-impl fmt::Display for What {
-    fn fmt<W: fmt::Write>(&self, f: &mut fmt::Formatter<W>) -> fmt::Result {
-        f.write_str(match self {
-            What::OpenSection => "no ']' after the name of the section",
-            What::NoEquals => "no '='",
-            What::NoKey => "no key before the '='",
-        })
-    }
 }
 
 /// Returns the entries of a text, in order. Each part is where it says.

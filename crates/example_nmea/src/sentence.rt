@@ -7,30 +7,19 @@ ghost use Rattle.example_nmea.specs.Sentence.{HasDecimal, HasSum, IsSentence, Re
 
 use ascii::decimals::Decimal;
 use ascii::{AsciiChar, AsciiStr};
-use std::fmt;
+use thiserror::Error;
 
-/// Why a line has no position.
-#[derive(Clone, Copy, PartialEq, Eq, Debug)]
+/// Why a line has no position. A field is named by its index, counted from 0.
+#[derive(Clone, Copy, Debug, Error)]
 pub enum FixError {
-    /// The line does not start with `$`, or does not end in `*` and two hexadecimal digits.
+    #[error("not a sentence")]
     NoSentence,
-    /// The line says another checksum than this.
+    #[error("the checksum is {0:02X}")]
     WrongChecksum(u8),
-    /// The sentence is not a GGA sentence.
+    #[error("not a GGA sentence")]
     OtherSentence,
-    /// The field at this index, counted from 0, is at fault.
+    #[error("field {0} is at fault")]
     Field(usize),
-}
-
-impl fmt::Display for FixError {
-    fn fmt<W: fmt::Write>(&self, f: &mut fmt::Formatter<W>) -> fmt::Result {
-        match *self {
-            FixError::NoSentence => f.write_str("not a sentence"),
-            FixError::WrongChecksum(sum) => write!(f, "the checksum is {sum:02X}"),
-            FixError::OtherSentence => f.write_str("not a GGA sentence"),
-            FixError::Field(index) => write!(f, "field {index} is at fault"),
-        }
-    }
 }
 
 /// A position.
@@ -68,13 +57,11 @@ pub fn read_fix(line: AsciiStr<'_>) -> Result<Fix, FixError>
 fn checked_body<'a>(line: AsciiStr<'a>) -> Result<AsciiStr<'a>, FixError>
     ensures { IfOk result (λ body. IsSentence (text_of line.entry) (text_of body)) }
 {
-    let Some((body, sum)) = body_and_sum(line) else {
-        return Err(FixError::NoSentence);
-    };
-    if sum != checksum(body) {
-        return Err(FixError::WrongChecksum(checksum(body)));
+    let (body, sum) = body_and_sum(line).ok_or(FixError::NoSentence)?;
+    match checksum(body) {
+        right if right == sum => Ok(body),
+        right => Err(FixError::WrongChecksum(right)),
     }
-    Ok(body)
 }
 
 /// Returns the text between `$` and `*`, and the byte that the two hexadecimal digits after it write.
@@ -101,10 +88,8 @@ fn field<'a>(body: AsciiStr<'a>, index: usize) -> Result<AsciiStr<'a>, FixError>
     ensures { OfPieces body.entry AsciiChar.Comma
         (λ pieces. IfOk result (λ field. slice_get pieces index ≡ Some (text_of field))) }
 {
-    match body.split(AsciiChar::Comma).nth(index) {
-        Some(field) => Ok(field),
-        None => Err(FixError::Field(index)),
-    }
+    let mut fields = body.split(AsciiChar::Comma);
+    fields.nth(index).ok_or(FixError::Field(index))
 }
 
 /// Returns the number in a field.
