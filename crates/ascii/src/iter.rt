@@ -38,6 +38,7 @@ mod ended;
 mod items;
 mod lines;
 mod lines_by;
+mod marked;
 mod spans;
 mod split;
 mod split_n;

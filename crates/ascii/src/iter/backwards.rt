@@ -27,20 +27,37 @@ pub struct Backwards<C> {
 }
 
 impl<C: CutBack> Cut for Backwards<C> {
+    type Marks = C::Marks;
+
     ghost items = { λ back part. reverse (C.items back.cut part) };
 
     ghost is_item = { λ back. C.is_item back.cut };
 
+    ghost knows = { C.knows };
+
     #[inline(always)]
-    fn first<'a>(self, part: Cursor<'a>) -> Option<(SplitSpan<'a>, Option<Cursor<'a>>)> {
-        self.cut.last(part)
+    fn no_marks() -> C::Marks {
+        C::no_marks()
+    }
+
+    #[inline(always)]
+    fn first<'a>(
+        self,
+        part: Cursor<'a>,
+        marks: C::Marks,
+    ) -> Option<(SplitSpan<'a>, Option<Cursor<'a>>, C::Marks)> {
+        self.cut.last(part, marks)
     }
 }
 
 impl<C: CutBack> CutBack for Backwards<C> {
     #[inline(always)]
-    fn last<'a>(self, part: Cursor<'a>) -> Option<(SplitSpan<'a>, Option<Cursor<'a>>)> {
-        self.cut.first(part)
+    fn last<'a>(
+        self,
+        part: Cursor<'a>,
+        marks: C::Marks,
+    ) -> Option<(SplitSpan<'a>, Option<Cursor<'a>>, C::Marks)> {
+        self.cut.first(part, marks)
     }
 }
 

@@ -3,14 +3,15 @@
 //!
 //! Nothing here allocates.
 
-ghost use Rattle.std.specs.Prelude.{◌≡◌, ◌<◌, All, MatchOption, false, length, not};
+ghost use Rattle.std.specs.Prelude.{◌≡◌, ◌<◌, All, MatchOption, false, length, not, true};
 ghost use Rattle.std.specs.List.{slice_split};
 ghost use Rattle.ascii_base.specs.Class.{IsWhitespace};
 ghost use Rattle.ascii_base.specs.Bytes.{IsOnSide};
-ghost use Rattle.ascii_base.specs.Runs.{EndsRun, StartsRun};
+ghost use Rattle.ascii_base.specs.Runs.{StartsRun};
 ghost use Rattle.ascii_base.specs.Tests.{is_whitespace};
 ghost use Rattle.ascii.specs.ByClass.{IsOutside, piece_spans_by, whole, word_spans_by, words_by};
 ghost use Rattle.ascii.specs.Cuts.{IsRemainder};
+ghost use Rattle.ascii.specs.Marked.{AreMarks};
 ghost use Rattle.ascii.specs.Placed.{ArePlaced};
 ghost use Rattle.ascii.specs.Steps.{Iterates, LoopsBackOverItems, LoopsBackOverSpans};
 ghost use Rattle.ascii.specs.Steps.{LoopsOverItems, LoopsOverSpans};
@@ -20,9 +21,10 @@ ghost use Rattle.ascii.specs.Words.{IsWord};
 use crate::ascii_str::AsciiStr;
 use crate::iter::cursor::Cursor;
 use crate::iter::items::{Cut, CutBack, Items, Spans};
+use crate::iter::marked::{Marked, first_piece, first_run};
 use crate::iter::spans::SplitSpan;
 use ascii_base::classes::{Searched, Whitespace};
-use ascii_base::kernels::{first_of, last_of, run_end, run_start};
+use ascii_base::kernels::{last_of, run_start};
 use std::marker::PhantomData;
 
 /// The cut at each character of a class.
@@ -33,30 +35,51 @@ pub struct AtClass<C> {
 }
 
 impl<C: Searched> Cut for AtClass<C> {
+    type Marks = Marked;
+
     ghost items = { λ _. piece_spans_by C.test };
 
     ghost is_item = { λ _. IsOutside C.is };
 
+    ghost knows = { AreMarks C.is true };
+
     #[inline(always)]
-    fn first<'a>(self, part: Cursor<'a>) -> Option<(SplitSpan<'a>, Option<Cursor<'a>>)> {
+    fn no_marks() -> Marked {
+        Marked::none()
+    }
+
+    #[inline(always)]
+    fn first<'a>(
+        self,
+        part: Cursor<'a>,
+        marks: Marked,
+    ) -> Option<(SplitSpan<'a>, Option<Cursor<'a>>, Marked)> {
         let bytes = part.view.bytes;
-        let end = piece_end::<C>(bytes);
+        let (end, left) = first_piece::<C>(bytes, marks);
         if end == bytes.len() {
-            return Some((part.piece(), None));
+            return Some((part.piece(), None, left));
         }
-        Some((part.to(end).piece(), Some(part.from(end + 1))))
+        Some((part.to(end).piece(), Some(part.from(end + 1)), left))
     }
 }
 
 impl<C: Searched> CutBack for AtClass<C> {
     #[inline(always)]
-    fn last<'a>(self, part: Cursor<'a>) -> Option<(SplitSpan<'a>, Option<Cursor<'a>>)> {
+    fn last<'a>(
+        self,
+        part: Cursor<'a>,
+        _marks: Marked,
+    ) -> Option<(SplitSpan<'a>, Option<Cursor<'a>>, Marked)> {
         let bytes = part.view.bytes;
         let start = piece_start::<C>(bytes);
         if start == 0 {
-            return Some((part.piece(), None));
+            return Some((part.piece(), None, Marked::none()));
         }
-        Some((part.from(start).piece(), Some(part.to(start - 1))))
+        Some((
+            part.from(start).piece(),
+            Some(part.to(start - 1)),
+            Marked::none(),
+        ))
     }
 }
 
@@ -71,43 +94,50 @@ pub struct AtRuns<C, const INSIDE: bool> {
 impl<C: Searched, const INSIDE: bool> Cut for AtRuns<C, INSIDE> {
     ghost use Rattle.ascii.specs.ByClass.{side_test};
 
+    type Marks = Marked;
+
     ghost items = { λ _. word_spans_by (side_test C.test (not INSIDE)) };
 
     ghost is_item = { λ _. IsWord (IsOnSide C.is (not INSIDE)) };
 
+    ghost knows = { AreMarks C.is INSIDE };
+
     #[inline(always)]
-    fn first<'a>(self, part: Cursor<'a>) -> Option<(SplitSpan<'a>, Option<Cursor<'a>>)> {
-        let bytes = part.view.bytes;
-        let start = gap_end::<C, INSIDE>(bytes);
-        if start == bytes.len() {
-            return None;
-        }
-        let end = run_end::<C>(bytes, start, INSIDE);
-        Some((part.to(end).from(start).piece(), Some(part.from(end))))
+    fn no_marks() -> Marked {
+        Marked::none()
+    }
+
+    #[inline(always)]
+    fn first<'a>(
+        self,
+        part: Cursor<'a>,
+        marks: Marked,
+    ) -> Option<(SplitSpan<'a>, Option<Cursor<'a>>, Marked)> {
+        let found = first_run::<C, INSIDE>(part.view.bytes, marks)?;
+        Some((
+            part.to(found.end).from(found.start).piece(),
+            Some(part.from(found.end)),
+            found.marks,
+        ))
     }
 }
 
 impl<C: Searched, const INSIDE: bool> CutBack for AtRuns<C, INSIDE> {
     #[inline(always)]
-    fn last<'a>(self, part: Cursor<'a>) -> Option<(SplitSpan<'a>, Option<Cursor<'a>>)> {
+    fn last<'a>(
+        self,
+        part: Cursor<'a>,
+        _marks: Marked,
+    ) -> Option<(SplitSpan<'a>, Option<Cursor<'a>>, Marked)> {
         let bytes = part.view.bytes;
         let end = end_of_last_on::<C, INSIDE>(bytes)?;
         let start = run_start::<C>(bytes, end - 1, INSIDE);
         let rest = part.to(end);
-        Some((rest.from(start).piece(), Some(rest.to(start))))
-    }
-}
-
-/// The position after the gap before the first run, or the length if there is no run. Between runs inside a class
-/// there may be many characters, between words there are few.
-#[inline(always)]
-fn gap_end<C: Searched, const INSIDE: bool>(bytes: &[u8]) -> usize
-    ensures { EndsRun C.is (not INSIDE) bytes.now 0 result }
-{
-    if INSIDE {
-        piece_end::<C>(bytes)
-    } else {
-        run_end::<C>(bytes, 0, true)
+        Some((
+            rest.from(start).piece(),
+            Some(rest.to(start)),
+            Marked::none(),
+        ))
     }
 }
 
@@ -123,17 +153,6 @@ fn end_of_last_on<C: Searched, const INSIDE: bool>(bytes: &[u8]) -> Option<usize
         run_start::<C>(bytes, bytes.len(), true)
     };
     if end == 0 { None } else { Some(end) }
-}
-
-/// The position after the first piece outside a class.
-#[inline(always)]
-fn piece_end<C: Searched>(bytes: &[u8]) -> usize
-    ensures { EndsRun C.is false bytes.now 0 result }
-{
-    match first_of::<C>(bytes) {
-        Some(at) => at,
-        None => bytes.len(),
-    }
 }
 
 /// The position at which the last piece outside a class starts.

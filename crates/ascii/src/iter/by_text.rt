@@ -5,7 +5,7 @@
 //!
 //! Nothing here allocates.
 
-ghost use Rattle.std.specs.Prelude.{◌≡◌};
+ghost use Rattle.std.specs.Prelude.{⊤, ◌≡◌, ℕ, List};
 ghost use Rattle.ascii.specs.ByClass.{whole};
 ghost use Rattle.ascii.specs.ByText.{IsFreeOf, match_spans_at, matches_at, piece_spans_at, pieces_at};
 ghost use Rattle.ascii.specs.Cuts.{IsRemainder};
@@ -26,18 +26,34 @@ pub struct AtText<'n> {
 }
 
 impl<'n> Cut for AtText<'n> {
+    type Marks = ();
+
     ghost items = { λ at. piece_spans_at (text_of at.needle) };
 
     ghost is_item = { λ at. IsFreeOf (text_of at.needle) };
 
+    ghost knows = { λ _ _. ⊤ };
+
+    fn no_marks()
+        ensures { (text : List ℕ) → ⊤ }
+    {}
+
     #[inline(always)]
-    fn first<'a>(self, part: Cursor<'a>) -> Option<(SplitSpan<'a>, Option<Cursor<'a>>)> {
+    fn first<'a>(
+        self,
+        part: Cursor<'a>,
+        _marks: (),
+    ) -> Option<(SplitSpan<'a>, Option<Cursor<'a>>, ())> {
         if self.needle.is_empty() {
-            return Some((part.piece(), None));
+            return Some((part.piece(), None, ()));
         }
         match part.view.find(self.needle) {
-            Some(at) => Some((part.to(at).piece(), Some(part.from(at + self.needle.len())))),
-            None => Some((part.piece(), None)),
+            Some(at) => Some((
+                part.to(at).piece(),
+                Some(part.from(at + self.needle.len())),
+                (),
+            )),
+            None => Some((part.piece(), None, ())),
         }
     }
 }
@@ -50,18 +66,30 @@ pub struct AtMatches<'n> {
 }
 
 impl<'n> Cut for AtMatches<'n> {
+    type Marks = ();
+
     ghost items = { λ at. match_spans_at (text_of at.needle) };
 
     ghost is_item = { λ at item. item ≡ text_of at.needle };
 
+    ghost knows = { λ _ _. ⊤ };
+
+    fn no_marks()
+        ensures { (text : List ℕ) → ⊤ }
+    {}
+
     #[inline(always)]
-    fn first<'a>(self, part: Cursor<'a>) -> Option<(SplitSpan<'a>, Option<Cursor<'a>>)> {
+    fn first<'a>(
+        self,
+        part: Cursor<'a>,
+        _marks: (),
+    ) -> Option<(SplitSpan<'a>, Option<Cursor<'a>>, ())> {
         if self.needle.is_empty() {
             return None;
         }
         let at = part.view.find(self.needle)?;
         let found = part.from(at).to(self.needle.len());
-        Some((found.piece(), Some(part.from(at + self.needle.len()))))
+        Some((found.piece(), Some(part.from(at + self.needle.len())), ()))
     }
 }
 

@@ -3,7 +3,7 @@
 //!
 //! Nothing here allocates.
 
-ghost use Rattle.std.specs.Prelude.{◌++◌, ◌∷◌, []};
+ghost use Rattle.std.specs.Prelude.{⊤, ◌++◌, ◌∷◌, []};
 ghost use Rattle.ascii_base.specs.Code.{code_of};
 ghost use Rattle.ascii.specs.ByClass.{whole};
 ghost use Rattle.ascii.specs.Cuts.{IsRemainder};
@@ -28,33 +28,47 @@ pub struct AtTerminator {
 }
 
 impl Cut for AtTerminator {
+    type Marks = ();
+
     ghost items = { λ at. terminated_spans (code_of at.on) };
 
     ghost is_item = { λ at. IsFree (code_of at.on) };
 
+    ghost knows = { λ _ _. ⊤ };
+
+    fn no_marks() {}
+
     #[inline(always)]
-    fn first<'a>(self, part: Cursor<'a>) -> Option<(SplitSpan<'a>, Option<Cursor<'a>>)> {
+    fn first<'a>(
+        self,
+        part: Cursor<'a>,
+        _marks: (),
+    ) -> Option<(SplitSpan<'a>, Option<Cursor<'a>>, ())> {
         if part.view.is_empty() {
             return None;
         }
         match part.split_at_first(self.on.as_byte()) {
-            Some((piece, others)) => Some((piece.piece(), Some(others))),
-            None => Some((part.piece(), None)),
+            Some((piece, others)) => Some((piece.piece(), Some(others), ())),
+            None => Some((part.piece(), None, ())),
         }
     }
 }
 
 impl CutBack for AtTerminator {
     #[inline(always)]
-    fn last<'a>(self, part: Cursor<'a>) -> Option<(SplitSpan<'a>, Option<Cursor<'a>>)> {
+    fn last<'a>(
+        self,
+        part: Cursor<'a>,
+        _marks: (),
+    ) -> Option<(SplitSpan<'a>, Option<Cursor<'a>>, ())> {
         let on = self.on.as_byte();
         let (last, front) = part.view.bytes.split_last()?;
         if *last == on {
             let (others, piece) = part.to(front.len()).split_after_last(on);
-            Some((piece.piece(), Some(others)))
+            Some((piece.piece(), Some(others), ()))
         } else {
             let (others, piece) = part.split_after_last(on);
-            Some((piece.piece(), Some(others)))
+            Some((piece.piece(), Some(others), ()))
         }
     }
 }
@@ -67,28 +81,44 @@ pub struct AtEnd {
 }
 
 impl Cut for AtEnd {
+    type Marks = ();
+
     ghost items = { λ at. inclusive_spans (code_of at.on) };
 
     ghost is_item = { λ at. EndsAtMost (code_of at.on) };
 
+    ghost knows = { λ _ _. ⊤ };
+
+    fn no_marks() {}
+
     #[inline(always)]
-    fn first<'a>(self, part: Cursor<'a>) -> Option<(SplitSpan<'a>, Option<Cursor<'a>>)> {
+    fn first<'a>(
+        self,
+        part: Cursor<'a>,
+        _marks: (),
+    ) -> Option<(SplitSpan<'a>, Option<Cursor<'a>>, ())> {
         if part.view.is_empty() {
             return None;
         }
         match part.split_at_first(self.on.as_byte()) {
-            Some((piece, others)) => { Some((part.to(piece.view.len() + 1).piece(), Some(others))) }
-            None => Some((part.piece(), None)),
+            Some((piece, others)) => {
+                Some((part.to(piece.view.len() + 1).piece(), Some(others), ()))
+            }
+            None => Some((part.piece(), None, ())),
         }
     }
 }
 
 impl CutBack for AtEnd {
     #[inline(always)]
-    fn last<'a>(self, part: Cursor<'a>) -> Option<(SplitSpan<'a>, Option<Cursor<'a>>)> {
+    fn last<'a>(
+        self,
+        part: Cursor<'a>,
+        _marks: (),
+    ) -> Option<(SplitSpan<'a>, Option<Cursor<'a>>, ())> {
         let (_last, front) = part.view.bytes.split_last()?;
         let (others, _piece) = part.to(front.len()).split_after_last(self.on.as_byte());
-        Some((part.from(others.view.len()).piece(), Some(others)))
+        Some((part.from(others.view.len()).piece(), Some(others), ()))
     }
 }
 
