@@ -10,9 +10,8 @@ use Rattle.std.proofs.lemmas.Nat.Bits.{bit_at_lowest, bit_at_not, bit_at_ones, b
 use Rattle.ascii_base.specs.Bytes.{IsOnSide}
 use Rattle.ascii_base.specs.Lanes.{Marks}
 use Rattle.ascii_base.specs.Runs.{EndsRun}
-use Rattle.ascii.specs.declared.iter.marked.FirstRun.{FirstRun}
 use Rattle.ascii.specs.declared.iter.marked.Marked.{Marked}
-use Rattle.ascii.specs.Marked.{IsFirstRun, IsLowest, Shows}
+use Rattle.ascii.specs.Marked.{AreLastMarks, AreMarks, IsFirstRun, IsLowest, Shows}
 use Rattle.ascii.proofs.MasksLemmas.{shifted_from, shifted_here}
 
 -- the number before one whose lowest bit is s: 1 below s, 0 at s, and the same bits above
@@ -54,7 +53,13 @@ prev_bits (suc s) m set below =
     above half high (suc i) l = bit_at-suc (m - 1) i ∙ ap (λ x. bit_at x i) half
         ∙ high i (omega (arith, l)) ∙ sym (bit_at-suc m i)
 
-twice : (Is : ℕ → Type 0) (side : Bool) (code : ℕ) → IsOnSide Is side code
+-- a mask without marks says nothing
+pub no_marks : (Is : ℕ → Type 0) (side : Bool) (marks : Marked) (text : List ℕ) → marks.mask ≡ 0
+    → AreMarks Is side marks text × AreLastMarks Is side marks text
+no_marks Is side marks text none = (λ some. absurd (some none), λ some. absurd (some none))
+
+-- a code on a side is not on the other
+pub twice : (Is : ℕ → Type 0) (side : Bool) (code : ℕ) → IsOnSide Is side code
     → IsOnSide Is (not (not side)) code
 twice Is true code is = is
 twice Is false code is = is

@@ -39,6 +39,7 @@ mod items;
 mod lines;
 mod lines_by;
 mod marked;
+mod marked_back;
 mod spans;
 mod split;
 mod split_n;

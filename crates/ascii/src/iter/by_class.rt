@@ -3,15 +3,14 @@
 //!
 //! Nothing here allocates.
 
-ghost use Rattle.std.specs.Prelude.{◌≡◌, ◌<◌, All, MatchOption, false, length, not, true};
+ghost use Rattle.std.specs.Prelude.{◌≡◌, not, true};
 ghost use Rattle.std.specs.List.{slice_split};
 ghost use Rattle.ascii_base.specs.Class.{IsWhitespace};
 ghost use Rattle.ascii_base.specs.Bytes.{IsOnSide};
-ghost use Rattle.ascii_base.specs.Runs.{StartsRun};
 ghost use Rattle.ascii_base.specs.Tests.{is_whitespace};
 ghost use Rattle.ascii.specs.ByClass.{IsOutside, piece_spans_by, whole, word_spans_by, words_by};
 ghost use Rattle.ascii.specs.Cuts.{IsRemainder};
-ghost use Rattle.ascii.specs.Marked.{AreMarks};
+ghost use Rattle.ascii.specs.Marked.{AreEndMarks};
 ghost use Rattle.ascii.specs.Placed.{ArePlaced};
 ghost use Rattle.ascii.specs.Steps.{Iterates, LoopsBackOverItems, LoopsBackOverSpans};
 ghost use Rattle.ascii.specs.Steps.{LoopsOverItems, LoopsOverSpans};
@@ -21,10 +20,10 @@ ghost use Rattle.ascii.specs.Words.{IsWord};
 use crate::ascii_str::AsciiStr;
 use crate::iter::cursor::Cursor;
 use crate::iter::items::{Cut, CutBack, Items, Spans};
-use crate::iter::marked::{Marked, first_piece, first_run};
+use crate::iter::marked::{Marked, MarkedEnds, first_piece, first_run};
+use crate::iter::marked_back::{last_piece, last_run};
 use crate::iter::spans::SplitSpan;
 use ascii_base::classes::{Searched, Whitespace};
-use ascii_base::kernels::{last_of, run_start};
 use std::marker::PhantomData;
 
 /// The cut at each character of a class.
@@ -35,31 +34,32 @@ pub struct AtClass<C> {
 }
 
 impl<C: Searched> Cut for AtClass<C> {
-    type Marks = Marked;
+    type Marks = MarkedEnds;
 
     ghost items = { λ _. piece_spans_by C.test };
 
     ghost is_item = { λ _. IsOutside C.is };
 
-    ghost knows = { AreMarks C.is true };
+    ghost knows = { AreEndMarks C.is true };
 
     #[inline(always)]
-    fn no_marks() -> Marked {
-        Marked::none()
+    fn no_marks() -> MarkedEnds {
+        MarkedEnds::front(Marked::none())
     }
 
     #[inline(always)]
     fn first<'a>(
         self,
         part: Cursor<'a>,
-        marks: Marked,
-    ) -> Option<(SplitSpan<'a>, Option<Cursor<'a>>, Marked)> {
+        marks: MarkedEnds,
+    ) -> Option<(SplitSpan<'a>, Option<Cursor<'a>>, MarkedEnds)> {
         let bytes = part.view.bytes;
-        let (end, left) = first_piece::<C>(bytes, marks);
+        let (end, left) = first_piece::<C>(bytes, marks.front);
+        let marks = MarkedEnds::front(left);
         if end == bytes.len() {
-            return Some((part.piece(), None, left));
+            return Some((part.piece(), None, marks));
         }
-        Some((part.to(end).piece(), Some(part.from(end + 1)), left))
+        Some((part.to(end).piece(), Some(part.from(end + 1)), marks))
     }
 }
 
@@ -68,18 +68,15 @@ impl<C: Searched> CutBack for AtClass<C> {
     fn last<'a>(
         self,
         part: Cursor<'a>,
-        _marks: Marked,
-    ) -> Option<(SplitSpan<'a>, Option<Cursor<'a>>, Marked)> {
+        marks: MarkedEnds,
+    ) -> Option<(SplitSpan<'a>, Option<Cursor<'a>>, MarkedEnds)> {
         let bytes = part.view.bytes;
-        let start = piece_start::<C>(bytes);
+        let (start, left) = last_piece::<C>(bytes, marks.back);
+        let marks = MarkedEnds::back(left);
         if start == 0 {
-            return Some((part.piece(), None, Marked::none()));
+            return Some((part.piece(), None, marks));
         }
-        Some((
-            part.from(start).piece(),
-            Some(part.to(start - 1)),
-            Marked::none(),
-        ))
+        Some((part.from(start).piece(), Some(part.to(start - 1)), marks))
     }
 }
 
@@ -94,30 +91,30 @@ pub struct AtRuns<C, const INSIDE: bool> {
 impl<C: Searched, const INSIDE: bool> Cut for AtRuns<C, INSIDE> {
     ghost use Rattle.ascii.specs.ByClass.{side_test};
 
-    type Marks = Marked;
+    type Marks = MarkedEnds;
 
     ghost items = { λ _. word_spans_by (side_test C.test (not INSIDE)) };
 
     ghost is_item = { λ _. IsWord (IsOnSide C.is (not INSIDE)) };
 
-    ghost knows = { AreMarks C.is INSIDE };
+    ghost knows = { AreEndMarks C.is INSIDE };
 
     #[inline(always)]
-    fn no_marks() -> Marked {
-        Marked::none()
+    fn no_marks() -> MarkedEnds {
+        MarkedEnds::front(Marked::none())
     }
 
     #[inline(always)]
     fn first<'a>(
         self,
         part: Cursor<'a>,
-        marks: Marked,
-    ) -> Option<(SplitSpan<'a>, Option<Cursor<'a>>, Marked)> {
-        let found = first_run::<C, INSIDE>(part.view.bytes, marks)?;
+        marks: MarkedEnds,
+    ) -> Option<(SplitSpan<'a>, Option<Cursor<'a>>, MarkedEnds)> {
+        let found = first_run::<C, INSIDE>(part.view.bytes, marks.front)?;
         Some((
             part.to(found.end).from(found.start).piece(),
             Some(part.from(found.end)),
-            found.marks,
+            MarkedEnds::front(found.marks),
         ))
     }
 }
@@ -127,42 +124,15 @@ impl<C: Searched, const INSIDE: bool> CutBack for AtRuns<C, INSIDE> {
     fn last<'a>(
         self,
         part: Cursor<'a>,
-        _marks: Marked,
-    ) -> Option<(SplitSpan<'a>, Option<Cursor<'a>>, Marked)> {
-        let bytes = part.view.bytes;
-        let end = end_of_last_on::<C, INSIDE>(bytes)?;
-        let start = run_start::<C>(bytes, end - 1, INSIDE);
-        let rest = part.to(end);
+        marks: MarkedEnds,
+    ) -> Option<(SplitSpan<'a>, Option<Cursor<'a>>, MarkedEnds)> {
+        let found = last_run::<C, INSIDE>(part.view.bytes, marks.back)?;
+        let rest = part.to(found.end);
         Some((
-            rest.from(start).piece(),
-            Some(rest.to(start)),
-            Marked::none(),
+            rest.from(found.start).piece(),
+            Some(rest.to(found.start)),
+            MarkedEnds::back(found.marks),
         ))
-    }
-}
-
-/// The position after the last character on the side, if there is one.
-#[inline(always)]
-fn end_of_last_on<C: Searched, const INSIDE: bool>(bytes: &[u8]) -> Option<usize>
-    ensures { MatchOption result (All (IsOnSide C.is (not INSIDE)) bytes.now)
-        (λ end. StartsRun C.is (not INSIDE) bytes.now (length bytes.now) end × (0 < end)) }
-{
-    let end = if INSIDE {
-        piece_start::<C>(bytes)
-    } else {
-        run_start::<C>(bytes, bytes.len(), true)
-    };
-    if end == 0 { None } else { Some(end) }
-}
-
-/// The position at which the last piece outside a class starts.
-#[inline(always)]
-fn piece_start<C: Searched>(bytes: &[u8]) -> usize
-    ensures { StartsRun C.is false bytes.now (length bytes.now) result }
-{
-    match last_of::<C>(bytes) {
-        Some(at) => at + 1,
-        None => 0,
     }
 }
 

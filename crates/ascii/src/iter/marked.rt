@@ -29,12 +29,46 @@ impl Marked {
     }
 }
 
-/// The first run of bytes on the side of a class, and the marks of what follows it.
+/// The first or the last run of bytes on the side of a class, and the marks of what is left.
 #[derive(Clone, Copy)]
-pub struct FirstRun {
+pub struct MarkedRun {
     pub(crate) start: usize,
     pub(crate) end: usize,
     pub(crate) marks: Marked,
+}
+
+/// Marks of the bytes that come next, and of the last ones. Only the end at which an item was cut off
+/// last has any.
+#[derive(Clone, Copy)]
+pub struct MarkedEnds {
+    pub(crate) front: Marked,
+    pub(crate) back: Marked,
+}
+
+impl MarkedEnds {
+    /// These marks of the bytes that come next.
+    #[inline(always)]
+    pub(crate) fn front(front: Marked) -> MarkedEnds
+        ensures front { result.front ≡ front }
+        ensures back { result.back.mask ≡ 0 }
+    {
+        MarkedEnds {
+            front,
+            back: Marked::none(),
+        }
+    }
+
+    /// These marks of the last bytes.
+    #[inline(always)]
+    pub(crate) fn back(back: Marked) -> MarkedEnds
+        ensures front { result.front.mask ≡ 0 }
+        ensures back { result.back ≡ back }
+    {
+        MarkedEnds {
+            front: Marked::none(),
+            back,
+        }
+    }
 }
 
 /// The position of the first mark.
@@ -48,7 +82,7 @@ fn lowest(mask: u64) -> usize
 
 /// Marks the bytes on the side among the first 64.
 #[inline(never)]
-fn block_marks<C: Searched, const INSIDE: bool>(bytes: &[u8]) -> u64
+pub(crate) fn block_marks<C: Searched, const INSIDE: bool>(bytes: &[u8]) -> u64
     requires { BLOCK ≤ length bytes.now }
     ensures { Shows C.is INSIDE bytes.now 0 result }
 {
@@ -63,7 +97,7 @@ fn block_marks<C: Searched, const INSIDE: bool>(bytes: &[u8]) -> u64
 pub(crate) fn first_run<C: Searched, const INSIDE: bool>(
     bytes: &[u8],
     marks: Marked,
-) -> Option<FirstRun>
+) -> Option<MarkedRun>
     requires { AreMarks C.is INSIDE marks bytes.now }
     ensures { MatchOption result (All (IsOnSide C.is (not INSIDE)) bytes.now)
         (IsFirstRun C.is INSIDE bytes.now) }
@@ -92,7 +126,7 @@ fn renewed<C: Searched, const INSIDE: bool>(bytes: &[u8], marks: Marked) -> Mark
 
 /// The first run of bytes on the side, byte by byte.
 #[inline(always)]
-fn near_run<C: Searched, const INSIDE: bool>(bytes: &[u8]) -> Option<FirstRun>
+fn near_run<C: Searched, const INSIDE: bool>(bytes: &[u8]) -> Option<MarkedRun>
     ensures { MatchOption result (All (IsOnSide C.is (not INSIDE)) bytes.now)
         (IsFirstRun C.is INSIDE bytes.now) }
 {
@@ -100,7 +134,7 @@ fn near_run<C: Searched, const INSIDE: bool>(bytes: &[u8]) -> Option<FirstRun>
     if start == bytes.len() {
         return None;
     }
-    Some(FirstRun {
+    Some(MarkedRun {
         start,
         end: run_end::<C>(bytes, start, INSIDE),
         marks: Marked::none(),
@@ -109,7 +143,7 @@ fn near_run<C: Searched, const INSIDE: bool>(bytes: &[u8]) -> Option<FirstRun>
 
 /// The first run of bytes on the side, at the first mark.
 #[inline(always)]
-fn marked_run<C: Searched, const INSIDE: bool>(bytes: &[u8], marks: Marked) -> FirstRun
+fn marked_run<C: Searched, const INSIDE: bool>(bytes: &[u8], marks: Marked) -> MarkedRun
     requires some { marks.mask ≢ 0 }
     requires marks { Shows C.is INSIDE bytes.now marks.at marks.mask }
     ensures { IsFirstRun C.is INSIDE bytes.now result }
@@ -117,7 +151,7 @@ fn marked_run<C: Searched, const INSIDE: bool>(bytes: &[u8], marks: Marked) -> F
     let start = lowest(marks.mask) - marks.at;
     let filled = marks.mask | (marks.mask - 1);
     if filled == u64::MAX {
-        return FirstRun {
+        return MarkedRun {
             start,
             end: far_end::<C, INSIDE>(bytes, BLOCK - marks.at),
             marks: Marked::none(),
@@ -125,7 +159,7 @@ fn marked_run<C: Searched, const INSIDE: bool>(bytes: &[u8], marks: Marked) -> F
     }
     let past = filled + 1;
     let stop = lowest(past);
-    FirstRun {
+    MarkedRun {
         start,
         end: stop - marks.at,
         marks: Marked {

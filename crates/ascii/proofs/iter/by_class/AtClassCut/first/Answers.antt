@@ -1,7 +1,8 @@
-use Rattle.std.proofs.Common.{ap, arith, subst, sym, ◌∙◌}
+use Rattle.std.proofs.Common.{ap, arith, subst, sym, true, ◌∙◌}
 use Rattle.ascii.specs.ByClass.{IsOutside}
 use Rattle.ascii.specs.View.{text_of}
 use Rattle.ascii.proofs.ByClassLemmas.{first_is_outside, first_piece_by, only_is_outside, only_piece_by}
+use Rattle.ascii.proofs.MarkedLemmas.{no_marks}
 use Rattle.ascii.proofs.iter.by_class.AtClassCut.first.Goals as goal
 
 pub returns-then-end-bytes-clause-first : goal.returns-then-end-bytes-clause-first
@@ -32,5 +33,9 @@ returns-clause-item g c = (
 )
 
 pub returns-clause-marks : goal.returns-clause-marks
-returns-clause-marks g c = rw c.from.ensures.text (c.first_piece-end.ensures.marks
-    (let high = c.first_piece-end.ensures.end.high in omega (arith, high, c.if-end-bytes.false)))
+returns-clause-marks g c =
+    let high = c.first_piece-end.ensures.end.high in (
+      rw (c.front-marks.ensures.front, c.from.ensures.text)
+          (c.first_piece-end.ensures.marks (omega (arith, high, c.if-end-bytes.false))),
+      (no_marks g.C.Class.is true _ (text_of c.from.result.view) c.front-marks.ensures.back).1,
+    )

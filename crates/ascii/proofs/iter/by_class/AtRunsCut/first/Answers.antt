@@ -4,6 +4,7 @@ use Rattle.ascii.specs.ByClass.{side_test}
 use Rattle.ascii.specs.Words.{IsWord}
 use Rattle.ascii.specs.View.{text_of}
 use Rattle.ascii.proofs.ByClassLemmas.{first_is_within, first_word_within, no_word}
+use Rattle.ascii.proofs.MarkedLemmas.{no_marks}
 use Rattle.ascii.proofs.RunLemmas.{ends_gap, ends_word, side_decides}
 use Rattle.ascii.proofs.iter.by_class.AtRunsCut.first.Goals as goal
 
@@ -49,4 +50,8 @@ returns-clause-item g c =
     )
 
 pub returns-clause-marks : goal.returns-clause-marks
-returns-clause-marks g c = rw c.from-2.ensures.text c.in_ok-found.ensures.marks
+returns-clause-marks g c = (
+  rw (c.front.ensures.front, c.from-2.ensures.text) c.in_ok-found.ensures.marks,
+  (no_marks g.C.Class.is (not (eqb g.row.INSIDE 0)) _ (text_of c.from-2.result.view)
+      c.front.ensures.back).1,
+)
