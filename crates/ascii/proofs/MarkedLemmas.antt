@@ -1,6 +1,7 @@
 -- Marks of the codes of a text, bit by bit.
 use Rattle.std.proofs.Common.{◌≡◌, ◌≢◌, ℕ, zero, suc, ◌+◌, ◌-◌, ◌*◌, ◌/◌, ◌%◌, ◌^◌, ◌<◌, ◌≤◌}
-use Rattle.std.proofs.Common.{Bool, true, false, not, List, length, get_or, drop, bit_and, bit_or, w64}
+use Rattle.std.proofs.Common.{Bool, true, false, not, List, length, get_or, drop, bit_and, bit_or}
+use Rattle.std.proofs.Common.{w64}
 use Rattle.std.proofs.Common.{sym, ap, ◌∙◌, subst, arith, inl, inr}
 use Rattle.std.specs.Int.{bit_at, bit_not}
 use Rattle.std.proofs.lemmas.Bool.{cases_eq, cases_lt}
@@ -13,6 +14,7 @@ use Rattle.ascii_base.specs.Runs.{EndsRun}
 use Rattle.ascii.specs.declared.iter.marked.Marked.{Marked}
 use Rattle.ascii.specs.Marked.{AreLastMarks, AreMarks, IsFirstRun, IsLowest, Shows}
 use Rattle.ascii.proofs.MasksLemmas.{shifted_from, shifted_here}
+use Rattle.ascii.proofs.RunLemmas.{not_not}
 
 -- the number before one whose lowest bit is s: 1 below s, 0 at s, and the same bits above
 pub prev_bits : (s m : ℕ) → bit_at m s ≡ 1 → ((k : ℕ) → k < s → bit_at m k ≡ 0)
@@ -33,9 +35,11 @@ prev_bits zero m set below =
 prev_bits (suc s) m set below =
     let even : m % 2 ≡ 0 = sym (bit_at_lowest m) ∙ below zero (omega arith) in
     let up : bit_at (m / 2) s ≡ 1 = sym (bit_at-suc m s) ∙ set in
-    let some : m / 2 ≢ 0 = λ none. absurd (omega (arith, up, ap (λ x. bit_at x s) none, bit_at-zero s)) in
+    let some : m / 2 ≢ 0 =
+    λ none. absurd (omega (arith, up, ap (λ x. bit_at x s) none, bit_at-zero s)) in
     let half : (m - 1) / 2 ≡ m / 2 - 1 = omega (arith, even, some) in
-    let high = prev_bits s (m / 2) up (λ k l. sym (bit_at-suc m k) ∙ below (suc k) (omega (arith, l))) in (
+    let high = prev_bits s (m / 2) up
+    (λ k l. sym (bit_at-suc m k) ∙ below (suc k) (omega (arith, l))) in (
       ones (bit_at_lowest (m - 1) ∙ omega (arith, even, some)) half high.0,
       bit_at-suc (m - 1) s ∙ ap (λ x. bit_at x s) half ∙ high.1,
       above half high.2,
@@ -63,6 +67,20 @@ pub twice : (Is : ℕ → Type 0) (side : Bool) (code : ℕ) → IsOnSide Is sid
     → IsOnSide Is (not (not side)) code
 twice Is true code is = is
 twice Is false code is = is
+
+-- a run of one code and more, after what is not of the run
+pub run_from : (Is : ℕ → Type 0) (side : Bool) (text : List ℕ) (s e : ℕ) → s < length text
+    → EndsRun Is (not side) text 0 s → EndsRun Is side text (s + 1) e → EndsRun Is side text s e
+run_from Is side text s e some gap more = record {
+  low = omega (arith, more.low);
+  high = more.high;
+  run = λ k from before. elim (cases_eq k s) [
+    | inl same ↦ subst (λ i. IsOnSide Is side (get_or text i 0)) (sym same)
+        (not_not Is side _ (gap.stop some))
+    | inr other ↦ more.run k (omega (arith, from, other)) before
+  ];
+  stop = more.stop;
+}
 
 -- the first run on the side, at the first mark
 module _ (Is : ℕ → Type 0) (side : Bool) (text : List ℕ) (at mask p : ℕ)
@@ -104,7 +122,8 @@ module _ (Is : ℕ → Type 0) (side : Bool) (text : List ℕ) (at mask p : ℕ)
     low = omega arith;
     high = omega (arith, low.few, shows.room);
     run = λ k from before. at_place (IsOnSide Is (not side)) k (shows.clear (at + k)
-        (low.below (at + k) (omega (arith, before))) (omega arith) (omega (arith, before, low.few)));
+        (low.below (at + k) (omega (arith, before))) (omega arith)
+        (omega (arith, before, low.few)));
     stop = λ _. twice Is side _ (shows.set p low.set).2;
   }
 
@@ -120,12 +139,14 @@ module _ (Is : ℕ → Type 0) (side : Bool) (text : List ℕ) (at mask p : ℕ)
               | inl l ↦ l
               | inr g ↦ elim (cases_eq k p) [
                 | inl same ↦ absurd (omega (arith, is, both, prev.1, ap (bit_at (mask - 1)) same))
-                | inr other ↦ absurd (omega (arith, is, both, low.below k (omega (arith, g, other))))
+                | inr other ↦
+                    absurd (omega (arith, is, both, low.below k (omega (arith, g, other))))
               ]
             ] in
             (omega (arith, past), old.1, after_place (IsOnSide Is side) k past old.2);
         clear = λ k is past few. after_place (IsOnSide Is (not side)) k (omega (arith, past))
-            (shows.clear k (omega (arith, is, bit_at_and mask (mask - 1) k, prev.2 k (omega (arith, past))))
+            (shows.clear k
+            (omega (arith, is, bit_at_and mask (mask - 1) k, prev.2 k (omega (arith, past))))
             (omega (arith, past, from)) few);
       }
     where
@@ -256,7 +277,8 @@ module _ (Is : ℕ → Type 0) (bytes : List ℕ) (first second : ℕ) (room : 6
           let few : k < 32 = here.0 in
           (omega arith, omega (arith, few), moved (λ c. ¬ (Is c)) (0 + k) k (omega arith) here.1)
       | inr other ↦
-          let one : bit_at up k ≡ 1 = omega (arith, is, bit_at_or first up k, bit_at-lt first k, other) in
+          let one : bit_at up k ≡ 1 =
+          omega (arith, is, bit_at_or first up k, bit_at-lt first k, other) in
           let there = shifted_from second 32 k one in
           let past : 32 ≤ k = there.0 in (
             omega arith,

@@ -27,8 +27,8 @@ pub record IsLowest (mask k : ℕ) : Type 0 where
   pub set : bit_at mask k ≡ 1
   pub below : (j : ℕ) → j < k → bit_at mask j ≡ 0
 
--- `found` is the first run of codes of `text` on the side of the class `Is`, and its marks are those
--- of what follows the run
+-- `found` is the first run of codes of `text` on the side of the class `Is`, and its marks are
+-- those of what follows the run
 pub record IsFirstRun (Is : ℕ → Type 0) (side : Bool) (text : List ℕ) (found : MarkedRun)
     : Type 0 where
   pub gap : EndsRun Is (not side) text 0 found.start
@@ -36,8 +36,8 @@ pub record IsFirstRun (Is : ℕ → Type 0) (side : Bool) (text : List ℕ) (fou
   pub run : EndsRun Is side text found.start found.end
   pub marks : AreMarks Is side found.marks (drop found.end text)
 
--- the bits of `mask` before `at` are those of the last codes of `text`, in order: 1 for the codes on
--- the side of the class `Is`, and 0 for the others; the bits from `at` on are 0
+-- the bits of `mask` before `at` are those of the last codes of `text`, in order: 1 for the codes
+-- on the side of the class `Is`, and 0 for the others; the bits from `at` on are 0
 pub record ShowsLast (Is : ℕ → Type 0) (side : Bool) (text : List ℕ) (at mask : ℕ) : Type 0 where
   pub room : at ≤ length text
   pub set : (k : ℕ) → bit_at mask k ≡ 1

@@ -36,11 +36,6 @@ impl<C: CutBack> Cut for Backwards<C> {
     ghost knows = { C.knows };
 
     #[inline(always)]
-    fn no_marks() -> C::Marks {
-        C::no_marks()
-    }
-
-    #[inline(always)]
     fn first<'a>(
         self,
         part: Cursor<'a>,
@@ -82,9 +77,12 @@ impl<'a> AsciiStr<'a> {
         ensures loops { LoopsOverItems result (λ back. IsFree back.cut) }
         ensures loops_back { LoopsBackOverItems result (λ back. IsFree back.cut) }
     {
-        self.items_at(Backwards {
-            cut: AtChar::new(on),
-        })
+        self.items_at(
+            Backwards {
+                cut: AtChar::new(on),
+            },
+            (),
+        )
     }
 
     /// Returns a double-ended iterator over the pieces of the view at each `on`, the last piece
@@ -105,6 +103,7 @@ impl<'a> AsciiStr<'a> {
             Backwards {
                 cut: AtChar::new(on),
             },
+            (),
             0,
         )
     }

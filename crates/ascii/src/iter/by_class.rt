@@ -20,7 +20,7 @@ ghost use Rattle.ascii.specs.Words.{IsWord};
 use crate::ascii_str::AsciiStr;
 use crate::iter::cursor::Cursor;
 use crate::iter::items::{Cut, CutBack, Items, Spans};
-use crate::iter::marked::{Marked, MarkedEnds, first_piece, first_run};
+use crate::iter::marked::{MarkedEnds, first_piece, first_run};
 use crate::iter::marked_back::{last_piece, last_run};
 use crate::iter::spans::SplitSpan;
 use ascii_base::classes::{Searched, Whitespace};
@@ -41,11 +41,6 @@ impl<C: Searched> Cut for AtClass<C> {
     ghost is_item = { λ _. IsOutside C.is };
 
     ghost knows = { AreEndMarks C.is true };
-
-    #[inline(always)]
-    fn no_marks() -> MarkedEnds {
-        MarkedEnds::front(Marked::none())
-    }
 
     #[inline(always)]
     fn first<'a>(
@@ -98,11 +93,6 @@ impl<C: Searched, const INSIDE: bool> Cut for AtRuns<C, INSIDE> {
     ghost is_item = { λ _. IsWord (IsOnSide C.is (not INSIDE)) };
 
     ghost knows = { AreEndMarks C.is INSIDE };
-
-    #[inline(always)]
-    fn no_marks() -> MarkedEnds {
-        MarkedEnds::front(Marked::none())
-    }
 
     #[inline(always)]
     fn first<'a>(
@@ -177,7 +167,7 @@ impl<'a> AsciiStr<'a> {
         ensures loops { LoopsOverItems result (λ _. IsOutside C.is) }
         ensures loops_back { LoopsBackOverItems result (λ _. IsOutside C.is) }
     {
-        self.items_at(AtClass { class: PhantomData })
+        self.items_at(AtClass { class: PhantomData }, MarkedEnds::none())
     }
 
     /// Returns a double-ended iterator over the pieces of the view at each character of the class,
@@ -193,7 +183,7 @@ impl<'a> AsciiStr<'a> {
         ensures loops { LoopsOverSpans result (λ _. IsOutside C.is) }
         ensures loops_back { LoopsBackOverSpans result (λ _. IsOutside C.is) }
     {
-        self.spans_at(AtClass { class: PhantomData }, 0)
+        self.spans_at(AtClass { class: PhantomData }, MarkedEnds::none(), 0)
     }
 
     /// Returns a double-ended iterator over the words of the view: the longest runs of characters
@@ -212,7 +202,7 @@ impl<'a> AsciiStr<'a> {
         ensures loops { LoopsOverItems result (λ _. IsWord C.is) }
         ensures loops_back { LoopsBackOverItems result (λ _. IsWord C.is) }
     {
-        self.items_at(AtRuns { class: PhantomData })
+        self.items_at(AtRuns { class: PhantomData }, MarkedEnds::none())
     }
 
     /// Returns a double-ended iterator over the words of the view between whitespace. There are no
@@ -248,7 +238,7 @@ impl<'a> AsciiStr<'a> {
         ensures loops { LoopsOverSpans result (λ _. IsWord C.is) }
         ensures loops_back { LoopsBackOverSpans result (λ _. IsWord C.is) }
     {
-        self.spans_at(AtRuns { class: PhantomData }, 0)
+        self.spans_at(AtRuns { class: PhantomData }, MarkedEnds::none(), 0)
     }
 
     /// Returns a double-ended iterator over the longest runs of characters of the class in the
@@ -266,7 +256,7 @@ impl<'a> AsciiStr<'a> {
         ensures loops { LoopsOverItems result (λ _. IsWord (λ code. ¬ (C.is code))) }
         ensures loops_back { LoopsBackOverItems result (λ _. IsWord (λ code. ¬ (C.is code))) }
     {
-        self.items_at(AtRuns { class: PhantomData })
+        self.items_at(AtRuns { class: PhantomData }, MarkedEnds::none())
     }
 
     /// Returns a double-ended iterator over the longest runs of characters of the class in the
@@ -283,7 +273,7 @@ impl<'a> AsciiStr<'a> {
         ensures loops { LoopsOverSpans result (λ _. IsWord (λ code. ¬ (C.is code))) }
         ensures loops_back { LoopsBackOverSpans result (λ _. IsWord (λ code. ¬ (C.is code))) }
     {
-        self.spans_at(AtRuns { class: PhantomData }, 0)
+        self.spans_at(AtRuns { class: PhantomData }, MarkedEnds::none(), 0)
     }
 }
 

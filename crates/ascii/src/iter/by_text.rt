@@ -5,7 +5,7 @@
 //!
 //! Nothing here allocates.
 
-ghost use Rattle.std.specs.Prelude.{⊤, ◌≡◌, ℕ, List};
+ghost use Rattle.std.specs.Prelude.{⊤, ◌≡◌};
 ghost use Rattle.ascii.specs.ByClass.{whole};
 ghost use Rattle.ascii.specs.ByText.{IsFreeOf, match_spans_at, matches_at, piece_spans_at, pieces_at};
 ghost use Rattle.ascii.specs.Cuts.{IsRemainder};
@@ -33,10 +33,6 @@ impl<'n> Cut for AtText<'n> {
     ghost is_item = { λ at. IsFreeOf (text_of at.needle) };
 
     ghost knows = { λ _ _. ⊤ };
-
-    fn no_marks()
-        ensures { (text : List ℕ) → ⊤ }
-    {}
 
     #[inline(always)]
     fn first<'a>(
@@ -73,10 +69,6 @@ impl<'n> Cut for AtMatches<'n> {
     ghost is_item = { λ at item. item ≡ text_of at.needle };
 
     ghost knows = { λ _ _. ⊤ };
-
-    fn no_marks()
-        ensures { (text : List ℕ) → ⊤ }
-    {}
 
     #[inline(always)]
     fn first<'a>(
@@ -120,7 +112,7 @@ impl<'a> AsciiStr<'a> {
         ensures iterates { Iterates (pieces_at (text_of needle.entry) (text_of self.entry)) result }
         ensures loops { LoopsOverItems result (λ at. IsFreeOf (text_of at.needle)) }
     {
-        self.items_at(AtText { needle })
+        self.items_at(AtText { needle }, ())
     }
 
     /// Returns an iterator over the pieces of the view at each occurrence of `needle`, from the front,
@@ -138,7 +130,7 @@ impl<'a> AsciiStr<'a> {
         ensures placed { ArePlaced 0 (text_of self.entry) result.items }
         ensures loops { LoopsOverSpans result (λ at. IsFreeOf (text_of at.needle)) }
     {
-        self.spans_at(AtText { needle }, 0)
+        self.spans_at(AtText { needle }, (), 0)
     }
 
     /// Returns an iterator over the occurrences of `needle` in the view, from the front. Each is a part
@@ -153,7 +145,7 @@ impl<'a> AsciiStr<'a> {
             (matches_at (text_of needle.entry) (text_of self.entry)) result }
         ensures loops { LoopsOverItems result (λ at item. item ≡ text_of at.needle) }
     {
-        self.items_at(AtMatches { needle })
+        self.items_at(AtMatches { needle }, ())
     }
 
     /// Returns an iterator over the occurrences of `needle` in the view, from the front, each with the
@@ -171,7 +163,7 @@ impl<'a> AsciiStr<'a> {
         ensures placed { ArePlaced 0 (text_of self.entry) result.items }
         ensures loops { LoopsOverSpans result (λ at item. item ≡ text_of at.needle) }
     {
-        self.spans_at(AtMatches { needle }, 0)
+        self.spans_at(AtMatches { needle }, (), 0)
     }
 }
 

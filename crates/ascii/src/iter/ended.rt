@@ -36,8 +36,6 @@ impl Cut for AtTerminator {
 
     ghost knows = { λ _ _. ⊤ };
 
-    fn no_marks() {}
-
     #[inline(always)]
     fn first<'a>(
         self,
@@ -88,8 +86,6 @@ impl Cut for AtEnd {
     ghost is_item = { λ at. EndsAtMost (code_of at.on) };
 
     ghost knows = { λ _ _. ⊤ };
-
-    fn no_marks() {}
 
     #[inline(always)]
     fn first<'a>(
@@ -152,7 +148,7 @@ impl<'a> AsciiStr<'a> {
         ensures loops { LoopsOverItems result (λ at. IsFree (code_of at.on)) }
         ensures loops_back { LoopsBackOverItems result (λ at. IsFree (code_of at.on)) }
     {
-        self.items_at(AtTerminator { on })
+        self.items_at(AtTerminator { on }, ())
     }
 
     /// Returns an iterator over the pieces of the view that `on` ends, like `split_terminator`, each
@@ -170,7 +166,7 @@ impl<'a> AsciiStr<'a> {
         ensures loops { LoopsOverSpans result (λ at. IsFree (code_of at.on)) }
         ensures loops_back { LoopsBackOverSpans result (λ at. IsFree (code_of at.on)) }
     {
-        self.spans_at(AtTerminator { on }, 0)
+        self.spans_at(AtTerminator { on }, (), 0)
     }
 
     /// Returns a double-ended iterator over the pieces of the view at each `on`, each with the `on`
@@ -189,7 +185,7 @@ impl<'a> AsciiStr<'a> {
         ensures loops { LoopsOverItems result (λ at. EndsAtMost (code_of at.on)) }
         ensures loops_back { LoopsBackOverItems result (λ at. EndsAtMost (code_of at.on)) }
     {
-        self.items_at(AtEnd { on })
+        self.items_at(AtEnd { on }, ())
     }
 
     /// Returns an iterator over the pieces of the view at each `on`, like `split_inclusive`, each with
@@ -207,7 +203,7 @@ impl<'a> AsciiStr<'a> {
         ensures loops { LoopsOverSpans result (λ at. EndsAtMost (code_of at.on)) }
         ensures loops_back { LoopsBackOverSpans result (λ at. EndsAtMost (code_of at.on)) }
     {
-        self.spans_at(AtEnd { on }, 0)
+        self.spans_at(AtEnd { on }, (), 0)
     }
 }
 

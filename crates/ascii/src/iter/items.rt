@@ -40,10 +40,6 @@ pub trait Cut: Copy {
     // what marks say of a text
     ghost knows: { Self.Marks → List ℕ → Type 0 };
 
-    /// Returns marks that are true of every text.
-    fn no_marks() -> Self::Marks
-        ensures { (text : List ℕ) → knows result text };
-
     /// Returns the first item, what is left and its marks, or `None` if there is no item.
     fn first<'a>(
         self,
@@ -258,8 +254,9 @@ impl<'a, C: Cut> FusedIterator for Items<'a, C> {}
 impl<'a> AsciiStr<'a> {
     /// An iterator over the items of the view, each with its start, counted from `offset`.
     #[inline(always)]
-    pub(crate) fn spans_at<C: Cut>(self, on: C, offset: usize) -> Spans<'a, C>
-        requires { offset + length (text_of self) ≤ usize.MAX }
+    pub(crate) fn spans_at<C: Cut>(self, on: C, marks: C::Marks, offset: usize) -> Spans<'a, C>
+        requires fits { offset + length (text_of self) ≤ usize.MAX }
+        requires marks { C.knows marks (text_of self) }
         ensures on { result.on ≡ on }
         ensures items { result.items
             ≡ C.items on (record { start = offset; item = text_of self.entry }) }
@@ -271,21 +268,22 @@ impl<'a> AsciiStr<'a> {
                 start: offset,
                 view: self,
             }),
-            marks: C::no_marks(),
+            marks,
             on,
         }
     }
 
     /// An iterator over the items of the view.
     #[inline(always)]
-    pub(crate) fn items_at<C: Cut>(self, on: C) -> Items<'a, C>
+    pub(crate) fn items_at<C: Cut>(self, on: C, marks: C::Marks) -> Items<'a, C>
+        requires { C.knows marks (text_of self) }
         ensures on { result.on ≡ on }
         ensures items { result.items ≡ items_of (C.items on (whole (text_of self.entry))) }
         ensures loops { LoopsOverItems result C.is_item }
         ensures loops_back { LoopsBackOverItems result C.is_item }
     {
         Items {
-            spans: self.spans_at(on, 0),
+            spans: self.spans_at(on, marks, 0),
         }
     }
 }

@@ -46,6 +46,18 @@ pub struct MarkedEnds {
 }
 
 impl MarkedEnds {
+    /// No marks.
+    #[inline(always)]
+    pub(crate) fn none() -> MarkedEnds
+        ensures front { result.front.mask ≡ 0 }
+        ensures back { result.back.mask ≡ 0 }
+    {
+        MarkedEnds {
+            front: Marked::none(),
+            back: Marked::none(),
+        }
+    }
+
     /// These marks of the bytes that come next.
     #[inline(always)]
     pub(crate) fn front(front: Marked) -> MarkedEnds
@@ -136,7 +148,7 @@ fn near_run<C: Searched, const INSIDE: bool>(bytes: &[u8]) -> Option<MarkedRun>
     }
     Some(MarkedRun {
         start,
-        end: run_end::<C>(bytes, start, INSIDE),
+        end: run_end::<C>(bytes, start + 1, INSIDE),
         marks: Marked::none(),
     })
 }

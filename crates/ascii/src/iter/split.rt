@@ -54,8 +54,6 @@ impl Cut for AtChar {
 
     ghost knows = { λ _ _. ⊤ };
 
-    fn no_marks() {}
-
     #[inline(always)]
     fn first<'a>(
         self,
