@@ -20,6 +20,8 @@ pub mod LinesByLemmas
 pub mod LinesLeftLemmas
 pub mod LinesLemmas
 pub mod ListLemmas
+pub mod MarkedBackLemmas
+pub mod MarkedLemmas
 pub mod MasksLemmas
 pub mod NotationsLemmas
 pub mod NumbersLemmas

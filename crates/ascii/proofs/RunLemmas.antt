@@ -119,7 +119,7 @@ module _ (Is : ℕ → Type 0) where
     stop = run.stop;
   }
 
-  not_not : (side : Bool) (code : ℕ) → IsOnSide Is (not (not side)) code → IsOnSide Is side code
+  pub not_not : (side : Bool) (code : ℕ) → IsOnSide Is (not (not side)) code → IsOnSide Is side code
   not_not true code is = is
   not_not false code is = is
 

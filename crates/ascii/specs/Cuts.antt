@@ -15,25 +15,31 @@ abbrev pub left_of : (WithStart (List ℕ) → List (WithStart (List ℕ))) → 
 left_of items None = []
 left_of items (Some part) = items part
 
--- an item that a way of cutting found, and what is left
-abbrev pub Found : Type 0
-Found = SplitSpan × Option Cursor
+-- an item that a way of cutting found, what is left, and what is known of that
+abbrev pub Found : Type 0 → Type 0
+Found Marks = SplitSpan × Option Cursor × Marks
 
-module _ (items : WithStart (List ℕ) → List (WithStart (List ℕ))) (part : Cursor) where
-  -- there are no items, or the first of them was cut off
-  abbrev pub CutsFirst : Option Found → Type 0
-  CutsFirst result = MatchOption result (items (part_in part) ≡ []) (λ cut. items (part_in part)
-      ≡ piece_in cut.0 ∷ left_of items (option_map part_in cut.1))
+module _ {Marks : Type 0} (items : WithStart (List ℕ) → List (WithStart (List ℕ))) (part : Cursor)
+  where
+    -- there are no items, or the first of them was cut off
+    abbrev pub CutsFirst : Option (Found Marks) → Type 0
+    CutsFirst result = MatchOption result (items (part_in part) ≡ []) (λ cut. items (part_in part)
+        ≡ piece_in cut.0 ∷ left_of items (option_map part_in cut.1))
 
-  -- there are no items, or the last of them was cut off
-  abbrev pub CutsLast : Option Found → Type 0
-  CutsLast result = MatchOption result (items (part_in part) ≡ []) (λ cut. items (part_in part)
-      ≡ left_of items (option_map part_in cut.1) ++ piece_in cut.0 ∷ [])
+    -- there are no items, or the last of them was cut off
+    abbrev pub CutsLast : Option (Found Marks) → Type 0
+    CutsLast result = MatchOption result (items (part_in part) ≡ []) (λ cut. items (part_in part)
+        ≡ left_of items (option_map part_in cut.1) ++ piece_in cut.0 ∷ [])
 
 -- the item is one as `Is` says, and ends at a position that fits a `usize`
-abbrev pub IsCut : (List ℕ → Type 0) → Option Found → Type 0
+abbrev pub IsCut : {Marks : Type 0} → (List ℕ → Type 0) → Option (Found Marks) → Type 0
 IsCut Is result =
     IfSome result (λ cut. Is (text_of cut.0.text) × EndFits cut.0.start cut.0.text)
+
+-- the marks of what is left say of it what `knows` says
+abbrev pub KnowsRest : {Marks : Type 0} → (Marks → List ℕ → Type 0) → Option (Found Marks) → Type 0
+KnowsRest knows result =
+    IfSome result (λ cut. IfSome cut.1 (λ rest. knows cut.2 (text_of rest.view)))
 
 -- `None` if no items remain; otherwise a start and a view whose items, from that start, are the
 -- remaining ones

@@ -17,6 +17,7 @@ pub mod Json
 pub mod Lines
 pub mod LinesBy
 pub mod Maps
+pub mod Marked
 pub mod Masks
 pub mod Notations
 pub mod Numbers

@@ -38,6 +38,8 @@ mod ended;
 mod items;
 mod lines;
 mod lines_by;
+mod marked;
+mod marked_back;
 mod spans;
 mod split;
 mod split_n;

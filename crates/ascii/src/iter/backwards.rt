@@ -27,20 +27,32 @@ pub struct Backwards<C> {
 }
 
 impl<C: CutBack> Cut for Backwards<C> {
+    type Marks = C::Marks;
+
     ghost items = { λ back part. reverse (C.items back.cut part) };
 
     ghost is_item = { λ back. C.is_item back.cut };
 
+    ghost knows = { C.knows };
+
     #[inline(always)]
-    fn first<'a>(self, part: Cursor<'a>) -> Option<(SplitSpan<'a>, Option<Cursor<'a>>)> {
-        self.cut.last(part)
+    fn first<'a>(
+        self,
+        part: Cursor<'a>,
+        marks: C::Marks,
+    ) -> Option<(SplitSpan<'a>, Option<Cursor<'a>>, C::Marks)> {
+        self.cut.last(part, marks)
     }
 }
 
 impl<C: CutBack> CutBack for Backwards<C> {
     #[inline(always)]
-    fn last<'a>(self, part: Cursor<'a>) -> Option<(SplitSpan<'a>, Option<Cursor<'a>>)> {
-        self.cut.first(part)
+    fn last<'a>(
+        self,
+        part: Cursor<'a>,
+        marks: C::Marks,
+    ) -> Option<(SplitSpan<'a>, Option<Cursor<'a>>, C::Marks)> {
+        self.cut.first(part, marks)
     }
 }
 
@@ -65,9 +77,12 @@ impl<'a> AsciiStr<'a> {
         ensures loops { LoopsOverItems result (λ back. IsFree back.cut) }
         ensures loops_back { LoopsBackOverItems result (λ back. IsFree back.cut) }
     {
-        self.items_at(Backwards {
-            cut: AtChar::new(on),
-        })
+        self.items_at(
+            Backwards {
+                cut: AtChar::new(on),
+            },
+            (),
+        )
     }
 
     /// Returns a double-ended iterator over the pieces of the view at each `on`, the last piece
@@ -88,6 +103,7 @@ impl<'a> AsciiStr<'a> {
             Backwards {
                 cut: AtChar::new(on),
             },
+            (),
             0,
         )
     }

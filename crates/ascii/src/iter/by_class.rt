@@ -3,14 +3,14 @@
 //!
 //! Nothing here allocates.
 
-ghost use Rattle.std.specs.Prelude.{◌≡◌, ◌<◌, All, MatchOption, false, length, not};
+ghost use Rattle.std.specs.Prelude.{◌≡◌, not, true};
 ghost use Rattle.std.specs.List.{slice_split};
 ghost use Rattle.ascii_base.specs.Class.{IsWhitespace};
 ghost use Rattle.ascii_base.specs.Bytes.{IsOnSide};
-ghost use Rattle.ascii_base.specs.Runs.{EndsRun, StartsRun};
 ghost use Rattle.ascii_base.specs.Tests.{is_whitespace};
 ghost use Rattle.ascii.specs.ByClass.{IsOutside, piece_spans_by, whole, word_spans_by, words_by};
 ghost use Rattle.ascii.specs.Cuts.{IsRemainder};
+ghost use Rattle.ascii.specs.Marked.{AreEndMarks};
 ghost use Rattle.ascii.specs.Placed.{ArePlaced};
 ghost use Rattle.ascii.specs.Steps.{Iterates, LoopsBackOverItems, LoopsBackOverSpans};
 ghost use Rattle.ascii.specs.Steps.{LoopsOverItems, LoopsOverSpans};
@@ -20,9 +20,10 @@ ghost use Rattle.ascii.specs.Words.{IsWord};
 use crate::ascii_str::AsciiStr;
 use crate::iter::cursor::Cursor;
 use crate::iter::items::{Cut, CutBack, Items, Spans};
+use crate::iter::marked::{MarkedEnds, first_piece, first_run};
+use crate::iter::marked_back::{last_piece, last_run};
 use crate::iter::spans::SplitSpan;
 use ascii_base::classes::{Searched, Whitespace};
-use ascii_base::kernels::{first_of, last_of, run_end, run_start};
 use std::marker::PhantomData;
 
 /// The cut at each character of a class.
@@ -33,30 +34,44 @@ pub struct AtClass<C> {
 }
 
 impl<C: Searched> Cut for AtClass<C> {
+    type Marks = MarkedEnds;
+
     ghost items = { λ _. piece_spans_by C.test };
 
     ghost is_item = { λ _. IsOutside C.is };
 
+    ghost knows = { AreEndMarks C.is true };
+
     #[inline(always)]
-    fn first<'a>(self, part: Cursor<'a>) -> Option<(SplitSpan<'a>, Option<Cursor<'a>>)> {
+    fn first<'a>(
+        self,
+        part: Cursor<'a>,
+        marks: MarkedEnds,
+    ) -> Option<(SplitSpan<'a>, Option<Cursor<'a>>, MarkedEnds)> {
         let bytes = part.view.bytes;
-        let end = piece_end::<C>(bytes);
+        let (end, left) = first_piece::<C>(bytes, marks.front);
+        let marks = MarkedEnds::front(left);
         if end == bytes.len() {
-            return Some((part.piece(), None));
+            return Some((part.piece(), None, marks));
         }
-        Some((part.to(end).piece(), Some(part.from(end + 1))))
+        Some((part.to(end).piece(), Some(part.from(end + 1)), marks))
     }
 }
 
 impl<C: Searched> CutBack for AtClass<C> {
     #[inline(always)]
-    fn last<'a>(self, part: Cursor<'a>) -> Option<(SplitSpan<'a>, Option<Cursor<'a>>)> {
+    fn last<'a>(
+        self,
+        part: Cursor<'a>,
+        marks: MarkedEnds,
+    ) -> Option<(SplitSpan<'a>, Option<Cursor<'a>>, MarkedEnds)> {
         let bytes = part.view.bytes;
-        let start = piece_start::<C>(bytes);
+        let (start, left) = last_piece::<C>(bytes, marks.back);
+        let marks = MarkedEnds::back(left);
         if start == 0 {
-            return Some((part.piece(), None));
+            return Some((part.piece(), None, marks));
         }
-        Some((part.from(start).piece(), Some(part.to(start - 1))))
+        Some((part.from(start).piece(), Some(part.to(start - 1)), marks))
     }
 }
 
@@ -71,79 +86,43 @@ pub struct AtRuns<C, const INSIDE: bool> {
 impl<C: Searched, const INSIDE: bool> Cut for AtRuns<C, INSIDE> {
     ghost use Rattle.ascii.specs.ByClass.{side_test};
 
+    type Marks = MarkedEnds;
+
     ghost items = { λ _. word_spans_by (side_test C.test (not INSIDE)) };
 
     ghost is_item = { λ _. IsWord (IsOnSide C.is (not INSIDE)) };
 
+    ghost knows = { AreEndMarks C.is INSIDE };
+
     #[inline(always)]
-    fn first<'a>(self, part: Cursor<'a>) -> Option<(SplitSpan<'a>, Option<Cursor<'a>>)> {
-        let bytes = part.view.bytes;
-        let start = gap_end::<C, INSIDE>(bytes);
-        if start == bytes.len() {
-            return None;
-        }
-        let end = run_end::<C>(bytes, start, INSIDE);
-        Some((part.to(end).from(start).piece(), Some(part.from(end))))
+    fn first<'a>(
+        self,
+        part: Cursor<'a>,
+        marks: MarkedEnds,
+    ) -> Option<(SplitSpan<'a>, Option<Cursor<'a>>, MarkedEnds)> {
+        let found = first_run::<C, INSIDE>(part.view.bytes, marks.front)?;
+        Some((
+            part.to(found.end).from(found.start).piece(),
+            Some(part.from(found.end)),
+            MarkedEnds::front(found.marks),
+        ))
     }
 }
 
 impl<C: Searched, const INSIDE: bool> CutBack for AtRuns<C, INSIDE> {
     #[inline(always)]
-    fn last<'a>(self, part: Cursor<'a>) -> Option<(SplitSpan<'a>, Option<Cursor<'a>>)> {
-        let bytes = part.view.bytes;
-        let end = end_of_last_on::<C, INSIDE>(bytes)?;
-        let start = run_start::<C>(bytes, end - 1, INSIDE);
-        let rest = part.to(end);
-        Some((rest.from(start).piece(), Some(rest.to(start))))
-    }
-}
-
-/// The position after the gap before the first run, or the length if there is no run. Between runs inside a class
-/// there may be many characters, between words there are few.
-#[inline(always)]
-fn gap_end<C: Searched, const INSIDE: bool>(bytes: &[u8]) -> usize
-    ensures { EndsRun C.is (not INSIDE) bytes.now 0 result }
-{
-    if INSIDE {
-        piece_end::<C>(bytes)
-    } else {
-        run_end::<C>(bytes, 0, true)
-    }
-}
-
-/// The position after the last character on the side, if there is one.
-#[inline(always)]
-fn end_of_last_on<C: Searched, const INSIDE: bool>(bytes: &[u8]) -> Option<usize>
-    ensures { MatchOption result (All (IsOnSide C.is (not INSIDE)) bytes.now)
-        (λ end. StartsRun C.is (not INSIDE) bytes.now (length bytes.now) end × (0 < end)) }
-{
-    let end = if INSIDE {
-        piece_start::<C>(bytes)
-    } else {
-        run_start::<C>(bytes, bytes.len(), true)
-    };
-    if end == 0 { None } else { Some(end) }
-}
-
-/// The position after the first piece outside a class.
-#[inline(always)]
-fn piece_end<C: Searched>(bytes: &[u8]) -> usize
-    ensures { EndsRun C.is false bytes.now 0 result }
-{
-    match first_of::<C>(bytes) {
-        Some(at) => at,
-        None => bytes.len(),
-    }
-}
-
-/// The position at which the last piece outside a class starts.
-#[inline(always)]
-fn piece_start<C: Searched>(bytes: &[u8]) -> usize
-    ensures { StartsRun C.is false bytes.now (length bytes.now) result }
-{
-    match last_of::<C>(bytes) {
-        Some(at) => at + 1,
-        None => 0,
+    fn last<'a>(
+        self,
+        part: Cursor<'a>,
+        marks: MarkedEnds,
+    ) -> Option<(SplitSpan<'a>, Option<Cursor<'a>>, MarkedEnds)> {
+        let found = last_run::<C, INSIDE>(part.view.bytes, marks.back)?;
+        let rest = part.to(found.end);
+        Some((
+            rest.from(found.start).piece(),
+            Some(rest.to(found.start)),
+            MarkedEnds::back(found.marks),
+        ))
     }
 }
 
@@ -188,7 +167,7 @@ impl<'a> AsciiStr<'a> {
         ensures loops { LoopsOverItems result (λ _. IsOutside C.is) }
         ensures loops_back { LoopsBackOverItems result (λ _. IsOutside C.is) }
     {
-        self.items_at(AtClass { class: PhantomData })
+        self.items_at(AtClass { class: PhantomData }, MarkedEnds::none())
     }
 
     /// Returns a double-ended iterator over the pieces of the view at each character of the class,
@@ -204,7 +183,7 @@ impl<'a> AsciiStr<'a> {
         ensures loops { LoopsOverSpans result (λ _. IsOutside C.is) }
         ensures loops_back { LoopsBackOverSpans result (λ _. IsOutside C.is) }
     {
-        self.spans_at(AtClass { class: PhantomData }, 0)
+        self.spans_at(AtClass { class: PhantomData }, MarkedEnds::none(), 0)
     }
 
     /// Returns a double-ended iterator over the words of the view: the longest runs of characters
@@ -223,7 +202,7 @@ impl<'a> AsciiStr<'a> {
         ensures loops { LoopsOverItems result (λ _. IsWord C.is) }
         ensures loops_back { LoopsBackOverItems result (λ _. IsWord C.is) }
     {
-        self.items_at(AtRuns { class: PhantomData })
+        self.items_at(AtRuns { class: PhantomData }, MarkedEnds::none())
     }
 
     /// Returns a double-ended iterator over the words of the view between whitespace. There are no
@@ -259,7 +238,7 @@ impl<'a> AsciiStr<'a> {
         ensures loops { LoopsOverSpans result (λ _. IsWord C.is) }
         ensures loops_back { LoopsBackOverSpans result (λ _. IsWord C.is) }
     {
-        self.spans_at(AtRuns { class: PhantomData }, 0)
+        self.spans_at(AtRuns { class: PhantomData }, MarkedEnds::none(), 0)
     }
 
     /// Returns a double-ended iterator over the longest runs of characters of the class in the
@@ -277,7 +256,7 @@ impl<'a> AsciiStr<'a> {
         ensures loops { LoopsOverItems result (λ _. IsWord (λ code. ¬ (C.is code))) }
         ensures loops_back { LoopsBackOverItems result (λ _. IsWord (λ code. ¬ (C.is code))) }
     {
-        self.items_at(AtRuns { class: PhantomData })
+        self.items_at(AtRuns { class: PhantomData }, MarkedEnds::none())
     }
 
     /// Returns a double-ended iterator over the longest runs of characters of the class in the
@@ -294,7 +273,7 @@ impl<'a> AsciiStr<'a> {
         ensures loops { LoopsOverSpans result (λ _. IsWord (λ code. ¬ (C.is code))) }
         ensures loops_back { LoopsBackOverSpans result (λ _. IsWord (λ code. ¬ (C.is code))) }
     {
-        self.spans_at(AtRuns { class: PhantomData }, 0)
+        self.spans_at(AtRuns { class: PhantomData }, MarkedEnds::none(), 0)
     }
 }
 

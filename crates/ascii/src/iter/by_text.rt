@@ -5,7 +5,7 @@
 //!
 //! Nothing here allocates.
 
-ghost use Rattle.std.specs.Prelude.{◌≡◌};
+ghost use Rattle.std.specs.Prelude.{⊤, ◌≡◌};
 ghost use Rattle.ascii.specs.ByClass.{whole};
 ghost use Rattle.ascii.specs.ByText.{IsFreeOf, match_spans_at, matches_at, piece_spans_at, pieces_at};
 ghost use Rattle.ascii.specs.Cuts.{IsRemainder};
@@ -26,18 +26,30 @@ pub struct AtText<'n> {
 }
 
 impl<'n> Cut for AtText<'n> {
+    type Marks = ();
+
     ghost items = { λ at. piece_spans_at (text_of at.needle) };
 
     ghost is_item = { λ at. IsFreeOf (text_of at.needle) };
 
+    ghost knows = { λ _ _. ⊤ };
+
     #[inline(always)]
-    fn first<'a>(self, part: Cursor<'a>) -> Option<(SplitSpan<'a>, Option<Cursor<'a>>)> {
+    fn first<'a>(
+        self,
+        part: Cursor<'a>,
+        _marks: (),
+    ) -> Option<(SplitSpan<'a>, Option<Cursor<'a>>, ())> {
         if self.needle.is_empty() {
-            return Some((part.piece(), None));
+            return Some((part.piece(), None, ()));
         }
         match part.view.find(self.needle) {
-            Some(at) => Some((part.to(at).piece(), Some(part.from(at + self.needle.len())))),
-            None => Some((part.piece(), None)),
+            Some(at) => Some((
+                part.to(at).piece(),
+                Some(part.from(at + self.needle.len())),
+                (),
+            )),
+            None => Some((part.piece(), None, ())),
         }
     }
 }
@@ -50,18 +62,26 @@ pub struct AtMatches<'n> {
 }
 
 impl<'n> Cut for AtMatches<'n> {
+    type Marks = ();
+
     ghost items = { λ at. match_spans_at (text_of at.needle) };
 
     ghost is_item = { λ at item. item ≡ text_of at.needle };
 
+    ghost knows = { λ _ _. ⊤ };
+
     #[inline(always)]
-    fn first<'a>(self, part: Cursor<'a>) -> Option<(SplitSpan<'a>, Option<Cursor<'a>>)> {
+    fn first<'a>(
+        self,
+        part: Cursor<'a>,
+        _marks: (),
+    ) -> Option<(SplitSpan<'a>, Option<Cursor<'a>>, ())> {
         if self.needle.is_empty() {
             return None;
         }
         let at = part.view.find(self.needle)?;
         let found = part.from(at).to(self.needle.len());
-        Some((found.piece(), Some(part.from(at + self.needle.len()))))
+        Some((found.piece(), Some(part.from(at + self.needle.len())), ()))
     }
 }
 
@@ -92,7 +112,7 @@ impl<'a> AsciiStr<'a> {
         ensures iterates { Iterates (pieces_at (text_of needle.entry) (text_of self.entry)) result }
         ensures loops { LoopsOverItems result (λ at. IsFreeOf (text_of at.needle)) }
     {
-        self.items_at(AtText { needle })
+        self.items_at(AtText { needle }, ())
     }
 
     /// Returns an iterator over the pieces of the view at each occurrence of `needle`, from the front,
@@ -110,7 +130,7 @@ impl<'a> AsciiStr<'a> {
         ensures placed { ArePlaced 0 (text_of self.entry) result.items }
         ensures loops { LoopsOverSpans result (λ at. IsFreeOf (text_of at.needle)) }
     {
-        self.spans_at(AtText { needle }, 0)
+        self.spans_at(AtText { needle }, (), 0)
     }
 
     /// Returns an iterator over the occurrences of `needle` in the view, from the front. Each is a part
@@ -125,7 +145,7 @@ impl<'a> AsciiStr<'a> {
             (matches_at (text_of needle.entry) (text_of self.entry)) result }
         ensures loops { LoopsOverItems result (λ at item. item ≡ text_of at.needle) }
     {
-        self.items_at(AtMatches { needle })
+        self.items_at(AtMatches { needle }, ())
     }
 
     /// Returns an iterator over the occurrences of `needle` in the view, from the front, each with the
@@ -143,7 +163,7 @@ impl<'a> AsciiStr<'a> {
         ensures placed { ArePlaced 0 (text_of self.entry) result.items }
         ensures loops { LoopsOverSpans result (λ at item. item ≡ text_of at.needle) }
     {
-        self.spans_at(AtMatches { needle }, 0)
+        self.spans_at(AtMatches { needle }, (), 0)
     }
 }
 

@@ -3,7 +3,7 @@
 //!
 //! Nothing here allocates.
 
-ghost use Rattle.std.specs.Prelude.{◌++◌, ◌∷◌, []};
+ghost use Rattle.std.specs.Prelude.{⊤, ◌++◌, ◌∷◌, []};
 ghost use Rattle.ascii_base.specs.Code.{code_of};
 ghost use Rattle.ascii.specs.ByClass.{whole};
 ghost use Rattle.ascii.specs.Cuts.{IsRemainder};
@@ -28,33 +28,45 @@ pub struct AtTerminator {
 }
 
 impl Cut for AtTerminator {
+    type Marks = ();
+
     ghost items = { λ at. terminated_spans (code_of at.on) };
 
     ghost is_item = { λ at. IsFree (code_of at.on) };
 
+    ghost knows = { λ _ _. ⊤ };
+
     #[inline(always)]
-    fn first<'a>(self, part: Cursor<'a>) -> Option<(SplitSpan<'a>, Option<Cursor<'a>>)> {
+    fn first<'a>(
+        self,
+        part: Cursor<'a>,
+        _marks: (),
+    ) -> Option<(SplitSpan<'a>, Option<Cursor<'a>>, ())> {
         if part.view.is_empty() {
             return None;
         }
         match part.split_at_first(self.on.as_byte()) {
-            Some((piece, others)) => Some((piece.piece(), Some(others))),
-            None => Some((part.piece(), None)),
+            Some((piece, others)) => Some((piece.piece(), Some(others), ())),
+            None => Some((part.piece(), None, ())),
         }
     }
 }
 
 impl CutBack for AtTerminator {
     #[inline(always)]
-    fn last<'a>(self, part: Cursor<'a>) -> Option<(SplitSpan<'a>, Option<Cursor<'a>>)> {
+    fn last<'a>(
+        self,
+        part: Cursor<'a>,
+        _marks: (),
+    ) -> Option<(SplitSpan<'a>, Option<Cursor<'a>>, ())> {
         let on = self.on.as_byte();
         let (last, front) = part.view.bytes.split_last()?;
         if *last == on {
             let (others, piece) = part.to(front.len()).split_after_last(on);
-            Some((piece.piece(), Some(others)))
+            Some((piece.piece(), Some(others), ()))
         } else {
             let (others, piece) = part.split_after_last(on);
-            Some((piece.piece(), Some(others)))
+            Some((piece.piece(), Some(others), ()))
         }
     }
 }
@@ -67,28 +79,42 @@ pub struct AtEnd {
 }
 
 impl Cut for AtEnd {
+    type Marks = ();
+
     ghost items = { λ at. inclusive_spans (code_of at.on) };
 
     ghost is_item = { λ at. EndsAtMost (code_of at.on) };
 
+    ghost knows = { λ _ _. ⊤ };
+
     #[inline(always)]
-    fn first<'a>(self, part: Cursor<'a>) -> Option<(SplitSpan<'a>, Option<Cursor<'a>>)> {
+    fn first<'a>(
+        self,
+        part: Cursor<'a>,
+        _marks: (),
+    ) -> Option<(SplitSpan<'a>, Option<Cursor<'a>>, ())> {
         if part.view.is_empty() {
             return None;
         }
         match part.split_at_first(self.on.as_byte()) {
-            Some((piece, others)) => { Some((part.to(piece.view.len() + 1).piece(), Some(others))) }
-            None => Some((part.piece(), None)),
+            Some((piece, others)) => {
+                Some((part.to(piece.view.len() + 1).piece(), Some(others), ()))
+            }
+            None => Some((part.piece(), None, ())),
         }
     }
 }
 
 impl CutBack for AtEnd {
     #[inline(always)]
-    fn last<'a>(self, part: Cursor<'a>) -> Option<(SplitSpan<'a>, Option<Cursor<'a>>)> {
+    fn last<'a>(
+        self,
+        part: Cursor<'a>,
+        _marks: (),
+    ) -> Option<(SplitSpan<'a>, Option<Cursor<'a>>, ())> {
         let (_last, front) = part.view.bytes.split_last()?;
         let (others, _piece) = part.to(front.len()).split_after_last(self.on.as_byte());
-        Some((part.from(others.view.len()).piece(), Some(others)))
+        Some((part.from(others.view.len()).piece(), Some(others), ()))
     }
 }
 
@@ -122,7 +148,7 @@ impl<'a> AsciiStr<'a> {
         ensures loops { LoopsOverItems result (λ at. IsFree (code_of at.on)) }
         ensures loops_back { LoopsBackOverItems result (λ at. IsFree (code_of at.on)) }
     {
-        self.items_at(AtTerminator { on })
+        self.items_at(AtTerminator { on }, ())
     }
 
     /// Returns an iterator over the pieces of the view that `on` ends, like `split_terminator`, each
@@ -140,7 +166,7 @@ impl<'a> AsciiStr<'a> {
         ensures loops { LoopsOverSpans result (λ at. IsFree (code_of at.on)) }
         ensures loops_back { LoopsBackOverSpans result (λ at. IsFree (code_of at.on)) }
     {
-        self.spans_at(AtTerminator { on }, 0)
+        self.spans_at(AtTerminator { on }, (), 0)
     }
 
     /// Returns a double-ended iterator over the pieces of the view at each `on`, each with the `on`
@@ -159,7 +185,7 @@ impl<'a> AsciiStr<'a> {
         ensures loops { LoopsOverItems result (λ at. EndsAtMost (code_of at.on)) }
         ensures loops_back { LoopsBackOverItems result (λ at. EndsAtMost (code_of at.on)) }
     {
-        self.items_at(AtEnd { on })
+        self.items_at(AtEnd { on }, ())
     }
 
     /// Returns an iterator over the pieces of the view at each `on`, like `split_inclusive`, each with
@@ -177,7 +203,7 @@ impl<'a> AsciiStr<'a> {
         ensures loops { LoopsOverSpans result (λ at. EndsAtMost (code_of at.on)) }
         ensures loops_back { LoopsBackOverSpans result (λ at. EndsAtMost (code_of at.on)) }
     {
-        self.spans_at(AtEnd { on }, 0)
+        self.spans_at(AtEnd { on }, (), 0)
     }
 }
 

@@ -12,7 +12,7 @@
 ghost use Rattle.std.specs.Prelude.{⊤, ◌≡◌, ◌+◌, ◌≤◌, ℕ, List, IfSome, length};
 ghost use Rattle.std.specs.Iterator.{item_count};
 ghost use Rattle.ascii.specs.ByClass.{whole};
-ghost use Rattle.ascii.specs.Cuts.{CutsFirst, CutsLast, IsCut, IsRestOf};
+ghost use Rattle.ascii.specs.Cuts.{CutsFirst, CutsLast, IsCut, IsRestOf, KnowsRest};
 ghost use Rattle.ascii.specs.Spans.{EndFits, WithStart, items_of, piece_in};
 ghost use Rattle.ascii.specs.Steps.{LoopsBackOverItems, LoopsBackOverSpans, LoopsOverItems};
 ghost use Rattle.ascii.specs.Steps.{LoopsOverSpans, StepsSpan, StepsText, YieldsFirstAnd};
@@ -28,24 +28,42 @@ use std::marker::Model;
 
 /// A way to cut a text into items.
 pub trait Cut: Copy {
+    /// What is known of the text that is left, so that its bytes are not tested again.
+    type Marks: Copy;
+
     // the items of a part of a text, in order, each with its start
     ghost items: { Self → WithStart (List ℕ) → List (WithStart (List ℕ)) };
 
     // what each item is
     ghost is_item: { Self → List ℕ → Type 0 };
 
-    /// Returns the first item and what is left, or `None` if there is no item.
-    fn first<'a>(self, part: Cursor<'a>) -> Option<(SplitSpan<'a>, Option<Cursor<'a>>)>
+    // what marks say of a text
+    ghost knows: { Self.Marks → List ℕ → Type 0 };
+
+    /// Returns the first item, what is left and its marks, or `None` if there is no item.
+    fn first<'a>(
+        self,
+        part: Cursor<'a>,
+        marks: Self::Marks,
+    ) -> Option<(SplitSpan<'a>, Option<Cursor<'a>>, Self::Marks)>
+        requires { knows marks (text_of part.view) }
         ensures first { CutsFirst (items self) part.entry result }
-        ensures item { IsCut (is_item self) result };
+        ensures item { IsCut (is_item self) result }
+        ensures marks { KnowsRest knows result };
 }
 
 /// A way to cut a text into items from both ends.
 pub trait CutBack: Cut {
-    /// Returns the last item and what is left, or `None` if there is no item.
-    fn last<'a>(self, part: Cursor<'a>) -> Option<(SplitSpan<'a>, Option<Cursor<'a>>)>
+    /// Returns the last item, what is left and its marks, or `None` if there is no item.
+    fn last<'a>(
+        self,
+        part: Cursor<'a>,
+        marks: Self::Marks,
+    ) -> Option<(SplitSpan<'a>, Option<Cursor<'a>>, Self::Marks)>
+        requires { Self.knows marks (text_of part.view) }
         ensures last { CutsLast (Self.items self) part.entry result }
-        ensures item { IsCut (Self.is_item self) result };
+        ensures item { IsCut (Self.is_item self) result }
+        ensures marks { KnowsRest Self.knows result };
 }
 
 /// An iterator over the items of a view, each with its start. It is double-ended if the way to cut,
@@ -55,16 +73,18 @@ pub trait CutBack: Cut {
 pub struct Spans<'a, C: Cut> {
     // What is left to cut, or `None` if no items are left.
     pub(crate) rest: Option<Cursor<'a>>,
+    pub(crate) marks: C::Marks,
     pub(crate) on: C,
 }
 
 impl<'a, C: Cut> Model for Spans<'a, C> {
-    ghost use Rattle.std.specs.Prelude.{List, ℕ};
+    ghost use Rattle.std.specs.Prelude.{IfSome, List, ℕ};
     ghost use Rattle.std.specs.Option.{option_map};
     ghost use Rattle.ascii.specs.Cuts.{left_of};
     ghost use Rattle.ascii.specs.Found.{part_in};
     ghost use Rattle.ascii.specs.Pieces.{Remaining};
     ghost use Rattle.ascii.specs.Spans.{WithStart};
+    ghost use Rattle.ascii.specs.View.{text_of};
 
     ghost Value = { Remaining C (WithStart (List ℕ)) };
 
@@ -72,11 +92,18 @@ impl<'a, C: Cut> Model for Spans<'a, C> {
       on = spans.on;
       items = left_of (C.items spans.on) (option_map part_in spans.rest);
     } };
+
+    ghost invariant = { λ spans.
+        IfSome spans.rest (λ rest. C.knows spans.marks (text_of rest.view)) };
 }
 
 impl<'a, C: Cut + Drop> Drop for Spans<'a, C> {
     fn drop(self) {
-        let Spans { rest: _, on } = self;
+        let Spans {
+            rest: _,
+            marks: _,
+            on,
+        } = self;
         drop(on);
     }
 }
@@ -92,6 +119,7 @@ impl<'a, C: Cut> Clone for Spans<'a, C> {
     fn clone(&self) -> Result<Self, AllocError> {
         Ok(Spans {
             rest: self.rest,
+            marks: self.marks,
             on: self.on,
         })
     }
@@ -110,8 +138,9 @@ impl<'a, C: Cut> Iterator for Spans<'a, C> {
     ///     AsciiStr::literal("a,b").split_spans(AsciiChar::Comma).next() // Some(SplitSpan { start: 0, text: "a" })
     #[inline(always)]
     fn next(&mut self) -> Option<SplitSpan<'a>> {
-        let (first, others) = self.on.first(self.rest?)?;
+        let (first, others, marks) = self.on.first(self.rest?, self.marks)?;
         self.rest = others;
+        self.marks = marks;
         Some(first)
     }
 }
@@ -125,8 +154,9 @@ impl<'a, C: CutBack> DoubleEndedIterator for Spans<'a, C> {
     ///     AsciiStr::literal("a,b").split_spans(AsciiChar::Comma).next_back() // Some(SplitSpan { start: 2, text: "b" })
     #[inline(always)]
     fn next_back(&mut self) -> Option<SplitSpan<'a>> {
-        let (last, others) = self.on.last(self.rest?)?;
+        let (last, others, marks) = self.on.last(self.rest?, self.marks)?;
         self.rest = others;
+        self.marks = marks;
         Some(last)
     }
 }
@@ -224,8 +254,9 @@ impl<'a, C: Cut> FusedIterator for Items<'a, C> {}
 impl<'a> AsciiStr<'a> {
     /// An iterator over the items of the view, each with its start, counted from `offset`.
     #[inline(always)]
-    pub(crate) fn spans_at<C: Cut>(self, on: C, offset: usize) -> Spans<'a, C>
-        requires { offset + length (text_of self) ≤ usize.MAX }
+    pub(crate) fn spans_at<C: Cut>(self, on: C, marks: C::Marks, offset: usize) -> Spans<'a, C>
+        requires fits { offset + length (text_of self) ≤ usize.MAX }
+        requires marks { C.knows marks (text_of self) }
         ensures on { result.on ≡ on }
         ensures items { result.items
             ≡ C.items on (record { start = offset; item = text_of self.entry }) }
@@ -237,20 +268,22 @@ impl<'a> AsciiStr<'a> {
                 start: offset,
                 view: self,
             }),
+            marks,
             on,
         }
     }
 
     /// An iterator over the items of the view.
     #[inline(always)]
-    pub(crate) fn items_at<C: Cut>(self, on: C) -> Items<'a, C>
+    pub(crate) fn items_at<C: Cut>(self, on: C, marks: C::Marks) -> Items<'a, C>
+        requires { C.knows marks (text_of self) }
         ensures on { result.on ≡ on }
         ensures items { result.items ≡ items_of (C.items on (whole (text_of self.entry))) }
         ensures loops { LoopsOverItems result C.is_item }
         ensures loops_back { LoopsBackOverItems result C.is_item }
     {
         Items {
-            spans: self.spans_at(on, 0),
+            spans: self.spans_at(on, marks, 0),
         }
     }
 }

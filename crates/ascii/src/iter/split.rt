@@ -2,7 +2,7 @@
 //!
 //! Nothing here allocates.
 
-ghost use Rattle.std.specs.Prelude.{◌≡◌, ◌+◌, ◌≤◌, length};
+ghost use Rattle.std.specs.Prelude.{⊤, ◌≡◌, ◌+◌, ◌≤◌, length};
 ghost use Rattle.ascii_base.specs.Code.{code_of};
 ghost use Rattle.ascii.specs.Found.{part_in, piece_spans};
 ghost use Rattle.ascii.specs.Pieces.{IsRemainderOfPieces, IteratesPieces};
@@ -46,25 +46,37 @@ impl AtChar {
 }
 
 impl Cut for AtChar {
+    type Marks = ();
+
     ghost items = { piece_spans };
 
     ghost is_item = { IsFree };
 
+    ghost knows = { λ _ _. ⊤ };
+
     #[inline(always)]
-    fn first<'a>(self, part: Cursor<'a>) -> Option<(SplitSpan<'a>, Option<Cursor<'a>>)> {
+    fn first<'a>(
+        self,
+        part: Cursor<'a>,
+        _marks: (),
+    ) -> Option<(SplitSpan<'a>, Option<Cursor<'a>>, ())> {
         match part.split_at_first(self.code) {
-            Some((piece, others)) => Some((piece.piece(), Some(others))),
-            None => Some((part.piece(), None)),
+            Some((piece, others)) => Some((piece.piece(), Some(others), ())),
+            None => Some((part.piece(), None, ())),
         }
     }
 }
 
 impl CutBack for AtChar {
     #[inline(always)]
-    fn last<'a>(self, part: Cursor<'a>) -> Option<(SplitSpan<'a>, Option<Cursor<'a>>)> {
+    fn last<'a>(
+        self,
+        part: Cursor<'a>,
+        _marks: (),
+    ) -> Option<(SplitSpan<'a>, Option<Cursor<'a>>, ())> {
         match part.split_at_last(self.code) {
-            Some((others, piece)) => Some((piece.piece(), Some(others))),
-            None => Some((part.piece(), None)),
+            Some((others, piece)) => Some((piece.piece(), Some(others), ())),
+            None => Some((part.piece(), None, ())),
         }
     }
 }
@@ -166,6 +178,7 @@ impl<'a> AsciiStr<'a> {
                 start: offset,
                 view: self,
             }),
+            marks: (),
             on: AtChar::new(on),
         }
     }

@@ -1,25 +1,25 @@
 use Rattle.std.proofs.Common.{ap, subst, sym, ◌∙◌, drop, eqb, not, arith}
-use Rattle.std.proofs.lemmas.List.Elements.{All-from_get_or}
 use Rattle.ascii_base.specs.Bytes.{IsOnSide}
 use Rattle.ascii.specs.ByClass.{side_test}
 use Rattle.ascii.specs.Words.{IsWord}
 use Rattle.ascii.specs.View.{text_of}
 use Rattle.ascii.proofs.ByClassLemmas.{first_is_within, first_word_within, no_word}
+use Rattle.ascii.proofs.MarkedLemmas.{no_marks}
 use Rattle.ascii.proofs.RunLemmas.{ends_gap, ends_word, side_decides}
 use Rattle.ascii.proofs.iter.by_class.AtRunsCut.first.Goals as goal
 
-pub returns-then-start-bytes-clause-first : goal.returns-then-start-bytes-clause-first
-returns-then-start-bytes-clause-first g c =
+pub returns-in_err-found-clause-first : goal.returns-in_err-found-clause-first
+returns-in_err-found-clause-first g c =
     let gap = not (not (eqb g.row.INSIDE 0)) in
-    no_word (IsOnSide g.C.Class.is gap) (side_test g.C.Class.test gap)
+    rw c.from_residual.ensures (no_word (IsOnSide g.C.Class.is gap) (side_test g.C.Class.test gap)
     (side_decides g.C.Class.is g.C.Class.test g.met.C.Class.decides gap) c.args.part.start
-    (text_of c.args.part.view) (All-from_get_or (IsOnSide g.C.Class.is gap) _ 0
-    (λ k inside. c.gap_end-start.ensures.run k (omega arith) (omega (arith, inside, c.if-start-bytes.true))))
+    (text_of c.args.part.view) c.in_err-found.ensures)
 
 pub returns-clause-first : goal.returns-clause-first
 returns-clause-first g c =
     let Is = g.C.Class.is in
     let inside = not (eqb g.row.INSIDE 0) in
+    let run = c.in_ok-found.ensures in
     rw (
       c.piece.ensures.piece,
       c.from.ensures.start,
@@ -31,20 +31,27 @@ returns-clause-first g c =
     )
     (first_word_within (IsOnSide Is (not inside)) (side_test g.C.Class.test (not inside))
     (side_decides Is g.C.Class.test g.met.C.Class.decides (not inside)) c.args.part.start
-    (text_of c.args.part.view) c.gap_end-start.result c.run_end-end.result c.if-start-bytes.false
-    (ends_gap Is (not inside) _ _ _ c.gap_end-start.ensures)
-    (ends_word Is inside _ _ _ c.run_end-end.ensures))
+    (text_of c.args.part.view) c.in_ok-found.found.start c.in_ok-found.found.end (omega (arith, run.some))
+    (ends_gap Is (not inside) _ _ _ run.gap) (ends_word Is inside _ _ _ run.run))
 
 pub returns-clause-item : goal.returns-clause-item
 returns-clause-item g c =
     let Is = g.C.Class.is in
-    let inside = not (eqb g.row.INSIDE 0) in (
+    let inside = not (eqb g.row.INSIDE 0) in
+    let run = c.in_ok-found.ensures in (
       subst (IsWord (IsOnSide Is (not inside))) (sym (ap (λ span. span.item) c.piece.ensures.piece
-          ∙ (c.from.ensures.text ∙ ap (drop c.gap_end-start.result) c.to.ensures.text)))
+          ∙ (c.from.ensures.text ∙ ap (drop c.in_ok-found.found.start) c.to.ensures.text)))
           (first_is_within (IsOnSide Is (not inside)) (side_test g.C.Class.test (not inside))
           (side_decides Is g.C.Class.test g.met.C.Class.decides (not inside)) c.args.part.start
-          (text_of c.args.part.view) c.gap_end-start.result c.run_end-end.result
-          c.if-start-bytes.false (ends_gap Is (not inside) _ _ _ c.gap_end-start.ensures)
-          (ends_word Is inside _ _ _ c.run_end-end.ensures)),
+          (text_of c.args.part.view) c.in_ok-found.found.start c.in_ok-found.found.end
+          (omega (arith, run.some)) (ends_gap Is (not inside) _ _ _ run.gap)
+          (ends_word Is inside _ _ _ run.run)),
       c.piece.ensures.fits,
     )
+
+pub returns-clause-marks : goal.returns-clause-marks
+returns-clause-marks g c = (
+  rw (c.front.ensures.front, c.from-2.ensures.text) c.in_ok-found.ensures.marks,
+  (no_marks g.C.Class.is (not (eqb g.row.INSIDE 0)) _ (text_of c.from-2.result.view)
+      c.front.ensures.back).1,
+)

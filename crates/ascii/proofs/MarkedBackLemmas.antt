@@ -1,0 +1,149 @@
+-- Marks of the last codes of a text, bit by bit.
+use Rattle.std.proofs.Common.{◌≡◌, ℕ, ◌+◌, ◌-◌, ◌^◌, ◌<◌, ◌≤◌, Bool, not, List, length}
+use Rattle.std.proofs.Common.{get_or, take, bit_and, w64, sym, ap, ◌∙◌, subst, arith, inl, inr}
+use Rattle.std.specs.Int.{bit_at, bit_not}
+use Rattle.std.proofs.lemmas.Bool.{cases_lt}
+use Rattle.std.proofs.lemmas.List.{get_or-take, length-take-le}
+use Rattle.std.proofs.lemmas.Nat.Bits.{bit_at-lt, bit_at-zero, bit_at_and, bit_at_not, bit_at_ones}
+use Rattle.std.proofs.lemmas.Nat.Bits.{bit_at_ones_above}
+use Rattle.ascii_base.specs.Bytes.{IsOnSide}
+use Rattle.ascii_base.specs.Runs.{StartsRun}
+use Rattle.ascii.specs.declared.iter.marked.Marked.{Marked}
+use Rattle.ascii.specs.Marked.{IsHighest, IsLastRun, ShowsLast}
+use Rattle.ascii.proofs.MarkedLemmas.{twice}
+
+-- the bits of a mask before `n`
+low_bit : (m n k : ℕ) → k < n → bit_at (bit_and m (2 ^ n - 1)) k ≡ bit_at m k
+low_bit m n k l = bit_at_and m (2 ^ n - 1) k ∙ omega (arith, bit_at_ones n k l, bit_at-lt m k)
+
+no_high_bit : (m n k : ℕ) → n ≤ k → bit_at (bit_and m (2 ^ n - 1)) k ≡ 0
+no_high_bit m n k g = bit_at_and m (2 ^ n - 1) k ∙ omega (arith, bit_at_ones_above n k g)
+
+-- the last run on the side, at the last mark
+module _ (Is : ℕ → Type 0) (side : Bool) (text : List ℕ) (at mask h : ℕ)
+    (shows : ShowsLast Is side text at mask) (high : IsHighest mask h) where
+  -- the position of the code that bit 0 is of
+  abbrev first : ℕ
+  first = length text - at
+
+  inside : h < at
+  inside = (shows.set h high.set).0
+
+  at_place : (P : ℕ → Type 0) (k : ℕ) → first ≤ k → P (get_or text (first + (k - first)) 0)
+      → P (get_or text k 0)
+  at_place P k from is =
+      let same : first + (k - first) ≡ k = omega (arith, from) in
+      subst (λ i. P (get_or text i 0)) same is
+
+  pub gap_run_back : StartsRun Is (not side) text (length text) (first + h + 1)
+  gap_run_back = record {
+    high = omega (arith, inside, shows.room);
+    run = λ k from before. at_place (IsOnSide Is (not side)) k (omega (arith, from))
+        (shows.clear (k - first) (high.above (k - first) (omega (arith, from)))
+        (omega (arith, before, shows.room, inside, from)));
+    stop = λ _.
+        let same : first + h ≡ first + h + 1 - 1 = omega arith in
+        subst (λ i. IsOnSide Is (not (not side)) (get_or text i 0)) same
+        (twice Is side _ (shows.set h high.set).1);
+  }
+
+  -- a run that is marked from bit n on, and goes on before it
+  run_before : (n s : ℕ) → n ≤ h → ((k : ℕ) → n ≤ k → k < h → bit_at mask k ≡ 1)
+      → StartsRun Is side text (first + n) s → StartsRun Is side text (first + h + 1 - 1) s
+  run_before n s near ones far = record {
+    high = omega (arith, far.high, near);
+    run = λ k after before. elim (cases_lt k (first + n)) [
+      | inl early ↦ far.run k after early
+      | inr late ↦ at_place (IsOnSide Is side) k (omega (arith, late)) (shows.set (k - first)
+          (ones (k - first) (omega (arith, late)) (omega (arith, before, late)))).1
+    ];
+    stop = far.stop;
+  }
+
+  -- the marks before bit n are those of the text without what has the others
+  kept_before : (n : ℕ) → n ≤ at
+      → ShowsLast Is side (take (first + n) text) n (bit_and mask (2 ^ n - 1))
+  kept_before n few = record {
+    room = omega (arith, size);
+    set = λ k is. elim (cases_lt k n) [
+      | inl l ↦ (l, there (IsOnSide Is side) k l (shows.set k (sym (low_bit mask n k l) ∙ is)).1)
+      | inr g ↦ absurd (omega (arith, is, no_high_bit mask n k g))
+    ];
+    clear = λ k is l. there (IsOnSide Is (not side)) k l
+        (shows.clear k (sym (low_bit mask n k l) ∙ is) (omega (arith, l, few)));
+  }
+    where
+      size : length (take (first + n) text) ≡ first + n
+      size = length-take-le (first + n) text (omega (arith, few, shows.room))
+
+      there : (P : ℕ → Type 0) (k : ℕ) → k < n → P (get_or text (first + k) 0)
+          → P (get_or (take (first + n) text) (length (take (first + n) text) - n + k) 0)
+      there P k l is =
+          let place : first + k ≡ length (take (first + n) text) - n + k = omega (arith, size) in
+          subst P (sym (get_or-take (first + n) text (first + k) 0 (omega (arith, l)))
+          ∙ ap (λ i. get_or (take (first + n) text) i 0) place) is
+
+  -- the marks of what comes before the last marked code
+  pub cut_last : ShowsLast Is side (take (first + h + 1 - 1) text) h (bit_and mask (2 ^ h - 1))
+  cut_last =
+      let same : first + h ≡ first + h + 1 - 1 = omega arith in
+      subst (λ n. ShowsLast Is side (take n text) h (bit_and mask (2 ^ h - 1))) same
+      (kept_before h (omega (arith, inside)))
+
+  -- a bit below the last mark, by the bits that are not marked
+  unmarked : mask < 2 ^ 64 → (k : ℕ) → k < h
+      → bit_at (bit_and (bit_not w64 mask) (2 ^ h - 1)) k ≡ 1 - bit_at mask k
+  unmarked fits k l = low_bit (bit_not w64 mask) h k l
+      ∙ bit_at_not w64 mask k fits (omega (arith, l, high.few))
+
+  -- the run goes on where the marks start
+  pub far_run_back : mask < 2 ^ 64 → (s : ℕ) (none : Marked) → none.mask ≡ 0
+      → bit_and (bit_not w64 mask) (2 ^ h - 1) ≡ 0 → StartsRun Is side text first s
+      → IsLastRun Is side text (record { start = s; end = first + h + 1; marks = none })
+  far_run_back fits s none empty full far =
+      let same : first ≡ first + 0 = omega arith in record {
+        gap = gap_run_back;
+        some = omega arith;
+        run = run_before 0 s (omega arith) (λ k from l. omega (
+          arith,
+          unmarked fits k l,
+          ap (λ m. bit_at m k) full,
+          bit_at-zero k,
+          bit_at-lt mask k,
+        )) (subst (λ i. StartsRun Is side text i s) same far);
+        marks = λ some. absurd (some empty);
+      }
+
+  -- the run starts after bit z
+  module _ (fits : mask < 2 ^ 64) (z : ℕ)
+      (stop : IsHighest (bit_and (bit_not w64 mask) (2 ^ h - 1)) z) where
+    below : z < h
+    below = elim (cases_lt z h) [
+      | inl l ↦ l
+      | inr g ↦ absurd (omega (arith, stop.set, no_high_bit (bit_not w64 mask) h z g))
+    ]
+
+    pub near_run_back : IsLastRun Is side text (record {
+      start = first + (z + 1);
+      end = first + h + 1;
+      marks = record { at = z + 1; mask = bit_and mask (2 ^ (z + 1) - 1) };
+    })
+    near_run_back = record {
+      gap = gap_run_back;
+      some = omega arith;
+      run = run_before (z + 1) (first + (z + 1)) (omega (arith, below)) (λ k from l. omega (
+        arith,
+        unmarked fits k l,
+        stop.above k (omega (arith, from)),
+        bit_at-lt mask k,
+      )) (record {
+        high = omega arith;
+        run = λ k from before. absurd (omega (arith, from, before));
+        stop = λ _.
+            let same : first + z ≡ first + (z + 1) - 1 = omega arith in
+            subst (λ i. IsOnSide Is (not side) (get_or text i 0)) same
+            (shows.clear z (omega (arith, unmarked fits z below, stop.set, bit_at-lt mask z))
+            (omega (arith, below, inside)));
+      });
+      marks = λ _. kept_before (z + 1) (omega (arith, below, inside));
+    }

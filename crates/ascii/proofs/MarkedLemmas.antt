@@ -1,0 +1,315 @@
+-- Marks of the codes of a text, bit by bit.
+use Rattle.std.proofs.Common.{◌≡◌, ◌≢◌, ℕ, zero, suc, ◌+◌, ◌-◌, ◌*◌, ◌/◌, ◌%◌, ◌^◌, ◌<◌, ◌≤◌}
+use Rattle.std.proofs.Common.{Bool, true, false, not, List, length, get_or, drop, bit_and, bit_or}
+use Rattle.std.proofs.Common.{w64}
+use Rattle.std.proofs.Common.{sym, ap, ◌∙◌, subst, arith, inl, inr}
+use Rattle.std.specs.Int.{bit_at, bit_not}
+use Rattle.std.proofs.lemmas.Bool.{cases_eq, cases_lt}
+use Rattle.std.proofs.lemmas.List.{get_or-drop, length-drop}
+use Rattle.std.proofs.lemmas.Nat.Bits.{bit_at-lt, bit_at-suc, bit_at-zero, bit_at_above, bit_at_and}
+use Rattle.std.proofs.lemmas.Nat.Bits.{bit_at_lowest, bit_at_not, bit_at_ones, bit_at_or}
+use Rattle.ascii_base.specs.Bytes.{IsOnSide}
+use Rattle.ascii_base.specs.Lanes.{Marks}
+use Rattle.ascii_base.specs.Runs.{EndsRun}
+use Rattle.ascii.specs.declared.iter.marked.Marked.{Marked}
+use Rattle.ascii.specs.Marked.{AreLastMarks, AreMarks, IsFirstRun, IsLowest, Shows}
+use Rattle.ascii.proofs.MasksLemmas.{shifted_from, shifted_here}
+use Rattle.ascii.proofs.RunLemmas.{not_not}
+
+-- the number before one whose lowest bit is s: 1 below s, 0 at s, and the same bits above
+pub prev_bits : (s m : ℕ) → bit_at m s ≡ 1 → ((k : ℕ) → k < s → bit_at m k ≡ 0)
+    → ((k : ℕ) → k < s → bit_at (m - 1) k ≡ 1) × (bit_at (m - 1) s ≡ 0)
+    × ((k : ℕ) → s < k → bit_at (m - 1) k ≡ bit_at m k)
+prev_bits zero m set below =
+    let odd : m % 2 ≡ 1 = sym (bit_at_lowest m) ∙ set in (
+      λ k l. absurd (omega (arith, l)),
+      bit_at_lowest (m - 1) ∙ omega (arith, odd),
+      above odd,
+    )
+  where
+    above : m % 2 ≡ 1 → (k : ℕ) → zero < k → bit_at (m - 1) k ≡ bit_at m k
+    above odd zero l = absurd (omega (arith, l))
+    above odd (suc i) l =
+        let half : (m - 1) / 2 ≡ m / 2 = omega (arith, odd) in
+        bit_at-suc (m - 1) i ∙ ap (λ x. bit_at x i) half ∙ sym (bit_at-suc m i)
+prev_bits (suc s) m set below =
+    let even : m % 2 ≡ 0 = sym (bit_at_lowest m) ∙ below zero (omega arith) in
+    let up : bit_at (m / 2) s ≡ 1 = sym (bit_at-suc m s) ∙ set in
+    let some : m / 2 ≢ 0 =
+    λ none. absurd (omega (arith, up, ap (λ x. bit_at x s) none, bit_at-zero s)) in
+    let half : (m - 1) / 2 ≡ m / 2 - 1 = omega (arith, even, some) in
+    let high = prev_bits s (m / 2) up
+    (λ k l. sym (bit_at-suc m k) ∙ below (suc k) (omega (arith, l))) in (
+      ones (bit_at_lowest (m - 1) ∙ omega (arith, even, some)) half high.0,
+      bit_at-suc (m - 1) s ∙ ap (λ x. bit_at x s) half ∙ high.1,
+      above half high.2,
+    )
+  where
+    ones : bit_at (m - 1) 0 ≡ 1 → (m - 1) / 2 ≡ m / 2 - 1
+        → ((k : ℕ) → k < s → bit_at (m / 2 - 1) k ≡ 1) → (k : ℕ) → k < suc s → bit_at (m - 1) k ≡ 1
+    ones first half high zero l = first
+    ones first half high (suc i) l =
+        bit_at-suc (m - 1) i ∙ ap (λ x. bit_at x i) half ∙ high i (omega (arith, l))
+
+    above : (m - 1) / 2 ≡ m / 2 - 1 → ((k : ℕ) → s < k → bit_at (m / 2 - 1) k ≡ bit_at (m / 2) k)
+        → (k : ℕ) → suc s < k → bit_at (m - 1) k ≡ bit_at m k
+    above half high zero l = absurd (omega (arith, l))
+    above half high (suc i) l = bit_at-suc (m - 1) i ∙ ap (λ x. bit_at x i) half
+        ∙ high i (omega (arith, l)) ∙ sym (bit_at-suc m i)
+
+-- a mask without marks says nothing
+pub no_marks : (Is : ℕ → Type 0) (side : Bool) (marks : Marked) (text : List ℕ) → marks.mask ≡ 0
+    → AreMarks Is side marks text × AreLastMarks Is side marks text
+no_marks Is side marks text none = (λ some. absurd (some none), λ some. absurd (some none))
+
+-- a code on a side is not on the other
+pub twice : (Is : ℕ → Type 0) (side : Bool) (code : ℕ) → IsOnSide Is side code
+    → IsOnSide Is (not (not side)) code
+twice Is true code is = is
+twice Is false code is = is
+
+-- a run of one code and more, after what is not of the run
+pub run_from : (Is : ℕ → Type 0) (side : Bool) (text : List ℕ) (s e : ℕ) → s < length text
+    → EndsRun Is (not side) text 0 s → EndsRun Is side text (s + 1) e → EndsRun Is side text s e
+run_from Is side text s e some gap more = record {
+  low = omega (arith, more.low);
+  high = more.high;
+  run = λ k from before. elim (cases_eq k s) [
+    | inl same ↦ subst (λ i. IsOnSide Is side (get_or text i 0)) (sym same)
+        (not_not Is side _ (gap.stop some))
+    | inr other ↦ more.run k (omega (arith, from, other)) before
+  ];
+  stop = more.stop;
+}
+
+-- the first run on the side, at the first mark
+module _ (Is : ℕ → Type 0) (side : Bool) (text : List ℕ) (at mask p : ℕ)
+    (shows : Shows Is side text at mask) (low : IsLowest mask p) where
+  -- the mask with all bits before its first mark
+  abbrev filled : ℕ
+  filled = bit_or mask (mask - 1)
+
+  pub starts : at ≤ p
+  starts = (shows.set p low.set).0
+
+  prev : ((k : ℕ) → k < p → bit_at (mask - 1) k ≡ 1) × (bit_at (mask - 1) p ≡ 0)
+      × ((k : ℕ) → p < k → bit_at (mask - 1) k ≡ bit_at mask k)
+  prev = prev_bits p mask low.set low.below
+
+  filled_low : (k : ℕ) → k ≤ p → bit_at filled k ≡ 1
+  filled_low k l = elim (cases_eq k p) [
+    | inl same ↦
+        ap (bit_at filled) same ∙ (bit_at_or mask (mask - 1) p ∙ omega (arith, low.set, prev.1))
+    | inr other ↦
+        let before : k < p = omega (arith, l, other) in
+        bit_at_or mask (mask - 1) k ∙ omega (arith, low.below k before, prev.0 k before)
+  ]
+
+  filled_high : (k : ℕ) → p ≤ k → bit_at filled k ≡ bit_at mask k
+  filled_high k g = elim (cases_eq k p) [
+    | inl same ↦ ap (bit_at filled) same ∙ (filled_low p (omega arith)
+        ∙ (sym low.set ∙ ap (bit_at mask) (sym same)))
+    | inr other ↦
+        bit_at_or mask (mask - 1) k ∙ omega (arith, prev.2 k (omega (arith, g, other)))
+  ]
+
+  at_place : (P : ℕ → Type 0) (k : ℕ) → P (get_or text (at + k - at) 0) → P (get_or text k 0)
+  at_place P k is =
+      let same : at + k - at ≡ k = omega arith in subst (λ i. P (get_or text i 0)) same is
+
+  pub gap_run : EndsRun Is (not side) text 0 (p - at)
+  gap_run = record {
+    low = omega arith;
+    high = omega (arith, low.few, shows.room);
+    run = λ k from before. at_place (IsOnSide Is (not side)) k (shows.clear (at + k)
+        (low.below (at + k) (omega (arith, before))) (omega arith)
+        (omega (arith, before, low.few)));
+    stop = λ _. twice Is side _ (shows.set p low.set).2;
+  }
+
+  -- without its first mark, the mask is that of the codes after the first marked one
+  pub cut_first : Shows Is side (drop (p - at + 1) text) (p + 1) (bit_and mask (mask - 1))
+  cut_first =
+      let from = starts in record {
+        room = omega (arith, shows.room, length-drop (p - at + 1) text, from, low.few);
+        set = λ k is.
+            let both = bit_at_and mask (mask - 1) k in
+            let old = shows.set k (omega (arith, is, both, bit_at-lt mask k)) in
+            let past : p < k = elim (cases_lt p k) [
+              | inl l ↦ l
+              | inr g ↦ elim (cases_eq k p) [
+                | inl same ↦ absurd (omega (arith, is, both, prev.1, ap (bit_at (mask - 1)) same))
+                | inr other ↦
+                    absurd (omega (arith, is, both, low.below k (omega (arith, g, other))))
+              ]
+            ] in
+            (omega (arith, past), old.1, after_place (IsOnSide Is side) k past old.2);
+        clear = λ k is past few. after_place (IsOnSide Is (not side)) k (omega (arith, past))
+            (shows.clear k
+            (omega (arith, is, bit_at_and mask (mask - 1) k, prev.2 k (omega (arith, past))))
+            (omega (arith, past, from)) few);
+      }
+    where
+      after_place : (P : ℕ → Type 0) (k : ℕ) → p < k → P (get_or text (k - at) 0)
+          → P (get_or (drop (p - at + 1) text) (k - (p + 1)) 0)
+      after_place P k past is =
+          let place : p - at + 1 + (k - (p + 1)) ≡ k - at = omega (arith, starts, past) in
+          subst P (sym (get_or-drop (p - at + 1) text (k - (p + 1)) 0
+          ∙ ap (λ i. get_or text i 0) place)) is
+
+  -- a run that is marked up to q, and goes on there
+  run_on : (q e : ℕ) → p < q → ((k : ℕ) → p ≤ k → k < q → bit_at mask k ≡ 1)
+      → EndsRun Is side text (q - at) e → EndsRun Is side text (p - at) e
+  run_on q e order ones far =
+      let from = starts in record {
+        low = omega (arith, far.low, order, from);
+        high = far.high;
+        run = λ k after before. elim (cases_lt k (q - at)) [
+          | inl near ↦ at_place (IsOnSide Is side) k (shows.set (at + k)
+              (ones (at + k) (omega (arith, after, from)) (omega (arith, near)))).2
+          | inr past ↦ far.run k past before
+        ];
+        stop = far.stop;
+      }
+
+  -- the run goes on where the marks end
+  pub far_run : (e : ℕ) (none : Marked) → none.mask ≡ 0 → filled ≡ 2 ^ 64 - 1
+      → EndsRun Is side text (64 - at) e
+      → IsFirstRun Is side text (record { start = p - at; end = e; marks = none })
+  far_run e none empty full far = record {
+    gap = gap_run;
+    some = omega (arith, low.few, shows.room, starts);
+    run = run_on 64 e low.few (λ k from few. sym (filled_high k from)
+        ∙ (ap (λ m. bit_at m k) full ∙ bit_at_ones 64 k few)) far;
+    marks = λ some. absurd (some empty);
+  }
+
+  -- the run ends at q
+  module _ (q : ℕ) (stop : IsLowest (filled + 1) q) where
+    next : ((k : ℕ) → k < q → bit_at (filled + 1 - 1) k ≡ 1) × (bit_at (filled + 1 - 1) q ≡ 0)
+        × ((k : ℕ) → q < k → bit_at (filled + 1 - 1) k ≡ bit_at (filled + 1) k)
+    next = prev_bits q (filled + 1) stop.set stop.below
+
+    back : (k : ℕ) → bit_at (filled + 1 - 1) k ≡ bit_at filled k
+    back k = let same : filled + 1 - 1 ≡ filled = omega arith in ap (λ m. bit_at m k) same
+
+    order : p < q
+    order = elim (cases_lt p q) [
+      | inl l ↦ l
+      | inr g ↦ absurd (omega (arith, next.1, back q, filled_low q g))
+    ]
+
+    pub ends : at ≤ q
+    ends = omega (arith, starts, order)
+
+    at_stop : bit_at mask q ≡ 0
+    at_stop = sym (filled_high q (omega (arith, order))) ∙ (sym (back q) ∙ next.1)
+
+    in_rest : (P : ℕ → Type 0) (k : ℕ) → q ≤ k → P (get_or text (k - at) 0)
+        → P (get_or (drop (q - at) text) (k - q) 0)
+    in_rest P k g is =
+        let place : q - at + (k - q) ≡ k - at = omega (arith, ends, g) in
+        subst P (sym (get_or-drop (q - at) text (k - q) 0 ∙ ap (λ i. get_or text i 0) place)) is
+
+    kept : Shows Is side (drop (q - at) text) q (bit_and mask (filled + 1))
+    kept = record {
+      room = omega (arith, shows.room, length-drop (q - at) text, ends, stop.few);
+      set = λ k is.
+          let both = bit_at_and mask (filled + 1) k in
+          let old = shows.set k (omega (arith, is, both, bit_at-lt mask k)) in
+          let from : q ≤ k = elim (cases_lt k q) [
+            | inl l ↦ absurd (omega (arith, is, both, stop.below k l))
+            | inr g ↦ g
+          ] in
+          (from, old.1, in_rest (IsOnSide Is side) k from old.2);
+      clear = λ k is from few. in_rest (IsOnSide Is (not side)) k from (shows.clear k
+          (elim (cases_eq k q) [
+            | inl same ↦ ap (bit_at mask) same ∙ at_stop
+            | inr other ↦
+                let past : q < k = omega (arith, from, other) in
+                omega (
+                  arith,
+                  is,
+                  bit_at_and mask (filled + 1) k,
+                  next.2 k past,
+                  back k,
+                  filled_high k (omega (arith, past, order)),
+                )
+          ]) (omega (arith, from, ends)) few);
+    }
+
+    pub near_run : IsFirstRun Is side text (record {
+      start = p - at;
+      end = q - at;
+      marks = record { at = q; mask = bit_and mask (filled + 1) };
+    })
+    near_run = record {
+      gap = gap_run;
+      some = omega (arith, low.few, shows.room, starts);
+      run = run_on q (q - at) order (λ k from before. sym (filled_high k from)
+          ∙ (sym (back k) ∙ next.0 k before)) (record {
+            low = omega arith;
+            high = omega (arith, stop.few, shows.room);
+            run = λ k from before. absurd (omega (arith, from, before));
+            stop = λ _. shows.clear q at_stop ends stop.few;
+          });
+      marks = λ _. kept;
+    }
+
+-- the marks of the first 64 codes, from those of 32 and 32
+module _ (Is : ℕ → Type 0) (bytes : List ℕ) (first second : ℕ) (room : 64 ≤ length bytes)
+    (low : Marks Is bytes 0 32 first) (high : Marks Is bytes 32 32 second) where
+  abbrev up : ℕ
+  up = second * 2 ^ 32 % 2 ^ 64
+
+  abbrev outside : ℕ
+  outside = bit_or first (second * 2 ^ 32 % 2 ^ 64)
+
+  moved : (P : ℕ → Type 0) (i k : ℕ) → i ≡ k - 0 → P (get_or bytes i 0) → P (get_or bytes (k - 0) 0)
+  moved P i k same is = subst (λ j. P (get_or bytes j 0)) same is
+
+  pub block_outside : Shows Is false bytes 0 (bit_or first (second * 2 ^ 32 % 2 ^ 64))
+  block_outside = record {
+    room = omega (arith, room);
+    set = λ k is. elim (cases_eq (bit_at first k) 1) [
+      | inl one ↦
+          let here = low.set k one in
+          let few : k < 32 = here.0 in
+          (omega arith, omega (arith, few), moved (λ c. ¬ (Is c)) (0 + k) k (omega arith) here.1)
+      | inr other ↦
+          let one : bit_at up k ≡ 1 =
+          omega (arith, is, bit_at_or first up k, bit_at-lt first k, other) in
+          let there = shifted_from second 32 k one in
+          let past : 32 ≤ k = there.0 in (
+            omega arith,
+            there.1,
+            moved (λ c. ¬ (Is c)) (32 + (k - 32)) k (omega (arith, past))
+                (high.set (k - 32) there.2).1,
+          )
+    ];
+    clear = λ k is from few. elim (cases_lt k 32) [
+      | inl l ↦ moved Is (0 + k) k (omega arith)
+          (low.clear k (omega (arith, is, bit_at_or first up k)) l)
+      | inr g ↦ moved Is (32 + (k - 32)) k (omega (arith, g)) (high.clear (k - 32)
+          (sym (shifted_here second 32 k few g) ∙ omega (arith, is, bit_at_or first up k))
+          (omega (arith, g, few)))
+    ];
+  }
+
+-- the marks of the other side
+pub block_inside : (Is : ℕ → Type 0) (bytes : List ℕ) (m : ℕ) → m < 2 ^ 64
+    → Shows Is false bytes 0 m → Shows Is true bytes 0 (bit_not w64 m)
+block_inside Is bytes m fits shows = record {
+  room = shows.room;
+  set = λ k is. elim (cases_lt k 64) [
+    | inl few ↦ (
+      omega arith,
+      few,
+      shows.clear k
+          (omega (arith, is, bit_at_not w64 m k fits few, bit_at-lt m k)) (omega arith) few,
+    )
+    | inr g ↦ absurd (omega (arith, is, bit_at_above (bit_not w64 m) 64 k (omega arith) g))
+  ];
+  clear = λ k is from few.
+      (shows.set k (omega (arith, is, bit_at_not w64 m k fits few, bit_at-lt m k))).2;
+}

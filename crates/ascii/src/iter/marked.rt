@@ -1,0 +1,236 @@
+//! Marks of the next 64 bytes of a text. The cuts by class keep them, so that many bytes take one test.
+
+ghost use Rattle.std.specs.Prelude.{◌≡◌, ◌≢◌, ◌+◌, ◌<◌, ◌≤◌, All, MatchOption, drop, false, length};
+ghost use Rattle.std.specs.Prelude.{not, true};
+ghost use Rattle.ascii_base.specs.Bytes.{IsOnSide};
+ghost use Rattle.ascii_base.specs.Runs.{EndsRun};
+ghost use Rattle.ascii.specs.Marked.{AreMarks, IsFirstRun, IsLowest, Shows};
+
+use ascii_base::classes::{ClassBy, Searched};
+use ascii_base::kernels::{first_of, run_end};
+
+/// How many bytes have marks at once.
+pub(crate) const BLOCK: usize = 64;
+
+/// Marks of the bytes that come next: bit `at` of the mask is that of the first one.
+#[derive(Clone, Copy)]
+pub struct Marked {
+    pub(crate) at: usize,
+    pub(crate) mask: u64,
+}
+
+impl Marked {
+    /// No marks.
+    #[inline(always)]
+    pub(crate) fn none() -> Marked
+        ensures { result.mask ≡ 0 }
+    {
+        Marked { at: 0, mask: 0 }
+    }
+}
+
+/// The first or the last run of bytes on the side of a class, and the marks of what is left.
+#[derive(Clone, Copy)]
+pub struct MarkedRun {
+    pub(crate) start: usize,
+    pub(crate) end: usize,
+    pub(crate) marks: Marked,
+}
+
+/// Marks of the bytes that come next, and of the last ones. Only the end at which an item was cut off
+/// last has any.
+#[derive(Clone, Copy)]
+pub struct MarkedEnds {
+    pub(crate) front: Marked,
+    pub(crate) back: Marked,
+}
+
+impl MarkedEnds {
+    /// No marks.
+    #[inline(always)]
+    pub(crate) fn none() -> MarkedEnds
+        ensures front { result.front.mask ≡ 0 }
+        ensures back { result.back.mask ≡ 0 }
+    {
+        MarkedEnds {
+            front: Marked::none(),
+            back: Marked::none(),
+        }
+    }
+
+    /// These marks of the bytes that come next.
+    #[inline(always)]
+    pub(crate) fn front(front: Marked) -> MarkedEnds
+        ensures front { result.front ≡ front }
+        ensures back { result.back.mask ≡ 0 }
+    {
+        MarkedEnds {
+            front,
+            back: Marked::none(),
+        }
+    }
+
+    /// These marks of the last bytes.
+    #[inline(always)]
+    pub(crate) fn back(back: Marked) -> MarkedEnds
+        ensures front { result.front.mask ≡ 0 }
+        ensures back { result.back ≡ back }
+    {
+        MarkedEnds {
+            front: Marked::none(),
+            back,
+        }
+    }
+}
+
+/// The position of the first mark.
+#[inline(always)]
+fn lowest(mask: u64) -> usize
+    requires { mask ≢ 0 }
+    ensures { IsLowest mask result }
+{
+    mask.trailing_zeros() as usize
+}
+
+/// Marks the bytes on the side among the first 64.
+#[inline(never)]
+pub(crate) fn block_marks<C: Searched, const INSIDE: bool>(bytes: &[u8]) -> u64
+    requires { BLOCK ≤ length bytes.now }
+    ensures { Shows C.is INSIDE bytes.now 0 result }
+{
+    let low = <C as ClassBy<32>>::marks(bytes, 0);
+    let high = <C as ClassBy<32>>::marks(bytes, 32);
+    let outside = low | (high << 32);
+    if INSIDE { !outside } else { outside }
+}
+
+/// The first run of bytes on the side.
+#[inline(always)]
+pub(crate) fn first_run<C: Searched, const INSIDE: bool>(
+    bytes: &[u8],
+    marks: Marked,
+) -> Option<MarkedRun>
+    requires { AreMarks C.is INSIDE marks bytes.now }
+    ensures { MatchOption result (All (IsOnSide C.is (not INSIDE)) bytes.now)
+        (IsFirstRun C.is INSIDE bytes.now) }
+{
+    let marks = renewed::<C, INSIDE>(bytes, marks);
+    if marks.mask == 0 {
+        return near_run::<C, INSIDE>(bytes);
+    }
+    Some(marked_run::<C, INSIDE>(bytes, marks))
+}
+
+/// The marks, or if there are none left, those of the first 64 bytes. Fewer bytes have no marks.
+#[inline(always)]
+fn renewed<C: Searched, const INSIDE: bool>(bytes: &[u8], marks: Marked) -> Marked
+    requires { AreMarks C.is INSIDE marks bytes.now }
+    ensures { AreMarks C.is INSIDE result bytes.now }
+{
+    if marks.mask != 0 || bytes.len() < BLOCK {
+        return marks;
+    }
+    Marked {
+        at: 0,
+        mask: block_marks::<C, INSIDE>(bytes),
+    }
+}
+
+/// The first run of bytes on the side, byte by byte.
+#[inline(always)]
+fn near_run<C: Searched, const INSIDE: bool>(bytes: &[u8]) -> Option<MarkedRun>
+    ensures { MatchOption result (All (IsOnSide C.is (not INSIDE)) bytes.now)
+        (IsFirstRun C.is INSIDE bytes.now) }
+{
+    let start = gap_end::<C, INSIDE>(bytes);
+    if start == bytes.len() {
+        return None;
+    }
+    Some(MarkedRun {
+        start,
+        end: run_end::<C>(bytes, start + 1, INSIDE),
+        marks: Marked::none(),
+    })
+}
+
+/// The first run of bytes on the side, at the first mark.
+#[inline(always)]
+fn marked_run<C: Searched, const INSIDE: bool>(bytes: &[u8], marks: Marked) -> MarkedRun
+    requires some { marks.mask ≢ 0 }
+    requires marks { Shows C.is INSIDE bytes.now marks.at marks.mask }
+    ensures { IsFirstRun C.is INSIDE bytes.now result }
+{
+    let start = lowest(marks.mask) - marks.at;
+    let filled = marks.mask | (marks.mask - 1);
+    if filled == u64::MAX {
+        return MarkedRun {
+            start,
+            end: far_end::<C, INSIDE>(bytes, BLOCK - marks.at),
+            marks: Marked::none(),
+        };
+    }
+    let past = filled + 1;
+    let stop = lowest(past);
+    MarkedRun {
+        start,
+        end: stop - marks.at,
+        marks: Marked {
+            at: stop,
+            mask: marks.mask & past,
+        },
+    }
+}
+
+/// The end of the first piece outside the class, and the marks of what follows the piece and its
+/// separator.
+#[inline(always)]
+pub(crate) fn first_piece<C: Searched>(bytes: &[u8], marks: Marked) -> (usize, Marked)
+    requires { AreMarks C.is true marks bytes.now }
+    ensures end { EndsRun C.is false bytes.now 0 result.0 }
+    ensures marks { result.0 < length bytes.now
+        → AreMarks C.is true result.1 (drop (result.0 + 1) bytes.now) }
+{
+    let marks = renewed::<C, true>(bytes, marks);
+    if marks.mask == 0 {
+        return (piece_end::<C>(bytes), Marked::none());
+    }
+    let place = lowest(marks.mask);
+    let left = Marked {
+        at: place + 1,
+        mask: marks.mask & (marks.mask - 1),
+    };
+    (place - marks.at, left)
+}
+
+/// The end of a run that goes on at `from`, where the marks end.
+#[inline(never)]
+fn far_end<C: Searched, const INSIDE: bool>(bytes: &[u8], from: usize) -> usize
+    requires { from ≤ length bytes.now }
+    ensures { EndsRun C.is INSIDE bytes.now from result }
+{
+    run_end::<C>(bytes, from, INSIDE)
+}
+
+/// The position after the gap before the first run, or the length if there is no run. Between runs inside a class
+/// there may be many characters, between words there are few.
+#[inline(always)]
+fn gap_end<C: Searched, const INSIDE: bool>(bytes: &[u8]) -> usize
+    ensures { EndsRun C.is (not INSIDE) bytes.now 0 result }
+{
+    if INSIDE {
+        piece_end::<C>(bytes)
+    } else {
+        run_end::<C>(bytes, 0, true)
+    }
+}
+
+/// The position after the first piece outside a class.
+#[inline(always)]
+fn piece_end<C: Searched>(bytes: &[u8]) -> usize
+    ensures { EndsRun C.is false bytes.now 0 result }
+{
+    match first_of::<C>(bytes) {
+        Some(at) => at,
+        None => bytes.len(),
+    }
+}

@@ -1,0 +1,158 @@
+//! Marks of the last 64 bytes of a text, as `marked` has of the first ones.
+
+ghost use Rattle.std.specs.Prelude.{◌≡◌, ◌≢◌, ◌+◌, ◌-◌, ◌^◌, ◌<◌, ◌≤◌, All, MatchOption, bit_and};
+ghost use Rattle.std.specs.Prelude.{false, length, not, take, true};
+ghost use Rattle.ascii_base.specs.Bytes.{IsOnSide};
+ghost use Rattle.ascii_base.specs.Runs.{StartsRun};
+ghost use Rattle.ascii.specs.Marked.{AreLastMarks, IsHighest, IsLastRun, ShowsLast};
+
+use crate::iter::marked::{BLOCK, Marked, MarkedRun, block_marks};
+use ascii_base::classes::Searched;
+use ascii_base::kernels::{last_of, run_start};
+
+/// The position of the last mark.
+#[inline(always)]
+fn highest(mask: u64) -> usize
+    requires { mask ≢ 0 }
+    ensures { IsHighest mask result }
+{
+    mask.ilog2() as usize
+}
+
+/// The bits before `at`.
+#[inline(always)]
+fn bits_before(mask: u64, at: usize) -> u64
+    requires { at < 64 }
+    ensures { result ≡ bit_and mask (2 ^ at - 1) }
+{
+    mask & ((1 << at) - 1)
+}
+
+/// The last run of bytes on the side.
+#[inline(always)]
+pub(crate) fn last_run<C: Searched, const INSIDE: bool>(
+    bytes: &[u8],
+    marks: Marked,
+) -> Option<MarkedRun>
+    requires { AreLastMarks C.is INSIDE marks bytes.now }
+    ensures { MatchOption result (All (IsOnSide C.is (not INSIDE)) bytes.now)
+        (IsLastRun C.is INSIDE bytes.now) }
+{
+    let marks = renewed::<C, INSIDE>(bytes, marks);
+    if marks.mask == 0 {
+        return near_run::<C, INSIDE>(bytes);
+    }
+    Some(marked_run::<C, INSIDE>(bytes, marks))
+}
+
+/// The marks, or if there are none left, those of the last 64 bytes. Fewer bytes have no marks.
+#[inline(always)]
+fn renewed<C: Searched, const INSIDE: bool>(bytes: &[u8], marks: Marked) -> Marked
+    requires { AreLastMarks C.is INSIDE marks bytes.now }
+    ensures { AreLastMarks C.is INSIDE result bytes.now }
+{
+    if marks.mask != 0 || bytes.len() < BLOCK {
+        return marks;
+    }
+    Marked {
+        at: BLOCK,
+        mask: block_marks::<C, INSIDE>(&bytes[bytes.len() - BLOCK..]),
+    }
+}
+
+/// The last run of bytes on the side, byte by byte.
+#[inline(always)]
+fn near_run<C: Searched, const INSIDE: bool>(bytes: &[u8]) -> Option<MarkedRun>
+    ensures { MatchOption result (All (IsOnSide C.is (not INSIDE)) bytes.now)
+        (IsLastRun C.is INSIDE bytes.now) }
+{
+    let end = end_of_last_on::<C, INSIDE>(bytes)?;
+    Some(MarkedRun {
+        start: run_start::<C>(bytes, end - 1, INSIDE),
+        end,
+        marks: Marked::none(),
+    })
+}
+
+/// The last run of bytes on the side, at the last mark.
+#[inline(always)]
+fn marked_run<C: Searched, const INSIDE: bool>(bytes: &[u8], marks: Marked) -> MarkedRun
+    requires some { marks.mask ≢ 0 }
+    requires marks { ShowsLast C.is INSIDE bytes.now marks.at marks.mask }
+    ensures { IsLastRun C.is INSIDE bytes.now result }
+{
+    let first = bytes.len() - marks.at;
+    let last = highest(marks.mask);
+    let end = first + last + 1;
+    let unmarked = bits_before(!marks.mask, last);
+    if unmarked == 0 {
+        return MarkedRun {
+            start: far_start::<C, INSIDE>(bytes, first),
+            end,
+            marks: Marked::none(),
+        };
+    }
+    let at = highest(unmarked) + 1;
+    MarkedRun {
+        start: first + at,
+        end,
+        marks: Marked {
+            at,
+            mask: bits_before(marks.mask, at),
+        },
+    }
+}
+
+/// The start of the last piece outside the class, and the marks of what comes before the piece and its
+/// separator.
+#[inline(always)]
+pub(crate) fn last_piece<C: Searched>(bytes: &[u8], marks: Marked) -> (usize, Marked)
+    requires { AreLastMarks C.is true marks bytes.now }
+    ensures start { StartsRun C.is false bytes.now (length bytes.now) result.0 }
+    ensures marks { 0 < result.0 → AreLastMarks C.is true result.1 (take (result.0 - 1) bytes.now) }
+{
+    let marks = renewed::<C, true>(bytes, marks);
+    if marks.mask == 0 {
+        return (piece_start::<C>(bytes), Marked::none());
+    }
+    let place = highest(marks.mask);
+    let left = Marked {
+        at: place,
+        mask: bits_before(marks.mask, place),
+    };
+    (bytes.len() - marks.at + place + 1, left)
+}
+
+/// The start of a run that goes on before `to`, where the marks start.
+#[inline(never)]
+fn far_start<C: Searched, const INSIDE: bool>(bytes: &[u8], to: usize) -> usize
+    requires { to ≤ length bytes.now }
+    ensures { StartsRun C.is INSIDE bytes.now to result }
+{
+    run_start::<C>(bytes, to, INSIDE)
+}
+
+/// The position after the last character on the side, if there is one.
+#[inline(always)]
+fn end_of_last_on<C: Searched, const INSIDE: bool>(bytes: &[u8]) -> Option<usize>
+    ensures { MatchOption result (All (IsOnSide C.is (not INSIDE)) bytes.now)
+        (λ end. StartsRun C.is (not INSIDE) bytes.now (length bytes.now) end × (0 < end)) }
+{
+    let end = if INSIDE {
+        piece_start::<C>(bytes)
+    } else {
+        run_start::<C>(bytes, bytes.len(), true)
+    };
+    if end == 0 { None } else { Some(end) }
+}
+
+/// The position at which the last piece outside a class starts.
+#[inline(always)]
+fn piece_start<C: Searched>(bytes: &[u8]) -> usize
+    ensures { StartsRun C.is false bytes.now (length bytes.now) result }
+{
+    match last_of::<C>(bytes) {
+        Some(at) => at + 1,
+        None => 0,
+    }
+}
