@@ -10,8 +10,10 @@ use Rattle.std.proofs.lemmas.Nat.Bits.{bit_at-zero, bit_at-lt, bit_at_and, bit_a
 use Rattle.std.proofs.lemmas.Nat.Bits.{bit_at_cat_low, bit_at_cat_high, bit_at_ones, bit_at_ones_above}
 use Rattle.std.proofs.lemmas.Simd.{bit_mask_l, length-chunk, get_or-chunk}
 use lib.Lanes.{mask_l, chunk}
-use Rattle.memchr.specs.Find.{FindsLastNeedle, FindsNeedle, IsFirst, IsLast, Nowhere}
-use Rattle.memchr.specs.Find.{OccursAt, Passes, is_byte}
+use Rattle.memchr.specs.Find.{FindsLastNeedle, FindsNeedle, IsFirst, IsFirstByte, IsLast, IsLastByte}
+use Rattle.memchr.specs.Find.{Nowhere, OccursAt, Passes, is_byte}
+use Rattle.memchr.proofs.lemmas.FindLemmas.{IsFirst-agree, IsFirst-wider, IsLast-agree, IsLast-wider}
+use Rattle.memchr.proofs.lemmas.FindLemmas.{OccursAt-byte, byte-OccursAt}
 use Rattle.ascii.specs.Masks.{Fits, HasBit, MarksPositions}
 
 -- the mask of a test of each byte of a load
@@ -264,3 +266,21 @@ module _ (hay needle : List ℕ) where
         },
         found.1,
       )
+
+-- a search for the byte of a needle of one byte is one for the needle
+module _ (hay needle : List ℕ) (one : length needle ≡ 1) where
+  abbrev on : ℕ → Bool
+  on = is_byte (get_or needle 0 0)
+
+  inside : (k : ℕ) → OccursAt hay needle k → k < length hay
+  inside k occurs = let fits = occurs.fits in omega (arith, fits)
+
+  pub finds_byte : (found : Option ℕ) → IsFirstByte on hay found → FindsNeedle hay needle 0 found
+  finds_byte found is = IsFirst-wider (OccursAt hay needle) 0 (length hay) _ (omega arith) inside found
+      (IsFirst-agree (Passes on hay) (OccursAt hay needle) 0 (length hay) (OccursAt-byte hay needle one)
+      (λ k _. byte-OccursAt hay needle one k) found is)
+
+  pub finds_last_byte : (found : Option ℕ) → IsLastByte on hay found → FindsLastNeedle hay needle found
+  finds_last_byte found is = IsLast-wider (OccursAt hay needle) 0 (length hay) _ (omega arith) inside found
+      (IsLast-agree (Passes on hay) (OccursAt hay needle) 0 (length hay) (OccursAt-byte hay needle one)
+      (λ k _. byte-OccursAt hay needle one k) found is)

@@ -2,10 +2,10 @@
 //!
 //! Up to 64 positions are tested at once: a mask has a bit for each position, which is set if a needle
 //! there would have its first and its last byte. Such a position is a candidate, and the needle is
-//! compared at the candidates only. If there are too many positions or candidates, the crate `memchr`
-//! searches.
+//! compared at the candidates only. The crate `memchr` searches if there are too many positions or
+//! candidates, or more than 64 positions of a needle of one byte.
 
-ghost use Rattle.std.specs.Prelude.{◌≢◌, ◌+◌, ◌<◌, ◌≤◌, length};
+ghost use Rattle.std.specs.Prelude.{◌≡◌, ◌≢◌, ◌+◌, ◌<◌, ◌≤◌, length};
 ghost use Rattle.memchr.specs.Find.{FindsLastNeedle, FindsNeedle, IsFirst, IsLast, OccursAt, Passes, is_byte};
 ghost use Rattle.ascii.specs.Masks.{Fits, HasBit, MarksPositions};
 
@@ -33,7 +33,10 @@ pub(crate) fn first_needle(hay: &[u8], needle: &[u8]) -> Option<usize>
         return None;
     }
     let positions = hay.len() - needle.len() + 1;
-    if positions > SHORT || (positions > BLOCK && needle.len() == 1) {
+    if positions > BLOCK && needle.len() == 1 {
+        return first_byte(hay, needle);
+    }
+    if positions > SHORT {
         return memmem::find(hay, needle);
     }
     if positions > BLOCK {
@@ -57,7 +60,10 @@ pub(crate) fn last_needle(hay: &[u8], needle: &[u8]) -> Option<usize>
         return None;
     }
     let positions = hay.len() - needle.len() + 1;
-    if positions > SHORT || (positions > BLOCK && needle.len() == 1) {
+    if positions > BLOCK && needle.len() == 1 {
+        return last_byte(hay, needle);
+    }
+    if positions > SHORT {
         return memmem::rfind(hay, needle);
     }
     if positions > BLOCK {
@@ -68,6 +74,22 @@ pub(crate) fn last_needle(hay: &[u8], needle: &[u8]) -> Option<usize>
         return memmem::rfind(hay, needle);
     }
     last_marked(hay, needle, 0, marked)
+}
+
+/// Returns the position of the first `needle`, which has one byte, or `None` if there is none.
+fn first_byte(hay: &[u8], needle: &[u8]) -> Option<usize>
+    requires { length needle.now ≡ 1 }
+    ensures { FindsNeedle hay.now needle.now 0 result }
+{
+    memchr::memchr(needle[0], hay)
+}
+
+/// Returns the position of the last `needle`, which has one byte, or `None` if there is none.
+fn last_byte(hay: &[u8], needle: &[u8]) -> Option<usize>
+    requires { length needle.now ≡ 1 }
+    ensures { FindsLastNeedle hay.now needle.now result }
+{
+    memchr::memrchr(needle[0], hay)
 }
 
 /// Returns the position of the first `needle` among at least 64, or `None` if there is none.
