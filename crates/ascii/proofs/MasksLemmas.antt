@@ -2,48 +2,22 @@
 use Rattle.std.proofs.Common.{◌≡◌, ◌≢◌, ℕ, ◌+◌, ◌-◌, ◌*◌, ◌/◌, ◌%◌, ◌^◌, ◌<◌, ◌≤◌, Bool, false}
 use Rattle.std.proofs.Common.{cond, List, map, length, get_or, take, drop, bit_and, bit_or, sym, ap, ◌∙◌}
 use Rattle.std.proofs.Common.{refl, subst, arith, inl, inr, pow_pos, shr-shr, Option, None, Some}
+use Rattle.std.proofs.Common.{true, ◌&&◌, eqb}
 use Rattle.std.specs.Int.{bit_at}
-use Rattle.std.proofs.lemmas.Bool.{cases_lt, cases_eq, cases_Bool, eq-eqb}
+use Rattle.std.proofs.lemmas.Bool.{cases_lt, cases_eq, eq-eqb}
 use Rattle.std.proofs.lemmas.List.{length-map, get_or-map, get_or_past, get_or-drop, length-drop}
 use Rattle.std.proofs.lemmas.List.{take_all}
-use Rattle.std.proofs.lemmas.Nat.Bits.{bit_at-zero, bit_at-lt, bit_at_and, bit_at_or, bit_at_above}
+use Rattle.std.proofs.lemmas.Nat.Bits.{bit_at-zero, bit_at-lt, bit_at_or, bit_at_above}
 use Rattle.std.proofs.lemmas.Nat.Bits.{bit_at_cat_low, bit_at_cat_high, bit_at_ones, bit_at_ones_above}
-use Rattle.std.proofs.lemmas.Simd.{bit_mask_l, length-chunk, get_or-chunk}
-use lib.Lanes.{mask_l, chunk}
-use Rattle.memchr.specs.Find.{FindsLastNeedle, FindsNeedle, IsFirst, IsLast, Nowhere}
-use Rattle.memchr.specs.Find.{OccursAt, Passes, is_byte}
+use Rattle.std.proofs.lemmas.Simd.{bit_mask_l, get_or-chunk, get_or-replicate, get_or-zip2}
+use Rattle.std.proofs.lemmas.Simd.{length-chunk, length-replicate, length-zip2, mask_l-mod}
+use lib.Lanes.{chunk, mask_l, top, zip2}
+use lib.ListN.{replicate}
+use Rattle.memchr.specs.Find.{FindsLastNeedle, FindsNeedle, IsFirst, IsFirstByte, IsLast, IsLastByte}
+use Rattle.memchr.specs.Find.{Nowhere, OccursAt, Passes, is_byte}
+use Rattle.memchr.proofs.lemmas.FindLemmas.{IsFirst-agree, IsFirst-wider, IsLast-agree, IsLast-wider}
+use Rattle.memchr.proofs.lemmas.FindLemmas.{OccursAt-byte, byte-OccursAt}
 use Rattle.ascii.specs.Masks.{Fits, HasBit, MarksPositions}
-
--- the mask of a test of each byte of a load
-module _ (test : ℕ → Bool) (bytes : List ℕ) (start n : ℕ) (room : start + n ≤ length bytes) where
-  abbrev flags : List Bool
-  flags = map test (chunk start n bytes)
-
-  bit : (k : ℕ) → k < n → bit_at (mask_l flags) k ≡ cond (test (get_or bytes (start + k) 0)) 1 0
-  bit k l =
-      let inside : k < length (chunk start n bytes) = omega (arith, length-chunk start n bytes room) in
-      bit_mask_l flags k ∙ ap (λ b. cond b 1 0) (get_or-map test (chunk start n bytes) k 0 false inside
-      ∙ ap test (get_or-chunk start n bytes k 0 l))
-
-  past : (k : ℕ) → n ≤ k → bit_at (mask_l flags) k ≡ 0
-  past k g =
-      let long = length-map (chunk start n bytes) test ∙ length-chunk start n bytes room in
-      bit_mask_l flags k ∙ ap (λ b. cond b 1 0) (get_or_past flags k false (omega (arith, long)))
-
-  pub marks_of_test : MarksPositions (Passes test bytes) (Passes test bytes) start n (mask_l flags)
-  marks_of_test = record {
-    each = λ k l passes. bit k l ∙ ap (λ b. cond b 1 0) passes;
-    set = λ k is. elim (cases_lt k n) [
-      | inl l ↦ (
-        l,
-        elim (cases_Bool (test (get_or bytes (start + k) 0))) [
-          | inl t ↦ t
-          | inr f ↦ absurd (omega (arith, is, bit k l ∙ ap (λ b. cond b 1 0) f))
-        ],
-      )
-      | inr g ↦ absurd (omega (arith, is, past k g))
-    ];
-  }
 
 -- the bits of a mask that is shifted up in a word
 module _ (m s k : ℕ) where
@@ -105,12 +79,6 @@ or_right a b k is = omega (arith, is, bit_at_or a b k, bit_at-lt a k)
 or_one : (a b k : ℕ) → HasBit (bit_or a b) k → bit_at a k ≢ 1 → HasBit b k
 or_one a b k is apart = omega (arith, is, bit_at_or a b k, bit_at-lt a k, apart)
 
-and_both : (a b k : ℕ) → HasBit a k → HasBit b k → HasBit (bit_and a b) k
-and_both a b k one other = omega (arith, one, other, bit_at_and a b k)
-
-and_left : (a b k : ℕ) → HasBit (bit_and a b) k → HasBit a k
-and_left a b k is = omega (arith, is, bit_at_and a b k, bit_at-lt a k)
-
 -- the masks of the first and of the last n positions, of at most 64, in one
 module _ (P Q : ℕ → Type 0) (n last first second : ℕ) (near : last ≤ n) (few : last + n ≤ 64)
     (low : MarksPositions P Q 0 n first) (high : MarksPositions P Q last n second) where
@@ -158,29 +126,96 @@ pub nowhere_at : (P : ℕ → Type 0) (i : ℕ) → ¬ (P i) → Nowhere P i (i 
 nowhere_at P i not k from to here =
     let same : k ≡ i = omega arith in not (subst P same here)
 
--- the candidates of a needle, where both of its ends are
-module _ (hay needle : List ℕ) (start n : ℕ) (some : 0 < length needle)
-    (room : start + n + length needle ≤ length hay + 1) where
-  abbrev end : ℕ
-  end = length needle - 1
+-- the lanes of a comparison, and of two comparisons
+abbrev lane_of : Bool → ℕ
+lane_of b = cond b 255 0
 
-  pub both_ends : (a b : ℕ)
-      → MarksPositions (Passes (is_byte (get_or needle 0 0)) hay) (Passes (is_byte (get_or needle 0 0)) hay)
-      start n a
-      → MarksPositions (Passes (is_byte (get_or needle end 0)) hay)
-      (Passes (is_byte (get_or needle end 0)) hay) (start + end) n b
-      → MarksPositions (OccursAt hay needle) (Fits hay needle) start n (bit_and a b)
-  both_ends a b starts ends = record {
-    each = λ k l occurs.
-        let same : start + k + 0 ≡ start + k = omega arith in
-        let same_end : start + k + end ≡ start + end + k = omega arith in
-        and_both a b k (starts.each k l (eq-eqb _ _
-        (ap (λ j. get_or hay j 0) (sym same) ∙ occurs.reads 0 (omega arith))))
-        (ends.each k l (eq-eqb _ _
-        (ap (λ j. get_or hay j 0) (sym same_end) ∙ occurs.reads end (omega arith))));
-    set = λ k is.
-        let short : k < n = (starts.set k (and_left a b k is)).0 in (short, omega arith);
-  }
+both_lanes : (a b : Bool) → bit_and (lane_of a) (lane_of b) ≡ lane_of (a && b)
+both_lanes true true = refl
+both_lanes true false = refl
+both_lanes false true = refl
+both_lanes false false = refl
+
+top_lane : (b : Bool) → top 7 (lane_of b) ≡ b
+top_lane true = refl
+top_lane false = refl
+
+-- where a needle occurs, the text has each of its bytes
+pub reads_byte : (hay needle : List ℕ) (start k at from : ℕ) → OccursAt hay needle (start + k)
+    → at < length needle → from ≡ start + at
+    → is_byte (get_or needle at 0) (get_or hay (from + k) 0) ≡ true
+reads_byte hay needle start k at from occurs inside same =
+    let there : from + k ≡ start + k + at = omega (arith, same) in
+    eq-eqb _ _ (ap (λ j. get_or hay j 0) there ∙ occurs.reads at inside)
+
+-- the candidates of a needle among positions at which it fits: the text has three of its bytes there
+module _ (hay needle : List ℕ) (start n : ℕ) (few : n ≤ 64)
+    (room : start + n + length needle ≤ length hay + 1) where
+  abbrev lanes : ℕ → ℕ → List ℕ
+  lanes from on = zip2 (λ a b. cond (eqb a b) 255 0) (chunk from n hay) (replicate n on)
+
+  length_lanes : (from on : ℕ) → from + n ≤ length hay → length (lanes from on) ≡ n
+  length_lanes from on inside =
+      let long = length-chunk from n hay inside in
+      length-zip2 _ (chunk from n hay) (replicate n on) (long ∙ sym (length-replicate n on)) ∙ long
+
+  lane : (from on k : ℕ) → from + n ≤ length hay → k < n
+      → get_or (lanes from on) k 0 ≡ lane_of (is_byte on (get_or hay (from + k) 0))
+  lane from on k inside l =
+      let long = length-chunk from n hay inside in
+      get_or-zip2 _ (chunk from n hay) (replicate n on) k 0 0 0 (omega (arith, long))
+      (omega (arith, length-replicate n on))
+      ∙ (λ i. cond (eqb (get_or-chunk from n hay k 0 l i) (get_or-replicate n k on 0 l i)) 255 0)
+
+  module _ (first middle last : ℕ) (a b c : ℕ) (in_a : first + n ≤ length hay)
+      (in_b : middle + n ≤ length hay) (in_c : last + n ≤ length hay) where
+    abbrev two : List ℕ
+    two = zip2 bit_and (lanes first a) (lanes middle b)
+
+    abbrev three : List ℕ
+    three = zip2 bit_and two (lanes last c)
+
+    length_two : length two ≡ n
+    length_two = length-zip2 bit_and (lanes first a) (lanes middle b)
+        (length_lanes first a in_a ∙ sym (length_lanes middle b in_b)) ∙ length_lanes first a in_a
+
+    length_three : length three ≡ n
+    length_three = length-zip2 bit_and two (lanes last c)
+        (length_two ∙ sym (length_lanes last c in_c)) ∙ length_two
+
+    abbrev has : ℕ → Bool
+    has k = is_byte a (get_or hay (first + k) 0) && is_byte b (get_or hay (middle + k) 0)
+        && is_byte c (get_or hay (last + k) 0)
+
+    bit : (k : ℕ) → k < n → bit_at (mask_l (map (top 7) three) % 2 ^ 64) k ≡ cond (has k) 1 0
+    bit k l = ap (λ m. bit_at m k) (mask_l-mod (map (top 7) three) 64
+        (omega (arith, length-map three (top 7), length_three)))
+        ∙ bit_mask_l (map (top 7) three) k
+        ∙ ap (λ b. cond b 1 0) (get_or-map (top 7) three k 0 false (omega (arith, length_three))
+        ∙ ap (top 7) (get_or-zip2 bit_and two (lanes last c) k 0 0 0 (omega (arith, length_two))
+        (omega (arith, length_lanes last c in_c))
+        ∙ (λ i. bit_and ((get_or-zip2 bit_and (lanes first a) (lanes middle b) k 0 0 0
+        (omega (arith, length_lanes first a in_a)) (omega (arith, length_lanes middle b in_b))
+        ∙ (λ j. bit_and (lane first a k in_a l j) (lane middle b k in_b l j)) ∙ both_lanes _ _) i)
+        (lane last c k in_c l i)) ∙ both_lanes _ _) ∙ top_lane _)
+
+    past : (k : ℕ) → n ≤ k → bit_at (mask_l (map (top 7) three) % 2 ^ 64) k ≡ 0
+    past k g = ap (λ m. bit_at m k) (mask_l-mod (map (top 7) three) 64
+        (omega (arith, length-map three (top 7), length_three)))
+        ∙ bit_mask_l (map (top 7) three) k
+        ∙ ap (λ b. cond b 1 0) (get_or_past (map (top 7) three) k false
+        (omega (arith, length-map three (top 7), length_three)))
+
+    pub marks_of_three : ((k : ℕ) → k < n → OccursAt hay needle (start + k) → has k ≡ true)
+        → MarksPositions (OccursAt hay needle) (Fits hay needle) start n
+        (mask_l (map (top 7) three) % 2 ^ 64)
+    marks_of_three there = record {
+      each = λ k l occurs. bit k l ∙ ap (λ b. cond b 1 0) (there k l occurs);
+      set = λ k is. elim (cases_lt k n) [
+        | inl l ↦ (l, omega (arith, room))
+        | inr g ↦ absurd (omega (arith, is, past k g))
+      ];
+    }
 
 module _ (hay needle : List ℕ) where
   -- a needle is nowhere that it does not fit
@@ -264,3 +299,21 @@ module _ (hay needle : List ℕ) where
         },
         found.1,
       )
+
+-- a search for the byte of a needle of one byte is one for the needle
+module _ (hay needle : List ℕ) (one : length needle ≡ 1) where
+  abbrev on : ℕ → Bool
+  on = is_byte (get_or needle 0 0)
+
+  inside : (k : ℕ) → OccursAt hay needle k → k < length hay
+  inside k occurs = let fits = occurs.fits in omega (arith, fits)
+
+  pub finds_byte : (found : Option ℕ) → IsFirstByte on hay found → FindsNeedle hay needle 0 found
+  finds_byte found is = IsFirst-wider (OccursAt hay needle) 0 (length hay) _ (omega arith) inside found
+      (IsFirst-agree (Passes on hay) (OccursAt hay needle) 0 (length hay) (OccursAt-byte hay needle one)
+      (λ k _. byte-OccursAt hay needle one k) found is)
+
+  pub finds_last_byte : (found : Option ℕ) → IsLastByte on hay found → FindsLastNeedle hay needle found
+  finds_last_byte found is = IsLast-wider (OccursAt hay needle) 0 (length hay) _ (omega arith) inside found
+      (IsLast-agree (Passes on hay) (OccursAt hay needle) 0 (length hay) (OccursAt-byte hay needle one)
+      (λ k _. byte-OccursAt hay needle one k) found is)

@@ -1,12 +1,12 @@
 //! The first and the last occurrence of a text, the needle, in a short one.
 //!
 //! Up to 64 positions are tested at once: a mask has a bit for each position, which is set if a needle
-//! there would have its first and its last byte. Such a position is a candidate, and the needle is
-//! compared at the candidates only. If there are too many positions or candidates, the crate `memchr`
-//! searches.
+//! there would have its first, its middle and its last byte. Such a position is a candidate, and a
+//! needle is compared at the candidates only. The crate `memchr` searches if there are too many
+//! positions or candidates, or at least 32 positions of a needle of one byte.
 
-ghost use Rattle.std.specs.Prelude.{◌≢◌, ◌+◌, ◌<◌, ◌≤◌, length};
-ghost use Rattle.memchr.specs.Find.{FindsLastNeedle, FindsNeedle, IsFirst, IsLast, OccursAt, Passes, is_byte};
+ghost use Rattle.std.specs.Prelude.{◌≡◌, ◌≢◌, ◌+◌, ◌<◌, ◌≤◌, length};
+ghost use Rattle.memchr.specs.Find.{FindsLastNeedle, FindsNeedle, IsFirst, IsLast, OccursAt};
 ghost use Rattle.ascii.specs.Masks.{Fits, HasBit, MarksPositions};
 
 use memchr::arch::all::is_prefix;
@@ -33,7 +33,10 @@ pub(crate) fn first_needle(hay: &[u8], needle: &[u8]) -> Option<usize>
         return None;
     }
     let positions = hay.len() - needle.len() + 1;
-    if positions > SHORT || (positions > BLOCK && needle.len() == 1) {
+    if positions >= 32 && needle.len() == 1 {
+        return first_byte(hay, needle);
+    }
+    if positions > SHORT {
         return memmem::find(hay, needle);
     }
     if positions > BLOCK {
@@ -43,7 +46,10 @@ pub(crate) fn first_needle(hay: &[u8], needle: &[u8]) -> Option<usize>
     if positions >= 32 && marked.count_ones() > FEW {
         return memmem::find(hay, needle);
     }
-    first_marked(hay, needle, 0, marked)
+    if marked == 0 {
+        return None;
+    }
+    first_compared(hay, needle, marked)
 }
 
 /// Returns the position of the last `needle` in `hay`, or `None` if there is none.
@@ -57,7 +63,10 @@ pub(crate) fn last_needle(hay: &[u8], needle: &[u8]) -> Option<usize>
         return None;
     }
     let positions = hay.len() - needle.len() + 1;
-    if positions > SHORT || (positions > BLOCK && needle.len() == 1) {
+    if positions >= 32 && needle.len() == 1 {
+        return last_byte(hay, needle);
+    }
+    if positions > SHORT {
         return memmem::rfind(hay, needle);
     }
     if positions > BLOCK {
@@ -67,10 +76,30 @@ pub(crate) fn last_needle(hay: &[u8], needle: &[u8]) -> Option<usize>
     if positions >= 32 && marked.count_ones() > FEW {
         return memmem::rfind(hay, needle);
     }
-    last_marked(hay, needle, 0, marked)
+    if marked == 0 {
+        return None;
+    }
+    last_compared(hay, needle, marked)
+}
+
+/// Returns the position of the first `needle`, which has one byte, or `None` if there is none.
+fn first_byte(hay: &[u8], needle: &[u8]) -> Option<usize>
+    requires { length needle.now ≡ 1 }
+    ensures { FindsNeedle hay.now needle.now 0 result }
+{
+    memchr::memchr(needle[0], hay)
+}
+
+/// Returns the position of the last `needle`, which has one byte, or `None` if there is none.
+fn last_byte(hay: &[u8], needle: &[u8]) -> Option<usize>
+    requires { length needle.now ≡ 1 }
+    ensures { FindsLastNeedle hay.now needle.now result }
+{
+    memchr::memrchr(needle[0], hay)
 }
 
 /// Returns the position of the first `needle` among at least 64, or `None` if there is none.
+#[inline(never)]
 fn first_by_blocks(hay: &[u8], needle: &[u8]) -> Option<usize>
     requires some { 0 < length needle.now }
     requires long { 64 + length needle.now ≤ length hay.now + 1 }
@@ -93,6 +122,7 @@ fn first_by_blocks(hay: &[u8], needle: &[u8]) -> Option<usize>
 }
 
 /// Returns the position of the last `needle` among at least 64, or `None` if there is none.
+#[inline(never)]
 fn last_by_blocks(hay: &[u8], needle: &[u8]) -> Option<usize>
     requires some { 0 < length needle.now }
     requires long { 64 + length needle.now ≤ length hay.now + 1 }
@@ -113,18 +143,6 @@ fn last_by_blocks(hay: &[u8], needle: &[u8]) -> Option<usize>
     None
 }
 
-/// Returns the mask of the bytes `on` among the `N` bytes from `start` on.
-#[inline(always)]
-fn marks<const N: usize>(on: u8, bytes: &[u8], start: usize) -> u64
-    requires lanes { N ≤ 64 }
-    requires room { start + N ≤ length bytes.now }
-    ensures { MarksPositions (Passes (is_byte on) bytes.now) (Passes (is_byte on) bytes.now) start
-        N result }
-{
-    let lanes = Simd::<u8, N>::from_slice(&bytes[start..]);
-    lanes.simd_eq(Simd::splat(on)).to_bitmask()
-}
-
 /// Returns the mask of the candidates among the `N` positions from `start` on.
 #[inline(always)]
 fn candidates<const N: usize>(hay: &[u8], needle: &[u8], start: usize) -> u64
@@ -134,8 +152,12 @@ fn candidates<const N: usize>(hay: &[u8], needle: &[u8], start: usize) -> u64
     ensures { MarksPositions (OccursAt hay.now needle.now) (Fits hay.now needle.now) start N
         result }
 {
+    let middle = needle.len() / 2;
     let end = needle.len() - 1;
-    marks::<N>(needle[0], hay, start) & marks::<N>(needle[end], hay, start + end)
+    let starts = Simd::<u8, N>::from_slice(&hay[start..]).simd_eq(Simd::splat(needle[0]));
+    let middles = Simd::<u8, N>::from_slice(&hay[start + middle..]);
+    let ends = Simd::<u8, N>::from_slice(&hay[start + end..]).simd_eq(Simd::splat(needle[end]));
+    (starts & middles.simd_eq(Simd::splat(needle[middle])) & ends).to_bitmask()
 }
 
 /// Returns the mask of the candidates among all positions, of which there are at least `N` and at most
@@ -210,6 +232,26 @@ fn last_marked(hay: &[u8], needle: &[u8], start: usize, marked: u64) -> Option<u
         tested = bit;
     }
     None
+}
+
+/// Returns the first of the first 64 positions where the needle is, or `None` if it is at none of them.
+/// Not inlined, so that a search without a candidate does not save registers for the comparison.
+#[inline(never)]
+fn first_compared(hay: &[u8], needle: &[u8], marked: u64) -> Option<usize>
+    requires { MarksPositions (OccursAt hay.now needle.now) (Fits hay.now needle.now) 0 64 marked }
+    ensures { IsFirst (OccursAt hay.now needle.now) 0 64 result }
+{
+    first_marked(hay, needle, 0, marked)
+}
+
+/// Returns the last of the first 64 positions where the needle is, or `None` if it is at none of them.
+/// Not inlined, so that a search without a candidate does not save registers for the comparison.
+#[inline(never)]
+fn last_compared(hay: &[u8], needle: &[u8], marked: u64) -> Option<usize>
+    requires { MarksPositions (OccursAt hay.now needle.now) (Fits hay.now needle.now) 0 64 marked }
+    ensures { IsLast (OccursAt hay.now needle.now) 0 64 result }
+{
+    last_marked(hay, needle, 0, marked)
 }
 
 /// Returns the lowest bit of `mask` that is set and is not below `from`, or `None` if there is none.

@@ -1,8 +1,14 @@
-use Rattle.std.proofs.Common.{refl, arith}
-use Rattle.ascii.proofs.MasksLemmas.{found_last}
+use Rattle.std.proofs.Common.{refl, arith, None}
+use Rattle.ascii.proofs.MasksLemmas.{found_last, no_bit, nowhere_marked}
 use Rattle.ascii.proofs.short_search.last_needle.Goals as goal
 
-pub returns : goal.returns
-returns c = found_last c.args.hay.now c.args.needle.now 0 64 c.last_marked.result (λ none. refl)
+pub returns-then-marked-eq0 : goal.returns-then-marked-eq0
+returns-then-marked-eq0 c = found_last c.args.hay.now c.args.needle.now 0 64 None (λ none. refl)
     (λ k from to occurs. let fits = occurs.fits in absurd (omega (arith, fits)))
-    c.last_marked.ensures
+    (nowhere_marked _ _ 0 64 _ 0 64 c.all_candidates-marked.ensures (omega arith)
+    (no_bit _ 0 64 c.if-marked-eq0.true))
+
+pub returns : goal.returns
+returns c = found_last c.args.hay.now c.args.needle.now 0 64 c.last_compared.result (λ none. refl)
+    (λ k from to occurs. let fits = occurs.fits in absurd (omega (arith, fits)))
+    c.last_compared.ensures
