@@ -17,8 +17,7 @@ pub struct RequestLine<'a> {
     pub minor: u8,
 }
 
-/// Why lines are not headers: the line at this index, counted from 0, is none or has the name of an earlier one, or
-/// a lack of memory.
+/// Why lines are not headers. A line is named by its index, counted from 0.
 #[derive(Clone, Copy)]
 pub enum HeaderError {
     NotHeader(usize),

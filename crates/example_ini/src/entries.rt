@@ -23,10 +23,8 @@ pub struct Entry<'a> {
 pub enum Parsed<'a> {
     Blank,
     Section(Spanned<'a>),
-    Setting {
-        key: Spanned<'a>,
-        value: Spanned<'a>,
-    },
+    /// A key and its value.
+    Setting(Spanned<'a>, Spanned<'a>),
 }
 
 /// What is wrong with a line.
@@ -75,7 +73,7 @@ fn add_line<'a>(
     match read_line(line)? {
         Parsed::Blank => Ok(section),
         Parsed::Section(name) => Ok(name),
-        Parsed::Setting { key, value } => {
+        Parsed::Setting(key, value) => {
             let entry = Entry {
                 section,
                 key,
@@ -120,8 +118,5 @@ fn read_body<'a>(body: Spanned<'a>) -> Result<Parsed<'a>, IniError>
     if key.text.is_empty() {
         return Err(IniError::At(body.start, What::NoKey));
     }
-    Ok(Parsed::Setting {
-        key,
-        value: value.trim(),
-    })
+    Ok(Parsed::Setting(key, value.trim()))
 }

@@ -1,12 +1,10 @@
 //! Prints the position of each GGA sentence of the input, or why a line has none.
 #![tactic(auto)]
 
-mod payload;
 mod sentence;
 
 use ascii::text;
-use payload::payload_of;
-use sentence::{FixError, read_fix};
+use sentence::{FixError, payload_of, read_fix};
 use std::io::{self, Read};
 
 fn main(rt: HostRuntime) -> io::Result<()> {

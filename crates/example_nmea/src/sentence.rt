@@ -1,10 +1,14 @@
-//! The body of a sentence, its fields, and the position that a GGA sentence reports.
+//! The position that a GGA sentence reports, and a class of one's own: the characters of a payload.
 
-ghost use Rattle.std.specs.Prelude.{◌≡◌, IfOk, IfSome, Some, slice_get};
+ghost use Rattle.std.specs.Prelude.{◌≡◌, ◌≤◌, IfOk, Some, slice_get};
+ghost use Rattle.std.specs.Int.{IsInRange};
+ghost use Rattle.std.proofs.Common.{rules};
 ghost use Rattle.ascii.specs.Pieces.{OfPieces};
+ghost use Rattle.ascii.specs.Trim.{IsSpan};
 ghost use Rattle.ascii.specs.View.{text_of};
-ghost use Rattle.example_nmea.specs.Sentence.{HasDecimal, HasSum, IsSentence, ReportsFix, xor_of};
+ghost use Rattle.example_nmea.specs.Sentence.{HasDecimal, IsSentence, ReportsFix, xor_of};
 
+use ascii::classes::{ByRanges, Ranges};
 use ascii::decimals::Decimal;
 use ascii::{AsciiChar, AsciiStr};
 use thiserror::Error;
@@ -57,23 +61,20 @@ pub fn read_fix(line: AsciiStr<'_>) -> Result<Fix, FixError>
 fn checked_body<'a>(line: AsciiStr<'a>) -> Result<AsciiStr<'a>, FixError>
     ensures { IfOk result (λ body. IsSentence (text_of line.entry) (text_of body)) }
 {
-    let (body, sum) = body_and_sum(line).ok_or(FixError::NoSentence)?;
+    let rest = line
+        .strip_prefix(AsciiStr::literal("$"))
+        .ok_or(FixError::NoSentence)?;
+    let (body, digits) = rest
+        .rsplit_once(AsciiChar::Asterisk)
+        .ok_or(FixError::NoSentence)?;
+    let sum = digits
+        .to_number_radix::<u8>(16)
+        .map_err(|_| FixError::NoSentence)?;
     match checksum(body) {
+        _ if digits.len() != 2 => Err(FixError::NoSentence),
         right if right == sum => Ok(body),
         right => Err(FixError::WrongChecksum(right)),
     }
-}
-
-/// Returns the text between `$` and `*`, and the byte that the two hexadecimal digits after it write.
-fn body_and_sum<'a>(line: AsciiStr<'a>) -> Option<(AsciiStr<'a>, u8)>
-    ensures { IfSome result (λ it. HasSum (text_of line.entry) (text_of it.0) it.1) }
-{
-    let rest = line.strip_prefix(AsciiStr::literal("$"))?;
-    let (body, digits) = rest.rsplit_once(AsciiChar::Asterisk)?;
-    if digits.len() != 2 {
-        return None;
-    }
-    Some((body, digits.to_number_radix::<u8>(16).ok()?))
 }
 
 /// Returns the exclusive or of the codes.
@@ -108,4 +109,32 @@ fn letter_in(body: AsciiStr<'_>, index: usize, yes: &str, no: &str) -> Result<bo
         letter if letter.eq_str(no) => Ok(false),
         _ => Err(FixError::Field(index)),
     }
+}
+
+pub struct PayloadRanges;
+
+const PAYLOAD: [(u8, u8); 1] = [(b'0', b'w')];
+
+impl Ranges for PayloadRanges {
+    ghost use Rattle.example_nmea.specs.declared.sentence.TheConstants.{PAYLOAD};
+
+    ghost set = { IsInRange 48 119 };
+
+    ghost list = { PAYLOAD };
+
+    ghost matches = { λ n. Prim.search rules };
+
+    fn ranges() -> &'static [(u8, u8)] {
+        &PAYLOAD
+    }
+}
+
+/// The characters from `0` to `w`.
+pub type Payload = ByRanges<PayloadRanges>;
+
+/// Returns the payload at the start of a text, and the rest.
+pub fn payload_of<'a>(text: AsciiStr<'a>) -> (AsciiStr<'a>, AsciiStr<'a>)
+    ensures { IsSpan (IsInRange 48 119) (text_of text.entry) (text_of result.0) (text_of result.1) }
+{
+    text.span::<Payload>()
 }

@@ -5,8 +5,8 @@ use Rattle.ascii.specs.Case.{lower_image}
 use Rattle.ascii.specs.Search.{ContainsText}
 use Rattle.ascii.specs.View.{text_of}
 use Rattle.ascii.specs.declared.ascii_str.AsciiStr.{AsciiStr}
-use Rattle.example_pager.specs.declared.search.CaseMode.{CaseMode}
-use Rattle.example_pager.specs.declared.search.CaseMode.TheVariants.{Exact, Ignored}
+use Rattle.example_pager.specs.declared.pages.CaseMode.{CaseMode}
+use Rattle.example_pager.specs.declared.pages.CaseMode.TheVariants.{Exact, Ignored}
 
 -- `line` contains `word`, by the mode
 abbrev pub Has : CaseMode → List ℕ → List ℕ → Type 0

@@ -2,13 +2,11 @@
 //! of 24 columns.
 #![tactic(auto)]
 
-mod search;
-mod window;
+mod pages;
 
 use ascii::{AsciiChar, AsciiStr, text};
-use search::{CaseMode, last_with};
+use pages::{CaseMode, last_with, rows_of};
 use std::io::{self, Read};
-use window::rows_of;
 
 fn main(rt: HostRuntime) -> io::Result<()> {
     let mut source = String::new(rt.alloc());

@@ -1,7 +1,7 @@
 use Rattle.std.proofs.Common.{◌≡◌, ◌≤◌, ◌++◌, All, length}
 use Rattle.std.specs.List.{flat_map}
 use Rattle.ascii.specs.View.{text_of}
-use Rattle.example_pager.proofs.window.rows_of.Given as goal
+use Rattle.example_pager.proofs.pages.rows_of.Given as goal
 
 abbrev pub invariant-loop-rest : goal.invariant-loop-rest
 invariant-loop-rest l = (flat_map text_of l.rows.items ++ text_of l.rest ≡ text_of l.line)

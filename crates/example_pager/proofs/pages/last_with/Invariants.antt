@@ -1,7 +1,7 @@
 use Rattle.std.proofs.Common.{◌≤◌, length}
 use Rattle.ascii.specs.View.{text_of}
 use Rattle.example_pager.specs.Search.{NoneFrom}
-use Rattle.example_pager.proofs.search.last_with.Given as goal
+use Rattle.example_pager.proofs.pages.last_with.Given as goal
 
 abbrev pub invariant-loop-index : goal.invariant-loop-index
 invariant-loop-index l =
