@@ -432,6 +432,10 @@ What programs do with text, from bytes that are not checked yet: each side tests
 and is the same code on each side, as a user of that side writes it. The last two rows are the worst cases of a search
 for a text.
 
+The code is for x86-64-v2. If each machine that runs it has AVX2, give `--cpu x86-64-v3` to `rt run`, to `rt lib` of a
+static library, to `bin/install` or to `bin/bench`: nothing is proved again below. A program checks its processor as it
+starts, and ends with status 127 if that lacks a feature. A static library does not check it.
+
 {tasks}
 ## Faster, level, slower
 

@@ -38,6 +38,11 @@ class AnExport(unittest.TestCase):
             "requires at { at < length source.now", "× IsAscii source.now }", "requires { IsAscii steps.now }"])
         self.assertEqual(made[8:], ["{", "    a::b::ask_part(source, steps)", "}"])
 
+    def test_the_processor_is_named_only_if_it_is_given(self):
+        for cpu, want in (None, []), ("x86-64-v3", ["--cpu", "x86-64-v3"]):
+            command = static_library.static("one", [], {"one": []}, "one.a", cpu)
+            self.assertEqual(command[command.index("--toolchain") + 2:command.index("--backend")], want)
+
     def test_each_call_of_the_exports_is_found(self):
         modules = static_library.exports_of("exports")
         folder = Path(static_library.folder_of("exports")) / "src"
