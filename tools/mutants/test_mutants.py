@@ -10,10 +10,11 @@ from pathlib import Path
 sys.dont_write_bytecode = True
 sys.path[:0] = [str(Path(__file__).resolve().parents[1] / it) for it in ("mutants", "reader")]
 from mutation import Crate, camel, changed, give_kinds, in_turn, mutants_of  # noqa: E402
-from one_by_one import functions_at, goals_in, Mutation, mutations_of, round_of, try_crate  # noqa: E402
+from one_by_one import edits_of, functions_at, goals_in, Mutation, mutations_of, round_of, try_crate  # noqa: E402
 from operators import Operators  # noqa: E402
 from planting import narrow  # noqa: E402
 from run import Run  # noqa: E402
+from settings import Settings  # noqa: E402
 from functions import Names, functions_of
 from tokens import lex, partners  # noqa: E402
 from values import changes, outcomes  # noqa: E402
@@ -376,6 +377,18 @@ class OneByOne(SmallCrate):
         self.assertEqual([told["first"], told["second"]], ["returns", "survives"])
         self.assertIn("occurs 0 times", told["lost"])
         self.assertTrue(told["outside"].startswith("cannot be applied"))
+
+
+class OfThisRepository(unittest.TestCase):
+    ROOT = Path(__file__).resolve().parents[2]
+
+    def test_each_mutation_written_by_hand_can_be_applied(self):
+        names = [it.name for it in sorted((self.ROOT / "crates").iterdir()) if (it / "src").is_dir()]
+        for crate in names:
+            for text in edits_of(Settings(self.ROOT, Path(__file__).resolve().parent), crate):
+                for name, changes in mutations_of(text):
+                    with self.subTest(f"{crate}/{name}"):
+                        functions_at(changes, self.ROOT / "crates" / crate)
 
 
 if __name__ == "__main__":
