@@ -41,6 +41,8 @@ pub trait Cut: Copy {
     ghost knows: { Self.Marks → List ℕ → Type 0 };
 
     /// Returns the first item, what is left and its marks, or `None` if there is no item.
+    ///
+    /// Condition: `marks` are marks of the part.
     fn first<'a>(
         self,
         part: Cursor<'a>,
@@ -55,6 +57,8 @@ pub trait Cut: Copy {
 /// A way to cut a text into items from both ends.
 pub trait CutBack: Cut {
     /// Returns the last item, what is left and its marks, or `None` if there is no item.
+    ///
+    /// Condition: `marks` are marks of the part.
     fn last<'a>(
         self,
         part: Cursor<'a>,

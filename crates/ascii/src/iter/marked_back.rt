@@ -38,11 +38,15 @@ pub(crate) fn last_run<C: Searched, const INSIDE: bool>(
     ensures { MatchOption result (All (IsOnSide C.is (not INSIDE)) bytes.now)
         (IsLastRun C.is INSIDE bytes.now) }
 {
-    let marks = renewed::<C, INSIDE>(bytes, marks);
-    if marks.mask == 0 {
-        return near_run::<C, INSIDE>(bytes);
+    // Tested before the length, since in a long text most runs have marks.
+    if marks.mask != 0 {
+        return Some(marked_run::<C, INSIDE>(bytes, marks));
     }
-    Some(marked_run::<C, INSIDE>(bytes, marks))
+    let marks = renewed::<C, INSIDE>(bytes, marks);
+    if marks.mask != 0 {
+        return Some(marked_run::<C, INSIDE>(bytes, marks));
+    }
+    near_run::<C, INSIDE>(bytes)
 }
 
 /// The marks, or if there are none left, those of the last 64 bytes. Fewer bytes have no marks.
