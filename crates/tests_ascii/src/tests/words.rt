@@ -1,4 +1,4 @@
-//! The words of every small text, from either end, are those that std's `str` gives.
+//! The words of every small text and of a few longer ones, from either end, are those that std's `str` gives.
 
 use super::small_text::{SIZES, small_text};
 use ascii::classes::Punctuation;
@@ -51,5 +51,19 @@ fn words_of_every_small_text(rt: HostRuntime) {
             compare_whitespace(&rt, view);
             compare_words(&rt, view);
         }
+    }
+}
+
+#[test]
+fn words_of_longer_texts(rt: HostRuntime) {
+    for length in [63, 64, 65, 130] {
+        let mut text = Vec::new(rt.alloc());
+        for at in 0..length {
+            let byte = b"ab c,,d  ef,g h"[at % 15];
+            text.push(byte).expect(&rt, "no memory");
+        }
+        let view = bytes::as_ascii_str(text.as_slice()).unwrap_or_default();
+        compare_whitespace(&rt, view);
+        compare_words(&rt, view);
     }
 }
