@@ -61,17 +61,12 @@ pub fn read_fix(line: AsciiStr<'_>) -> Result<Fix, FixError>
 fn checked_body<'a>(line: AsciiStr<'a>) -> Result<AsciiStr<'a>, FixError>
     ensures { IfOk result (λ body. IsSentence (text_of line.entry) (text_of body)) }
 {
-    let rest = line
-        .strip_prefix(AsciiStr::literal("$"))
-        .ok_or(FixError::NoSentence)?;
-    let (body, digits) = rest
-        .rsplit_once(AsciiChar::Asterisk)
-        .ok_or(FixError::NoSentence)?;
-    let sum = digits
-        .to_number_radix::<u8>(16)
-        .map_err(|_| FixError::NoSentence)?;
+    let missing = FixError::NoSentence;
+    let rest = line.strip_prefix(AsciiStr::literal("$")).ok_or(missing)?;
+    let (body, digits) = rest.rsplit_once(AsciiChar::Asterisk).ok_or(missing)?;
+    let sum = digits.to_number_radix::<u8>(16).map_err(|_| missing)?;
     match checksum(body) {
-        _ if digits.len() != 2 => Err(FixError::NoSentence),
+        _ if digits.len() != 2 => Err(missing),
         right if right == sum => Ok(body),
         right => Err(FixError::WrongChecksum(right)),
     }
