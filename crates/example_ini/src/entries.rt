@@ -23,7 +23,6 @@ pub struct Entry<'a> {
 pub enum Parsed<'a> {
     Blank,
     Section(Spanned<'a>),
-    /// A key and its value.
     Setting(Spanned<'a>, Spanned<'a>),
 }
 
