@@ -1,7 +1,9 @@
 """The libraries of crates.txt as `rt ci` or `rt check` left them in crates/*/out/rlib, and the words by which the toolchain's
-command `rattle` checks or builds a crate over them, so that none of them is proved again."""
+command `rattle` checks or builds a crate over them, so that none of them is proved again.
+usage: python3 bin/lib/libraries.py PROGRAM     status 0: the program was built from the sources that are there"""
 import os
 import shutil
+import sys
 
 ROOT = os.path.dirname(os.path.dirname(os.path.dirname(os.path.realpath(__file__))))
 
@@ -52,6 +54,12 @@ def are_built(crates):
     return all(built(rlib(name)) >= changed(name) for name in crates)
 
 
+def is_program_built(crate):
+    """Whether a program is there and newer than its sources and those of the libraries below it."""
+    uses, _ = listed()
+    return built(f"{folder_of(crate)}/out/{crate}") >= max(map(changed, [crate, *below(crate, uses)]))
+
+
 def kit():
     """The folder of the toolchain, or none if it is not installed."""
     rt = shutil.which("rt")
@@ -68,3 +76,7 @@ def words(command, crate, root, libraries, uses):
         said += ["-L", f"dependency={folder}"]
     said += ["--links", f"{crate}=", "--antt-project", f"{kit()}/rattle/logic/antt-project.json"]
     return [*said, "--logic-built", f"{kit()}/logic_built"]
+
+
+if __name__ == "__main__":
+    sys.exit(0 if is_program_built(sys.argv[1]) else 1)
