@@ -69,7 +69,7 @@ class File:
 
 def read_file(file, module=""):
     """Reads a file of specs/, which has the path `module`."""
-    found, current, comment, section, is_private = File(), None, [], "", False
+    found, current, comment, section, is_private, indent = File(), None, [], "", False, 0
     for line in read(file).splitlines():
         text = line.strip()
         if text.startswith("--"):
@@ -78,7 +78,8 @@ def read_file(file, module=""):
             continue
         if line[:1].strip():  # a line in no `module`, or its head
             section, current = (text, None) if text.startswith("module ") else ("", None if section else current)
-        indent, begins = 2 if section else 0, BEGINS.match(text)
+            indent = 2 if section else 0
+        begins = BEGINS.match(text)
         if NOT_BEGINS.match(line):
             found.uses += [line] if "use " in line else []
         elif begins and line == " " * indent + text:
@@ -89,6 +90,7 @@ def read_file(file, module=""):
             current.add(line[indent:].rstrip())
         elif section != text:
             section += f" {text}" if section and not current else ""
+            indent = 4 if text == "where" else indent  # the head ends in a line of its own
         comment = []
     return found
 
