@@ -204,13 +204,16 @@ pub fn eq_ignore_case(first: &[u8], second: &[u8]) -> bool
 ///
 ///     first_not_whitespace(b" \tab") // Some(2)
 ///     first_not_whitespace(b"  ") // None
+#[inline]
 pub fn first_not_whitespace(bytes: &[u8]) -> Option<usize>
     ensures { MatchOption result (All IsWhitespace bytes.now)
         (IsFirstNot IsWhitespace bytes.now 0 (length bytes.now)) }
 {
-    match bytes.first() {
-        Some(byte) if !Whitespace::has(*byte) => Some(0),
-        _ => first_not::<Whitespace>(bytes),
+    match bytes {
+        [first, ..] if !Whitespace::has(*first) => Some(0),
+        [_, second, ..] if !Whitespace::has(*second) => Some(1),
+        [] => None,
+        _ => first_after_whitespace(bytes),
     }
 }
 
@@ -218,13 +221,35 @@ pub fn first_not_whitespace(bytes: &[u8]) -> Option<usize>
 /// whitespace: space, tab, line feed, vertical tab, form feed or carriage return.
 ///
 ///     last_not_whitespace(b"ab \n") // Some(1)
+#[inline]
 pub fn last_not_whitespace(bytes: &[u8]) -> Option<usize>
     ensures { MatchOption result (All IsWhitespace bytes.now) (IsLastNot IsWhitespace bytes.now) }
 {
-    match bytes.last() {
-        Some(byte) if !Whitespace::has(*byte) => Some(bytes.len() - 1),
-        _ => last_not::<Whitespace>(bytes),
+    match bytes {
+        [.., last] if !Whitespace::has(*last) => Some(bytes.len() - 1),
+        [.., before, _] if !Whitespace::has(*before) => Some(bytes.len() - 2),
+        [] => None,
+        _ => last_before_whitespace(bytes),
     }
+}
+
+/// The first byte that is not whitespace. Not inlined, so that the tests of the first two bytes are
+/// short enough for a caller to inline them.
+#[inline(never)]
+fn first_after_whitespace(bytes: &[u8]) -> Option<usize>
+    ensures { MatchOption result (All IsWhitespace bytes.now)
+        (IsFirstNot IsWhitespace bytes.now 0 (length bytes.now)) }
+{
+    first_not::<Whitespace>(bytes)
+}
+
+/// The last byte that is not whitespace. Not inlined, so that the tests of the last two bytes are
+/// short enough for a caller to inline them.
+#[inline(never)]
+fn last_before_whitespace(bytes: &[u8]) -> Option<usize>
+    ensures { MatchOption result (All IsWhitespace bytes.now) (IsLastNot IsWhitespace bytes.now) }
+{
+    last_not::<Whitespace>(bytes)
 }
 
 // The searches below pass over one side of a class: its bytes if `INSIDE` is true, and the bytes that
