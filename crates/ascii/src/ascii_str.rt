@@ -211,6 +211,7 @@ impl<'a> AsciiStr<'a> {
     ///     AsciiStr::literal(" a b\r\n").trim() // "a b"
     ///     AsciiStr::literal("a").trim() // "a"
     ///     AsciiStr::literal(" \t").trim() // ""
+    #[inline]
     pub fn trim(self) -> AsciiStr<'a>
         ensures { Trims IsWhitespace (text_of self.entry) (text_of result) }
     {
@@ -221,6 +222,7 @@ impl<'a> AsciiStr<'a> {
     ///
     ///     AsciiStr::literal(" a b ").trim_start() // "a b "
     ///     AsciiStr::literal(" ").trim_start() // ""
+    #[inline]
     pub fn trim_start(self) -> AsciiStr<'a>
         ensures { TrimsStart IsWhitespace (text_of self.entry) (text_of result) }
     {
@@ -234,6 +236,7 @@ impl<'a> AsciiStr<'a> {
     ///
     ///     AsciiStr::literal(" a b ").trim_end() // " a b"
     ///     AsciiStr::literal(" ").trim_end() // ""
+    #[inline]
     pub fn trim_end(self) -> AsciiStr<'a>
         ensures { TrimsEnd IsWhitespace (text_of self.entry) (text_of result) }
     {
