@@ -51,6 +51,13 @@ module _ (test : ℕ → Bool) (codes : List ℕ) (n : ℕ) (room : n ≤ length
   not_near none k low high here = none k low (omega (arith, length-take-le n codes room))
       (rw (get_or-take n codes k 0 high) here)
 
+  -- nor is there one before a smaller place
+  pub none_nearer : (m : ℕ) → m ≤ n → IsFirstByte test (take n codes) None
+      → IsFirstByte test (take m codes) None
+  none_nearer m below none k low high here =
+      let short : k < m = omega (arith, high, length-take-le m codes (omega arith)) in
+      not_near none k low (omega (arith, short)) (rw (get_or-take m codes k 0 short) at here)
+
   far_at : (k : ℕ) → n ≤ k → Passes test codes k → Passes test (drop n codes) (k - n)
   far_at k past here =
       let same : n + (k - n) ≡ k = omega arith in

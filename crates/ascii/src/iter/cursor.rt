@@ -29,8 +29,9 @@ fn find_near(on: u8, bytes: &[u8]) -> Option<usize>
     One::new(on).find(bytes)
 }
 
-/// Returns the position of the first byte that is `on`, or `None` if there is none. Only a search
-/// past the first `NEAR` bytes is a call.
+/// Returns the position of the first byte that is `on`, or `None` if there is none. The first `NEAR`
+/// bytes are searched inline, and a call searches those after them. If these are fewer than `NEAR`, the
+/// last `NEAR` bytes are searched inline instead, because `memchr` tests fewer than `NEAR` one by one.
 #[inline(always)]
 fn find_first(on: u8, bytes: &[u8]) -> Option<usize>
     ensures { IsFirstByte (is_byte on) bytes.now result }
@@ -40,6 +41,13 @@ fn find_first(on: u8, bytes: &[u8]) -> Option<usize>
     }
     match find_near(on, &bytes[..NEAR]) {
         Some(position) => Some(position),
+        None if bytes.len() < 2 * NEAR => {
+            let start = bytes.len() - NEAR;
+            match find_near(on, &bytes[start..]) {
+                Some(position) => Some(start + position),
+                None => None,
+            }
+        }
         None => match memchr(on, &bytes[NEAR..]) {
             Some(position) => Some(NEAR + position),
             None => None,
