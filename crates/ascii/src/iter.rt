@@ -33,7 +33,7 @@ mod backwards;
 mod by_class;
 mod by_text;
 mod chars;
-mod cursor;
+pub(crate) mod cursor;
 mod ended;
 mod items;
 mod lines;

@@ -33,7 +33,7 @@ impl AsciiStr<'_> {
         }
         let mut copy = AsciiString::with_capacity(alloc, self.len())?;
         let mut rest = self;
-        while let Some(at) = rest.find(from) {
+        while let Some(at) = rest.find_near(from) {
             copy.push_str(rest.slice(AsciiRange::To(at)))?;
             copy.push_str(to)?;
             rest = rest.slice(AsciiRange::From(at + from.len()));

@@ -12,6 +12,7 @@ ghost use Rattle.ascii.specs.Search.{ContainsText, EndsWith, IsPrefix, IsSuffix,
 ghost use Rattle.ascii.specs.View.{text_of};
 
 use crate::ascii_str::AsciiStr;
+use crate::iter::cursor::find_first;
 use crate::short_search;
 use ascii_base::ascii_char::AsciiChar;
 use ascii_base::classes::Searched;
@@ -31,6 +32,19 @@ impl<'a> AsciiStr<'a> {
         ensures { FindsNeedle (text_of self.entry) (text_of needle.entry) 0 result }
     {
         short_search::first_needle(self.bytes, needle.bytes)
+    }
+
+    /// Like `find`, but a needle of one character is found inline if it is near. For a search that is
+    /// repeated after each occurrence.
+    #[inline(always)]
+    pub(crate) fn find_near(self, needle: AsciiStr<'_>) -> Option<usize>
+        ensures { FindsNeedle (text_of self.entry) (text_of needle.entry) 0 result }
+    {
+        if needle.len() == 1 {
+            find_first(needle.bytes[0], self.bytes)
+        } else {
+            self.find(needle)
+        }
     }
 
     /// Returns the position of the last `needle` in the view, or `None` if the view does not

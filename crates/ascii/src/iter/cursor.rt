@@ -33,7 +33,7 @@ fn find_near(on: u8, bytes: &[u8]) -> Option<usize>
 /// bytes are searched inline, and a call searches those after them. If these are fewer than `NEAR`, the
 /// last `NEAR` bytes are searched inline instead, because `memchr` tests fewer than `NEAR` one by one.
 #[inline(always)]
-fn find_first(on: u8, bytes: &[u8]) -> Option<usize>
+pub(crate) fn find_first(on: u8, bytes: &[u8]) -> Option<usize>
     ensures { IsFirstByte (is_byte on) bytes.now result }
 {
     if bytes.len() < NEAR {
