@@ -1,6 +1,7 @@
 -- Marks of the last codes of a text, bit by bit.
-use Rattle.std.proofs.Common.{◌≡◌, ℕ, ◌+◌, ◌-◌, ◌^◌, ◌<◌, ◌≤◌, Bool, not, List, length}
-use Rattle.std.proofs.Common.{get_or, take, bit_and, w64, sym, ap, ◌∙◌, subst, arith, inl, inr}
+use Rattle.std.proofs.Common.{◌≡◌, ℕ, ◌+◌, ◌-◌, ◌/◌, ◌^◌, ◌<◌, ◌≤◌, Bool, not, List, length}
+use Rattle.std.proofs.Common.{true, false, get_or, take, bit_and, w64, sym, ap, ◌∙◌, subst, arith}
+use Rattle.std.proofs.Common.{inl, inr}
 use Rattle.std.specs.Int.{bit_at, bit_not}
 use Rattle.std.proofs.lemmas.Bool.{cases_lt}
 use Rattle.std.proofs.lemmas.List.{get_or-take, length-take-le}
@@ -9,8 +10,9 @@ use Rattle.std.proofs.lemmas.Nat.Bits.{bit_at_ones_above}
 use Rattle.ascii_base.specs.Bytes.{IsOnSide}
 use Rattle.ascii_base.specs.Runs.{StartsRun}
 use Rattle.ascii.specs.declared.iter.marked.Marked.{Marked}
-use Rattle.ascii.specs.Marked.{IsHighest, IsLastRun, ShowsLast}
+use Rattle.ascii.specs.Marked.{IsHighest, IsLastRun, Shows, ShowsLast}
 use Rattle.ascii.proofs.MarkedLemmas.{twice}
+use Rattle.ascii.proofs.MasksLemmas.{shifted_down}
 
 -- the bits of a mask before `n`
 low_bit : (m n k : ℕ) → k < n → bit_at (bit_and m (2 ^ n - 1)) k ≡ bit_at m k
@@ -18,6 +20,45 @@ low_bit m n k l = bit_at_and m (2 ^ n - 1) k ∙ omega (arith, bit_at_ones n k l
 
 no_high_bit : (m n k : ℕ) → n ≤ k → bit_at (bit_and m (2 ^ n - 1)) k ≡ 0
 no_high_bit m n k g = bit_at_and m (2 ^ n - 1) k ∙ omega (arith, bit_at_ones_above n k g)
+
+-- the marks of all codes, from those that end at the highest bit
+module _ (Is : ℕ → Type 0) (side : Bool) (text : List ℕ) (m : ℕ) (short : length text ≤ 64)
+    (shows : Shows Is side text (64 - length text) m) where
+  abbrev free : ℕ
+  free = 64 - length text
+
+  there : (P : ℕ → Type 0) (k : ℕ) → P (get_or text (free + k - free) 0)
+      → P (get_or text (length text - length text + k) 0)
+  there P k is =
+      let same : free + k - free ≡ length text - length text + k = omega arith in
+      subst (λ i. P (get_or text i 0)) same is
+
+  pub last_marks : ShowsLast Is side text (length text) (m / 2 ^ (64 - length text))
+  last_marks = record {
+    room = omega arith;
+    set = λ k is.
+        let old = shows.set (free + k) (sym (shifted_down m free k) ∙ is) in
+        let few : free + k < 64 = old.1 in
+        (omega (arith, few), there (IsOnSide Is side) k old.2);
+    clear = λ k is few. there (IsOnSide Is (not side)) k (shows.clear (free + k)
+        (sym (shifted_down m free k) ∙ is) (omega arith) (omega (arith, few, short)));
+  }
+
+-- a piece goes on before n, and no code from there on has a mark
+pub piece_on_back : (Is : ℕ → Type 0) (text : List ℕ) (at n s : ℕ)
+    → ShowsLast Is true text at 0 → length text - at ≤ n → n ≤ length text
+    → StartsRun Is false text n s → StartsRun Is false text (length text) s
+piece_on_back Is text at n s shows few inside far = record {
+  high = omega (arith, far.high, inside);
+  run = λ k from before. elim (cases_lt k n) [
+    | inl early ↦ far.run k from early
+    | inr late ↦
+        let place : length text - at + (k - (length text - at)) ≡ k = omega (arith, late, few) in
+        subst (λ i. ¬ (Is (get_or text i 0))) place (shows.clear (k - (length text - at))
+        (bit_at-zero (k - (length text - at))) (omega (arith, before, late, few, shows.room)))
+  ];
+  stop = far.stop;
+}
 
 -- the last run on the side, at the last mark
 module _ (Is : ℕ → Type 0) (side : Bool) (text : List ℕ) (at mask h : ℕ)

@@ -1,14 +1,17 @@
 -- Marks of the codes of a text, bit by bit.
 use Rattle.std.proofs.Common.{◌≡◌, ◌≢◌, ℕ, zero, suc, ◌+◌, ◌-◌, ◌*◌, ◌/◌, ◌%◌, ◌^◌, ◌<◌, ◌≤◌}
-use Rattle.std.proofs.Common.{Bool, true, false, not, List, length, get_or, drop, bit_and, bit_or}
-use Rattle.std.proofs.Common.{w64}
+use Rattle.std.proofs.Common.{Bool, true, false, not, List, length, get_or, drop, take, bit_and}
+use Rattle.std.proofs.Common.{bit_or}
 use Rattle.std.proofs.Common.{sym, ap, ◌∙◌, subst, arith, inl, inr}
-use Rattle.std.specs.Int.{bit_at, bit_not}
+use Rattle.std.specs.Int.{bit_at}
+use Rattle.std.specs.Int.Bits.{bit_xor}
 use Rattle.std.proofs.lemmas.Bool.{cases_eq, cases_lt}
-use Rattle.std.proofs.lemmas.List.{get_or-drop, length-drop}
-use Rattle.std.proofs.lemmas.Nat.Bits.{bit_at-lt, bit_at-suc, bit_at-zero, bit_at_above, bit_at_and}
-use Rattle.std.proofs.lemmas.Nat.Bits.{bit_at_lowest, bit_at_not, bit_at_ones, bit_at_or}
-use Rattle.ascii_base.specs.Bytes.{IsOnSide}
+use Rattle.std.proofs.lemmas.List.{get_or-drop, length-drop, take_all}
+use Rattle.std.proofs.lemmas.List.Elements.{All-get_or}
+use Rattle.std.proofs.lemmas.Nat.Bits.{bit_at-lt, bit_at-suc, bit_at-zero, bit_at_and}
+use Rattle.std.proofs.lemmas.Nat.Bits.{bit_at_lowest, bit_at_ones, bit_at_or, bit_at_xor}
+use Rattle.std.specs.List.{All}
+use Rattle.ascii_base.specs.Bytes.{IsFirstOf, IsOnSide}
 use Rattle.ascii_base.specs.Lanes.{Marks}
 use Rattle.ascii_base.specs.Runs.{EndsRun}
 use Rattle.ascii.specs.declared.iter.marked.Marked.{Marked}
@@ -256,60 +259,130 @@ module _ (Is : ℕ → Type 0) (side : Bool) (text : List ℕ) (at mask p : ℕ)
       marks = λ _. kept;
     }
 
--- the marks of the first 64 codes, from those of 32 and 32
-module _ (Is : ℕ → Type 0) (bytes : List ℕ) (first second : ℕ) (room : 64 ≤ length bytes)
-    (low : Marks Is bytes 0 32 first) (high : Marks Is bytes 32 32 second) where
-  abbrev up : ℕ
-  up = second * 2 ^ 32 % 2 ^ 64
+-- the marks of the first codes, from those of the first n and of the last n among them
+module _ (Is : ℕ → Type 0) (text : List ℕ) (n count first second : ℕ) (lanes : n + n ≤ 64)
+    (few : n ≤ count) (most : count ≤ n + n) (room : count ≤ length text)
+    (low : Marks Is text 0 n first) (high : Marks Is text (count - n) n second) where
+  abbrev here : ℕ
+  here = first * 2 ^ (64 - count) % 2 ^ 64
 
-  abbrev outside : ℕ
-  outside = bit_or first (second * 2 ^ 32 % 2 ^ 64)
+  abbrev there : ℕ
+  there = second * 2 ^ (64 - n) % 2 ^ 64
 
-  moved : (P : ℕ → Type 0) (i k : ℕ) → i ≡ k - 0 → P (get_or bytes i 0) → P (get_or bytes (k - 0) 0)
-  moved P i k same is = subst (λ j. P (get_or bytes j 0)) same is
+  moved : (P : ℕ → Type 0) (i k : ℕ) → i ≡ k → P (get_or text i 0) → P (get_or text k 0)
+  moved P i k same is = subst (λ j. P (get_or text j 0)) same is
 
-  pub block_outside : Shows Is false bytes 0 (bit_or first (second * 2 ^ 32 % 2 ^ 64))
-  block_outside = record {
+  pub outside_of_two : Shows Is false text (64 - count) (bit_or here there)
+  outside_of_two = record {
     room = omega (arith, room);
-    set = λ k is. elim (cases_eq (bit_at first k) 1) [
+    set = λ k is. elim (cases_eq (bit_at here k) 1) [
       | inl one ↦
-          let here = low.set k one in
-          let few : k < 32 = here.0 in
-          (omega arith, omega (arith, few), moved (λ c. ¬ (Is c)) (0 + k) k (omega arith) here.1)
+          let up = shifted_from first (64 - count) k one in
+          let found = low.set (k - (64 - count)) up.2 in
+          (up.0, up.1, moved (λ c. ¬ (Is c)) (0 + (k - (64 - count))) _ (omega arith) found.1)
       | inr other ↦
-          let one : bit_at up k ≡ 1 =
-          omega (arith, is, bit_at_or first up k, bit_at-lt first k, other) in
-          let there = shifted_from second 32 k one in
-          let past : 32 ≤ k = there.0 in (
-            omega arith,
-            there.1,
-            moved (λ c. ¬ (Is c)) (32 + (k - 32)) k (omega (arith, past))
-                (high.set (k - 32) there.2).1,
+          let one : bit_at there k ≡ 1 =
+          omega (arith, is, bit_at_or here there k, bit_at-lt here k, other) in
+          let up = shifted_from second (64 - n) k one in
+          let past : 64 - n ≤ k = up.0 in
+          let found = high.set (k - (64 - n)) up.2 in (
+            omega (arith, past),
+            up.1,
+            moved (λ c. ¬ (Is c)) (count - n + (k - (64 - n))) _ (omega (arith, past)) found.1,
           )
     ];
-    clear = λ k is from few. elim (cases_lt k 32) [
-      | inl l ↦ moved Is (0 + k) k (omega arith)
-          (low.clear k (omega (arith, is, bit_at_or first up k)) l)
-      | inr g ↦ moved Is (32 + (k - 32)) k (omega (arith, g)) (high.clear (k - 32)
-          (sym (shifted_here second 32 k few g) ∙ omega (arith, is, bit_at_or first up k))
-          (omega (arith, g, few)))
+    clear = λ k is from short. elim (cases_lt (k - (64 - count)) n) [
+      | inl l ↦ moved Is (0 + (k - (64 - count))) _ (omega arith) (low.clear (k - (64 - count))
+          (sym (shifted_here first (64 - count) k short from)
+          ∙ omega (arith, is, bit_at_or here there k)) l)
+      | inr g ↦
+          let past : 64 - n ≤ k = omega (arith, g, from) in
+          moved Is (count - n + (k - (64 - n))) _ (omega (arith, past))
+          (high.clear (k - (64 - n)) (sym (shifted_here second (64 - n) k short past)
+          ∙ omega (arith, is, bit_at_or here there k)) (omega (arith, short, past)))
     ];
   }
 
 -- the marks of the other side
-pub block_inside : (Is : ℕ → Type 0) (bytes : List ℕ) (m : ℕ) → m < 2 ^ 64
-    → Shows Is false bytes 0 m → Shows Is true bytes 0 (bit_not w64 m)
-block_inside Is bytes m fits shows = record {
-  room = shows.room;
-  set = λ k is. elim (cases_lt k 64) [
-    | inl few ↦ (
-      omega arith,
-      few,
-      shows.clear k
-          (omega (arith, is, bit_at_not w64 m k fits few, bit_at-lt m k)) (omega arith) few,
-    )
-    | inr g ↦ absurd (omega (arith, is, bit_at_above (bit_not w64 m) 64 k (omega arith) g))
+module _ (Is : ℕ → Type 0) (text : List ℕ) (at m : ℕ) (few : at < 64)
+    (shows : Shows Is false text at m) where
+  abbrev all : ℕ
+  all = (2 ^ 64 - 1) * 2 ^ at % 2 ^ 64
+
+  turned : (k : ℕ) → at ≤ k → k < 64 → bit_at (bit_xor m all) k ≡ 1 - bit_at m k
+  turned k from short = bit_at_xor m all k
+      ∙ omega (
+        arith,
+        shifted_here (2 ^ 64 - 1) at k short from,
+        bit_at_ones 64 (k - at)
+            (omega (arith, short)),
+        bit_at-lt m k,
+      )
+
+  pub inside_of_outside : Shows Is true text at (bit_xor m all)
+  inside_of_outside = record {
+    room = shows.room;
+    set = λ k is. elim (cases_eq (bit_at m k) 1) [
+      | inl one ↦
+          let old = shows.set k one in
+          absurd (omega (arith, is, turned k old.0 old.1, one))
+      | inr none ↦
+          let up : bit_at all k ≡ 1 =
+          omega (arith, is, bit_at_xor m all k, none, bit_at-lt m k, bit_at-lt all k) in
+          let old = shifted_from (2 ^ 64 - 1) at k up in
+          (old.0, old.1, shows.clear k (omega (arith, none, bit_at-lt m k)) old.0 old.1)
+    ];
+    clear = λ k is from short.
+        (shows.set k (omega (arith, is, turned k from short, bit_at-lt m k))).2;
+  }
+
+-- a piece goes on at n, and no code before has a mark
+pub piece_on : (Is : ℕ → Type 0) (text : List ℕ) (at n e : ℕ) → Shows Is true text at 0
+    → n ≤ 64 - at → EndsRun Is false text n e → EndsRun Is false text 0 e
+piece_on Is text at n e shows few far = record {
+  low = omega arith;
+  high = far.high;
+  run = λ k from before. elim (cases_lt k n) [
+    | inl near ↦
+        let place : at + k - at ≡ k = omega arith in
+        subst (λ i. ¬ (Is (get_or text i 0))) place
+        (shows.clear (at + k) (bit_at-zero (at + k)) (omega arith) (omega (arith, near, few)))
+    | inr past ↦ far.run k past before
   ];
-  clear = λ k is from few.
-      (shows.set k (omega (arith, is, bit_at_not w64 m k fits few, bit_at-lt m k))).2;
+  stop = far.stop;
 }
+
+-- the end of a piece that goes on at a position, by the codes from there on
+module _ (Is : ℕ → Type 0) (text : List ℕ) (from : ℕ) (room : from ≤ length text) where
+  abbrev part : List ℕ
+  part = take (length text - from) (drop from text)
+
+  whole : part ≡ drop from text
+  whole = take_all (length text - from) (drop from text) (omega (arith, length-drop from text))
+
+  size : length part ≡ length text - from
+  size = ap length whole ∙ length-drop from text
+
+  in_text : (P : ℕ → Type 0) (i k : ℕ) → from + i ≡ k → P (get_or part i 0)
+      → P (get_or text k 0)
+  in_text P i k same is = subst P (ap (λ t. get_or t i 0) whole
+      ∙ (get_or-drop from text i 0 ∙ ap (λ j. get_or text j 0) same)) is
+
+  pub ends_at : (e : ℕ) → IsFirstOf Is part 0 (length part) e
+      → EndsRun Is false text from (from + e)
+  ends_at e found = record {
+    low = omega arith;
+    high = omega (arith, found.inside, size);
+    run = λ k after before. in_text (λ c. ¬ (Is c)) (k - from) k (omega (arith, after))
+        (found.least (k - from) (omega arith) (omega (arith, after, before)));
+    stop = λ _. in_text Is e (from + e) (omega arith) found.one;
+  }
+
+  pub ends_past : All (λ c. ¬ (Is c)) part → EndsRun Is false text from (length text)
+  ends_past all = record {
+    low = room;
+    high = omega arith;
+    run = λ k after before. in_text (λ c. ¬ (Is c)) (k - from) k (omega (arith, after))
+        (All-get_or (λ c. ¬ (Is c)) part (k - from) 0 (omega (arith, after, before, size)) all);
+    stop = λ more. absurd (omega (arith, more));
+  }

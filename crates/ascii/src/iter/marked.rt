@@ -1,7 +1,8 @@
-//! Marks of the next 64 bytes of a text. The cuts by class keep them, so that many bytes take one test.
+//! Marks of the next 64 bytes of a text, or of all its bytes if it has 16 to 63. The cuts by class keep
+//! them, so that many bytes take one test.
 
-ghost use Rattle.std.specs.Prelude.{◌≡◌, ◌≢◌, ◌+◌, ◌<◌, ◌≤◌, All, MatchOption, drop, false, length};
-ghost use Rattle.std.specs.Prelude.{not, true};
+ghost use Rattle.std.specs.Prelude.{◌≡◌, ◌≢◌, ◌+◌, ◌-◌, ◌<◌, ◌≤◌, All, MatchOption, drop, false};
+ghost use Rattle.std.specs.Prelude.{length, not, true};
 ghost use Rattle.ascii_base.specs.Bytes.{IsOnSide};
 ghost use Rattle.ascii_base.specs.Runs.{EndsRun};
 ghost use Rattle.ascii.specs.Marked.{AreMarks, IsFirstRun, IsLowest, Shows};
@@ -9,8 +10,11 @@ ghost use Rattle.ascii.specs.Marked.{AreMarks, IsFirstRun, IsLowest, Shows};
 use ascii_base::classes::{ClassBy, Searched};
 use ascii_base::kernels::{first_of, run_end};
 
-/// How many bytes have marks at once.
+/// At most this many bytes have marks at once.
 pub(crate) const BLOCK: usize = 64;
+
+/// Fewer bytes than this have no marks.
+pub(crate) const FEWEST: usize = 16;
 
 /// Marks of the bytes that come next: bit `at` of the mask is that of the first one.
 #[derive(Clone, Copy)]
@@ -98,10 +102,46 @@ pub(crate) fn block_marks<C: Searched, const INSIDE: bool>(bytes: &[u8]) -> u64
     requires { BLOCK ≤ length bytes.now }
     ensures { Shows C.is INSIDE bytes.now 0 result }
 {
-    let low = <C as ClassBy<32>>::marks(bytes, 0);
-    let high = <C as ClassBy<32>>::marks(bytes, 32);
-    let outside = low | (high << 32);
-    if INSIDE { !outside } else { outside }
+    marks_of_two::<C, 32, INSIDE>(bytes, BLOCK)
+}
+
+/// Marks the bytes on the side of 16 to 63: the last one has the highest bit.
+#[inline(never)]
+pub(crate) fn short_marks<C: Searched, const INSIDE: bool>(bytes: &[u8]) -> u64
+    requires fewest { FEWEST ≤ length bytes.now }
+    requires short { length bytes.now < BLOCK }
+    ensures { Shows C.is INSIDE bytes.now (BLOCK - length bytes.now) result }
+{
+    if bytes.len() < 32 {
+        marks_of_two::<C, 16, INSIDE>(bytes, bytes.len())
+    } else {
+        marks_of_two::<C, 32, INSIDE>(bytes, bytes.len())
+    }
+}
+
+/// Marks the bytes on the side among the first `count`, of which the last one has the highest bit.
+/// Tests the first `N` of them and the last `N`.
+#[inline(always)]
+fn marks_of_two<C: ClassBy<N>, const N: usize, const INSIDE: bool>(
+    bytes: &[u8],
+    count: usize,
+) -> u64
+    requires some { 0 < N }
+    requires lanes { N + N ≤ BLOCK }
+    requires low { N ≤ count }
+    requires high { count ≤ N + N }
+    requires room { count ≤ length bytes.now }
+    ensures { Shows C.is INSIDE bytes.now (BLOCK - count) result }
+{
+    let at = BLOCK - count;
+    let low = C::marks(bytes, 0);
+    let high = C::marks(bytes, count - N);
+    let outside = (low << at) | (high << (BLOCK - N));
+    if INSIDE {
+        outside ^ (u64::MAX << at)
+    } else {
+        outside
+    }
 }
 
 /// The first run of bytes on the side.
@@ -125,18 +165,28 @@ pub(crate) fn first_run<C: Searched, const INSIDE: bool>(
     near_run::<C, INSIDE>(bytes)
 }
 
-/// The marks, or if there are none left, those of the first 64 bytes. Fewer bytes have no marks.
+/// The marks, or if there are none left, those of the first bytes.
 #[inline(always)]
 fn renewed<C: Searched, const INSIDE: bool>(bytes: &[u8], marks: Marked) -> Marked
     requires { AreMarks C.is INSIDE marks bytes.now }
-    ensures { AreMarks C.is INSIDE result bytes.now }
+    ensures some { AreMarks C.is INSIDE result bytes.now }
+    ensures any { FEWEST ≤ length bytes.now → Shows C.is INSIDE bytes.now result.at result.mask }
 {
-    if marks.mask != 0 || bytes.len() < BLOCK {
+    if marks.mask != 0 {
+        return marks;
+    }
+    if bytes.len() >= BLOCK {
+        return Marked {
+            at: 0,
+            mask: block_marks::<C, INSIDE>(bytes),
+        };
+    }
+    if bytes.len() < FEWEST {
         return marks;
     }
     Marked {
-        at: 0,
-        mask: block_marks::<C, INSIDE>(bytes),
+        at: BLOCK - bytes.len(),
+        mask: short_marks::<C, INSIDE>(bytes),
     }
 }
 
@@ -196,7 +246,12 @@ pub(crate) fn first_piece<C: Searched>(bytes: &[u8], marks: Marked) -> (usize, M
 {
     let marks = renewed::<C, true>(bytes, marks);
     if marks.mask == 0 {
-        return (piece_end::<C>(bytes), Marked::none());
+        let marked = if bytes.len() < FEWEST {
+            0
+        } else {
+            BLOCK.saturating_sub(marks.at)
+        };
+        return (piece_end::<C>(bytes, marked), Marked::none());
     }
     let place = lowest(marks.mask);
     let left = Marked {
@@ -222,19 +277,20 @@ fn gap_end<C: Searched, const INSIDE: bool>(bytes: &[u8]) -> usize
     ensures { EndsRun C.is (not INSIDE) bytes.now 0 result }
 {
     if INSIDE {
-        piece_end::<C>(bytes)
+        piece_end::<C>(bytes, 0)
     } else {
         run_end::<C>(bytes, 0, true)
     }
 }
 
-/// The position after the first piece outside a class.
+/// The end of a piece outside the class that goes on at `from`.
 #[inline(always)]
-fn piece_end<C: Searched>(bytes: &[u8]) -> usize
-    ensures { EndsRun C.is false bytes.now 0 result }
+fn piece_end<C: Searched>(bytes: &[u8], from: usize) -> usize
+    requires { from ≤ length bytes.now }
+    ensures { EndsRun C.is false bytes.now from result }
 {
-    match first_of::<C>(bytes) {
-        Some(at) => at,
+    match first_of::<C>(&bytes[from..]) {
+        Some(at) => from + at,
         None => bytes.len(),
     }
 }

@@ -1,4 +1,4 @@
-//! Marks of the last 64 bytes of a text, as `marked` has of the first ones.
+//! Marks of the last bytes of a text, as `marked` has of the next ones.
 
 ghost use Rattle.std.specs.Prelude.{◌≡◌, ◌≢◌, ◌+◌, ◌-◌, ◌^◌, ◌<◌, ◌≤◌, All, MatchOption, bit_and};
 ghost use Rattle.std.specs.Prelude.{false, length, not, take, true};
@@ -6,7 +6,7 @@ ghost use Rattle.ascii_base.specs.Bytes.{IsOnSide};
 ghost use Rattle.ascii_base.specs.Runs.{StartsRun};
 ghost use Rattle.ascii.specs.Marked.{AreLastMarks, IsHighest, IsLastRun, ShowsLast};
 
-use crate::iter::marked::{BLOCK, Marked, MarkedRun, block_marks};
+use crate::iter::marked::{BLOCK, FEWEST, Marked, MarkedRun, block_marks, short_marks};
 use ascii_base::classes::Searched;
 use ascii_base::kernels::{last_of, run_start};
 
@@ -49,18 +49,29 @@ pub(crate) fn last_run<C: Searched, const INSIDE: bool>(
     near_run::<C, INSIDE>(bytes)
 }
 
-/// The marks, or if there are none left, those of the last 64 bytes. Fewer bytes have no marks.
+/// The marks, or if there are none left, those of the last bytes.
 #[inline(always)]
 fn renewed<C: Searched, const INSIDE: bool>(bytes: &[u8], marks: Marked) -> Marked
     requires { AreLastMarks C.is INSIDE marks bytes.now }
-    ensures { AreLastMarks C.is INSIDE result bytes.now }
+    ensures some { AreLastMarks C.is INSIDE result bytes.now }
+    ensures any { FEWEST ≤ length bytes.now
+        → ShowsLast C.is INSIDE bytes.now result.at result.mask }
 {
-    if marks.mask != 0 || bytes.len() < BLOCK {
+    if marks.mask != 0 {
+        return marks;
+    }
+    if bytes.len() >= BLOCK {
+        return Marked {
+            at: BLOCK,
+            mask: block_marks::<C, INSIDE>(&bytes[bytes.len() - BLOCK..]),
+        };
+    }
+    if bytes.len() < FEWEST {
         return marks;
     }
     Marked {
-        at: BLOCK,
-        mask: block_marks::<C, INSIDE>(&bytes[bytes.len() - BLOCK..]),
+        at: bytes.len(),
+        mask: short_marks::<C, INSIDE>(bytes) >> (BLOCK - bytes.len()),
     }
 }
 
@@ -117,7 +128,9 @@ pub(crate) fn last_piece<C: Searched>(bytes: &[u8], marks: Marked) -> (usize, Ma
 {
     let marks = renewed::<C, true>(bytes, marks);
     if marks.mask == 0 {
-        return (piece_start::<C>(bytes), Marked::none());
+        let marked = if bytes.len() < FEWEST { 0 } else { marks.at };
+        let start = piece_start::<C>(bytes, bytes.len() - marked);
+        return (start, Marked::none());
     }
     let place = highest(marks.mask);
     let left = Marked {
@@ -143,19 +156,20 @@ fn end_of_last_on<C: Searched, const INSIDE: bool>(bytes: &[u8]) -> Option<usize
         (λ end. StartsRun C.is (not INSIDE) bytes.now (length bytes.now) end × (0 < end)) }
 {
     let end = if INSIDE {
-        piece_start::<C>(bytes)
+        piece_start::<C>(bytes, bytes.len())
     } else {
         run_start::<C>(bytes, bytes.len(), true)
     };
     if end == 0 { None } else { Some(end) }
 }
 
-/// The position at which the last piece outside a class starts.
+/// The start of a piece outside the class that goes on before `to`.
 #[inline(always)]
-fn piece_start<C: Searched>(bytes: &[u8]) -> usize
-    ensures { StartsRun C.is false bytes.now (length bytes.now) result }
+fn piece_start<C: Searched>(bytes: &[u8], to: usize) -> usize
+    requires { to ≤ length bytes.now }
+    ensures { StartsRun C.is false bytes.now to result }
 {
-    match last_of::<C>(bytes) {
+    match last_of::<C>(&bytes[..to]) {
         Some(at) => at + 1,
         None => 0,
     }
