@@ -1,10 +1,10 @@
 -- Marks of the last codes of a text, bit by bit.
 use Rattle.std.proofs.Common.{◌≡◌, ℕ, ◌+◌, ◌-◌, ◌/◌, ◌^◌, ◌<◌, ◌≤◌, Bool, not, List, length}
-use Rattle.std.proofs.Common.{true, false, get_or, take, bit_and, w64, sym, ap, ◌∙◌, subst, arith}
+use Rattle.std.proofs.Common.{true, false, get_or, drop, take, bit_and, w64, sym, ap, ◌∙◌, subst, arith}
 use Rattle.std.proofs.Common.{inl, inr}
 use Rattle.std.specs.Int.{bit_at, bit_not}
 use Rattle.std.proofs.lemmas.Bool.{cases_lt}
-use Rattle.std.proofs.lemmas.List.{get_or-take, length-take-le}
+use Rattle.std.proofs.lemmas.List.{get_or-drop, get_or-take, length-drop, length-take-le}
 use Rattle.std.proofs.lemmas.Nat.Bits.{bit_at-lt, bit_at-zero, bit_at_and, bit_at_not, bit_at_ones}
 use Rattle.std.proofs.lemmas.Nat.Bits.{bit_at_ones_above}
 use Rattle.ascii_base.specs.Bytes.{IsOnSide}
@@ -188,3 +188,38 @@ module _ (Is : ℕ → Type 0) (side : Bool) (text : List ℕ) (at mask h : ℕ)
       });
       marks = λ _. kept_before (z + 1) (omega (arith, below, inside));
     }
+
+-- the last marks of the codes from a position on
+module _ (Is : ℕ → Type 0) (side : Bool) (text : List ℕ) (at m start : ℕ)
+    (room : start ≤ length text) (shows : ShowsLast Is side text at m) where
+  abbrev left : ℕ
+  left = length text - start
+
+  size : length (drop start text) ≡ length text - start
+  size = length-drop start text
+
+  in_last : (P : ℕ → Type 0) (i k : ℕ) → i ≡ start + k → P (get_or text i 0)
+      → P (get_or (drop start text) k 0)
+  in_last P i k same is =
+      subst P (ap (λ j. get_or text j 0) same ∙ sym (get_or-drop start text k 0)) is
+
+  pub cut_after : length text - start < at
+      → ShowsLast Is side (drop start text) (length text - start)
+      (m / 2 ^ (at - (length text - start)))
+  cut_after more =
+      let inside = shows.room in record {
+        room = omega (arith, size);
+        set = λ k is.
+            let old = shows.set (at - left + k) (sym (shifted_down m (at - left) k) ∙ is) in
+            let short : at - left + k < at = old.0 in (
+              omega (arith, short, more),
+              in_last (IsOnSide Is side) (length text - at + (at - left + k))
+                  (length (drop start text) - left + k) (omega (arith, size, more, room, inside))
+                  old.1,
+            );
+        clear = λ k is short. in_last (IsOnSide Is (not side))
+            (length text - at + (at - left + k)) (length (drop start text) - left + k)
+            (omega (arith, size, more, room, inside))
+            (shows.clear (at - left + k) (sym (shifted_down m (at - left) k) ∙ is)
+            (omega (arith, short, more)));
+      }

@@ -6,7 +6,8 @@ use Rattle.std.proofs.Common.{sym, ap, ◌∙◌, subst, arith, inl, inr}
 use Rattle.std.specs.Int.{bit_at}
 use Rattle.std.specs.Int.Bits.{bit_xor}
 use Rattle.std.proofs.lemmas.Bool.{cases_eq, cases_lt}
-use Rattle.std.proofs.lemmas.List.{get_or-drop, length-drop, take_all}
+use Rattle.std.proofs.lemmas.List.{get_or-drop, get_or-take, length-drop, length-take-le}
+use Rattle.std.proofs.lemmas.List.{take_all}
 use Rattle.std.proofs.lemmas.List.Elements.{All-get_or}
 use Rattle.std.proofs.lemmas.Nat.Bits.{bit_at-lt, bit_at-suc, bit_at-zero, bit_at_and}
 use Rattle.std.proofs.lemmas.Nat.Bits.{bit_at_lowest, bit_at_ones, bit_at_or, bit_at_xor}
@@ -385,4 +386,37 @@ module _ (Is : ℕ → Type 0) (text : List ℕ) (from : ℕ) (room : from ≤ l
     run = λ k after before. in_text (λ c. ¬ (Is c)) (k - from) k (omega (arith, after))
         (All-get_or (λ c. ¬ (Is c)) part (k - from) 0 (omega (arith, after, before, size)) all);
     stop = λ more. absurd (omega (arith, more));
+  }
+
+-- the marks of the first n codes
+module _ (Is : ℕ → Type 0) (side : Bool) (text : List ℕ) (at m n : ℕ) (room : n ≤ length text)
+    (shows : Shows Is side text at m) where
+  first_size : length (take n text) ≡ n
+  first_size = length-take-le n text room
+
+  in_first : (P : ℕ → Type 0) (i k : ℕ) → i ≡ k → k < n → P (get_or text i 0)
+      → P (get_or (take n text) k 0)
+  in_first P i k same few is = subst P (ap (λ j. get_or text j 0) same
+      ∙ sym (get_or-take n text k 0 few)) is
+
+  pub cut_before : at + n < 64
+      → Shows Is side (take n text) (64 - n) (m * 2 ^ (64 - n - at) % 2 ^ 64)
+  cut_before short = record {
+    room = omega (arith, first_size);
+    set = λ k is.
+        let up = shifted_from m (64 - n - at) k is in
+        let old = shows.set (k - (64 - n - at)) up.2 in
+        let from : at ≤ k - (64 - n - at) = old.0 in
+        let past : 64 - n - at ≤ k = up.0 in
+        let few : k < 64 = up.1 in (
+          omega (arith, from, past, short),
+          few,
+          in_first (IsOnSide Is side) (k - (64 - n - at) - at) (k - (64 - n))
+              (omega (arith, short, past, from)) (omega (arith, few, from, past, short)) old.2,
+        );
+    clear = λ k is from few. in_first (IsOnSide Is (not side)) (k - (64 - n - at) - at)
+        (k - (64 - n)) (omega (arith, short, from)) (omega (arith, few, from, short))
+        (shows.clear (k - (64 - n - at))
+        (sym (shifted_here m (64 - n - at) k few (omega (arith, from))) ∙ is)
+        (omega (arith, from, short)) (omega (arith, few)));
   }

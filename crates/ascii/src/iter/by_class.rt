@@ -20,8 +20,8 @@ ghost use Rattle.ascii.specs.Words.{IsWord};
 use crate::ascii_str::AsciiStr;
 use crate::iter::cursor::Cursor;
 use crate::iter::items::{Cut, CutBack, Items, Spans};
-use crate::iter::marked::{MarkedEnds, first_piece, first_run};
-use crate::iter::marked_back::{last_piece, last_run};
+use crate::iter::marked::{MarkedEnds, first_piece, first_run, marks_to};
+use crate::iter::marked_back::{last_marks_from, last_piece, last_run};
 use crate::iter::spans::SplitSpan;
 use ascii_base::classes::{Searched, Whitespace};
 use std::marker::PhantomData;
@@ -49,11 +49,12 @@ impl<C: Searched> Cut for AtClass<C> {
         marks: MarkedEnds,
     ) -> Option<(SplitSpan<'a>, Option<Cursor<'a>>, MarkedEnds)> {
         let bytes = part.view.bytes;
-        let (end, left) = first_piece::<C>(bytes, marks.front);
-        let marks = MarkedEnds::front(left);
+        let (end, front) = first_piece::<C>(bytes, marks.front);
         if end == bytes.len() {
             return Some((part.piece(), None, marks));
         }
+        let back = last_marks_from::<C, true>(bytes, marks.back, end + 1);
+        let marks = MarkedEnds { front, back };
         Some((part.to(end).piece(), Some(part.from(end + 1)), marks))
     }
 }
@@ -66,11 +67,12 @@ impl<C: Searched> CutBack for AtClass<C> {
         marks: MarkedEnds,
     ) -> Option<(SplitSpan<'a>, Option<Cursor<'a>>, MarkedEnds)> {
         let bytes = part.view.bytes;
-        let (start, left) = last_piece::<C>(bytes, marks.back);
-        let marks = MarkedEnds::back(left);
+        let (start, back) = last_piece::<C>(bytes, marks.back);
         if start == 0 {
             return Some((part.piece(), None, marks));
         }
+        let front = marks_to::<C, true>(bytes, marks.front, start - 1);
+        let marks = MarkedEnds { front, back };
         Some((part.from(start).piece(), Some(part.to(start - 1)), marks))
     }
 }
@@ -100,11 +102,16 @@ impl<C: Searched, const INSIDE: bool> Cut for AtRuns<C, INSIDE> {
         part: Cursor<'a>,
         marks: MarkedEnds,
     ) -> Option<(SplitSpan<'a>, Option<Cursor<'a>>, MarkedEnds)> {
-        let found = first_run::<C, INSIDE>(part.view.bytes, marks.front)?;
+        let bytes = part.view.bytes;
+        let found = first_run::<C, INSIDE>(bytes, marks.front)?;
+        let back = last_marks_from::<C, INSIDE>(bytes, marks.back, found.end);
         Some((
             part.to(found.end).from(found.start).piece(),
             Some(part.from(found.end)),
-            MarkedEnds::front(found.marks),
+            MarkedEnds {
+                front: found.marks,
+                back,
+            },
         ))
     }
 }
@@ -116,12 +123,17 @@ impl<C: Searched, const INSIDE: bool> CutBack for AtRuns<C, INSIDE> {
         part: Cursor<'a>,
         marks: MarkedEnds,
     ) -> Option<(SplitSpan<'a>, Option<Cursor<'a>>, MarkedEnds)> {
-        let found = last_run::<C, INSIDE>(part.view.bytes, marks.back)?;
+        let bytes = part.view.bytes;
+        let found = last_run::<C, INSIDE>(bytes, marks.back)?;
+        let front = marks_to::<C, INSIDE>(bytes, marks.front, found.start);
         let rest = part.to(found.end);
         Some((
             rest.from(found.start).piece(),
             Some(rest.to(found.start)),
-            MarkedEnds::back(found.marks),
+            MarkedEnds {
+                front,
+                back: found.marks,
+            },
         ))
     }
 }

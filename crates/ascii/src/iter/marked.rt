@@ -2,7 +2,7 @@
 //! them, so that many bytes take one test.
 
 ghost use Rattle.std.specs.Prelude.{◌≡◌, ◌≢◌, ◌+◌, ◌-◌, ◌<◌, ◌≤◌, All, MatchOption, drop, false};
-ghost use Rattle.std.specs.Prelude.{length, not, true};
+ghost use Rattle.std.specs.Prelude.{length, not, take, true};
 ghost use Rattle.ascii_base.specs.Bytes.{IsOnSide};
 ghost use Rattle.ascii_base.specs.Runs.{EndsRun};
 ghost use Rattle.ascii.specs.Marked.{AreMarks, IsFirstRun, IsLowest, Shows};
@@ -41,8 +41,7 @@ pub struct MarkedRun {
     pub(crate) marks: Marked,
 }
 
-/// Marks of the bytes that come next, and of the last ones. Only the end at which an item was cut off
-/// last has any.
+/// Marks of the bytes that come next, and of the last ones.
 #[derive(Clone, Copy)]
 pub struct MarkedEnds {
     pub(crate) front: Marked,
@@ -59,30 +58,6 @@ impl MarkedEnds {
         MarkedEnds {
             front: Marked::none(),
             back: Marked::none(),
-        }
-    }
-
-    /// These marks of the bytes that come next.
-    #[inline(always)]
-    pub(crate) fn front(front: Marked) -> MarkedEnds
-        ensures front { result.front ≡ front }
-        ensures back { result.back.mask ≡ 0 }
-    {
-        MarkedEnds {
-            front,
-            back: Marked::none(),
-        }
-    }
-
-    /// These marks of the last bytes.
-    #[inline(always)]
-    pub(crate) fn back(back: Marked) -> MarkedEnds
-        ensures front { result.front.mask ≡ 0 }
-        ensures back { result.back ≡ back }
-    {
-        MarkedEnds {
-            front: Marked::none(),
-            back,
         }
     }
 }
@@ -187,6 +162,35 @@ fn renewed<C: Searched, const INSIDE: bool>(bytes: &[u8], marks: Marked) -> Mark
     Marked {
         at: BLOCK - bytes.len(),
         mask: short_marks::<C, INSIDE>(bytes),
+    }
+}
+
+/// The marks of the first `len` bytes, if those after them are cut off.
+#[inline(always)]
+pub(crate) fn marks_to<C: Searched, const INSIDE: bool>(
+    bytes: &[u8],
+    marks: Marked,
+    len: usize,
+) -> Marked
+    requires room { len ≤ length bytes.now }
+    requires marks { AreMarks C.is INSIDE marks bytes.now }
+    ensures { AreMarks C.is INSIDE result (take len bytes.now) }
+{
+    // Tested first: a walk from the back has no marks here, and the compiler drops the rest.
+    if marks.mask == 0 || len >= BLOCK {
+        return marks;
+    }
+    let at = BLOCK - len;
+    if marks.at >= at {
+        return marks;
+    }
+    let free = at - marks.at;
+    if free == BLOCK {
+        return Marked::none();
+    }
+    Marked {
+        at,
+        mask: marks.mask << free,
     }
 }
 

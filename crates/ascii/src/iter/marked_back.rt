@@ -1,7 +1,7 @@
 //! Marks of the last bytes of a text, as `marked` has of the next ones.
 
 ghost use Rattle.std.specs.Prelude.{◌≡◌, ◌≢◌, ◌+◌, ◌-◌, ◌^◌, ◌<◌, ◌≤◌, All, MatchOption, bit_and};
-ghost use Rattle.std.specs.Prelude.{false, length, not, take, true};
+ghost use Rattle.std.specs.Prelude.{drop, false, length, not, take, true};
 ghost use Rattle.ascii_base.specs.Bytes.{IsOnSide};
 ghost use Rattle.ascii_base.specs.Runs.{StartsRun};
 ghost use Rattle.ascii.specs.Marked.{AreLastMarks, IsHighest, IsLastRun, ShowsLast};
@@ -72,6 +72,32 @@ fn renewed<C: Searched, const INSIDE: bool>(bytes: &[u8], marks: Marked) -> Mark
     Marked {
         at: bytes.len(),
         mask: short_marks::<C, INSIDE>(bytes) >> (BLOCK - bytes.len()),
+    }
+}
+
+/// The marks of the bytes from `start` on, if those before them are cut off.
+#[inline(always)]
+pub(crate) fn last_marks_from<C: Searched, const INSIDE: bool>(
+    bytes: &[u8],
+    marks: Marked,
+    start: usize,
+) -> Marked
+    requires room { start ≤ length bytes.now }
+    requires marks { AreLastMarks C.is INSIDE marks bytes.now }
+    ensures { AreLastMarks C.is INSIDE result (drop start bytes.now) }
+{
+    let len = bytes.len() - start;
+    // Tested first: a walk from the front has no marks here, and the compiler drops the rest.
+    if marks.mask == 0 || marks.at <= len {
+        return marks;
+    }
+    let gone = marks.at - len;
+    if gone >= BLOCK {
+        return Marked::none();
+    }
+    Marked {
+        at: len,
+        mask: marks.mask >> gone,
     }
 }
 

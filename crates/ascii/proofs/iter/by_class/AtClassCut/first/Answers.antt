@@ -1,27 +1,36 @@
 use Rattle.std.proofs.Common.{ap, arith, subst, sym, true, ◌∙◌}
 use Rattle.ascii.specs.ByClass.{IsOutside}
 use Rattle.ascii.specs.View.{text_of}
-use Rattle.ascii.proofs.ByClassLemmas.{first_is_outside, first_piece_by, only_is_outside, only_piece_by}
-use Rattle.ascii.proofs.MarkedLemmas.{no_marks}
+use Rattle.ascii.proofs.ByClassLemmas.{first_is_outside, first_piece_by, only_is_outside}
+use Rattle.ascii.proofs.ByClassLemmas.{only_piece_by}
 use Rattle.ascii.proofs.iter.by_class.AtClassCut.first.Goals as goal
 
 pub returns-then-end-bytes-clause-first : goal.returns-then-end-bytes-clause-first
 returns-then-end-bytes-clause-first g c = rw c.piece.ensures.piece
     (only_piece_by g.C.Class.is g.C.Class.test g.met.C.Class.decides c.args.part.start
-    (text_of c.args.part.view) c.first_piece-end.result.0 c.if-end-bytes.true c.first_piece-end.ensures.end)
+    (text_of c.args.part.view) c.first_piece-end.result.0 c.if-end-bytes.true
+    c.first_piece-end.ensures.end)
 
 pub returns-then-end-bytes-clause-item : goal.returns-then-end-bytes-clause-item
 returns-then-end-bytes-clause-item g c = (
   subst (IsOutside g.C.Class.is) (sym (ap (λ span. span.item) c.piece.ensures.piece))
       (only_is_outside g.C.Class.is g.C.Class.test g.met.C.Class.decides c.args.part.start
-      (text_of c.args.part.view) c.first_piece-end.result.0 c.if-end-bytes.true c.first_piece-end.ensures.end),
+      (text_of c.args.part.view) c.first_piece-end.result.0 c.if-end-bytes.true
+      c.first_piece-end.ensures.end),
   c.piece.ensures.fits,
 )
 
 pub returns-clause-first : goal.returns-clause-first
-returns-clause-first g c = rw (c.piece-2.ensures.piece, c.to.ensures.start, c.to.ensures.text, c.from.ensures.start, c.from.ensures.text)
+returns-clause-first g c = rw (
+  c.piece-2.ensures.piece,
+  c.to.ensures.start,
+  c.to.ensures.text,
+  c.from.ensures.start,
+  c.from.ensures.text,
+)
     (first_piece_by g.C.Class.is g.C.Class.test g.met.C.Class.decides c.args.part.start
-    (text_of c.args.part.view) c.first_piece-end.result.0 c.if-end-bytes.false c.first_piece-end.ensures.end)
+    (text_of c.args.part.view) c.first_piece-end.result.0 c.if-end-bytes.false
+    c.first_piece-end.ensures.end)
 
 pub returns-clause-item : goal.returns-clause-item
 returns-clause-item g c = (
@@ -35,7 +44,7 @@ returns-clause-item g c = (
 pub returns-clause-marks : goal.returns-clause-marks
 returns-clause-marks g c =
     let high = c.first_piece-end.ensures.end.high in (
-      rw (c.front-marks.ensures.front, c.from.ensures.text)
+      rw c.from.ensures.text
           (c.first_piece-end.ensures.marks (omega (arith, high, c.if-end-bytes.false))),
-      (no_marks g.C.Class.is true _ (text_of c.from.result.view) c.front-marks.ensures.back).1,
+      rw c.from.ensures.text c.last_marks_from-back.ensures,
     )

@@ -1,8 +1,8 @@
 use Rattle.std.proofs.Common.{ap, arith, subst, sym, true, ◌∙◌}
 use Rattle.ascii.specs.ByClass.{IsOutside}
 use Rattle.ascii.specs.View.{text_of}
-use Rattle.ascii.proofs.ByClassLemmas.{last_is_outside, last_piece_by, only_back_outside, only_piece_back}
-use Rattle.ascii.proofs.MarkedLemmas.{no_marks}
+use Rattle.ascii.proofs.ByClassLemmas.{last_is_outside, last_piece_by, only_back_outside}
+use Rattle.ascii.proofs.ByClassLemmas.{only_piece_back}
 use Rattle.ascii.proofs.iter.by_class.AtClassCutBack.last.Goals as goal
 
 pub returns-then-start-eq0-clause-last : goal.returns-then-start-eq0-clause-last
@@ -21,9 +21,16 @@ returns-then-start-eq0-clause-item g c = (
 )
 
 pub returns-clause-last : goal.returns-clause-last
-returns-clause-last g c = rw (c.piece-2.ensures.piece, c.to.ensures.start, c.to.ensures.text, c.from.ensures.start, c.from.ensures.text)
+returns-clause-last g c = rw (
+  c.piece-2.ensures.piece,
+  c.to.ensures.start,
+  c.to.ensures.text,
+  c.from.ensures.start,
+  c.from.ensures.text,
+)
     (last_piece_by g.C.Class.is g.C.Class.test g.met.C.Class.decides c.args.part.start
-    (text_of c.args.part.view) c.last_piece-start.result.0 c.if-start-eq0.false c.last_piece-start.ensures.start)
+    (text_of c.args.part.view) c.last_piece-start.result.0 c.if-start-eq0.false
+    c.last_piece-start.ensures.start)
 
 pub returns-clause-item : goal.returns-clause-item
 returns-clause-item g c = (
@@ -36,7 +43,7 @@ returns-clause-item g c = (
 
 pub returns-clause-marks : goal.returns-clause-marks
 returns-clause-marks g c = (
-  (no_marks g.C.Class.is true _ (text_of c.to.result.view) c.back-marks.ensures.front).0,
-  rw (c.back-marks.ensures.back, c.to.ensures.text)
+  rw c.to.ensures.text c.marks_to-front.ensures,
+  rw c.to.ensures.text
       (c.last_piece-start.ensures.marks (omega (arith, c.if-start-eq0.false))),
 )

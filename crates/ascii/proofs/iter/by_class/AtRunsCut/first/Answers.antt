@@ -4,7 +4,6 @@ use Rattle.ascii.specs.ByClass.{side_test}
 use Rattle.ascii.specs.Words.{IsWord}
 use Rattle.ascii.specs.View.{text_of}
 use Rattle.ascii.proofs.ByClassLemmas.{first_is_within, first_word_within, no_word}
-use Rattle.ascii.proofs.MarkedLemmas.{no_marks}
 use Rattle.ascii.proofs.RunLemmas.{ends_gap, ends_word, side_decides}
 use Rattle.ascii.proofs.iter.by_class.AtRunsCut.first.Goals as goal
 
@@ -31,8 +30,8 @@ returns-clause-first g c =
     )
     (first_word_within (IsOnSide Is (not inside)) (side_test g.C.Class.test (not inside))
     (side_decides Is g.C.Class.test g.met.C.Class.decides (not inside)) c.args.part.start
-    (text_of c.args.part.view) c.in_ok-found.found.start c.in_ok-found.found.end (omega (arith, run.some))
-    (ends_gap Is (not inside) _ _ _ run.gap) (ends_word Is inside _ _ _ run.run))
+    (text_of c.args.part.view) c.in_ok-found.found.start c.in_ok-found.found.end
+    (omega (arith, run.some)) (ends_gap Is (not inside) _ _ _ run.gap) (ends_word Is inside _ _ _ run.run))
 
 pub returns-clause-item : goal.returns-clause-item
 returns-clause-item g c =
@@ -51,7 +50,6 @@ returns-clause-item g c =
 
 pub returns-clause-marks : goal.returns-clause-marks
 returns-clause-marks g c = (
-  rw (c.front.ensures.front, c.from-2.ensures.text) c.in_ok-found.ensures.marks,
-  (no_marks g.C.Class.is (not (eqb g.row.INSIDE 0)) _ (text_of c.from-2.result.view)
-      c.front.ensures.back).1,
+  rw c.from-2.ensures.text c.in_ok-found.ensures.marks,
+  rw c.from-2.ensures.text c.last_marks_from-back.ensures,
 )

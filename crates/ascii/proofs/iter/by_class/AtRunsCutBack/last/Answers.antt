@@ -1,12 +1,11 @@
 use Rattle.std.proofs.Common.{ap, subst, sym, ◌∙◌, drop, eqb, not, arith}
 use Rattle.ascii_base.specs.Bytes.{IsOnSide}
 use Rattle.ascii.specs.ByClass.{side_test}
-use Rattle.ascii.specs.Marked.{AreLastMarks}
+use Rattle.ascii.specs.Marked.{AreLastMarks, AreMarks}
 use Rattle.ascii.specs.Words.{IsWord}
 use Rattle.ascii.specs.View.{text_of}
 use Rattle.ascii.proofs.ByClassLemmas.{last_is_word, last_word_by, no_word}
 use Rattle.std.proofs.lemmas.List.{take-take}
-use Rattle.ascii.proofs.MarkedLemmas.{no_marks}
 use Rattle.ascii.proofs.RunLemmas.{side_decides, starts_gap, starts_last, starts_word}
 use Rattle.ascii.proofs.iter.by_class.AtRunsCutBack.last.Goals as goal
 
@@ -21,36 +20,48 @@ pub returns-clause-last : goal.returns-clause-last
 returns-clause-last g c =
     let Is = g.C.Class.is in
     let inside = not (eqb g.row.INSIDE 0) in
-    rw (c.piece.ensures.piece, c.to.ensures.start, c.to.ensures.text, c.from.ensures.start, c.from.ensures.text, c.to-rest.ensures.start, c.to-rest.ensures.text)
+    let run = c.in_ok-found.ensures in
+    rw (
+      c.piece.ensures.piece,
+      c.to.ensures.start,
+      c.to.ensures.text,
+      c.from.ensures.start,
+      c.from.ensures.text,
+      c.to-rest.ensures.start,
+      c.to-rest.ensures.text,
+    )
     (last_word_by (IsOnSide Is (not inside)) (side_test g.C.Class.test (not inside))
     (side_decides Is g.C.Class.test g.met.C.Class.decides (not inside)) c.args.part.start
-    (text_of c.args.part.view) c.in_ok-found.found.end c.in_ok-found.found.start (omega (arith, c.in_ok-found.ensures.some))
-    (starts_gap Is (not inside) _ _ _ c.in_ok-found.ensures.gap)
-    (starts_word Is inside _ _ _ (starts_last Is inside _ _ _
-    c.in_ok-found.ensures.gap (omega (arith, c.in_ok-found.ensures.some)) c.in_ok-found.ensures.run)))
+    (text_of c.args.part.view) c.in_ok-found.found.end c.in_ok-found.found.start
+    (omega (arith, run.some)) (starts_gap Is (not inside) _ _ _ run.gap) (starts_word Is inside _
+    _ _ (starts_last Is inside _ _ _ run.gap (omega (arith, run.some)) run.run)))
 
 pub returns-clause-item : goal.returns-clause-item
 returns-clause-item g c =
     let Is = g.C.Class.is in
-    let inside = not (eqb g.row.INSIDE 0) in (
+    let inside = not (eqb g.row.INSIDE 0) in
+    let run = c.in_ok-found.ensures in (
       subst (IsWord (IsOnSide Is (not inside))) (sym (ap (λ span. span.item) c.piece.ensures.piece
           ∙ (c.from.ensures.text ∙ ap (drop c.in_ok-found.found.start) c.to-rest.ensures.text)))
           (last_is_word (IsOnSide Is (not inside)) (side_test g.C.Class.test (not inside))
           (side_decides Is g.C.Class.test g.met.C.Class.decides (not inside)) c.args.part.start
           (text_of c.args.part.view) c.in_ok-found.found.end c.in_ok-found.found.start
-          (omega (arith, c.in_ok-found.ensures.some)) (starts_gap Is (not inside) _ _ _ c.in_ok-found.ensures.gap)
-          (starts_word Is inside _ _ _ (starts_last Is inside _ _ _
-          c.in_ok-found.ensures.gap (omega (arith, c.in_ok-found.ensures.some)) c.in_ok-found.ensures.run))),
+          (omega (arith, run.some)) (starts_gap Is (not inside) _ _ _ run.gap)
+          (starts_word Is inside _ _ _ (starts_last Is inside _ _ _ run.gap
+          (omega (arith, run.some)) run.run))),
       c.piece.ensures.fits,
     )
 
 pub returns-clause-marks : goal.returns-clause-marks
 returns-clause-marks g c =
     let high = c.in_ok-found.ensures.run.high in
-    let inside = not (eqb g.row.INSIDE 0) in (
-      (no_marks g.C.Class.is inside _ (text_of c.to.result.view) c.back.ensures.front).0,
-      rw (c.back.ensures.back, c.to.ensures.text, c.to-rest.ensures.text)
-          (subst (λ t. AreLastMarks g.C.Class.is inside c.in_ok-found.found.marks t)
-          (sym (take-take c.in_ok-found.found.start c.in_ok-found.found.end (text_of c.args.part.view)
-          (omega (arith, high)))) c.in_ok-found.ensures.marks),
+    let inside = not (eqb g.row.INSIDE 0) in
+    let same = sym (take-take c.in_ok-found.found.start c.in_ok-found.found.end
+    (text_of c.args.part.view) (omega (arith, high))) in (
+      rw (c.to.ensures.text, c.to-rest.ensures.text)
+          (subst (λ t. AreMarks g.C.Class.is inside c.marks_to-front.result t) same
+          c.marks_to-front.ensures),
+      rw (c.to.ensures.text, c.to-rest.ensures.text)
+          (subst (λ t. AreLastMarks g.C.Class.is inside c.in_ok-found.found.marks t) same
+          c.in_ok-found.ensures.marks),
     )
