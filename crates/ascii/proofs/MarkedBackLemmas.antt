@@ -1,18 +1,22 @@
 -- Marks of the last codes of a text, bit by bit.
-use Rattle.std.proofs.Common.{◌≡◌, ℕ, ◌+◌, ◌-◌, ◌/◌, ◌^◌, ◌<◌, ◌≤◌, Bool, not, List, length}
-use Rattle.std.proofs.Common.{true, false, get_or, drop, take, bit_and, w64, sym, ap, ◌∙◌, subst, arith}
-use Rattle.std.proofs.Common.{inl, inr}
+use Rattle.std.proofs.Common.{◌≡◌, ◌≢◌, ℕ, zero, suc, ◌+◌, ◌-◌, ◌*◌, ◌/◌, ◌%◌, ◌^◌, ◌<◌, ◌≤◌}
+use Rattle.std.proofs.Common.{Bool, true, false, not, List, length, get_or, drop, take, bit_and}
+use Rattle.std.proofs.Common.{min, w64, sym, ap, ◌∙◌, subst, arith, inl, inr}
 use Rattle.std.specs.Int.{bit_at, bit_not}
-use Rattle.std.proofs.lemmas.Bool.{cases_lt}
+use Rattle.std.specs.Int.Bits.{bit_xor}
+use Rattle.std.proofs.Math.Nat.{mod-eq_of_lt}
+use Rattle.std.proofs.Math.Pow.{pow-lt}
+use Rattle.std.proofs.lemmas.Bool.{cases_eq, cases_lt}
 use Rattle.std.proofs.lemmas.List.{get_or-drop, get_or-take, length-drop, length-take-le}
-use Rattle.std.proofs.lemmas.Nat.Bits.{bit_at-lt, bit_at-zero, bit_at_and, bit_at_not, bit_at_ones}
-use Rattle.std.proofs.lemmas.Nat.Bits.{bit_at_ones_above}
+use Rattle.std.proofs.lemmas.Nat.Bits.{bit_at-lt, bit_at-pow_other, bit_at-pow_same, bit_at-zero}
+use Rattle.std.proofs.lemmas.Nat.Bits.{bit_at_and, bit_at_not, bit_at_ones, bit_at_ones_above}
+use Rattle.std.proofs.lemmas.Nat.Bits.{bit_at_xor, same_from_bits}
 use Rattle.ascii_base.specs.Bytes.{IsOnSide}
 use Rattle.ascii_base.specs.Runs.{StartsRun}
 use Rattle.ascii.specs.declared.iter.marked.Marked.{Marked}
 use Rattle.ascii.specs.Marked.{IsHighest, IsLastRun, Shows, ShowsLast}
 use Rattle.ascii.proofs.MarkedLemmas.{twice}
-use Rattle.ascii.proofs.MasksLemmas.{shifted_down}
+use Rattle.ascii.proofs.MasksLemmas.{shifted_down, shifted_from, shifted_here}
 
 -- the bits of a mask before `n`
 low_bit : (m n k : ℕ) → k < n → bit_at (bit_and m (2 ^ n - 1)) k ≡ bit_at m k
@@ -59,6 +63,70 @@ piece_on_back Is text at n s shows few inside far = record {
   ];
   stop = far.stop;
 }
+
+-- the marks that a run of marks starts with
+abbrev pub run_starts : ℕ → ℕ
+run_starts m = bit_and m (bit_not w64 (m * 2 ^ 1 % 2 ^ 64))
+
+start_bit : (m k : ℕ) → k < 64
+    → bit_at (run_starts m) k ≡ min (bit_at m k) (1 - bit_at (m * 2 ^ 1 % 2 ^ 64) k)
+start_bit m k few = bit_at_and m (bit_not w64 (m * 2 ^ 1 % 2 ^ 64)) k
+    ∙ ap (min (bit_at m k)) (bit_at_not w64 (m * 2 ^ 1 % 2 ^ 64) k (omega arith) few)
+
+not_moved : (m : ℕ) → bit_at (m * 2 ^ 1 % 2 ^ 64) 0 ≡ 0
+not_moved m = elim (cases_eq (bit_at (m * 2 ^ 1 % 2 ^ 64) 0) 1) [
+  | inl one ↦ absurd (omega (arith, (shifted_from m 1 0 one).0))
+  | inr other ↦ omega (arith, other, bit_at-lt (m * 2 ^ 1 % 2 ^ 64) 0)
+]
+
+module _ (m h : ℕ) (high : IsHighest m h) where
+  -- from the highest mark down to the last that starts a run, all bits are set
+  ones_down : (n : ℕ) → ((k : ℕ) → n < k → bit_at (run_starts m) k ≡ 0) → (d : ℕ) → n + d ≤ h
+      → bit_at m (h - d) ≡ 1
+  ones_down n none zero l = let same : h - 0 ≡ h = omega arith in ap (bit_at m) same ∙ high.set
+  ones_down n none (suc d) l =
+      let few : h - d < 64 = omega (arith, high.few) in
+      let same : h - suc d ≡ h - d - 1 = omega arith in
+      ap (bit_at m) same ∙ omega (
+        arith,
+        ones_down n none d (omega (arith, l)),
+        none (h - d) (omega (arith, l)),
+        start_bit m (h - d) few,
+        shifted_here m 1 (h - d) few (omega (arith, l)),
+        bit_at-lt m (h - d - 1),
+      )
+
+  pub some_start : run_starts m ≢ 0
+  some_start none =
+      let clear = λ (k : ℕ). ap (λ x. bit_at x k) none ∙ bit_at-zero k in
+      let same : h - h ≡ 0 = omega arith in
+      let one : bit_at m 0 ≡ 1 =
+      ap (bit_at m) (sym same) ∙ ones_down 0 (λ k _. clear k) h (omega arith) in
+      absurd (omega (arith, clear 0, start_bit m 0 (omega arith), not_moved m, one))
+
+  -- without the highest bit
+  pub without_highest : bit_xor m (1 * 2 ^ h % 2 ^ 64) ≡ bit_and m (2 ^ h - 1)
+  without_highest = ap (bit_xor m) (mod-eq_of_lt small ∙ omega arith)
+      ∙ same_from_bits (bit_xor m (2 ^ h)) (bit_and m (2 ^ h - 1)) (λ k. elim (cases_lt k h) [
+        | inl l ↦
+            let other : k ≢ h = omega (arith, l) in
+            bit_at_xor m (2 ^ h) k ∙ (omega (arith, bit_at-pow_other h k other, bit_at-lt m k)
+            ∙ sym (low_bit m h k l))
+        | inr g ↦ elim (cases_eq k h) [
+          | inl same ↦ ap (bit_at (bit_xor m (2 ^ h))) same ∙ (bit_at_xor m (2 ^ h) h
+              ∙ (omega (arith, bit_at-pow_same h, high.set)
+              ∙ (sym (no_high_bit m h h (omega arith))
+              ∙ ap (bit_at (bit_and m (2 ^ h - 1))) (sym same))))
+          | inr other ↦ bit_at_xor m (2 ^ h) k ∙ (omega (
+            arith,
+            bit_at-pow_other h k other,
+            high.above k (omega (arith, g, other)),
+          ) ∙ sym (no_high_bit m h k g))
+        ]
+      ])
+    where
+      small : 1 * 2 ^ h < 2 ^ 64
+      small = omega (arith, pow-lt {i = h} {j = 64} high.few)
 
 -- the last run on the side, at the last mark
 module _ (Is : ℕ → Type 0) (side : Bool) (text : List ℕ) (at mask h : ℕ)
@@ -131,63 +199,61 @@ module _ (Is : ℕ → Type 0) (side : Bool) (text : List ℕ) (at mask h : ℕ)
       subst (λ n. ShowsLast Is side (take n text) h (bit_and mask (2 ^ h - 1))) same
       (kept_before h (omega (arith, inside)))
 
-  -- a bit below the last mark, by the bits that are not marked
-  unmarked : mask < 2 ^ 64 → (k : ℕ) → k < h
-      → bit_at (bit_and (bit_not w64 mask) (2 ^ h - 1)) k ≡ 1 - bit_at mask k
-  unmarked fits k l = low_bit (bit_not w64 mask) h k l
-      ∙ bit_at_not w64 mask k fits (omega (arith, l, high.few))
+  -- the run starts at bit n, or goes on before it
+  module _ (n : ℕ) (stop : IsHighest (run_starts mask) n) where
+    set_here : bit_at mask n ≡ 1
+    set_here = omega (arith, stop.set, start_bit mask n stop.few, bit_at-lt mask n)
 
-  -- the run goes on where the marks start
-  pub far_run_back : mask < 2 ^ 64 → (s : ℕ) (none : Marked) → none.mask ≡ 0
-      → bit_and (bit_not w64 mask) (2 ^ h - 1) ≡ 0 → StartsRun Is side text first s
-      → IsLastRun Is side text (record { start = s; end = first + h + 1; marks = none })
-  far_run_back fits s none empty full far =
-      let same : first ≡ first + 0 = omega arith in record {
-        gap = gap_run_back;
-        some = omega arith;
-        run = run_before 0 s (omega arith) (λ k from l. omega (
-          arith,
-          unmarked fits k l,
-          ap (λ m. bit_at m k) full,
-          bit_at-zero k,
-          bit_at-lt mask k,
-        )) (subst (λ i. StartsRun Is side text i s) same far);
-        marks = λ some. absurd (some empty);
-      }
-
-  -- the run starts after bit z
-  module _ (fits : mask < 2 ^ 64) (z : ℕ)
-      (stop : IsHighest (bit_and (bit_not w64 mask) (2 ^ h - 1)) z) where
-    below : z < h
-    below = elim (cases_lt z h) [
-      | inl l ↦ l
-      | inr g ↦ absurd (omega (arith, stop.set, no_high_bit (bit_not w64 mask) h z g))
+    below : n ≤ h
+    below = elim (cases_lt h n) [
+      | inl l ↦ absurd (omega (arith, set_here, high.above n l))
+      | inr g ↦ g
     ]
 
-    pub near_run_back : IsLastRun Is side text (record {
-      start = first + (z + 1);
+    ones : (k : ℕ) → n ≤ k → k < h → bit_at mask k ≡ 1
+    ones k from l =
+        let same : k ≡ h - (h - k) = omega (arith, l) in
+        ap (bit_at mask) same ∙ ones_down mask h high n stop.above (h - k) (omega (arith, from, l))
+
+    pub far_run_back : n ≡ 0 → (s : ℕ) (none : Marked) → none.mask ≡ 0
+        → StartsRun Is side text first s
+        → IsLastRun Is side text (record { start = s; end = first + h + 1; marks = none })
+    far_run_back whole s none empty far =
+        let same : first ≡ first + 0 = omega arith in record {
+          gap = gap_run_back;
+          some = omega arith;
+          run = run_before 0 s (omega arith) (λ k from l. ones k (omega (arith, whole)) l)
+              (subst (λ i. StartsRun Is side text i s) same far);
+          marks = λ some. absurd (some empty);
+        }
+
+    pub near_run_back : n ≢ 0 → IsLastRun Is side text (record {
+      start = first + n;
       end = first + h + 1;
-      marks = record { at = z + 1; mask = bit_and mask (2 ^ (z + 1) - 1) };
+      marks = record { at = n; mask = bit_and mask (2 ^ n - 1) };
     })
-    near_run_back = record {
+    near_run_back later = record {
       gap = gap_run_back;
       some = omega arith;
-      run = run_before (z + 1) (first + (z + 1)) (omega (arith, below)) (λ k from l. omega (
-        arith,
-        unmarked fits k l,
-        stop.above k (omega (arith, from)),
-        bit_at-lt mask k,
-      )) (record {
+      run = run_before n (first + n) below ones (record {
         high = omega arith;
         run = λ k from before. absurd (omega (arith, from, before));
         stop = λ _.
-            let same : first + z ≡ first + (z + 1) - 1 = omega arith in
+            let same : first + (n - 1) ≡ first + n - 1 = omega (arith, later) in
             subst (λ i. IsOnSide Is (not side) (get_or text i 0)) same
-            (shows.clear z (omega (arith, unmarked fits z below, stop.set, bit_at-lt mask z))
-            (omega (arith, below, inside)));
+            (shows.clear (n - 1) clear (omega (arith, later, below, inside)));
       });
-      marks = λ _. kept_before (z + 1) (omega (arith, below, inside));
+      marks = λ _. kept_before n (omega (arith, below, inside));
     }
+      where
+        clear : bit_at mask (n - 1) ≡ 0
+        clear = omega (
+          arith,
+          stop.set,
+          start_bit mask n stop.few,
+          shifted_here mask 1 n stop.few (omega (arith, later)),
+          bit_at-lt mask (n - 1),
+        )
 
 -- the last marks of the codes from a position on
 module _ (Is : ℕ → Type 0) (side : Bool) (text : List ℕ) (at m start : ℕ)

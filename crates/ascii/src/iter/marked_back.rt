@@ -19,6 +19,15 @@ fn highest(mask: u64) -> usize
     mask.ilog2() as usize
 }
 
+/// The mask without the last mark, which is at `last`.
+#[inline(always)]
+fn without_last(mask: u64, last: usize) -> u64
+    requires { IsHighest mask last }
+    ensures { result ≡ bit_and mask (2 ^ last - 1) }
+{
+    mask ^ (1 << last)
+}
+
 /// The bits before `at`.
 #[inline(always)]
 fn bits_before(mask: u64, at: usize) -> u64
@@ -123,17 +132,16 @@ fn marked_run<C: Searched, const INSIDE: bool>(bytes: &[u8], marks: Marked) -> M
     ensures { IsLastRun C.is INSIDE bytes.now result }
 {
     let first = bytes.len() - marks.at;
-    let last = highest(marks.mask);
-    let end = first + last + 1;
-    let unmarked = bits_before(!marks.mask, last);
-    if unmarked == 0 {
+    let end = first + highest(marks.mask) + 1;
+    // The last mark that does not come after another one.
+    let at = highest(marks.mask & !(marks.mask << 1));
+    if at == 0 {
         return MarkedRun {
             start: far_start::<C, INSIDE>(bytes, first),
             end,
             marks: Marked::none(),
         };
     }
-    let at = highest(unmarked) + 1;
     MarkedRun {
         start: first + at,
         end,
@@ -161,7 +169,7 @@ pub(crate) fn last_piece<C: Searched>(bytes: &[u8], marks: Marked) -> (usize, Ma
     let place = highest(marks.mask);
     let left = Marked {
         at: place,
-        mask: bits_before(marks.mask, place),
+        mask: without_last(marks.mask, place),
     };
     (bytes.len() - marks.at + place + 1, left)
 }

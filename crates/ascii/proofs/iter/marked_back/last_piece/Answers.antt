@@ -27,7 +27,7 @@ returns-clause-start g c = gap_run_back g.C.Class.is true c.args.bytes.now
     (c.renewed-marks.ensures.some c.if-marks-eq0.false) c.highest-place.ensures
 
 pub returns-clause-marks : goal.returns-clause-marks
-returns-clause-marks g c = λ some more. rw c.bits_before.ensures
+returns-clause-marks g c = λ some more. rw c.without_last.ensures
     (cut_last g.C.Class.is true c.args.bytes.now c.renewed-marks.result.at
     c.renewed-marks.result.mask c.highest-place.result
     (c.renewed-marks.ensures.some c.if-marks-eq0.false) c.highest-place.ensures)
