@@ -1,22 +1,23 @@
 -- What masks say of positions, and what the joined mask of two ends says.
 use Rattle.std.proofs.Common.{◌≡◌, ◌≢◌, ℕ, ◌+◌, ◌-◌, ◌*◌, ◌/◌, ◌%◌, ◌^◌, ◌<◌, ◌≤◌, Bool, false}
-use Rattle.std.proofs.Common.{cond, List, map, length, get_or, take, drop, bit_and, bit_or, sym, ap, ◌∙◌}
-use Rattle.std.proofs.Common.{refl, subst, arith, inl, inr, pow_pos, shr-shr, Option, None, Some}
-use Rattle.std.proofs.Common.{true, ◌&&◌, eqb}
+use Rattle.std.proofs.Common.{cond, List, map, length, get_or, take, drop, bit_and, bit_or, sym, ap}
+use Rattle.std.proofs.Common.{◌∙◌, refl, subst, arith, inl, inr, pow_pos, shr-shr, Option, None}
+use Rattle.std.proofs.Common.{Some, true, ◌&&◌, eqb}
 use Rattle.std.specs.Int.{bit_at}
 use Rattle.std.proofs.lemmas.Bool.{cases_lt, cases_eq, eq-eqb}
 use Rattle.std.proofs.lemmas.List.{length-map, get_or-map, get_or_past, get_or-drop, length-drop}
 use Rattle.std.proofs.lemmas.List.{take_all}
 use Rattle.std.proofs.lemmas.Nat.Bits.{bit_at-zero, bit_at-lt, bit_at_or, bit_at_above}
-use Rattle.std.proofs.lemmas.Nat.Bits.{bit_at_cat_low, bit_at_cat_high, bit_at_ones, bit_at_ones_above}
+use Rattle.std.proofs.lemmas.Nat.Bits.{bit_at_cat_low, bit_at_cat_high, bit_at_ones}
+use Rattle.std.proofs.lemmas.Nat.Bits.{bit_at_ones_above}
 use Rattle.std.proofs.lemmas.Simd.{bit_mask_l, get_or-chunk, get_or-replicate, get_or-zip2}
 use Rattle.std.proofs.lemmas.Simd.{length-chunk, length-replicate, length-zip2, mask_l-mod}
 use lib.Lanes.{chunk, mask_l, top, zip2}
 use lib.ListN.{replicate}
-use Rattle.memchr.specs.Find.{FindsLastNeedle, FindsNeedle, IsFirst, IsFirstByte, IsLast, IsLastByte}
-use Rattle.memchr.specs.Find.{Nowhere, OccursAt, Passes, is_byte}
-use Rattle.memchr.proofs.lemmas.FindLemmas.{IsFirst-agree, IsFirst-wider, IsLast-agree, IsLast-wider}
-use Rattle.memchr.proofs.lemmas.FindLemmas.{OccursAt-byte, byte-OccursAt}
+use Rattle.memchr.specs.Find.{FindsLastNeedle, FindsNeedle, IsFirst, IsFirstByte, IsLast}
+use Rattle.memchr.specs.Find.{IsLastByte, Nowhere, OccursAt, Passes, is_byte}
+use Rattle.memchr.proofs.lemmas.FindLemmas.{IsFirst-agree, IsFirst-wider, IsLast-agree}
+use Rattle.memchr.proofs.lemmas.FindLemmas.{IsLast-wider, OccursAt-byte, byte-OccursAt}
 use Rattle.ascii.specs.Masks.{Fits, HasBit, MarksPositions}
 
 -- the bits of a mask that is shifted up in a word
@@ -109,7 +110,8 @@ module _ (P Q : ℕ → Type 0) (n last first second : ℕ) (near : last ≤ n) 
   }
 
 -- no position between two bits of a mask that has none between them
-pub nowhere_marked : (P Q : ℕ → Type 0) (start n mask i j : ℕ) → MarksPositions P Q start n mask → j ≤ n
+pub nowhere_marked : (P Q : ℕ → Type 0) (start n mask i j : ℕ)
+    → MarksPositions P Q start n mask → j ≤ n
     → Nowhere (HasBit mask) i j → Nowhere P (start + i) (start + j)
 nowhere_marked P Q start n mask i j marks inside none k from to here =
     let same : k ≡ start + (k - start) = omega arith in
@@ -148,7 +150,7 @@ reads_byte hay needle start k at from occurs inside same =
     let there : from + k ≡ start + k + at = omega (arith, same) in
     eq-eqb _ _ (ap (λ j. get_or hay j 0) there ∙ occurs.reads at inside)
 
--- the candidates of a needle among positions at which it fits: the text has three of its bytes there
+-- the candidates of a needle among positions at which it fits: three of its bytes are there
 module _ (hay needle : List ℕ) (start n : ℕ) (few : n ≤ 64)
     (room : start + n + length needle ≤ length hay + 1) where
   abbrev lanes : ℕ → ℕ → List ℕ
@@ -309,11 +311,12 @@ module _ (hay needle : List ℕ) (one : length needle ≡ 1) where
   inside k occurs = let fits = occurs.fits in omega (arith, fits)
 
   pub finds_byte : (found : Option ℕ) → IsFirstByte on hay found → FindsNeedle hay needle 0 found
-  finds_byte found is = IsFirst-wider (OccursAt hay needle) 0 (length hay) _ (omega arith) inside found
-      (IsFirst-agree (Passes on hay) (OccursAt hay needle) 0 (length hay) (OccursAt-byte hay needle one)
-      (λ k _. byte-OccursAt hay needle one k) found is)
+  finds_byte found is = IsFirst-wider (OccursAt hay needle) 0 (length hay) _ (omega arith) inside
+      found (IsFirst-agree (Passes on hay) (OccursAt hay needle) 0 (length hay)
+      (OccursAt-byte hay needle one) (λ k _. byte-OccursAt hay needle one k) found is)
 
-  pub finds_last_byte : (found : Option ℕ) → IsLastByte on hay found → FindsLastNeedle hay needle found
-  finds_last_byte found is = IsLast-wider (OccursAt hay needle) 0 (length hay) _ (omega arith) inside found
-      (IsLast-agree (Passes on hay) (OccursAt hay needle) 0 (length hay) (OccursAt-byte hay needle one)
-      (λ k _. byte-OccursAt hay needle one k) found is)
+  pub finds_last_byte : (found : Option ℕ) → IsLastByte on hay found
+      → FindsLastNeedle hay needle found
+  finds_last_byte found is = IsLast-wider (OccursAt hay needle) 0 (length hay) _ (omega arith)
+      inside found (IsLast-agree (Passes on hay) (OccursAt hay needle) 0 (length hay)
+      (OccursAt-byte hay needle one) (λ k _. byte-OccursAt hay needle one k) found is)

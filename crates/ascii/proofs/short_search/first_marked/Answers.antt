@@ -15,8 +15,8 @@ returns-then-is_prefix c =
         low = omega arith;
         high = omega (arith, short);
         before = nowhere_in_both _ _ (c.args.start + c.loop-bit.tested) place
-            c.loop-bit.invariant.before (nowhere_marked _ _ _ 64 _ _ _ c.requires (omega (arith, short))
-            c.in-Some.ensures.0.before);
+            c.loop-bit.invariant.before (nowhere_marked _ _ _ 64 _ _ _ c.requires
+            (omega (arith, short)) c.in-Some.ensures.0.before);
       },
       (occurs_on hay needle place (omega arith)).0 (c.is_prefix.ensures.0 c.if-is_prefix.true),
     )
@@ -35,8 +35,8 @@ loop-bit-preserved c =
     ∙ c.is_prefix.ensures.1 ((occurs_on hay needle place (omega arith)).1 here))) in
     record {
       inside = omega (arith, short);
-      before = λ k from to. nowhere_in_both (OccursAt hay needle) _ place (place + 1) before not k from
-          (omega arith);
+      before = λ k from to. nowhere_in_both (OccursAt hay needle) _ place (place + 1) before not k
+          from (omega arith);
     }
 
 pub returns : goal.returns

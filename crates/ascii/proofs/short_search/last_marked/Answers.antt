@@ -39,8 +39,9 @@ loop-bit-preserved c =
     ∙ c.is_prefix.ensures.1 ((occurs_on hay needle place (omega arith)).1 here))) in
     record {
       inside = omega (arith, short, c.loop-bit.invariant.inside);
-      after = nowhere_in_both _ _ (place + 1) _ not (nowhere_in_both _ _ (start + c.loop-bit.tested) _
-          (λ k from to. between k (omega arith) to) c.loop-bit.invariant.after);
+      after = nowhere_in_both _ _ (place + 1) _ not (nowhere_in_both _ _
+          (start + c.loop-bit.tested) _ (λ k from to. between k (omega arith) to)
+          c.loop-bit.invariant.after);
     }
 
 pub returns : goal.returns

@@ -31,7 +31,8 @@ returns-clause-first g c =
     (first_word_within (IsOnSide Is (not inside)) (side_test g.C.Class.test (not inside))
     (side_decides Is g.C.Class.test g.met.C.Class.decides (not inside)) c.args.part.start
     (text_of c.args.part.view) c.in_ok-found.found.start c.in_ok-found.found.end
-    (omega (arith, run.some)) (ends_gap Is (not inside) _ _ _ run.gap) (ends_word Is inside _ _ _ run.run))
+    (omega (arith, run.some)) (ends_gap Is (not inside) _ _ _ run.gap)
+    (ends_word Is inside _ _ _ run.run))
 
 pub returns-clause-item : goal.returns-clause-item
 returns-clause-item g c =
