@@ -210,8 +210,8 @@ pub fn first_not_whitespace(bytes: &[u8]) -> Option<usize>
         (IsFirstNot IsWhitespace bytes.now 0 (length bytes.now)) }
 {
     match bytes {
-        [first, ..] if !Whitespace::has(*first) => Some(0),
-        [_, second, ..] if !Whitespace::has(*second) => Some(1),
+        [first, ..] if *first > b' ' => Some(0),
+        [first, second, ..] if *second > b' ' && Whitespace::has(*first) => Some(1),
         [] => None,
         _ => first_after_whitespace(bytes),
     }
@@ -226,15 +226,15 @@ pub fn last_not_whitespace(bytes: &[u8]) -> Option<usize>
     ensures { MatchOption result (All IsWhitespace bytes.now) (IsLastNot IsWhitespace bytes.now) }
 {
     match bytes {
-        [.., last] if !Whitespace::has(*last) => Some(bytes.len() - 1),
-        [.., before, _] if !Whitespace::has(*before) => Some(bytes.len() - 2),
+        [.., last] if *last > b' ' => Some(bytes.len() - 1),
+        [.., before, last] if *before > b' ' && Whitespace::has(*last) => Some(bytes.len() - 2),
         [] => None,
         _ => last_before_whitespace(bytes),
     }
 }
 
-/// The first byte that is not whitespace. Not inlined, so that the tests of the first two bytes are
-/// short enough for a caller to inline them.
+/// The first byte that is not whitespace. Not inlined, so that the tests for a byte above space are short
+/// enough for a caller to inline them.
 #[inline(never)]
 fn first_after_whitespace(bytes: &[u8]) -> Option<usize>
     ensures { MatchOption result (All IsWhitespace bytes.now)
@@ -243,8 +243,8 @@ fn first_after_whitespace(bytes: &[u8]) -> Option<usize>
     first_not::<Whitespace>(bytes)
 }
 
-/// The last byte that is not whitespace. Not inlined, so that the tests of the last two bytes are
-/// short enough for a caller to inline them.
+/// The last byte that is not whitespace. Not inlined, so that the tests for a byte above space are short
+/// enough for a caller to inline them.
 #[inline(never)]
 fn last_before_whitespace(bytes: &[u8]) -> Option<usize>
     ensures { MatchOption result (All IsWhitespace bytes.now) (IsLastNot IsWhitespace bytes.now) }
