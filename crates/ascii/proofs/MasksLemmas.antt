@@ -4,12 +4,11 @@ use Rattle.std.proofs.Common.{cond, List, map, length, get_or, take, drop, bit_a
 use Rattle.std.proofs.Common.{◌∙◌, refl, subst, arith, inl, inr, pow_pos, shr-shr, Option, None}
 use Rattle.std.proofs.Common.{Some, true, ◌&&◌, eqb}
 use Rattle.std.specs.Int.{bit_at}
-use Rattle.std.proofs.lemmas.Bool.{cases_lt, cases_eq, eq-eqb}
+use Rattle.std.proofs.lemmas.Bool.{cases_lt, cases_eq, eq-eqb, eqb-true}
 use Rattle.std.proofs.lemmas.List.{length-map, get_or-map, get_or_past, get_or-drop, length-drop}
-use Rattle.std.proofs.lemmas.List.{take_all}
+use Rattle.std.proofs.lemmas.List.{ext_get_or, get_or-take, length-take-le, take_all}
 use Rattle.std.proofs.lemmas.Nat.Bits.{bit_at-zero, bit_at-lt, bit_at_or, bit_at_above}
-use Rattle.std.proofs.lemmas.Nat.Bits.{bit_at_cat_low, bit_at_cat_high, bit_at_ones}
-use Rattle.std.proofs.lemmas.Nat.Bits.{bit_at_ones_above}
+use Rattle.std.proofs.lemmas.Nat.Bits.{bit_at_cat_low, bit_at_cat_high}
 use Rattle.std.proofs.lemmas.Simd.{bit_mask_l, get_or-chunk, get_or-replicate, get_or-zip2}
 use Rattle.std.proofs.lemmas.Simd.{length-chunk, length-replicate, length-zip2, mask_l-mod}
 use lib.Lanes.{chunk, mask_l, top, zip2}
@@ -18,7 +17,7 @@ use Rattle.memchr.specs.Find.{FindsLastNeedle, FindsNeedle, IsFirst, IsFirstByte
 use Rattle.memchr.specs.Find.{IsLastByte, Nowhere, OccursAt, Passes, is_byte}
 use Rattle.memchr.proofs.lemmas.FindLemmas.{IsFirst-agree, IsFirst-wider, IsLast-agree}
 use Rattle.memchr.proofs.lemmas.FindLemmas.{IsLast-wider, OccursAt-byte, byte-OccursAt}
-use Rattle.ascii.specs.Masks.{Fits, HasBit, MarksPositions}
+use Rattle.ascii.specs.Masks.{HasBit, HasByte, IsCandidate, MarksCandidates}
 
 -- the bits of a mask that is shifted up in a word
 module _ (m s k : ℕ) where
@@ -81,42 +80,44 @@ or_one : (a b k : ℕ) → HasBit (bit_or a b) k → bit_at a k ≢ 1 → HasBit
 or_one a b k is apart = omega (arith, is, bit_at_or a b k, bit_at-lt a k, apart)
 
 -- the masks of the first and of the last n positions, of at most 64, in one
-module _ (P Q : ℕ → Type 0) (n last first second : ℕ) (near : last ≤ n) (few : last + n ≤ 64)
-    (low : MarksPositions P Q 0 n first) (high : MarksPositions P Q last n second) where
-  abbrev up : ℕ
-  up = second * 2 ^ last % 2 ^ 64
+module _ (hay needle : List ℕ) (n last first second : ℕ) (near : last ≤ n) (few : last + n ≤ 64)
+    (low : MarksCandidates hay needle 0 n first) (high : MarksCandidates hay needle last n second)
+  where
+    abbrev up : ℕ
+    up = second * 2 ^ last % 2 ^ 64
 
-  here : (k : ℕ) → last ≤ k → last + (k - last) ≡ 0 + k
-  here k from = omega arith
+    here : (k : ℕ) → last ≤ k → last + (k - last) ≡ 0 + k
+    here k from = omega arith
 
-  pub joined : MarksPositions P Q 0 (last + n) (bit_or first (second * 2 ^ last % 2 ^ 64))
-  joined = record {
-    each = λ k l is. elim (cases_lt k n) [
-      | inl short ↦ or_left first up k (low.each k short is)
-      | inr g ↦
-          let from : last ≤ k = omega arith in
-          or_right first up k (shifted_here second last k (omega arith) from
-          ∙ high.each (k - last) (omega arith) (subst P (sym (here k from)) is))
-    ];
-    set = λ k is. elim (cases_eq (bit_at first k) 1) [
-      | inl one ↦ let h = low.set k one in let short : k < n = h.0 in (omega arith, h.1)
-      | inr other ↦
-          let up_one = shifted_from second last k (or_one first up k is other) in
-          let h = high.set (k - last) up_one.2 in
-          let short : k - last < n = h.0 in
-          let from : last ≤ k = up_one.0 in
-          (omega arith, subst Q (here k from) h.1)
-    ];
-  }
+    pub joined : MarksCandidates hay needle 0 (last + n)
+        (bit_or first (second * 2 ^ last % 2 ^ 64))
+    joined = record {
+      each = λ k l is. elim (cases_lt k n) [
+        | inl short ↦ or_left first up k (low.each k short is)
+        | inr g ↦
+            let from : last ≤ k = omega arith in
+            or_right first up k (shifted_here second last k (omega arith) from
+            ∙ high.each (k - last) (omega arith) (subst (OccursAt hay needle) (sym (here k from)) is))
+      ];
+      set = λ k is. elim (cases_eq (bit_at first k) 1) [
+        | inl one ↦ let h = low.set k one in let short : k < n = h.0 in (omega arith, h.1)
+        | inr other ↦
+            let up_one = shifted_from second last k (or_one first up k is other) in
+            let h = high.set (k - last) up_one.2 in
+            let short : k - last < n = h.0 in
+            let from : last ≤ k = up_one.0 in
+            (omega arith, subst (IsCandidate hay needle) (here k from) h.1)
+      ];
+    }
 
 -- no position between two bits of a mask that has none between them
-pub nowhere_marked : (P Q : ℕ → Type 0) (start n mask i j : ℕ)
-    → MarksPositions P Q start n mask → j ≤ n
-    → Nowhere (HasBit mask) i j → Nowhere P (start + i) (start + j)
-nowhere_marked P Q start n mask i j marks inside none k from to here =
+pub nowhere_marked : (hay needle : List ℕ) (start n mask i j : ℕ)
+    → MarksCandidates hay needle start n mask → j ≤ n
+    → Nowhere (HasBit mask) i j → Nowhere (OccursAt hay needle) (start + i) (start + j)
+nowhere_marked hay needle start n mask i j marks inside none k from to here =
     let same : k ≡ start + (k - start) = omega arith in
     none (k - start) (omega arith) (omega arith)
-    (marks.each (k - start) (omega arith) (subst P same here))
+    (marks.each (k - start) (omega arith) (subst (OccursAt hay needle) same here))
 
 -- nowhere up to a position and nowhere from it on
 pub nowhere_in_both : (P : ℕ → Type 0) (i j k : ℕ) → Nowhere P i j → Nowhere P j k → Nowhere P i k
@@ -142,6 +143,10 @@ top_lane : (b : Bool) → top 7 (lane_of b) ≡ b
 top_lane true = refl
 top_lane false = refl
 
+set_lane : (b : Bool) → ◌≡◌ {A = ℕ} (cond b 1 0) 1 → b ≡ true
+set_lane true set = refl
+set_lane false set = absurd (omega (arith, set))
+
 -- where a needle occurs, the text has each of its bytes
 pub reads_byte : (hay needle : List ℕ) (start k at from : ℕ) → OccursAt hay needle (start + k)
     → at < length needle → from ≡ start + at
@@ -149,6 +154,14 @@ pub reads_byte : (hay needle : List ℕ) (start k at from : ℕ) → OccursAt ha
 reads_byte hay needle start k at from occurs inside same =
     let there : from + k ≡ start + k + at = omega (arith, same) in
     eq-eqb _ _ (ap (λ j. get_or hay j 0) there ∙ occurs.reads at inside)
+
+-- a byte that passes the test is that of the needle
+pub has_byte : (hay needle : List ℕ) (start k at from : ℕ) → from ≡ start + at
+    → is_byte (get_or needle at 0) (get_or hay (from + k) 0) ≡ true
+    → HasByte hay needle (start + k) at
+has_byte hay needle start k at from same is =
+    let there : start + k + at ≡ from + k = omega (arith, same) in
+    ap (λ j. get_or hay j 0) there ∙ eqb-true _ _ is
 
 -- the candidates of a needle among positions at which it fits: three of its bytes are there
 module _ (hay needle : List ℕ) (start n : ℕ) (few : n ≤ 64)
@@ -209,12 +222,12 @@ module _ (hay needle : List ℕ) (start n : ℕ) (few : n ≤ 64)
         (omega (arith, length-map three (top 7), length_three)))
 
     pub marks_of_three : ((k : ℕ) → k < n → OccursAt hay needle (start + k) → has k ≡ true)
-        → MarksPositions (OccursAt hay needle) (Fits hay needle) start n
-        (mask_l (map (top 7) three) % 2 ^ 64)
-    marks_of_three there = record {
+        → ((k : ℕ) → k < n → has k ≡ true → IsCandidate hay needle (start + k))
+        → MarksCandidates hay needle start n (mask_l (map (top 7) three) % 2 ^ 64)
+    marks_of_three there found = record {
       each = λ k l occurs. bit k l ∙ ap (λ b. cond b 1 0) (there k l occurs);
       set = λ k is. elim (cases_lt k n) [
-        | inl l ↦ (l, omega (arith, room))
+        | inl l ↦ (l, found k l (set_lane (has k) (sym (bit k l) ∙ is)))
         | inr g ↦ absurd (omega (arith, is, past k g))
       ];
     }
@@ -222,24 +235,84 @@ module _ (hay needle : List ℕ) (start n : ℕ) (few : n ≤ 64)
 module _ (hay needle : List ℕ) where
   -- a needle is nowhere that it does not fit
   pub all_positions : (n mask : ℕ) → n ≤ 64 → length hay + 1 ≤ n + length needle
-      → MarksPositions (OccursAt hay needle) (Fits hay needle) 0 n mask
-      → MarksPositions (OccursAt hay needle) (Fits hay needle) 0 64 mask
+      → MarksCandidates hay needle 0 n mask → MarksCandidates hay needle 0 64 mask
   all_positions n mask few most marks = record {
     each = λ k l occurs. let fits = occurs.fits in
         marks.each k (omega (arith, fits)) occurs;
     set = λ k is. let h = marks.set k is in let short : k < n = h.0 in (omega arith, h.1);
   }
 
-  -- the mask of the first n positions
-  pub each_position : (n : ℕ) → n ≤ 64 → n + length needle ≡ length hay + 1
-      → MarksPositions (OccursAt hay needle) (Fits hay needle) 0 64 (2 ^ n - 1)
-  each_position n few most = record {
-    each = λ k l occurs. let fits = occurs.fits in bit_at_ones n k (omega (arith, fits));
-    set = λ k is. elim (cases_lt k n) [
-      | inl l ↦ (omega arith, omega arith)
-      | inr g ↦ absurd (omega (arith, is, bit_at_ones_above n k g))
+  -- a needle of at most three bytes is at each candidate
+  pub exact : (k : ℕ) → 0 < length needle → length needle ≤ 3 → IsCandidate hay needle k
+      → OccursAt hay needle k
+  exact k some few candidate = record {
+    fits = candidate.fits;
+    reads = λ j l. elim (cases_eq j 0) [
+      | inl first ↦ subst (HasByte hay needle k) (sym first) candidate.first
+      | inr after ↦ elim (cases_eq j (length needle - 1)) [
+        | inl last ↦ subst (HasByte hay needle k) (sym last) candidate.last
+        | inr before ↦
+            let middle : j ≡ length needle / 2 = omega (arith, after, before) in
+            subst (HasByte hay needle k) (sym middle) candidate.middle
+      ]
     ];
   }
+
+  -- a needle is at a candidate only
+  pub candidate_at : (k : ℕ) → 0 < length needle → OccursAt hay needle k
+      → IsCandidate hay needle k
+  candidate_at k some occurs = record {
+    fits = occurs.fits;
+    first = occurs.reads 0 some;
+    middle = occurs.reads (length needle / 2) (omega (arith, some));
+    last = occurs.reads (length needle - 1) (omega (arith, some));
+  }
+
+  -- `n` bytes of the needle from `from` on are in the text where they are if it is at position `k`
+  abbrev Part : ℕ → ℕ → ℕ → Type 0
+  Part k from n = take n (drop (k + from) hay) ≡ take n (drop from needle)
+
+  -- the two ends of a needle, and the needle that has no other bytes
+  reads_part : (k from n j : ℕ) → Part k from n → from ≤ j → j < from + n
+      → HasByte hay needle k j
+  reads_part k from n j part low high =
+      let there : k + j ≡ k + from + (j - from) = omega arith in
+      let here : from + (j - from) ≡ j = omega arith in
+      ap (λ i. get_or hay i 0) there
+      ∙ sym (get_or-drop (k + from) hay (j - from) 0)
+      ∙ sym (get_or-take n (drop (k + from) hay) (j - from) 0 (omega arith))
+      ∙ ap (λ xs. get_or xs (j - from) 0) part
+      ∙ get_or-take n (drop from needle) (j - from) 0 (omega arith)
+      ∙ get_or-drop from needle (j - from) 0
+      ∙ ap (λ i. get_or needle i 0) here
+
+  pub ends_occur : (k n last : ℕ) → k + length needle ≤ length hay → last + n ≡ length needle
+      → last ≤ n → Part k 0 n → Part k last n → OccursAt hay needle k
+  ends_occur k n last fits whole near front back = record {
+    fits = fits;
+    reads = λ j l. elim (cases_lt j n) [
+      | inl low ↦ reads_part k 0 n j front (omega arith) (omega (arith, low))
+      | inr high ↦ reads_part k last n j back (omega arith) (omega (arith, whole))
+    ];
+  }
+
+  pub part_of : (k from n : ℕ) → from + n ≤ length needle → OccursAt hay needle k
+      → Part k from n
+  part_of k from n inside occurs =
+      let fits = occurs.fits in
+      let long : length (take n (drop (k + from) hay)) ≡ n =
+      length-take-le n (drop (k + from) hay) (omega (arith, fits, length-drop (k + from) hay)) in
+      ext_get_or 0 (take n (drop (k + from) hay)) (take n (drop from needle))
+      (long ∙ sym (length-take-le n (drop from needle) (omega (arith, length-drop from needle))))
+      (λ i l.
+      let few : i < n = omega (arith, l, long) in
+      let there : k + from + i ≡ k + (from + i) = omega arith in
+      get_or-take n (drop (k + from) hay) i 0 few
+      ∙ get_or-drop (k + from) hay i 0
+      ∙ ap (λ j. get_or hay j 0) there
+      ∙ occurs.reads (from + i) (omega (arith, few))
+      ∙ sym (get_or-drop from needle i 0)
+      ∙ sym (get_or-take n (drop from needle) i 0 few))
 
   from_start : (j : ℕ) → 0 + j ≡ j
   from_start j = omega arith

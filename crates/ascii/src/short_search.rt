@@ -2,12 +2,13 @@
 //!
 //! Up to 64 positions are tested at once: a mask has a bit for each position, which is set if a needle
 //! there would have its first, its middle and its last byte. Such a position is a candidate, and a
-//! needle is compared at the candidates only. The crate `memchr` searches if there are too many
-//! positions or candidates, or at least 32 positions of a needle of one byte.
+//! needle of more than three bytes is compared at the candidates only. Fewer than four positions are
+//! tested one by one. The crate `memchr` searches texts of more than 256 bytes and texts with too many
+//! candidates.
 
-ghost use Rattle.std.specs.Prelude.{◌≡◌, ◌≢◌, ◌+◌, ◌<◌, ◌≤◌, length};
+ghost use Rattle.std.specs.Prelude.{◌≡◌, ◌≢◌, ◌↔◌, ◌+◌, ◌<◌, ◌≤◌, IsTrue, length};
 ghost use Rattle.memchr.specs.Find.{FindsLastNeedle, FindsNeedle, IsFirst, IsLast, OccursAt};
-ghost use Rattle.ascii.specs.Masks.{Fits, HasBit, MarksPositions};
+ghost use Rattle.ascii.specs.Masks.{HasBit, IsCandidate, MarksCandidates};
 
 use memchr::arch::all::is_prefix;
 use memchr::memmem;
@@ -16,8 +17,14 @@ use std::simd::prelude::*;
 /// The number of positions that one mask is for.
 const BLOCK: usize = 64;
 
-/// The largest number of positions that are searched here.
+/// The largest number of bytes that are searched here.
 const SHORT: usize = 256;
+
+/// Fewer positions than this are tested one by one.
+const LEAST: usize = 4;
+
+/// A needle of at most this many bytes is at each candidate.
+const EXACT: usize = 3;
 
 /// The largest number of candidates that are compared here, of 32 positions or more.
 const FEW: u32 = 8;
@@ -26,6 +33,9 @@ const FEW: u32 = 8;
 pub(crate) fn first_needle(hay: &[u8], needle: &[u8]) -> Option<usize>
     ensures { FindsNeedle hay.now needle.now 0 result }
 {
+    if hay.len() > SHORT {
+        return memmem::find(hay, needle);
+    }
     if needle.is_empty() {
         return Some(0);
     }
@@ -33,21 +43,18 @@ pub(crate) fn first_needle(hay: &[u8], needle: &[u8]) -> Option<usize>
         return None;
     }
     let positions = hay.len() - needle.len() + 1;
-    if positions >= 32 && needle.len() == 1 {
-        return first_byte(hay, needle);
-    }
-    if positions > SHORT {
-        return memmem::find(hay, needle);
-    }
     if positions > BLOCK {
-        return first_by_blocks(hay, needle);
+        return first_far(hay, needle);
+    }
+    if positions < LEAST {
+        return first_one_by_one(hay, needle);
     }
     let marked = all_candidates(hay, needle);
-    if positions >= 32 && marked.count_ones() > FEW {
-        return memmem::find(hay, needle);
-    }
     if marked == 0 {
         return None;
+    }
+    if needle.len() <= EXACT {
+        return first_marked(hay, needle, 0, marked);
     }
     first_compared(hay, needle, marked)
 }
@@ -56,6 +63,9 @@ pub(crate) fn first_needle(hay: &[u8], needle: &[u8]) -> Option<usize>
 pub(crate) fn last_needle(hay: &[u8], needle: &[u8]) -> Option<usize>
     ensures { FindsLastNeedle hay.now needle.now result }
 {
+    if hay.len() > SHORT {
+        return memmem::rfind(hay, needle);
+    }
     if needle.is_empty() {
         return Some(hay.len());
     }
@@ -63,26 +73,86 @@ pub(crate) fn last_needle(hay: &[u8], needle: &[u8]) -> Option<usize>
         return None;
     }
     let positions = hay.len() - needle.len() + 1;
-    if positions >= 32 && needle.len() == 1 {
-        return last_byte(hay, needle);
-    }
-    if positions > SHORT {
-        return memmem::rfind(hay, needle);
-    }
     if positions > BLOCK {
-        return last_by_blocks(hay, needle);
+        return last_far(hay, needle);
+    }
+    if positions < LEAST {
+        return last_one_by_one(hay, needle);
     }
     let marked = all_candidates(hay, needle);
-    if positions >= 32 && marked.count_ones() > FEW {
-        return memmem::rfind(hay, needle);
-    }
     if marked == 0 {
         return None;
+    }
+    if needle.len() <= EXACT {
+        return last_marked(hay, needle, 0, marked);
     }
     last_compared(hay, needle, marked)
 }
 
+/// Returns the position of the first `needle`, compared at the candidates among all positions, of which
+/// there are at most 64, or `None` if there is none. Not inlined, as the other searches below, so that a
+/// search without a candidate does not save registers for the comparison.
+#[inline(never)]
+fn first_compared(hay: &[u8], needle: &[u8], marked: u64) -> Option<usize>
+    requires some { 0 < length needle.now }
+    requires fits { length needle.now ≤ length hay.now }
+    requires short { length hay.now + 1 ≤ 64 + length needle.now }
+    requires marks { MarksCandidates hay.now needle.now 0 64 marked }
+    ensures { FindsNeedle hay.now needle.now 0 result }
+{
+    let positions = hay.len() - needle.len() + 1;
+    if positions >= 32 && is_crowded(needle, marked) {
+        return memmem::find(hay, needle);
+    }
+    first_marked(hay, needle, 0, marked)
+}
+
+/// Returns the position of the first `needle` among at least 64, or `None` if there is none.
+#[inline(always)]
+fn first_far(hay: &[u8], needle: &[u8]) -> Option<usize>
+    requires some { 0 < length needle.now }
+    requires long { 64 + length needle.now ≤ length hay.now + 1 }
+    ensures { FindsNeedle hay.now needle.now 0 result }
+{
+    if needle.len() == 1 {
+        return first_byte(hay, needle);
+    }
+    first_by_blocks(hay, needle)
+}
+
+/// Returns the position of the last `needle`, compared at the candidates among all positions, of which
+/// there are at most 64, or `None` if there is none. Not inlined, as the other searches below, so that a
+/// search without a candidate does not save registers for the comparison.
+#[inline(never)]
+fn last_compared(hay: &[u8], needle: &[u8], marked: u64) -> Option<usize>
+    requires some { 0 < length needle.now }
+    requires fits { length needle.now ≤ length hay.now }
+    requires short { length hay.now + 1 ≤ 64 + length needle.now }
+    requires marks { MarksCandidates hay.now needle.now 0 64 marked }
+    ensures { FindsLastNeedle hay.now needle.now result }
+{
+    let positions = hay.len() - needle.len() + 1;
+    if positions >= 32 && is_crowded(needle, marked) {
+        return memmem::rfind(hay, needle);
+    }
+    last_marked(hay, needle, 0, marked)
+}
+
+/// Returns the position of the last `needle` among at least 64, or `None` if there is none.
+#[inline(always)]
+fn last_far(hay: &[u8], needle: &[u8]) -> Option<usize>
+    requires some { 0 < length needle.now }
+    requires long { 64 + length needle.now ≤ length hay.now + 1 }
+    ensures { FindsLastNeedle hay.now needle.now result }
+{
+    if needle.len() == 1 {
+        return last_byte(hay, needle);
+    }
+    last_by_blocks(hay, needle)
+}
+
 /// Returns the position of the first `needle`, which has one byte, or `None` if there is none.
+#[inline(never)]
 fn first_byte(hay: &[u8], needle: &[u8]) -> Option<usize>
     requires { length needle.now ≡ 1 }
     ensures { FindsNeedle hay.now needle.now 0 result }
@@ -91,6 +161,7 @@ fn first_byte(hay: &[u8], needle: &[u8]) -> Option<usize>
 }
 
 /// Returns the position of the last `needle`, which has one byte, or `None` if there is none.
+#[inline(never)]
 fn last_byte(hay: &[u8], needle: &[u8]) -> Option<usize>
     requires { length needle.now ≡ 1 }
     ensures { FindsLastNeedle hay.now needle.now result }
@@ -110,7 +181,7 @@ fn first_by_blocks(hay: &[u8], needle: &[u8]) -> Option<usize>
     while tested < positions {
         let start = tested.min(positions - BLOCK);
         let marked = candidates::<BLOCK>(hay, needle, start);
-        if marked.count_ones() > FEW {
+        if is_crowded(needle, marked) {
             return memmem::find(hay, needle);
         }
         match first_marked(hay, needle, start, marked) {
@@ -132,7 +203,7 @@ fn last_by_blocks(hay: &[u8], needle: &[u8]) -> Option<usize>
     while left > 0 {
         let start = left.saturating_sub(BLOCK);
         let marked = candidates::<BLOCK>(hay, needle, start);
-        if marked.count_ones() > FEW {
+        if is_crowded(needle, marked) {
             return memmem::rfind(hay, needle);
         }
         match last_marked(hay, needle, start, marked) {
@@ -143,14 +214,110 @@ fn last_by_blocks(hay: &[u8], needle: &[u8]) -> Option<usize>
     None
 }
 
+/// Returns the position of the first `needle`, tested at one position after the other, or `None` if
+/// there is none.
+#[inline(never)]
+fn first_one_by_one(hay: &[u8], needle: &[u8]) -> Option<usize>
+    requires some { 0 < length needle.now }
+    requires fits { length needle.now ≤ length hay.now }
+    ensures { FindsNeedle hay.now needle.now 0 result }
+{
+    for position in 0..hay.len() - needle.len() + 1 {
+        if is_at(hay, needle, position) {
+            return Some(position);
+        }
+    }
+    None
+}
+
+/// Returns the position of the last `needle`, tested at one position before the other, or `None` if
+/// there is none.
+#[inline(never)]
+fn last_one_by_one(hay: &[u8], needle: &[u8]) -> Option<usize>
+    requires some { 0 < length needle.now }
+    requires fits { length needle.now ≤ length hay.now }
+    ensures { FindsLastNeedle hay.now needle.now result }
+{
+    for position in (0..hay.len() - needle.len() + 1).rev() {
+        if is_at(hay, needle, position) {
+            return Some(position);
+        }
+    }
+    None
+}
+
+/// Whether there are so many candidates for a needle of more than three bytes that a comparison at each
+/// may take too long.
+#[inline(always)]
+fn is_crowded(needle: &[u8], marked: u64) -> bool {
+    needle.len() > EXACT && marked.count_ones() > FEW
+}
+
+/// Whether the needle is at a position.
+#[inline(always)]
+#[tactic(auto, using(crate::proofs::MasksLemmas::candidate_at))]
+fn is_at(hay: &[u8], needle: &[u8], position: usize) -> bool
+    requires some { 0 < length needle.now }
+    requires fits { position + length needle.now ≤ length hay.now }
+    ensures { IsTrue result ↔ OccursAt hay.now needle.now position }
+{
+    is_candidate(hay, needle, position) && is_there(hay, needle, position)
+}
+
+/// Whether a position is a candidate.
+#[inline(always)]
+fn is_candidate(hay: &[u8], needle: &[u8], position: usize) -> bool
+    requires some { 0 < length needle.now }
+    requires fits { position + length needle.now ≤ length hay.now }
+    ensures { IsTrue result ↔ IsCandidate hay.now needle.now position }
+{
+    let middle = needle.len() / 2;
+    let end = needle.len() - 1;
+    hay[position] == needle[0]
+        && hay[position + middle] == needle[middle]
+        && hay[position + end] == needle[end]
+}
+
+/// Whether the needle is at a candidate.
+#[inline(always)]
+#[tactic(auto, using(crate::proofs::MasksLemmas::exact, crate::proofs::MasksLemmas::occurs_on))]
+fn is_there(hay: &[u8], needle: &[u8], position: usize) -> bool
+    requires some { 0 < length needle.now }
+    requires candidate { IsCandidate hay.now needle.now position }
+    ensures { IsTrue result ↔ OccursAt hay.now needle.now position }
+{
+    if needle.len() <= EXACT {
+        true
+    } else if needle.len() <= 8 {
+        has_both_ends::<4>(hay, needle, position)
+    } else if needle.len() <= 16 {
+        has_both_ends::<8>(hay, needle, position)
+    } else {
+        is_prefix(&hay[position..], needle)
+    }
+}
+
+/// Whether a needle of at least `N` and at most twice as many bytes is at a position: its first `N`
+/// bytes and its last `N`. The compiler makes one comparison of each.
+#[inline(always)]
+fn has_both_ends<const N: usize>(hay: &[u8], needle: &[u8], position: usize) -> bool
+    requires fits { position + length needle.now ≤ length hay.now }
+    requires room { N ≤ length needle.now }
+    requires short { length needle.now ≤ N + N }
+    ensures { IsTrue result ↔ OccursAt hay.now needle.now position }
+{
+    let last = needle.len() - N;
+    hay[position..position + N] == needle[..N]
+        && hay[position + last..position + last + N] == needle[last..last + N]
+}
+
 /// Returns the mask of the candidates among the `N` positions from `start` on.
 #[inline(always)]
 fn candidates<const N: usize>(hay: &[u8], needle: &[u8], start: usize) -> u64
     requires lanes { N ≤ 64 }
     requires some { 0 < length needle.now }
     requires room { start + N + length needle.now ≤ length hay.now + 1 }
-    ensures { MarksPositions (OccursAt hay.now needle.now) (Fits hay.now needle.now) start N
-        result }
+    ensures { MarksCandidates hay.now needle.now start N result }
 {
     let middle = needle.len() / 2;
     let end = needle.len() - 1;
@@ -169,20 +336,19 @@ fn candidates_at_ends<const N: usize>(hay: &[u8], needle: &[u8]) -> u64
     requires fits { length needle.now ≤ length hay.now }
     requires room { N + length needle.now ≤ length hay.now + 1 }
     requires short { length hay.now + 1 ≤ N + N + length needle.now }
-    ensures { MarksPositions (OccursAt hay.now needle.now) (Fits hay.now needle.now) 0 64 result }
+    ensures { MarksCandidates hay.now needle.now 0 64 result }
 {
     let last = hay.len() - needle.len() + 1 - N;
     candidates::<N>(hay, needle, 0) | (candidates::<N>(hay, needle, last) << last)
 }
 
-/// Returns the mask of the candidates among all positions, of which there are at most 64. If there are
-/// fewer than four, each is a candidate.
+/// Returns the mask of the candidates among all positions, of which there are 4 to 64.
 #[inline(always)]
 fn all_candidates(hay: &[u8], needle: &[u8]) -> u64
     requires some { 0 < length needle.now }
-    requires fits { length needle.now ≤ length hay.now }
+    requires least { LEAST + length needle.now ≤ length hay.now + 1 }
     requires short { length hay.now + 1 ≤ 64 + length needle.now }
-    ensures { MarksPositions (OccursAt hay.now needle.now) (Fits hay.now needle.now) 0 64 result }
+    ensures { MarksCandidates hay.now needle.now 0 64 result }
 {
     let positions = hay.len() - needle.len() + 1;
     if positions >= 32 {
@@ -191,10 +357,8 @@ fn all_candidates(hay: &[u8], needle: &[u8]) -> u64
         candidates_at_ends::<16>(hay, needle)
     } else if positions >= 8 {
         candidates_at_ends::<8>(hay, needle)
-    } else if positions >= 4 {
-        candidates_at_ends::<4>(hay, needle)
     } else {
-        (1 << positions) - 1
+        candidates_at_ends::<LEAST>(hay, needle)
     }
 }
 
@@ -202,13 +366,13 @@ fn all_candidates(hay: &[u8], needle: &[u8]) -> u64
 /// of them. It is compared at the marked ones.
 #[inline(always)]
 fn first_marked(hay: &[u8], needle: &[u8], start: usize, marked: u64) -> Option<usize>
-    requires { MarksPositions (OccursAt hay.now needle.now) (Fits hay.now needle.now) start 64
-        marked }
+    requires some { 0 < length needle.now }
+    requires marks { MarksCandidates hay.now needle.now start 64 marked }
     ensures { IsFirst (OccursAt hay.now needle.now) start (start + 64) result }
 {
     let mut tested = 0;
     while let Some(bit) = first_bit(marked, tested) {
-        if is_prefix(&hay[start + bit..], needle) {
+        if is_there(hay, needle, start + bit) {
             return Some(start + bit);
         }
         tested = bit + 1;
@@ -220,38 +384,18 @@ fn first_marked(hay: &[u8], needle: &[u8], start: usize, marked: u64) -> Option<
 /// of them. It is compared at the marked ones.
 #[inline(always)]
 fn last_marked(hay: &[u8], needle: &[u8], start: usize, marked: u64) -> Option<usize>
-    requires { MarksPositions (OccursAt hay.now needle.now) (Fits hay.now needle.now) start 64
-        marked }
+    requires some { 0 < length needle.now }
+    requires marks { MarksCandidates hay.now needle.now start 64 marked }
     ensures { IsLast (OccursAt hay.now needle.now) start (start + 64) result }
 {
     let mut tested = 64;
     while let Some(bit) = last_bit(marked, tested) {
-        if is_prefix(&hay[start + bit..], needle) {
+        if is_there(hay, needle, start + bit) {
             return Some(start + bit);
         }
         tested = bit;
     }
     None
-}
-
-/// Returns the first of the first 64 positions where the needle is, or `None` if it is at none of them.
-/// Not inlined, so that a search without a candidate does not save registers for the comparison.
-#[inline(never)]
-fn first_compared(hay: &[u8], needle: &[u8], marked: u64) -> Option<usize>
-    requires { MarksPositions (OccursAt hay.now needle.now) (Fits hay.now needle.now) 0 64 marked }
-    ensures { IsFirst (OccursAt hay.now needle.now) 0 64 result }
-{
-    first_marked(hay, needle, 0, marked)
-}
-
-/// Returns the last of the first 64 positions where the needle is, or `None` if it is at none of them.
-/// Not inlined, so that a search without a candidate does not save registers for the comparison.
-#[inline(never)]
-fn last_compared(hay: &[u8], needle: &[u8], marked: u64) -> Option<usize>
-    requires { MarksPositions (OccursAt hay.now needle.now) (Fits hay.now needle.now) 0 64 marked }
-    ensures { IsLast (OccursAt hay.now needle.now) 0 64 result }
-{
-    last_marked(hay, needle, 0, marked)
 }
 
 /// Returns the lowest bit of `mask` that is set and is not below `from`, or `None` if there is none.

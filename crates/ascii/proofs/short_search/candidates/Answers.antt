@@ -1,5 +1,6 @@
 use Rattle.std.proofs.Common.{◌+◌, ◌-◌, ◌/◌, ◌&&◌, length, get_or, arith}
-use Rattle.ascii.proofs.MasksLemmas.{marks_of_three, reads_byte}
+use Rattle.std.proofs.lemmas.Bool.{and_parts}
+use Rattle.ascii.proofs.MasksLemmas.{has_byte, marks_of_three, reads_byte}
 use Rattle.ascii.proofs.short_search.candidates.Goals as goal
 
 pub returns : goal.returns
@@ -15,3 +16,9 @@ returns g c =
     reads_byte hay needle start k 0 start occurs (omega arith) (omega arith) i
     && reads_byte hay needle start k middle (start + middle) occurs (omega arith) (omega arith) i
     && reads_byte hay needle start k end (start + end) occurs (omega arith) (omega arith) i)
+    (λ k l is. let three = and_parts _ _ is in let two = and_parts _ _ three.0 in record {
+      fits = omega (arith, c.requires.room);
+      first = has_byte hay needle start k 0 start (omega arith) two.0;
+      middle = has_byte hay needle start k middle (start + middle) (omega arith) two.1;
+      last = has_byte hay needle start k end (start + end) (omega arith) three.1;
+    })

@@ -8,7 +8,7 @@ returns-then-marked-eq0 c = found_last c.args.hay.now c.args.needle.now 0 64 Non
     (nowhere_marked _ _ 0 64 _ 0 64 c.all_candidates-marked.ensures (omega arith)
     (no_bit _ 0 64 c.if-marked-eq0.true))
 
-pub returns : goal.returns
-returns c = found_last c.args.hay.now c.args.needle.now 0 64 c.last_compared.result (λ none. refl)
+pub returns-then-needle-le-EXACT : goal.returns-then-needle-le-EXACT
+returns-then-needle-le-EXACT c = found_last c.args.hay.now c.args.needle.now 0 64 c.last_marked.result (λ none. refl)
     (λ k from to occurs. let fits = occurs.fits in absurd (omega (arith, fits)))
-    c.last_compared.ensures
+    c.last_marked.ensures
