@@ -24,8 +24,7 @@ use Rattle.ascii_base.specs.Code.{code_of, code_text}
 use Rattle.ascii_base.specs.declared.ascii_char.AsciiChar.{AsciiChar}
 use Rattle.ascii.specs.ByClass.{whole, word_spans_by, words_by}
 use Rattle.ascii.specs.ByClosure.{FindsBy}
-use Rattle.ascii.specs.declared.chunks.AsciiChunk.{AsciiChunk}
-use Rattle.ascii.specs.Chunks.{ChunksOf, Run, chunk_in, run_in}
+use Rattle.ascii.specs.Chunks.{ChunksOf, Run}
 use Rattle.ascii.specs.Extend.{Collects, Extends}
 use Rattle.ascii.specs.declared.iter.spans.Ending.{Ending}
 use Rattle.ascii.specs.declared.iter.spans.Ending.TheVariants as ending

@@ -1,11 +1,10 @@
 -- What a search among the keys of a `FoldedMap` finds, and what an edit at that place changes.
 use Rattle.std.proofs.Common.{◌≡◌, ◌∙◌, ℕ, zero, suc, ◌+◌, ◌-◌, ◌<◌, ◌≤◌, Bool, true, false}
 use Rattle.std.proofs.Common.{List, [], ◌∷◌, Equal, Greater, IfErr, IfOk, Less, Ok, Err, None}
-use Rattle.std.proofs.Common.{Option, Ordering, Result, Some, ⊎_elim, ap, arith, cond, get_or}
+use Rattle.std.proofs.Common.{Ordering, Result, Some, ⊎_elim, ap, arith, get_or}
 use Rattle.std.proofs.Common.{is_eq, is_lt, is_some, length, map, refl, set, sym}
 use Rattle.std.proofs.lemmas.Bool.{cases_Bool, cases_lt, cond-false, cond-true}
 use Rattle.std.proofs.lemmas.Cmp.{alike_right, eq_by_cmp_equiv, nat_list_cmp_total, on_total}
-use Rattle.std.proofs.lemmas.Grind.{common_steps}
 use Rattle.std.proofs.lemmas.List.{get_or-map, length-map}
 use Rattle.std.proofs.lemmas.List.Edits.{get_or-insert_above, get_or-insert_at, get_or-insert_below}
 use Rattle.std.proofs.lemmas.List.Edits.{get_or-remove_above, get_or-remove_below, length-insert}
