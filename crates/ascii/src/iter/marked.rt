@@ -1,4 +1,4 @@
-//! Marks of the next 64 bytes of a text, or of all its bytes if it has 16 to 63. The cuts by class keep
+//! Marks of the next 64 bytes of a text, or of all its bytes if it has 8 to 63. The cuts by class keep
 //! them, so that many bytes take one test.
 
 ghost use Rattle.std.specs.Prelude.{◌≡◌, ◌≢◌, ◌+◌, ◌-◌, ◌<◌, ◌≤◌, All, MatchOption, drop, false};
@@ -14,7 +14,7 @@ use ascii_base::kernels::{first_of, run_end};
 pub(crate) const BLOCK: usize = 64;
 
 /// Fewer bytes than this have no marks.
-pub(crate) const FEWEST: usize = 16;
+pub(crate) const FEWEST: usize = 8;
 
 /// Marks of the bytes that come next: bit `at` of the mask is that of the first one.
 #[derive(Clone, Copy)]
@@ -71,8 +71,9 @@ fn lowest(mask: u64) -> usize
     mask.trailing_zeros() as usize
 }
 
-/// Marks the bytes on the side among the first 64.
-#[inline(never)]
+/// Marks the bytes on the side among the first 64. Inlined, as all of this module is: a walk without a call
+/// saves no registers, which counts in short texts.
+#[inline(always)]
 pub(crate) fn block_marks<C: Searched, const INSIDE: bool>(bytes: &[u8]) -> u64
     requires { BLOCK ≤ length bytes.now }
     ensures { Shows C.is INSIDE bytes.now 0 result }
@@ -80,17 +81,20 @@ pub(crate) fn block_marks<C: Searched, const INSIDE: bool>(bytes: &[u8]) -> u64
     marks_of_two::<C, 32, INSIDE>(bytes, BLOCK)
 }
 
-/// Marks the bytes on the side of 16 to 63: the last one has the highest bit.
-#[inline(never)]
+/// Marks the bytes on the side of 8 to 63: the last one has the highest bit.
+#[inline(always)]
 pub(crate) fn short_marks<C: Searched, const INSIDE: bool>(bytes: &[u8]) -> u64
     requires fewest { FEWEST ≤ length bytes.now }
     requires short { length bytes.now < BLOCK }
     ensures { Shows C.is INSIDE bytes.now (BLOCK - length bytes.now) result }
 {
-    if bytes.len() < 32 {
-        marks_of_two::<C, 16, INSIDE>(bytes, bytes.len())
+    let count = bytes.len();
+    if count >= 32 {
+        marks_of_two::<C, 32, INSIDE>(bytes, count)
+    } else if count >= 16 {
+        marks_of_two::<C, 16, INSIDE>(bytes, count)
     } else {
-        marks_of_two::<C, 32, INSIDE>(bytes, bytes.len())
+        marks_of_two::<C, FEWEST, INSIDE>(bytes, count)
     }
 }
 
@@ -137,7 +141,7 @@ pub(crate) fn first_run<C: Searched, const INSIDE: bool>(
     if marks.mask != 0 {
         return Some(marked_run::<C, INSIDE>(bytes, marks));
     }
-    near_run::<C, INSIDE>(bytes)
+    near_run::<C, INSIDE>(bytes, marks)
 }
 
 /// The marks, or if there are none left, those of the first bytes.
@@ -150,14 +154,14 @@ fn renewed<C: Searched, const INSIDE: bool>(bytes: &[u8], marks: Marked) -> Mark
     if marks.mask != 0 {
         return marks;
     }
+    if bytes.len() < FEWEST {
+        return marks;
+    }
     if bytes.len() >= BLOCK {
         return Marked {
             at: 0,
             mask: block_marks::<C, INSIDE>(bytes),
         };
-    }
-    if bytes.len() < FEWEST {
-        return marks;
     }
     Marked {
         at: BLOCK - bytes.len(),
@@ -194,9 +198,10 @@ pub(crate) fn marks_to<C: Searched, const INSIDE: bool>(
     }
 }
 
-/// The first run of bytes on the side, byte by byte.
+/// The first run of bytes on the side, byte by byte. There are no marks, and none are made.
 #[inline(always)]
-fn near_run<C: Searched, const INSIDE: bool>(bytes: &[u8]) -> Option<MarkedRun>
+fn near_run<C: Searched, const INSIDE: bool>(bytes: &[u8], marks: Marked) -> Option<MarkedRun>
+    requires { marks.mask ≡ 0 }
     ensures { MatchOption result (All (IsOnSide C.is (not INSIDE)) bytes.now)
         (IsFirstRun C.is INSIDE bytes.now) }
 {
@@ -207,7 +212,7 @@ fn near_run<C: Searched, const INSIDE: bool>(bytes: &[u8]) -> Option<MarkedRun>
     Some(MarkedRun {
         start,
         end: run_end::<C>(bytes, start + 1, INSIDE),
-        marks: Marked::none(),
+        marks,
     })
 }
 
@@ -266,7 +271,7 @@ pub(crate) fn first_piece<C: Searched>(bytes: &[u8], marks: Marked) -> (usize, M
 }
 
 /// The end of a run that goes on at `from`, where the marks end.
-#[inline(never)]
+#[inline(always)]
 fn far_end<C: Searched, const INSIDE: bool>(bytes: &[u8], from: usize) -> usize
     requires { from ≤ length bytes.now }
     ensures { EndsRun C.is INSIDE bytes.now from result }

@@ -55,7 +55,7 @@ pub(crate) fn last_run<C: Searched, const INSIDE: bool>(
     if marks.mask != 0 {
         return Some(marked_run::<C, INSIDE>(bytes, marks));
     }
-    near_run::<C, INSIDE>(bytes)
+    near_run::<C, INSIDE>(bytes, marks)
 }
 
 /// The marks, or if there are none left, those of the last bytes.
@@ -69,14 +69,14 @@ fn renewed<C: Searched, const INSIDE: bool>(bytes: &[u8], marks: Marked) -> Mark
     if marks.mask != 0 {
         return marks;
     }
+    if bytes.len() < FEWEST {
+        return marks;
+    }
     if bytes.len() >= BLOCK {
         return Marked {
             at: BLOCK,
             mask: block_marks::<C, INSIDE>(&bytes[bytes.len() - BLOCK..]),
         };
-    }
-    if bytes.len() < FEWEST {
-        return marks;
     }
     Marked {
         at: bytes.len(),
@@ -110,9 +110,10 @@ pub(crate) fn last_marks_from<C: Searched, const INSIDE: bool>(
     }
 }
 
-/// The last run of bytes on the side, byte by byte.
+/// The last run of bytes on the side, byte by byte. There are no marks, and none are made.
 #[inline(always)]
-fn near_run<C: Searched, const INSIDE: bool>(bytes: &[u8]) -> Option<MarkedRun>
+fn near_run<C: Searched, const INSIDE: bool>(bytes: &[u8], marks: Marked) -> Option<MarkedRun>
+    requires { marks.mask ≡ 0 }
     ensures { MatchOption result (All (IsOnSide C.is (not INSIDE)) bytes.now)
         (IsLastRun C.is INSIDE bytes.now) }
 {
@@ -120,7 +121,7 @@ fn near_run<C: Searched, const INSIDE: bool>(bytes: &[u8]) -> Option<MarkedRun>
     Some(MarkedRun {
         start: run_start::<C>(bytes, end - 1, INSIDE),
         end,
-        marks: Marked::none(),
+        marks,
     })
 }
 
@@ -175,7 +176,7 @@ pub(crate) fn last_piece<C: Searched>(bytes: &[u8], marks: Marked) -> (usize, Ma
 }
 
 /// The start of a run that goes on before `to`, where the marks start.
-#[inline(never)]
+#[inline(always)]
 fn far_start<C: Searched, const INSIDE: bool>(bytes: &[u8], to: usize) -> usize
     requires { to ≤ length bytes.now }
     ensures { StartsRun C.is INSIDE bytes.now to result }

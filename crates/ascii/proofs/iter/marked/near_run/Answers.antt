@@ -11,5 +11,5 @@ returns g c =
       gap = gap;
       some = some;
       run = run_from g.C.Class.is inside c.args.bytes.now _ _ some gap c.run_end.ensures;
-      marks = (no_marks g.C.Class.is inside _ _ c.none.ensures).0;
+      marks = (no_marks g.C.Class.is inside _ _ c.requires).0;
     }
