@@ -6,18 +6,22 @@ use Rattle.std.proofs.Common.{Some, true, ◌&&◌, eqb}
 use Rattle.std.specs.Int.{bit_at}
 use Rattle.std.proofs.lemmas.Bool.{cases_lt, cases_eq, eq-eqb, eqb-true}
 use Rattle.std.proofs.lemmas.List.{length-map, get_or-map, get_or_past, get_or-drop, length-drop}
-use Rattle.std.proofs.lemmas.List.{ext_get_or, get_or-take, length-take-le, take_all}
+use Rattle.std.proofs.lemmas.List.{take_all}
 use Rattle.std.proofs.lemmas.Nat.Bits.{bit_at-zero, bit_at-lt, bit_at_or, bit_at_above}
 use Rattle.std.proofs.lemmas.Nat.Bits.{bit_at_cat_low, bit_at_cat_high}
 use Rattle.std.proofs.lemmas.Simd.{bit_mask_l, get_or-chunk, get_or-replicate, get_or-zip2}
 use Rattle.std.proofs.lemmas.Simd.{length-chunk, length-replicate, length-zip2, mask_l-mod}
 use lib.Lanes.{chunk, mask_l, top, zip2}
 use lib.ListN.{replicate}
+use Rattle.std.proofs.Common.{◌↔◌, not, w8, w64}
+use Rattle.std.proofs.lemmas.Bool.{false≢true}
+use Rattle.std.proofs.lemmas.Nat.Bits.{bit_at-trailing_zeros}
+use Rattle.std.proofs.lemmas.Simd.{tops_compared}
 use Rattle.memchr.specs.Find.{FindsLastNeedle, FindsNeedle, IsFirst, IsFirstByte, IsLast}
 use Rattle.memchr.specs.Find.{IsLastByte, Nowhere, OccursAt, Passes, is_byte}
 use Rattle.memchr.proofs.lemmas.FindLemmas.{IsFirst-agree, IsFirst-wider, IsLast-agree}
 use Rattle.memchr.proofs.lemmas.FindLemmas.{IsLast-wider, OccursAt-byte, byte-OccursAt}
-use Rattle.ascii.specs.Masks.{HasBit, HasByte, IsCandidate, MarksCandidates}
+use Rattle.ascii.specs.Masks.{HasBit, HasByte, HasPart, IsCandidate, MarksCandidates}
 
 -- the bits of a mask that is shifted up in a word
 module _ (m s k : ℕ) where
@@ -119,6 +123,14 @@ nowhere_marked hay needle start n mask i j marks inside none k from to here =
     none (k - start) (omega arith) (omega arith)
     (marks.each (k - start) (omega arith) (subst (OccursAt hay needle) same here))
 
+-- no position of a block without a mark
+pub nowhere_in_block : (hay needle : List ℕ) (start mask : ℕ)
+    → MarksCandidates hay needle start 64 mask → mask ≡ 0
+    → Nowhere (OccursAt hay needle) start (start + 64)
+nowhere_in_block hay needle start mask marks none k from to =
+    nowhere_marked hay needle start 64 mask 0 64 marks (omega arith) (no_bit mask 0 64 none) k
+    (omega (arith, from)) to
+
 -- nowhere up to a position and nowhere from it on
 pub nowhere_in_both : (P : ℕ → Type 0) (i j k : ℕ) → Nowhere P i j → Nowhere P j k → Nowhere P i k
 nowhere_in_both P i j k near far at from to here =
@@ -146,6 +158,10 @@ top_lane false = refl
 set_lane : (b : Bool) → ◌≡◌ {A = ℕ} (cond b 1 0) 1 → b ≡ true
 set_lane true set = refl
 set_lane false set = absurd (omega (arith, set))
+
+clear_lane : (b : Bool) → ◌≡◌ {A = ℕ} (cond (not b) 1 0) 0 → b ≡ true
+clear_lane true clear = refl
+clear_lane false clear = absurd (omega (arith, clear))
 
 -- where a needle occurs, the text has each of its bytes
 pub reads_byte : (hay needle : List ℕ) (start k at from : ℕ) → OccursAt hay needle (start + k)
@@ -232,6 +248,81 @@ module _ (hay needle : List ℕ) (start n : ℕ) (few : n ≤ 64)
       ];
     }
 
+-- a part of the needle and the bytes of the text there: the mask has a bit for each byte that differs
+module _ (hay needle : List ℕ) (k from n : ℕ) (few : n ≤ 64)
+    (fits : k + length needle ≤ length hay) (room : from + n ≤ length needle) where
+  abbrev differ : ℕ → ℕ → Bool
+  differ a b = not (eqb a b)
+
+  abbrev there : List ℕ
+  there = chunk (k + from) n hay
+
+  abbrev wanted : List ℕ
+  wanted = chunk from n needle
+
+  abbrev apart : List Bool
+  apart = zip2 differ there wanted
+
+  length_there : length there ≡ n
+  length_there = length-chunk (k + from) n hay (omega (arith, fits, room))
+
+  length_wanted : length wanted ≡ n
+  length_wanted = length-chunk from n needle room
+
+  length_apart : length apart ≡ n
+  length_apart = length-zip2 differ there wanted (length_there ∙ sym length_wanted)
+      ∙ length_there
+
+  mask : mask_l (map (top 7) (zip2 (λ a b. cond (differ a b) 255 0) there wanted)) % 2 ^ 64
+      ≡ mask_l apart
+  mask = ap (λ l. mask_l l % 2 ^ 64) (tops_compared w8 differ there wanted)
+      ∙ mask_l-mod apart 64 (omega (arith, length_apart))
+
+  byte_apart : (i : ℕ) → i < n → get_or apart i false
+      ≡ differ (get_or hay (k + from + i) 0) (get_or needle (from + i) 0)
+  byte_apart i l = get_or-zip2 differ there wanted i 0 0 false (omega (arith, length_there))
+      (omega (arith, length_wanted))
+      ∙ (λ x. differ (get_or-chunk (k + from) n hay i 0 l x) (get_or-chunk from n needle i 0 l x))
+
+  none_apart : mask_l apart ≡ 0 → HasPart hay needle k from n
+  none_apart none j low high =
+      let i = j - from in
+      let l : i < n = omega arith in
+      let here : from + i ≡ j = omega arith in
+      let place : k + from + i ≡ k + j = omega arith in
+      let clear = sym (ap (λ b. cond b 1 0) (byte_apart i l)) ∙ sym (bit_mask_l apart i)
+      ∙ ap (λ m. bit_at m i) none ∙ bit_at-zero i in
+      ap (λ x. get_or hay x 0) (sym place) ∙ eqb-true _ _ (clear_lane _ clear)
+      ∙ ap (λ x. get_or needle x 0) here
+
+  part_apart : HasPart hay needle k from n → (i : ℕ) → get_or apart i false ≡ true → ⊥
+  part_apart part i is = elim (cases_lt i n) [
+    | inl l ↦
+        let place : k + (from + i) ≡ k + from + i = omega arith in
+        let same = sym (ap (λ x. get_or hay x 0) place)
+        ∙ part (from + i) (omega arith) (omega (arith, l)) in
+        false≢true (ap not (sym (eq-eqb _ _ same)) ∙ sym (byte_apart i l) ∙ is)
+    | inr past ↦ false≢true (sym (get_or_past apart i false (omega (arith, length_apart, past)))
+        ∙ is)
+  ]
+
+  all_same : HasPart hay needle k from n → mask_l apart ≡ 0
+  all_same part = elim (cases_eq (mask_l apart) 0) [
+    | inl none ↦ none
+    | inr some ↦
+        let lowest = bit_at-trailing_zeros w64 (mask_l apart) (omega (arith, some))
+        (omega (arith, mask)) in
+        absurd (part_apart part _ (set_lane _ (sym (bit_mask_l apart _) ∙ lowest.1)))
+  ]
+
+  pub part_compared :
+      (eqb (mask_l (map (top 7) (zip2 (λ a b. cond (differ a b) 255 0) there wanted)) % 2 ^ 64) 0
+      ≡ true) ↔ HasPart hay needle k from n
+  part_compared = (
+    λ t. none_apart (sym mask ∙ eqb-true _ _ t),
+    λ part. eq-eqb _ _ (mask ∙ all_same part),
+  )
+
 module _ (hay needle : List ℕ) where
   -- a needle is nowhere that it does not fit
   pub all_positions : (n mask : ℕ) → n ≤ 64 → length hay + 1 ≤ n + length needle
@@ -268,51 +359,20 @@ module _ (hay needle : List ℕ) where
     last = occurs.reads (length needle - 1) (omega (arith, some));
   }
 
-  -- `n` bytes of the needle from `from` on are in the text where they are if it is at position `k`
-  abbrev Part : ℕ → ℕ → ℕ → Type 0
-  Part k from n = take n (drop (k + from) hay) ≡ take n (drop from needle)
-
-  -- the two ends of a needle, and the needle that has no other bytes
-  reads_part : (k from n j : ℕ) → Part k from n → from ≤ j → j < from + n
-      → HasByte hay needle k j
-  reads_part k from n j part low high =
-      let there : k + j ≡ k + from + (j - from) = omega arith in
-      let here : from + (j - from) ≡ j = omega arith in
-      ap (λ i. get_or hay i 0) there
-      ∙ sym (get_or-drop (k + from) hay (j - from) 0)
-      ∙ sym (get_or-take n (drop (k + from) hay) (j - from) 0 (omega arith))
-      ∙ ap (λ xs. get_or xs (j - from) 0) part
-      ∙ get_or-take n (drop from needle) (j - from) 0 (omega arith)
-      ∙ get_or-drop from needle (j - from) 0
-      ∙ ap (λ i. get_or needle i 0) here
-
+  -- a needle of at most two parts is where both are
   pub ends_occur : (k n last : ℕ) → k + length needle ≤ length hay → last + n ≡ length needle
-      → last ≤ n → Part k 0 n → Part k last n → OccursAt hay needle k
+      → last ≤ n → HasPart hay needle k 0 n → HasPart hay needle k last n → OccursAt hay needle k
   ends_occur k n last fits whole near front back = record {
     fits = fits;
     reads = λ j l. elim (cases_lt j n) [
-      | inl low ↦ reads_part k 0 n j front (omega arith) (omega (arith, low))
-      | inr high ↦ reads_part k last n j back (omega arith) (omega (arith, whole))
+      | inl low ↦ front j (omega arith) (omega (arith, low))
+      | inr high ↦ back j (omega arith) (omega (arith, whole))
     ];
   }
 
   pub part_of : (k from n : ℕ) → from + n ≤ length needle → OccursAt hay needle k
-      → Part k from n
-  part_of k from n inside occurs =
-      let fits = occurs.fits in
-      let long : length (take n (drop (k + from) hay)) ≡ n =
-      length-take-le n (drop (k + from) hay) (omega (arith, fits, length-drop (k + from) hay)) in
-      ext_get_or 0 (take n (drop (k + from) hay)) (take n (drop from needle))
-      (long ∙ sym (length-take-le n (drop from needle) (omega (arith, length-drop from needle))))
-      (λ i l.
-      let few : i < n = omega (arith, l, long) in
-      let there : k + from + i ≡ k + (from + i) = omega arith in
-      get_or-take n (drop (k + from) hay) i 0 few
-      ∙ get_or-drop (k + from) hay i 0
-      ∙ ap (λ j. get_or hay j 0) there
-      ∙ occurs.reads (from + i) (omega (arith, few))
-      ∙ sym (get_or-drop from needle i 0)
-      ∙ sym (get_or-take n (drop from needle) i 0 few))
+      → HasPart hay needle k from n
+  part_of k from n inside occurs j low high = occurs.reads j (omega (arith, inside))
 
   from_start : (j : ℕ) → 0 + j ≡ j
   from_start j = omega arith

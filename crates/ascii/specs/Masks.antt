@@ -11,6 +11,10 @@ HasBit mask k = bit_at mask k ≡ 1
 abbrev pub HasByte : List ℕ → List ℕ → ℕ → ℕ → Type 0
 HasByte hay needle k j = get_or hay (k + j) 0 ≡ get_or needle j 0
 
+-- `hay` has the `n` bytes of `needle` from `from` on where they are if the needle is at position `k`
+abbrev pub HasPart : List ℕ → List ℕ → ℕ → ℕ → ℕ → Type 0
+HasPart hay needle k from n = (j : ℕ) → from ≤ j → j < from + n → HasByte hay needle k j
+
 -- position `k` of `hay` is a candidate: `needle` fits there, and would have its first, its middle and
 -- its last byte
 pub record IsCandidate (hay needle : List ℕ) (k : ℕ) : Type 0 where

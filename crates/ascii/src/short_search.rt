@@ -8,7 +8,7 @@
 
 ghost use Rattle.std.specs.Prelude.{◌≡◌, ◌≢◌, ◌↔◌, ◌+◌, ◌<◌, ◌≤◌, IsTrue, length};
 ghost use Rattle.memchr.specs.Find.{FindsLastNeedle, FindsNeedle, IsFirst, IsLast, OccursAt};
-ghost use Rattle.ascii.specs.Masks.{HasBit, IsCandidate, MarksCandidates};
+ghost use Rattle.ascii.specs.Masks.{HasBit, HasPart, IsCandidate, MarksCandidates};
 
 use memchr::arch::all::is_prefix;
 use memchr::memmem;
@@ -25,6 +25,9 @@ const LEAST: usize = 4;
 
 /// A needle of at most this many bytes is at each candidate.
 const EXACT: usize = 3;
+
+/// A needle of at most this many bytes is compared without a call.
+const SMALL: usize = 16;
 
 /// The largest number of candidates that are compared here, of 32 positions or more.
 const FEW: u32 = 8;
@@ -181,6 +184,10 @@ fn first_by_blocks(hay: &[u8], needle: &[u8]) -> Option<usize>
     while tested < positions {
         let start = tested.min(positions - BLOCK);
         let marked = candidates::<BLOCK>(hay, needle, start);
+        if marked == 0 {
+            tested = start + BLOCK;
+            continue;
+        }
         if is_crowded(needle, marked) {
             return memmem::find(hay, needle);
         }
@@ -203,6 +210,10 @@ fn last_by_blocks(hay: &[u8], needle: &[u8]) -> Option<usize>
     while left > 0 {
         let start = left.saturating_sub(BLOCK);
         let marked = candidates::<BLOCK>(hay, needle, start);
+        if marked == 0 {
+            left = start;
+            continue;
+        }
         if is_crowded(needle, marked) {
             return memmem::rfind(hay, needle);
         }
@@ -214,14 +225,17 @@ fn last_by_blocks(hay: &[u8], needle: &[u8]) -> Option<usize>
     None
 }
 
-/// Returns the position of the first `needle`, tested at one position after the other, or `None` if
-/// there is none.
-#[inline(never)]
+/// Returns the position of the first `needle`, tested at one position after the other if it is small, or
+/// `None` if there is none.
+#[inline(always)]
 fn first_one_by_one(hay: &[u8], needle: &[u8]) -> Option<usize>
     requires some { 0 < length needle.now }
     requires fits { length needle.now ≤ length hay.now }
     ensures { FindsNeedle hay.now needle.now 0 result }
 {
+    if needle.len() > SMALL {
+        return memmem::find(hay, needle);
+    }
     for position in 0..hay.len() - needle.len() + 1 {
         if is_at(hay, needle, position) {
             return Some(position);
@@ -230,14 +244,17 @@ fn first_one_by_one(hay: &[u8], needle: &[u8]) -> Option<usize>
     None
 }
 
-/// Returns the position of the last `needle`, tested at one position before the other, or `None` if
-/// there is none.
-#[inline(never)]
+/// Returns the position of the last `needle`, tested at one position before the other if it is small, or
+/// `None` if there is none.
+#[inline(always)]
 fn last_one_by_one(hay: &[u8], needle: &[u8]) -> Option<usize>
     requires some { 0 < length needle.now }
     requires fits { length needle.now ≤ length hay.now }
     ensures { FindsLastNeedle hay.now needle.now result }
 {
+    if needle.len() > SMALL {
+        return memmem::rfind(hay, needle);
+    }
     for position in (0..hay.len() - needle.len() + 1).rev() {
         if is_at(hay, needle, position) {
             return Some(position);
@@ -253,15 +270,16 @@ fn is_crowded(needle: &[u8], marked: u64) -> bool {
     needle.len() > EXACT && marked.count_ones() > FEW
 }
 
-/// Whether the needle is at a position.
+/// Whether a small needle is at a position.
 #[inline(always)]
 #[tactic(auto, using(crate::proofs::MasksLemmas::candidate_at))]
 fn is_at(hay: &[u8], needle: &[u8], position: usize) -> bool
     requires some { 0 < length needle.now }
+    requires small { length needle.now ≤ SMALL }
     requires fits { position + length needle.now ≤ length hay.now }
     ensures { IsTrue result ↔ OccursAt hay.now needle.now position }
 {
-    is_candidate(hay, needle, position) && is_there(hay, needle, position)
+    is_candidate(hay, needle, position) && is_small_there(hay, needle, position)
 }
 
 /// Whether a position is a candidate.
@@ -280,9 +298,25 @@ fn is_candidate(hay: &[u8], needle: &[u8], position: usize) -> bool
 
 /// Whether the needle is at a candidate.
 #[inline(always)]
-#[tactic(auto, using(crate::proofs::MasksLemmas::exact, crate::proofs::MasksLemmas::occurs_on))]
+#[tactic(auto, using(crate::proofs::MasksLemmas::occurs_on))]
 fn is_there(hay: &[u8], needle: &[u8], position: usize) -> bool
     requires some { 0 < length needle.now }
+    requires candidate { IsCandidate hay.now needle.now position }
+    ensures { IsTrue result ↔ OccursAt hay.now needle.now position }
+{
+    if needle.len() <= SMALL {
+        is_small_there(hay, needle, position)
+    } else {
+        is_prefix(&hay[position..], needle)
+    }
+}
+
+/// Whether a small needle is at a candidate.
+#[inline(always)]
+#[tactic(auto, using(crate::proofs::MasksLemmas::exact))]
+fn is_small_there(hay: &[u8], needle: &[u8], position: usize) -> bool
+    requires some { 0 < length needle.now }
+    requires small { length needle.now ≤ SMALL }
     requires candidate { IsCandidate hay.now needle.now position }
     ensures { IsTrue result ↔ OccursAt hay.now needle.now position }
 {
@@ -290,25 +324,36 @@ fn is_there(hay: &[u8], needle: &[u8], position: usize) -> bool
         true
     } else if needle.len() <= 8 {
         has_both_ends::<4>(hay, needle, position)
-    } else if needle.len() <= 16 {
-        has_both_ends::<8>(hay, needle, position)
     } else {
-        is_prefix(&hay[position..], needle)
+        has_both_ends::<8>(hay, needle, position)
     }
 }
 
 /// Whether a needle of at least `N` and at most twice as many bytes is at a position: its first `N`
-/// bytes and its last `N`. The compiler makes one comparison of each.
+/// bytes and its last `N`.
 #[inline(always)]
+#[tactic(auto, using(crate::proofs::MasksLemmas::ends_occur, crate::proofs::MasksLemmas::part_of))]
 fn has_both_ends<const N: usize>(hay: &[u8], needle: &[u8], position: usize) -> bool
+    requires lanes { N ≤ 64 }
     requires fits { position + length needle.now ≤ length hay.now }
     requires room { N ≤ length needle.now }
     requires short { length needle.now ≤ N + N }
     ensures { IsTrue result ↔ OccursAt hay.now needle.now position }
 {
-    let last = needle.len() - N;
-    hay[position..position + N] == needle[..N]
-        && hay[position + last..position + last + N] == needle[last..last + N]
+    has_part::<N>(hay, needle, position, 0)
+        && has_part::<N>(hay, needle, position, needle.len() - N)
+}
+
+/// Whether the `N` bytes of the needle from `from` on are in `hay` where they are if it is at a position.
+#[inline(always)]
+fn has_part<const N: usize>(hay: &[u8], needle: &[u8], position: usize, from: usize) -> bool
+    requires lanes { N ≤ 64 }
+    requires fits { position + length needle.now ≤ length hay.now }
+    requires room { from + N ≤ length needle.now }
+    ensures { IsTrue result ↔ HasPart hay.now needle.now position from N }
+{
+    let part = Simd::<u8, N>::from_slice(&hay[position + from..]);
+    part.simd_ne(Simd::from_slice(&needle[from..])).to_bitmask() == 0
 }
 
 /// Returns the mask of the candidates among the `N` positions from `start` on.

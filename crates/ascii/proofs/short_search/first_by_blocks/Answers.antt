@@ -1,6 +1,16 @@
 use Rattle.std.proofs.Common.{◌≤◌, arith}
-use Rattle.ascii.proofs.MasksLemmas.{found_first, nowhere_in_both}
+use Rattle.ascii.proofs.MasksLemmas.{found_first, nowhere_in_block, nowhere_in_both}
 use Rattle.ascii.proofs.short_search.first_by_blocks.Goals as goal
+
+pub loop-tested-preserved-then-marked-eq0 : goal.loop-tested-preserved-then-marked-eq0
+loop-tested-preserved-then-marked-eq0 c =
+    let start = c.min-start.result in
+    record {
+      inside = omega (arith, c.min-start.ensures);
+      before = nowhere_in_both _ 0 start _ (λ k from to. c.loop-tested.invariant.before k from
+          (omega (arith, c.min-start.ensures)))
+          (nowhere_in_block _ _ start _ c.candidates-marked.ensures c.if-marked-eq0.true);
+    }
 
 pub loop-tested-preserved : goal.loop-tested-preserved
 loop-tested-preserved c =
