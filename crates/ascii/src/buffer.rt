@@ -247,6 +247,9 @@ pub trait InlineBuffer: Buffer {
         ensures succeeds { Self.sure < (Self.state self).capacity → IsOk result };
 }
 
+/// The capacity that a `Vec` asks for at its first byte, so that a short text grows once.
+const FIRST_ROOM: usize = 24;
+
 impl<A: Allocator> Buffer for Vec<u8, A> {
     type Refusal = AllocError;
 
@@ -298,6 +301,9 @@ impl<A: Allocator> Buffer for Vec<u8, A> {
 
     #[inline]
     fn append_byte(&mut self, byte: u8) -> Result<(), AllocError> {
+        if self.len() == self.capacity() {
+            make_first_room(self)?;
+        }
         self.push(byte)?;
         Ok(())
     }
@@ -329,6 +335,20 @@ impl<A: Allocator> Buffer for Vec<u8, A> {
     ghost with_text = { Prim.search rules };
 
     ghost with_capacity = { Prim.search rules };
+}
+
+/// Makes room for a short text in a `Vec` without an allocation. Not inlined, so that a loop over
+/// `append_byte` has one test for each byte.
+#[cold]
+#[inline(never)]
+fn make_first_room<A: Allocator>(bytes: &mut Vec<u8, A>) -> Result<(), AllocError>
+    ensures items { bytes.new.items ≡ bytes.old.items }
+    ensures capacity { vec_capacity bytes.old ≤ vec_capacity bytes.new }
+{
+    if bytes.capacity() == 0 {
+        bytes.reserve_exact(FIRST_ROOM)?;
+    }
+    Ok(())
 }
 
 impl<A: Allocator> NewBuffer for Vec<u8, A> {
