@@ -47,6 +47,10 @@ pub(crate) fn last_run<C: Searched, const INSIDE: bool>(
     ensures { MatchOption result (All (IsOnSide C.is (not INSIDE)) bytes.now)
         (IsLastRun C.is INSIDE bytes.now) }
 {
+    // After the last run nothing is left, which takes one test here.
+    if bytes.is_empty() {
+        return None;
+    }
     // Tested before the length, since in a long text most runs have marks.
     if marks.mask != 0 {
         return Some(marked_run::<C, INSIDE>(bytes, marks));
