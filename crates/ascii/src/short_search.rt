@@ -263,8 +263,7 @@ fn last_one_by_one(hay: &[u8], needle: &[u8]) -> Option<usize>
     None
 }
 
-/// Whether there are so many candidates for a needle of more than three bytes that a comparison at each
-/// may take too long.
+/// Whether a needle of more than three bytes has too many candidates to be compared at each.
 #[inline(always)]
 fn is_crowded(needle: &[u8], marked: u64) -> bool {
     needle.len() > EXACT && marked.count_ones() > FEW
