@@ -187,6 +187,10 @@ fn resize(random: &mut Random, kinds: &[u8], bytes: &mut Vec<u8>, commands: &mut
     let room = random.room();
     match kind {
         0 => {
+            // A string that has no capacity asks for this one at its first character.
+            if bytes.capacity() == 0 {
+                bytes.reserve_exact(24);
+            }
             bytes.push(b'x');
             commands.add(0, 0, b'x');
         }
