@@ -101,7 +101,8 @@ module _ (hay needle : List ℕ) (n last first second : ℕ) (near : last ≤ n)
         | inr g ↦
             let from : last ≤ k = omega arith in
             or_right first up k (shifted_here second last k (omega arith) from
-            ∙ high.each (k - last) (omega arith) (subst (OccursAt hay needle) (sym (here k from)) is))
+            ∙ high.each (k - last) (omega arith)
+            (subst (OccursAt hay needle) (sym (here k from)) is))
       ];
       set = λ k is. elim (cases_eq (bit_at first k) 1) [
         | inl one ↦ let h = low.set k one in let short : k < n = h.0 in (omega arith, h.1)
@@ -248,7 +249,7 @@ module _ (hay needle : List ℕ) (start n : ℕ) (few : n ≤ 64)
       ];
     }
 
--- a part of the needle and the bytes of the text there: the mask has a bit for each byte that differs
+-- a part of the needle and the bytes of the text there: the mask has a bit for each one that differs
 module _ (hay needle : List ℕ) (k from n : ℕ) (few : n ≤ 64)
     (fits : k + length needle ≤ length hay) (room : from + n ≤ length needle) where
   abbrev differ : ℕ → ℕ → Bool

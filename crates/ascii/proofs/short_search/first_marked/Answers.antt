@@ -10,7 +10,8 @@ returns-then-is_there c =
     let needle = c.args.needle.now in
     let place = c.args.start + c.in-Some.bit in
     let short = c.in-Some.ensures.0.high in
-    let fits : place + length needle ≤ length hay = (c.requires.marks.set _ c.in-Some.ensures.1).1.fits in (
+    let fits : place + length needle ≤ length hay =
+    (c.requires.marks.set _ c.in-Some.ensures.1).1.fits in (
       record {
         low = omega arith;
         high = omega (arith, short);
@@ -27,10 +28,11 @@ loop-bit-preserved c =
     let needle = c.args.needle.now in
     let place = c.args.start + c.in-Some.bit in
     let short = c.in-Some.ensures.0.high in
-    let fits : place + length needle ≤ length hay = (c.requires.marks.set _ c.in-Some.ensures.1).1.fits in
+    let fits : place + length needle ≤ length hay =
+    (c.requires.marks.set _ c.in-Some.ensures.1).1.fits in
     let before = nowhere_in_both (OccursAt hay needle) _ (c.args.start + c.loop-bit.tested) place
-    c.loop-bit.invariant.before (nowhere_marked _ _ _ 64 _ _ _ c.requires.marks (omega (arith, short))
-    c.in-Some.ensures.0.before) in
+    c.loop-bit.invariant.before (nowhere_marked _ _ _ 64 _ _ _ c.requires.marks
+    (omega (arith, short)) c.in-Some.ensures.0.before) in
     let not = nowhere_at (OccursAt hay needle) place (λ here. false≢true (sym c.if-is_there.false
     ∙ c.is_there.ensures.1 here)) in
     record {

@@ -12,7 +12,8 @@ returns-then-is_there c =
     let bit = c.in-Some.bit in
     let place = start + bit in
     let short = c.in-Some.ensures.0.high in
-    let fits : place + length needle ≤ length hay = (c.requires.marks.set _ c.in-Some.ensures.1).1.fits in
+    let fits : place + length needle ≤ length hay =
+    (c.requires.marks.set _ c.in-Some.ensures.1).1.fits in
     let between = nowhere_marked _ _ start 64 _ (bit + 1) c.loop-bit.tested c.requires.marks
     c.loop-bit.invariant.inside c.in-Some.ensures.0.after in (
       record {
@@ -32,7 +33,8 @@ loop-bit-preserved c =
     let bit = c.in-Some.bit in
     let place = start + bit in
     let short = c.in-Some.ensures.0.high in
-    let fits : place + length needle ≤ length hay = (c.requires.marks.set _ c.in-Some.ensures.1).1.fits in
+    let fits : place + length needle ≤ length hay =
+    (c.requires.marks.set _ c.in-Some.ensures.1).1.fits in
     let between = nowhere_marked _ _ start 64 _ (bit + 1) c.loop-bit.tested c.requires.marks
     c.loop-bit.invariant.inside c.in-Some.ensures.0.after in
     let not = nowhere_at (OccursAt hay needle) place (λ here. false≢true (sym c.if-is_there.false

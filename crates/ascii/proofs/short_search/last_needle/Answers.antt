@@ -8,6 +8,7 @@ returns-then-marked-eq0 c = found_last c.args.hay.now c.args.needle.now 0 64 Non
     (nowhere_in_block _ _ 0 _ c.all_candidates-marked.ensures c.if-marked-eq0.true)
 
 pub returns-then-needle-le-EXACT : goal.returns-then-needle-le-EXACT
-returns-then-needle-le-EXACT c = found_last c.args.hay.now c.args.needle.now 0 64 c.last_marked.result (λ none. refl)
+returns-then-needle-le-EXACT c = found_last c.args.hay.now c.args.needle.now 0 64
+    c.last_marked.result (λ none. refl)
     (λ k from to occurs. let fits = occurs.fits in absurd (omega (arith, fits)))
     c.last_marked.ensures

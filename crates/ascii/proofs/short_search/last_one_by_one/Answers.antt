@@ -31,4 +31,5 @@ loop-position-preserved c =
     }
 
 pub returns : goal.returns
-returns c k from to = c.loop-position.invariant.after k (omega (arith, c.loop-position-test.false)) to
+returns c k from to =
+    c.loop-position.invariant.after k (omega (arith, c.loop-position-test.false)) to
