@@ -93,8 +93,8 @@ pub(crate) fn last_needle(hay: &[u8], needle: &[u8]) -> Option<usize>
 }
 
 /// Returns the position of the first `needle`, compared at the candidates among all positions, of which
-/// there are at most 64, or `None` if there is none. Not inlined, as the other searches below, so that a
-/// search without a candidate does not save registers for the comparison.
+/// there are at most 64, or `None` if there is none. Not inlined, so that a search without a
+/// candidate does not save registers for the comparison.
 #[inline(never)]
 fn first_compared(hay: &[u8], needle: &[u8], marked: u64) -> Option<usize>
     requires some { 0 < length needle.now }
@@ -124,8 +124,8 @@ fn first_far(hay: &[u8], needle: &[u8]) -> Option<usize>
 }
 
 /// Returns the position of the last `needle`, compared at the candidates among all positions, of which
-/// there are at most 64, or `None` if there is none. Not inlined, as the other searches below, so that a
-/// search without a candidate does not save registers for the comparison.
+/// there are at most 64, or `None` if there is none. Not inlined, so that a search without a
+/// candidate does not save registers for the comparison.
 #[inline(never)]
 fn last_compared(hay: &[u8], needle: &[u8], marked: u64) -> Option<usize>
     requires some { 0 < length needle.now }
