@@ -20,7 +20,7 @@ input_history input = Some input.log.items
 
 -- the writer inside an `Output`
 abbrev pub writer_of : {W : Type 0} → Output W → W
-writer_of output = output.writer
+writer_of output = output.writer.writer
 
 -- how many writes and flushes of an `Output` have failed
 abbrev pub output_failures : {W : Type 0} → Output W → ℕ

@@ -4,6 +4,7 @@
 //! of both, so a contract of a server can.
 
 ghost use Rattle.std.specs.Prelude.{◌≡◌};
+ghost use Rattle.ascii_devices.specs.Flushes.{flushes_in};
 
 use crate::log::{Event, Log};
 use crate::notes::{note_received, note_sent};
@@ -17,6 +18,7 @@ pub struct Duplex<R, W> {
     input: Input<R>,
     output: Output<W>,
     log: Log<Event>,
+    ghost flushes: { flushes_in log.items ≡ flushes_in output.log.items },
 }
 
 impl<R: io::Read, W: io::Write> Duplex<R, W> {

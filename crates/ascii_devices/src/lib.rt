@@ -27,15 +27,18 @@ ghost use Rattle.std.specs.declared.option.Option.{Option};
 ghost use Rattle.ascii_devices.specs.Devices.{Aside, CountsFault, Grows, no_aside, read_of, write_of};
 ghost use Rattle.ascii_devices.specs.declared.log.Event.{Event};
 ghost use Rattle.ascii_devices.specs.declared.log.Event.TheVariants.{Flushed};
+ghost use Rattle.ascii_devices.specs.Flushes.{flushes_in, flushes_of};
 
 mod buffer_copy;
 mod buffered;
 mod duplex;
+mod flushing;
 mod log;
 mod notes;
 
 pub use buffered::{BufferedSink, zeros};
 pub use duplex::Duplex;
+use flushing::Flushing;
 pub use log::{Event, Log};
 use notes::{note_received, note_sent};
 use std::error::Error;
@@ -277,13 +280,14 @@ impl<R: io::Read> Source for Input<R> {
 /// write that takes no byte. It keeps a history and the last error.
 #[derive(Drop)]
 pub struct Output<W> {
-    writer: W,
+    writer: Flushing<W>,
     failures: u64,
     /// The error of the last call that failed.
     error: Option<io::Error>,
     log: Log<Event>,
     ghost no_error: { failures ≡ 0 → IsNone error },
     ghost last_error: { 0 < failures → IsSome error },
+    ghost flushes: { flushes_in log.items ≡ flushes_of writer },
 }
 
 impl<W: io::Write> Output<W> {
@@ -299,7 +303,7 @@ impl<W: io::Write> Output<W> {
         ensures history { output_history result ≡ Some [] }
     {
         Output {
-            writer,
+            writer: Flushing::new(writer),
             failures: 0,
             error: None,
             log: Log::new(),
@@ -320,7 +324,7 @@ impl<W: io::Write> Output<W> {
             error: _,
             log: _,
         } = self;
-        writer
+        writer.writer
     }
 
     /// Returns the writer's error of the last write or flush that failed, or `None` if none has
@@ -353,7 +357,7 @@ impl<W: io::Write> Sink for Output<W> {
     }
 
     fn write(&mut self, bytes: &[u8]) -> Result<usize, DeviceFault> {
-        match self.writer.write(bytes) {
+        match self.writer.writer.write(bytes) {
             Ok(n) if n > 0 => {
                 note_sent(&mut self.log, &bytes[..n]);
                 Ok(n)
