@@ -176,17 +176,6 @@ module _ (test : ℕ → Bool) where
         count_by-le-length kept pieces,
       )
 
-  pub split_fit : (t : List ℕ) → length (slice_split test t) ≤ length t + 1
-  split_fit t = omega (arith, length-slice_split test t, count_by-le-length test t)
-
-  pub words_fit : (t : List ℕ) → length (words_by test t) ≤ length t + 1
-  words_fit t = omega (
-    arith,
-    split_fit t,
-    length-filter has_some (slice_split test t),
-    count_by-le-length has_some (slice_split test t),
-  )
-
   kept_items : (start : ℕ) (pieces : List (List ℕ))
       → items_of (filter (λ span. has_some span.item) (with_starts piece_size start pieces))
       ≡ filter has_some pieces

@@ -158,7 +158,7 @@ module _ (start : ℕ) (t needle : List ℕ) where
 -- ---- the occurrences: one between each two pieces
 
 -- there is at least one piece
-piece_spans_at_some : (start : ℕ) (needle t : List ℕ)
+pub piece_spans_at_some : (start : ℕ) (needle t : List ℕ)
     → 0 < length (piece_spans_at needle (record { start = start; item = t }))
 piece_spans_at_some start [] t = omega arith
 piece_spans_at_some start (n ∷ ns) t = omega (
@@ -231,18 +231,3 @@ module _ (start : ℕ) (needle t : List ℕ) where
       → match_spans_at needle (record { start = start; item = t }) ≡ []
   match_spans_at_empty none =
       ap (match_spans_between needle) (piece_spans_at_empty start t needle none)
-
-pub pieces_at_fit : (needle t : List ℕ) → length (pieces_at needle t) ≤ length t + 1
-pieces_at_fit needle t = omega (
-  arith,
-  length-with_starts (after_piece (length needle)) 0 (pieces_at needle t),
-  piece_spans_at_fit 0 needle t,
-)
-
-pub matches_at_fit : (needle t : List ℕ) → length (matches_at needle t) ≤ length t + 1
-matches_at_fit needle t = omega (
-  arith,
-  ap length (matches_of_spans 0 needle t),
-  length-map (match_spans_at needle (record { start = 0; item = t })) (λ span. span.item),
-  match_spans_fit 0 needle t,
-)

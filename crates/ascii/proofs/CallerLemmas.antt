@@ -39,7 +39,8 @@ use Rattle.ascii.specs.Spans.{LineSpansOf, PieceSpans, WithStart}
 use Rattle.ascii.specs.Spans.{items_of, line_size, piece_size}
 use Rattle.ascii.specs.Retain.{RetainsChars}
 use Rattle.ascii.specs.Spans.{with_starts}
-use Rattle.ascii.specs.Steps.{DropsFirst, StepsPiece, YieldsFirstAnd}
+use Rattle.ascii.specs.Steps.{DropsFirst, StepsText, YieldsFirstAnd, at_front}
+use Rattle.ascii.specs.TheCuts.{at_code}
 use Rattle.ascii.specs.StringState.{StringState}
 use Rattle.ascii.specs.View.{text_of}
 use Rattle.ascii.proofs.ByClassLemmas.{words_of_spans}
@@ -223,15 +224,6 @@ nothing_after endings text lines [] other held = refl
 nothing_after endings text lines (c ∷ rest) other held =
     absurd (other (held.stop (λ none. cc)).0)
 
--- ---- what remains of a split with starts
-
--- the pieces that are found in a text, from its start, are its pieces
-pub rest_of_piece_spans : (on start : ℕ) (text : List ℕ) (spans : List (WithStart (List ℕ)))
-    → piece_spans on (record { start = start; item = text }) ≡ spans
-    → PieceSpans start text on spans
-rest_of_piece_spans on start text spans is = subst (PieceSpans start text on) is
-    (piece_spans_found on (record { start = start; item = text }))
-
 -- ---- extends and collects over `chars()`, `split()` and `lines()`
 
 chars_road : (iter all : List ℕ) → iter ≡ all
@@ -239,23 +231,23 @@ chars_road : (iter all : List ℕ) → iter ≡ all
 chars_road iter all is = YieldsList-from_first code_of _ all is
 
 split_road : (split : Remaining ℕ (List ℕ)) → YieldsList
-    (YieldsFirstAnd text_of (λ s. s.items) StepsPiece)
+    (YieldsFirstAnd text_of (λ s. s.items) (StepsText at_front at_code))
     text_of split split.items
 split_road split = road_from_first_and _ _ _ split.items refl
 
 -- on `Ok`, extending from the characters of a text appends the text
-pub extends_chars : (iter all : List ℕ) (old new : StringState)
+pub extends_chars : (sure : ℕ) (iter all : List ℕ) (old new : StringState)
     (result : Result (Unit {0}) AllocError)
-    → Extends (YieldsFirstBy code_of (λ chars. chars)) code_text iter old new result
+    → Extends sure (YieldsFirstBy code_of (λ chars. chars)) code_text iter old new result
     → iter ≡ all → OnOk result (new.text ≡ old.text ++ all)
-extends_chars iter all old new result extends is =
+extends_chars sure iter all old new result extends is =
     rw (singles all) at
     (all_from_extends (λ code. code ∷ []) old new result extends (chars_road iter all is))
 
 -- extending from the characters of a text that fits the capacity succeeds
-pub extends_fitting_chars : (iter : List ℕ) (old new : StringState)
+pub extends_fitting_chars : {sure : ℕ} (iter : List ℕ) (old new : StringState)
     (result : Result (Unit {0}) AllocError)
-    → Extends (YieldsFirstBy code_of (λ chars. chars)) code_text iter old new result
+    → Extends sure (YieldsFirstBy code_of (λ chars. chars)) code_text iter old new result
     → length old.text + length iter ≤ old.capacity → IsOk result
 extends_fitting_chars iter old new result extends fits =
     ok_from_extends (λ code. code ∷ []) old new result extends (chars_road iter iter refl)
@@ -270,9 +262,9 @@ collects_chars iter text collects =
     (chars_road iter iter refl) ∙ singles iter)
 
 -- on `Ok`, extending from a split appends the pieces that remain
-pub extends_split : (split : Remaining ℕ (List ℕ)) (old new : StringState)
+pub extends_split : {sure : ℕ} (split : Remaining ℕ (List ℕ)) (old new : StringState)
     (result : Result (Unit {0}) AllocError)
-    → Extends (YieldsFirstAnd text_of (λ s. s.items) StepsPiece)
+    → Extends sure (YieldsFirstAnd text_of (λ s. s.items) (StepsText at_front at_code))
     text_of split old new result
     → OnOk result (new.text ≡ old.text ++ flat_map (λ piece. piece) split.items)
 extends_split split old new result extends =
@@ -280,7 +272,7 @@ extends_split split old new result extends =
 
 -- collecting a split gives the pieces that remain, joined without a separator
 pub collects_split : (split : Remaining ℕ (List ℕ)) (text : List ℕ)
-    → Collects (YieldsFirstAnd text_of (λ s. s.items) StepsPiece)
+    → Collects (YieldsFirstAnd text_of (λ s. s.items) (StepsText at_front at_code))
     text_of split text
     → text ≡ flat_map (λ piece. piece) split.items
 collects_split split text collects =
@@ -462,12 +454,3 @@ module _ {F : Type 0} (calls : Mut F (AsciiChar × Unit {0}) Bool) (test : ℕ �
         before = subst (All (λ code. test code ≡ false)) asks.are
             (none_pass closure asks.before asks.chars asks.asked);
       }
-
--- ---- words
-
--- a text has as many words as words with their starts
-pub as_many_words : (test : ℕ → Bool) (text : List ℕ)
-    → length (word_spans_by test (whole text)) ≡ length (words_by test text)
-as_many_words test text =
-    sym (length-map (word_spans_by test (whole text)) (λ span. span.item))
-    ∙ ap length (words_of_spans test 0 text)

@@ -6,6 +6,7 @@ use Rattle.std.proofs.Math.Seq.{drop-append_seam}
 use Rattle.std.proofs.lemmas.Bool.{cases_Bool}
 use Rattle.std.proofs.lemmas.List.{length-map, length_push, same_from_push}
 use Rattle.std.proofs.lemmas.List.Elements.{All-push}
+use Rattle.std.specs.List.{join_with_byte}
 use Rattle.ascii.specs.Ended.{EndsAtMost, inclusive_spans, some_piece, some_span}
 use Rattle.ascii.specs.Ended.{spans_with_last, with_last}
 use Rattle.ascii.specs.Found.{HasNo, IsEndedBy, IsSplitAfterLast, IsSplitAtFirst, part_in}
@@ -15,7 +16,7 @@ use Rattle.ascii.specs.declared.iter.cursor.Cursor.{Cursor}
 use Rattle.ascii.specs.View.{text_of}
 use Rattle.ascii.proofs.ByClassLemmas.{pieces_joint, pieces_none}
 use Rattle.ascii.proofs.ListLemmas.{append-some}
-use Rattle.ascii.proofs.PiecesLemmas.{absent-from_Free, is_on, length-pieces_of, slice_split-some}
+use Rattle.ascii.proofs.PiecesLemmas.{Pieces-pieces_of, absent-from_Free, is_on, length-pieces_of, slice_split-some}
 use Rattle.ascii.proofs.SpansLemmas.{items-with_starts, length-with_starts}
 
 -- ---- lists whose last item is treated apart
@@ -260,3 +261,17 @@ module _ (each : List ℕ → List ℕ) where
         ap length (items_of_ended on start t),
         ended_fit on t,
       )
+
+  -- a part with no items is empty
+  with_last-none : (on : ℕ) (pieces : List (List ℕ)) → with_last each some_piece pieces ≡ []
+      → join_with_byte on pieces ≡ []
+  with_last-none on [] none = refl
+  with_last-none on ([] ∷ []) none = refl
+  with_last-none on ((c ∷ piece) ∷ []) none = cc
+  with_last-none on (piece ∷ next ∷ pieces) none = cc
+
+  pub ended_empty : (on : ℕ) (part : WithStart (List ℕ)) → spans_with_last each on part ≡ []
+      → part.item ≡ []
+  ended_empty on part none = sym ((Pieces-pieces_of part.item on).joined)
+      ∙ with_last-none on (pieces_of on part.item)
+      (sym (items_of_ended on part.start part.item) ∙ ap items_of none)

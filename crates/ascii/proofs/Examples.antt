@@ -1,10 +1,17 @@
 -- Worked values of the definitions. docs/MODEL.md quotes them.
-use Rattle.std.proofs.Common.{◌≡◌, [], ◌∷◌, None, Some, arith, rules, false, refl, true}
+use Rattle.std.proofs.Common.{◌≡◌, ◌∙◌, [], ◌∷◌, List, None, Some, ap, arith, rules, false, refl, sym, true, ℕ}
 use Rattle.std.specs.Fmt.{digits}
 use Rattle.std.specs.Prelude.{codes, negsuc}
 use Rattle.std.below.core.specs.declared.fmt.formatter.Alignment.TheVariants as align
 use Rattle.ascii_base.specs.declared.range.AsciiRange.TheVariants as range
 use Rattle.ascii_base.specs.Range.{Fits, part_of}
+use Rattle.std.specs.Option.{option_map}
+use Rattle.ascii.specs.ByClass.{whole}
+use Rattle.ascii.specs.Cuts.{IsRemainder}
+use Rattle.ascii.specs.Pieces.{Remaining}
+use Rattle.ascii.specs.TheCuts.{at_terminator}
+use Rattle.ascii.specs.View.{text_of}
+use Rattle.ascii.specs.declared.ascii_str.AsciiStr.{AsciiStr}
 use Rattle.ascii.specs.Decimals.{IsDecimalFault, WritesDecimal, decimal_text}
 use Rattle.ascii.specs.Found.{lines_of, pieces_of}
 use Rattle.ascii.specs.Numbers.{IsFaultIn, WritesNumberIn, signed_up_to}
@@ -33,6 +40,15 @@ piece_starts : with_starts piece_size 0 (pieces_of 44 (codes "a,,b"))
     ≡ record { start = 0; item = codes "a" } ∷ record { start = 2; item = [] }
     ∷ record { start = 3; item = codes "b" } ∷ []
 piece_starts = refl
+
+-- a remainder is all of the text that is left: not a text that has the same pieces, without the
+-- comma that ends the last one
+remainder_is_whole : (left : Remaining ℕ (List ℕ)) (view : AsciiStr)
+    → left.rest ≡ Some (whole (codes "a,b,")) → text_of view ≡ codes "a,b"
+    → ¬ (IsRemainder at_terminator left (Some view))
+remainder_is_whole left view is text remainder =
+    let both : Some (codes "a,b,") ≡ Some (codes "a,b") =
+    ap (option_map (λ part. part.item)) (sym is) ∙ (remainder.0 ∙ ap Some text) in cc
 
 -- the lines of a text: CR LF ends the first one, and nothing the second
 lines : lines_of (120 ∷ 13 ∷ 10 ∷ 121 ∷ [])

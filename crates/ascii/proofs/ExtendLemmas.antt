@@ -3,7 +3,7 @@ use Rattle.std.proofs.Common.{◌≡◌, ℕ, zero, suc, ◌+◌, ◌≤◌, Lis
 use Rattle.std.proofs.Common.{◌<◌, Option, None, Some, Ok, Err, Result, IfOk, OnOk, IsOk, arith}
 use Rattle.std.proofs.Common.{length-append, refl, sym, ap, ◌∙◌}
 use Rattle.std.specs.Iterator.{Drains, Yields}
-use Rattle.std.specs.List.{flat_map}
+use Rattle.std.specs.List.{flat_map, join_by}
 use Rattle.std.proofs.lemmas.Grind.{common_steps, flat_map-append}
 use Rattle.std.proofs.lemmas.Iterator.{YieldsList}
 use Rattle.std.proofs.lemmas.Iterator.Consumers.{YieldsList-end, YieldsList-so_far, YieldsList-turn}
@@ -12,19 +12,22 @@ use Rattle.std.proofs.lemmas.List.{map-append, map-id, take-map, take_all}
 use Rattle.std.proofs.lemmas.List.Concat.{flat_map_single}
 use Rattle.std.proofs.lemmas.List.Folds.{flat_map-map, length-flat_map-take}
 use Rattle.ascii.specs.StringState.{StringState}
-use Rattle.ascii.specs.Extend.{Extends, Fills, TakesFront}
+use Rattle.ascii.specs.View.{text_of}
+use Rattle.ascii.specs.declared.ascii_str.AsciiStr.{AsciiStr}
+use Rattle.ascii.specs.Extend.{Extends, Fills, TakesFront, YieldsPast}
 
 -- the pieces of the items so far, and the next piece did not fit
-pub Extends-refused : {S A E : Type 0} (steps : S → Option A → S → Type 0) (piece : A → List ℕ)
+pub Extends-refused : {S A E : Type 0} {sure : ℕ} (steps : S → Option A → S → Type 0) (piece : A → List ℕ)
     (iter : S) (old mid new : StringState)
     (items : List A) (left : S) (refused : A) (after : S) (result : Result (Unit {0}) E)
     (e : E) → result ≡ Err e
     → Yields steps iter items left → steps left (Some refused) after
     → mid.text ≡ old.text ++ flat_map piece items → old.capacity ≤ mid.capacity
     → new.text ≡ mid.text → mid.capacity < length (mid.text ++ piece refused)
-    → Extends steps piece iter old new result
-Extends-refused {S} {A} {E} steps piece iter old mid new items left refused after result e is gave
-    next so_far room stays full =
+    → sure < length (mid.text ++ piece refused)
+    → Extends sure steps piece iter old new result
+Extends-refused {S} {A} {E} {sure} steps piece iter old mid new items left refused after result e is gave
+    next so_far room stays full beyond =
     let whole : old.text ++ flat_map piece (items ++ refused ∷ []) ≡ mid.text ++ piece refused =
     grind (arith, common_steps, flat_map-append) in
     record {
@@ -32,7 +35,7 @@ Extends-refused {S} {A} {E} steps piece iter old mid new items left refused afte
       left = left;
       gave = gave;
       text = stays ∙ so_far;
-      ended = rw is (refused, after, next, rw whole (omega arith));
+      ended = rw is (refused, after, next, rw whole (omega arith), rw whole beyond);
     }
 
 module _ {S A : Type 0} (steps : S → Option A → S → Type 0) where
@@ -67,10 +70,10 @@ module _ {S A : Type 0} (steps : S → Option A → S → Type 0) where
     length_with text items x =
         simp (flat_map_single, length-append, length-map) (omega arith)
 
-    module _ (iter mid next : S) (old now new : StringState) (codes : List ℕ) (count : ℕ)
+    module _ {sure : ℕ} (iter mid next : S) (old now new : StringState) (codes : List ℕ) (count : ℕ)
         (before : Gathers iter mid old now) (run : Fills steps code mid next codes count) where
       gathers_run : {E : Type 0} (u : Unit {0})
-          → TakesFront {E = E} (take count codes) now new (Ok u)
+          → TakesFront {E = E} sure (take count codes) now new (Ok u)
           → Gathers iter run.left old new
       gathers_run {E} u front = record {
         items = before.items ++ run.items;
@@ -90,14 +93,14 @@ module _ {S A : Type 0} (steps : S → Option A → S → Type 0) where
 
       -- the array is full, and the iterator may go on
       pub gathers_more : {E : Type 0} (u : Unit {0})
-          → TakesFront {E = E} (take count codes) now new (Ok u)
+          → TakesFront {E = E} sure (take count codes) now new (Ok u)
           → count ≡ length codes → Gathers iter next old new
       gathers_more {E} u front full = rw (run.full full) at (gathers_run u front)
 
       -- the array is not full, so the iterator has ended
       pub Extends-gathered : {E : Type 0} (u : Unit {0})
-          → TakesFront {E = E} (take count codes) now new (Ok u)
-          → count < length codes → Extends {E = E} steps (λ x. code x ∷ []) iter old new (Ok u)
+          → TakesFront {E = E} sure (take count codes) now new (Ok u)
+          → count < length codes → Extends {E = E} sure steps (λ x. code x ∷ []) iter old new (Ok u)
       Extends-gathered {E} u front short =
           let all = gathers_run u front in
           record {
@@ -110,13 +113,23 @@ module _ {S A : Type 0} (steps : S → Option A → S → Type 0) where
 
       -- a code of the array did not fit
       pub Extends-front : {E : Type 0} (result : Result (Unit {0}) E) (e f : E)
-          → result ≡ Err e → TakesFront (take count codes) now new (Err f)
-          → Extends steps (λ x. code x ∷ []) iter old new result
+          → result ≡ Err e → TakesFront sure (take count codes) now new (Err f)
+          → Extends sure steps (λ x. code x ∷ []) iter old new result
       Extends-front {E} result e f is front =
           let inside : front.taken < length run.items =
           omega (arith, ap length run.start, length-map run.items code) in
           let stop = next_of run.items front.taken mid run.left inside run.gave in
           let items = before.items ++ take front.taken run.items in
+          let size : length (old.text ++ flat_map (λ x. code x ∷ []) (items ++ stop.1 ∷ []))
+          ≡ length now.text + front.taken + 1 = omega (
+            arith,
+            length_with old.text items stop.1,
+            ap length before.text,
+            length-append old.text (map code before.items),
+            length-map before.items code,
+            length-append before.items (take front.taken run.items),
+            length-take-le front.taken run.items (omega arith),
+          ) in
           record {
             items = items;
             left = stop.0;
@@ -136,17 +149,43 @@ module _ {S A : Type 0} (steps : S → Option A → S → Type 0) where
               stop.1,
               stop.2,
               stop.4,
-              omega (
-                arith,
-                length_with old.text items stop.1,
-                ap length before.text,
-                length-append old.text (map code before.items),
-                length-map before.items code,
-                length-append before.items (take front.taken run.items),
-                length-take-le front.taken run.items (omega arith),
-              ),
+              omega (arith, size, front.ended.1),
+              omega (arith, size, front.ended.2),
             );
           }
+
+-- the pieces of the items up to the one that did not fit are longer than the sure length
+pub yields_past : {S A E : Type 0} {sure : ℕ} (steps : S → Option A → S → Type 0)
+    (piece : A → List ℕ) (iter : S) (old new : StringState) (e : E) → old.text ≡ []
+    → Extends sure steps piece iter old new (Err e)
+    → YieldsPast sure steps (flat_map piece) iter
+yields_past {sure} steps piece iter old new e none extends =
+    let refused = extends.ended.0 in (
+      extends.items ++ refused ∷ [],
+      extends.ended.1,
+      yields_both steps extends.items (refused ∷ []) iter extends.left extends.ended.1 extends.gave
+          (extends.ended.1, extends.ended.2, refl),
+      rw none at extends.ended.4,
+    )
+
+-- views with separators up to one that did not fit, or whose separator did not, are longer than the
+-- sure length
+pub joined_past : {S : Type 0} (steps : S → Option AsciiStr → S → Type 0) (separator : List ℕ)
+    (sure : ℕ) (iter mid left next : S) (first view : AsciiStr) (views : List AsciiStr)
+    → steps iter (Some first) mid → Yields steps mid views left → steps left (Some view) next
+    → sure < length (join_by text_of separator (first ∷ views)) + length separator
+    + length (text_of view)
+    → YieldsPast sure steps (join_by text_of separator) iter
+joined_past steps separator sure iter mid left next first view views starts gave more beyond =
+    let join : AsciiStr → List ℕ = λ view. separator ++ text_of view in
+    let long : length (flat_map join (views ++ view ∷ []))
+    ≡ length (flat_map join views) + length separator + length (text_of view) =
+    simp (flat_map-append, length-append) (omega arith) in (
+      first ∷ (views ++ view ∷ []),
+      next,
+      (mid, starts, yields_both steps views (view ∷ []) mid left next gave (next, more, refl)),
+      simp length-append (omega (arith, long, simp length-append at beyond)),
+    )
 
 -- codes one by one are the text
 pub singles : (codes : List ℕ) → flat_map (λ code. code ∷ []) codes ≡ codes
@@ -168,10 +207,10 @@ pieces_from_drains {S} {A} {B} {steps} {v} {iter} {all} h items drained road =
     sym (flat_map-map h v items) ∙ ap (flat_map h) ended.0
 
 module _ {S A B E : Type 0} {steps : S → Option A → S → Type 0} {v : A → B} {iter : S}
-    {all : List B} (h : B → List ℕ) (old new : StringState) where
+    {all : List B} {sure : ℕ} (h : B → List ℕ) (old new : StringState) where
   -- at Ok the whole list went in
   pub all_from_extends : (result : Result (Unit {0}) E)
-      → Extends steps (λ x. h (v x)) iter old new result → YieldsList steps v iter all
+      → Extends sure steps (λ x. h (v x)) iter old new result → YieldsList steps v iter all
       → OnOk result (new.text ≡ old.text ++ flat_map h all)
   all_from_extends (Ok x) e road =
       e.text ∙ ap (λ t. old.text ++ t)
@@ -180,7 +219,7 @@ module _ {S A B E : Type 0} {steps : S → Option A → S → Type 0} {v : A →
 
   -- at Err as at Ok a front of the list went in
   pub front_from_extends : (result : Result (Unit {0}) E)
-      → Extends steps (λ x. h (v x)) iter old new result → YieldsList steps v iter all
+      → Extends sure steps (λ x. h (v x)) iter old new result → YieldsList steps v iter all
       → (n : ℕ) × (new.text ≡ old.text ++ flat_map h (take n all))
   front_from_extends result e road = (
     length e.items,
@@ -191,7 +230,7 @@ module _ {S A B E : Type 0} {steps : S → Option A → S → Type 0} {v : A →
 
   -- for a list that fits the capacity no allocation is needed
   pub ok_from_extends : (result : Result (Unit {0}) E)
-      → Extends steps (λ x. h (v x)) iter old new result → YieldsList steps v iter all
+      → Extends sure steps (λ x. h (v x)) iter old new result → YieldsList steps v iter all
       → length old.text + length (flat_map h all) ≤ old.capacity → IsOk result
   ok_from_extends (Ok x) e road fits = refl
   ok_from_extends (Err x) e road fits =

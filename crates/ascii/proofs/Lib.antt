@@ -3,6 +3,7 @@ pub mod ByClosureLemmas
 pub mod ByTextLemmas
 pub mod CallerLemmas
 pub mod ChunkLemmas
+pub mod CutLaws
 pub mod CutLemmas
 pub mod DebugLemmas
 pub mod DecimalsLemmas
@@ -16,6 +17,7 @@ pub mod FoldLemmas
 pub mod FoldedMapLemmas
 pub mod JsonLemmas
 pub mod LastLineLemmas
+pub mod LeftLemmas
 pub mod LinesByLemmas
 pub mod LinesLeftLemmas
 pub mod LinesLemmas

@@ -19,13 +19,14 @@ both_empty [] b none = (refl, none)
 both_empty (code ∷ codes) b none = absurd (omega (arith, ap length none))
 
 -- a part that is appended at once
-pub part_at_once : {E : Type 0} (codes : List ℕ) (old new : StringState)
+pub part_at_once : {E : Type 0} {sure : ℕ} (codes : List ℕ) (old new : StringState)
     (result : Result (Unit {0}) E)
-    → GrowsTo (old.text ++ codes) old new result → AppendsInParts codes old new result
+    → GrowsTo sure (old.text ++ codes) old new result → AppendsInParts sure codes old new result
 part_at_once codes old new (Ok u) grows = record {
   ok = grows.ok;
   err = tt;
   full = tt;
+  beyond = tt;
   nothing = λ none. refl;
   capacity = grows.capacity;
 }
@@ -33,19 +34,21 @@ part_at_once codes old new (Err e) grows = record {
   ok = tt;
   err = ([], grows.err ∙ sym (append-nil old.text));
   full = omega (arith, grows.full, length-append old.text codes);
+  beyond = omega (arith, grows.beyond, length-append old.text codes);
   nothing = λ none. grows.nothing (ap (λ part. old.text ++ part) none ∙ append-nil old.text);
   capacity = grows.capacity;
 }
 
 -- a part, and then another
-pub two_parts : {E F : Type 0} (a b : List ℕ) (old mid new : StringState) (u : Unit {0})
+pub two_parts : {E F : Type 0} {sure : ℕ} (a b : List ℕ) (old mid new : StringState) (u : Unit {0})
     (result : Result (Unit {0}) E)
-    → AppendsInParts {E = F} a old mid (Ok u) → AppendsInParts b mid new result
-    → AppendsInParts (a ++ b) old new result
+    → AppendsInParts {E = F} sure a old mid (Ok u) → AppendsInParts sure b mid new result
+    → AppendsInParts sure (a ++ b) old new result
 two_parts a b old mid new u (Ok v) first second = record {
   ok = second.ok ∙ ap (λ text. text ++ b) first.ok ∙ append_assoc old.text a b;
   err = tt;
   full = tt;
+  beyond = tt;
   nothing = λ none. refl;
   capacity = omega (arith, first.capacity, second.capacity);
 }
@@ -64,48 +67,57 @@ two_parts a b old mid new u (Err e) first second = record {
     length-append old.text a,
     length-append a b,
   );
+  beyond = omega (
+    arith,
+    second.beyond,
+    ap length first.ok,
+    length-append old.text a,
+    length-append a b,
+  );
   nothing = λ none. second.nothing (both_empty a b none).1;
   capacity = omega (arith, first.capacity, second.capacity);
 }
 
 -- a part that did not fit, before another
-pub first_part : {E F : Type 0} (a b : List ℕ) (old new : StringState) (e : F) (f : E)
-    → AppendsInParts a old new (Err e) → AppendsInParts (a ++ b) old new (Err f)
+pub first_part : {E F : Type 0} {sure : ℕ} (a b : List ℕ) (old new : StringState) (e : F) (f : E)
+    → AppendsInParts sure a old new (Err e) → AppendsInParts sure (a ++ b) old new (Err f)
 first_part a b old new e f first = record {
   ok = tt;
   err = first.err;
   full = omega (arith, first.full, length-append a b);
+  beyond = omega (arith, first.beyond, length-append a b);
   nothing = λ none. first.nothing (both_empty a b none).0;
   capacity = first.capacity;
 }
 
 -- no part
-pub no_part : {E : Type 0} (old : StringState) → AppendsInParts {E = E} [] old old (Ok tt)
+pub no_part : {E : Type 0} {sure : ℕ} (old : StringState) → AppendsInParts {E = E} sure [] old old (Ok tt)
 no_part old = record {
   ok = sym (append-nil old.text);
   err = tt;
   full = tt;
+  beyond = tt;
   nothing = λ none. refl;
   capacity = omega arith;
 }
 
 -- a code once more, if it fits
-pub one_more : {E : Type 0} (n code : ℕ) (old mid new : StringState) (result : Result (Unit {0}) E)
-    → AppendsInParts {E = E} (replicate n code) old mid (Ok tt)
-    → GrowsTo (mid.text ++ code ∷ []) mid new result
-    → AppendsInParts (replicate (n + 1) code) old new result
-one_more n code old mid new result before grows =
-    subst (λ codes. AppendsInParts codes old new result) (replicate-append-replicate n 1 code)
+pub one_more : {E : Type 0} {sure : ℕ} (n code : ℕ) (old mid new : StringState) (result : Result (Unit {0}) E)
+    → AppendsInParts {E = E} sure (replicate n code) old mid (Ok tt)
+    → GrowsTo sure (mid.text ++ code ∷ []) mid new result
+    → AppendsInParts sure (replicate (n + 1) code) old new result
+one_more {sure = sure} n code old mid new result before grows =
+    subst (λ codes. AppendsInParts sure codes old new result) (replicate-append-replicate n 1 code)
     (two_parts (replicate n code) (code ∷ []) old mid new tt result before
     (part_at_once (code ∷ []) mid new result grows))
 
 -- some of as many of a code
-pub some_of : {E F : Type 0} (n count code : ℕ) (old new : StringState) (e : F) (f : E) → n ≤ count
-    → AppendsInParts (replicate n code) old new (Err e)
-    → AppendsInParts (replicate count code) old new (Err f)
-some_of n count code old new e f inside first =
+pub some_of : {E F : Type 0} {sure : ℕ} (n count code : ℕ) (old new : StringState) (e : F) (f : E) → n ≤ count
+    → AppendsInParts sure (replicate n code) old new (Err e)
+    → AppendsInParts sure (replicate count code) old new (Err f)
+some_of {sure = sure} n count code old new e f inside first =
     let rest : n + (count - n) ≡ count = omega (arith, inside) in
-    subst (λ codes. AppendsInParts codes old new (Err f))
+    subst (λ codes. AppendsInParts sure codes old new (Err f))
     (replicate-append-replicate n (count - n) code ∙ ap (λ k. replicate k code) rest)
     (first_part (replicate n code) (replicate (count - n) code) old new e f first)
 

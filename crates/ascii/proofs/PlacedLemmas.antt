@@ -16,7 +16,7 @@ use Rattle.ascii.specs.Ended.{inclusive_spans, some_span, terminated_spans, with
 use Rattle.ascii.specs.ByText.{match_spans_at, piece_spans_at}
 use Rattle.ascii.specs.Found.{piece_spans}
 use Rattle.ascii.specs.Lines.{Line, ending_text, line_text}
-use Rattle.ascii.specs.Placed.{ArePlaced, ArePlacedLines, HasAt}
+use Rattle.ascii.specs.Placed.{ArePlaced, ArePlacedLines, HasAt, IsPlaced, body_in}
 use Rattle.ascii.specs.Spans.{LineSpansOf, WithStart, items_of, line_size, with_starts}
 use Rattle.ascii.proofs.ByClassLemmas.{pieces_joint, pieces_none}
 use Rattle.ascii.proofs.ByTextLemmas.{match_spans_at_first, match_spans_at_none}
@@ -30,6 +30,24 @@ has_at text item rest place is =
     let size : place + length item - place ≡ length item = omega arith in
     ap (λ n. take n (drop place text)) size
     ∙ (ap (take (length item)) is ∙ take_at item rest (length item) refl)
+
+-- the same of a text that starts at an offset, of which `t` is what comes from `start` on
+placed_at : (offset : ℕ) (text t gap item after : List ℕ) (start : ℕ) → offset ≤ start
+    → drop (start - offset) text ≡ t → start + length t ≡ offset + length text
+    → t ≡ gap ++ (item ++ after)
+    → IsPlaced offset text (record { start = start + length gap; item = item })
+placed_at offset text t gap item after start low is end within =
+    let size : length t ≡ length gap + (length item + length after) =
+    ap length within ∙ length-append gap (item ++ after)
+    ∙ ap (λ n. length gap + n) (length-append item after) in
+    let at : start + length gap - offset ≡ (start - offset) + length gap = omega (arith, low) in
+    record {
+      low = omega (arith, low);
+      high = omega (arith, size, end);
+      has = has_at text item after (start + length gap - offset) (ap (λ n. drop n text) at
+          ∙ (sym (drop-drop (length gap) (start - offset) text)
+          ∙ (ap (drop (length gap)) (is ∙ within) ∙ drop-append_seam gap (item ++ after))));
+    }
 
 omega_zero : (n : ℕ) → n ≡ n + 0
 omega_zero n = omega arith
@@ -90,28 +108,24 @@ module _ (items : ℕ → List ℕ → List (WithStart (List ℕ)))
   -- those of a text are, if those of every shorter rest are
   placed_step : (start : ℕ) (t : List ℕ)
       → ((next : ℕ) (b : List ℕ) → length b < length t → offset ≤ next
-      → drop (next - offset) text ≡ b → ArePlaced offset text (items next b))
-      → offset ≤ start → drop (start - offset) text ≡ t → ArePlaced offset text (items start t)
-  placed_step start t others low is =
-      let Is : WithStart (List ℕ) → Type 0 = λ span. HasAt text (span.start - offset) span.item in
+      → drop (next - offset) text ≡ b → next + length b ≡ offset + length text
+      → ArePlaced offset text (items next b))
+      → offset ≤ start → drop (start - offset) text ≡ t → start + length t ≡ offset + length text
+      → ArePlaced offset text (items start t)
+  placed_step start t others low is end =
+      let Is = IsPlaced offset text in
       elim (breaks start t) [
         | inl none ↦ rw none (All-nil Is)
         | inr some ↦ elim some [
           | inl one ↦ rw one (All-cons Is (record { start = start; item = t }) []
-              (has_at text t [] (start - offset) (is ∙ sym (append-nil t))) (All-nil Is))
+              (subst (λ n. Is (record { start = n; item = t })) (sym (omega_zero start))
+              (placed_at offset text t [] t [] start low is end (sym (append-nil t)))) (All-nil Is))
           | inr first ↦
               let long : length t ≡ length first.front + length first.rest =
               ap length first.split ∙ length-append first.front first.rest in
               let more = first.some in
-              let at : start + length first.gap - offset ≡ (start - offset) + length first.gap =
-              omega (arith, low) in
               let next : start + length first.front - offset
               ≡ (start - offset) + length first.front = omega (arith, low) in
-              let here : drop (start + length first.gap - offset) text
-              ≡ first.item ++ first.after = ap (λ n. drop n text) at
-              ∙ (sym (drop-drop (length first.gap) (start - offset) text)
-              ∙ (ap (drop (length first.gap)) (is ∙ first.within)
-              ∙ drop-append_seam first.gap (first.item ++ first.after))) in
               let behind : drop (start + length first.front - offset) text ≡ first.rest =
               ap (λ n. drop n text) next
               ∙ (sym (drop-drop (length first.front) (start - offset) text)
@@ -120,14 +134,15 @@ module _ (items : ℕ → List ℕ → List (WithStart (List ℕ)))
               rw first.is (All-cons Is
               (record { start = start + length first.gap; item = first.item })
               (items (start + length first.front) first.rest)
-              (has_at text first.item first.after (start + length first.gap - offset) here)
+              (placed_at offset text t first.gap first.item first.after start low is end first.within)
               (others (start + length first.front) first.rest (omega (arith, long, more))
-              (omega (arith, low)) behind))
+              (omega (arith, low)) behind (omega (arith, long, end))))
         ]
       ]
 
   placed_up_to : (fuel start : ℕ) (t : List ℕ) → length t ≤ fuel → offset ≤ start
-      → drop (start - offset) text ≡ t → ArePlaced offset text (items start t)
+      → drop (start - offset) text ≡ t → start + length t ≡ offset + length text
+      → ArePlaced offset text (items start t)
   placed_up_to zero start t long =
       placed_step start t (λ next b short. absurd (omega (arith, long, short)))
   placed_up_to (suc fuel) start t long = placed_step start t
@@ -135,7 +150,7 @@ module _ (items : ℕ → List ℕ → List (WithStart (List ℕ)))
 
   placed_all : ArePlaced offset text (items offset text)
   placed_all = placed_up_to (length text) offset text (omega arith) (omega arith)
-      (let none : offset - offset ≡ 0 = omega arith in ap (λ n. drop n text) none)
+      (let none : offset - offset ≡ 0 = omega arith in ap (λ n. drop n text) none) refl
 
 -- ---- pieces and words by a test
 
@@ -175,8 +190,8 @@ module _ (test : ℕ → Bool) where
 
   pub words_placed : (offset : ℕ) (text : List ℕ)
       → ArePlaced offset text (word_spans_by test (record { start = offset; item = text }))
-  words_placed offset text = All-filter (λ span. has_some span.item)
-      (λ span. HasAt text (span.start - offset) span.item) _ (pieces_placed offset text)
+  words_placed offset text =
+      All-filter (λ span. has_some span.item) (IsPlaced offset text) _ (pieces_placed offset text)
 
 -- ---- pieces that a separator ends
 
@@ -190,12 +205,11 @@ module _ (on : ℕ) where
           → ArePlaced offset text (with_last (each_span (λ piece. piece) on) some_span spans)
       kept [] placed = placed
       kept (span ∷ []) placed = All-filter (λ one. has_some one.item)
-          (λ one. HasAt text (one.start - offset) one.item) (span ∷ []) placed
+          (IsPlaced offset text) (span ∷ []) placed
       kept (span ∷ next ∷ spans) placed =
-          All-cons (λ one. HasAt text (one.start - offset) one.item) span _
-          (All-head (λ one. HasAt text (one.start - offset) one.item) span (next ∷ spans) placed)
-          (kept (next ∷ spans)
-          (All-tail (λ one. HasAt text (one.start - offset) one.item) span (next ∷ spans) placed))
+          All-cons (IsPlaced offset text) span _
+          (All-head (IsPlaced offset text) span (next ∷ spans) placed)
+          (kept (next ∷ spans) (All-tail (IsPlaced offset text) span (next ∷ spans) placed))
 
   pub inclusive_placed : (offset : ℕ) (text : List ℕ)
       → ArePlaced offset text (inclusive_spans on (record { start = offset; item = text }))
@@ -240,7 +254,7 @@ pub placed_reversed : (offset : ℕ) (text : List ℕ) (spans : List (WithStart 
     → ArePlaced offset text spans → ArePlaced offset text (reverse spans)
 placed_reversed offset text [] placed = placed
 placed_reversed offset text (span ∷ spans) placed =
-    let Is : WithStart (List ℕ) → Type 0 = λ one. HasAt text (one.start - offset) one.item in
+    let Is = IsPlaced offset text in
     subst (All Is) (sym (reverse-append (span ∷ []) spans))
     (All-append Is (reverse spans) (span ∷ [])
     (placed_reversed offset text spans (All-tail Is span spans placed))
@@ -337,10 +351,13 @@ module _ (needle : List ℕ) (some_needle : needle ≢ []) where
 pub pieces_at_placed : (needle : List ℕ) (offset : ℕ) (text : List ℕ)
     → ArePlaced offset text (piece_spans_at needle (record { start = offset; item = text }))
 pieces_at_placed [] offset text =
-    All-cons (λ span. HasAt text (span.start - offset) span.item)
-    (record { start = offset; item = text }) []
-    (has_at text text [] (offset - offset) (let none : offset - offset ≡ 0 = omega arith in
-    ap (λ n. drop n text) none ∙ sym (append-nil text))) (All-nil _)
+    let none : offset - offset ≡ 0 = omega arith in
+    All-cons (IsPlaced offset text) (record { start = offset; item = text }) [] (record {
+      low = omega arith;
+      high = omega arith;
+      has = has_at text text [] (offset - offset)
+          (ap (λ n. drop n text) none ∙ sym (append-nil text));
+    }) (All-nil _)
 pieces_at_placed (n ∷ ns) offset text = placed_all
     (λ start t. piece_spans_at (n ∷ ns) (record { start = start; item = t }))
     (pieces_at_break (n ∷ ns) (λ none. cc)) text offset
@@ -356,10 +373,11 @@ matches_placed (n ∷ ns) offset text = placed_all
 
 lines_from : (offset : ℕ) (text : List ℕ) (start : ℕ) (lines : List Line) (rest : List ℕ)
     → offset ≤ start → drop (start - offset) text ≡ flat_map line_text lines ++ rest
+    → start + length (flat_map line_text lines ++ rest) ≡ offset + length text
     → ArePlacedLines offset text (with_starts line_size start lines)
-lines_from offset text start [] rest low is = All-nil _
-lines_from offset text start (line ∷ lines) rest low is =
-    let Is : WithStart Line → Type 0 = λ span. HasAt text (span.start - offset) span.item.body in
+lines_from offset text start [] rest low is end = All-nil _
+lines_from offset text start (line ∷ lines) rest low is end =
+    let Is : WithStart Line → Type 0 = λ span. IsPlaced offset text (body_in span) in
     let others = flat_map line_text lines ++ rest in
     let next : start + line_size line - offset ≡ (start - offset) + length (line_text line) =
     omega (arith, low) in
@@ -368,10 +386,17 @@ lines_from offset text start (line ∷ lines) rest low is =
     let behind : drop (start + line_size line - offset) text ≡ others =
     ap (λ n. drop n text) next ∙ (sym (drop-drop (length (line_text line)) (start - offset) text)
     ∙ (ap (drop (length (line_text line))) whole ∙ drop-append_seam (line_text line) others)) in
-    All-cons Is (record { start = start; item = line }) (with_starts line_size (start + line_size line) lines)
-    (has_at text line.body (ending_text line.ending ++ others) (start - offset)
-    (whole ∙ append_assoc line.body (ending_text line.ending) others))
-    (lines_from offset text (start + line_size line) lines rest (omega (arith, low)) behind)
+    let size : length (flat_map line_text (line ∷ lines) ++ rest) ≡ line_size line + length others =
+    ap length (append_assoc (line_text line) (flat_map line_text lines) rest)
+    ∙ length-append (line_text line) others in
+    All-cons Is (record { start = start; item = line })
+    (with_starts line_size (start + line_size line) lines)
+    (subst (λ n. IsPlaced offset text (record { start = n; item = line.body })) (sym (omega_zero start))
+    (placed_at offset text _ [] line.body (ending_text line.ending ++ others) start low is end
+    (append_assoc (line_text line) (flat_map line_text lines) rest
+    ∙ append_assoc line.body (ending_text line.ending) others)))
+    (lines_from offset text (start + line_size line) lines rest (omega (arith, low)) behind
+    (omega (arith, size, end)))
 
 -- the body of each of the first lines of a text
 pub first_lines_placed : (offset : ℕ) (text : List ℕ) (lines : List Line) (rest : List ℕ)
@@ -379,7 +404,7 @@ pub first_lines_placed : (offset : ℕ) (text : List ℕ) (lines : List Line) (r
     → ArePlacedLines offset text (with_starts line_size offset lines)
 first_lines_placed offset text lines rest joined = lines_from offset text offset lines rest
     (omega arith) (let none : offset - offset ≡ 0 = omega arith in
-    ap (λ n. drop n text) none ∙ sym joined)
+    ap (λ n. drop n text) none ∙ sym joined) (ap (λ t. offset + length t) joined)
 
 -- the body of each line of a text
 pub lines_placed : (offset : ℕ) (text : List ℕ) (spans : List (WithStart Line))

@@ -1,5 +1,5 @@
 -- The pieces and the lines of a text with their starts, and how they break at either end.
-use Rattle.std.proofs.Common.{◌≡◌, ◌≢◌, ℕ, suc, ◌+◌, ◌^◌, ◌<◌, ◌≤◌, List, [], ◌∷◌, ◌++◌, length, append-nil}
+use Rattle.std.proofs.Common.{◌≡◌, ◌≢◌, ℕ, suc, ◌+◌, ◌≤◌, List, [], ◌∷◌, ◌++◌, length, append-nil}
 use Rattle.std.proofs.Common.{reverse, refl, sym, ap, ◌∙◌, subst, arith, length-append}
 use Rattle.std.specs.List.{Contains, flat_map, join_with_byte}
 use Rattle.std.proofs.lemmas.List.Splits.{join_with_byte-slice_split}
@@ -11,7 +11,7 @@ use Rattle.ascii.specs.Found.{line_spans, lines_of, part_in, piece_spans, pieces
 use Rattle.ascii.specs.Found.{terminated_line}
 use Rattle.ascii.specs.Lines.{Line, LinesOf, line_text}
 use Rattle.ascii.specs.Pieces.{Pieces}
-use Rattle.ascii.specs.Spans.{IteratesPieceSpans, LineSpansOf, PieceSpans, WithStart, items_of, line_size, piece_size}
+use Rattle.ascii.specs.Spans.{LineSpansOf, PieceSpans, WithStart, items_of, line_size, piece_size}
 use Rattle.ascii.specs.Spans.{with_starts}
 use Rattle.ascii.specs.View.{text_of}
 use Rattle.ascii.proofs.ListLemmas.{map-reverse}
@@ -130,24 +130,6 @@ module _ (on : ℕ) (part : WithStart (List ℕ)) where
         length-with_starts piece_size part.start (pieces_of on part.item),
         length-pieces_of on part.item,
       )
-
-  -- an iterator that has yet to yield them
-  pub piece_spans_iterated : length (piece_spans on part) < 2 ^ 64
-      → IteratesPieceSpans part.start part.item on (record { on = on; items = piece_spans on part })
-  piece_spans_iterated fits = record {
-    spans = piece_spans_found;
-    only = piece_spans_only;
-    separator = refl;
-    fits = fits;
-  }
-
--- the pieces in reverse, without their starts
-pub reversed_pieces : (on start : ℕ) (t : List ℕ)
-    → items_of (reverse (piece_spans on (record { start = start; item = t })))
-    ≡ reverse (pieces_of on t)
-reversed_pieces on start t =
-    map-reverse (λ span. span.item) (piece_spans on (record { start = start; item = t }))
-    ∙ ap reverse (items-with_starts piece_size start (pieces_of on t))
 
 -- ---- lines
 
@@ -274,3 +256,8 @@ same_lines t lines others one two = LinesOf-only t others two ∙ sym (LinesOf-o
 pub items_some : {A : Type 0} (spans : List (WithStart A)) → spans ≢ [] → items_of spans ≢ []
 items_some [] some = λ none. absurd (some refl)
 items_some (span ∷ spans) some = λ none. cc
+
+pub with_starts-some : {A : Type 0} (size : A → ℕ) (start : ℕ) (items : List A) → items ≢ []
+    → with_starts size start items ≢ []
+with_starts-some size start [] some = λ none. absurd (some refl)
+with_starts-some size start (item ∷ items) some = λ none. cc

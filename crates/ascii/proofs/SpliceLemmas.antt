@@ -37,14 +37,15 @@ module _ (t piece : List ℕ) (start end : ℕ) (order : start + length piece �
       ap (λ r. r ++ drop end w) before ∙ ap (λ r. front ++ r) after
 
   -- two edits in place are one that never fails
-  pub splices : {E : Type 0} (old mid new : StringState) → old.text ≡ t
+  pub splices : {E : Type 0} {sure : ℕ} (old mid new : StringState) → old.text ≡ t
       → EditsInPlace (replace_range t start (start + length piece) piece) old mid
       → EditsInPlace (take (start + length piece) mid.text ++ drop end mid.text) mid new
-      → GrowsTo {E = E} (replace_range t start end piece) old new (Ok tt)
-  splices {E} old mid new same written cut = record {
+      → GrowsTo {E = E} sure (replace_range t start end piece) old new (Ok tt)
+  splices {E} {sure} old mid new same written cut = record {
     ok = cut.text ∙ spliced mid.text written.text;
     err = tt;
     full = tt;
+    beyond = tt;
     nothing = λ _. refl;
     capacity = omega (arith, written.capacity, cut.capacity);
     room = omega (

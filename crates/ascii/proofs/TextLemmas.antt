@@ -31,9 +31,9 @@ IsAscii-remove t i a =
     IsAscii-append (take i t) (drop (suc i) t) (IsAscii-take t i a) (IsAscii-drop t (suc i) a)
 
 -- a text that grows to a text is a text, also if it does not
-pub IsAscii-grown : {E : Type 0} (to : List ℕ) (old new : StringState)
+pub IsAscii-grown : {E : Type 0} {sure : ℕ} (to : List ℕ) (old new : StringState)
     (result : Result (Unit {0}) E)
-    → GrowsTo to old new result → IsAscii old.text → IsAscii to → IsAscii new.text
+    → GrowsTo sure to old new result → IsAscii old.text → IsAscii to → IsAscii new.text
 IsAscii-grown to old new (Ok done) grows a b = subst IsAscii (sym grows.ok) b
 IsAscii-grown to old new (Err e) grows a b = subst IsAscii (sym grows.err) a
 
@@ -74,13 +74,14 @@ pub no_text : (bytes : List ℕ) (i : ℕ) → FirstOther bytes 0 (length bytes)
 no_text bytes i other ascii = omega (arith, other.other, ascii i)
 
 -- writing rejects what is not a text, and the string is unchanged
-pub Writes-refused : (piece : List ℕ) (held : StringState) (e : Error)
-    → length held.text ≤ held.capacity → ¬ (IsAscii piece) → Writes piece held held (Err e)
-Writes-refused piece held e room none = record {
+pub Writes-refused : (sure : ℕ) (piece : List ℕ) (held : StringState) (e : Error)
+    → length held.text ≤ held.capacity → ¬ (IsAscii piece) → Writes sure piece held held (Err e)
+Writes-refused sure piece held e room none = record {
   ok = tt;
   ascii = tt;
   err = refl;
   succeeds = λ ascii fits. absurd (none ascii);
+  within = λ ascii fits. absurd (none ascii);
   nothing = λ empty. absurd (none (rw empty IsAscii-nil));
   capacity = omega arith;
   room = room;

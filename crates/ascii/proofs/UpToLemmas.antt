@@ -1,15 +1,17 @@
 -- At most `n` pieces of a text, of which the n-th holds the rest.
 use Rattle.std.proofs.Common.{◌≡◌, ◌≢◌, ◌<◌, ℕ, zero, suc, List, [], ◌∷◌, ◌++◌}
 use Rattle.std.proofs.Common.{take, refl, sym, ap, ◌∙◌, arith, Option, None, Some}
-use Rattle.std.specs.Prelude.{⊤}
 use native.Mathlib.Numerals.{unary_clauses}
 use Rattle.std.specs.List.{Contains, join_with_byte}
 use Rattle.std.proofs.Math.Seq.{take-nil}
 use Rattle.std.proofs.lemmas.List.Elements.{All-cons, All-head, All-nil, All-tail}
 use Rattle.ascii.specs.Found.{pieces_of, pieces_up_to}
-use Rattle.ascii.specs.Pieces.{IsRemainderOfPieces, IsRemainderUpTo, IteratesPiecesUpTo, Pieces}
+use Rattle.ascii.specs.Cuts.{IsRemainder}
+use Rattle.ascii.specs.TheCuts.{at_code}
+use Rattle.ascii.specs.Pieces.{IsRemainderUpTo, IteratesPiecesUpTo, Pieces}
 use Rattle.ascii.specs.Pieces.{PiecesUpTo, Remaining}
-use Rattle.ascii.specs.Steps.{StepsText, YieldsFirstAnd}
+use Rattle.ascii.specs.Steps.{KeepsOn, YieldsFirstAnd}
+use Rattle.ascii.specs.Parts.{WithStart}
 use Rattle.ascii.specs.View.{text_of}
 use Rattle.ascii.specs.declared.ascii_str.AsciiStr.{AsciiStr}
 use Rattle.ascii.proofs.PiecesLemmas.{HasNo-from_absent, pieces_of-free, pieces_of-split_at_first}
@@ -111,17 +113,19 @@ module _ (on : ℕ) where
   }
 
   -- what is left of a whole split is what is left of its first pieces
-  pub up_to_remainder : (n : ℕ) (pieces : List (List ℕ)) (result : Option AsciiStr) → 0 < n
-      → IsRemainderOfPieces (record { on = on; items = pieces }) result
-      → IsRemainderUpTo (record { on = on; items = pieces_up_to on n pieces }) result
-  up_to_remainder n pieces None more none = ap (pieces_up_to on n) none
-  up_to_remainder n pieces (Some view) more left =
-      (n, more, up_to_iterates n (text_of view) pieces left)
+  pub up_to_remainder : (n : ℕ) (pieces : List (List ℕ)) (rest left_rest : Option (WithStart (List ℕ)))
+      (result : Option AsciiStr) → 0 < n
+      → IsRemainder at_code (record { on = on; items = pieces; rest = rest }) result
+      → IsRemainderUpTo (record { on = on; items = pieces_up_to on n pieces; rest = left_rest }) result
+  up_to_remainder n pieces rest left_rest None more none = ap (pieces_up_to on n) none
+  up_to_remainder n pieces rest left_rest (Some view) more left =
+      (n, more, up_to_iterates n (text_of view) pieces left.1)
 
 -- ---- a step of the iterator whose pieces to come are `old`
 
-module _ (on count : ℕ) (pieces : List (List ℕ)) (old : Remaining ℕ (List ℕ))
-    (is : record { on = on; items = pieces_up_to on count pieces } ≡ old) where
+module _ (on count : ℕ) (pieces : List (List ℕ)) (rest left_rest : Option (WithStart (List ℕ)))
+    (old : Remaining ℕ (List ℕ))
+    (is : record { on = on; items = pieces_up_to on count pieces; rest = left_rest } ≡ old) where
   -- no pieces are left if no piece may come
   pub up_to_none : count ≡ 0 → old.items ≡ []
   up_to_none none = sym (ap (λ left. left.items) is)
@@ -129,21 +133,21 @@ module _ (on count : ℕ) (pieces : List (List ℕ)) (old : Remaining ℕ (List 
 
   -- nothing is yielded if no piece may come
   pub up_to_done : count ≡ 0 → YieldsFirstAnd {A = AsciiStr} text_of (λ left. left.items)
-      (StepsText (λ _ _. ⊤)) old None old
+      KeepsOn old None old
   up_to_done none =
-      ((up_to_none none, up_to_none none), (refl, _))
+      ((up_to_none none, up_to_none none), refl)
 
   -- the rest is yielded if one piece may come
   pub up_to_rest : (result : Option AsciiStr) → count ≡ 1
-      → IsRemainderOfPieces (record { on = on; items = pieces }) result
-      → YieldsFirstAnd text_of (λ left. left.items) (StepsText (λ _ _. ⊤)) old result
-      (record { on = on; items = pieces_up_to on 0 pieces })
-  up_to_rest None one none =
+      → IsRemainder at_code (record { on = on; items = pieces; rest = rest }) result
+      → (now : Option (WithStart (List ℕ))) → YieldsFirstAnd text_of (λ left. left.items) KeepsOn old result
+      (record { on = on; items = pieces_up_to on 0 pieces; rest = now })
+  up_to_rest None one none now =
       let empty : old.items ≡ [] =
       sym (ap (λ left. left.items) is) ∙ ap (pieces_up_to on count) none in
-      ((empty, up_to-zero on pieces), (ap (λ left. left.on) is, _))
-  up_to_rest (Some view) one left =
+      ((empty, up_to-zero on pieces), ap (λ left. left.on) is)
+  up_to_rest (Some view) one left now =
       let last : old.items ≡ text_of view ∷ [] =
       sym (ap (λ left. left.items) is)
-      ∙ (ap (λ n. pieces_up_to on n pieces) one ∙ up_to-one on (text_of view) pieces left) in
-      (rw (up_to-zero on pieces, last) refl, (ap (λ left. left.on) is, _))
+      ∙ (ap (λ n. pieces_up_to on n pieces) one ∙ up_to-one on (text_of view) pieces left.1) in
+      (rw (up_to-zero on pieces, last) refl, ap (λ left. left.on) is)

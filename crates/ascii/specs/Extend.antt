@@ -10,8 +10,8 @@ use Rattle.ascii.specs.View.{text_of}
 
 -- The new text is the old text followed by the pieces of the items taken. `Ok`: the iterator has no
 -- further item. `Err`: it yielded one more, of which nothing was appended, and with which the text
--- would not fit the old capacity.
-pub record Extends {S A E : Type 0} (steps : S → Option A → S → Type 0) (piece : A → List ℕ)
+-- would fit neither the old capacity nor `sure` codes.
+pub record Extends {S A E : Type 0} (sure : ℕ) (steps : S → Option A → S → Type 0) (piece : A → List ℕ)
     (iter : S) (old new : StringState) (result : Result (Unit {0}) E) : Type 0 where
   pub items : List A
   pub left : S
@@ -20,13 +20,20 @@ pub record Extends {S A E : Type 0} (steps : S → Option A → S → Type 0) (p
   pub ended : MatchResult result
       (λ _. (end : S) × steps left None end)
       (λ _. (refused : A) × (after : S) × steps left (Some refused) after
-      × (old.capacity < length (old.text ++ flat_map piece (items ++ refused ∷ []))))
+      × (old.capacity < length (old.text ++ flat_map piece (items ++ refused ∷ [])))
+      × (sure < length (old.text ++ flat_map piece (items ++ refused ∷ []))))
 
 -- the text is the pieces of the items that the iterator yielded before it ended, in order
 abbrev pub Collects : {S A : Type 0} → (S → Option A → S → Type 0) → (A → List ℕ) → S → List ℕ
     → Type 0
 Collects {A = A} steps piece iter text =
     (items : List A) × Drains steps iter items × (text ≡ flat_map piece items)
+
+-- the iterator yielded items of which the text is longer than `room`
+abbrev pub YieldsPast
+    : {S A : Type 0} → ℕ → (S → Option A → S → Type 0) → (List A → List ℕ) → S → Type 0
+YieldsPast {S} {A} room steps text iter = (items : List A) × (left : S)
+    × Yields steps iter items left × (room < length (text items))
 
 -- the text is the texts of the views that the iterator yielded before it ended, with `separator`
 -- between each two
@@ -50,12 +57,13 @@ pub record Fills {S A : Type 0} (steps : S → Option A → S → Type 0) (code 
   pub ended : count < length codes → steps left None new
 
 -- The first `taken` codes are appended. `Ok`: they are all of `codes`. `Err`: with the next one the
--- text would not fit the old capacity. The capacity never shrinks.
-pub record TakesFront {E : Type 0} (codes : List ℕ) (old new : StringState)
+-- text would fit neither the old capacity nor `sure` codes. The capacity never shrinks.
+pub record TakesFront {E : Type 0} (sure : ℕ) (codes : List ℕ) (old new : StringState)
     (result : Result (Unit {0}) E) : Type 0 where
   pub taken : ℕ
   pub text : new.text ≡ old.text ++ take taken codes
   pub ended : MatchResult result
       (λ _. taken ≡ length codes)
-      (λ _. (taken < length codes) × (old.capacity < length old.text + taken + 1))
+      (λ _. (taken < length codes) × (old.capacity < length old.text + taken + 1)
+      × (sure < length old.text + taken + 1))
   pub capacity : old.capacity ≤ new.capacity

@@ -72,11 +72,6 @@ piece_spans on part = with_starts piece_size part.start (pieces_of on part.item)
 abbrev pub line_spans : WithStart (List ℕ) → List (WithStart Line)
 line_spans part = with_starts line_size part.start (lines_of part.item)
 
--- the pieces of a part at `on`, or none if there is no part
-abbrev pub spans_left : ℕ → Option (WithStart (List ℕ)) → List (WithStart (List ℕ))
-spans_left on None = []
-spans_left on (Some part) = piece_spans on part
-
 -- ---- where a part is cut
 
 -- the cut of a part at one code `on`: what comes before that code, and what comes after it

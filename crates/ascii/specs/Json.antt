@@ -29,8 +29,8 @@ RejectsText value (NotAscii e) = (text : List ℕ) × (as_str value ≡ Some tex
     × FirstOther text 0 (length text) (position_of e)
 RejectsText value other = ⊥
 
--- as `RejectsText`; or `Memory`, for a JSON string that is not empty and is all ASCII
-abbrev pub RejectsTextCopy : Data → JsonError → Type 0
-RejectsTextCopy value Memory =
-    (text : List ℕ) × (as_str value ≡ Some text) × IsAscii text × (0 < length text)
-RejectsTextCopy value other = RejectsText value other
+-- as `RejectsText`; or `Memory`, for a JSON string that is all ASCII and longer than `sure`
+abbrev pub RejectsTextCopy : ℕ → Data → JsonError → Type 0
+RejectsTextCopy sure value Memory =
+    (text : List ℕ) × (as_str value ≡ Some text) × IsAscii text × (sure < length text)
+RejectsTextCopy sure value other = RejectsText value other

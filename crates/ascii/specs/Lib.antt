@@ -6,6 +6,7 @@ pub mod Chunks
 pub mod ConversionError
 pub mod Cow
 pub mod Cuts
+pub mod Cutting
 pub mod Decimals
 pub mod Ended
 pub mod Endings
@@ -22,6 +23,7 @@ pub mod Masks
 pub mod Notations
 pub mod Numbers
 pub mod Padding
+pub mod Parts
 pub mod Pieces
 pub mod Placed
 pub mod Places
@@ -34,6 +36,7 @@ pub mod Spanned
 pub mod Spans
 pub mod Steps
 pub mod StringState
+pub mod TheCuts
 pub mod Trim
 pub mod Unescape
 pub mod View

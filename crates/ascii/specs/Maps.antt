@@ -1,7 +1,7 @@
 -- What contracts see of a map from texts to values: a function from texts. `update` is std's word
 -- for a function that is changed at one text, `lookup` for the first entry whose key passes a test.
+use Rattle.std.specs.BTreeMap.{btree_map_len, get_by_text}
 use Rattle.std.specs.Cmp.Lexicographic.{slice_cmp}
-use Rattle.std.specs.HashMap.{get_by_text, hash_map_len}
 use Rattle.std.specs.List.{HoldsAt}
 use Rattle.std.specs.List.Sorted.{IsPartitionPoint}
 use Rattle.std.specs.Map.{lookup, update}
@@ -28,7 +28,7 @@ value_at map key = get_by_text map.entries key
 
 -- the number of texts that have a value in `map`
 abbrev pub size_of : {V : Type 0} → AsciiMap V → ℕ
-size_of map = hash_map_len map.entries
+size_of map = btree_map_len map.entries
 
 -- `new` has what `old` has, except that it has `value` at `key`
 abbrev pub ChangesAt : {V : Type 0} → List ℕ → Option V → AsciiMap V → AsciiMap V → Type 0

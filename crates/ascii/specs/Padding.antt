@@ -21,12 +21,13 @@ padded align width fill text =
 
 -- ---- only private calls cite the following
 
--- `Ok`: `codes` are appended. `Err`: none or some of them are, and all of them did not fit the old
--- capacity. Never `Err` if `codes` is empty. The capacity never shrinks.
-pub record AppendsInParts {E : Type 0} (codes : List ℕ) (old new : StringState)
+-- `Ok`: `codes` are appended. `Err`: none or some of them are, and with all of them the text fits
+-- neither the old capacity nor `sure` codes. Never `Err` if `codes` is empty. The capacity never shrinks.
+pub record AppendsInParts {E : Type 0} (sure : ℕ) (codes : List ℕ) (old new : StringState)
     (result : Result (Unit {0}) E) : Type 0 where
   pub ok : OnOk result (new.text ≡ old.text ++ codes)
   pub err : OnErr result ((done : List ℕ) × (new.text ≡ old.text ++ done))
   pub full : OnErr result (old.capacity < length old.text + length codes)
+  pub beyond : OnErr result (sure < length old.text + length codes)
   pub nothing : codes ≡ [] → IsOk result
   pub capacity : old.capacity ≤ new.capacity

@@ -11,11 +11,7 @@ use Rattle.ascii.specs.declared.iter.spans.SplitSpan.{SplitSpan}
 use Rattle.ascii.specs.Lines.{Line, LinesEndedBy, line_text}
 use Rattle.ascii.specs.Pieces.{IsUnique, Pieces, Remaining}
 use Rattle.ascii.specs.View.{text_of}
-
--- an item with its start position
-pub record WithStart (A : Type 0) : Type 0 where
-  pub start : ℕ
-  pub item : A
+pub use Rattle.ascii.specs.Parts.{WithStart}
 
 -- the items laid end to end from `start`, each occupying `size item` positions
 abbrev pub with_starts : {A : Type 0} → (A → ℕ) → ℕ → List A → List (WithStart A)

@@ -14,36 +14,42 @@ pub record StringState : Type 0 where
 abbrev pub insert_text : List ℕ → ℕ → List ℕ → List ℕ
 insert_text t i piece = take i t ++ (piece ++ drop i t)
 
--- `Ok`: the text becomes `text`. `Err`: it is unchanged, and `text` did not fit the old capacity.
--- Never `Err` if `text` is the old text. The capacity never shrinks, and the new text fits it.
-pub record GrowsTo {E : Type 0} (text : List ℕ) (old new : StringState)
+-- `Ok`: the text becomes `text`. `Err`: it is unchanged, and `text` has more codes than the old
+-- capacity, and more than `sure`. Never `Err` if `text` is the old text. The capacity never shrinks,
+-- and the new text fits it.
+pub record GrowsTo {E : Type 0} (sure : ℕ) (text : List ℕ) (old new : StringState)
     (result : Result (Unit {0}) E) : Type 0 where
   pub ok : OnOk result (new.text ≡ text)
   pub err : OnErr result (new.text ≡ old.text)
   pub full : OnErr result (old.capacity < length text)
+  pub beyond : OnErr result (sure < length text)
   pub nothing : text ≡ old.text → IsOk result
   pub capacity : old.capacity ≤ new.capacity
   pub room : length new.text ≤ new.capacity
 
 -- `Ok`: `piece` is ASCII and is appended. `Err`: the text is unchanged. Never `Err` if `piece` is
--- empty, or is ASCII and fits the capacity. The capacity never shrinks, and the new text fits it.
-pub record Writes (piece : List ℕ) (old new : StringState)
+-- empty, or is ASCII and the longer text fits the capacity, or has at most `sure` codes. The capacity
+-- never shrinks, and the new text fits it.
+pub record Writes (sure : ℕ) (piece : List ℕ) (old new : StringState)
     (result : Result (Unit {0}) Error) : Type 0 where
   pub ok : OnOk result (new.text ≡ old.text ++ piece)
   pub ascii : OnOk result (IsAscii piece)
   pub err : OnErr result (new.text ≡ old.text)
   pub succeeds : IsAscii piece → length old.text + length piece ≤ old.capacity → IsOk result
+  pub within : IsAscii piece → length old.text + length piece ≤ sure → IsOk result
   pub nothing : piece ≡ [] → IsOk result
   pub capacity : old.capacity ≤ new.capacity
   pub room : length new.text ≤ new.capacity
 
 -- The text is unchanged. `Ok`: there is room for `additional` more bytes. `Err`: there was not
--- before. Never `Err` if `additional` is 0. The capacity never shrinks, and the text fits it.
-pub record Reserves {E : Type 0} (additional : ℕ) (old new : StringState)
+-- before, and with them the text is longer than `sure`. Never `Err` if `additional` is 0. The
+-- capacity never shrinks, and the text fits it.
+pub record Reserves {E : Type 0} (sure additional : ℕ) (old new : StringState)
     (result : Result (Unit {0}) E) : Type 0 where
   pub text : new.text ≡ old.text
   pub ok : OnOk result (length new.text + additional ≤ new.capacity)
   pub full : OnErr result (old.capacity < length old.text + additional)
+  pub beyond : OnErr result (sure < length old.text + additional)
   pub nothing : additional ≡ 0 → IsOk result
   pub capacity : old.capacity ≤ new.capacity
   pub room : length new.text ≤ new.capacity

@@ -175,7 +175,7 @@ impl<B: Buffer> Text<B> {
     ///     text.capacity() >= 13 // true
     pub fn reserve(&mut self, additional: usize) -> Result<(), B::Refusal>
         requires { length self.old.text + additional ≤ usize.MAX }
-        ensures { Reserves additional self.old self.new result }
+        ensures { Reserves B.sure additional self.old self.new result }
     {
         self.bytes.reserve(additional)
     }
@@ -190,7 +190,7 @@ impl<B: Buffer> Text<B> {
     ///     text.capacity() >= 13 // true
     pub fn reserve_exact(&mut self, additional: usize) -> Result<(), B::Refusal>
         requires { length self.old.text + additional ≤ usize.MAX }
-        ensures { Reserves additional self.old self.new result }
+        ensures { Reserves B.sure additional self.old self.new result }
     {
         self.bytes.reserve_exact(additional)
     }
@@ -224,7 +224,7 @@ impl<B: Buffer> Text<B> {
     ///     text // "foo"
     #[inline]
     pub fn push(&mut self, ch: AsciiChar) -> Result<(), B::Refusal>
-        ensures { GrowsTo (self.old.text ++ code_text ch) self.old self.new result }
+        ensures { GrowsTo B.sure (self.old.text ++ code_text ch) self.old self.new result }
     {
         self.bytes.append_byte(ch.as_byte())
     }
@@ -240,7 +240,7 @@ impl<B: Buffer> Text<B> {
     ///     text.push_str(AsciiStr::literal("")) // Ok(())
     #[inline]
     pub fn push_str(&mut self, view: AsciiStr<'_>) -> Result<(), B::Refusal>
-        ensures { GrowsTo (self.old.text ++ text_of view.entry) self.old self.new result }
+        ensures { GrowsTo B.sure (self.old.text ++ text_of view.entry) self.old self.new result }
     {
         self.bytes.append(view.as_bytes())
     }
@@ -252,7 +252,7 @@ impl<B: Buffer> Text<B> {
     ///     text.push_decimal(42u64) // Ok(())
     ///     text // "n = 42"
     pub fn push_decimal<I: Integer>(&mut self, n: I) -> Result<(), B::Refusal>
-        ensures { GrowsTo (self.old.text ++ I.text n) self.old self.new result }
+        ensures { GrowsTo B.sure (self.old.text ++ I.text n) self.old self.new result }
     {
         let mut digits = Digits::new();
         self.bytes.append(digits.format(n).as_bytes())
@@ -273,7 +273,7 @@ impl<B: Buffer> Text<B> {
     ///     end // "foo"
     pub fn insert(&mut self, idx: usize, ch: AsciiChar) -> Result<(), B::Refusal>
         requires { idx ≤ length self.old.text }
-        ensures { GrowsTo (insert self.old.text idx (code_of ch)) self.old self.new result }
+        ensures { GrowsTo B.sure (insert self.old.text idx (code_of ch)) self.old self.new result }
     {
         self.bytes.insert_byte(idx, ch.as_byte())
     }
@@ -294,7 +294,7 @@ impl<B: Buffer> Text<B> {
     ///     end // "ford"
     pub fn insert_str(&mut self, idx: usize, view: AsciiStr<'_>) -> Result<(), B::Refusal>
         requires { idx ≤ length self.old.text }
-        ensures { GrowsTo (insert_text self.old.text idx (text_of view.entry))
+        ensures { GrowsTo B.sure (insert_text self.old.text idx (text_of view.entry))
             self.old self.new result }
     {
         insert_bytes(&mut self.bytes, idx, view.as_bytes())?;
@@ -433,7 +433,7 @@ pub(crate) fn insert_bytes<B: Buffer>(
 ) -> Result<(), B::Refusal>
     requires { idx ≤ length (B.state bytes.old).text }
     ensures { let old = B.state bytes.old in
-        GrowsTo (insert_text old.text idx piece.now) old (B.state bytes.new) result }
+        GrowsTo B.sure (insert_text old.text idx piece.now) old (B.state bytes.new) result }
 {
     bytes.append(piece)?;
     bytes.bytes_mut()[idx..].rotate_right(piece.len());
@@ -460,8 +460,8 @@ impl<A: Allocator> Text<Vec<u8, A>> {
 
 impl<B: CloneBuffer> Text<B> {
     /// Keeps the first `at` characters and returns the others as a string of their own. On error,
-    /// the text is unchanged; the capacity is unchanged either way. Never fails at the length if the
-    /// allocator can always be cloned.
+    /// the text is unchanged; the capacity is unchanged either way. Never fails if the others fit
+    /// the sure length and the allocator can always be cloned.
     ///
     /// Condition: `at` is at most the length.
     ///
@@ -473,7 +473,7 @@ impl<B: CloneBuffer> Text<B> {
         ensures tail { IfOk result (λ tail. tail.text ≡ drop at self.old.text) }
         ensures ok { OnOk result (EditsInPlace (take at self.old.text) self.old self.new) }
         ensures err { OnErr result (EditsInPlace self.old.text self.old self.new) }
-        ensures succeeds { B.clones → at ≡ length self.old.text → IsOk result }
+        ensures succeeds { B.clones → length self.old.text ≤ at + B.sure → IsOk result }
     {
         let bytes = self.bytes.split_off(at)?;
         Ok(Text { bytes })
@@ -646,7 +646,7 @@ impl<B: Buffer> Text<B> {
     ///     text.write_char('č') // Err(Error)
     ///     text // "food"
     pub fn write_char(&mut self, ch: char) -> fmt::Result
-        ensures { Writes (ch ∷ []) self.old self.new result }
+        ensures { Writes B.sure (ch ∷ []) self.old self.new result }
     {
         // Tells the prover that the text fits the capacity.
         let _capacity = self.capacity();
@@ -671,7 +671,7 @@ impl<B: Buffer> fmt::Write for Text<B> {
     ///     text // "foo7"
     fn write_str(&mut self, s: &str) -> fmt::Result
         ensures ok { IsOk result → self.new.text ≡ self.old.text ++ s.now }
-        ensures writes { Writes s.now self.old self.new result }
+        ensures writes { Writes B.sure s.now self.old self.new result }
     {
         // Tells the prover that the text fits the capacity.
         let _capacity = self.capacity();

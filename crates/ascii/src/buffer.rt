@@ -83,7 +83,7 @@ pub trait Buffer: Drop {
     /// Condition: `additional` and the number of bytes together are at most `usize::MAX`.
     fn reserve(&mut self, additional: usize) -> Result<(), Self::Refusal>
         requires { length (state self.old).text + additional ≤ usize.MAX }
-        ensures { Reserves additional (state self.old) (state self.new) result };
+        ensures { Reserves sure additional (state self.old) (state self.new) result };
 
     /// Makes room for `additional` more bytes and asks for no more than that, or returns an error if
     /// there is none; the bytes are unchanged.
@@ -91,7 +91,7 @@ pub trait Buffer: Drop {
     /// Condition: `additional` and the number of bytes together are at most `usize::MAX`.
     fn reserve_exact(&mut self, additional: usize) -> Result<(), Self::Refusal>
         requires { length (state self.old).text + additional ≤ usize.MAX }
-        ensures { Reserves additional (state self.old) (state self.new) result };
+        ensures { Reserves sure additional (state self.old) (state self.new) result };
 
     /// Gives back the room that the bytes do not need, or returns an error if some of it is left; the
     /// bytes are unchanged.
@@ -106,12 +106,12 @@ pub trait Buffer: Drop {
     /// Appends a byte, or returns an error if there is no room; the bytes are then unchanged.
     fn append_byte(&mut self, byte: u8) -> Result<(), Self::Refusal>
         ensures { let old = state self.old in
-            GrowsTo (old.text ++ byte ∷ []) old (state self.new) result };
+            GrowsTo sure (old.text ++ byte ∷ []) old (state self.new) result };
 
     /// Appends bytes, or returns an error if there is no room; the bytes are then unchanged.
     fn append(&mut self, piece: &[u8]) -> Result<(), Self::Refusal>
         ensures { let old = state self.old in
-            GrowsTo (old.text ++ piece.now) old (state self.new) result };
+            GrowsTo sure (old.text ++ piece.now) old (state self.new) result };
 
     /// Inserts a byte before position `idx`, or returns an error if there is no room; the bytes are
     /// then unchanged.
@@ -120,7 +120,7 @@ pub trait Buffer: Drop {
     fn insert_byte(&mut self, idx: usize, byte: u8) -> Result<(), Self::Refusal>
         requires { idx ≤ length (state self.old).text }
         ensures { let old = state self.old in
-            GrowsTo (insert old.text idx byte) old (state self.new) result };
+            GrowsTo sure (insert old.text idx byte) old (state self.new) result };
 
     /// Removes the byte at position `idx` and returns it. The room is unchanged.
     ///
@@ -213,8 +213,9 @@ pub trait CloneBuffer: Buffer {
         ensures exact { copies (Self.state self.now)
             → IfOk result (λ copy. (Self.state copy).capacity ≡ Self.sure) };
 
-    /// Keeps the first `at` bytes and returns the others as a buffer of their own, or returns an error
-    /// if there is no room for that; the bytes are then unchanged.
+    /// Keeps the first `at` bytes and returns the others as a buffer of their own, or returns an
+    /// error if the others do not fit; the bytes are then unchanged. Never fails for others that fit
+    /// the sure length, if what the buffer allocates from can always be cloned.
     ///
     /// Condition: `at` is at most the number of bytes.
     fn split_off(&mut self, at: usize) -> Result<Self, Self::Refusal>
@@ -225,7 +226,8 @@ pub trait CloneBuffer: Buffer {
             EditsInPlace (take at old.text) old (Self.state self.new)) }
         ensures err { OnErr result (let old = Self.state self.old in
             EditsInPlace old.text old (Self.state self.new)) }
-        ensures succeeds { clones → at ≡ length (Self.state self.old).text → IsOk result };
+        ensures succeeds { clones → length (Self.state self.old).text ≤ at + Self.sure
+            → IsOk result };
 }
 
 /// A buffer that keeps few bytes in the value itself, and more in a `Vec`.

@@ -1,13 +1,14 @@
 //! Owned text out of iterators.
 
-ghost use Rattle.std.specs.Prelude.{◌≡◌, ◌+◌, ◌<◌, ◌≤◌, [], ◌∷◌, IfOk, List, length, take};
+ghost use Rattle.std.specs.Prelude.{◌≡◌, ◌+◌, ◌<◌, ◌≤◌, [], ◌∷◌, IfErr, IfOk, List, length, take};
 ghost use Rattle.std.specs.Iterator.{Drains, IsFinite, IsNearerEnd};
-ghost use Rattle.std.specs.List.{flat_map};
+ghost use Rattle.std.specs.List.{flat_map, join_by};
 ghost use Rattle.std.specs.Str.{IsAscii};
 ghost use Rattle.ascii_base.specs.Code.{code_of, code_text};
 ghost use Rattle.ascii_base.specs.declared.ascii_char.AsciiChar.{AsciiChar as Char};
 ghost use Rattle.ascii.specs.declared.ascii_str.AsciiStr.{AsciiStr as View};
 ghost use Rattle.ascii.specs.Extend.{Collects, CollectsJoined, Extends, Fills, TakesFront};
+ghost use Rattle.ascii.specs.Extend.{YieldsPast};
 ghost use Rattle.ascii.specs.View.{text_of};
 
 use crate::ascii_str::AsciiStr;
@@ -58,7 +59,7 @@ impl<B: Buffer> Text<B> {
     ) -> Result<(), B::Refusal>
         requires can { I.can_next iter }
         requires ends { IsFinite (I.remaining iter) }
-        ensures extends { Extends I.next_gives code_text iter self.old self.new result }
+        ensures extends { Extends B.sure I.next_gives code_text iter self.old self.new result }
         ensures capacity { self.old.capacity ≤ self.new.capacity }
     {
         let mut iter = iter;
@@ -76,7 +77,7 @@ impl<B: Buffer> Text<B> {
     /// up to the first that does not fit.
     fn push_gathered(&mut self, codes: &[u8]) -> Result<(), B::Refusal>
         requires { IsAscii codes.now }
-        ensures { TakesFront codes.now self.old self.new result }
+        ensures { TakesFront B.sure codes.now self.old self.new result }
     {
         if self.push_str(bytes::as_ascii_str_unchecked(codes)).is_ok() {
             return Ok(());
@@ -104,7 +105,7 @@ impl<B: Buffer> Text<B> {
     ) -> Result<(), B::Refusal>
         requires can { I.can_next iter }
         requires ends { IsFinite (I.remaining iter) }
-        ensures extends { Extends I.next_gives text_of iter self.old self.new result }
+        ensures extends { Extends B.sure I.next_gives text_of iter self.old self.new result }
         ensures capacity { self.old.capacity ≤ self.new.capacity }
     {
         for view in iter {
@@ -116,7 +117,7 @@ impl<B: Buffer> Text<B> {
 
 impl<B: NewBuffer> Text<B> {
     /// Returns a string of the characters of an iterator, in order. Fails only if an allocation
-    /// fails.
+    /// fails, and never if they fit the sure length.
     ///
     /// Condition: the iterator can be called, and it ends.
     ///
@@ -129,7 +130,9 @@ impl<B: NewBuffer> Text<B> {
     ) -> Result<Text<B>, B::Refusal>
         requires can { I.can_next iter }
         requires ends { IsFinite (I.remaining iter) }
-        ensures { IfOk result (λ string. Collects I.next_gives code_text iter string.text) }
+        ensures text { IfOk result (λ string. Collects I.next_gives code_text iter string.text) }
+        ensures full { IfErr result (λ _.
+            YieldsPast B.sure I.next_gives (flat_map code_text) iter) }
     {
         let mut string = Text::new(alloc);
         string.extend_chars(iter)?;
@@ -137,7 +140,7 @@ impl<B: NewBuffer> Text<B> {
     }
 
     /// Returns a string of the views of an iterator, one after the other. Fails only if an
-    /// allocation fails.
+    /// allocation fails, and never if they fit the sure length.
     ///
     /// Condition: the iterator can be called, and it ends.
     ///
@@ -150,7 +153,8 @@ impl<B: NewBuffer> Text<B> {
     ) -> Result<Text<B>, B::Refusal>
         requires can { I.can_next iter }
         requires ends { IsFinite (I.remaining iter) }
-        ensures { IfOk result (λ string. Collects I.next_gives text_of iter string.text) }
+        ensures text { IfOk result (λ string. Collects I.next_gives text_of iter string.text) }
+        ensures full { IfErr result (λ _. YieldsPast B.sure I.next_gives (flat_map text_of) iter) }
     {
         let mut string = Text::new(alloc);
         string.extend_strs(iter)?;
@@ -158,7 +162,7 @@ impl<B: NewBuffer> Text<B> {
     }
 
     /// Returns a string of the views of an iterator, with `separator` between each two. Fails only if
-    /// an allocation fails.
+    /// an allocation fails, and never if the text fits the sure length.
     ///
     /// Condition: the iterator can be called, and it ends.
     ///
@@ -176,8 +180,10 @@ impl<B: NewBuffer> Text<B> {
     ) -> Result<Text<B>, B::Refusal>
         requires can { I.can_next iter }
         requires ends { IsFinite (I.remaining iter) }
-        ensures { IfOk result (λ string.
+        ensures text { IfOk result (λ string.
             CollectsJoined I.next_gives (text_of separator.entry) iter string.text) }
+        ensures full { IfErr result (λ _.
+            YieldsPast B.sure I.next_gives (join_by text_of (text_of separator.entry)) iter) }
     {
         let mut iter = iter;
         let mut string = Text::new(alloc);

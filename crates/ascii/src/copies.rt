@@ -1,6 +1,6 @@
 //! Owned copies of views and of lists of characters.
 
-ghost use Rattle.std.specs.Prelude.{◌≡◌, [], ◌∷◌, IfErr, IfOk, IsOk, map};
+ghost use Rattle.std.specs.Prelude.{◌≡◌, ◌≤◌, [], ◌∷◌, IfErr, IfOk, IsOk, length, map};
 ghost use Rattle.std.specs.List.{repeat};
 ghost use Rattle.ascii_base.specs.Case.{lower_image, upper_image};
 ghost use Rattle.ascii_base.specs.Code.{code_of, code_text};
@@ -98,22 +98,26 @@ impl AsciiStr<'_> {
 }
 
 impl<B: NewBuffer> Text<B> {
-    /// Returns a string of one character. Fails only if the allocation fails.
+    /// Returns a string of one character. Fails only if the allocation fails, and never if the sure
+    /// length is not 0.
     ///
     ///     AsciiString::from_char(alloc, AsciiChar::a)? // "a"
     pub fn from_char(alloc: B::Alloc, ch: AsciiChar) -> Result<Text<B>, B::Refusal>
-        ensures { IfOk result (λ string. string.text ≡ code_text ch) }
+        ensures text { IfOk result (λ string. string.text ≡ code_text ch) }
+        ensures succeeds { 1 ≤ B.sure → IsOk result }
     {
         let mut string = Text::with_capacity(alloc, 1)?;
         string.push(ch)?;
         Ok(string)
     }
 
-    /// Returns a string of the characters, in order. Fails only if the allocation fails.
+    /// Returns a string of the characters, in order. Fails only if the allocation fails, and never
+    /// if they fit the sure length.
     ///
     ///     AsciiString::from_chars(alloc, &[AsciiChar::a, AsciiChar::b])? // "ab"
     pub fn from_chars(alloc: B::Alloc, chars: &[AsciiChar]) -> Result<Text<B>, B::Refusal>
-        ensures { IfOk result (λ string. string.text ≡ map code_of chars.now) }
+        ensures text { IfOk result (λ string. string.text ≡ map code_of chars.now) }
+        ensures succeeds { length chars.now ≤ B.sure → IsOk result }
     {
         let mut string = Text::with_capacity(alloc, chars.len())?;
         for ch in chars {

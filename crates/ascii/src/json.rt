@@ -65,7 +65,7 @@ impl<B: NewBuffer<Refusal = AllocError>> Text<B> {
     ///     AsciiString::from_json(alloc, &Value::from_str(alloc, "\"foo\"")?) // Ok("foo")
     pub fn from_json(alloc: B::Alloc, value: &Value) -> Result<Text<B>, JsonError>
         ensures { MatchResult result (λ string. as_str (view value.now) ≡ Some string.text)
-            (RejectsTextCopy (view value.now)) }
+            (RejectsTextCopy B.sure (view value.now)) }
     {
         let view = str_from_json(value)?;
         Text::from_ascii_str(alloc, view).map_err(|_| JsonError::Memory)
@@ -122,7 +122,7 @@ pub fn str_from_json(value: &Value) -> Result<AsciiStr<'_>, JsonError>
 ///     string_from_json(alloc, &Value::from_str(alloc, "\"foo\"")?) // Ok("foo")
 pub fn string_from_json<A: Allocator>(alloc: A, value: &Value) -> Result<AsciiString<A>, JsonError>
     ensures { MatchResult result (λ string. as_str (view value.now) ≡ Some string.text)
-        (RejectsTextCopy (view value.now)) }
+        (RejectsTextCopy 0 (view value.now)) }
 {
     AsciiString::from_json(alloc, value)
 }

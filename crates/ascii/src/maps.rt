@@ -7,8 +7,10 @@
 //!
 //! | Map | Keys | A look-up | An insert |
 //! |---|---|---|---|
-//! | `AsciiMap` | by bytes | hashes | hashes |
+//! | `AsciiMap` | by bytes | compares with few keys | compares with few keys |
 //! | `FoldedMap` | ignoring ASCII case | compares with few keys | moves the entries after it |
+//!
+//! No map hashes, so no choice of keys makes a look-up slow: it compares O(log n) keys of n.
 //!
 //! A contract sees a map as a function from texts to values (`value_at`, `folded_value_at`). A
 //! look-up does not allocate.
@@ -22,15 +24,18 @@ use crate::ascii_str::AsciiStr;
 use crate::folded_text::FoldedString;
 use std::alloc::{AllocError, Global};
 use std::cmp::Ordering;
-use std::collections::HashMap;
+use std::collections::BTreeMap;
 use std::marker::Model;
 use std::mem;
 
-/// A map from texts to values. The order of its entries is not kept.
+/// A map from texts to values, in the order of the bytes of its keys: a `BTreeMap`.
+///
+/// A look-up, an insert and a removal compare O(log n) keys, whichever keys they are. So it can
+/// hold keys that somebody else chooses: none of them makes the others slow.
 #[derive(Drop)]
 pub struct AsciiMap<V> {
     alloc: Global,
-    entries: HashMap<String, V>,
+    entries: BTreeMap<String, V>,
 }
 
 impl<V: Drop> AsciiMap<V> {
@@ -43,7 +48,7 @@ impl<V: Drop> AsciiMap<V> {
         ensures values { (key : List ℕ) → value_at result key ≡ None }
         ensures size { size_of result ≡ 0 }
     {
-        let entries = HashMap::new(alloc);
+        let entries = BTreeMap::new(alloc);
         AsciiMap { alloc, entries }
     }
 

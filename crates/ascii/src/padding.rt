@@ -39,7 +39,7 @@ impl<B: Buffer> Text<B> {
         fill: AsciiChar,
         align: Alignment,
     ) -> Result<(), B::Refusal>
-        ensures { GrowsTo
+        ensures { GrowsTo B.sure
             (self.old.text ++ padded align width (code_of fill) (text_of view.entry))
             self.old self.new result }
     {
@@ -66,7 +66,7 @@ impl<B: Buffer> Text<B> {
     ///     text.push_hex(0, 0) // Ok(())
     ///     text // "0000beef0"
     pub fn push_hex(&mut self, n: u64, width: usize) -> Result<(), B::Refusal>
-        ensures { GrowsTo (self.old.text ++ padded Right width 48 (digits 16 false n))
+        ensures { GrowsTo B.sure (self.old.text ++ padded Right width 48 (digits 16 false n))
             self.old self.new result }
     {
         let mut room = [0; 16];
@@ -84,7 +84,7 @@ impl<B: Buffer> Text<B> {
         view: AsciiStr<'_>,
         after: usize,
     ) -> Result<(), B::Refusal>
-        ensures { GrowsTo (self.old.text ++ (replicate before (code_of fill)
+        ensures { GrowsTo B.sure (self.old.text ++ (replicate before (code_of fill)
             ++ (text_of view.entry ++ replicate after (code_of fill)))) self.old self.new result }
     {
         let length = self.len();
@@ -106,7 +106,7 @@ impl<B: Buffer> Text<B> {
         view: AsciiStr<'_>,
         after: usize,
     ) -> Result<(), B::Refusal>
-        ensures { AppendsInParts (replicate before (code_of fill)
+        ensures { AppendsInParts B.sure (replicate before (code_of fill)
             ++ (text_of view.entry ++ replicate after (code_of fill))) self.old self.new result }
     {
         self.push_fill(fill, before)?;
@@ -116,7 +116,7 @@ impl<B: Buffer> Text<B> {
 
     /// Appends `fill` the given number of times, as far as there is room.
     fn push_fill(&mut self, fill: AsciiChar, count: usize) -> Result<(), B::Refusal>
-        ensures { AppendsInParts (replicate count (code_of fill)) self.old self.new result }
+        ensures { AppendsInParts B.sure (replicate count (code_of fill)) self.old self.new result }
     {
         for _ in 0..count {
             self.push(fill)?;

@@ -53,7 +53,7 @@ impl<B: Buffer> Text<B> {
     pub fn replace_range(&mut self, range: AsciiRange, view: AsciiStr<'_>) -> Result<(), B::Refusal>
         requires { Fits range (length self.old.text) }
         ensures { let text = self.old.text in
-            GrowsTo (replace_range text (start_of range) (end_of range (length text))
+            GrowsTo B.sure (replace_range text (start_of range) (end_of range (length text))
             (text_of view.entry)) self.old self.new result }
     {
         let end = range.end(self.len());
@@ -73,7 +73,7 @@ fn splice_bytes<B: Buffer>(
     requires order { start ≤ end }
     requires inside { end ≤ length (B.state bytes.old).text }
     ensures { let old = B.state bytes.old in
-        GrowsTo (replace_range old.text start end piece.now) old (B.state bytes.new) result }
+        GrowsTo B.sure (replace_range old.text start end piece.now) old (B.state bytes.new) result }
 {
     let size = end - start;
     if piece.len() <= size {

@@ -5,7 +5,7 @@
 //!     AsciiStr::literal("a\\tb").unescape(alloc) // Ok("a\tb")
 //!     AsciiStr::literal("a\\tb").escape_ascii().to_string(alloc) // Ok("a\\\\tb")
 
-ghost use Rattle.std.specs.Prelude.{◌≡◌, ◌<◌, MatchOption, MatchResult, length, slice_index};
+ghost use Rattle.std.specs.Prelude.{◌≡◌, ◌<◌, ◌≤◌, [], MatchOption, MatchResult, length, slice_index};
 ghost use Rattle.ascii.specs.Unescape.{HasNoPiece, StartsWithPiece};
 ghost use Rattle.ascii.specs.View.{text_of};
 
@@ -26,14 +26,14 @@ pub enum UnescapeError {
 }
 
 impl AsciiStr<'_> {
-    ghost use Rattle.ascii.specs.Unescape.{IsUnescapeFault, Unescapes};
+    ghost use Rattle.ascii.specs.Unescape.{IsFaultOfText, IsUnescapeFault, Unescapes};
 
-    /// Returns the text that the view stands for, in which characters are escaped as by std's
+    /// Returns the text that the view represents, in which characters are escaped as by std's
     /// `escape_ascii`, or an error: with the position of the first backslash that does not begin an
     /// escape, or of the first escape of a byte above 127, whichever comes first; or `Memory` if the
     /// allocation fails.
     ///
-    /// Characters other than a backslash stand for themselves. An escape is `\t`, `\r`, `\n`, `\'`,
+    /// Characters other than a backslash represent themselves. An escape is `\t`, `\r`, `\n`, `\'`,
     /// `\"`, `\\`, or `\x` with two hexadecimal digits, in either case.
     ///
     /// Allocates once, for the length of the view. Never fails for the empty view.
@@ -49,6 +49,20 @@ impl AsciiStr<'_> {
         let Ok(mut string) = AsciiString::with_capacity(alloc, self.len()) else {
             return Err(UnescapeError::Memory);
         };
+        self.unescape_into(&mut string)?;
+        Ok(string)
+    }
+
+    /// Appends the text that the view represents to an empty string, or returns an error with what
+    /// is wrong with the view. Does not allocate.
+    ///
+    /// Condition: the string is empty and has room for the length of the view.
+    fn unescape_into<A: Allocator>(self, string: &mut AsciiString<A>) -> Result<(), UnescapeError>
+        requires empty { string.old.text ≡ [] }
+        requires room { length (text_of self) ≤ string.old.capacity }
+        ensures { let text = text_of self.entry in
+            MatchResult result (λ _. Unescapes text string.new.text) (IsFaultOfText text) }
+    {
         let mut at = 0;
         'pieces: while at < self.len() {
             let Some((code, size)) = read_piece(&self.bytes[at..]) else {
@@ -58,15 +72,15 @@ impl AsciiStr<'_> {
                 return Err(UnescapeError::NotAscii(at));
             }
             let Ok(()) = string.push(AsciiChar::from_ascii_unchecked(code)) else {
-                return Err(UnescapeError::Memory);
+                unreachable!()
             };
             at += size;
         }
-        Ok(string)
+        Ok(())
     }
 }
 
-/// The code that the piece at the start of the bytes stands for, and the size of that piece, or
+/// The code that the piece at the start of the bytes represents, and the size of that piece, or
 /// `None` if there is no piece.
 fn read_piece(bytes: &[u8]) -> Option<(u8, usize)>
     requires { 0 < length bytes.now }

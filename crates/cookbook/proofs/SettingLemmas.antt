@@ -9,7 +9,7 @@ use Rattle.ascii.proofs.ListLemmas.{AllZip-push}
 use Rattle.ascii.proofs.PlacedLemmas.{lines_placed}
 use Rattle.ascii.specs.Class.{IsWhitespace}
 use Rattle.ascii.specs.Lines.{Line}
-use Rattle.ascii.specs.Placed.{HasAt}
+use Rattle.ascii.specs.Placed.{IsPlaced, body_in}
 use Rattle.ascii.specs.Search.{IsCutAt}
 use Rattle.ascii.specs.Spans.{LineSpansOf, WithStart, line_in}
 use Rattle.ascii.specs.Trim.{Trims}
@@ -62,18 +62,9 @@ pub line_inside : (text : List ℕ) (before after : List (WithStart Line)) (line
     (position : ℕ) → LineSpansOf 0 text (before ++ line ∷ after)
     → position < length line.item.body → line.start + position ≤ length text
 line_inside text before after line position whole inside =
-    let body = line.item.body in
-    let placed = All-seam (λ span. HasAt text (span.start - 0) span.item.body) before after line
+    let placed = All-seam (λ span. IsPlaced 0 text (body_in span)) before after line
     (lines_placed 0 text (before ++ line ∷ after) whole) in
-    let from = drop (line.start - 0) text in
-    let count = line.start - 0 + length body - (line.start - 0) in
-    omega (
-      arith,
-      inside,
-      ap length placed,
-      length-take count from,
-      length-drop (line.start - 0) text,
-    )
+    omega (arith, inside, placed.high)
 
 -- ---- one more line
 

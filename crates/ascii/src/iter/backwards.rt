@@ -2,14 +2,11 @@
 //!
 //! Nothing here allocates.
 
-ghost use Rattle.std.specs.Prelude.{reverse};
 ghost use Rattle.ascii_base.specs.Code.{code_of};
 ghost use Rattle.ascii.specs.ByClass.{whole};
-ghost use Rattle.ascii.specs.Cuts.{IsRemainder};
-ghost use Rattle.ascii.specs.Found.{piece_spans, pieces_of};
-ghost use Rattle.ascii.specs.Placed.{ArePlaced};
-ghost use Rattle.ascii.specs.Steps.{IsFree, Iterates, LoopsBackOverItems, LoopsBackOverSpans};
-ghost use Rattle.ascii.specs.Steps.{LoopsOverItems, LoopsOverSpans};
+ghost use Rattle.ascii.specs.Cutting.{backwards};
+ghost use Rattle.ascii.specs.Steps.{Iterates, IteratesSpans};
+ghost use Rattle.ascii.specs.TheCuts.{at_code};
 ghost use Rattle.ascii.specs.View.{text_of};
 
 use crate::ascii_str::AsciiStr;
@@ -29,9 +26,7 @@ pub struct Backwards<C> {
 impl<C: CutBack> Cut for Backwards<C> {
     type Marks = C::Marks;
 
-    ghost items = { λ back part. reverse (C.items back.cut part) };
-
-    ghost is_item = { λ back. C.is_item back.cut };
+    ghost cut = { λ back. backwards (C.cut back.cut) };
 
     ghost knows = { C.knows };
 
@@ -42,6 +37,17 @@ impl<C: CutBack> Cut for Backwards<C> {
         marks: C::Marks,
     ) -> Option<(SplitSpan<'a>, Option<Cursor<'a>>, C::Marks)> {
         self.cut.last(part, marks)
+    }
+
+    #[inline(always)]
+    fn has_none(self, part: Cursor<'_>, marks: C::Marks) -> bool {
+        self.cut.has_none(part, marks)
+    }
+
+    #[inline(always)]
+    #[tactic(auto, using(crate::proofs::CutLaws::backwards_lawful))]
+    fn tell_laws(self) {
+        self.cut.tell_laws();
     }
 }
 
@@ -73,9 +79,8 @@ impl<'a> AsciiStr<'a> {
     ///     pieces.next() // Some("c")
     ///     pieces.remainder() // Some("a.b")
     pub fn rsplit(self, on: AsciiChar) -> RSplit<'a>
-        ensures iterates { Iterates (reverse (pieces_of (code_of on) (text_of self.entry))) result }
-        ensures loops { LoopsOverItems result (λ back. IsFree back.cut) }
-        ensures loops_back { LoopsBackOverItems result (λ back. IsFree back.cut) }
+        ensures iterates { Iterates (λ back. backwards (at_code back.cut))
+            (record { cut = code_of on }) (text_of self.entry) result }
     {
         self.items_at(
             Backwards {
@@ -93,11 +98,8 @@ impl<'a> AsciiStr<'a> {
     ///     let mut spans = AsciiStr::literal("a.b.c").rsplit_spans(AsciiChar::Dot);
     ///     spans.next() // Some(SplitSpan { start: 4, text: "c" })
     pub fn rsplit_spans(self, on: AsciiChar) -> RSplitSpans<'a>
-        ensures iterates { Iterates
-            (reverse (piece_spans (code_of on) (whole (text_of self.entry)))) result }
-        ensures placed { ArePlaced 0 (text_of self.entry) result.items }
-        ensures loops { LoopsOverSpans result (λ back. IsFree back.cut) }
-        ensures loops_back { LoopsBackOverSpans result (λ back. IsFree back.cut) }
+        ensures iterates { IteratesSpans (λ back. backwards (at_code back.cut))
+            (record { cut = code_of on }) (whole (text_of self.entry)) result }
     {
         self.spans_at(
             Backwards {
@@ -106,20 +108,5 @@ impl<'a> AsciiStr<'a> {
             (),
             0,
         )
-    }
-}
-
-impl<'a> Items<'a, Backwards<AtChar>> {
-    /// Returns the part of the view whose pieces remain, or `None` if there are none left. The iterator
-    /// is unchanged. Constant time.
-    ///
-    ///     let mut pieces = AsciiStr::literal("a.b.c").rsplit(AsciiChar::Dot);
-    ///     pieces.next() // Some("c")
-    ///     pieces.remainder() // Some("a.b")
-    pub fn remainder(&self) -> Option<AsciiStr<'a>>
-        ensures { IsRemainder (λ text. reverse (pieces_of self.now.on.cut text)) self.now result }
-    {
-        let (_, view) = self.spans.remainder()?;
-        Some(view)
     }
 }

@@ -3,19 +3,15 @@
 //!
 //! Nothing here allocates.
 
-ghost use Rattle.std.specs.Prelude.{◌≡◌, not, true};
-ghost use Rattle.std.specs.List.{slice_split};
+ghost use Rattle.std.specs.Prelude.{not, true};
 ghost use Rattle.ascii_base.specs.Class.{IsWhitespace};
 ghost use Rattle.ascii_base.specs.Bytes.{IsOnSide};
 ghost use Rattle.ascii_base.specs.Tests.{is_whitespace};
-ghost use Rattle.ascii.specs.ByClass.{IsOutside, piece_spans_by, whole, word_spans_by, words_by};
-ghost use Rattle.ascii.specs.Cuts.{IsRemainder};
+ghost use Rattle.ascii.specs.ByClass.{whole};
 ghost use Rattle.ascii.specs.Marked.{AreEndMarks};
-ghost use Rattle.ascii.specs.Placed.{ArePlaced};
-ghost use Rattle.ascii.specs.Steps.{Iterates, LoopsBackOverItems, LoopsBackOverSpans};
-ghost use Rattle.ascii.specs.Steps.{LoopsOverItems, LoopsOverSpans};
+ghost use Rattle.ascii.specs.Steps.{Iterates, IteratesSpans};
+ghost use Rattle.ascii.specs.TheCuts.{at_class, at_words};
 ghost use Rattle.ascii.specs.View.{text_of};
-ghost use Rattle.ascii.specs.Words.{IsWord};
 
 use crate::ascii_str::AsciiStr;
 use crate::iter::cursor::Cursor;
@@ -36,9 +32,7 @@ pub struct AtClass<C> {
 impl<C: Searched> Cut for AtClass<C> {
     type Marks = MarkedEnds;
 
-    ghost items = { λ _. piece_spans_by C.test };
-
-    ghost is_item = { λ _. IsOutside C.is };
+    ghost cut = { λ _. at_class C.is C.test };
 
     ghost knows = { AreEndMarks C.is true };
 
@@ -57,6 +51,14 @@ impl<C: Searched> Cut for AtClass<C> {
         let marks = MarkedEnds { front, back };
         Some((part.to(end).piece(), Some(part.from(end + 1)), marks))
     }
+
+    #[inline(always)]
+    fn has_none(self, _part: Cursor<'_>, _marks: MarkedEnds) -> bool {
+        false
+    }
+
+    #[inline(always)]
+    fn tell_laws(self) {}
 }
 
 impl<C: Searched> CutBack for AtClass<C> {
@@ -90,9 +92,7 @@ impl<C: Searched, const INSIDE: bool> Cut for AtRuns<C, INSIDE> {
 
     type Marks = MarkedEnds;
 
-    ghost items = { λ _. word_spans_by (side_test C.test (not INSIDE)) };
-
-    ghost is_item = { λ _. IsWord (IsOnSide C.is (not INSIDE)) };
+    ghost cut = { λ _. at_words (IsOnSide C.is (not INSIDE)) (side_test C.test (not INSIDE)) };
 
     ghost knows = { AreEndMarks C.is INSIDE };
 
@@ -114,6 +114,10 @@ impl<C: Searched, const INSIDE: bool> Cut for AtRuns<C, INSIDE> {
             },
         ))
     }
+
+    #[inline(always)]
+    #[tactic(auto, using(crate::proofs::CutLaws::at_words_lawful))]
+    fn tell_laws(self) {}
 }
 
 impl<C: Searched, const INSIDE: bool> CutBack for AtRuns<C, INSIDE> {
@@ -175,9 +179,8 @@ impl<'a> AsciiStr<'a> {
     ///     pieces.remainder() // Some("b")
     ///     AsciiStr::literal("").split_by::<Blank>().next() // Some("")
     pub fn split_by<C: Searched>(self) -> SplitBy<'a, C>
-        ensures iterates { Iterates (slice_split C.test (text_of self.entry)) result }
-        ensures loops { LoopsOverItems result (λ _. IsOutside C.is) }
-        ensures loops_back { LoopsBackOverItems result (λ _. IsOutside C.is) }
+        ensures iterates { Iterates (λ _. at_class C.is C.test)
+            result.on (text_of self.entry) result }
     {
         self.items_at(AtClass { class: PhantomData }, MarkedEnds::none())
     }
@@ -190,10 +193,8 @@ impl<'a> AsciiStr<'a> {
     ///     let mut spans = AsciiStr::literal("a b\tc").split_spans_by::<Blank>();
     ///     spans.next_back() // Some(SplitSpan { start: 4, text: "c" })
     pub fn split_spans_by<C: Searched>(self) -> SplitSpansBy<'a, C>
-        ensures iterates { Iterates (piece_spans_by C.test (whole (text_of self.entry))) result }
-        ensures placed { ArePlaced 0 (text_of self.entry) result.items }
-        ensures loops { LoopsOverSpans result (λ _. IsOutside C.is) }
-        ensures loops_back { LoopsBackOverSpans result (λ _. IsOutside C.is) }
+        ensures iterates { IteratesSpans (λ _. at_class C.is C.test)
+            result.on (whole (text_of self.entry)) result }
     {
         self.spans_at(AtClass { class: PhantomData }, MarkedEnds::none(), 0)
     }
@@ -210,9 +211,8 @@ impl<'a> AsciiStr<'a> {
     ///     words.next_back() // Some("not")
     ///     AsciiStr::literal(" ").words::<Blank>().next() // None
     pub fn words<C: Searched>(self) -> Words<'a, C>
-        ensures iterates { Iterates (words_by C.test (text_of self.entry)) result }
-        ensures loops { LoopsOverItems result (λ _. IsWord C.is) }
-        ensures loops_back { LoopsBackOverItems result (λ _. IsWord C.is) }
+        ensures iterates { Iterates (λ _. at_words C.is C.test)
+            result.on (text_of self.entry) result }
     {
         self.items_at(AtRuns { class: PhantomData }, MarkedEnds::none())
     }
@@ -229,9 +229,8 @@ impl<'a> AsciiStr<'a> {
     ///     words.next() // Some("be")
     ///     AsciiStr::literal(" \n").split_whitespace().next() // None
     pub fn split_whitespace(self) -> Words<'a, Whitespace>
-        ensures iterates { Iterates (words_by is_whitespace (text_of self.entry)) result }
-        ensures loops { LoopsOverItems result (λ _. IsWord IsWhitespace) }
-        ensures loops_back { LoopsBackOverItems result (λ _. IsWord IsWhitespace) }
+        ensures iterates { Iterates (λ _. at_words IsWhitespace is_whitespace)
+            result.on (text_of self.entry) result }
     {
         self.words::<Whitespace>()
     }
@@ -245,10 +244,8 @@ impl<'a> AsciiStr<'a> {
     ///     let mut spans = AsciiStr::literal(" to be").word_spans::<Blank>();
     ///     spans.next() // Some(SplitSpan { start: 1, text: "to" })
     pub fn word_spans<C: Searched>(self) -> WordSpans<'a, C>
-        ensures iterates { Iterates (word_spans_by C.test (whole (text_of self.entry))) result }
-        ensures placed { ArePlaced 0 (text_of self.entry) result.items }
-        ensures loops { LoopsOverSpans result (λ _. IsWord C.is) }
-        ensures loops_back { LoopsBackOverSpans result (λ _. IsWord C.is) }
+        ensures iterates { IteratesSpans (λ _. at_words C.is C.test)
+            result.on (whole (text_of self.entry)) result }
     {
         self.spans_at(AtRuns { class: PhantomData }, MarkedEnds::none(), 0)
     }
@@ -264,9 +261,8 @@ impl<'a> AsciiStr<'a> {
     ///     AsciiStr::literal("abc").runs::<Digit>().next() // None
     pub fn runs<C: Searched>(self) -> Runs<'a, C>
         ensures iterates { Iterates
-            (words_by (λ code. not (C.test code)) (text_of self.entry)) result }
-        ensures loops { LoopsOverItems result (λ _. IsWord (λ code. ¬ (C.is code))) }
-        ensures loops_back { LoopsBackOverItems result (λ _. IsWord (λ code. ¬ (C.is code))) }
+            (λ _. at_words (λ code. ¬ (C.is code)) (λ code. not (C.test code)))
+            result.on (text_of self.entry) result }
     {
         self.items_at(AtRuns { class: PhantomData }, MarkedEnds::none())
     }
@@ -279,81 +275,33 @@ impl<'a> AsciiStr<'a> {
     ///     let mut spans = AsciiStr::literal("v1.20").run_spans::<Digit>();
     ///     spans.next_back() // Some(SplitSpan { start: 3, text: "20" })
     pub fn run_spans<C: Searched>(self) -> RunSpans<'a, C>
-        ensures iterates { Iterates
-            (word_spans_by (λ code. not (C.test code)) (whole (text_of self.entry))) result }
-        ensures placed { ArePlaced 0 (text_of self.entry) result.items }
-        ensures loops { LoopsOverSpans result (λ _. IsWord (λ code. ¬ (C.is code))) }
-        ensures loops_back { LoopsBackOverSpans result (λ _. IsWord (λ code. ¬ (C.is code))) }
+        ensures iterates { IteratesSpans
+            (λ _. at_words (λ code. ¬ (C.is code)) (λ code. not (C.test code)))
+            result.on (whole (text_of self.entry)) result }
     {
         self.spans_at(AtRuns { class: PhantomData }, MarkedEnds::none(), 0)
     }
 }
 
-impl<'a, C: Searched> Items<'a, AtClass<C>> {
-    /// Returns the part of the view whose pieces remain, or `None` if there are none left. The
-    /// iterator is unchanged. Constant time.
-    ///
-    ///     let mut pieces = AsciiStr::literal("a b\tc").split_by::<Blank>();
-    ///     pieces.next() // Some("a")
-    ///     pieces.remainder() // Some("b\tc")
-    pub fn remainder(&self) -> Option<AsciiStr<'a>>
-        ensures { IsRemainder (slice_split C.test) self.now result }
-    {
-        let (_, view) = self.spans.remainder()?;
-        Some(view)
-    }
-}
+impl<'a, C: Searched, const INSIDE: bool> Items<'a, AtRuns<C, INSIDE>> {
+    ghost use Rattle.std.specs.Prelude.{◌≡◌};
+    ghost use Rattle.ascii.specs.ByClass.{side_test, words_by};
+    ghost use Rattle.ascii.specs.Parts.{rest_text};
 
-impl<'a, C: Searched> Items<'a, AtWords<C>> {
-    /// Returns the part of the view whose words remain. Returns `None` only if there are none left. The
-    /// iterator is unchanged. Constant time.
-    ///
-    ///     let mut words = AsciiStr::literal("to be").split_whitespace();
-    ///     words.next() // Some("to")
-    ///     words.remainder() // Some(" be")
-    pub fn remainder(&self) -> Option<AsciiStr<'a>>
-        ensures { IsRemainder (words_by C.test) self.now result }
-    {
-        let (_, view) = self.spans.remainder()?;
-        Some(view)
-    }
-
-    /// Returns the part of the view whose words remain, or the empty view if `remainder` is `None`.
+    /// Returns the text that is left, in which the remaining words or runs are. Constant time.
     ///
     ///     let mut words = AsciiStr::literal("a b c").split_whitespace();
     ///     words.next() // Some("a")
     ///     words.as_str() // " b c"
     #[inline]
     pub fn as_str(&self) -> AsciiStr<'a>
-        ensures { words_by C.test (text_of result) ≡ self.now.items }
+        ensures rest { text_of result ≡ rest_text self.now.rest }
+        ensures words { words_by (side_test C.test (not INSIDE)) (text_of result) ≡ self.now.items }
     {
-        self.remainder().unwrap_or_default()
-    }
-}
-
-impl<'a, C: Searched> Items<'a, AtRuns<C, true>> {
-    /// Returns the part of the view whose runs remain. Returns `None` only if there are none left. The
-    /// iterator is unchanged. Constant time.
-    ///
-    ///     let mut runs = AsciiStr::literal("v1.20").runs::<Digit>();
-    ///     runs.next() // Some("1")
-    ///     runs.remainder() // Some(".20")
-    pub fn remainder(&self) -> Option<AsciiStr<'a>>
-        ensures { IsRemainder (words_by (λ code. not (C.test code))) self.now result }
-    {
-        let (_, view) = self.spans.remainder()?;
-        Some(view)
-    }
-
-    /// Returns the part of the view whose runs remain, or the empty view if `remainder` is `None`.
-    ///
-    ///     let mut runs = AsciiStr::literal("v1.20").runs::<Digit>();
-    ///     runs.next() // Some("1")
-    ///     runs.as_str() // ".20"
-    #[inline]
-    pub fn as_str(&self) -> AsciiStr<'a>
-        ensures { words_by (λ code. not (C.test code)) (text_of result) ≡ self.now.items }
-    {
-        self.remainder().unwrap_or_default()
+        self.spans.on.tell_laws();
+        let Some(part) = self.spans.rest else {
+            return AsciiStr::default();
+        };
+        part.view
     }
 }

@@ -7,10 +7,8 @@
 
 ghost use Rattle.std.specs.Prelude.{⊤, ◌≡◌};
 ghost use Rattle.ascii.specs.ByClass.{whole};
-ghost use Rattle.ascii.specs.ByText.{IsFreeOf, match_spans_at, matches_at, piece_spans_at, pieces_at};
-ghost use Rattle.ascii.specs.Cuts.{IsRemainder};
-ghost use Rattle.ascii.specs.Placed.{ArePlaced};
-ghost use Rattle.ascii.specs.Steps.{Iterates, LoopsOverItems, LoopsOverSpans};
+ghost use Rattle.ascii.specs.Steps.{Iterates, IteratesSpans};
+ghost use Rattle.ascii.specs.TheCuts.{at_matches, at_text};
 ghost use Rattle.ascii.specs.View.{text_of};
 
 use crate::ascii_str::AsciiStr;
@@ -28,9 +26,7 @@ pub struct AtText<'n> {
 impl<'n> Cut for AtText<'n> {
     type Marks = ();
 
-    ghost items = { λ at. piece_spans_at (text_of at.needle) };
-
-    ghost is_item = { λ at. IsFreeOf (text_of at.needle) };
+    ghost cut = { λ at. at_text (text_of at.needle) };
 
     ghost knows = { λ _ _. ⊤ };
 
@@ -52,6 +48,15 @@ impl<'n> Cut for AtText<'n> {
             None => Some((part.piece(), None, ())),
         }
     }
+
+    #[inline(always)]
+    fn has_none(self, _part: Cursor<'_>, _marks: ()) -> bool {
+        false
+    }
+
+    #[inline(always)]
+    #[tactic(auto, using(crate::proofs::CutLaws::at_text_lawful))]
+    fn tell_laws(self) {}
 }
 
 /// The cut into the occurrences of a text.
@@ -64,9 +69,7 @@ pub struct AtMatches<'n> {
 impl<'n> Cut for AtMatches<'n> {
     type Marks = ();
 
-    ghost items = { λ at. match_spans_at (text_of at.needle) };
-
-    ghost is_item = { λ at item. item ≡ text_of at.needle };
+    ghost cut = { λ at. at_matches (text_of at.needle) };
 
     ghost knows = { λ _ _. ⊤ };
 
@@ -83,6 +86,10 @@ impl<'n> Cut for AtMatches<'n> {
         let found = part.from(at).to(self.needle.len());
         Some((found.piece(), Some(part.from(at + self.needle.len())), ()))
     }
+
+    #[inline(always)]
+    #[tactic(auto, using(crate::proofs::CutLaws::at_matches_lawful))]
+    fn tell_laws(self) {}
 }
 
 /// An iterator over the pieces of a view at each occurrence of a text, from the front.
@@ -109,8 +116,9 @@ impl<'a> AsciiStr<'a> {
     ///     pieces.remainder() // Some("two, three")
     ///     AsciiStr::literal("aaa").split_str(AsciiStr::literal("aa")).count() // 2
     pub fn split_str<'n>(self, needle: AsciiStr<'n>) -> SplitStr<'a, 'n>
-        ensures iterates { Iterates (pieces_at (text_of needle.entry) (text_of self.entry)) result }
-        ensures loops { LoopsOverItems result (λ at. IsFreeOf (text_of at.needle)) }
+        ensures on { result.on ≡ record { needle = needle.entry } }
+        ensures iterates { Iterates (λ at. at_text (text_of at.needle))
+            (record { needle = needle.entry }) (text_of self.entry) result }
     {
         self.items_at(AtText { needle }, ())
     }
@@ -125,10 +133,9 @@ impl<'a> AsciiStr<'a> {
     ///     spans.next() // Some(SplitSpan { start: 0, text: "one" })
     ///     spans.next() // Some(SplitSpan { start: 5, text: "two" })
     pub fn split_spans_str<'n>(self, needle: AsciiStr<'n>) -> SplitSpansStr<'a, 'n>
-        ensures iterates { Iterates
-            (piece_spans_at (text_of needle.entry) (whole (text_of self.entry))) result }
-        ensures placed { ArePlaced 0 (text_of self.entry) result.items }
-        ensures loops { LoopsOverSpans result (λ at. IsFreeOf (text_of at.needle)) }
+        ensures on { result.on ≡ record { needle = needle.entry } }
+        ensures iterates { IteratesSpans (λ at. at_text (text_of at.needle))
+            (record { needle = needle.entry }) (whole (text_of self.entry)) result }
     {
         self.spans_at(AtText { needle }, (), 0)
     }
@@ -141,9 +148,9 @@ impl<'a> AsciiStr<'a> {
     ///     AsciiStr::literal("banana").matches(AsciiStr::literal("an")).count() // 2
     ///     AsciiStr::literal("aaa").matches(AsciiStr::literal("aa")).count() // 1
     pub fn matches<'n>(self, needle: AsciiStr<'n>) -> Matches<'a, 'n>
-        ensures iterates { Iterates
-            (matches_at (text_of needle.entry) (text_of self.entry)) result }
-        ensures loops { LoopsOverItems result (λ at item. item ≡ text_of at.needle) }
+        ensures on { result.on ≡ record { needle = needle.entry } }
+        ensures iterates { Iterates (λ at. at_matches (text_of at.needle))
+            (record { needle = needle.entry }) (text_of self.entry) result }
     {
         self.items_at(AtMatches { needle }, ())
     }
@@ -158,41 +165,10 @@ impl<'a> AsciiStr<'a> {
     ///     spans.next() // Some(SplitSpan { start: 3, text: "an" })
     ///     spans.next() // None
     pub fn match_spans<'n>(self, needle: AsciiStr<'n>) -> MatchSpans<'a, 'n>
-        ensures iterates { Iterates
-            (match_spans_at (text_of needle.entry) (whole (text_of self.entry))) result }
-        ensures placed { ArePlaced 0 (text_of self.entry) result.items }
-        ensures loops { LoopsOverSpans result (λ at item. item ≡ text_of at.needle) }
+        ensures on { result.on ≡ record { needle = needle.entry } }
+        ensures iterates { IteratesSpans (λ at. at_matches (text_of at.needle))
+            (record { needle = needle.entry }) (whole (text_of self.entry)) result }
     {
         self.spans_at(AtMatches { needle }, (), 0)
-    }
-}
-
-impl<'a, 'n> Items<'a, AtText<'n>> {
-    /// Returns the part of the view whose pieces remain, or `None` if there are none left. The iterator
-    /// is unchanged. Constant time.
-    ///
-    ///     let mut pieces = AsciiStr::literal("one, two, three").split_str(AsciiStr::literal(", "));
-    ///     pieces.next() // Some("one")
-    ///     pieces.remainder() // Some("two, three")
-    pub fn remainder(&self) -> Option<AsciiStr<'a>>
-        ensures { IsRemainder (pieces_at (text_of self.now.on.needle)) self.now result }
-    {
-        let (_, view) = self.spans.remainder()?;
-        Some(view)
-    }
-}
-
-impl<'a, 'n> Items<'a, AtMatches<'n>> {
-    /// Returns the part of the view whose occurrences remain: what follows the last one that was
-    /// yielded. There may be no occurrence in it. The iterator is unchanged. Constant time.
-    ///
-    ///     let mut matches = AsciiStr::literal("banana").matches(AsciiStr::literal("an"));
-    ///     matches.next() // Some("an")
-    ///     matches.remainder() // Some("ana")
-    pub fn remainder(&self) -> Option<AsciiStr<'a>>
-        ensures { IsRemainder (matches_at (text_of self.now.on.needle)) self.now result }
-    {
-        let (_, view) = self.spans.remainder()?;
-        Some(view)
     }
 }

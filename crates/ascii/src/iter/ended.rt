@@ -3,15 +3,11 @@
 //!
 //! Nothing here allocates.
 
-ghost use Rattle.std.specs.Prelude.{⊤, ◌++◌, ◌∷◌, []};
+ghost use Rattle.std.specs.Prelude.{⊤, ◌≡◌};
 ghost use Rattle.ascii_base.specs.Code.{code_of};
 ghost use Rattle.ascii.specs.ByClass.{whole};
-ghost use Rattle.ascii.specs.Cuts.{IsRemainder};
-ghost use Rattle.ascii.specs.Ended.{EndsAtMost, inclusive, inclusive_spans, terminated};
-ghost use Rattle.ascii.specs.Ended.{terminated_spans};
-ghost use Rattle.ascii.specs.Placed.{ArePlaced};
-ghost use Rattle.ascii.specs.Steps.{IsFree, Iterates, LoopsBackOverItems, LoopsBackOverSpans};
-ghost use Rattle.ascii.specs.Steps.{LoopsOverItems, LoopsOverSpans};
+ghost use Rattle.ascii.specs.Steps.{Iterates, IteratesSpans};
+ghost use Rattle.ascii.specs.TheCuts.{at_end, at_terminator};
 ghost use Rattle.ascii.specs.View.{text_of};
 
 use crate::ascii_str::AsciiStr;
@@ -30,9 +26,7 @@ pub struct AtTerminator {
 impl Cut for AtTerminator {
     type Marks = ();
 
-    ghost items = { λ at. terminated_spans (code_of at.on) };
-
-    ghost is_item = { λ at. IsFree (code_of at.on) };
+    ghost cut = { λ at. at_terminator (code_of at.on) };
 
     ghost knows = { λ _ _. ⊤ };
 
@@ -50,6 +44,15 @@ impl Cut for AtTerminator {
             None => Some((part.piece(), None, ())),
         }
     }
+
+    #[inline(always)]
+    fn has_none(self, part: Cursor<'_>, _marks: ()) -> bool {
+        part.view.is_empty()
+    }
+
+    #[inline(always)]
+    #[tactic(auto, using(crate::proofs::CutLaws::at_terminator_lawful))]
+    fn tell_laws(self) {}
 }
 
 impl CutBack for AtTerminator {
@@ -81,9 +84,7 @@ pub struct AtEnd {
 impl Cut for AtEnd {
     type Marks = ();
 
-    ghost items = { λ at. inclusive_spans (code_of at.on) };
-
-    ghost is_item = { λ at. EndsAtMost (code_of at.on) };
+    ghost cut = { λ at. at_end (code_of at.on) };
 
     ghost knows = { λ _ _. ⊤ };
 
@@ -103,6 +104,15 @@ impl Cut for AtEnd {
             None => Some((part.piece(), None, ())),
         }
     }
+
+    #[inline(always)]
+    fn has_none(self, part: Cursor<'_>, _marks: ()) -> bool {
+        part.view.is_empty()
+    }
+
+    #[inline(always)]
+    #[tactic(auto, using(crate::proofs::CutLaws::at_end_lawful))]
+    fn tell_laws(self) {}
 }
 
 impl CutBack for AtEnd {
@@ -144,9 +154,9 @@ impl<'a> AsciiStr<'a> {
     ///     AsciiStr::literal("a;;").split_terminator(AsciiChar::Semicolon).count() // 2
     ///     AsciiStr::literal("").split_terminator(AsciiChar::Semicolon).count() // 0
     pub fn split_terminator(self, on: AsciiChar) -> SplitTerminator<'a>
-        ensures iterates { Iterates (terminated (code_of on) (text_of self.entry)) result }
-        ensures loops { LoopsOverItems result (λ at. IsFree (code_of at.on)) }
-        ensures loops_back { LoopsBackOverItems result (λ at. IsFree (code_of at.on)) }
+        ensures on { result.on ≡ record { on = on } }
+        ensures iterates { Iterates (λ at. at_terminator (code_of at.on)) (record { on = on })
+            (text_of self.entry) result }
     {
         self.items_at(AtTerminator { on }, ())
     }
@@ -160,11 +170,9 @@ impl<'a> AsciiStr<'a> {
     ///     spans.next_back() // Some(SplitSpan { start: 2, text: "b" })
     ///     spans.remainder() // Some((0, "a;"))
     pub fn split_terminator_spans(self, on: AsciiChar) -> SplitTerminatorSpans<'a>
-        ensures iterates { Iterates
-            (terminated_spans (code_of on) (whole (text_of self.entry))) result }
-        ensures placed { ArePlaced 0 (text_of self.entry) result.items }
-        ensures loops { LoopsOverSpans result (λ at. IsFree (code_of at.on)) }
-        ensures loops_back { LoopsBackOverSpans result (λ at. IsFree (code_of at.on)) }
+        ensures on { result.on ≡ record { on = on } }
+        ensures iterates { IteratesSpans (λ at. at_terminator (code_of at.on)) (record { on = on })
+            (whole (text_of self.entry)) result }
     {
         self.spans_at(AtTerminator { on }, (), 0)
     }
@@ -181,9 +189,9 @@ impl<'a> AsciiStr<'a> {
     ///     pieces.next_back() // Some("b;")
     ///     pieces.next() // None
     pub fn split_inclusive(self, on: AsciiChar) -> SplitInclusive<'a>
-        ensures iterates { Iterates (inclusive (code_of on) (text_of self.entry)) result }
-        ensures loops { LoopsOverItems result (λ at. EndsAtMost (code_of at.on)) }
-        ensures loops_back { LoopsBackOverItems result (λ at. EndsAtMost (code_of at.on)) }
+        ensures on { result.on ≡ record { on = on } }
+        ensures iterates { Iterates (λ at. at_end (code_of at.on)) (record { on = on })
+            (text_of self.entry) result }
     {
         self.items_at(AtEnd { on }, ())
     }
@@ -197,42 +205,10 @@ impl<'a> AsciiStr<'a> {
     ///     spans.next_back() // Some(SplitSpan { start: 2, text: "b;" })
     ///     spans.remainder() // Some((0, "a;"))
     pub fn split_inclusive_spans(self, on: AsciiChar) -> SplitInclusiveSpans<'a>
-        ensures iterates { Iterates
-            (inclusive_spans (code_of on) (whole (text_of self.entry))) result }
-        ensures placed { ArePlaced 0 (text_of self.entry) result.items }
-        ensures loops { LoopsOverSpans result (λ at. EndsAtMost (code_of at.on)) }
-        ensures loops_back { LoopsBackOverSpans result (λ at. EndsAtMost (code_of at.on)) }
+        ensures on { result.on ≡ record { on = on } }
+        ensures iterates { IteratesSpans (λ at. at_end (code_of at.on)) (record { on = on })
+            (whole (text_of self.entry)) result }
     {
         self.spans_at(AtEnd { on }, (), 0)
-    }
-}
-
-impl<'a> Items<'a, AtTerminator> {
-    /// Returns the part of the view whose pieces remain, or `None` if there are none left. The iterator
-    /// is unchanged. Constant time.
-    ///
-    ///     let mut pieces = AsciiStr::literal("a;b;").split_terminator(AsciiChar::Semicolon);
-    ///     pieces.next_back() // Some("b")
-    ///     pieces.remainder() // Some("a;")
-    pub fn remainder(&self) -> Option<AsciiStr<'a>>
-        ensures { IsRemainder (terminated (code_of self.now.on.on)) self.now result }
-    {
-        let (_, view) = self.spans.remainder()?;
-        Some(view)
-    }
-}
-
-impl<'a> Items<'a, AtEnd> {
-    /// Returns the part of the view whose pieces remain, or `None` if there are none left. The iterator
-    /// is unchanged. Constant time.
-    ///
-    ///     let mut pieces = AsciiStr::literal("a;b;").split_inclusive(AsciiChar::Semicolon);
-    ///     pieces.next() // Some("a;")
-    ///     pieces.remainder() // Some("b;")
-    pub fn remainder(&self) -> Option<AsciiStr<'a>>
-        ensures { IsRemainder (inclusive (code_of self.now.on.on)) self.now result }
-    {
-        let (_, view) = self.spans.remainder()?;
-        Some(view)
     }
 }

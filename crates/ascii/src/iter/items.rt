@@ -9,14 +9,15 @@
 //!
 //! Nothing here allocates.
 
-ghost use Rattle.std.specs.Prelude.{⊤, ◌≡◌, ◌+◌, ◌≤◌, ℕ, List, IfSome, length};
+ghost use Rattle.std.specs.Prelude.{⊤, ◌≡◌, ◌+◌, ◌≤◌, ◌↔◌, ℕ, List, [], IfSome, IsTrue, MatchOption, length};
 ghost use Rattle.std.specs.Iterator.{item_count};
-ghost use Rattle.ascii.specs.ByClass.{whole};
-ghost use Rattle.ascii.specs.Cuts.{CutsFirst, CutsLast, IsCut, IsRestOf, KnowsRest};
-ghost use Rattle.ascii.specs.Spans.{EndFits, WithStart, items_of, piece_in};
-ghost use Rattle.ascii.specs.Steps.{LoopsBackOverItems, LoopsBackOverSpans, LoopsOverItems};
-ghost use Rattle.ascii.specs.Steps.{LoopsOverSpans, StepsSpan, StepsText, YieldsFirstAnd};
-ghost use Rattle.ascii.specs.Steps.{YieldsLastAnd};
+ghost use Rattle.ascii.specs.Cutting.{Cutting, IsLawful, left_of};
+ghost use Rattle.ascii.specs.Cuts.{CutsFirst, CutsLast, IsCut, IsPartLeft, IsRemainder, IsRestOf, IsSpansOf};
+ghost use Rattle.ascii.specs.Cuts.{KnowsRest, LeavesFrontOf, LeavesRest};
+ghost use Rattle.ascii.specs.Found.{part_in};
+ghost use Rattle.ascii.specs.Spans.{EndFits, piece_in};
+ghost use Rattle.ascii.specs.Steps.{Iterates, IteratesSpans, StepsSpan, StepsText, YieldsFirstAnd};
+ghost use Rattle.ascii.specs.Steps.{YieldsLastAnd, at_back, at_front};
 ghost use Rattle.ascii.specs.View.{text_of};
 
 use crate::ascii_str::AsciiStr;
@@ -31,11 +32,8 @@ pub trait Cut: Copy {
     /// What is known of the text that is left, so that its bytes are not tested again.
     type Marks: Copy;
 
-    // the items of a part of a text, in order, each with its start
-    ghost items: { Self → WithStart (List ℕ) → List (WithStart (List ℕ)) };
-
-    // what each item is
-    ghost is_item: { Self → List ℕ → Type 0 };
+    // what the items are, and what is left when one was cut off
+    ghost cut: { Self → Cutting };
 
     // what marks say of a text
     ghost knows: { Self.Marks → List ℕ → Type 0 };
@@ -49,9 +47,27 @@ pub trait Cut: Copy {
         marks: Self::Marks,
     ) -> Option<(SplitSpan<'a>, Option<Cursor<'a>>, Self::Marks)>
         requires { knows marks (text_of part.view) }
-        ensures first { CutsFirst (items self) part.entry result }
-        ensures item { IsCut (is_item self) result }
+        ensures first { CutsFirst (cut self) part.entry result }
+        ensures item { IsCut (cut self).IsItem result }
+        ensures left { LeavesRest (cut self) part.entry result }
         ensures marks { KnowsRest knows result };
+
+    /// Returns `true` if the part has no items.
+    ///
+    /// Condition: `marks` are marks of the part.
+    #[inline(always)]
+    fn has_none(self, part: Cursor<'_>, marks: Self::Marks) -> bool
+        requires { knows marks (text_of part.view) }
+        ensures { IsTrue result ↔ ((cut self).spans (part_in part.entry) ≡ []) }
+    {
+        self.first(part, marks).is_none()
+    }
+
+    /// Tells the prover the laws of the cut. Does nothing at run time.
+    ///
+    ///     AtTerminator { on: AsciiChar::Comma }.tell_laws();
+    fn tell_laws(self)
+        ensures { IsLawful (cut self) };
 }
 
 /// A way to cut a text into items from both ends.
@@ -65,8 +81,9 @@ pub trait CutBack: Cut {
         marks: Self::Marks,
     ) -> Option<(SplitSpan<'a>, Option<Cursor<'a>>, Self::Marks)>
         requires { Self.knows marks (text_of part.view) }
-        ensures last { CutsLast (Self.items self) part.entry result }
-        ensures item { IsCut (Self.is_item self) result }
+        ensures last { CutsLast (Self.cut self) part.entry result }
+        ensures item { IsCut (Self.cut self).IsItem result }
+        ensures left { LeavesFrontOf (Self.cut self) part.entry result }
         ensures marks { KnowsRest Self.knows result };
 }
 
@@ -84,7 +101,7 @@ pub struct Spans<'a, C: Cut> {
 impl<'a, C: Cut> Model for Spans<'a, C> {
     ghost use Rattle.std.specs.Prelude.{IfSome, List, ℕ};
     ghost use Rattle.std.specs.Option.{option_map};
-    ghost use Rattle.ascii.specs.Cuts.{left_of};
+    ghost use Rattle.ascii.specs.Cutting.{left_of};
     ghost use Rattle.ascii.specs.Found.{part_in};
     ghost use Rattle.ascii.specs.Pieces.{Remaining};
     ghost use Rattle.ascii.specs.Spans.{WithStart};
@@ -94,7 +111,8 @@ impl<'a, C: Cut> Model for Spans<'a, C> {
 
     ghost view = { λ spans. record {
       on = spans.on;
-      items = left_of (C.items spans.on) (option_map part_in spans.rest);
+      items = left_of (C.cut spans.on).spans (option_map part_in spans.rest);
+      rest = option_map part_in spans.rest;
     } };
 
     ghost invariant = { λ spans.
@@ -132,7 +150,7 @@ impl<'a, C: Cut> Clone for Spans<'a, C> {
 impl<'a, C: Cut> Iterator for Spans<'a, C> {
     type Item = SplitSpan<'a>;
 
-    ghost next_gives = { YieldsFirstAnd piece_in (λ left. left.items) (StepsSpan C.is_item) };
+    ghost next_gives = { YieldsFirstAnd piece_in (λ left. left.items) (StepsSpan at_front C.cut) };
 
     ghost remaining = { item_count (λ left. left.items) };
 
@@ -142,6 +160,7 @@ impl<'a, C: Cut> Iterator for Spans<'a, C> {
     ///     AsciiStr::literal("a,b").split_spans(AsciiChar::Comma).next() // Some(SplitSpan { start: 0, text: "a" })
     #[inline(always)]
     fn next(&mut self) -> Option<SplitSpan<'a>> {
+        self.on.tell_laws();
         let (first, others, marks) = self.on.first(self.rest?, self.marks)?;
         self.rest = others;
         self.marks = marks;
@@ -150,7 +169,7 @@ impl<'a, C: Cut> Iterator for Spans<'a, C> {
 }
 
 impl<'a, C: CutBack> DoubleEndedIterator for Spans<'a, C> {
-    ghost next_back_gives = { YieldsLastAnd piece_in (λ left. left.items) (StepsSpan C.is_item) };
+    ghost next_back_gives = { YieldsLastAnd piece_in (λ left. left.items) (StepsSpan at_back C.cut) };
 
     /// Returns the last of the remaining items with its start, or `None` if there are none left; it
     /// then keeps returning `None`.
@@ -158,6 +177,7 @@ impl<'a, C: CutBack> DoubleEndedIterator for Spans<'a, C> {
     ///     AsciiStr::literal("a,b").split_spans(AsciiChar::Comma).next_back() // Some(SplitSpan { start: 2, text: "b" })
     #[inline(always)]
     fn next_back(&mut self) -> Option<SplitSpan<'a>> {
+        self.on.tell_laws();
         let (last, others, marks) = self.on.last(self.rest?, self.marks)?;
         self.rest = others;
         self.marks = marks;
@@ -168,18 +188,47 @@ impl<'a, C: CutBack> DoubleEndedIterator for Spans<'a, C> {
 impl<'a, C: Cut> FusedIterator for Spans<'a, C> {}
 
 impl<'a, C: Cut> Spans<'a, C> {
-    /// Returns the part of the text whose items remain, with its start, or `None` if there are none
-    /// left. The iterator is unchanged. Constant time.
+    /// Tells the prover that the remaining items are those of the part that is left, and the laws of
+    /// the cut.
+    #[inline(always)]
+    fn tell_items(&self)
+        ensures items { self.now.items ≡ left_of (C.cut self.now.on).spans self.now.rest }
+        ensures laws { IsLawful (C.cut self.now.on) }
+    {
+        let _ = &self.rest;
+        self.on.tell_laws();
+    }
+
+    /// The part that is left, or `None` if no items remain.
+    #[inline(always)]
+    fn part_left(&self) -> Option<Cursor<'a>>
+        ensures { MatchOption result (self.now.items ≡ []) (λ part.
+            IsPartLeft C.cut self.now (part_in part)) }
+    {
+        let part = self.rest?;
+        self.on.tell_laws();
+        if self.on.has_none(part, self.marks) {
+            return None;
+        }
+        Some(part)
+    }
+
+    /// Returns the part of the text that is left, with its start, or `None` if no items remain. The
+    /// remaining items are those of the part. The iterator is unchanged.
+    ///
+    /// Constant time for pieces; for words, runs and matches, searches for the next one.
     ///
     ///     let mut spans = AsciiStr::literal("foo;bar").split_spans(AsciiChar::Semicolon);
     ///     spans.next() // Some(SplitSpan { start: 0, text: "foo" })
     ///     spans.remainder() // Some((4, "bar"))
     pub fn remainder(&self) -> Option<(usize, AsciiStr<'a>)>
-        ensures remainder { IsRestOf C.items self.now result }
+        ensures remainder { IsRestOf C.cut self.now result }
         ensures fits { IfSome result (λ tail. EndFits tail.0 tail.1) }
     {
-        let rest = self.rest?;
-        Some((rest.start, rest.view))
+        match self.part_left() {
+            Some(part) => Some((part.start, part.view)),
+            None => None,
+        }
     }
 }
 
@@ -197,7 +246,11 @@ impl<'a, C: Cut> Model for Items<'a, C> {
 
     ghost Value = { Remaining C (List ℕ) };
 
-    ghost view = { λ items. record { on = items.spans.on; items = items_of items.spans.items } };
+    ghost view = { λ items. record {
+      on = items.spans.on;
+      items = items_of items.spans.items;
+      rest = items.spans.rest;
+    } };
 }
 
 impl<'a, C: Cut + Drop> Drop for Items<'a, C> {
@@ -225,7 +278,7 @@ impl<'a, C: Cut> Clone for Items<'a, C> {
 impl<'a, C: Cut> Iterator for Items<'a, C> {
     type Item = AsciiStr<'a>;
 
-    ghost next_gives = { YieldsFirstAnd text_of (λ left. left.items) (StepsText C.is_item) };
+    ghost next_gives = { YieldsFirstAnd text_of (λ left. left.items) (StepsText at_front C.cut) };
 
     ghost remaining = { item_count (λ left. left.items) };
 
@@ -240,7 +293,7 @@ impl<'a, C: Cut> Iterator for Items<'a, C> {
 }
 
 impl<'a, C: CutBack> DoubleEndedIterator for Items<'a, C> {
-    ghost next_back_gives = { YieldsLastAnd text_of (λ left. left.items) (StepsText C.is_item) };
+    ghost next_back_gives = { YieldsLastAnd text_of (λ left. left.items) (StepsText at_back C.cut) };
 
     /// Returns the last of the remaining items, or `None` if there are none left; it then keeps
     /// returning `None`.
@@ -255,6 +308,39 @@ impl<'a, C: CutBack> DoubleEndedIterator for Items<'a, C> {
 
 impl<'a, C: Cut> FusedIterator for Items<'a, C> {}
 
+impl<'a, C: Cut> Items<'a, C> {
+    /// Returns an iterator over the remaining items, each with its start.
+    ///
+    ///     let mut spans = AsciiStr::literal("a b").words::<Blank>().spans();
+    ///     spans.next_back() // Some(SplitSpan { start: 2, text: "b" })
+    #[inline(always)]
+    pub fn spans(self) -> Spans<'a, C>
+        ensures { IsSpansOf C.cut self.entry result }
+    {
+        let Items { spans } = self;
+        spans.tell_items();
+        spans
+    }
+
+    /// Returns the text that is left, or `None` if no items remain. The remaining items are those
+    /// of the text. The iterator is unchanged.
+    ///
+    /// Constant time for pieces; for words, runs and matches, searches for the next one.
+    ///
+    ///     let mut pieces = AsciiStr::literal("foo;bar;baz").split(AsciiChar::Semicolon);
+    ///     pieces.next() // Some("foo")
+    ///     pieces.remainder() // Some("bar;baz")
+    ///     AsciiStr::literal(" ").words::<Blank>().remainder() // None
+    pub fn remainder(&self) -> Option<AsciiStr<'a>>
+        ensures { IsRemainder C.cut self.now result }
+    {
+        match self.spans.part_left() {
+            Some(part) => Some(part.view),
+            None => None,
+        }
+    }
+}
+
 impl<'a> AsciiStr<'a> {
     /// An iterator over the items of the view, each with its start, counted from `offset`.
     #[inline(always)]
@@ -262,11 +348,10 @@ impl<'a> AsciiStr<'a> {
         requires fits { offset + length (text_of self) ≤ usize.MAX }
         requires marks { C.knows marks (text_of self) }
         ensures on { result.on ≡ on }
-        ensures items { result.items
-            ≡ C.items on (record { start = offset; item = text_of self.entry }) }
-        ensures loops { LoopsOverSpans result C.is_item }
-        ensures loops_back { LoopsBackOverSpans result C.is_item }
+        ensures iterates { IteratesSpans C.cut on
+            (record { start = offset; item = text_of self.entry }) result }
     {
+        on.tell_laws();
         Spans {
             rest: Some(Cursor {
                 start: offset,
@@ -282,10 +367,9 @@ impl<'a> AsciiStr<'a> {
     pub(crate) fn items_at<C: Cut>(self, on: C, marks: C::Marks) -> Items<'a, C>
         requires { C.knows marks (text_of self) }
         ensures on { result.on ≡ on }
-        ensures items { result.items ≡ items_of (C.items on (whole (text_of self.entry))) }
-        ensures loops { LoopsOverItems result C.is_item }
-        ensures loops_back { LoopsBackOverItems result C.is_item }
+        ensures iterates { Iterates C.cut on (text_of self.entry) result }
     {
+        on.tell_laws();
         Items {
             spans: self.spans_at(on, marks, 0),
         }

@@ -4,12 +4,12 @@
 
 ghost use Rattle.std.specs.Prelude.{⊤, ◌≡◌, ◌+◌, ◌≤◌, length};
 ghost use Rattle.ascii_base.specs.Code.{code_of};
-ghost use Rattle.ascii.specs.Found.{part_in, piece_spans};
-ghost use Rattle.ascii.specs.Pieces.{IsRemainderOfPieces, IteratesPieces};
-ghost use Rattle.ascii.specs.Placed.{ArePlaced};
+ghost use Rattle.ascii.specs.ByClass.{whole};
+ghost use Rattle.ascii.specs.Found.{part_in};
+ghost use Rattle.ascii.specs.Pieces.{IteratesPieces};
 ghost use Rattle.ascii.specs.Spans.{EndFits, IteratesPieceSpans, piece_in};
-ghost use Rattle.ascii.specs.Steps.{IsFree, LoopsBackOverPieceSpans, LoopsBackOverPieces};
-ghost use Rattle.ascii.specs.Steps.{LoopsOverPieceSpans, LoopsOverPieces};
+ghost use Rattle.ascii.specs.Steps.{Iterates, IteratesSpans};
+ghost use Rattle.ascii.specs.TheCuts.{at_code};
 ghost use Rattle.ascii.specs.View.{text_of};
 
 use crate::ascii_str::AsciiStr;
@@ -48,9 +48,7 @@ impl AtChar {
 impl Cut for AtChar {
     type Marks = ();
 
-    ghost items = { piece_spans };
-
-    ghost is_item = { IsFree };
+    ghost cut = { at_code };
 
     ghost knows = { λ _ _. ⊤ };
 
@@ -65,6 +63,15 @@ impl Cut for AtChar {
             None => Some((part.piece(), None, ())),
         }
     }
+
+    #[inline(always)]
+    fn has_none(self, _part: Cursor<'_>, _marks: ()) -> bool {
+        false
+    }
+
+    #[inline(always)]
+    #[tactic(auto, using(crate::proofs::CutLaws::at_code_lawful))]
+    fn tell_laws(self) {}
 }
 
 impl CutBack for AtChar {
@@ -101,21 +108,6 @@ pub type SplitSpans<'a> = Spans<'a, AtChar>;
 /// A double-ended iterator over the pieces of a view between separators.
 pub type Split<'a> = Items<'a, AtChar>;
 
-impl<'a> Items<'a, AtChar> {
-    /// Returns the remaining pieces joined by the separator, or `None` if there are none left. The
-    /// iterator is unchanged. Constant time.
-    ///
-    ///     let mut pieces = AsciiStr::literal("foo;bar;baz").split(AsciiChar::Semicolon);
-    ///     pieces.next() // Some("foo")
-    ///     pieces.remainder() // Some("bar;baz")
-    pub fn remainder(&self) -> Option<AsciiStr<'a>>
-        ensures { IsRemainderOfPieces self.now result }
-    {
-        let (_, view) = self.spans.remainder()?;
-        Some(view)
-    }
-}
-
 impl<'a> AsciiStr<'a> {
     /// Returns a double-ended iterator over the pieces of the view at each `on`. There is at least
     /// one piece, and none contains `on`. A separator at an end of the view makes an empty piece
@@ -134,12 +126,9 @@ impl<'a> AsciiStr<'a> {
     ///     AsciiStr::literal("").split(AsciiChar::Semicolon).next() // Some("")
     pub fn split(self, on: AsciiChar) -> Split<'a>
         ensures iterates { IteratesPieces (text_of self.entry) (code_of on) result }
-        ensures loops { LoopsOverPieces }
-        ensures loops_back { LoopsBackOverPieces }
+        ensures walks { Iterates at_code (code_of on) (text_of self.entry) result }
     {
-        Items {
-            spans: self.split_spans(on),
-        }
+        self.items_at(AtChar::new(on), ())
     }
 
     /// Returns a double-ended iterator over the pieces of the view at each `on`, each with the
@@ -152,9 +141,7 @@ impl<'a> AsciiStr<'a> {
     ///     AsciiStr::literal(";").split_spans(AsciiChar::Semicolon).next_back() // Some(SplitSpan { start: 1, text: "" })
     pub fn split_spans(self, on: AsciiChar) -> SplitSpans<'a>
         ensures iterates { IteratesPieceSpans 0 (text_of self.entry) (code_of on) result }
-        ensures placed { ArePlaced 0 (text_of self.entry) result.items }
-        ensures loops { LoopsOverPieceSpans }
-        ensures loops_back { LoopsBackOverPieceSpans }
+        ensures walks { IteratesSpans at_code (code_of on) (whole (text_of self.entry)) result }
     {
         self.split_spans_from(on, 0)
     }
@@ -169,17 +156,9 @@ impl<'a> AsciiStr<'a> {
     pub fn split_spans_from(self, on: AsciiChar, offset: usize) -> SplitSpans<'a>
         requires { offset + length (text_of self) ≤ usize.MAX }
         ensures iterates { IteratesPieceSpans offset (text_of self.entry) (code_of on) result }
-        ensures placed { ArePlaced offset (text_of self.entry) result.items }
-        ensures loops { LoopsOverPieceSpans }
-        ensures loops_back { LoopsBackOverPieceSpans }
+        ensures walks { IteratesSpans at_code (code_of on)
+            (record { start = offset; item = text_of self.entry }) result }
     {
-        Spans {
-            rest: Some(Cursor {
-                start: offset,
-                view: self,
-            }),
-            marks: (),
-            on: AtChar::new(on),
-        }
+        self.spans_at(AtChar::new(on), (), offset)
     }
 }

@@ -2,11 +2,11 @@
 //!
 //! Nothing here allocates.
 
-ghost use Rattle.std.specs.Prelude.{⊤, ◌≡◌};
+ghost use Rattle.std.specs.Prelude.{⊤, ◌≡◌, List, ℕ};
 ghost use Rattle.std.specs.Iterator.{item_count};
 ghost use Rattle.ascii_base.specs.Code.{code_of};
-ghost use Rattle.ascii.specs.Pieces.{IsRemainderUpTo, IteratesPiecesUpTo};
-ghost use Rattle.ascii.specs.Steps.{LoopsOverItems, StepsText, YieldsFirstAnd};
+ghost use Rattle.ascii.specs.Pieces.{IsRemainderUpTo, IteratesPiecesUpTo, Remaining};
+ghost use Rattle.ascii.specs.Steps.{KeepsOn, LoopsInOrder, YieldsFirstAnd};
 ghost use Rattle.ascii.specs.View.{text_of};
 
 use crate::ascii_str::AsciiStr;
@@ -24,7 +24,7 @@ pub struct SplitN<'a> {
 }
 
 impl<'a> Model for SplitN<'a> {
-    ghost use Rattle.std.specs.Prelude.{List, ℕ};
+    ghost use Rattle.std.specs.Prelude.{◌==◌, List, None, cond, ℕ};
     ghost use Rattle.ascii.specs.Found.{pieces_up_to};
     ghost use Rattle.ascii.specs.Pieces.{Remaining};
 
@@ -33,6 +33,7 @@ impl<'a> Model for SplitN<'a> {
     ghost view = { λ split. record {
       on = split.pieces.on;
       items = pieces_up_to split.pieces.on split.count split.pieces.items;
+      rest = cond (split.count == 0) None split.pieces.rest;
     } };
 }
 
@@ -58,7 +59,7 @@ impl Clone for SplitN<'_> {
 impl<'a> Iterator for SplitN<'a> {
     type Item = AsciiStr<'a>;
 
-    ghost next_gives = { YieldsFirstAnd text_of (λ left. left.items) (StepsText (λ _ _. ⊤)) };
+    ghost next_gives = { YieldsFirstAnd text_of (λ left. left.items) KeepsOn };
 
     ghost remaining = { item_count (λ left. left.items) };
 
@@ -115,7 +116,7 @@ impl<'a> AsciiStr<'a> {
     pub fn splitn(self, n: usize, on: AsciiChar) -> SplitN<'a>
         ensures iterates { IteratesPiecesUpTo n (text_of self.entry) (code_of on) result.items }
         ensures separator { result.on ≡ code_of on }
-        ensures loops { LoopsOverItems result (λ _ _. ⊤) }
+        ensures loops { LoopsInOrder text_of (λ (left : Remaining ℕ (List ℕ)). left.items) KeepsOn }
     {
         SplitN {
             pieces: self.split(on),

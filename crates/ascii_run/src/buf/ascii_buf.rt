@@ -35,7 +35,7 @@ pub trait AsciiBuf {
     ///     text.reserve(24) // Ok(())
     fn reserve(&mut self, additional: usize) -> Result<(), AllocError>
         requires { length (state self.old).text + additional ≤ usize.MAX }
-        ensures { Reserves additional (state self.old) (state self.new) result };
+        ensures { Reserves sure additional (state self.old) (state self.new) result };
 
     /// Gives back the room that the text does not need. The text is unchanged. Fails only if there
     /// is such room and the allocation fails; never fails if the sure length is not 0.
@@ -58,7 +58,7 @@ pub trait AsciiBuf {
     ///     text // "a"
     fn push(&mut self, ch: AsciiChar) -> Result<(), AllocError>
         ensures { let old = state self.old in
-            GrowsTo (old.text ++ code_of ch ∷ []) old (state self.new) result };
+            GrowsTo sure (old.text ++ code_of ch ∷ []) old (state self.new) result };
 
     /// Appends a view. Fails only if the longer text does not fit the capacity and the allocation
     /// fails; the text is then unchanged. Never fails if the view is empty.
@@ -68,7 +68,7 @@ pub trait AsciiBuf {
     ///     text // "foo"
     fn push_str(&mut self, view: AsciiStr<'_>) -> Result<(), AllocError>
         ensures { let old = state self.old in
-            GrowsTo (old.text ++ text_of view.entry) old (state self.new) result };
+            GrowsTo sure (old.text ++ text_of view.entry) old (state self.new) result };
 
     /// Inserts a character before the position `idx`; at the length it is appended. Fails only if
     /// the longer text does not fit the capacity and the allocation fails; the text is then
@@ -82,7 +82,7 @@ pub trait AsciiBuf {
     fn insert(&mut self, idx: usize, ch: AsciiChar) -> Result<(), AllocError>
         requires { idx ≤ length (state self.old).text }
         ensures { let old = state self.old in
-            GrowsTo (insert old.text idx (code_of ch)) old (state self.new) result };
+            GrowsTo sure (insert old.text idx (code_of ch)) old (state self.new) result };
 
     /// Inserts a view before the position `idx`; at the length it is appended. Fails only if the
     /// longer text does not fit the capacity and the allocation fails; the text is then unchanged.
@@ -96,7 +96,8 @@ pub trait AsciiBuf {
     fn insert_str(&mut self, idx: usize, view: AsciiStr<'_>) -> Result<(), AllocError>
         requires { idx ≤ length (state self.old).text }
         ensures { let old = state self.old in
-            GrowsTo (insert_text old.text idx (text_of view.entry)) old (state self.new) result };
+            GrowsTo sure (insert_text old.text idx (text_of view.entry)) old (state self.new)
+            result };
 
     /// Removes the character at the position `idx` and returns it.
     ///

@@ -1,28 +1,28 @@
-use Rattle.std.proofs.Common.{arith, ℕ, List, subst, ◌==◌}
+use Rattle.std.proofs.Common.{◌≡◌, ℕ, List, ap, subst, sym, ◌∙◌}
+use Rattle.ascii_base.specs.Code.{code_of}
 use Rattle.ascii.specs.Found.{piece_spans}
-use Rattle.ascii.specs.Spans.{IteratesPieceSpans, WithStart}
+use Rattle.ascii.specs.Spans.{PieceSpans, WithStart}
+use Rattle.ascii.proofs.SpansLemmas.{piece_spans_found, piece_spans_only}
+use Rattle.ascii.specs.Steps.{IteratesSpans}
+use Rattle.ascii.specs.TheCuts.{at_code}
 use Rattle.ascii.specs.View.{text_of}
-use Rattle.ascii.proofs.PlacedLemmas.{pieces_placed}
-use Rattle.ascii.proofs.SpansLemmas.{piece_spans_fit, piece_spans_iterated}
-use Rattle.ascii.proofs.StepsLemmas.{runs_in_order, runs_in_reverse}
 use Rattle.ascii.proofs.ascii_str.AsciiStr.split_spans_from.Goals as goal
+
+pub returns-clause-walks : goal.returns-clause-walks
+returns-clause-walks c = subst (λ on. IteratesSpans at_code on
+    (record { start = c.args.offset; item = text_of c.args.self }) c.spans_at.result)
+    c.new.ensures c.spans_at.ensures.iterates
 
 pub returns-clause-iterates : goal.returns-clause-iterates
 returns-clause-iterates c =
     let part : WithStart (List ℕ) =
     record { start = c.args.offset; item = text_of c.args.self } in
-    let byte = c.new.result in
-    subst (λ on. IteratesPieceSpans part.start part.item on
-    (record { on = byte; items = piece_spans byte part })) c.new.ensures
-    (piece_spans_iterated byte part
-    (omega (arith, piece_spans_fit byte part, c.requires)))
-
-pub returns-clause-loops : goal.returns-clause-loops
-returns-clause-loops c = runs_in_order _ _ _
-
-pub returns-clause-loops_back : goal.returns-clause-loops_back
-returns-clause-loops_back c = runs_in_reverse _ _ _
-
-pub returns-clause-placed : goal.returns-clause-placed
-returns-clause-placed c =
-    pieces_placed (λ code. code == c.new.result) c.args.offset (text_of c.args.self)
+    let on = code_of c.args.on in
+    let are : c.spans_at.result.items ≡ piece_spans on part =
+    c.spans_at.ensures.iterates.are ∙ ap (λ byte. piece_spans byte part) c.new.ensures in
+    record {
+      spans = subst (PieceSpans part.start part.item on) (sym are) (piece_spans_found on part);
+      only = λ spans held. piece_spans_only on part spans held ∙ sym are;
+      separator = c.spans_at.ensures.on ∙ c.new.ensures;
+      fits = c.spans_at.ensures.iterates.fits;
+    }

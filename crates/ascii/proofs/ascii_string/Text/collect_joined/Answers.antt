@@ -1,11 +1,73 @@
-use Rattle.std.proofs.Common.{◌≡◌, ◌∷◌, ◌++◌, rules}
+use Rattle.std.proofs.Common.{◌≡◌, ◌∷◌, ◌++◌, [], ap, append-nil, arith, length, length-append, refl, rules}
+use Rattle.std.proofs.lemmas.Result.{err_from_is_err_and}
 use Rattle.std.specs.Iterator.{Yields}
 use Rattle.std.specs.List.{flat_map}
 use Rattle.ascii.specs.View.{text_of}
+use Rattle.ascii.proofs.ExtendLemmas.{joined_past}
 use Rattle.ascii.proofs.ascii_string.Text.collect_joined.Goals as goal
 
-pub returns : goal.returns
-returns g c =
+pub returns-in_err-push_str-clause-full : goal.returns-in_err-push_str-clause-full
+returns-in_err-push_str-clause-full g c =
+    let p = err_from_is_err_and c.from_residual.result c.from_residual.ensures.1 in
+    let first = text_of c.in-Some.first in
+    rw p.1 (
+      c.in-Some.first ∷ [],
+      c.next.new.self,
+      (c.next.new.self, c.in-Some.ensures.steps, refl),
+      omega (
+        arith,
+        c.in_err-push_str.ensures.beyond,
+        ap length c.new-string.ensures.text,
+        length-append c.new-string.result.text first,
+        ap length (append-nil first),
+      ),
+    )
+
+pub returns-in_err-push_str-2-clause-full : goal.returns-in_err-push_str-2-clause-full
+returns-in_err-push_str-2-clause-full g c =
+    let p = err_from_is_err_and c.from_residual-in_err-push_str-2.result
+    c.from_residual-in_err-push_str-2.ensures.1 in
+    let steps = g.I.Iterator.next_gives in
+    let others : Yields steps c.next.new.self c.loop-piece.yielded c.loop-piece.piece-iterator =
+    search rules in
+    let separator = text_of c.args.separator in
+    let text : c.loop-piece.string.text ≡ text_of c.in-Some.first
+    ++ flat_map (λ view. separator ++ text_of view) c.loop-piece.yielded = search rules in
+    rw p.1 (joined_past steps separator g.B.Buffer.sure c.args.iter c.next.new.self
+    c.loop-piece.piece-iterator c.next-in-loop-piece.new.self c.in-Some.first c.in-Some-piece.piece
+    c.loop-piece.yielded c.in-Some.ensures.steps others c.in-Some-piece.ensures.steps
+    (omega (
+      arith,
+      c.in_err-push_str-2.ensures.beyond,
+      ap length text,
+      length-append c.loop-piece.string.text separator,
+    )))
+
+pub returns-in_err-push_str-3-clause-full : goal.returns-in_err-push_str-3-clause-full
+returns-in_err-push_str-3-clause-full g c =
+    let p = err_from_is_err_and c.from_residual-in_err-push_str-3.result
+    c.from_residual-in_err-push_str-3.ensures.1 in
+    let steps = g.I.Iterator.next_gives in
+    let others : Yields steps c.next.new.self c.loop-piece.yielded c.loop-piece.piece-iterator =
+    search rules in
+    let separator = text_of c.args.separator in
+    let text : c.loop-piece.string.text ≡ text_of c.in-Some.first
+    ++ flat_map (λ view. separator ++ text_of view) c.loop-piece.yielded = search rules in
+    let piece = text_of c.in-Some-piece.piece in
+    rw p.1 (joined_past steps separator g.B.Buffer.sure c.args.iter c.next.new.self
+    c.loop-piece.piece-iterator c.next-in-loop-piece.new.self c.in-Some.first c.in-Some-piece.piece
+    c.loop-piece.yielded c.in-Some.ensures.steps others c.in-Some-piece.ensures.steps
+    (omega (
+      arith,
+      c.in_err-push_str-3.ensures.beyond,
+      ap length text,
+      ap length c.in_ok-push_str-2.ensures.ok,
+      length-append c.loop-piece.string.text separator,
+      length-append c.push_str-in-loop-piece.new.self.text piece,
+    )))
+
+pub returns-clause-text : goal.returns-clause-text
+returns-clause-text g c =
     let steps = g.I.Iterator.next_gives in
     let others : Yields steps c.next.new.self c.loop-piece.yielded c.loop-piece.piece-iterator =
     search rules in

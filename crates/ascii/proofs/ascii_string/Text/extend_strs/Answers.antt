@@ -10,4 +10,4 @@ returns-in_err-push_str-clause-extends g c =
     Extends-refused _ text_of _ _ c.loop-view.self _ c.loop-view.yielded c.loop-view.view-iterator
     c.in-Some.view _ _ p.0 p.1
     (search rules) c.in-Some.ensures.steps c.loop-view.invariant.0 c.loop-view.invariant.1
-    c.in_err-push_str.ensures.err c.in_err-push_str.ensures.full
+    c.in_err-push_str.ensures.err c.in_err-push_str.ensures.full c.in_err-push_str.ensures.beyond

@@ -1,5 +1,5 @@
 use Rattle.std.proofs.Common.{◌≡◌, Some, rules, string_bytes}
-use Rattle.std.proofs.lemmas.Map.Text.{hash_map_updates_text}
+use Rattle.std.proofs.lemmas.Map.Text.{btree_map_updates_text}
 use Rattle.ascii.specs.View.{text_of}
 use Rattle.ascii.proofs.maps.AsciiMap.insert.Goals as goal
 
@@ -7,5 +7,5 @@ pub returns-clause-puts : goal.returns-clause-puts
 returns-clause-puts over c =
     let key : string_bytes c.in_ok-key.key ≡ text_of c.args.key = search rules in
     rw (← key)
-    (hash_map_updates_text (string_bytes c.in_ok-key.key) c.args.self.now.entries
+    (btree_map_updates_text (string_bytes c.in_ok-key.key) c.args.self.now.entries
     c.insert.new.self (Some c.args.value) c.in_ok-insert.ensures.updates)

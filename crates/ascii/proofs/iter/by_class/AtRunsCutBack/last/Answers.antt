@@ -1,4 +1,4 @@
-use Rattle.std.proofs.Common.{ap, subst, sym, ◌∙◌, drop, eqb, not, arith}
+use Rattle.std.proofs.Common.{ap, subst, sym, ◌∙◌, drop, eqb, not, arith, take}
 use Rattle.ascii_base.specs.Bytes.{IsOnSide}
 use Rattle.ascii.specs.ByClass.{side_test}
 use Rattle.ascii.specs.Marked.{AreLastMarks, AreMarks}
@@ -7,6 +7,8 @@ use Rattle.ascii.specs.View.{text_of}
 use Rattle.ascii.proofs.ByClassLemmas.{last_is_word, last_word_by, no_word}
 use Rattle.std.proofs.lemmas.List.{take-take}
 use Rattle.ascii.proofs.RunLemmas.{side_decides, starts_gap, starts_last, starts_word}
+use Rattle.ascii.proofs.LeftLemmas.{before_place}
+use Rattle.ascii.specs.Found.{part_in}
 use Rattle.ascii.proofs.iter.by_class.AtRunsCutBack.last.Goals as goal
 
 pub returns-in_err-found-clause-last : goal.returns-in_err-found-clause-last
@@ -65,3 +67,16 @@ returns-clause-marks g c =
           (subst (λ t. AreLastMarks g.C.Class.is inside c.in_ok-found.found.marks t) same
           c.in_ok-found.ensures.marks),
     )
+
+pub returns-clause-left : goal.returns-clause-left
+returns-clause-left g c =
+    let text = text_of c.args.part.view in
+    let found = c.in_ok-found.found in
+    let gap = c.in_ok-found.ensures.gap.high in
+    let high = c.in_ok-found.ensures.run.high in
+    let some = c.in_ok-found.ensures.some in
+    before_place 0 (part_in c.args.part) _ (part_in c.to.result) found.start
+    (omega (arith, gap, high, some)) (c.to.ensures.start ∙ c.to-rest.ensures.start)
+    (c.to.ensures.text ∙ (ap (take found.start) c.to-rest.ensures.text
+    ∙ take-take found.start found.end text (omega (arith, high))))
+    (omega (arith, ap (λ one. one.start) c.piece.ensures.piece, c.from.ensures.start, c.to-rest.ensures.start))

@@ -3,6 +3,10 @@ use Rattle.std.proofs.lemmas.Bool.{false≢true}
 use Rattle.ascii.specs.ByText.{IsFreeOf}
 use Rattle.ascii.specs.View.{text_of}
 use Rattle.ascii.proofs.ByTextLemmas.{free_before, free_nowhere, piece_spans_at_first, piece_spans_at_none}
+use Rattle.ascii.proofs.LeftLemmas.{after_place}
+use Rattle.ascii.specs.Parts.{part_end}
+use Rattle.ascii.specs.Found.{part_in}
+use Rattle.std.proofs.Common.{arith, length, length-take-le}
 use Rattle.ascii.proofs.iter.by_text.AtTextCut.first.Goals as goal
 
 pub returns-in-Some-clause-first : goal.returns-in-Some-clause-first
@@ -39,3 +43,24 @@ returns-in-None-clause-item c = (
       c.in-None.ensures),
   c.piece-in-None.ensures.fits,
 )
+
+pub returns-in-Some-clause-left : goal.returns-in-Some-clause-left
+returns-in-Some-clause-left c =
+    let text = text_of c.args.part.view in
+    let at = c.in-Some.at in
+    let fits = c.in-Some.ensures.1.fits in
+    after_place _ (part_in c.args.part) _ (part_in c.from.result) _
+    (omega (arith, fits, c.len.ensures)) c.from.ensures.start c.from.ensures.text
+    (omega (
+      arith,
+      c.len.ensures,
+      ap part_end c.piece-in-Some.ensures.piece,
+      c.to.ensures.start,
+      ap length c.to.ensures.text ∙ length-take-le at text (omega (arith, fits)),
+    ))
+
+pub returns-in-None-clause-left : goal.returns-in-None-clause-left
+returns-in-None-clause-left c = ap part_end c.piece-in-None.ensures.piece
+
+pub returns-then-is_empty-clause-left : goal.returns-then-is_empty-clause-left
+returns-then-is_empty-clause-left c = ap part_end c.piece.ensures.piece

@@ -5,6 +5,8 @@ use Rattle.ascii.specs.Ended.{EndsAtMost}
 use Rattle.ascii.specs.Found.{HasNo, part_in}
 use Rattle.ascii.specs.View.{text_of}
 use Rattle.ascii.proofs.EndedLemmas.{ends_at_most, from_last, inclusive_last}
+use Rattle.ascii.proofs.LeftLemmas.{before_text}
+use Rattle.std.proofs.Common.{append_assoc, arith, ◌++◌, ◌∷◌, []}
 use Rattle.ascii.proofs.iter.ended.AtEndCutBack.last.Goals as goal
 
 pub returns-clause-last : goal.returns-clause-last
@@ -36,3 +38,24 @@ returns-clause-item c =
           c.split_after_last.ensures.free)),
       c.piece.ensures.fits,
     )
+
+pub returns-clause-left : goal.returns-clause-left
+returns-clause-left c =
+    let front = c.in_ok-_last.front.now in
+    let last = c.in_ok-_last._last.now in
+    let whole = c.in_ok-_last.ensures.cases.0 in
+    let cut : text_of c.to.result.view ≡ front = rw (c.to.ensures.text, whole, take-append_seam) in
+    let is = c.split_after_last.ensures in
+    let others = text_of c.split_after_last.result.0.view in
+    let piece = text_of c.split_after_last.result.1.view in
+    before_text 0 (part_in c.args.part) _ (part_in c.split_after_last.result.0) (piece ++ last ∷ [])
+    (whole ∙ (ap (λ t. t ++ last ∷ []) (sym cut ∙ is.text) ∙ append_assoc others piece (last ∷ [])))
+    (is.before ∙ c.to.ensures.start)
+    (omega (
+      arith,
+      ap (λ one. one.start) c.piece.ensures.piece,
+      c.from.ensures.start,
+      c.len.ensures,
+      is.before,
+      c.to.ensures.start,
+    ))

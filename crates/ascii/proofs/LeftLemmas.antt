@@ -1,0 +1,182 @@
+-- What a cut leaves of a part.
+use Rattle.std.proofs.Common.{◌≡◌, ℕ, Bool, ◌+◌, ◌-◌, ◌≤◌, List, [], ◌∷◌, ◌++◌, length, take, drop, sym, ap, ◌∙◌}
+use Rattle.std.proofs.Common.{append_assoc, append-nil, arith, drop-drop, length-append, length-drop, length-take-le, refl, subst, take_all, None, Option, Some}
+use Rattle.std.proofs.Math.Seq.{drop-append_seam, take-append_seam}
+use Rattle.std.proofs.lemmas.List.{get_or_push, length_push, take-append-drop}
+use Rattle.ascii.specs.declared.iter.cursor.Cursor.{Cursor}
+use Rattle.ascii.specs.Found.{IsSplitAfterLast, IsSplitAt, part_in}
+use Rattle.std.specs.List.{All}
+use Rattle.std.proofs.lemmas.List.Elements.{All-head}
+use Rattle.ascii.specs.ByClass.{whole}
+use Rattle.ascii.specs.Parts.{IsBefore, IsAfter, LeavesAfter, WithStart, part_end, rest_text}
+use Rattle.ascii.specs.View.{text_of}
+use Rattle.std.specs.Option.{IfSome, IsSomeAnd}
+use Rattle.ascii.specs.declared.iter.spans.SplitSpan.{SplitSpan}
+use Rattle.ascii.specs.Cutting.{Cutting, IsLawful, left_of}
+use Rattle.ascii.specs.Pieces.{Remaining}
+use Rattle.ascii.specs.Placed.{ArePlaced, HasAt, IsPlaced}
+use Rattle.ascii.specs.Spans.{items_of, piece_in}
+use Rattle.ascii.specs.TheCuts.{at_words}
+use Rattle.ascii.specs.Steps.{CutsOff, Side, StepsSpan, StepsText, at_front}
+
+module _ (gap : ℕ) (part item : WithStart (List ℕ)) where
+  pub after_text : (tail : WithStart (List ℕ)) (front : List ℕ) → part.item ≡ front ++ tail.item
+      → tail.start ≡ part.start + length front → tail.start ≡ part_end item + gap
+      → IsAfter gap part item tail
+  after_text tail front joined start gapped =
+      let size : length part.item ≡ length front + length tail.item =
+      ap length joined ∙ length-append front tail.item in
+      let long : tail.start - part.start ≡ length front = omega (arith, start) in
+      record {
+        start = gapped;
+        text = sym (ap (drop (tail.start - part.start)) joined
+            ∙ (ap (λ n. drop n (front ++ tail.item)) long ∙ drop-append_seam front tail.item));
+        end = omega (arith, size, start);
+      }
+
+  pub before_text : (front : WithStart (List ℕ)) (behind : List ℕ)
+      → part.item ≡ front.item ++ behind → front.start ≡ part.start
+      → part_end front + gap ≡ item.start → IsBefore gap part item front
+  before_text front behind joined start gapped =
+      let long : part_end front - part.start ≡ length front.item = omega (arith, start) in
+      record {
+        start = start;
+        text = sym (ap (take (part_end front - part.start)) joined
+            ∙ (ap (λ n. take n (front.item ++ behind)) long ∙ take-append_seam front.item behind));
+        end = gapped;
+      }
+
+  -- a part that is left from a place on, or up to a place
+  pub after_place : (tail : WithStart (List ℕ)) (place : ℕ) → place ≤ length part.item
+      → tail.start ≡ part.start + place → tail.item ≡ drop place part.item
+      → part_end item + gap ≡ part.start + place → IsAfter gap part item tail
+  after_place tail place inside start text gapped =
+      let size : length (take place part.item) ≡ place = length-take-le place part.item inside in
+      after_text tail (take place part.item)
+      (sym (take-append-drop place part.item) ∙ ap (λ t. take place part.item ++ t) (sym text))
+      (omega (arith, start, size)) (omega (arith, start, gapped))
+
+  pub before_place : (front : WithStart (List ℕ)) (place : ℕ) → place ≤ length part.item
+      → front.start ≡ part.start → front.item ≡ take place part.item
+      → part.start + place + gap ≡ item.start → IsBefore gap part item front
+  before_place front place inside start text gapped =
+      let size : length front.item ≡ place =
+      ap length text ∙ length-take-le place part.item inside in
+      before_text front (drop place part.item)
+      (sym (take-append-drop place part.item) ∙ ap (λ t. t ++ drop place part.item) (sym text))
+      start (omega (arith, start, size, gapped))
+
+-- what a cut at one code leaves
+module _ (on : ℕ) (part item : WithStart (List ℕ)) (cut : Cursor × Cursor) (is : IsSplitAt on part cut) where
+  pub after_split : item ≡ part_in cut.0 → IsAfter 1 part item (part_in cut.1)
+  after_split same =
+      let a = text_of cut.0.view in
+      after_text 1 part item (part_in cut.1) (a ++ on ∷ [])
+      (is.text ∙ sym (append_assoc a (on ∷ []) (text_of cut.1.view)))
+      (omega (arith, is.behind, length-append a (on ∷ [])))
+      (omega (arith, ap part_end same, is.before, is.behind))
+
+  pub before_split : item ≡ part_in cut.1 → IsBefore 1 part item (part_in cut.0)
+  before_split same = before_text 1 part item (part_in cut.0) (on ∷ text_of cut.1.view) is.text is.before
+      (omega (arith, ap (λ one. one.start) same, is.before, is.behind))
+
+  -- the item with the code after it
+  pub after_through : item.start ≡ part.start → item.item ≡ text_of cut.0.view ++ on ∷ []
+      → IsAfter 0 part item (part_in cut.1)
+  after_through start text =
+      let a = text_of cut.0.view in
+      let size = ap length text ∙ length-append a (on ∷ []) in
+      after_text 0 part item (part_in cut.1) (a ++ on ∷ [])
+      (is.text ∙ sym (append_assoc a (on ∷ []) (text_of cut.1.view)))
+      (omega (arith, is.behind, length-append a (on ∷ [])))
+      (omega (arith, start, size, is.behind))
+
+-- ---- a step over items without their starts
+
+abbrev pub texts_left : {C : Type 0} → Remaining C (WithStart (List ℕ)) → Remaining C (List ℕ)
+texts_left left = record { on = left.on; items = items_of left.items; rest = left.rest }
+
+with_witness : (A : WithStart (List ℕ) → WithStart (List ℕ) → Type 0) (span : WithStart (List ℕ))
+    (rest : Option (WithStart (List ℕ))) → IsSomeAnd rest (λ part. A part span)
+    → IsSomeAnd rest (λ part. (one : WithStart (List ℕ)) × (one.item ≡ span.item) × A part one)
+with_witness A span None is = is
+with_witness A span (Some part) is = (span, refl, is)
+
+module _ {C : Type 0} (side : Side) (cuts : C → Cutting) (old new : Remaining C (WithStart (List ℕ)))
+    (span : SplitSpan) where
+  pub text_step : StepsSpan side cuts old (Some span) new
+      → StepsText side cuts (texts_left old) (Some span.text) (texts_left new)
+  text_step is = (
+    is.0,
+    (
+      is.1.0,
+      with_witness
+          (λ part one. CutsOff side (cuts old.on) part one new.rest) (piece_in span) old.rest is.1.2,
+    ),
+  )
+
+-- an item that was cut off is in the part
+module _ (cut : Cutting) (laws : IsLawful cut) (part span : WithStart (List ℕ))
+    (others : List (WithStart (List ℕ))) where
+  pub first_placed : cut.spans part ≡ span ∷ others → IsPlaced part.start part.item span
+  first_placed is = All-head (IsPlaced part.start part.item) span others
+      (subst (ArePlaced part.start part.item) is (laws.placed part))
+
+  pub last_placed : cut.spans part ≡ others ++ span ∷ [] → IsPlaced part.start part.item span
+  last_placed is =
+      let all = subst (ArePlaced part.start part.item) is (laws.placed part) in
+      subst (IsPlaced part.start part.item) (get_or_push others span span (length others) refl)
+      (all (length others) span (omega (arith, length_push others span)))
+
+pub placed_left : (cut : Cutting) → IsLawful cut → (rest : Option (WithStart (List ℕ)))
+    (items : List (WithStart (List ℕ))) → items ≡ left_of cut.spans rest
+    → IfSome rest (λ part. ArePlaced part.start part.item items)
+placed_left cut laws None items is = tt
+placed_left cut laws (Some part) items is =
+    subst (ArePlaced part.start part.item) (sym is) (laws.placed part)
+
+-- ---- what a caller has after a first step
+
+-- an item at a place, and what comes after it
+at_place : (text item : List ℕ) (n : ℕ) (rest : Option (WithStart (List ℕ)))
+    → HasAt text n item
+    → LeavesAfter 0 (whole text) (record { start = n; item = item }) rest
+    → take n text ++ (item ++ rest_text rest) ≡ text
+at_place text item n None has end =
+    let size : n + length item - n ≡ length item = omega arith in
+    let is : take (length item) (drop n text) ≡ item = ap (λ m. take m (drop n text)) (sym size) ∙ has in
+    let long : length (drop n text) ≡ length item = length-drop n text ∙ omega (arith, end) in
+    let same : item ≡ drop n text =
+    sym is ∙ take_all (length item) (drop n text) (omega (arith, long)) in
+    ap (λ t. take n text ++ t) (append-nil item ∙ same) ∙ take-append-drop n text
+at_place text item n (Some tail) has behind =
+    let size : n + length item - n ≡ length item = omega arith in
+    let is : take (length item) (drop n text) ≡ item = ap (λ m. take m (drop n text)) (sym size) ∙ has in
+    let at : tail.start - 0 ≡ n + length item = omega (arith, behind.start) in
+    let after : tail.item ≡ drop (length item) (drop n text) =
+    behind.text ∙ (ap (λ m. drop m text) at ∙ sym (drop-drop (length item) n text)) in
+    ap (λ t. take n text ++ t) (ap (λ t. item ++ t) after
+    ∙ (ap (λ t. t ++ drop (length item) (drop n text)) (sym is)
+    ∙ take-append-drop (length item) (drop n text))) ∙ take-append-drop n text
+
+module _ (Is : ℕ → Type 0) (test : ℕ → Bool) (text word : List ℕ) where
+  go : (rest : Option (WithStart (List ℕ))) (span : WithStart (List ℕ)) → span.item ≡ word
+      → IsPlaced 0 text span → LeavesAfter 0 (whole text) span rest
+      → (gap : List ℕ) × (gap ++ (word ++ rest_text rest) ≡ text)
+  go rest span item placed behind =
+      let at : span.start - 0 ≡ span.start = omega arith in (
+        take span.start text,
+        subst (λ w. take span.start text ++ (w ++ rest_text rest) ≡ text) item
+            (at_place text span.item span.start rest (subst (λ n. HasAt text n span.item) at placed.has)
+            behind),
+      )
+
+  -- the text before a first word, the word and what is left are the text
+  pub first_and_rest : (old rest : Option (WithStart (List ℕ))) → old ≡ Some (whole text)
+      → IsSomeAnd old (λ part. (span : WithStart (List ℕ)) × (span.item ≡ word)
+      × CutsOff at_front (at_words Is test) part span rest)
+      → (gap : List ℕ) × (gap ++ (word ++ rest_text rest) ≡ text)
+  first_and_rest old rest is step =
+      let known = subst (λ o. IsSomeAnd o (λ part. (span : WithStart (List ℕ)) × (span.item ≡ word)
+      × CutsOff at_front (at_words Is test) part span rest)) is step in
+      go rest known.0 known.1 known.2.placed known.2.leaves
