@@ -1,8 +1,8 @@
 //! `ascii_filter MODE [FILE..]`: files or standard input of any length, in one of several modes, to standard output.
 #![tactic(auto)]
 
-ghost use Rattle.std.specs.Prelude.{IfOk};
-ghost use Rattle.ascii_filter.specs.Status.{Visits};
+ghost use Rattle.std.specs.Prelude.{IfOk, map};
+ghost use Rattle.ascii_filter.specs.Status.{VisitsAll};
 
 mod answer;
 mod check;
@@ -44,7 +44,7 @@ fn report<D: fmt::Display>(rt: &HostRuntime, name: &[u8], why: &D) -> Result<(),
 }
 
 /// Carries out the task on each file in order, and returns the highest status. Stops if the output
-/// failed, and at the first non-ASCII byte if nothing is to be written.
+/// failed, and after the first file with a non-ASCII byte if nothing is to be written.
 fn run_each<K: Sink>(
     rt: &HostRuntime,
     task: Task,
@@ -52,7 +52,8 @@ fn run_each<K: Sink>(
     arguments: &[Vec<u8>],
     writer: &mut K,
 ) -> Result<u8, AllocError>
-    ensures { IfOk result (Visits K.Sink task writer.old writer.new) }
+    ensures { let words = map (λ file. file.now) files.now in
+        IfOk result (VisitsAll K.Sink task words writer.old writer.new) }
 {
     let output = output_of(rt, task);
     let mut status = 0;

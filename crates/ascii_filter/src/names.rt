@@ -2,9 +2,8 @@
 
 ghost use Rattle.std.specs.Prelude.{◌≡◌, ◌≢◌, ◌↔◌, ◌++◌, ◌∷◌, [], EachIndex, IfOk, IsTrue, Some};
 ghost use Rattle.std.specs.Prelude.{codes, if◌then◌else◌, slice_get, slice_index};
-ghost use Rattle.std.specs.List.{All};
-ghost use Rattle.ascii.specs.Class.{IsPrintable};
-ghost use Rattle.ascii_filter.specs.Quoted.{IsPlain, Reads};
+ghost use Rattle.ascii_filter.specs.Quoted.{IsPlain};
+ghost use Rattle.ascii_filter.specs.Status.{IsNameOf, IsShownAs};
 
 use crate::options::STANDARD_INPUT;
 use crate::quoted::quoted;
@@ -31,8 +30,7 @@ pub fn is_text(word: &str) -> bool
 
 /// Returns the bytes of the argument that the parser has as this word; for `-` the name of standard input.
 pub fn name_of<'a>(word: &'a str, arguments: &'a [Vec<u8>]) -> &'a [u8]
-    ensures dash { word.now ≡ codes "-" → result.now ≡ codes "(standard input)" }
-    ensures text { word.now ≢ codes "-" → slice_get word.now 0 ≢ Some 0 → result.now ≡ word.now }
+    ensures { IsNameOf word.now result.now }
 {
     if word == "-" {
         return STANDARD_INPUT.as_bytes();
@@ -51,9 +49,7 @@ pub fn name_of<'a>(word: &'a str, arguments: &'a [Vec<u8>]) -> &'a [u8]
 
 /// Returns what messages and lines call an input: its name, quoted, or the name of standard input.
 pub fn shown_name(alloc: Global, word: &str, name: &[u8]) -> Result<Vec<u8>, AllocError>
-    ensures dash { word.now ≡ codes "-" → IfOk result (λ shown. shown.items ≡ name.now) }
-    ensures printable { word.now ≢ codes "-" → IfOk result (λ shown. All IsPrintable shown.items) }
-    ensures back { word.now ≢ codes "-" → IfOk result (λ shown. Reads shown.items name.now) }
+    ensures { IfOk result (λ shown. IsShownAs word.now name.now shown.items) }
 {
     if word == "-" {
         return Vec::from_slice(alloc, name);

@@ -19,7 +19,6 @@ use Rattle.ascii_lines.specs.Serve.{ChannelState, Conversation, CountsBy, Counts
 use Rattle.ascii_lines.specs.Serve.{FinishesBy, Halts}
 use Rattle.ascii_lines.specs.Serve.{IsAnswered, IsFlushed, SentBy, Serves, StopsFor, Wrote, read_side, reading_of}
 use Rattle.ascii_lines.specs.Serve.{Reply, replies_of, reply_bytes}
-use Rattle.ascii_lines.specs.Wanted.{Rejects}
 use Rattle.ascii_lines.specs.declared.line_reader.LineError.{LineError}
 use Rattle.ascii_lines.specs.declared.serving.Awaited.{Awaited}
 use Rattle.ascii_lines.specs.declared.serving.Awaited.TheVariants.{Input, LineEnd}
@@ -27,10 +26,9 @@ use Rattle.ascii_lines.specs.declared.serving.Next.{Next}
 use Rattle.ascii_lines.specs.declared.serving.Next.TheVariants as next
 use Rattle.ascii_lines.specs.declared.serving.Stop.{Stop}
 use Rattle.ascii_lines.specs.declared.serving.Stop.TheVariants as stop
-use Rattle.ascii_lines.specs.declared.wanted.Wanted.TheVariants as wanted
 use Rattle.ascii_lines.proofs.HistoryLemmas.{AreWrites-append, AreWrites-sent, AtEachRead-append}
 use Rattle.ascii_lines.proofs.HistoryLemmas.{AtEachRead-writes, IsFlushed-after, IsFlushed-last}
-use Rattle.ascii_lines.proofs.HistoryLemmas.{received_of-writes}
+use Rattle.ascii_lines.proofs.HistoryLemmas.{EndsInEmptyRead-writes, received_of-writes}
 use Rattle.ascii_lines.proofs.MovesLemmas.{then_written}
 
 module _ {H : Type 0} (refuses : H → LineError → List Reply → Next → H → Type 0) (state last : H)
@@ -45,6 +43,7 @@ module _ {H : Type 0} (refuses : H → LineError → List Reply → Next → H �
   stops_written stop.EndOfInput awaited mid out aside (end, none, same, ends) = (
     record {
       ended = end.ended;
+      seen = end.seen;
       none = end.none;
       left = subst (λ (side : Aside). IsAtEnd side.bytes) (sym aside) end.left;
     },
@@ -52,20 +51,8 @@ module _ {H : Type 0} (refuses : H → LineError → List Reply → Next → H �
     same,
     ends,
   )
-  stops_written (stop.Reader error) (Input next.Line) mid out aside (none, why, told) = (
-    none,
-    subst
-        (λ (side : Aside). Rejects (wanted.Line mid.cursor.endings) mid.cursor.start
-        mid.cursor.size mid.cursor.held side.bytes error) (sym aside) why,
-    told,
-  )
-  stops_written (stop.Reader error) (Input (next.Part n)) mid out aside (none, why, told) = (
-    none,
-    subst
-        (λ (side : Aside). Rejects (wanted.Part n) mid.cursor.start mid.cursor.size
-        mid.cursor.held side.bytes error) (sym aside) why,
-    told,
-  )
+  stops_written (stop.Reader error) (Input next.Line) mid out aside stops = stops
+  stops_written (stop.Reader error) (Input (next.Part n)) mid out aside stops = stops
   stops_written (stop.Reader error) (Input next.Close) mid out aside stops = absurd stops
   stops_written (stop.Reader error) (LineEnd asked) mid out aside stops = stops
   stops_written stop.Writer awaited mid out aside stops = stops
@@ -128,6 +115,11 @@ module _ {H : Type 0} (answers : H → Line → List Reply → Next → H → Ty
             (AtEachRead-writes P talk.events more writes);
         received = ap (λ xs. old.cursor.held ++ xs) nothing ∙ talk.received;
         explains = talk.explains;
+        end = λ seen. subst (λ (side : Aside). IsAtEnd side.bytes) (sym aside) (talk.end seen);
+        at_end = λ seen. elim (talk.at_end seen) [
+          | inl known ↦ inl known
+          | inr ends ↦ inr (EndsInEmptyRead-writes talk.events more writes ends)
+        ];
         start = talk.start;
         gave = subst (Gives of_state (read_side old.output) (read_side out)) (sym nothing)
             (then_written old.output mid.output out (received_of talk.events) more talk.gave
@@ -188,6 +180,8 @@ module _ {H : Type 0} (answers : H → Line → List Reply → Next → H → Ty
         prompt = talk.prompt;
         received = talk.received;
         explains = talk.explains;
+        end = talk.end;
+        at_end = talk.at_end;
         start = talk.start;
         gave = talk.gave;
         took = talk.took;

@@ -1,21 +1,31 @@
 -- What a source gave while something was wanted, one read after another.
-use Rattle.std.proofs.Common.{◌≡◌, List, [], ◌∷◌, ◌++◌, ℕ, ap, append_assoc, append-nil, refl}
+use Rattle.std.proofs.Common.{◌≡◌, ◌≢◌, ◌==◌, ◌+◌, ◌<◌, ◌≤◌, List, [], ◌∷◌, ◌++◌, ℕ, Bool, true}
+use Rattle.std.proofs.Common.{ap, append_assoc, append-nil, arith, eqb-true, false, length, refl}
 use Rattle.std.proofs.Common.{subst, sym, ◌∙◌}
-use Rattle.std.specs.List.{flat_map}
+use Rattle.std.specs.List.{All, flat_map}
+use Rattle.std.proofs.lemmas.Bool.{false≢true}
+use Rattle.std.proofs.lemmas.List.Elements.{All-head, All-nil, All-push, All-tail}
 use Rattle.std.proofs.lemmas.Grind.{flat_map-append}
 use Rattle.ascii_devices.proofs.HistoryLemmas.{Gives-nil, Gives-trans, Grows-nil}
 use Rattle.ascii_devices.proofs.HistoryLemmas.{Grows-trans, read_fails, read_gives}
 use Rattle.ascii_devices.specs.Devices.{Grows, read_of}
 use Rattle.ascii_devices.specs.States.{Gives, SourceState, of_state}
 use Rattle.ascii_lines.specs.LineBuffer.{FailsOnce, ReadsOnce}
-use Rattle.ascii_lines.specs.Wanted.{Asks, Gathers, all_of}
+use Rattle.ascii_lines.specs.Wanted.{Asks, Gathers, KnowsEnd, ReachesEnd, all_of}
+
+-- a read returned bytes
+abbrev IsSome : List ℕ → Type 0
+IsSome read = read ≢ []
 
 Asks-snoc : (Must : List ℕ → Type 0) (held : List ℕ) (reads : List (List ℕ)) (read : List ℕ)
-    → Asks Must held reads → Must (held ++ all_of reads) → Asks Must held (reads ++ read ∷ [])
-Asks-snoc Must held [] read asks last = (subst Must (append-nil held) last, tt)
-Asks-snoc Must held (r ∷ reads) read asks last = (
+    → Asks Must held reads → All IsSome reads → Must (held ++ all_of reads)
+    → Asks Must held (reads ++ read ∷ [])
+Asks-snoc Must held [] read asks some last =
+    (subst Must (append-nil held) last, λ none. refl, tt)
+Asks-snoc Must held (r ∷ reads) read asks some last = (
   asks.0,
-  Asks-snoc Must (held ++ r) reads read asks.1
+  λ none. absurd (All-head IsSome r reads some none),
+  Asks-snoc Must (held ++ r) reads read asks.2 (All-tail IsSome r reads some)
       (subst Must (sym (append_assoc held r (all_of reads))) last),
 )
 
@@ -29,9 +39,32 @@ some_reads : (reads : List (List ℕ)) (read : List ℕ) → reads ++ read ∷ [
 some_reads [] read none = cc
 some_reads (r ∷ reads) read none = cc
 
-pub Gathers-nil : (Must : List ℕ → Type 0) (held : List ℕ) (a : SourceState)
-    → Gathers Must held a a held
-Gathers-nil Must held a = record {
+-- one read more, after which one has returned no bytes or not
+reaches_read : (was mid is : Bool) (reads : List (List ℕ)) (read : List ℕ)
+    → ReachesEnd was reads mid → mid ≡ false → (is ≡ true → read ≡ [])
+    → ReachesEnd was (reads ++ read ∷ []) is
+reaches_read true mid is reads read (none, seen) more last =
+    absurd (false≢true (sym more ∙ seen))
+reaches_read false mid true reads read so_far more last =
+    (reads, ap (λ r. reads ++ r ∷ []) (last refl))
+reaches_read false mid false reads read so_far more last = tt
+
+pub no_reads_reach : (is_at_end : Bool) → ReachesEnd is_at_end [] is_at_end
+no_reads_reach true = (refl, refl)
+no_reads_reach false = tt
+
+-- what a reader remembers of a read tells whether it returned bytes
+is_none : (read : List ℕ) → (length read == 0) ≡ true → read ≡ []
+is_none [] zero = refl
+is_none (b ∷ read) zero = absurd (omega (arith, eqb-true (length (b ∷ read)) 0 zero))
+
+is_some : (read : List ℕ) → (length read == 0) ≡ false → read ≢ []
+is_some read other none =
+    false≢true (sym other ∙ ap (λ (xs : List ℕ). length xs == 0) none)
+
+pub Gathers-nil : (Must : List ℕ → Type 0) (held : List ℕ) (is_at_end : Bool) (a : SourceState)
+    → KnowsEnd is_at_end a.rest → Gathers Must held is_at_end is_at_end a a held
+Gathers-nil Must held is_at_end a end = record {
   reads = [];
   asks = tt;
   gave = Gives-nil of_state a;
@@ -39,44 +72,72 @@ Gathers-nil Must held a = record {
   all = sym (append-nil held);
   unread = λ none. refl;
   aside = refl;
+  reaches = no_reads_reach is_at_end;
+  some = λ _ _. All-nil IsSome;
+  end = end;
 }
 
-module _ (Must : List ℕ → Type 0) (held : List ℕ) (a b c : SourceState) (text read : List ℕ)
-    (so_far : Gathers Must held a b text) (kept : b.failures ≡ a.failures) (must : Must text)
-  where
-    once : Gives of_state b c read → Grows b.history c.history (read_of read) → c.aside ≡ b.aside
-        → Gathers Must held a c (text ++ read)
-    once gave told aside =
-        let reads = so_far.reads in
-        record {
-          reads = reads ++ read ∷ [];
-          asks = Asks-snoc Must held reads read so_far.asks (subst Must so_far.all must);
-          gave = subst (Gives of_state a c) (sym (all_of-snoc reads read))
-              (Gives-trans of_state a b c (all_of reads) read kept so_far.gave gave);
-          told = subst (Grows a.history c.history)
-              (ap (λ xs. flat_map read_of reads ++ xs) (sym (append-nil (read_of read)))
-              ∙ sym (flat_map-append read_of reads (read ∷ [])))
-              (Grows-trans a.history b.history c.history (flat_map read_of reads) (read_of read)
-              so_far.told told);
-          all = ap (λ xs. xs ++ read) so_far.all
-              ∙ (append_assoc held (all_of reads) read
-              ∙ ap (λ xs. held ++ xs) (sym (all_of-snoc reads read)));
-          unread = λ none. absurd (some_reads reads read none);
-          aside = aside ∙ so_far.aside;
-        }
+module _ (Must : List ℕ → Type 0) (held : List ℕ) (was mid is : Bool) (a b c : SourceState)
+    (text read : List ℕ) (so_far : Gathers Must held was mid a b text) (more : mid ≡ false)
+    (kept : b.failures ≡ a.failures) (must : Must text) where
+  once : Gives of_state b c read → Grows b.history c.history (read_of read) → c.aside ≡ b.aside
+      → (is ≡ true → read ≡ []) → (is ≡ false → c.failures ≡ a.failures → IsSome read)
+      → KnowsEnd is c.rest → Gathers Must held was is a c (text ++ read)
+  once gave told aside none some end =
+      let reads = so_far.reads in
+      record {
+        reads = reads ++ read ∷ [];
+        asks = Asks-snoc Must held reads read so_far.asks (so_far.some more kept)
+            (subst Must so_far.all must);
+        gave = subst (Gives of_state a c) (sym (all_of-snoc reads read))
+            (Gives-trans of_state a b c (all_of reads) read kept so_far.gave gave);
+        told = subst (Grows a.history c.history)
+            (ap (λ xs. flat_map read_of reads ++ xs) (sym (append-nil (read_of read)))
+            ∙ sym (flat_map-append read_of reads (read ∷ [])))
+            (Grows-trans a.history b.history c.history (flat_map read_of reads) (read_of read)
+            so_far.told told);
+        all = ap (λ xs. xs ++ read) so_far.all
+            ∙ (append_assoc held (all_of reads) read
+            ∙ ap (λ xs. held ++ xs) (sym (all_of-snoc reads read)));
+        unread = λ none. absurd (some_reads reads read none);
+        aside = aside ∙ so_far.aside;
+        reaches = reaches_read was mid is reads read so_far.reaches more none;
+        some = λ going same. All-push IsSome reads read (so_far.some more kept) (some going same);
+        end = end;
+      }
 
-    -- one read more
-    pub Gathers-read : (new : List ℕ) → ReadsOnce b c read → new ≡ text ++ read
-        → Gathers Must held a c new
-    Gathers-read new reads is = subst (Gathers Must held a c) (sym is)
-        (once (read_gives of_state b c read reads.gave reads.told) reads.told reads.aside)
+  -- one read more
+  pub Gathers-read : (new : List ℕ) → ReadsOnce b c read → new ≡ text ++ read
+      → is ≡ (length read == 0) → Gathers Must held was is a c new
+  Gathers-read new reads all last = subst (Gathers Must held was is a c) (sym all)
+      (once (read_gives of_state b c read reads.gave reads.told) reads.told reads.aside
+      (λ ends. is_none read (sym last ∙ ends)) (λ going same. is_some read (sym last ∙ going))
+      (λ ends. reads.end (is_none read (sym last ∙ ends))))
 
 -- a read more, which failed
-pub Gathers-failed : (Must : List ℕ → Type 0) (held : List ℕ) (a b c : SourceState)
-    (text new : List ℕ) → Gathers Must held a b text → b.failures ≡ a.failures → Must text
-    → FailsOnce b c → new ≡ text → Gathers Must held a c new
-Gathers-failed Must held a b c text new so_far kept must fails is =
-    subst (Gathers Must held a c) (append-nil text ∙ sym is)
-    (once Must held a b c text [] so_far kept must
-    (read_fails of_state b c fails.failures fails.told)
-    fails.told fails.aside)
+pub Gathers-failed : (Must : List ℕ → Type 0) (held : List ℕ) (was mid is : Bool)
+    (a b c : SourceState) (text new : List ℕ) → Gathers Must held was mid a b text → mid ≡ false
+    → b.failures ≡ a.failures → Must text → FailsOnce b c → new ≡ text → is ≡ mid
+    → Gathers Must held was is a c new
+Gathers-failed Must held was mid is a b c text new so_far more kept must fails all last =
+    subst (Gathers Must held was is a c) (append-nil text ∙ sym all)
+    (once Must held was mid is a b c text [] so_far more kept must
+    (read_fails of_state b c fails.failures fails.told) fails.told fails.aside (λ _. refl)
+    (λ going same. absurd (omega (arith, fails.failures, same, kept)))
+    (λ ends. absurd (false≢true (sym (last ∙ more) ∙ ends))))
+
+-- how many reads may yet return no bytes
+abbrev pub reads_left : Bool → ℕ
+reads_left true = 0
+reads_left false = 1
+
+pub reads_left_one : (is_at_end : Bool) → reads_left is_at_end ≤ 1
+reads_left_one true = omega arith
+reads_left_one false = omega arith
+
+-- a read that returns no bytes is the last one
+pub read_counts : (read : List ℕ) (mid is : Bool) → mid ≡ false → is ≡ (length read == 0)
+    → reads_left is < reads_left mid + length read
+read_counts [] mid is more last = omega (arith, ap reads_left last, ap reads_left more)
+read_counts (b ∷ read) mid is more last =
+    omega (arith, reads_left_one is, ap reads_left more)

@@ -1,15 +1,18 @@
 -- Writes and flushes that a history tells of, one after another.
-use Rattle.std.proofs.Common.{◌≡◌, ℕ, List, [], ◌∷◌, ◌++◌, Option, ap, refl, subst, sym, ◌∙◌}
+use Rattle.std.proofs.Common.{◌≡◌, ◌⊎◌, ℕ, List, [], ◌∷◌, ◌++◌, Bool, Option, ap, false, inl, inr}
+use Rattle.std.proofs.Common.{refl, subst, sym, true, ◌∙◌}
 use Rattle.std.proofs.Common.{append_assoc, append-nil, map}
 use Rattle.std.specs.List.{flat_map}
+use Rattle.std.proofs.lemmas.Bool.{false≢true}
+use Rattle.std.proofs.lemmas.Grind.{flat_map-append}
 use Rattle.ascii_devices.proofs.HistoryLemmas.{Grows-nil, Grows-trans, received_of-append}
 use Rattle.ascii_devices.proofs.HistoryLemmas.{sent_of-all, sent_of-append}
 use Rattle.ascii_devices.specs.Devices.{Grows, read_of, received_of, sent_of, write_of}
 use Rattle.ascii_devices.specs.declared.log.Event.{Event}
 use Rattle.ascii_devices.specs.declared.log.Event.TheVariants.{Flushed, Read, Received, Sent}
-use Rattle.ascii_lines.specs.History.{AreWrites, TellsSent}
+use Rattle.ascii_lines.specs.History.{AreWrites, EndsInEmptyRead, TellsSent}
 use Rattle.ascii_lines.specs.Serve.{AtEachRead, IsFlushed}
-use Rattle.ascii_lines.specs.Wanted.{Asks, all_of}
+use Rattle.ascii_lines.specs.Wanted.{Asks, ReachesEnd, all_of}
 
 pub AreWrites-append : (xs ys : List Event) → AreWrites xs → AreWrites ys → AreWrites (xs ++ ys)
 AreWrites-append [] ys first then = then
@@ -157,7 +160,7 @@ module _ (first taken out : List ℕ) where
       AtEachRead-append P past (read_of read) (flat_map read_of reads)
       (then past held now asks.0, AtEachRead-received P (past ++ Read ∷ []) read)
       (AtEachRead-reads P Must then (past ++ read_of read) (held ++ read) reads
-      (one_read past held read now) asks.1)
+      (one_read past held read now) asks.2)
 
 -- events after others, which end in a flush
 pub IsFlushed-after : (past events : List Event) → IsFlushed events → IsFlushed (past ++ events)
@@ -171,3 +174,49 @@ IsFlushed-after past events (before, after, is, none) = (
 -- a flush after writes
 pub IsFlushed-last : (events : List Event) → IsFlushed (events ++ Flushed ∷ [])
 IsFlushed-last events = (events, [], refl, refl)
+
+-- ---- the end of an input
+
+-- writes after a read that gave no bytes
+pub EndsInEmptyRead-writes : (events more : List Event) → AreWrites more
+    → EndsInEmptyRead events → EndsInEmptyRead (events ++ more)
+EndsInEmptyRead-writes events more writes (before, after, is, then) = (
+  before,
+  after ++ more,
+  ap (λ xs. xs ++ more) is ∙ append_assoc before (Read ∷ after) more,
+  AreWrites-append after more then writes,
+)
+
+-- reads of which the last gave no bytes
+last_is_empty : (past before after : List Event) (first : List (List ℕ)) → AreWrites after
+    → EndsInEmptyRead
+    (past ++ (before ++ (flat_map read_of (first ++ [] ∷ []) ++ after)))
+last_is_empty past before after first then =
+    let reads = flat_map read_of first in (
+      past ++ (before ++ reads),
+      after,
+      ap (λ xs. past ++ (before ++ (xs ++ after))) (flat_map-append read_of first ([] ∷ []))
+          ∙ (ap (λ xs. past ++ (before ++ xs)) (append_assoc reads (Read ∷ []) after)
+          ∙ (ap (λ xs. past ++ xs) (sym (append_assoc before reads (Read ∷ after)))
+          ∙ sym (append_assoc past (before ++ reads) (Read ∷ after)))),
+      then,
+    )
+
+-- if a read has returned no bytes, the last one has, unless one had before
+pub ends_in_read : (was mid is : Bool) (past before after : List Event)
+    (reads : List (List ℕ)) → AreWrites before → AreWrites after → ReachesEnd mid reads is
+    → (mid ≡ true → (was ≡ true) ⊎ EndsInEmptyRead past) → is ≡ true
+    → (was ≡ true) ⊎ EndsInEmptyRead (past ++ (before ++ (flat_map read_of reads ++ after)))
+ends_in_read was true is past before after reads first then (none, last) so_far seen =
+    elim (so_far refl) [
+      | inl known ↦ inl known
+      | inr ends ↦ inr (EndsInEmptyRead-writes past
+          (before ++ (flat_map read_of reads ++ after))
+          (AreWrites-append before (flat_map read_of reads ++ after) first
+          (subst (λ rs. AreWrites (flat_map read_of rs ++ after)) (sym none) then)) ends)
+    ]
+ends_in_read was false true past before after reads first then (some, is) so_far seen = inr
+    (subst (λ rs. EndsInEmptyRead (past ++ (before ++ (flat_map read_of rs ++ after))))
+    (sym is) (last_is_empty past before after some then))
+ends_in_read was false false past before after reads first then reaches so_far seen =
+    absurd (false≢true seen)

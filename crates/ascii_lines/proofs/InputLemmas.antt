@@ -53,6 +53,7 @@ still_up mid output ending aside up whole = (
     | inl going ↦ inl going
     | inr last ↦ inr (record {
       ended = last.ended;
+      seen = last.seen;
       none = last.none;
       left = subst (λ (side : Aside). IsAtEnd side.bytes) (sym aside) last.left;
     })
@@ -75,7 +76,7 @@ after_one : {H : Type 0} (answers : H → Line → List Reply → Next → H →
     → Moves (Lacks old.cursor.endings old.cursor.start old.cursor.size awaited) old
     (step_bytes step) (step_replies old.ending step) now
     → Explains old.cursor.endings old.cursor.size old.cursor.start (step ∷ []) now.cursor.held
-    → now.output.buffer.is_broken ≡ true → old.cursor.stage ≢ Ended
+    now.cursor.is_at_end → now.output.buffer.is_broken ≡ true → old.cursor.stage ≢ Ended
     → Stopped answers refuses awaited handler old stop.Writer last now
 after_one answers refuses awaited after handler last old now step is_step moves explains broken
     going = record {
@@ -268,15 +269,6 @@ module _ {H : Type 0} (answers : H → Line → List Reply → Next → H → Ty
 
     module _ (error : LineError) (fault : TakesWanted what old (taken.Fault error) mid)
         (refused : refuses handler error said sequel last) where
-      left_same : output.aside.bytes ≡ mid.output.aside.bytes
-      left_same = ap (λ (side : Aside). side.bytes) aside
-
-      rejects : Rejects what now.cursor.start now.cursor.size now.cursor.held output.aside.bytes
-          error
-      rejects = subst
-          (λ left. Rejects what now.cursor.start now.cursor.size now.cursor.held left error)
-          (sym left_same) fault.1
-
       -- the conversation stops
       pub input_rejected : (result : Result Awaited Stop) (why : Stop)
           → IsErrAnd result (λ e. e ≡ why) → GoesOn what error sequel (Err why)
@@ -295,14 +287,15 @@ module _ {H : Type 0} (answers : H → Line → List Reply → Next → H → Ty
             reads = tt;
             extra = said;
             over = [];
-            stops = go what is_wanted rejects stops;
+            stops = go what is_wanted fault.1 stops;
             moves = replied [] fault.4 fault.0;
             explains = tt;
             broken = λ same. let e : stop.Reader error ≡ stop.Writer = same in cc;
           })
         where
           go : (w : Wanted) → IsWantedAt old w
-              → Rejects w now.cursor.start now.cursor.size now.cursor.held output.aside.bytes error
+              → Rejects w now.cursor.start now.cursor.size now.cursor.held now.cursor.is_at_end
+              error
               → (asked_by w ≡ next.Line → IsFinal error ⊎ (sequel ≡ next.Close))
               → StopsFor refuses (stop.Reader error) (Input (asked_by w)) handler (reading_of now)
               said [] last
@@ -310,7 +303,7 @@ module _ {H : Type 0} (answers : H → Line → List Reply → Next → H → Ty
             refl,
             subst
                 (λ e. Rejects (wanted.Line e) now.cursor.start now.cursor.size now.cursor.held
-                output.aside.bytes error) (may ∙ sym fault.0.endings) why,
+                now.cursor.is_at_end error) (may ∙ sym fault.0.endings) why,
             (sequel, refused, stops refl),
           )
           go (wanted.Bytes endings) may why stops = absurd may
@@ -319,32 +312,31 @@ module _ {H : Type 0} (answers : H → Line → List Reply → Next → H → Ty
       -- or the line is to be read over
       module _ (after : Awaited) (goes : GoesOn what error sequel (Ok after)) where
         explained : Explains old.cursor.endings old.cursor.size old.cursor.start
-            (rejected error said ∷ []) now.cursor.held
+            (rejected error said ∷ []) now.cursor.held now.cursor.is_at_end
         explained = (
           (
             now.cursor.held,
             [],
-            output.aside.bytes,
             sym (append-nil now.cursor.held),
-            go what is_wanted goes.1 rejects,
+            go what is_wanted goes.1 fault.1,
           ),
           tt,
         )
           where
             go : (w : Wanted) → IsWantedAt old w → asked_by w ≡ next.Line
-                → Rejects w now.cursor.start now.cursor.size now.cursor.held output.aside.bytes
+                → Rejects w now.cursor.start now.cursor.size now.cursor.held now.cursor.is_at_end
                 error
                 → Rejects (wanted.Line old.cursor.endings) old.cursor.start old.cursor.size
-                now.cursor.held output.aside.bytes error
+                now.cursor.held now.cursor.is_at_end error
             go (wanted.Line endings) may line why = subst
                 (λ e. Rejects (wanted.Line e) old.cursor.start old.cursor.size now.cursor.held
-                output.aside.bytes error) may
+                now.cursor.is_at_end error) may
                 (subst
                 (λ n. Rejects (wanted.Line endings) n old.cursor.size now.cursor.held
-                output.aside.bytes error) (fault.0.start ∙ add-zero old.cursor.start)
+                now.cursor.is_at_end error) (fault.0.start ∙ add-zero old.cursor.start)
                 (subst
                 (λ n. Rejects (wanted.Line endings) now.cursor.start n now.cursor.held
-                output.aside.bytes error) fault.0.size why))
+                now.cursor.is_at_end error) fault.0.size why))
             go (wanted.Bytes endings) may line why = absurd may
             go (wanted.Part n) may line why =
                 absurd (let e : next.Part n ≡ next.Line = line in cc)

@@ -4,6 +4,7 @@ pub mod HistoryLemmas
 pub mod LineBufferLemmas
 pub mod LineReaderLemmas
 pub mod MovesLemmas
+pub mod RejectedLemmas
 pub mod ReplyLemmas
 pub mod ServeLemmas
 pub mod StepLemmas

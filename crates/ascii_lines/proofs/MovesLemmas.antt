@@ -4,7 +4,7 @@ use Rattle.std.proofs.Common.{append_assoc, append-nil, ap, inl, inr, length, re
 use Rattle.std.proofs.Common.{add-zero}
 use Rattle.std.specs.List.{flat_map}
 use Rattle.std.proofs.KnownBytes.{Appends-nil, Appends-trans, Consumes-nil}
-use Rattle.std.specs.Io.KnownBytes.{Appends}
+use Rattle.std.specs.Io.KnownBytes.{Appends, IsAtEnd}
 use Rattle.ascii_devices.proofs.HistoryLemmas.{Gives-nil, Gives-trans, Grows-nil, Grows-trans}
 use Rattle.ascii_devices.proofs.HistoryLemmas.{Tells, received_of-append, sent_of-all}
 use Rattle.ascii_devices.proofs.HistoryLemmas.{sent_of-append, tells-by, tells-more}
@@ -20,7 +20,8 @@ use Rattle.ascii_lines.specs.LineReader.{CursorState}
 use Rattle.ascii_lines.specs.LineWriter.{FailsToWrite, Flushes}
 use Rattle.ascii_lines.specs.Serve.{ChannelState, Moves, Prepares, SaysBytes, read_side}
 use Rattle.ascii_lines.specs.Serve.{CountsBy, SentBy}
-use Rattle.ascii_lines.specs.Wanted.{Asks, Gathers, all_of}
+use Rattle.ascii_lines.specs.Wanted.{Asks, Gathers, ReachesEnd, all_of}
+use Rattle.ascii_lines.proofs.GathersLemmas.{no_reads_reach}
 use Rattle.ascii_lines.proofs.HistoryLemmas.{AreWrites-append, AreWrites-sent, IsFlushed-last}
 use Rattle.ascii_lines.proofs.HistoryLemmas.{received_of-writes}
 
@@ -79,6 +80,8 @@ Moves-nil Must lines whole =
       count = subst (λ b. CountsBy b lines.output.failures lines.output.failures) (sym whole) refl;
       took = Appends-nil lines.output.taken;
       gave = Gives-nil of_state (read_side lines.output);
+      reaches = no_reads_reach lines.cursor.is_at_end;
+      end = λ known. known;
       start = sym (add-zero lines.cursor.start);
       size = refl;
       endings = refl;
@@ -113,6 +116,10 @@ Moves-unsent Must old new same fails =
           fails.failures;
       took = subst (Appends old.output.taken new.output.taken) (sym told.noted) fails.passed.took;
       gave = writes_give old.output new.output told.events told.writes told.grows fails.aside;
+      reaches = subst (λ (c : CursorState). ReachesEnd old.cursor.is_at_end [] c.is_at_end)
+          (sym cursor) (no_reads_reach old.cursor.is_at_end);
+      end = λ known seen. subst (λ (side : Aside). IsAtEnd side.bytes) (sym fails.aside)
+          (known (ap (λ (c : CursorState). c.is_at_end) (sym cursor) ∙ seen));
       start = ap (λ (c : CursorState). c.start) cursor ∙ sym (add-zero old.cursor.start);
       size = ap (λ (c : CursorState). c.size) cursor;
       endings = ap (λ (c : CursorState). c.endings) cursor;
@@ -122,8 +129,8 @@ Moves-unsent Must old new same fails =
 -- bytes were taken off the device, which was read or not, and nothing was written
 pub record Hears (Must : List ℕ → Type 0) (old : ChannelState) (bytes : List ℕ)
     (new : ChannelState) : Type 0 where
-  pub gathers : Gathers Must old.cursor.held (read_side old.output) (read_side new.output)
-      (bytes ++ new.cursor.held)
+  pub gathers : Gathers Must old.cursor.held old.cursor.is_at_end new.cursor.is_at_end
+      (read_side old.output) (read_side new.output) (bytes ++ new.cursor.held)
   pub buffer : new.output.buffer ≡ old.output.buffer
   pub start : new.cursor.start ≡ old.cursor.start + length bytes
   pub size : new.cursor.size ≡ old.cursor.size
@@ -166,6 +173,8 @@ module _ (Must : List ℕ → Type 0) (old new : ChannelState) (bytes : List ℕ
         took = subst (λ t. Appends old.output.taken t []) (sym taken_same)
             (Appends-nil old.output.taken);
         gave = hears.gathers.gave;
+        reaches = hears.gathers.reaches;
+        end = λ _. hears.gathers.end;
         start = hears.start;
         size = hears.size;
         endings = hears.endings;
@@ -184,8 +193,8 @@ flushed_then Must old mid new bytes cursor ending flushes hears =
     sent_of-append (write_of held) (Flushed ∷ [])
     ∙ (append-nil (sent_of (write_of held)) ∙ sent_of-all held) in
     let gathers = subst
-    (λ h. Gathers Must h (read_side mid.output) (read_side new.output) (bytes ++ new.cursor.held))
-    (ap (λ (c : CursorState). c.held) cursor) hears.gathers in
+    (λ (c : CursorState). Gathers Must c.held c.is_at_end new.cursor.is_at_end
+    (read_side mid.output) (read_side new.output) (bytes ++ new.cursor.held)) cursor hears.gathers in
     let whole = broken_same Must mid new bytes hears ∙ flushes.stage in
     record {
       before = events;
@@ -216,21 +225,25 @@ flushed_then Must old mid new bytes cursor ending flushes hears =
           (aside_same old.output mid.output flushes.aside)
           (writes_give old.output mid.output events writes flushes.told flushes.aside)
           gathers.gave;
+      reaches = gathers.reaches;
+      end = λ _. gathers.end;
       start = hears.start ∙ ap (λ (c : CursorState). c.start + length bytes) cursor;
       size = hears.size ∙ ap (λ (c : CursorState). c.size) cursor;
       endings = hears.endings ∙ ap (λ (c : CursorState). c.endings) cursor;
       ending = hears.ending ∙ ending;
     }
 
-no_reads : (Must : List ℕ → Type 0) (held : List ℕ) (reads : List (List ℕ))
-    → ¬ (Must held) → Asks Must held reads → reads ≡ []
-no_reads Must held [] not asks = refl
-no_reads Must held (read ∷ reads) not asks = absurd (not asks.0)
+no_reads : (Must : List ℕ → Type 0) (held : List ℕ) (was is : Bool) (reads : List (List ℕ))
+    → (was ≡ false → ¬ (Must held)) → Asks Must held reads → ReachesEnd was reads is → reads ≡ []
+no_reads Must held true is reads not asks reaches = reaches.0
+no_reads Must held false is [] not asks reaches = refl
+no_reads Must held false is (read ∷ reads) not asks reaches = absurd (not refl asks.0)
 
 -- what was held was sent if the device had to be read, and then bytes were taken off it
 pub Moves-heard : (Must : List ℕ → Type 0) (waits : Bool) (done : Unit {0})
     (old mid new : ChannelState) (bytes : List ℕ) → old.output.buffer.is_broken ≡ false
-    → Prepares waits old (Ok done) mid → (waits ≡ false → ¬ (Must old.cursor.held))
+    → Prepares waits old (Ok done) mid
+    → (waits ≡ false → old.cursor.is_at_end ≡ false → ¬ (Must old.cursor.held))
     → Hears Must mid bytes new → Moves Must old bytes [] new
 Moves-heard Must true done old mid new bytes whole (same, flushes) must hears =
     flushed_then Must old mid new bytes (ap (λ (lines : ChannelState). lines.cursor) same)
@@ -238,7 +251,8 @@ Moves-heard Must true done old mid new bytes whole (same, flushes) must hears =
 Moves-heard Must false done old mid new bytes whole same must hears =
     let hears_old = subst (λ m. Hears Must m bytes new) same hears in
     quiet Must old new bytes hears_old whole
-    (no_reads Must old.cursor.held hears_old.gathers.reads (must refl) hears_old.gathers.asks)
+    (no_reads Must old.cursor.held old.cursor.is_at_end new.cursor.is_at_end
+    hears_old.gathers.reads (must refl) hears_old.gathers.asks hears_old.gathers.reaches)
 
 -- ---- and replies
 
@@ -331,6 +345,11 @@ Moves-says Must old mid new bytes replies whole moves says cursor ending =
               (sent_so_far ++ sent_of moves.after) (sent_of events) moves.took took);
           gave = then_written old.output mid.output new.output (all_of moves.reads) events
               moves.gave writes grows aside;
+          reaches = subst
+              (λ (c : CursorState). ReachesEnd old.cursor.is_at_end moves.reads c.is_at_end)
+              (sym cursor) moves.reaches;
+          end = λ known seen. subst (λ (side : Aside). IsAtEnd side.bytes) (sym aside)
+              (moves.end known (ap (λ (c : CursorState). c.is_at_end) (sym cursor) ∙ seen));
           start = ap (λ (c : CursorState). c.start) cursor ∙ moves.start;
           size = ap (λ (c : CursorState). c.size) cursor ∙ moves.size;
           endings = ap (λ (c : CursorState). c.endings) cursor ∙ moves.endings;

@@ -5,6 +5,7 @@ use Rattle.std.proofs.Common.{add-zero, length-append, sym, ◌∙◌}
 use Rattle.std.specs.List.{flat_map}
 use Rattle.std.specs.Io.KnownBytes.{Appends}
 use Rattle.std.proofs.KnownBytes.{Appends-nil, Appends-trans}
+use Rattle.std.proofs.lemmas.Bool.{false≢true}
 use Rattle.std.proofs.lemmas.Grind.{flat_map-append}
 use Rattle.ascii.specs.Lines.{Line, ending_text, line_text}
 use Rattle.ascii.specs.declared.iter.spans.Ending.{Ending}
@@ -21,9 +22,12 @@ use Rattle.ascii_lines.specs.Serve.{Halts, IsAnswered, IsAsked, IsRequest, IsSte
 use Rattle.ascii_lines.specs.Serve.{IsUnendedLast, Lacks, MayStep, TakesUnended}
 use Rattle.ascii_lines.specs.declared.line_reader.Stage.TheVariants.{Ended}
 use Rattle.ascii_lines.specs.Serve.{Moves, ReadsWell, Reply, SentBy, Stopped, Talks, Step, Stepped}
-use Rattle.ascii_lines.specs.Serve.{bytes_of, read_side, replies_of, reply_bytes, step_bytes}
+use Rattle.ascii_lines.specs.Serve.{at_end_before, bytes_of, read_side, replies_of, reply_bytes, step_bytes}
 use Rattle.ascii_lines.specs.Serve.{step_replies, rejected, skipped, took}
-use Rattle.ascii_lines.specs.Wanted.{all_of}
+use Rattle.ascii_lines.specs.Wanted.{KnowsEnd, ReachesEnd, Rejects, all_of}
+use Rattle.ascii_lines.specs.declared.line_reader.LineError.TheVariants as error
+use Rattle.ascii_lines.specs.declared.wanted.Wanted.{Wanted}
+use Rattle.ascii_lines.specs.declared.wanted.Wanted.TheVariants as wanted
 use Rattle.ascii_lines.specs.declared.line_reader.LineError.{LineError}
 use Rattle.ascii_lines.specs.declared.serving.Awaited.{Awaited}
 use Rattle.ascii_lines.specs.declared.serving.Awaited.TheVariants.{Input, LineEnd}
@@ -32,7 +36,8 @@ use Rattle.ascii_lines.specs.declared.serving.Next.TheVariants as next
 use Rattle.ascii_lines.specs.declared.serving.Stop.{Stop}
 use Rattle.ascii_lines.proofs.HistoryLemmas.{AtEachRead-append, AtEachRead-reads, AtEachRead-writes}
 use Rattle.ascii_lines.proofs.HistoryLemmas.{IsFlushed-after, IsSettled, received_of-reads}
-use Rattle.ascii_lines.proofs.HistoryLemmas.{received_of-writes, sent_of-reads}
+use Rattle.ascii_lines.proofs.HistoryLemmas.{ends_in_read, received_of-writes, sent_of-reads}
+use Rattle.ascii_lines.specs.History.{EndsInEmptyRead}
 use Rattle.ascii_lines.proofs.LineReaderLemmas.{line_has_bytes}
 
 -- ---- steps after steps
@@ -93,55 +98,114 @@ module _ {H : Type 0} (answers : H → Line → List Reply → Next → H → Ty
         λ both. (both.0.0, others.2 (both.0.1, both.1)),
       )
 
--- what explains errors explains them when more is known
-pub Explains-append : (endings : Endings) (size start : ℕ) (xs ys : List Step) (tail after : List ℕ)
-    → tail ≡ bytes_of ys ++ after → Explains endings size start xs tail
-    → Explains endings size (start + length (bytes_of xs)) ys after
-    → Explains endings size start (xs ++ ys) after
-Explains-append endings size start [] ys tail after is first then =
-    subst (λ n. Explains endings size n ys after) (add-zero start) then
-Explains-append endings size start (took input replies ∷ xs) ys tail after is first then =
-    Explains-append endings size (start + length (line_text input)) xs ys tail after is first
-    (subst (λ n. Explains endings size n ys after)
+-- steps, and then more
+pub Explains-append : (endings : Endings) (size start : ℕ) (xs ys : List Step)
+    (tail after : List ℕ) (is_at_end : Bool) → tail ≡ bytes_of ys ++ after
+    → Explains endings size start xs tail is_at_end
+    → Explains endings size (start + length (bytes_of xs)) ys after is_at_end
+    → Explains endings size start (xs ++ ys) after is_at_end
+Explains-append endings size start [] ys tail after is_at_end is first then =
+    subst (λ n. Explains endings size n ys after is_at_end) (add-zero start) then
+Explains-append endings size start (took input replies ∷ xs) ys tail after is_at_end is first
+    then =
+    Explains-append endings size (start + length (line_text input)) xs ys tail after is_at_end is
+    first
+    (subst (λ n. Explains endings size n ys after is_at_end)
     (omega (arith, length-append (line_text input) (bytes_of xs))) then)
-Explains-append endings size start (rejected error replies ∷ xs) ys tail after is
-    ((text, others, left, all, why), first) then = (
+Explains-append endings size start (rejected error replies ∷ xs) ys tail after is_at_end is
+    ((text, others, all, why), first) then = (
       (
         text,
         others,
-        left,
         ap (λ zs. zs ++ after) (bytes_of-append xs ys)
             ∙ (append_assoc (bytes_of xs) (bytes_of ys) after
             ∙ (ap (λ zs. bytes_of xs ++ zs) (sym is) ∙ all)),
         why,
       ),
-      Explains-append endings size start xs ys tail after is first then,
+      Explains-append endings size start xs ys tail after is_at_end is first then,
     )
-Explains-append endings size start (skipped bytes ∷ xs) ys tail after is first then =
-    Explains-append endings size (start + length bytes) xs ys tail after is first
-    (subst (λ n. Explains endings size n ys after)
+Explains-append endings size start (skipped bytes ∷ xs) ys tail after is_at_end is first then =
+    Explains-append endings size (start + length bytes) xs ys tail after is_at_end is first
+    (subst (λ n. Explains endings size n ys after is_at_end)
     (omega (arith, length-append bytes (bytes_of xs))) then)
 
--- the tail may grow
-pub Explains-more : (endings : Endings) (size start : ℕ) (steps : List Step) (tail more : List ℕ)
-    → Explains endings size start steps tail → Explains endings size start steps (tail ++ more)
-Explains-more endings size start [] tail more first = tt
-Explains-more endings size start (took input replies ∷ steps) tail more first =
-    Explains-more endings size (start + length (line_text input)) steps tail more first
-Explains-more endings size start (rejected error replies ∷ steps) tail more
-    ((text, others, left, all, why), first) = (
+-- why a line is rejected that did not need the end of the input for it
+rejects_on : (wanted : Wanted) (start size : ℕ) (text : List ℕ) (is_at_end : Bool)
+    (why : LineError) → Rejects wanted start size text false why
+    → Rejects wanted start size text is_at_end why
+rejects_on wanted start size text is_at_end (error.NotAscii place) rejects = rejects
+rejects_on wanted start size text is_at_end (error.LoneBreak place)
+    (strict, (i, n, is, lone)) = (
+      strict,
+      (
+        i,
+        n,
+        is,
+        record {
+          fits = lone.fits;
+          inside = lone.inside;
+          may = lone.may;
+          first = lone.first;
+          lone = elim lone.lone [
+            | inl feed ↦ inl feed
+            | inr others ↦ elim others [
+              | inl cr ↦ inr (inl cr)
+              | inr last ↦ absurd (false≢true last.3)
+            ]
+          ];
+        },
+      ),
+    )
+rejects_on wanted start size text is_at_end (error.TooLong place) rejects = rejects
+rejects_on wanted start size text is_at_end error.TooFar rejects = rejects
+rejects_on (wanted.Part count) start size text is_at_end (error.Incomplete n) (is, cut) =
+    absurd (false≢true cut.0)
+rejects_on (wanted.Line endings) start size text is_at_end (error.Incomplete n) (is, cut) =
+    absurd cut
+rejects_on (wanted.Bytes endings) start size text is_at_end (error.Incomplete n) (is, cut) =
+    absurd cut
+rejects_on wanted start size text is_at_end error.Read rejects = rejects
+
+-- so it is if more bytes came, or none after the end
+rejects_more : (wanted : Wanted) (start size : ℕ) (text others more : List ℕ) (was is : Bool)
+    (why : LineError) → (was ≡ true → (more ≡ []) × (is ≡ true))
+    → Rejects wanted start size text (at_end_before others was) why
+    → Rejects wanted start size text (at_end_before (others ++ more) is) why
+rejects_more wanted start size text (b ∷ others) more was is why ends rejects = rejects
+rejects_more wanted start size text [] more true is why ends rejects =
+    let (none, last) = ends refl in
+    subst (λ b. Rejects wanted start size text b why)
+    (sym (ap (λ xs. at_end_before xs is) none ∙ last)) rejects
+rejects_more wanted start size text [] more false is why ends rejects =
+    rejects_on wanted start size text (at_end_before more is) why rejects
+
+-- what explains errors explains them when more bytes came
+pub Explains-more : (endings : Endings) (size start : ℕ) (steps : List Step)
+    (tail more : List ℕ) (was is : Bool) → (was ≡ true → (more ≡ []) × (is ≡ true))
+    → Explains endings size start steps tail was
+    → Explains endings size start steps (tail ++ more) is
+Explains-more endings size start [] tail more was is ends first = tt
+Explains-more endings size start (took input replies ∷ steps) tail more was is ends first =
+    Explains-more endings size (start + length (line_text input)) steps tail more was is ends first
+Explains-more endings size start (rejected error replies ∷ steps) tail more was is ends
+    ((text, others, all, why), first) = (
       (
         text,
         others ++ more,
-        left,
         sym (append_assoc (bytes_of steps) tail more)
             ∙ (ap (λ zs. zs ++ more) all ∙ append_assoc text others more),
-        why,
+        rejects_more (wanted.Line endings) start size text others more was is error ends why,
       ),
-      Explains-more endings size start steps tail more first,
+      Explains-more endings size start steps tail more was is ends first,
     )
-Explains-more endings size start (skipped bytes ∷ steps) tail more first =
-    Explains-more endings size (start + length bytes) steps tail more first
+Explains-more endings size start (skipped bytes ∷ steps) tail more was is ends first =
+    Explains-more endings size (start + length bytes) steps tail more was is ends first
+
+-- nothing comes after the end
+none_after : (was is : Bool) (reads : List (List ℕ)) → ReachesEnd was reads is → was ≡ true
+    → (all_of reads ≡ []) × (is ≡ true)
+none_after true is reads (none, last) seen = (ap all_of none, last)
+none_after false is reads reaches seen = absurd (false≢true seen)
 
 -- ---- between two steps
 
@@ -167,7 +231,9 @@ module _ {H : Type 0} (answers : H → Line → List Reply → Next → H → Ty
       pub prompt : AtEachRead (IsAnswered answers refuses old handler) [] events
       pub received : old.cursor.held ++ received_of events ≡ bytes_of steps ++ now.cursor.held
       pub explains : Explains old.cursor.endings old.cursor.size old.cursor.start steps
-          now.cursor.held
+          now.cursor.held now.cursor.is_at_end
+      pub at_end : now.cursor.is_at_end ≡ true
+          → (old.cursor.is_at_end ≡ true) ⊎ EndsInEmptyRead events
       pub sent : sent_of events ++ now.output.buffer.bytes
           ≡ old.output.buffer.bytes ++ replies_of old.ending steps
       pub start : now.cursor.start ≡ old.cursor.start + length (bytes_of steps)
@@ -192,6 +258,7 @@ module _ {H : Type 0} (answers : H → Line → List Reply → Next → H → Ty
       prompt = tt;
       received = append-nil old.cursor.held;
       explains = tt;
+      at_end = λ seen. inl seen;
       sent = sym (append-nil old.output.buffer.bytes);
       start = sym (add-zero old.cursor.start);
       gave = Gives-nil of_state (read_side old.output);
@@ -364,15 +431,19 @@ module _ {H : Type 0} (answers : H → Line → List Reply → Next → H → Ty
       explained : (steps : List Step) (tail : List ℕ)
           → now.cursor.held ++ all_of m.reads ≡ bytes_of steps ++ tail
           → Explains now.cursor.endings now.cursor.size now.cursor.start steps tail
+          new.cursor.is_at_end
           → Explains old.cursor.endings old.cursor.size old.cursor.start (p.steps ++ steps) tail
+          new.cursor.is_at_end
       explained steps tail is explains =
+          let ends = new.cursor.is_at_end in
           Explains-append old.cursor.endings old.cursor.size old.cursor.start p.steps steps
-          (now.cursor.held ++ all_of m.reads) tail is
+          (now.cursor.held ++ all_of m.reads) tail ends is
           (Explains-more old.cursor.endings old.cursor.size old.cursor.start p.steps
-          now.cursor.held (all_of m.reads) p.explains)
-          (subst (λ n. Explains old.cursor.endings old.cursor.size n steps tail) p.start
-          (subst (λ n. Explains old.cursor.endings n now.cursor.start steps tail) p.size
-          (subst (λ e. Explains e now.cursor.size now.cursor.start steps tail) p.endings
+          now.cursor.held (all_of m.reads) now.cursor.is_at_end ends
+          (none_after now.cursor.is_at_end ends m.reads m.reaches) p.explains)
+          (subst (λ n. Explains old.cursor.endings old.cursor.size n steps tail ends) p.start
+          (subst (λ n. Explains old.cursor.endings n now.cursor.start steps tail ends) p.size
+          (subst (λ e. Explains e now.cursor.size now.cursor.start steps tail ends) p.endings
           explains)))
 
     -- one step more
@@ -416,6 +487,8 @@ module _ {H : Type 0} (answers : H → Line → List Reply → Next → H → Ty
           explains = explained awaited now state p (step_bytes t.step) (step_replies old.ending t.step) new m
               (t.step ∷ []) new.cursor.held
               (m.text ∙ ap (λ xs. xs ++ new.cursor.held) one) t.explains;
+          at_end = ends_in_read old.cursor.is_at_end now.cursor.is_at_end new.cursor.is_at_end
+              p.events m.before m.after m.reads m.first m.then m.reaches p.at_end;
           sent = subst
               (λ b. SentBy b (sent_of (all awaited now state p (step_bytes t.step)
               (step_replies old.ending t.step) new m)) new.output.buffer.bytes
@@ -448,8 +521,9 @@ module _ {H : Type 0} (answers : H → Line → List Reply → Next → H → Ty
     -- the conversation stops
     pub Progress-stop : (awaited : Awaited) (now new : ChannelState) (state last : H) (why : Stop)
         → Progress awaited now state → Stopped answers refuses awaited state now why last new
+        → KnowsEnd now.cursor.is_at_end now.output.aside.bytes
         → Halts answers refuses old handler why new last
-    Progress-stop awaited now new state last why p t =
+    Progress-stop awaited now new state last why p t known =
         let m = subst
         (λ e. Moves (Lacks now.cursor.endings now.cursor.start now.cursor.size awaited) now
         (bytes_of t.steps ++ t.over) (replies_of e t.steps ++ reply_bytes e t.extra) new) p.ending
@@ -493,6 +567,9 @@ module _ {H : Type 0} (answers : H → Line → List Reply → Next → H → Ty
             explains = explained awaited now state p bytes replies new m t.steps
                 (t.over ++ new.cursor.held)
                 (m.text ∙ append_assoc (bytes_of t.steps) t.over new.cursor.held) t.explains;
+            end = m.end known;
+            at_end = ends_in_read old.cursor.is_at_end now.cursor.is_at_end new.cursor.is_at_end
+                p.events m.before m.after m.reads m.first m.then m.reaches p.at_end;
             start = start_all awaited now state p bytes replies new m t.steps t.over refl;
             gave = gave_all awaited now state p bytes replies new m;
             took = took_all awaited now state p bytes replies new m;

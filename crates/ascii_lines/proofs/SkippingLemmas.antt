@@ -1,13 +1,13 @@
 -- Where a line ends in bytes that come in two parts.
 use Rattle.std.proofs.Common.{◌≢◌, ◌≡◌, ℕ, ◌+◌, ◌-◌, ◌<◌, ◌≤◌, List, [], ◌++◌, length, get_or}
-use Rattle.std.proofs.Common.{arith, inl}
+use Rattle.std.proofs.Common.{◌==◌, arith, false, inl, true}
 use Rattle.std.proofs.Common.{inr, length-append, refl, subst, sym, take, drop, None, Option}
 use Rattle.std.proofs.Common.{Some, ◌∷◌, ap, append_assoc, append-nil, ◌∙◌}
 use Rattle.std.proofs.Math.ListN.{get_or-append}
 use Rattle.std.proofs.Math.Seq.{drop-length, get_or-append_right}
 use Rattle.std.proofs.lemmas.Bool.{cases_lt}
 use Rattle.std.proofs.lemmas.List.{get_or-append-add, get_or-drop, length-drop, length-take-le}
-use Rattle.std.proofs.lemmas.List.{nil_from_length, take-append-drop, take_all}
+use Rattle.std.proofs.lemmas.List.{take-append-drop, take_all}
 use Rattle.ascii.specs.Endings.{FreeUpTo, IsFirstStop, StopsAt, any_text}
 use Rattle.ascii.specs.declared.iter.spans.Endings.{Endings}
 use Rattle.ascii.specs.declared.iter.spans.Endings.TheVariants.{Any, CrLf, CrLfStrict}
@@ -19,7 +19,7 @@ use Rattle.std.proofs.lemmas.Str.Ascii.{IsAscii-nil}
 use Rattle.ascii_lines.specs.LineBuffer.{FailsOnce, ReadsOnce, WindowState}
 use Rattle.ascii_lines.specs.Skipping.{Counts, HasNoEnd, IsCleanCut, IsKept, PassesBytes}
 use Rattle.ascii_lines.specs.Skipping.{PassesLine}
-use Rattle.ascii_lines.specs.Wanted.{Gathers}
+use Rattle.ascii_lines.specs.Wanted.{Gathers, KnowsEnd}
 use Rattle.ascii_lines.specs.Skipping.{TakesPart}
 use Rattle.ascii_lines.specs.declared.skipping.PassEnd.{PassEnd}
 use Rattle.ascii_lines.specs.declared.skipping.PassEnd.TheVariants as end
@@ -121,7 +121,8 @@ module _ (bytes text : List ℕ) where
 pub record PassedSoFar (endings : Endings) (limit : ℕ) (old new : WindowState)
     (source now : SourceState) (passed : Passed) : Type 0 where
   pub bytes : List ℕ
-  pub gathers : Gathers (HasNoEnd endings) old.held source now (bytes ++ new.held)
+  pub gathers : Gathers (HasNoEnd endings) old.held old.is_at_end new.is_at_end source now
+      (bytes ++ new.held)
   pub counts : Counts bytes passed
   pub within : length bytes ≤ limit
   pub free : FreeUpTo endings bytes (length bytes)
@@ -183,8 +184,13 @@ module _ (endings : Endings) (plain : any_text endings ≡ endings) (limit : ℕ
       ∙ ap (λ xs. so_far.bytes ++ xs)
       (ap (λ xs. take n now.held ++ xs) pass.held ∙ take-append-drop n now.held)
 
-  gathered : Gathers (HasNoEnd endings) old.held a b (taken ++ after.held)
-  gathered = subst (Gathers (HasNoEnd endings) old.held a b) (sym all) so_far.gathers
+  gathered : Gathers (HasNoEnd endings) old.held old.is_at_end after.is_at_end a b
+      (taken ++ after.held)
+  gathered = subst
+      (λ is. Gathers (HasNoEnd endings) old.held old.is_at_end is a b (taken ++ after.held))
+      (sym pass.at_end)
+      (subst (Gathers (HasNoEnd endings) old.held old.is_at_end now.is_at_end a b) (sym all)
+      so_far.gathers)
 
   long : length taken ≡ length so_far.bytes + n
   long = length-append so_far.bytes (take n now.held)
@@ -323,16 +329,17 @@ module _ (endings : Endings) (plain : any_text endings ≡ endings) (limit : ℕ
 -- one read more
 abbrev pub passed_more : (endings : Endings) (limit : ℕ) (old now after : WindowState)
     (a b c : SourceState) (passed : Passed) (read : List ℕ)
-    → PassedAll endings limit old now a b passed → ReadsOnce b c read
-    → after.held ≡ now.held ++ read → after.size ≡ now.size
-    → PassedSoFar endings limit old after a c passed
-passed_more endings limit old now after a b c passed read all reads is size =
+    → PassedAll endings limit old now a b passed → now.is_at_end ≡ false → ReadsOnce b c read
+    → after.held ≡ now.held ++ read → after.is_at_end ≡ (length read == 0)
+    → after.size ≡ now.size → PassedSoFar endings limit old after a c passed
+passed_more endings limit old now after a b c passed read all more reads is last size =
     let so_far = all.so_far in
     record {
       bytes = so_far.bytes;
-      gathers = Gathers-read (HasNoEnd endings) old.held a b c (so_far.bytes ++ now.held) read
-          so_far.gathers so_far.failures all.none (so_far.bytes ++ after.held) reads
-          (ap (λ xs. so_far.bytes ++ xs) is ∙ sym (append_assoc so_far.bytes now.held read));
+      gathers = Gathers-read (HasNoEnd endings) old.held old.is_at_end now.is_at_end
+          after.is_at_end a b c (so_far.bytes ++ now.held) read so_far.gathers more
+          so_far.failures all.none (so_far.bytes ++ after.held) reads
+          (ap (λ xs. so_far.bytes ++ xs) is ∙ sym (append_assoc so_far.bytes now.held read)) last;
       counts = so_far.counts;
       within = so_far.within;
       free = so_far.free;
@@ -344,10 +351,11 @@ passed_more endings limit old now after a b c passed read all reads is size =
 
 -- nothing was taken yet
 pub passed_none : (endings : Endings) (limit : ℕ) (buffer : WindowState) (a : SourceState)
+    → KnowsEnd buffer.is_at_end a.rest
     → PassedSoFar endings limit buffer buffer a a (record { count = 0; other = None })
-passed_none endings limit buffer a = record {
+passed_none endings limit buffer a end = record {
   bytes = [];
-  gathers = Gathers-nil (HasNoEnd endings) buffer.held a;
+  gathers = Gathers-nil (HasNoEnd endings) buffer.held buffer.is_at_end a end;
   counts = record { count = refl; other = IsAscii-nil };
   within = omega arith;
   free = λ k low. absurd (omega (arith, low));
@@ -359,13 +367,14 @@ passed_none endings limit buffer a = record {
 -- a read failed, or was not made
 pub pass_fails : (endings : Endings) (limit : ℕ) (old now after : WindowState)
     (a b c : SourceState) (passed : Passed) (all : PassedAll endings limit old now a b passed)
-    → Gathers (HasNoEnd endings) old.held a c (all.so_far.bytes ++ now.held)
-    → c.failures ≡ one_more b.failures → after.held ≡ now.held
+    → Gathers (HasNoEnd endings) old.held old.is_at_end after.is_at_end a c
+    (all.so_far.bytes ++ now.held) → c.failures ≡ one_more b.failures → after.held ≡ now.held
     → after.size ≡ now.size → PassesLine endings limit old after a c passed end.Failed
 pass_fails endings limit old now after a b c passed all gathers fails is size = record {
   bytes = all.so_far.bytes;
-  gathers = subst (λ xs. Gathers (HasNoEnd endings) old.held a c (all.so_far.bytes ++ xs)) (sym is)
-      gathers;
+  gathers = subst
+      (λ xs. Gathers (HasNoEnd endings) old.held old.is_at_end after.is_at_end a c
+      (all.so_far.bytes ++ xs)) (sym is) gathers;
   counts = all.so_far.counts;
   within = all.so_far.within;
   ends = subst
@@ -379,44 +388,38 @@ pass_fails endings limit old now after a b c passed all gathers fails is size = 
 -- a read failed
 pub pass_failed : (endings : Endings) (limit : ℕ) (old now after : WindowState)
     (a b c : SourceState) (passed : Passed) → PassedAll endings limit old now a b passed
-    → FailsOnce b c → c.failures ≡ one_more b.failures → after.held ≡ now.held
-    → after.size ≡ now.size → PassesLine endings limit old after a c passed end.Failed
-pass_failed endings limit old now after a b c passed all fails count is size =
+    → now.is_at_end ≡ false → FailsOnce b c → c.failures ≡ one_more b.failures
+    → after.held ≡ now.held → after.is_at_end ≡ now.is_at_end → after.size ≡ now.size
+    → PassesLine endings limit old after a c passed end.Failed
+pass_failed endings limit old now after a b c passed all more fails count is last size =
     pass_fails endings limit old now after a b c passed all
-    (Gathers-failed (HasNoEnd endings) old.held a b c (all.so_far.bytes ++ now.held)
-    (all.so_far.bytes ++ now.held) all.so_far.gathers all.so_far.failures all.none fails refl)
-    count is size
+    (Gathers-failed (HasNoEnd endings) old.held old.is_at_end now.is_at_end after.is_at_end a b c
+    (all.so_far.bytes ++ now.held) (all.so_far.bytes ++ now.held) all.so_far.gathers more
+    all.so_far.failures all.none fails refl last) count is size
 
--- the source is at its end, and the bytes that are left are taken
-pub pass_ends : (endings : Endings) (limit : ℕ) (old now mid after : WindowState)
-    (a b c : SourceState) (passed passed' : Passed)
-    → PassedAll endings limit old now a b passed → (read : List ℕ) → length read ≡ 0
-    → ReadsOnce b c read → mid.held ≡ now.held ++ read
-    → mid.size ≡ now.size → (k : ℕ) → k ≡ length mid.held → PassesBytes k mid after passed passed'
-    → PassesLine endings limit old after a c passed' end.Input
-pass_ends endings limit old now mid after a b c passed passed' passed_all read none reads is size k
-    whole pass =
-    let so_far = passed_all.so_far in
-    let taken : take k mid.held ≡ mid.held = take_all k mid.held (omega (arith, whole)) in
+-- a read has returned no bytes, and the bytes that are left are taken
+pub pass_ends : (endings : Endings) (limit : ℕ) (old now after : WindowState) (a b : SourceState)
+    (passed passed' : Passed) → PassedAll endings limit old now a b passed
+    → now.is_at_end ≡ true → (k : ℕ) → k ≡ length now.held → PassesBytes k now after passed passed'
+    → PassesLine endings limit old after a b passed' end.Input
+pass_ends endings limit old now after a b passed passed' all last k whole pass =
+    let so_far = all.so_far in
+    let taken : take k now.held ≡ now.held = take_all k now.held (omega (arith, whole)) in
     let held : after.held ≡ [] =
-    pass.held ∙ (ap (λ n. drop n mid.held) whole ∙ drop-length mid.held) in
-    let empty : read ≡ [] = nil_from_length read none in
-    let all : mid.held ≡ now.held =
-    is ∙ (ap (λ xs. now.held ++ xs) empty ∙ append-nil now.held) in
-    let more = passed_more endings limit old now mid a b c passed read passed_all reads is size in
-    let text : (so_far.bytes ++ mid.held) ++ after.held ≡ so_far.bytes ++ mid.held =
-    ap (λ xs. (so_far.bytes ++ mid.held) ++ xs) held ∙ append-nil (so_far.bytes ++ mid.held) in
+    pass.held ∙ (ap (λ n. drop n now.held) whole ∙ drop-length now.held) in
+    let text : (so_far.bytes ++ now.held) ++ after.held ≡ so_far.bytes ++ now.held =
+    ap (λ xs. (so_far.bytes ++ now.held) ++ xs) held ∙ append-nil (so_far.bytes ++ now.held) in
     record {
-      bytes = so_far.bytes ++ mid.held;
-      gathers = subst (Gathers (HasNoEnd endings) old.held a c) (sym text) more.gathers;
+      bytes = so_far.bytes ++ now.held;
+      gathers = subst
+          (λ is. Gathers (HasNoEnd endings) old.held old.is_at_end is a b
+          ((so_far.bytes ++ now.held) ++ after.held)) (sym pass.at_end)
+          (subst (Gathers (HasNoEnd endings) old.held old.is_at_end now.is_at_end a b) (sym text)
+          so_far.gathers);
       counts = subst (λ xs. Counts (so_far.bytes ++ xs) passed') taken
           (pass.counts so_far.bytes so_far.counts);
-      within = omega (arith, length-append so_far.bytes mid.held, ap length all, passed_all.reach);
-      ends = (
-        subst (λ xs. HasNoEnd endings (so_far.bytes ++ xs)) (sym all) passed_all.none,
-        held,
-        reads.end empty,
-      );
-      failures = reads.failures ∙ so_far.failures;
-      size = pass.size ∙ (size ∙ so_far.size);
+      within = omega (arith, length-append so_far.bytes now.held, all.reach);
+      ends = (all.none, held, pass.at_end ∙ last);
+      failures = so_far.failures;
+      size = pass.size ∙ so_far.size;
     }

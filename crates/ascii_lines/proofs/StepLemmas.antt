@@ -133,7 +133,7 @@ is_done lines up ended = elim up [
 module _ (what : Wanted) (waits : Bool) (done : Unit {0}) (old mid : ChannelState)
     (cursor : CursorState) (output : OutputState) (up : IsUp old)
     (is_wanted : IsWantedAt old what)
-    (waits_is : IsTrue waits ↔ (old.cursor.stage ≡ Open)
+    (waits_is : IsTrue waits ↔ (old.cursor.stage ≡ Open) × (old.cursor.is_at_end ≡ false)
     × MustRead what old.cursor.start old.cursor.size old.cursor.held)
     (prepares : Prepares waits old (Ok done) mid)
     (ending : Ending) (beside : (output.buffer ≡ mid.output.buffer) × (ending ≡ mid.ending)) where
@@ -152,14 +152,15 @@ module _ (what : Wanted) (waits : Bool) (done : Unit {0}) (old mid : ChannelStat
   -- the bytes that were read
   heard : (bytes : List ℕ) → old.cursor.stage ≡ Open
       → Gathers (MustRead what mid.cursor.start mid.cursor.size) mid.cursor.held
-      (read_side mid.output) (read_side output) (bytes ++ cursor.held)
+      mid.cursor.is_at_end cursor.is_at_end (read_side mid.output) (read_side output)
+      (bytes ++ cursor.held)
       → cursor.start ≡ mid.cursor.start + length bytes → cursor.size ≡ mid.cursor.size
       → cursor.endings ≡ mid.cursor.endings → Moves Must old bytes [] new
   heard bytes going gathers start size endings = Moves-heard Must waits done old mid new bytes up.1
-      prepares (λ none must. false≢true (sym none ∙ waits_is.1 (going, must))) (record {
+      prepares (λ none more must. false≢true (sym none ∙ waits_is.1 (going, more, must))) (record {
         gathers = subst
             (λ (c : CursorState). Gathers (MustRead what c.start c.size) mid.cursor.held
-            (read_side mid.output) (read_side output) (bytes ++ cursor.held)) cursor_kept gathers;
+            mid.cursor.is_at_end cursor.is_at_end (read_side mid.output) (read_side output) (bytes ++ cursor.held)) cursor_kept gathers;
         buffer = beside.0;
         start = start;
         size = size;
@@ -212,9 +213,9 @@ module _ (what : Wanted) (waits : Bool) (done : Unit {0}) (old mid : ChannelStat
   taken_open (Err why) going stops = (
     heard [] going stops.refuses.gathers
         (stops.start ∙ sym (add-zero mid.cursor.start)) stops.size stops.endings,
-    subst (λ n. Rejects what n cursor.size cursor.held output.aside.bytes why)
+    subst (λ n. Rejects what n cursor.size cursor.held cursor.is_at_end why)
         (sym stops.start)
-        (subst (λ n. Rejects what mid.cursor.start n cursor.held output.aside.bytes why)
+        (subst (λ n. Rejects what mid.cursor.start n cursor.held cursor.is_at_end why)
         (sym stops.size) stops.refuses.why),
     λ line. stops.stage,
     λ more. (well (stops.refuses.failures ∙ same_failures why more), going),
@@ -240,6 +241,7 @@ module _ (what : Wanted) (waits : Bool) (done : Unit {0}) (old mid : ChannelStat
           held = r.state.held;
           stage = r.state.stage;
           endings = r.state.endings;
+          is_at_end = r.state.is_at_end;
           lent = r.lent;
         }) same ∙ cursor_kept
 
@@ -288,7 +290,7 @@ module _ (what : Wanted) (waits : Bool) (done : Unit {0}) (old mid : ChannelStat
         subst (λ r. TakesWanted what old (taken_by r) new) (sym at) (
           moves_still,
           subst
-              (λ w. Rejects w cursor.start cursor.size cursor.held output.aside.bytes
+              (λ w. Rejects w cursor.start cursor.size cursor.held cursor.is_at_end
               (error.Incomplete 0)) (sym is) (cut_off n may),
           λ line. absurd (part_is_not_line n (sym (ap asked_by is) ∙ line)),
           λ more. absurd (more tt),
@@ -296,11 +298,11 @@ module _ (what : Wanted) (waits : Bool) (done : Unit {0}) (old mid : ChannelStat
         )
       where
         cut_off : (n : ℕ) → 0 < n → Rejects (wanted.Part n) cursor.start cursor.size cursor.held
-            output.aside.bytes (error.Incomplete 0)
+            cursor.is_at_end (error.Incomplete 0)
         cut_off n some = subst
-            (λ held. Rejects (wanted.Part n) cursor.start cursor.size held output.aside.bytes
+            (λ held. Rejects (wanted.Part n) cursor.start cursor.size held cursor.is_at_end
             (error.Incomplete 0)) (sym done_still.none)
-            (refl, (done_still.left, IsAscii-nil, some))
+            (refl, (done_still.seen, IsAscii-nil, some))
 
   pub takes_wanted : (result : Result Bool LineError)
       → AdvancesFrom mid.cursor.stage what (reading_at of_state mid.cursor (read_side mid.output))
@@ -358,7 +360,8 @@ skip_unsent then waits old now why prepares (Err e) is =
 
 module _ (then : Next) (waits : Bool) (done : Unit {0}) (old mid : ChannelState)
     (cursor : CursorState) (output : OutputState) (may : MaySkip old)
-    (waits_is : IsTrue waits ↔ HasNoEnd (any_text old.cursor.endings) old.cursor.held)
+    (waits_is : IsTrue waits ↔ (old.cursor.is_at_end ≡ false)
+    × HasNoEnd (any_text old.cursor.endings) old.cursor.held)
     (prepares : Prepares waits old (Ok done) mid)
     (ending : Ending) (beside : (output.buffer ≡ mid.output.buffer) × (ending ≡ mid.ending))
     (result : Result SkippedLine LineError)
@@ -391,10 +394,10 @@ module _ (then : Next) (waits : Bool) (done : Unit {0}) (old mid : ChannelState)
       → SkipsBytes (state_at mid.cursor (read_side mid.output)) bytes
       (state_at cursor (read_side output)) → Moves Free old bytes [] after
   passed bytes over = Moves-heard Free waits done old mid after bytes may.1 prepares
-      (λ none must. false≢true (sym none ∙ waits_is.1 must)) (record {
+      (λ none more must. false≢true (sym none ∙ waits_is.1 (more, must))) (record {
         gathers = subst
             (λ (c : CursorState). Gathers (HasNoEnd (any_text c.endings)) mid.cursor.held
-            (read_side mid.output) (read_side output) (bytes ++ cursor.held)) cursor_was
+            mid.cursor.is_at_end cursor.is_at_end (read_side mid.output) (read_side output) (bytes ++ cursor.held)) cursor_was
             over.gathers;
         buffer = beside.0;
         start = over.start;

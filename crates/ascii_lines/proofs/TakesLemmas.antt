@@ -1,10 +1,9 @@
 -- Taking what is wanted off a buffer in which a search has found it, or has not.
 use Rattle.std.proofs.Common.{Bool, true, false, drop, ◌≤◌, take-append-drop, Err, IfErr, None}
-use Rattle.std.proofs.Common.{Ok, OnErr, Option, Result, Some, ◌∷◌}
+use Rattle.std.proofs.Common.{Ok, OnErr, Result, Some, ◌∷◌}
 use Rattle.std.proofs.Common.{◌≡◌, ◌≢◌, ◌⊎◌, ℕ, ◌+◌, ◌-◌, ◌<◌, ◌^◌, List, [], ◌++◌, length, take}
 use Rattle.std.proofs.Common.{get_or}
 use Rattle.std.proofs.Common.{arith, inl, inr, length-append, append-nil, refl, sym, ap, subst, ◌∙◌}
-use Rattle.std.specs.Io.KnownBytes.{IsAtEnd}
 use Rattle.std.specs.Result.{IsErrAnd}
 use Rattle.std.specs.Str.{IsAscii}
 use Rattle.std.proofs.Math.ListN.{get_or-append}
@@ -21,7 +20,7 @@ use Rattle.ascii_devices.specs.States.{SourceState}
 use Rattle.ascii_lines.specs.LineBuffer.{WindowState}
 use Rattle.ascii_lines.specs.LineReader.{FindsEnd, IsTaken, StopsBy, TakesOff}
 use Rattle.ascii_lines.specs.Wanted.{FindsFault, IsCutOff, IsEndOf, IsFar, IsLoneBreak, IsSearched}
-use Rattle.ascii_lines.specs.Wanted.{EndsAt, Gathers, IsOne, IsStrict, IsUnfit, LacksUpTo}
+use Rattle.ascii_lines.specs.Wanted.{EndsAt, Gathers, IsOne, KnowsEnd, IsStrict, IsUnfit, LacksUpTo}
 use Rattle.ascii_lines.specs.Wanted.{MayBeLast}
 use Rattle.ascii_lines.specs.Wanted.{MayHave, MustRead, Refuses, Rejects, failures_after}
 use Rattle.ascii_lines.specs.declared.line_reader.LineError.{LineError}
@@ -35,7 +34,7 @@ use Rattle.ascii_lines.proofs.WantedLemmas.{ends_front, searched_front}
 
 -- ---- a lone CR or LF
 
-module _ (wanted : Wanted) (size : ℕ) (given held : List ℕ) (left : Option (List ℕ)) (i : ℕ)
+module _ (wanted : Wanted) (size : ℕ) (given held : List ℕ) (is_at_end : Bool) (i : ℕ)
     (fits : length given ≤ size) (may : MayHave wanted given)
     (free : FreeUpTo CrLfStrict given (length given - 1)) where
   here : (k : ℕ) → k < length given → get_or (given ++ held) k 0 ≡ get_or given k 0
@@ -50,8 +49,8 @@ module _ (wanted : Wanted) (size : ℕ) (given held : List ℕ) (left : Option (
       ⊎ ((length given ≡ i + 2) × (get_or (given ++ held) i 0 ≡ 13)
       × (get_or (given ++ held) (i + 1) 0 ≢ 10))
       ⊎ ((length given ≡ i + 1) × (length given ≡ length (given ++ held))
-      × (get_or (given ++ held) i 0 ≡ 13) × IsAtEnd left))
-      → IsLoneBreak wanted size (given ++ held) left i (length given)
+      × (get_or (given ++ held) i 0 ≡ 13) × (is_at_end ≡ true)))
+      → IsLoneBreak wanted size (given ++ held) is_at_end i (length given)
   lone_of first low lone = record {
     fits = fits;
     inside = omega (arith, length-append given held);
@@ -65,7 +64,7 @@ module _ (wanted : Wanted) (size : ℕ) (given held : List ℕ) (left : Option (
 
   -- LF without a CR before it
   lone_feed : length given ≡ i + 1 → get_or given i 0 ≡ 10 → ¬ (IsCrLfAt given i)
-      → IsLoneBreak wanted size (given ++ held) left i (length given)
+      → IsLoneBreak wanted size (given ++ held) is_at_end i (length given)
   lone_feed long feed other = lone_of
       (λ k before. (
         no_feed k (omega (arith, before, long)),
@@ -80,7 +79,7 @@ module _ (wanted : Wanted) (size : ℕ) (given held : List ℕ) (left : Option (
 
   -- CR with another byte after it
   lone_cr : length given ≡ i + 2 → get_or given i 0 ≡ 13 → get_or given (i + 1) 0 ≢ 10
-      → IsLoneBreak wanted size (given ++ held) left i (length given)
+      → IsLoneBreak wanted size (given ++ held) is_at_end i (length given)
   lone_cr long cr other = lone_of
       (λ k before. (
         no_feed k (omega (arith, before, long)),
@@ -93,22 +92,22 @@ module _ (wanted : Wanted) (size : ℕ) (given held : List ℕ) (left : Option (
       )))
 
 -- the last bytes of an input have a lone CR or LF among the last two
-lone_at_end : (wanted : Wanted) (size : ℕ) (given held : List ℕ) (left : Option (List ℕ)) (i : ℕ)
+lone_at_end : (wanted : Wanted) (size : ℕ) (given held : List ℕ) (is_at_end : Bool) (i : ℕ)
     → length given ≤ size → MayHave wanted given → FreeUpTo CrLfStrict given (length given)
-    → held ≡ [] → IsAtEnd left
+    → held ≡ [] → is_at_end ≡ true
     → ((length given ≡ i + 1) × (get_or given i 0 ≡ 10) × ¬ (IsCrLfAt given i))
     ⊎ ((length given ≡ i + 2) × (get_or given i 0 ≡ 13) × (get_or given (i + 1) 0 ≢ 10))
     ⊎ ((length given ≡ i + 1) × (get_or given i 0 ≡ 13)
     × ((k : ℕ) → length given ≡ k + 2 → get_or given k 0 ≢ 13))
-    → IsLoneBreak wanted size (given ++ held) left i (length given)
-lone_at_end wanted size given held left i fits may free none ended lone =
+    → IsLoneBreak wanted size (given ++ held) is_at_end i (length given)
+lone_at_end wanted size given held is_at_end i fits may free none ended lone =
     let less : FreeUpTo CrLfStrict given (length given - 1) =
     λ k low. free k (omega (arith, low)) in
     elim lone [
-      | inl feed ↦ lone_feed wanted size given held left i fits may less feed.0 feed.1 feed.2
+      | inl feed ↦ lone_feed wanted size given held is_at_end i fits may less feed.0 feed.1 feed.2
       | inr others ↦ elim others [
-        | inl cr ↦ lone_cr wanted size given held left i fits may less cr.0 cr.1 cr.2
-        | inr last ↦ lone_of wanted size given held left i fits may less
+        | inl cr ↦ lone_cr wanted size given held is_at_end i fits may less cr.0 cr.1 cr.2
+        | inr last ↦ lone_of wanted size given held is_at_end i fits may less
             (λ k before. (
               λ is. free k (omega (arith, before, last.0)) (inl is),
               no_cr_below given (length given) k free (omega (arith, before, last.0)),
@@ -123,17 +122,17 @@ lone_at_end wanted size given held left i fits may free none ended lone =
     ]
 
 -- so have bytes of which the last is the first that stops
-lone_at_stop : (wanted : Wanted) (size : ℕ) (given held : List ℕ) (left : Option (List ℕ)) (i : ℕ)
+lone_at_stop : (wanted : Wanted) (size : ℕ) (given held : List ℕ) (is_at_end : Bool) (i : ℕ)
     → length given ≤ size → MayHave wanted given → IsFirstStop CrLfStrict given (length given)
     → ((length given ≡ i + 1) × (get_or given i 0 ≡ 10) × ¬ (IsCrLfAt given i))
     ⊎ ((length given ≡ i + 2) × (get_or given i 0 ≡ 13) × (get_or given (i + 1) 0 ≢ 10))
     ⊎ ((length given ≡ i + 1) × (get_or given i 0 ≡ 13)
     × ((k : ℕ) → length given ≡ k + 2 → get_or given k 0 ≢ 13))
-    → IsLoneBreak wanted size (given ++ held) left i (length given)
-lone_at_stop wanted size given held left i fits may stop lone = elim lone [
-  | inl feed ↦ lone_feed wanted size given held left i fits may stop.free feed.0 feed.1 feed.2
+    → IsLoneBreak wanted size (given ++ held) is_at_end i (length given)
+lone_at_stop wanted size given held is_at_end i fits may stop lone = elim lone [
+  | inl feed ↦ lone_feed wanted size given held is_at_end i fits may stop.free feed.0 feed.1 feed.2
   | inr others ↦ elim others [
-    | inl cr ↦ lone_cr wanted size given held left i fits may stop.free cr.0 cr.1 cr.2
+    | inl cr ↦ lone_cr wanted size given held is_at_end i fits may stop.free cr.0 cr.1 cr.2
     | inr last ↦ elim stop.last [
       | inl feed ↦
           let same : length given - 1 ≡ i = omega (arith, last.0) in
@@ -151,18 +150,18 @@ some_bytes (b ∷ bytes) some = omega arith
 -- ---- what a search has found
 
 -- before its end, what is wanted is not among the bytes
-free_by : (wanted : Wanted) (buffer : WindowState) (source : SourceState) (n : ℕ) (is_last : Bool)
-    → StopsBy wanted buffer source n is_last → IsSearched wanted buffer.held (n - 1)
-free_by (Line endings) buffer source n true stops =
+free_by : (wanted : Wanted) (buffer : WindowState) (n : ℕ) (is_last : Bool)
+    → StopsBy wanted buffer n is_last → IsSearched wanted buffer.held (n - 1)
+free_by (Line endings) buffer n true stops =
     λ k low. stops.2 k (omega (arith, low))
-free_by (Line endings) buffer source n false stops = stops.free
-free_by (Bytes endings) buffer source n true stops =
+free_by (Line endings) buffer n false stops = stops.free
+free_by (Bytes endings) buffer n true stops =
     λ k low. stops.2 k (omega (arith, low))
-free_by (Bytes endings) buffer source n false stops = stops.free
-free_by (Part count) buffer source n is_last stops = tt
+free_by (Bytes endings) buffer n false stops = stops.free
+free_by (Part count) buffer n is_last stops = tt
 
-module _ (wanted : Wanted) (start : ℕ) (buffer : WindowState) (source : SourceState) (n : ℕ)
-    (is_last : Bool) (finds : FindsEnd wanted buffer source n is_last) where
+module _ (wanted : Wanted) (start : ℕ) (buffer : WindowState) (n : ℕ)
+    (is_last : Bool) (finds : FindsEnd wanted buffer n is_last) where
   abbrev pub bytes : List ℕ
   bytes = take n buffer.held
 
@@ -180,27 +179,27 @@ module _ (wanted : Wanted) (start : ℕ) (buffer : WindowState) (source : Source
 
   -- the bytes end too far
   far : 2 ^ 64 - 1 < start + length bytes → IsFar wanted start buffer.held
-  far beyond = go wanted finds.stops (free_by wanted buffer source n is_last finds.stops)
+  far beyond = go wanted finds.stops (free_by wanted buffer n is_last finds.stops)
     where
-      go : (wanted : Wanted) → StopsBy wanted buffer source n is_last
+      go : (wanted : Wanted) → StopsBy wanted buffer n is_last
           → IsSearched wanted buffer.held (n - 1) → IsFar wanted start buffer.held
       go (Line endings) stops free = (n, finds.within, free, omega (arith, beyond, long))
       go (Bytes endings) stops free = (n, finds.within, free, omega (arith, beyond, long))
       go (Part count) stops free = part is_last stops
         where
-          part : (is_last' : Bool) → StopsBy (Part count) buffer source n is_last'
+          part : (is_last' : Bool) → StopsBy (Part count) buffer n is_last'
               → 2 ^ 64 - 1 < start + count
           part true stops = omega (arith, beyond, long, stops.2)
           part false stops = omega (arith, beyond, long, stops)
 
   -- a part is longer than all bytes
-  cut_off : ¬ (MayBeLast wanted is_last) → IsCutOff wanted buffer.held source.rest × (n
+  cut_off : ¬ (MayBeLast wanted is_last) → IsCutOff wanted buffer.held buffer.is_at_end × (n
       ≡ length buffer.held)
   cut_off not_last = go wanted is_last not_last finds.may finds.stops
     where
       go : (wanted' : Wanted) (is_last' : Bool) → ¬ (MayBeLast wanted' is_last')
-          → MayHave wanted' bytes → StopsBy wanted' buffer source n is_last'
-          → IsCutOff wanted' buffer.held source.rest × (n ≡ length buffer.held)
+          → MayHave wanted' bytes → StopsBy wanted' buffer n is_last'
+          → IsCutOff wanted' buffer.held buffer.is_at_end × (n ≡ length buffer.held)
       go (Line endings) last not_last may stops = absurd (not_last tt)
       go (Bytes endings) last not_last may stops = absurd (not_last tt)
       go (Part count) false not_last may stops = absurd (not_last tt)
@@ -216,39 +215,39 @@ module _ (wanted : Wanted) (start : ℕ) (buffer : WindowState) (source : Source
   -- the bytes have a lone CR or LF
   lone_break : (i : ℕ) → FindsFault wanted bytes (Some i)
       → IsStrict wanted × ((j n : ℕ) × (start + i ≡ start + j)
-      × IsLoneBreak wanted buffer.size buffer.held source.rest j n)
+      × IsLoneBreak wanted buffer.size buffer.held buffer.is_at_end j n)
   lone_break i fault = subst
       (λ text. IsStrict wanted × ((j n : ℕ) × (start + i ≡ start + j)
-      × IsLoneBreak wanted buffer.size text source.rest j n)) whole
+      × IsLoneBreak wanted buffer.size text buffer.is_at_end j n)) whole
       (go wanted finds.may finds.stops fault)
     where
       line : (wanted : Wanted) (endings : Endings) (is_last' : Bool) → MayHave wanted bytes
-          → StopsBy (Line endings) buffer source n is_last' → FindsLoneBreak endings bytes (Some i)
-          → IsLoneBreak wanted buffer.size (bytes ++ others) source.rest i (length bytes)
+          → StopsBy (Line endings) buffer n is_last' → FindsLoneBreak endings bytes (Some i)
+          → IsLoneBreak wanted buffer.size (bytes ++ others) buffer.is_at_end i (length bytes)
       line wanted endings true may stops lone =
           let none : others ≡ [] =
           ap (λ k. drop k buffer.held) stops.0 ∙ drop-length buffer.held in
-          lone_at_end wanted buffer.size bytes others source.rest i fits may
+          lone_at_end wanted buffer.size bytes others buffer.is_at_end i fits may
           (subst (λ kind. FreeUpTo kind bytes (length bytes)) lone.0
           (subst (FreeUpTo endings bytes) (sym long)
           (searched_front buffer.held n n (omega arith)
           (Line endings) stops.2))) none stops.1 lone.1
       line wanted endings false may stops lone =
-          lone_at_stop wanted buffer.size bytes others source.rest i fits may
+          lone_at_stop wanted buffer.size bytes others buffer.is_at_end i fits may
           (subst (λ kind. IsFirstStop kind bytes (length bytes)) lone.0
           (subst (IsFirstStop endings bytes) (sym long)
           (ends_front buffer.held n n (omega arith) (Line endings) stops))) lone.1
 
       as_line : (endings : Endings) (is_last' : Bool)
-          → StopsBy (Bytes endings) buffer source n is_last'
-          → StopsBy (Line endings) buffer source n is_last'
+          → StopsBy (Bytes endings) buffer n is_last'
+          → StopsBy (Line endings) buffer n is_last'
       as_line endings true stops = stops
       as_line endings false stops = stops
 
       go : (wanted : Wanted) → MayHave wanted bytes
-          → StopsBy wanted buffer source n is_last → FindsFault wanted bytes (Some i)
+          → StopsBy wanted buffer n is_last → FindsFault wanted bytes (Some i)
           → IsStrict wanted × ((j n : ℕ) × (start + i ≡ start + j)
-          × IsLoneBreak wanted buffer.size (bytes ++ others) source.rest j n)
+          × IsLoneBreak wanted buffer.size (bytes ++ others) buffer.is_at_end j n)
       go (Line endings) may stops lone =
           (lone.0, (i, length bytes, refl, line (Line endings) endings is_last may stops lone))
       go (Bytes endings) may stops lone = (
@@ -264,7 +263,7 @@ module _ (wanted : Wanted) (start : ℕ) (buffer : WindowState) (source : Source
 
   -- why it is not given
   pub end_rejects : (k : ℕ) (error : LineError) → IsEndOf wanted start bytes is_last (Err error)
-      → Rejects wanted start buffer.size buffer.held source.rest error
+      → Rejects wanted start buffer.size buffer.held buffer.is_at_end error
       × (failures_after k error ≡ k)
   end_rejects k (Incomplete count) (is, not_last) =
       let cut = cut_off not_last in ((omega (arith, is, long, cut.1), cut.0), refl)
@@ -277,25 +276,25 @@ module _ (wanted : Wanted) (start : ℕ) (buffer : WindowState) (source : Source
   end_rejects k Read end = absurd end
 
 -- a part does not fit
-pub unfit_refuses : (wanted : Wanted) (start size : ℕ) (held : List ℕ) (a : SourceState)
-    (error : LineError) → IsUnfit wanted start size error
-    → Refuses wanted start size held a a held error
-unfit_refuses (Part count) start size held a (TooLong place) unfit = record {
-  gathers = Gathers-nil (MustRead (Part count) start size) held a;
+pub unfit_refuses : (wanted : Wanted) (start size : ℕ) (held : List ℕ) (is_at_end : Bool)
+    (a : SourceState) (error : LineError) → IsUnfit wanted start size error
+    → KnowsEnd is_at_end a.rest → Refuses wanted start size held is_at_end is_at_end a a held error
+unfit_refuses (Part count) start size held is_at_end a (TooLong place) unfit end = record {
+  gathers = Gathers-nil (MustRead (Part count) start size) held is_at_end a end;
   why = unfit;
   failures = refl;
 }
-unfit_refuses (Part count) start size held a TooFar unfit = record {
-  gathers = Gathers-nil (MustRead (Part count) start size) held a;
+unfit_refuses (Part count) start size held is_at_end a TooFar unfit end = record {
+  gathers = Gathers-nil (MustRead (Part count) start size) held is_at_end a end;
   why = unfit;
   failures = refl;
 }
-unfit_refuses (Part count) start size held a (NotAscii place) unfit = absurd unfit
-unfit_refuses (Part count) start size held a (LoneBreak place) unfit = absurd unfit
-unfit_refuses (Part count) start size held a (Incomplete place) unfit = absurd unfit
-unfit_refuses (Part count) start size held a Read unfit = absurd unfit
-unfit_refuses (Line endings) start size held a error unfit = absurd unfit
-unfit_refuses (Bytes endings) start size held a error unfit = absurd unfit
+unfit_refuses (Part count) start size held is_at_end a (NotAscii place) unfit end = absurd unfit
+unfit_refuses (Part count) start size held is_at_end a (LoneBreak place) unfit end = absurd unfit
+unfit_refuses (Part count) start size held is_at_end a (Incomplete place) unfit end = absurd unfit
+unfit_refuses (Part count) start size held is_at_end a Read unfit end = absurd unfit
+unfit_refuses (Line endings) start size held is_at_end a error unfit end = absurd unfit
+unfit_refuses (Bytes endings) start size held is_at_end a error unfit end = absurd unfit
 
 -- the error of a call that another returns
 pub same_err : {T E : Type 0} (result : Result T E) (error : E) (P : E → Type 0)
@@ -309,15 +308,17 @@ on_error (Err _) holds = holds
 
 -- what was taken
 module _ (wanted : Wanted) (start : ℕ) (old buffer new : WindowState) (a b : SourceState) (n : ℕ)
-    (is_last : Bool) (finds : FindsEnd wanted buffer b n is_last)
-    (gathers : Gathers (MustRead wanted start old.size) old.held a b buffer.held)
+    (is_last : Bool) (finds : FindsEnd wanted buffer n is_last)
+    (gathers : Gathers (MustRead wanted start old.size) old.held old.is_at_end buffer.is_at_end a b
+    buffer.held)
     (same : buffer.size ≡ old.size) (kept : b.failures ≡ a.failures)
-    (given : new.given ≡ take n buffer.held) (held : new.held ≡ drop n buffer.held) where
-  taken : (wanted' : Wanted) (is_last' : Bool) → StopsBy wanted' buffer b n is_last'
-      → IsTaken wanted' is_last' new b
+    (given : new.given ≡ take n buffer.held) (held : new.held ≡ drop n buffer.held)
+    (at_end : new.is_at_end ≡ buffer.is_at_end) where
+  taken : (wanted' : Wanted) (is_last' : Bool) → StopsBy wanted' buffer n is_last'
+      → IsTaken wanted' is_last' new
   taken wanted' true stops = (
     held ∙ (ap (λ k. drop k buffer.held) stops.0 ∙ drop-length buffer.held),
-    stops.1,
+    at_end ∙ stops.1,
     subst (λ text. LacksUpTo wanted' text (length text))
         (sym (given ∙ take_all n buffer.held (omega (arith, stops.0))))
         (subst (LacksUpTo wanted' buffer.held) stops.0 stops.2),
@@ -327,11 +328,11 @@ module _ (wanted : Wanted) (start : ℕ) (old buffer new : WindowState) (a b : S
       (subst (EndsAt wanted' (take n buffer.held)) (sym (length-take-le n buffer.held finds.within))
       (ends_front buffer.held n n (omega arith) wanted' stops))
 
-  one : (wanted' : Wanted) → StopsBy wanted' buffer b n is_last
+  one : (wanted' : Wanted) → StopsBy wanted' buffer n is_last
       → FindsFault wanted' (take n buffer.held) None → MayBeLast wanted' is_last
       → new.given ≢ [] → IsOne wanted' new.given
   one wanted' stops whole last some = subst (IsOne wanted') (sym given)
-      (go wanted' stops (free_by wanted' buffer b n is_last stops) whole last)
+      (go wanted' stops (free_by wanted' buffer n is_last stops) whole last)
     where
       long : length (take n buffer.held) ≡ n
       long = length-take-le n buffer.held finds.within
@@ -348,12 +349,12 @@ module _ (wanted : Wanted) (start : ℕ) (old buffer new : WindowState) (a b : S
         whole,
       )
 
-      part : (count : ℕ) (is_last' : Bool) → StopsBy (Part count) buffer b n is_last'
+      part : (count : ℕ) (is_last' : Bool) → StopsBy (Part count) buffer n is_last'
           → MayBeLast (Part count) is_last' → length (take n buffer.held) ≡ count
       part count true stops last = absurd last
       part count false stops last = long ∙ stops
 
-      go : (wanted' : Wanted) → StopsBy wanted' buffer b n is_last
+      go : (wanted' : Wanted) → StopsBy wanted' buffer n is_last
           → IsSearched wanted' buffer.held (n - 1)
           → FindsFault wanted' (take n buffer.held) None → MayBeLast wanted' is_last
           → IsOne wanted' (take n buffer.held)
@@ -365,10 +366,14 @@ module _ (wanted : Wanted) (start : ℕ) (old buffer new : WindowState) (a b : S
       → TakesOff wanted start old new a b place is_last
   takes_off place (place_is, whole, last) = record {
     delivers = record {
-      gathers = subst (Gathers (MustRead wanted start old.size) old.held a b)
+      gathers = subst
+          (λ is. Gathers (MustRead wanted start old.size) old.held old.is_at_end is a b
+          (new.given ++ new.held)) (sym at_end)
+          (subst
+          (Gathers (MustRead wanted start old.size) old.held old.is_at_end buffer.is_at_end a b)
           (sym (take-append-drop n buffer.held)
           ∙ (ap (λ xs. xs ++ drop n buffer.held) (sym given)
-          ∙ ap (λ xs. new.given ++ xs) (sym held))) gathers;
+          ∙ ap (λ xs. new.given ++ xs) (sym held))) gathers);
       may = subst (MayHave wanted) (sym given) finds.may;
       fits = omega (
         arith,

@@ -1,5 +1,5 @@
 -- Whether what is wanted is among some bytes, and why it is not given.
-use Rattle.std.proofs.Common.{◌≡◌, ◌≢◌, [], ℕ, ◌+◌, ◌<◌, ◌≤◌, List, ◌++◌, Option, length, take}
+use Rattle.std.proofs.Common.{◌≡◌, ◌≢◌, [], ℕ, ◌+◌, ◌<◌, ◌≤◌, List, ◌++◌, Bool, length, take}
 use Rattle.std.proofs.Common.{arith, get_or, inl, inr, refl, subst, sym, ap, ◌∙◌}
 use Rattle.std.proofs.lemmas.Bool.{cases_lt}
 use Rattle.std.proofs.lemmas.List.{get_or-take, take_all}
@@ -161,10 +161,10 @@ module _ (wanted : Wanted) (start size : ℕ) (buffer : WindowState) (part : Lis
       by (Part count) here first = (inside, first, here)
 
   -- it does not fit, or has a byte that it may not have
-  pub rejects : length part < length buffer.held → (left : Option (List ℕ)) (error : LineError)
+  pub rejects : length part < length buffer.held → (is_at_end : Bool) (error : LineError)
       → IsRefusal start (length part) size error
-      → Rejects wanted start size buffer.held left error
-  rejects less left (error.TooLong place) (full, is) =
+      → Rejects wanted start size buffer.held is_at_end error
+  rejects less is_at_end (error.TooLong place) (full, is) =
       (is, over wanted (usable.may) here full)
     where
       over : (wanted : Wanted) → MayHave wanted part
@@ -178,8 +178,8 @@ module _ (wanted : Wanted) (start size : ℕ) (buffer : WindowState) (part : Lis
       over (Bytes endings) may here full =
           (omega (arith, less, full), tt, subst (FreeUpTo endings buffer.held) full here)
       over (Part count) may here full = omega (arith, here, full)
-  rejects less left (error.NotAscii place) (other, is) = (length part, is, barred less other)
-  rejects less left error.TooFar (other, far) = beyond wanted here
+  rejects less is_at_end (error.NotAscii place) (other, is) = (length part, is, barred less other)
+  rejects less is_at_end error.TooFar (other, far) = beyond wanted here
     where
       beyond : (wanted : Wanted) → LacksUpTo wanted buffer.held (length part)
           → IsFar wanted start buffer.held
@@ -196,9 +196,9 @@ module _ (wanted : Wanted) (start size : ℕ) (buffer : WindowState) (part : Lis
         omega (arith, far),
       )
       beyond (Part count) here = omega (arith, here, far)
-  rejects less left (error.LoneBreak place) refusal = absurd refusal
-  rejects less left (error.Incomplete count) refusal = absurd refusal
-  rejects less left error.Read refusal = absurd refusal
+  rejects less is_at_end (error.LoneBreak place) refusal = absurd refusal
+  rejects less is_at_end (error.Incomplete count) refusal = absurd refusal
+  rejects less is_at_end error.Read refusal = absurd refusal
 
 -- no read has failed then
 pub refusal_counts : (n start i size : ℕ) (error : LineError) → IsRefusal start i size error

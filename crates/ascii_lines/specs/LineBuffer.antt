@@ -1,6 +1,6 @@
 -- What a buffer of fixed size holds between two reads.
 use Rattle.std.specs.Prelude.{◌≡◌, ◌⊎◌, ℕ, ◌+◌, ◌<◌, ◌≤◌, ◌++◌, List, [], MatchResult, length}
-use Rattle.std.specs.Prelude.{slice_index, slice_range, take}
+use Rattle.std.specs.Prelude.{◌==◌, Bool, slice_index, slice_range, take}
 use Rattle.std.specs.Io.KnownBytes.{Consumes, IsAtEnd}
 use Rattle.std.specs.declared.result.Result.{Result}
 use Rattle.ascii.specs.Bytes.{FirstOther}
@@ -13,7 +13,7 @@ use Rattle.ascii_lines.specs.declared.wanted.Wanted.TheVariants.{Bytes}
 
 -- what contracts see of a buffer: how many bytes a line may have; how many it has room for; the
 -- bytes taken last; the bytes that it holds; how many of these, from the first, are known to be
--- less than 128; the room after them
+-- less than 128; the room after them; and whether a read of the source has returned no bytes
 pub record WindowState : Type 0 where
   pub size : ℕ
   pub room : ℕ
@@ -21,6 +21,7 @@ pub record WindowState : Type 0 where
   pub held : List ℕ
   pub checked : ℕ
   pub spare : ℕ
+  pub is_at_end : Bool
 
 -- where the bytes of a buffer are: those taken last from `given` to `from`, and those held from
 -- `from` to `filled`. All held bytes before `checked` are less than 128, and the one at `checked`
@@ -85,10 +86,10 @@ pub record ReadsBehind (filled : ℕ) (old new : List ℕ) (source now : SourceS
 
 -- what filling a buffer does: the bytes that were read follow those held; or the source failed
 pub record Refills (old new : WindowState) (source now : SourceState)
-    (result : Result ℕ DeviceFault) : Type 0 where
+    (result : Result (Unit {0}) DeviceFault) : Type 0 where
   pub outcome : MatchResult result
-      (λ n. (read : List ℕ) × (length read ≡ n) × ReadsOnce source now read
-      × (new.held ≡ old.held ++ read))
-      (λ _. FailsOnce source now × (new.held ≡ old.held))
+      (λ _. (read : List ℕ) × ReadsOnce source now read × (new.held ≡ old.held ++ read)
+      × (new.is_at_end ≡ (length read == 0)))
+      (λ _. FailsOnce source now × (new.held ≡ old.held) × (new.is_at_end ≡ old.is_at_end))
   pub size : new.size ≡ old.size
   pub room : new.room ≡ old.room

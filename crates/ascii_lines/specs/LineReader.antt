@@ -32,13 +32,15 @@ use Rattle.ascii_lines.specs.declared.wanted.Wanted.TheVariants as wanted
 
 -- the state of a reader: the size of its buffer, in bytes; the position in the input at which the
 -- next line or part starts; the bytes from there on that it has read; whether it goes on; which
--- endings end its lines; and what its source says of itself
+-- endings end its lines; whether a read of its source has returned no bytes, after which it is not
+-- read again; and what its source says of itself
 pub record ReaderState : Type 0 where
   pub size : ℕ
   pub start : ℕ
   pub held : List ℕ
   pub stage : Stage
   pub endings : Endings
+  pub is_at_end : Bool
   pub device : SourceState
 
 -- what contracts see of a reader: its source; its state; and the bytes that it has given up last:
@@ -56,6 +58,7 @@ pub record CursorState : Type 0 where
   pub held : List ℕ
   pub stage : Stage
   pub endings : Endings
+  pub is_at_end : Bool
   pub lent : List ℕ
 
 -- the state of a reader, by where it is and by what its source says of itself
@@ -66,6 +69,7 @@ state_at cursor device = record {
   held = cursor.held;
   stage = cursor.stage;
   endings = cursor.endings;
+  is_at_end = cursor.is_at_end;
   device = device;
 }
 
@@ -85,6 +89,7 @@ fresh_cursor size endings = record {
   held = [];
   stage = Open;
   endings = endings;
+  is_at_end = false;
   lent = [];
 }
 
@@ -103,7 +108,7 @@ IsOpen reader = reader.state.stage ≡ Open
 
 -- the reader has to read its source before it can return what is wanted, or an error
 abbrev pub Waits : Wanted → ReaderState → Type 0
-Waits wanted reading = (reading.stage ≡ Open)
+Waits wanted reading = (reading.stage ≡ Open) × (reading.is_at_end ≡ false)
     × MustRead wanted reading.start reading.size reading.held
 
 -- a `ReadLine` as a line with its start
@@ -118,9 +123,11 @@ read_bytes_in line =
 
 -- ---- one line or part
 
--- the reader has ended: it holds no bytes, and its source is at its end
+-- the reader has ended: it holds no bytes, and a read of its source has returned none, which is at
+-- its end
 pub record IsDone (reading : ReaderState) : Type 0 where
   pub ended : reading.stage ≡ Ended
+  pub seen : reading.is_at_end ≡ true
   pub none : reading.held ≡ []
   pub left : IsAtEnd reading.device.rest
 
@@ -129,7 +136,8 @@ pub record IsDone (reading : ReaderState) : Type 0 where
 -- and the others are held
 pub record Takes (wanted : Wanted) (old : ReaderState) (bytes : List ℕ) (new : ReaderState)
     : Type 0 where
-  pub delivers : Delivers wanted old.start old.size old.held old.device new.device bytes new.held
+  pub delivers : Delivers wanted old.start old.size old.held old.is_at_end new.is_at_end old.device
+      new.device bytes new.held
   pub start : new.start ≡ old.start + length bytes
   pub in_range : new.start < 2 ^ 64
   pub size : new.size ≡ old.size
@@ -139,7 +147,8 @@ pub record Takes (wanted : Wanted) (old : ReaderState) (bytes : List ℕ) (new :
 -- from the start of the line or part on, which is still its position; nothing else has changed
 pub record StopsAt (wanted : Wanted) (old : ReaderState) (error : LineError) (new : ReaderState)
     : Type 0 where
-  pub refuses : Refuses wanted old.start old.size old.held old.device new.device new.held error
+  pub refuses : Refuses wanted old.start old.size old.held old.is_at_end new.is_at_end old.device
+      new.device new.held error
   pub stage : new.stage ≡ Refused error
   pub start : new.start ≡ old.start
   pub size : new.size ≡ old.size
@@ -279,50 +288,52 @@ pub record IsBytesAt (endings : Endings) (start : ℕ) (bytes : List ℕ) (line 
     pub text : TextOf start line.bytes.now line.text
 
 -- what was taken from a buffer is what is wanted; or all bytes that were left, among which it is
--- not, and the source is at its end
-abbrev pub IsTaken : Wanted → Bool → WindowState → SourceState → Type 0
-IsTaken wanted true buffer source = (buffer.held ≡ []) × IsAtEnd source.rest
+-- not, and a read has returned no bytes
+abbrev pub IsTaken : Wanted → Bool → WindowState → Type 0
+IsTaken wanted true buffer = (buffer.held ≡ []) × (buffer.is_at_end ≡ true)
     × LacksUpTo wanted buffer.given (length buffer.given)
-IsTaken wanted false buffer source = EndsAt wanted buffer.given (length buffer.given)
+IsTaken wanted false buffer = EndsAt wanted buffer.given (length buffer.given)
 
 -- what is wanted was taken from a buffer, or all that was left. The bytes end at the position
 -- `place`, and `is_last` tells whether the source is at its end
 pub record TakesOff (wanted : Wanted) (start : ℕ) (old new : WindowState) (source now : SourceState)
     (place : ℕ) (is_last : Bool) : Type 0 where
-  pub delivers : Delivers wanted start old.size old.held source now new.given new.held
+  pub delivers : Delivers wanted start old.size old.held old.is_at_end new.is_at_end source now
+      new.given new.held
   pub place_is : place ≡ start + length new.given
-  pub taken : IsTaken wanted is_last new now
+  pub taken : IsTaken wanted is_last new
   pub last : MayBeLast wanted is_last
   pub one : new.given ≢ [] → IsOne wanted new.given
 
 -- where a search stops. `true`: at the end of the source, and what is wanted is not among the
 -- bytes. `false`: at its end
-abbrev pub StopsBy : Wanted → WindowState → SourceState → ℕ → Bool → Type 0
-StopsBy wanted buffer source n true =
-    (n ≡ length buffer.held) × IsAtEnd source.rest × LacksUpTo wanted buffer.held n
-StopsBy wanted buffer source n false = EndsAt wanted buffer.held n
+abbrev pub StopsBy : Wanted → WindowState → ℕ → Bool → Type 0
+StopsBy wanted buffer n true =
+    (n ≡ length buffer.held) × (buffer.is_at_end ≡ true) × LacksUpTo wanted buffer.held n
+StopsBy wanted buffer n false = EndsAt wanted buffer.held n
 
 -- what a search finds in a buffer: the number of bytes up to where it stops, which fit and may be
 -- in what is wanted
-pub record FindsEnd (wanted : Wanted) (buffer : WindowState) (source : SourceState) (n : ℕ)
-    (is_last : Bool) : Type 0 where
-  pub within : n ≤ length buffer.held
-  pub fits : n ≤ buffer.size
-  pub may : MayHave wanted (take n buffer.held)
-  pub stops : StopsBy wanted buffer source n is_last
+pub record FindsEnd (wanted : Wanted) (buffer : WindowState) (n : ℕ) (is_last : Bool) : Type 0
+  where
+    pub within : n ≤ length buffer.held
+    pub fits : n ≤ buffer.size
+    pub may : MayHave wanted (take n buffer.held)
+    pub stops : StopsBy wanted buffer n is_last
 
 -- a search has stopped: what was read until then, and where
 pub record Stops (wanted : Wanted) (start : ℕ) (old new : WindowState) (source now : SourceState)
     (found : ℕ × Bool) : Type 0 where
-  pub gathers : Gathers (MustRead wanted start old.size) old.held source now new.held
-  pub found_is : FindsEnd wanted new now found.0 found.1
+  pub gathers : Gathers (MustRead wanted start old.size) old.held old.is_at_end new.is_at_end
+      source now new.held
+  pub found_is : FindsEnd wanted new found.0 found.1
   pub failures : now.failures ≡ source.failures
 
 -- what a search for what is wanted does: it stops; or there is an error in its place
 pub record Seeks (wanted : Wanted) (start : ℕ) (old new : WindowState) (source now : SourceState)
     (result : Result (ℕ × Bool) LineError) : Type 0 where
   pub outcome : MatchResult result (Stops wanted start old new source now)
-      (Refuses wanted start old.size old.held source now new.held)
+      (Refuses wanted start old.size old.held old.is_at_end new.is_at_end source now new.held)
   pub size : new.size ≡ old.size
 
 -- the outcome of taking what is wanted, of which `lent` are the bytes. `true`: they are it, and the

@@ -3,7 +3,6 @@ use Rattle.std.specs.Prelude.{◌≡◌, ◌≢◌, ◌⊎◌, ◌+◌, ◌-◌,
 use Rattle.std.specs.Prelude.{Err, None, Ok, OnOk, Some, false, length, not, true}
 use Rattle.std.specs.Io.KnownBytes.{Appends}
 use Rattle.std.specs.List.{flat_map, list_all}
-use Rattle.std.specs.declared.option.Option.{Option}
 use Rattle.std.specs.declared.result.Result.{Result}
 use Rattle.ascii.specs.Endings.{IsFirstStop, any_text}
 use Rattle.ascii.specs.Lines.{Line, LinesEndedBy, ending_text, line_text}
@@ -18,12 +17,13 @@ use Rattle.ascii_devices.specs.declared.Sink.{Ghosts}
 use Rattle.ascii_devices.specs.declared.log.Event.{Event}
 use Rattle.ascii_devices.specs.declared.log.Event.TheVariants.{Flushed, Read}
 use Rattle.ascii_lines.specs.Failures.{one_more}
-use Rattle.ascii_lines.specs.History.{AreWrites}
+use Rattle.ascii_lines.specs.History.{AreWrites, EndsInEmptyRead}
 use Rattle.ascii_lines.specs.LineReader.{CursorState, IsDone, ReaderState, fresh_cursor, state_at}
 use Rattle.ascii_lines.specs.LineWriter.{FailsToWrite, Flushes, FlushesOutcome, WritesBytes}
 use Rattle.ascii_lines.specs.LineWriter.{WritesLine, Writing, fresh_writer, is_line_break}
 use Rattle.ascii_lines.specs.Skipping.{HasNoEnd, IsFinal, WhyNotSkipped}
-use Rattle.ascii_lines.specs.Wanted.{Asks, EndsAt, IsOne, MayHave, MustRead, Rejects, all_of}
+use Rattle.ascii_lines.specs.Wanted.{Asks, EndsAt, IsOne, KnowsEnd, MayHave, MustRead}
+use Rattle.ascii_lines.specs.Wanted.{ReachesEnd, Rejects, all_of}
 use Rattle.ascii_lines.specs.declared.line_reader.LineError.{LineError}
 use Rattle.ascii_lines.specs.declared.line_reader.Stage.TheVariants.{Ended, Open, Refused}
 use Rattle.ascii_lines.specs.declared.line_writer.WriteError.{WriteError}
@@ -210,18 +210,25 @@ module _ {H : Type 0} (answers : H → Line → List Reply → Next → H → Ty
       (TakesUnended step first → steps ≡ [])
       × IsUnendedLast endings talks.0 talks.1 steps last new talks.3
 
--- the errors of the steps are right, by the bytes after them and then `tail`; they start at the
--- position `start` of the input
-abbrev pub Explains : Endings → ℕ → ℕ → List Step → List ℕ → Type 0
-Explains endings size start [] tail = ⊤
-Explains endings size start (took input replies ∷ steps) tail =
-    Explains endings size (start + length (line_text input)) steps tail
-Explains endings size start (rejected error replies ∷ steps) tail =
-    ((text others : List ℕ) × (left : Option (List ℕ)) × (bytes_of steps ++ tail ≡ text ++ others)
-    × Rejects (wanted.Line endings) start size text left error)
-    × Explains endings size start steps tail
-Explains endings size start (skipped bytes ∷ steps) tail =
-    Explains endings size (start + length bytes) steps tail
+-- whether a read had returned no bytes before `others` came, if `is_at_end` tells whether one has
+-- after them: none had if a byte came
+abbrev pub at_end_before : List ℕ → Bool → Bool
+at_end_before [] is_at_end = is_at_end
+at_end_before (byte ∷ others) is_at_end = false
+
+-- the errors of the steps are right, by the bytes after them and then `tail`, of which `others`
+-- came after the error. They start at the position `start` of the input, and `is_at_end` tells
+-- whether a read has returned no bytes after all of them
+abbrev pub Explains : Endings → ℕ → ℕ → List Step → List ℕ → Bool → Type 0
+Explains endings size start [] tail is_at_end = ⊤
+Explains endings size start (took input replies ∷ steps) tail is_at_end =
+    Explains endings size (start + length (line_text input)) steps tail is_at_end
+Explains endings size start (rejected error replies ∷ steps) tail is_at_end =
+    ((text others : List ℕ) × (bytes_of steps ++ tail ≡ text ++ others)
+    × Rejects (wanted.Line endings) start size text (at_end_before others is_at_end) error)
+    × Explains endings size start steps tail is_at_end
+Explains endings size start (skipped bytes ∷ steps) tail is_at_end =
+    Explains endings size (start + length bytes) steps tail is_at_end
 
 -- ---- time
 
@@ -281,11 +288,11 @@ module _ {H : Type 0} (refuses : H → LineError → List Reply → Next → H �
       IsDone now × (extra ≡ []) × (last ≡ state) × (((awaited ≡ Input next.Line) × (over ≡ []))
       ⊎ ((then : Next) × (awaited ≡ LineEnd then) × HasNoEnd (any_text now.endings) over))
   StopsFor (stop.Reader error) (Input next.Line) state now extra over last = (over ≡ [])
-      × Rejects (wanted.Line now.endings) now.start now.size now.held now.device.rest error
+      × Rejects (wanted.Line now.endings) now.start now.size now.held now.is_at_end error
       × ((then : Next) × refuses state error extra then last
       × (IsFinal error ⊎ (then ≡ next.Close)))
   StopsFor (stop.Reader error) (Input (next.Part n)) state now extra over last = (over ≡ [])
-      × Rejects (wanted.Part n) now.start now.size now.held now.device.rest error
+      × Rejects (wanted.Part n) now.start now.size now.held now.is_at_end error
       × ((then : Next) × refuses state error extra then last)
   StopsFor (stop.Reader error) (Input next.Close) state now extra over last = ⊥
   StopsFor (stop.Reader error) (LineEnd then) state now extra over last = (extra ≡ [])
@@ -325,7 +332,10 @@ module _ {H : Type 0} (answers : H → Line → List Reply → Next → H → Ty
     pub received : old.cursor.held ++ received_of events
         ≡ bytes_of steps ++ (over ++ new.cursor.held)
     pub explains : Explains old.cursor.endings old.cursor.size old.cursor.start steps
-        (over ++ new.cursor.held)
+        (over ++ new.cursor.held) new.cursor.is_at_end
+    pub end : KnowsEnd new.cursor.is_at_end new.output.aside.bytes
+    pub at_end : new.cursor.is_at_end ≡ true
+        → (old.cursor.is_at_end ≡ true) ⊎ EndsInEmptyRead events
     pub start : new.cursor.start ≡ old.cursor.start + length (bytes_of steps ++ over)
     pub gave : Gives of_state (read_side old.output) (read_side new.output) (received_of events)
     pub took : Appends old.output.taken new.output.taken (sent_of events)
@@ -417,6 +427,9 @@ pub record Moves (Must : List ℕ → Type 0) (old : ChannelState) (bytes replie
   pub count : CountsBy new.output.buffer.is_broken old.output.failures new.output.failures
   pub took : Appends old.output.taken new.output.taken (sent_of before ++ sent_of after)
   pub gave : Gives of_state (read_side old.output) (read_side new.output) (all_of reads)
+  pub reaches : ReachesEnd old.cursor.is_at_end reads new.cursor.is_at_end
+  pub end : KnowsEnd old.cursor.is_at_end old.output.aside.bytes
+      → KnowsEnd new.cursor.is_at_end new.output.aside.bytes
   pub start : new.cursor.start ≡ old.cursor.start + length bytes
   pub size : new.cursor.size ≡ old.cursor.size
   pub endings : new.cursor.endings ≡ old.cursor.endings
@@ -465,7 +478,7 @@ TakesWanted wanted old taken.End new =
     × IsDone (reading_of new) × (asked_by wanted ≡ next.Line) × ReadsWell old new
 TakesWanted wanted old (taken.Fault error) new =
     Moves (MustRead wanted old.cursor.start old.cursor.size) old [] [] new
-    × Rejects wanted new.cursor.start new.cursor.size new.cursor.held new.output.aside.bytes error
+    × Rejects wanted new.cursor.start new.cursor.size new.cursor.held new.cursor.is_at_end error
     × (asked_by wanted ≡ next.Line → new.cursor.stage ≡ Refused error)
     × (¬ (IsFinal error) → ReadsWell old new × (old.cursor.stage ≡ Open))
     × (new.output.buffer.is_broken ≡ false)
@@ -522,7 +535,7 @@ module _ {H : Type 0} (answers : H → Line → List Reply → Next → H → Ty
     pub moves : Moves (Lacks old.cursor.endings old.cursor.start old.cursor.size awaited) old
         (step_bytes step) (step_replies old.ending step) new
     pub explains : Explains old.cursor.endings old.cursor.size old.cursor.start (step ∷ [])
-        new.cursor.held
+        new.cursor.held new.cursor.is_at_end
     pub may : MayStep after new
     pub well : ReadsWell old new
     pub going : old.cursor.stage ≢ Ended
@@ -546,7 +559,7 @@ module _ {H : Type 0} (answers : H → Line → List Reply → Next → H → Ty
         (bytes_of steps ++ over)
         (replies_of old.ending steps ++ reply_bytes old.ending extra) new
     pub explains : Explains old.cursor.endings old.cursor.size old.cursor.start steps
-        (over ++ new.cursor.held)
+        (over ++ new.cursor.held) new.cursor.is_at_end
     pub broken : why ≡ stop.Writer → new.output.buffer.is_broken ≡ true
 
   -- the outcome of one step

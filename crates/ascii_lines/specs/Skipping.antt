@@ -3,7 +3,6 @@ use Rattle.std.specs.Prelude.{drop, take, ◌≡◌, ◌≢◌, ◌⊎◌, ℕ, 
 use Rattle.std.specs.Prelude.{◌++◌, ⊤, length}
 use Rattle.std.specs.Prelude.{Bool, Err, MatchOption, false, true, None, Ok, Option, Some}
 use Rattle.std.specs.Prelude.{slice_index}
-use Rattle.std.specs.Io.KnownBytes.{IsAtEnd}
 use Rattle.std.specs.Str.{IsAscii}
 use Rattle.std.specs.declared.result.Result.{Result}
 use Rattle.ascii.specs.Bytes.{FirstOther}
@@ -61,8 +60,8 @@ HasNoEnd endings text = FreeUpTo endings text (length text)
 -- and those read since they are the first, and the others are held. The source was read only while
 -- no line ended in all of them
 pub record SkipsBytes (old : ReaderState) (bytes : List ℕ) (new : ReaderState) : Type 0 where
-  pub gathers : Gathers (HasNoEnd (any_text old.endings)) old.held old.device new.device
-      (bytes ++ new.held)
+  pub gathers : Gathers (HasNoEnd (any_text old.endings)) old.held old.is_at_end new.is_at_end
+      old.device new.device (bytes ++ new.held)
   pub start : new.start ≡ old.start + length bytes
   pub size : new.size ≡ old.size
   pub endings : new.endings ≡ old.endings
@@ -113,16 +112,17 @@ Skips most old result new = SkipsFrom old.state.stage most old result new
 
 -- ---- cited by private functions only
 
--- why no more bytes of a line are taken off a buffer, after `bytes`: the line ends, the source is
--- at its end, the line is longer than `limit`, or a read failed
-abbrev pub EndsPass : Endings → ℕ → List ℕ → List ℕ → Option (List ℕ) → PassEnd → Type 0
-EndsPass endings limit bytes held left end.Ending = IsFirstStop endings bytes (length bytes)
-EndsPass endings limit bytes held left end.Input =
-    FreeUpTo endings bytes (length bytes) × (held ≡ []) × IsAtEnd left
-EndsPass endings limit bytes held left end.Limit =
+-- why no more bytes of a line are taken off a buffer, after `bytes`: the line ends, a read has
+-- returned no bytes, the line is longer than `limit`, or a read failed
+abbrev pub EndsPass : Endings → ℕ → List ℕ → List ℕ → Bool → PassEnd → Type 0
+EndsPass endings limit bytes held is_at_end end.Ending =
+    IsFirstStop endings bytes (length bytes)
+EndsPass endings limit bytes held is_at_end end.Input =
+    FreeUpTo endings bytes (length bytes) × (held ≡ []) × (is_at_end ≡ true)
+EndsPass endings limit bytes held is_at_end end.Limit =
     (limit < length (bytes ++ held)) × FreeUpTo endings (bytes ++ held) limit
     × (limit ≤ length bytes + 1) × IsCleanCut endings bytes held
-EndsPass endings limit bytes held left end.Failed =
+EndsPass endings limit bytes held is_at_end end.Failed =
     FreeUpTo endings (bytes ++ held) (length (bytes ++ held)) × (length held ≤ 1)
     × IsCleanCut endings bytes held
 
@@ -156,15 +156,17 @@ pub record PassesBytes (n : ℕ) (old new : WindowState) (before after : Passed)
   pub held : new.held ≡ drop n old.held
   pub size : new.size ≡ old.size
   pub room : (new.room ≡ old.room) × (1 < new.room)
+  pub at_end : new.is_at_end ≡ old.is_at_end
 
 -- the bytes of a line were taken off a buffer and its source, at most `limit`
 pub record PassesLine (endings : Endings) (limit : ℕ) (old new : WindowState)
     (source now : SourceState) (passed : Passed) (why : PassEnd) : Type 0 where
   pub bytes : List ℕ
-  pub gathers : Gathers (HasNoEnd endings) old.held source now (bytes ++ new.held)
+  pub gathers : Gathers (HasNoEnd endings) old.held old.is_at_end new.is_at_end source now
+      (bytes ++ new.held)
   pub counts : Counts bytes passed
   pub within : length bytes ≤ limit
-  pub ends : EndsPass endings limit bytes new.held now.rest why
+  pub ends : EndsPass endings limit bytes new.held new.is_at_end why
   pub failures : now.failures ≡ failures_by source.failures why
   pub size : new.size ≡ old.size
 

@@ -1,8 +1,8 @@
 -- What a line reader is asked for, when it reads its source for that, and why it does not give it.
 use Rattle.std.specs.Prelude.{◌≡◌, ◌≢◌, ◌⊎◌, ℕ, ◌+◌, ◌-◌, ◌^◌, ◌<◌, ◌≤◌, List, [], ◌∷◌, ◌++◌, ⊤}
-use Rattle.std.specs.Prelude.{Bool, Err, None, Ok, Some, length, slice_index, take, true}
+use Rattle.std.specs.Prelude.{Bool, Err, None, Ok, Some, false, length, slice_index, take, true}
 use Rattle.std.specs.Io.KnownBytes.{IsAtEnd}
-use Rattle.std.specs.List.{flat_map}
+use Rattle.std.specs.List.{All, flat_map}
 use Rattle.std.specs.Str.{IsAscii}
 use Rattle.std.specs.declared.option.Option.{Option}
 use Rattle.std.specs.declared.result.Result.{Result}
@@ -67,19 +67,32 @@ MustRead (Part count) start size held = (length held < count) × IsAscii held ×
     × (start + count < 2 ^ 64)
 
 -- the pieces that were read, one at a call: before each of them `Must` was true of the bytes held
--- until then, which were `held` before the first
+-- until then, which were `held` before the first. No read was made after one without bytes
 abbrev pub Asks : (List ℕ → Type 0) → List ℕ → List (List ℕ) → Type 0
 Asks Must held [] = ⊤
-Asks Must held (read ∷ reads) = Must held × Asks Must (held ++ read) reads
+Asks Must held (read ∷ reads) =
+    Must held × (read ≡ [] → reads ≡ []) × Asks Must (held ++ read) reads
 
 -- the pieces as one list
 abbrev pub all_of : List (List ℕ) → List ℕ
 all_of reads = flat_map (λ read. read) reads
 
+-- if a read has returned no bytes, the source, which has yet to give `left`, is at its end
+abbrev pub KnowsEnd : Bool → Option (List ℕ) → Type 0
+KnowsEnd is_at_end left = is_at_end ≡ true → IsAtEnd left
+
+-- whether a read has returned no bytes before these reads, and whether one has after them: none is
+-- made if one has before, and if one has only after them, it is the last of them
+abbrev pub ReachesEnd : Bool → List (List ℕ) → Bool → Type 0
+ReachesEnd true reads is_at_end = (reads ≡ []) × (is_at_end ≡ true)
+ReachesEnd false reads true = (first : List (List ℕ)) × (reads ≡ first ++ [] ∷ [])
+ReachesEnd false reads false = ⊤
+
 -- `text` is the bytes `held`, and after them those that the source gave. It was read only while
--- `Must` was true of the bytes held until then; a read that failed has no bytes
-pub record Gathers (Must : List ℕ → Type 0) (held : List ℕ) (old new : SourceState)
-    (text : List ℕ) : Type 0 where
+-- `Must` was true of the bytes held until then; a read that failed has no bytes. `was_at_end` and
+-- `is_at_end` tell whether a read had returned no bytes before, and whether one has now
+pub record Gathers (Must : List ℕ → Type 0) (held : List ℕ) (was_at_end is_at_end : Bool)
+    (old new : SourceState) (text : List ℕ) : Type 0 where
   pub reads : List (List ℕ)
   pub asks : Asks Must held reads
   pub gave : Gives of_state old new (all_of reads)
@@ -87,22 +100,25 @@ pub record Gathers (Must : List ℕ → Type 0) (held : List ℕ) (old new : Sou
   pub all : text ≡ held ++ all_of reads
   pub unread : reads ≡ [] → new ≡ old
   pub aside : new.aside ≡ old.aside
+  pub reaches : ReachesEnd was_at_end reads is_at_end
+  pub some : is_at_end ≡ false → new.failures ≡ old.failures → All (λ read. read ≢ []) reads
+  pub end : KnowsEnd is_at_end new.rest
 
 -- ---- why it is not given
 
 -- the byte at `i` is a CR without an LF after it, or an LF without a CR before it, and the first
 -- such byte of `text`. The bytes up to the one that shows it, which are `n`, fit in `size` bytes
 -- and may be in what is wanted: for LF it shows itself; for CR the byte after it does; or, if there
--- is none, the source, which has yet to give `left`, is at its end
-pub record IsLoneBreak (wanted : Wanted) (size : ℕ) (text : List ℕ) (left : Option (List ℕ))
-    (i n : ℕ) : Type 0 where
+-- is none, a read that returned no bytes
+pub record IsLoneBreak (wanted : Wanted) (size : ℕ) (text : List ℕ) (is_at_end : Bool) (i n : ℕ)
+    : Type 0 where
   pub fits : n ≤ size
   pub inside : n ≤ length text
   pub may : MayHave wanted (take n text)
   pub first : (k : ℕ) → k < i → (slice_index text k ≢ 10) × (slice_index text k ≢ 13)
   pub lone : ((n ≡ i + 1) × (slice_index text i ≡ 10))
       ⊎ ((n ≡ i + 2) × (slice_index text i ≡ 13) × (slice_index text (i + 1) ≢ 10))
-      ⊎ ((n ≡ i + 1) × (n ≡ length text) × (slice_index text i ≡ 13) × IsAtEnd left)
+      ⊎ ((n ≡ i + 1) × (n ≡ length text) × (slice_index text i ≡ 13) × (is_at_end ≡ true))
 
 -- the byte at `i` is the first of `text` that is not less than 128, and comes among those that fit
 -- in `size` bytes and in what is wanted, which may not have it
@@ -125,26 +141,27 @@ IsFar (Part count) start text = 2 ^ 64 - 1 < start + count
 IsFar wanted start text =
     (n : ℕ) × (n ≤ length text) × LacksUpTo wanted text (n - 1) × (2 ^ 64 - 1 < start + n)
 
--- the source, which has yet to give `left`, is at its end, and `text` is fewer bytes than the part
--- has
-abbrev pub IsCutOff : Wanted → List ℕ → Option (List ℕ) → Type 0
-IsCutOff (Part count) text left = IsAtEnd left × IsAscii text × (length text < count)
-IsCutOff wanted text left = ⊥
+-- a read has returned no bytes, and `text` is fewer bytes than the part has
+abbrev pub IsCutOff : Wanted → List ℕ → Bool → Type 0
+IsCutOff (Part count) text is_at_end =
+    (is_at_end ≡ true) × IsAscii text × (length text < count)
+IsCutOff wanted text is_at_end = ⊥
 
 -- why a reader with a buffer of `size` bytes does not give what is wanted, which starts at the
--- position `start` of the input. The reader holds `text` from there on, and its source has yet to
--- give `left`. A position in an error is one in the input. `Read`: the source failed, or has failed
--- 2 ^ 64 - 1 times, and it had to be read
-abbrev pub Rejects : Wanted → ℕ → ℕ → List ℕ → Option (List ℕ) → LineError → Type 0
-Rejects wanted start size text left (NotAscii place) =
+-- position `start` of the input. The reader holds `text` from there on, and `is_at_end` tells
+-- whether a read of its source has returned no bytes. A position in an error is one in the input.
+-- `Read`: the source failed, or has failed 2 ^ 64 - 1 times, and it had to be read
+abbrev pub Rejects : Wanted → ℕ → ℕ → List ℕ → Bool → LineError → Type 0
+Rejects wanted start size text is_at_end (NotAscii place) =
     (i : ℕ) × (place ≡ start + i) × IsOtherIn wanted size text i
-Rejects wanted start size text left (LoneBreak place) =
-    IsStrict wanted × ((i n : ℕ) × (place ≡ start + i) × IsLoneBreak wanted size text left i n)
-Rejects wanted start size text left (TooLong place) = (place ≡ start) × IsOver wanted size text
-Rejects wanted start size text left TooFar = IsFar wanted start text
-Rejects wanted start size text left (Incomplete count) =
-    (count ≡ length text) × IsCutOff wanted text left
-Rejects wanted start size text left Read = MustRead wanted start size text
+Rejects wanted start size text is_at_end (LoneBreak place) = IsStrict wanted
+    × ((i n : ℕ) × (place ≡ start + i) × IsLoneBreak wanted size text is_at_end i n)
+Rejects wanted start size text is_at_end (TooLong place) =
+    (place ≡ start) × IsOver wanted size text
+Rejects wanted start size text is_at_end TooFar = IsFar wanted start text
+Rejects wanted start size text is_at_end (Incomplete count) =
+    (count ≡ length text) × IsCutOff wanted text is_at_end
+Rejects wanted start size text is_at_end Read = MustRead wanted start size text
 
 -- the failures of the source after this error, of `n` before: one more after `Read`, unless `n` is
 -- 2 ^ 64 - 1
@@ -153,17 +170,18 @@ failures_after n Read = one_more n
 failures_after n error = n
 
 -- the reader held `held` and has read on to `text`, and this error comes in place of what is wanted
-pub record Refuses (wanted : Wanted) (start size : ℕ) (held : List ℕ) (old new : SourceState)
-    (text : List ℕ) (error : LineError) : Type 0 where
-  pub gathers : Gathers (MustRead wanted start size) held old new text
-  pub why : Rejects wanted start size text new.rest error
+pub record Refuses (wanted : Wanted) (start size : ℕ) (held : List ℕ) (was_at_end is_at_end : Bool)
+    (old new : SourceState) (text : List ℕ) (error : LineError) : Type 0 where
+  pub gathers : Gathers (MustRead wanted start size) held was_at_end is_at_end old new text
+  pub why : Rejects wanted start size text is_at_end error
   pub failures : new.failures ≡ failures_after old.failures error
 
 -- the reader held `held` and gives `bytes`, which may be in what is wanted and fit in its buffer;
 -- after them it holds `others`. No read failed
-pub record Delivers (wanted : Wanted) (start size : ℕ) (held : List ℕ) (old new : SourceState)
-    (bytes others : List ℕ) : Type 0 where
-  pub gathers : Gathers (MustRead wanted start size) held old new (bytes ++ others)
+pub record Delivers (wanted : Wanted) (start size : ℕ) (held : List ℕ)
+    (was_at_end is_at_end : Bool) (old new : SourceState) (bytes others : List ℕ) : Type 0 where
+  pub gathers : Gathers (MustRead wanted start size) held was_at_end is_at_end old new
+      (bytes ++ others)
   pub may : MayHave wanted bytes
   pub fits : length bytes ≤ size
   pub failures : new.failures ≡ old.failures

@@ -1,6 +1,6 @@
 //! A buffer of fixed size between a source and its lines.
 
-ghost use Rattle.std.specs.Prelude.{◌≡◌, ◌+◌, ◌<◌, ◌≤◌, ◌++◌, [], IfOk, OnErr, List, ℕ};
+ghost use Rattle.std.specs.Prelude.{◌≡◌, ◌+◌, ◌<◌, ◌≤◌, ◌++◌, [], IfOk, OnErr, List, ℕ, false};
 ghost use Rattle.std.specs.Prelude.{drop, length, slice_range, take};
 ghost use Rattle.ascii_devices.specs.States.{source_state};
 ghost use Rattle.ascii_lines.specs.LineBuffer.{IsAsciiLength, IsUsable, ReadsBehind, Refills};
@@ -26,6 +26,8 @@ pub(crate) struct LineBuffer<A: Allocator> {
     checked: usize,
     // Where the bytes end.
     filled: usize,
+    // Whether a read of the source has returned no bytes.
+    is_at_end: bool,
 }
 
 impl<A: Allocator> Model for LineBuffer<A> {
@@ -41,6 +43,7 @@ impl<A: Allocator> Model for LineBuffer<A> {
       held = slice_range w.bytes.items w.from w.filled;
       checked = w.checked - w.from;
       spare = vec_len w.bytes - w.filled;
+      is_at_end = w.is_at_end;
     } };
 
     ghost invariant = { λ w. IsLaidOut w.size w.bytes.items w.given w.from w.checked w.filled };
@@ -52,6 +55,7 @@ impl<A: Allocator> LineBuffer<A> {
         ensures size { IfOk result (λ buffer. buffer.size ≡ size) }
         ensures held { IfOk result (λ buffer. buffer.held ≡ []) }
         ensures given { IfOk result (λ buffer. buffer.given ≡ []) }
+        ensures at_end { IfOk result (λ buffer. buffer.is_at_end ≡ false) }
     {
         let Some(room) = size.max(1).checked_add(1) else {
             return Err(AllocError);
@@ -63,6 +67,7 @@ impl<A: Allocator> LineBuffer<A> {
             from: 0,
             checked: 0,
             filled: 0,
+            is_at_end: false,
         })
     }
 
@@ -80,6 +85,14 @@ impl<A: Allocator> LineBuffer<A> {
         ensures { result ≡ self.now.size }
     {
         self.size
+    }
+
+    /// Whether a read of the source has returned no bytes. The source is then not read again.
+    #[inline]
+    pub(crate) fn is_at_end(&self) -> bool
+        ensures { result ≡ self.now.is_at_end }
+    {
+        self.is_at_end
     }
 
     /// The bytes that may be in what is wanted: of those that it holds, as many as fit, up to the first
@@ -120,6 +133,7 @@ impl<A: Allocator> LineBuffer<A> {
         ensures held { self.new.held ≡ drop n self.old.held }
         ensures size { self.new.size ≡ self.old.size }
         ensures room { (self.new.room ≡ self.old.room) × (1 < self.new.room) }
+        ensures at_end { self.new.is_at_end ≡ self.old.is_at_end }
     {
         self.given = self.from;
         self.from += n;
@@ -134,6 +148,7 @@ impl<A: Allocator> LineBuffer<A> {
         ensures size { self.new.size ≡ self.old.size }
         ensures room { self.new.room ≡ self.old.room }
         ensures spare { self.new.spare + length self.new.held ≡ self.new.room }
+        ensures at_end { self.new.is_at_end ≡ self.old.is_at_end }
     {
         if self.from > 0 {
             self.bytes.copy_within(self.from..self.filled, 0);
@@ -145,7 +160,8 @@ impl<A: Allocator> LineBuffer<A> {
     }
 
     /// Reads more bytes after those that it holds, by one call of the source.
-    pub(crate) fn refill<S: Source>(&mut self, source: &mut S) -> Result<usize, DeviceFault>
+    pub(crate) fn refill<S: Source>(&mut self, source: &mut S) -> Result<(), DeviceFault>
+        requires more { self.old.is_at_end ≡ false }
         requires room { length self.old.held < self.old.room }
         requires count { S.failures source.old < u64.MAX }
         ensures { Refills self.old self.new (source_state S.Source source.old)
@@ -157,7 +173,8 @@ impl<A: Allocator> LineBuffer<A> {
             self.checked = self.filled + ascii_len(&self.bytes[self.filled..self.filled + n]);
         }
         self.filled += n;
-        Ok(n)
+        self.is_at_end = n == 0;
+        Ok(())
     }
 }
 

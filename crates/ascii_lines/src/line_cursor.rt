@@ -5,7 +5,7 @@ ghost use Rattle.std.specs.Prelude.{◌≡◌, ◌↔◌, IfOk, IsTrue, false};
 ghost use Rattle.ascii_lines.specs.LineReader.{AdvancesFrom, at_end, reading_at, state_at};
 ghost use Rattle.ascii.specs.Endings.{any_text};
 ghost use Rattle.ascii_lines.specs.Skipping.{HasNoEnd, Skips, SkipsLine};
-ghost use Rattle.ascii_lines.specs.Wanted.{MustRead};
+ghost use Rattle.ascii_lines.specs.Wanted.{KnowsEnd, MustRead};
 ghost use Rattle.ascii_devices.specs.States.{source_state};
 
 use crate::line_buffer::LineBuffer;
@@ -42,6 +42,7 @@ impl<A: Allocator> Model for LineCursor<A> {
       held = c.buffer.held;
       stage = c.stage;
       endings = c.endings;
+      is_at_end = c.buffer.is_at_end;
       lent = c.buffer.given;
     } };
 }
@@ -92,21 +93,25 @@ impl<A: Allocator> LineCursor<A> {
 
     /// Whether the source has to be read for what is wanted.
     pub(crate) fn waits(&self, wanted: Wanted) -> bool
-        ensures { IsTrue result ↔ (self.now.stage ≡ Stage.Open)
+        ensures { IsTrue result ↔ (self.now.stage ≡ Stage.Open) × (self.now.is_at_end ≡ false)
             × MustRead wanted self.now.start self.now.size self.now.held }
     {
         match self.stage {
-            Stage::Open => must_read(&self.buffer, wanted, self.start),
-            Stage::Ended | Stage::Refused(_) => false,
+            Stage::Open if !self.buffer.is_at_end() => {
+                must_read(&self.buffer, wanted, self.start)
+            }
+            _ => false,
         }
     }
 
-    /// Whether no line ends in the bytes that were read and not taken. A CR or an LF by itself does not end one.
+    /// Whether the source has to be read for the end of a line: no line ends in the bytes that were read and not
+    /// taken, and the source has not ended. A CR or an LF by itself does not end a line.
     pub(crate) fn lacks_line_end(&self) -> bool
-        ensures { IsTrue result ↔ HasNoEnd (any_text self.now.endings) self.now.held }
+        ensures { IsTrue result ↔ (self.now.is_at_end ≡ false)
+            × HasNoEnd (any_text self.now.endings) self.now.held }
     {
         let text = self.buffer.front(self.buffer.len());
-        find_end(whole_endings(self.endings), text, 0).is_none()
+        !self.buffer.is_at_end() && find_end(whole_endings(self.endings), text, 0).is_none()
     }
 
     /// Whether every line was taken.
@@ -122,6 +127,7 @@ impl<A: Allocator> LineCursor<A> {
         source: &mut S,
         wanted: Wanted,
     ) -> Result<bool, LineError>
+        requires { KnowsEnd self.old.is_at_end (S.rest source.old) }
         ensures { AdvancesFrom self.old.stage wanted (reading_at S.Source self.old source.old)
             result (reading_at S.Source self.new source.new) }
     {
@@ -152,6 +158,7 @@ impl<A: Allocator> LineCursor<A> {
         source: &mut S,
         most: u64,
     ) -> Result<SkippedLine, LineError>
+        requires { KnowsEnd self.old.is_at_end (S.rest source.old) }
         ensures { Skips most (reading_at S.Source self.old source.old) result
             (reading_at S.Source self.new source.new) }
     {
@@ -170,6 +177,7 @@ impl<A: Allocator> LineCursor<A> {
 
     /// Reads over a line.
     fn skip<S: Source>(&mut self, source: &mut S, most: u64) -> Result<SkippedLine, LineError>
+        requires { KnowsEnd self.old.is_at_end (S.rest source.old) }
         ensures { SkipsLine most (state_at self.old (source_state S.Source source.old)) result
             (state_at self.new (source_state S.Source source.new)) }
     {

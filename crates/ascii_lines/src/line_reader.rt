@@ -94,10 +94,13 @@ pub struct LineReader<S: Source, A: Allocator = Global> {
 
 impl<S: Source, A: Allocator> Model for LineReader<S, A> {
     ghost use Rattle.ascii_lines.specs.LineReader.{Reading, reading_at};
+    ghost use Rattle.ascii_lines.specs.Wanted.{KnowsEnd};
 
     ghost Value = { Reading S };
 
     ghost view = { λ r. reading_at S.Source r.cursor r.source };
+
+    ghost invariant = { λ r. KnowsEnd r.cursor.is_at_end (S.rest r.source) };
 }
 
 impl<S: Source, A: Allocator> LineReader<S, A> {
@@ -213,7 +216,8 @@ impl<S: Source, A: Allocator> LineReader<S, A> {
     /// unless `skip_line` reads over the line. So it is after `None`. The source's count of failures rises by
     /// one when `Read` is first returned, unless it is `u64::MAX`; otherwise no call changes it.
     ///
-    /// The source is read only while the bytes held fit, have no fault, and no line ends in them.
+    /// The source is read only while the bytes held fit, have no fault, and no line ends in them. After a read that
+    /// returned no bytes, no call reads it again.
     ///
     /// The result borrows the reader, also if it is `None` or an error. What the call promises of the
     /// reader and its source, it promises for when that borrow has ended.
@@ -337,7 +341,8 @@ impl<S: Source, A: Allocator> LineReader<S, A> {
     /// there.
     ///
     /// With `Endings::Any` a line ends at its first LF, with the other endings at its first CR LF: a CR or an LF
-    /// by itself is skipped. The source is read only while no line ends in the bytes held.
+    /// by itself is skipped. The source is read only while no line ends in the bytes held, and not after a read that
+    /// returned no bytes.
     ///
     /// - `TooLong` if the line has more than `most` bytes. The error has the position at which the call started.
     ///   These bytes were skipped, except a CR at their end that may belong to the ending; `skip_line` may be

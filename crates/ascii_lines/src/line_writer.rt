@@ -178,6 +178,7 @@ impl<C: Channel, A: Allocator> LineWriter<C, A> {
     ghost use Rattle.ascii_lines.specs.LineReader.{AdvancesFrom, reading_at};
     ghost use Rattle.ascii_lines.specs.Serve.{read_side};
     ghost use Rattle.ascii_lines.specs.Skipping.{Skips};
+    ghost use Rattle.ascii_lines.specs.Wanted.{KnowsEnd};
 
     /// Takes what is wanted from the other direction of the device.
     pub(crate) fn advance<B: Allocator>(
@@ -185,6 +186,7 @@ impl<C: Channel, A: Allocator> LineWriter<C, A> {
         cursor: &mut LineCursor<B>,
         wanted: Wanted,
     ) -> Result<bool, LineError>
+        requires { KnowsEnd cursor.old.is_at_end self.old.state.aside.bytes }
         ensures advances { AdvancesFrom cursor.old.stage wanted
             (reading_at of_state cursor.old (read_side self.old.state)) result
             (reading_at of_state cursor.new (read_side self.new.state)) }
@@ -199,6 +201,7 @@ impl<C: Channel, A: Allocator> LineWriter<C, A> {
         cursor: &mut LineCursor<B>,
         most: u64,
     ) -> Result<SkippedLine, LineError>
+        requires { KnowsEnd cursor.old.is_at_end self.old.state.aside.bytes }
         ensures skips { Skips most
             (reading_at of_state cursor.old (read_side self.old.state)) result
             (reading_at of_state cursor.new (read_side self.new.state)) }

@@ -213,6 +213,7 @@ impl<C: Channel, A: Allocator> Replies<C, A> {
     ghost use Rattle.ascii_lines.specs.LineReader.{AdvancesFrom, reading_at};
     ghost use Rattle.ascii_lines.specs.Serve.{ReadsBeside, read_side};
     ghost use Rattle.ascii_lines.specs.Skipping.{Skips};
+    ghost use Rattle.ascii_lines.specs.Wanted.{KnowsEnd};
 
     /// Takes what is wanted from the device.
     fn advance<B: Allocator>(
@@ -220,6 +221,7 @@ impl<C: Channel, A: Allocator> Replies<C, A> {
         cursor: &mut LineCursor<B>,
         wanted: Wanted,
     ) -> Result<bool, LineError>
+        requires { KnowsEnd cursor.old.is_at_end self.old.state.aside.bytes }
         ensures advances { AdvancesFrom cursor.old.stage wanted
             (reading_at of_state cursor.old (read_side self.old.state)) result
             (reading_at of_state cursor.new (read_side self.new.state)) }
@@ -233,6 +235,7 @@ impl<C: Channel, A: Allocator> Replies<C, A> {
         &mut self,
         cursor: &mut LineCursor<B>,
     ) -> Result<SkippedLine, LineError>
+        requires { KnowsEnd cursor.old.is_at_end self.old.state.aside.bytes }
         ensures skips { Skips (2 ^ 64 - 1)
             (reading_at of_state cursor.old (read_side self.old.state)) result
             (reading_at of_state cursor.new (read_side self.new.state)) }
@@ -307,6 +310,7 @@ pub struct LineChannel<C: Channel, A: Allocator = Global> {
 
 impl<C: Channel, A: Allocator> Model for LineChannel<C, A> {
     ghost use Rattle.ascii_lines.specs.Serve.{Conversing};
+    ghost use Rattle.ascii_lines.specs.Wanted.{KnowsEnd};
 
     ghost Value = { Conversing C };
 
@@ -318,6 +322,8 @@ impl<C: Channel, A: Allocator> Model for LineChannel<C, A> {
         ending = c.replies.ending;
       };
     } };
+
+    ghost invariant = { λ c. KnowsEnd c.cursor.is_at_end c.replies.state.aside.bytes };
 }
 
 impl<C: Channel> LineChannel<C> {
@@ -355,6 +361,7 @@ impl<C: Channel> LineChannel<C> {
 impl<C: Channel, A: Allocator> LineChannel<C, A> {
     ghost use Rattle.ascii_lines.specs.Serve.{Finishes, Greets, IsWantedAt, MaySkip, MayStep};
     ghost use Rattle.ascii_lines.specs.Serve.{Prepares, SkipOutcome, TakeOutcome, StepOutcome};
+    ghost use Rattle.ascii_lines.specs.Wanted.{KnowsEnd};
 
     /// Writes a line before a conversation, or returns an error as `LineWriter::write_line` does. `serve` sends it
     /// before it reads.
@@ -393,7 +400,8 @@ impl<C: Channel, A: Allocator> LineChannel<C, A> {
     ///     serve(&mut lines, &mut Echo) // EndOfInput
     ///     lines.position() // 4
     pub fn position(&self) -> u64
-        ensures { result ≡ self.now.state.cursor.start }
+        ensures position { result ≡ self.now.state.cursor.start }
+        ensures end { KnowsEnd self.now.state.cursor.is_at_end self.now.state.output.aside.bytes }
     {
         self.cursor.start()
     }
@@ -509,7 +517,8 @@ impl<C: Channel, A: Allocator> LineChannel<C, A> {
 /// their place. Replies go out in order. At each read of the device, every complete line, part and fault that came
 /// before has been answered, and every reply, with what the channel held before, has been sent and flushed; so it is
 /// when the conversation stops, unless the device failed to take them. Then the device has taken a prefix of the
-/// replies, nothing more is read, and the handler is not asked again.
+/// replies, nothing more is read, and the handler is not asked again. After a read that returned no bytes the device is
+/// not read again.
 ///
 /// If the handler gives each line one reply, asks for the next line and closes at an error, and the input ends, then the
 /// device has taken the reply to each line of the input.

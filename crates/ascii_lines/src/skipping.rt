@@ -6,6 +6,7 @@ ghost use Rattle.ascii.specs.Endings.{any_text};
 ghost use Rattle.ascii_devices.specs.States.{source_state};
 ghost use Rattle.ascii_lines.specs.Skipping.{Counts, IsCrAtEnd, IsFinal, IsSkipped, PassesBytes};
 ghost use Rattle.ascii_lines.specs.Skipping.{PassesLine};
+ghost use Rattle.ascii_lines.specs.Wanted.{KnowsEnd};
 ghost use Rattle.ascii_lines.specs.Skipping.{TakesPart, error_of, skipped_nothing, stage_by};
 
 use crate::line_buffer::LineBuffer;
@@ -127,7 +128,8 @@ pub(crate) fn pass_line<S: Source, A: Allocator>(
     endings: Endings,
     limit: u64,
 ) -> (Passed, PassEnd)
-    requires { any_text endings ≡ endings }
+    requires plain { any_text endings ≡ endings }
+    requires end { KnowsEnd buffer.old.is_at_end (S.rest source.old) }
     ensures { PassesLine endings limit buffer.old buffer.new (source_state S.Source source.old)
         (source_state S.Source source.new) result.0 result.1 }
 {
@@ -141,17 +143,16 @@ pub(crate) fn pass_line<S: Source, A: Allocator>(
         if let Some(end) = end {
             return (passed, end);
         }
+        if buffer.is_at_end() {
+            let n = buffer.len();
+            return (pass(buffer, passed, n), PassEnd::Input);
+        }
         if source.failures() == u64::MAX {
             return (passed, PassEnd::Failed);
         }
-        match buffer.refill(source) {
-            Ok(0) => {
-                let n = buffer.len();
-                return (pass(buffer, passed, n), PassEnd::Input);
-            }
-            Ok(_) => {}
-            Err(_) => return (passed, PassEnd::Failed),
-        }
+        let Ok(()) = buffer.refill(source) else {
+            return (passed, PassEnd::Failed);
+        };
     }
 }
 

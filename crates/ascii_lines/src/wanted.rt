@@ -5,7 +5,7 @@ ghost use Rattle.ascii_devices.specs.States.{source_state};
 ghost use Rattle.ascii_lines.specs.LineReader.{Seeks, TakesOff};
 ghost use Rattle.ascii_lines.specs.Wanted.{EndsAt, LacksUpTo, MustRead, Refuses};
 ghost use Rattle.ascii_lines.specs.Wanted.{FindsFault, IsEndOf, IsRefusal, IsSearched, IsUnfit};
-ghost use Rattle.ascii_lines.specs.Wanted.{MayFit};
+ghost use Rattle.ascii_lines.specs.Wanted.{KnowsEnd, MayFit};
 
 use crate::line_buffer::LineBuffer;
 use crate::line_reader::LineError;
@@ -33,10 +33,12 @@ pub(crate) fn take_wanted<S: Source, A: Allocator>(
     wanted: Wanted,
     start: u64,
 ) -> Result<(u64, bool), LineError>
+    requires { KnowsEnd buffer.old.is_at_end (S.rest source.old) }
     ensures ok { IfOk result (λ taken. TakesOff wanted start buffer.old buffer.new
         (source_state S.Source source.old) (source_state S.Source source.new) taken.0 taken.1) }
     ensures err { IfErr result (Refuses wanted start buffer.old.size buffer.old.held
-        (source_state S.Source source.old) (source_state S.Source source.new) buffer.new.held) }
+        buffer.old.is_at_end buffer.new.is_at_end (source_state S.Source source.old)
+        (source_state S.Source source.new) buffer.new.held) }
     ensures size { buffer.new.size ≡ buffer.old.size }
 {
     may_fit(wanted, start, buffer.size())?;
@@ -64,7 +66,8 @@ fn seek<S: Source, A: Allocator>(
     wanted: Wanted,
     start: u64,
 ) -> Result<(usize, bool), LineError>
-    requires { MayFit wanted start buffer.old.size }
+    requires fits { MayFit wanted start buffer.old.size }
+    requires end { KnowsEnd buffer.old.is_at_end (S.rest source.old) }
     ensures { Seeks wanted start buffer.old buffer.new (source_state S.Source source.old)
         (source_state S.Source source.new) result }
 {
@@ -78,15 +81,15 @@ fn seek<S: Source, A: Allocator>(
         if searched < buffer.len() {
             return Err(refusal(start, searched, buffer.size()));
         }
+        if buffer.is_at_end() {
+            return Ok((searched, true));
+        }
         if source.failures() == u64::MAX {
             return Err(LineError::Read);
         }
-        let Ok(n) = buffer.refill(source) else {
+        let Ok(()) = buffer.refill(source) else {
             return Err(LineError::Read);
         };
-        if n == 0 {
-            return Ok((buffer.len(), true));
-        }
     }
 }
 

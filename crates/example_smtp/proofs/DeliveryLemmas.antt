@@ -28,7 +28,7 @@ use Rattle.example_smtp.specs.Mail.{text_of_lines}
 use Rattle.example_smtp.specs.Session.{Answers, AnswersAt, AnswersCommand, AnswersLine, CarriesOut}
 use Rattle.example_smtp.specs.Mailbox.{Files, Stores}
 use Rattle.example_smtp.proofs.MailboxLemmas.{files_failed, files_none, files_stored}
-use Rattle.example_smtp.specs.declared.mailbox.FileEvent.{FileEvent}
+use Rattle.example_smtp.specs.declared.files.FileEvent.{FileEvent}
 use Rattle.example_smtp.specs.Session.{EndsAs, IsReady}
 use Rattle.example_smtp.specs.Session.{EndsBy, Follows, Keeps, Refuses, RefusesAt, Rejects}
 use Rattle.example_smtp.specs.Session.{TakesLine, after, or_rejected, refusal_of, reply_of_fault}

@@ -6,9 +6,9 @@ use Rattle.std.specs.List.{All, flat_map}
 use Rattle.std.specs.Result.{OnErr}
 use Rattle.example_smtp.specs.Mailbox.{Files, HasFailed, IsAttempt, Stores, attempt_events, failed}
 use Rattle.example_smtp.specs.Mailbox.{stored, storing}
-use Rattle.example_smtp.specs.declared.mailbox.FileEvent.{FileEvent}
-use Rattle.example_smtp.specs.declared.mailbox.FileEvent.TheVariants.{Created, FolderSynced}
-use Rattle.example_smtp.specs.declared.mailbox.FileEvent.TheVariants.{Renamed, Synced, Wrote}
+use Rattle.example_smtp.specs.declared.files.FileEvent.{FileEvent}
+use Rattle.example_smtp.specs.declared.files.FileEvent.TheVariants.{Created, FolderSynced}
+use Rattle.example_smtp.specs.declared.files.FileEvent.TheVariants.{Renamed, Synced, Wrote}
 
 -- the event is not that the folder was stored
 abbrev IsBefore : FileEvent → Type 0

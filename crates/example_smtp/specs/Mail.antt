@@ -4,7 +4,7 @@ use Rattle.std.specs.List.{flat_map}
 use Rattle.std.specs.declared.option.Option.{Option}
 use Rattle.ascii.specs.Search.{StartsWith}
 use Rattle.ascii.specs.StringState.{StringState}
-use Rattle.example_smtp.specs.declared.mailbox.FileEvent.{FileEvent}
+use Rattle.example_smtp.specs.declared.files.FileEvent.{FileEvent}
 use Rattle.example_smtp.specs.declared.session.Fault.{Fault}
 use Rattle.example_smtp.specs.declared.session.Message.{Message}
 use Rattle.example_smtp.specs.declared.session.Stage.{Stage}

@@ -2,9 +2,9 @@
 use Rattle.std.specs.Prelude.{◌≡◌, ◌≢◌, ⊤, ℕ, Bool, List, [], ◌∷◌, ◌++◌, None, Some, false, map, true}
 use Rattle.std.specs.List.{All, flat_map}
 use Rattle.std.specs.declared.option.Option.{Option}
-use Rattle.example_smtp.specs.declared.mailbox.FileEvent.{FileEvent}
-use Rattle.example_smtp.specs.declared.mailbox.FileEvent.TheVariants.{Created, FolderSynced}
-use Rattle.example_smtp.specs.declared.mailbox.FileEvent.TheVariants.{Renamed, Synced, Wrote}
+use Rattle.example_smtp.specs.declared.files.FileEvent.{FileEvent}
+use Rattle.example_smtp.specs.declared.files.FileEvent.TheVariants.{Created, FolderSynced}
+use Rattle.example_smtp.specs.declared.files.FileEvent.TheVariants.{Renamed, Synced, Wrote}
 
 -- what happens when a message is stored: a file is created, takes the bytes of the text, is stored
 -- by the system and renamed, and the folder is stored

@@ -17,7 +17,7 @@ use Rattle.example_smtp.specs.declared.commands.Command.TheVariants.{Introduce, 
 use Rattle.example_smtp.specs.declared.commands.Command.TheVariants.{SetSender, Verify}
 use Rattle.example_smtp.specs.declared.commands.Reply.{Reply}
 use Rattle.example_smtp.specs.declared.commands.Reply.TheVariants as reply
-use Rattle.example_smtp.specs.declared.mailbox.FileEvent.{FileEvent}
+use Rattle.example_smtp.specs.declared.files.FileEvent.{FileEvent}
 use Rattle.example_smtp.specs.declared.session.Fault.{Fault}
 use Rattle.example_smtp.specs.declared.session.Fault.TheVariants.{Rejected, TooLarge}
 use Rattle.example_smtp.specs.declared.session.Stage.{Stage}

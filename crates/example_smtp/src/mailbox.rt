@@ -1,39 +1,21 @@
 //! A folder that keeps mail, a file for each message, as Maildir has it: a file is written in `tmp`,
 //! and moved to `new` when it is whole.
-//!
-//! Each event is noted after the call that makes it happen.
 
 ghost use Rattle.std.specs.Prelude.{◌≡◌, ◌++◌, ◌∷◌, [], OnErr, OnOk, map};
 ghost use Rattle.ascii.specs.View.{text_of};
 ghost use Rattle.example_smtp.specs.Mailbox.{HasFailed, storing};
-ghost use Rattle.example_smtp.specs.declared.mailbox.FileEvent.TheVariants.{Created, FolderSynced};
-ghost use Rattle.example_smtp.specs.declared.mailbox.FileEvent.TheVariants.{Renamed, Synced, Wrote};
+ghost use Rattle.example_smtp.specs.declared.files.FileEvent.TheVariants.{Created, FolderSynced};
+ghost use Rattle.example_smtp.specs.declared.files.FileEvent.TheVariants.{Renamed, Synced, Wrote};
 
-use ascii_devices::Log;
+use crate::files::{Host, Noted};
 use ascii_lines::AsciiStr;
 use std::fs::File;
-use std::io::{ErrorKind, Write};
+use std::io::{self, ErrorKind};
 use std::marker::Model;
 use std::time::{SystemTime, UNIX_EPOCH};
-use std::{fs, io};
 
 /// How many names are tried for a file.
 const MOST_NAMES: usize = 1_000;
-
-/// What happened at a folder of mail.
-#[derive(Clone, Copy, PartialEq, Eq, Debug)]
-pub enum FileEvent {
-    /// A file was created.
-    Created,
-    /// The file took this byte.
-    Wrote(u8),
-    /// The system stored the file.
-    Synced,
-    /// The file got the name of a message.
-    Renamed,
-    /// The system stored the folder.
-    FolderSynced,
-}
 
 /// A folder that keeps mail. Contracts see what happened at it.
 #[derive(Drop)]
@@ -41,16 +23,16 @@ pub struct Mailbox<'a> {
     rt: &'a HostRuntime,
     folder: &'a str,
     count: u64,
-    events: Log<FileEvent>,
+    files: Noted<Host<'a>>,
 }
 
 impl<'a> Model for Mailbox<'a> {
     ghost use Rattle.std.specs.Prelude.{List};
-    ghost use Rattle.example_smtp.specs.declared.mailbox.FileEvent.{FileEvent};
+    ghost use Rattle.example_smtp.specs.declared.files.FileEvent.{FileEvent};
 
     ghost Value = { List FileEvent };
 
-    ghost view = { λ mailbox. mailbox.events.items };
+    ghost view = { λ mailbox. mailbox.files };
 }
 
 impl<'a> Mailbox<'a> {
@@ -62,7 +44,7 @@ impl<'a> Mailbox<'a> {
             rt,
             folder,
             count: 0,
-            events: Log::new(),
+            files: Noted::new(Host::new(rt)),
         }
     }
 
@@ -88,11 +70,8 @@ impl<'a> Mailbox<'a> {
         for _ in 0..MOST_NAMES {
             let name = self.next_name()?;
             let path = format!(in self.rt.alloc(); "{}/tmp/{name}", self.folder)?;
-            match File::create_new(self.rt, &path) {
-                Ok(file) => {
-                    self.note(FileEvent::Created);
-                    return Ok((name, file));
-                }
+            match self.files.create(&path) {
+                Ok(file) => return Ok((name, file)),
                 Err(error) if error.kind() == ErrorKind::AlreadyExists => {}
                 Err(error) => return Err(error),
             }
@@ -118,10 +97,8 @@ impl<'a> Mailbox<'a> {
             ++ (map Wrote (text_of text.entry) ++ Synced ∷ [])) }
         ensures err { OnErr result (HasFailed self.old self.new) }
     {
-        file.write_all(text.as_bytes())?;
-        self.note_written(text.as_bytes());
-        file.sync_all()?;
-        self.note(FileEvent::Synced);
+        self.files.write_all(file, text.as_bytes())?;
+        self.files.sync(file)?;
         Ok(())
     }
 
@@ -134,26 +111,8 @@ impl<'a> Mailbox<'a> {
         let folder = format!(in alloc; "{}/new", self.folder)?;
         let draft = format!(in alloc; "{}/tmp/{name}", self.folder)?;
         let path = format!(in alloc; "{folder}/{name}")?;
-        fs::rename(self.rt, &draft, &path)?;
-        self.note(FileEvent::Renamed);
-        File::open(self.rt, &folder)?.sync_all()?;
-        self.note(FileEvent::FolderSynced);
+        self.files.rename(&draft, &path)?;
+        self.files.sync_folder(&folder)?;
         Ok(())
-    }
-
-    /// Notes what happened.
-    fn note(&mut self, event: FileEvent)
-        ensures { self.new ≡ self.old ++ event ∷ [] }
-    {
-        self.events = self.events.and(&event);
-    }
-
-    /// Notes bytes that were written.
-    fn note_written(&mut self, bytes: &[u8])
-        ensures { self.new ≡ self.old ++ map Wrote bytes.now }
-    {
-        for &byte in bytes {
-            self.note(FileEvent::Wrote(byte));
-        }
     }
 }

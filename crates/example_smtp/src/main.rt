@@ -3,10 +3,13 @@
 #![tactic(auto)]
 
 mod commands;
+mod files;
 mod mailbox;
 mod paths;
 mod receiving;
 mod session;
+#[cfg(test)]
+mod tests;
 
 use ascii_lines::{AsciiStr, Duplex, Ending, Endings, LineChannel};
 use mailbox::Mailbox;

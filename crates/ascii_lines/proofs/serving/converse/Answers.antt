@@ -15,9 +15,10 @@ pub steps-smaller : goal.steps-smaller
 steps-smaller g c = progresses g.H.Handler.answers g.H.Handler.refuses c.steps.awaited
     c.in-Ok.then c.steps.handler c.step.new.handler c.steps.lines.state c.step.new.self.state
     c.steps.invariant.may c.in-Ok.ensures
-    (omega (arith, c.position-start.ensures, c.position-start.type_inv))
+    (omega (arith, c.position-start.ensures.position, c.position-start.type_inv))
 
 pub returns-in-Err : goal.returns-in-Err
 returns-in-Err g c = Progress-stop g.H.Handler.answers g.H.Handler.refuses c.args.lines.now.state
     c.args.handler.now c.steps.awaited c.steps.lines.state c.step.new.self.state c.steps.handler
     c.step.new.handler c.in-Err.stop c.steps.invariant c.in-Err.ensures
+    c.position-start.ensures.end

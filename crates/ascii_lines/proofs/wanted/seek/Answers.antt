@@ -1,10 +1,11 @@
-use Rattle.std.proofs.Common.{true, false, ◌≡◌, ◌≤◌, ◌++◌, [], ap, length-append, append-nil}
+use Rattle.std.proofs.Common.{false, ◌≡◌, ◌≤◌, ◌++◌, ap, length-append}
 use Rattle.std.proofs.Common.{arith, length, refl, subst, sym, take, ◌∙◌}
-use Rattle.std.proofs.lemmas.List.{nil_from_length, take-take, take_all, take_at}
+use Rattle.std.proofs.lemmas.List.{take-take, take_at}
 use Rattle.ascii_devices.specs.States.{source_state}
 use Rattle.ascii_lines.specs.LineReader.{FindsEnd}
 use Rattle.ascii_lines.specs.Wanted.{EndsAt, IsRefusal, IsSearched, LacksUpTo, MayHave, MustRead}
-use Rattle.ascii_lines.proofs.GathersLemmas.{Gathers-failed, Gathers-nil, Gathers-read}
+use Rattle.ascii_lines.proofs.GathersLemmas.{Gathers-failed, Gathers-nil, Gathers-read, read_counts}
+use Rattle.ascii_lines.proofs.GathersLemmas.{reads_left_one}
 use Rattle.ascii_lines.proofs.WantedLemmas.{all_usable, ends_whole, may_front, may_none, must_read}
 use Rattle.ascii_lines.proofs.WantedLemmas.{refusal_counts, rejects, searched_front}
 use Rattle.ascii_lines.proofs.WantedLemmas.{searched_lacks, searched_more}
@@ -14,7 +15,8 @@ use Rattle.ascii_lines.proofs.wanted.seek.Goals as goal
 pub fills-init : goal.fills-init
 fills-init g c = (
   Gathers-nil (MustRead c.args.wanted c.args.start c.args.buffer.now.size)
-      c.args.buffer.now.held (source_state g.S.Source c.args.source.now),
+      c.args.buffer.now.held c.args.buffer.now.is_at_end
+      (source_state g.S.Source c.args.source.now) c.requires.end,
   refl,
   refl,
   refl,
@@ -48,8 +50,7 @@ returns-in-Some g c =
     let usable = c.usable-text.ensures in
     let n = c.in-Some.n in
     let found = c.in-Some.ensures in
-    let found_is : FindsEnd c.args.wanted c.fills.buffer (source_state g.S.Source c.fills.source)
-    n false = record {
+    let found_is : FindsEnd c.args.wanted c.fills.buffer n false = record {
       within = omega (arith, found.0, usable.within);
       fits = omega (arith, found.0, usable.fits);
       may = subst (MayHave c.args.wanted)
@@ -81,7 +82,7 @@ returns-then-searched-len g c = record {
     why = rejects c.args.wanted c.args.start c.args.buffer.now.size c.fills.buffer
         c.usable-text.result.now c.usable-text.ensures c.fills.invariant.2 c.in_default.ensures
         (omega (arith, c.if-searched-len.true, c.len.ensures))
-        (g.S.Source.rest c.fills.source) c.refusal.result (refusal g c);
+        c.fills.buffer.is_at_end c.refusal.result (refusal g c);
     failures = c.fills.invariant.1
         ∙ sym (refusal_counts (g.S.Source.failures c.args.source.now) c.args.start
         (length c.usable-text.result.now) c.args.buffer.now.size c.refusal.result (refusal g c));
@@ -97,17 +98,20 @@ refill-requires-clause-room g c =
 pub returns-in_default-refill : goal.returns-in_default-refill
 returns-in_default-refill g c =
     let Must = MustRead c.args.wanted c.args.start c.args.buffer.now.size in
-    let must : Must c.fills.buffer.held = must_read c.args.wanted c.args.start
-    c.args.buffer.now.size c.fills.buffer c.usable-text.result.now c.usable-text.ensures
-    c.fills.invariant.2 c.in_default.ensures c.requires
-    (omega (arith, c.if-searched-len.false, c.len.ensures)) in
+    let must : Must c.fills.buffer.held =
+    must_read c.args.wanted c.args.start c.args.buffer.now.size c.fills.buffer
+    c.usable-text.result.now c.usable-text.ensures c.fills.invariant.2 c.in_default.ensures
+    c.requires.fits (omega (arith, c.if-searched-len.false, c.len.ensures)) in
     let fails = c.in_default-refill.ensures.outcome in
     record {
       outcome = record {
-        gathers = Gathers-failed Must c.args.buffer.now.held
+        gathers = Gathers-failed Must c.args.buffer.now.held c.args.buffer.now.is_at_end
+            c.fills.buffer.is_at_end c.refill.new.self.is_at_end
             (source_state g.S.Source c.args.source.now) (source_state g.S.Source c.fills.source)
             (source_state g.S.Source c.refill.new.source) c.fills.buffer.held
-            c.refill.new.self.held c.fills.invariant.0 c.fills.invariant.1 must fails.0 fails.1;
+            c.refill.new.self.held c.fills.invariant.0
+            (sym c.is_at_end.ensures ∙ c.if-is_at_end.false) c.fills.invariant.1 must
+            fails.0 fails.1 fails.2;
         why = subst Must (sym fails.1) must;
         failures = omega (
           arith,
@@ -121,51 +125,29 @@ returns-in_default-refill g c =
       size = c.in_default-refill.ensures.size ∙ c.fills.invariant.2;
     }
 
-pub returns-then-n-eq0 : goal.returns-then-n-eq0
-returns-then-n-eq0 g c =
+pub returns-then-is_at_end : goal.returns-then-is_at_end
+returns-then-is_at_end g c =
     let part = c.usable-text.result.now in
     let usable = c.usable-text.ensures in
-    let read = c.in-Ok.ensures.outcome in
     let all : part ≡ c.fills.buffer.held =
     all_usable c.args.wanted c.fills.buffer part usable
     (omega (arith, c.if-searched-len.false, c.len.ensures)) in
-    let none : read.0 ≡ [] = nil_from_length read.0 (omega (arith, read.1, c.if-n-eq0.true)) in
-    let same : c.refill.new.self.held ≡ part =
-    read.3 ∙ (ap (λ xs. c.fills.buffer.held ++ xs) none
-    ∙ (append-nil c.fills.buffer.held ∙ sym all)) in
-    let long : c.len-then-n-eq0.result ≡ length c.refill.new.self.held = c.len-then-n-eq0.ensures in
-    let Must = MustRead c.args.wanted c.args.start c.args.buffer.now.size in
-    let found_is : FindsEnd c.args.wanted c.refill.new.self
-    (source_state g.S.Source c.refill.new.source) c.len-then-n-eq0.result true = record {
-      within = omega (arith, long);
-      fits = omega (arith, long, ap length same, usable.fits, c.in-Ok.ensures.size);
-      may = subst (MayHave c.args.wanted)
-          (sym (take_all c.len-then-n-eq0.result c.refill.new.self.held (omega (arith, long))
-          ∙ same))
-          usable.may;
-      stops = (
-        long,
-        read.2.end none,
-        subst (LacksUpTo c.args.wanted c.refill.new.self.held)
-            (ap length (sym same) ∙ sym long)
-            (subst (λ xs. LacksUpTo c.args.wanted xs (length part)) (sym same)
-            c.in_default.ensures),
-      );
-    } in
     record {
       outcome = record {
-        gathers = Gathers-read Must c.args.buffer.now.held
-            (source_state g.S.Source c.args.source.now)
-            (source_state g.S.Source c.fills.source) (source_state g.S.Source c.refill.new.source)
-            c.fills.buffer.held read.0 c.fills.invariant.0 c.fills.invariant.1
-            (must_read c.args.wanted c.args.start c.args.buffer.now.size c.fills.buffer
-            c.usable-text.result.now c.usable-text.ensures c.fills.invariant.2 c.in_default.ensures
-            c.requires (omega (arith, c.if-searched-len.false, c.len.ensures)))
-            c.refill.new.self.held read.2 read.3;
-        found_is = found_is;
-        failures = read.2.failures ∙ c.fills.invariant.1;
+        gathers = c.fills.invariant.0;
+        found_is = record {
+          within = usable.within;
+          fits = usable.fits;
+          may = subst (MayHave c.args.wanted) usable.front usable.may;
+          stops = (
+            ap length all,
+            sym c.is_at_end.ensures ∙ c.if-is_at_end.true,
+            subst (λ xs. LacksUpTo c.args.wanted xs (length part)) all c.in_default.ensures,
+          );
+        };
+        failures = c.fills.invariant.1;
       };
-      size = c.in-Ok.ensures.size ∙ c.fills.invariant.2;
+      size = c.fills.invariant.2;
     }
 
 pub fills-smaller : goal.fills-smaller
@@ -174,10 +156,11 @@ fills-smaller g c =
     let read = c.in-Ok.ensures.outcome in
     omega (
       arith,
-      ap length read.3,
+      ap length read.2,
       length-append c.fills.buffer.held read.0,
-      read.1,
-      c.if-n-eq0.false,
+      read_counts read.0 c.fills.buffer.is_at_end c.refill.new.self.is_at_end
+          (sym c.is_at_end.ensures ∙ c.if-is_at_end.false) read.3,
+      reads_left_one c.refill.new.self.is_at_end,
       c.in-Ok.ensures.room,
       usable.fits,
       usable.roomy,
@@ -196,23 +179,26 @@ fills-preserved g c =
     all_usable c.args.wanted c.fills.buffer part usable
     (omega (arith, c.if-searched-len.false, c.len.ensures)) in
     let front : take (length part) c.refill.new.self.held ≡ part =
-    ap (take (length part)) (read.3 ∙ ap (λ xs. xs ++ read.0) (sym all))
+    ap (take (length part)) (read.2 ∙ ap (λ xs. xs ++ read.0) (sym all))
     ∙ take_at part read.0 (length part) refl in (
-      Gathers-read Must c.args.buffer.now.held (source_state g.S.Source c.args.source.now)
+      Gathers-read Must c.args.buffer.now.held c.args.buffer.now.is_at_end
+          c.fills.buffer.is_at_end c.refill.new.self.is_at_end
+          (source_state g.S.Source c.args.source.now)
           (source_state g.S.Source c.fills.source) (source_state g.S.Source c.refill.new.source)
-          held read.0 c.fills.invariant.0 c.fills.invariant.1
+          held read.0 c.fills.invariant.0 (sym c.is_at_end.ensures ∙ c.if-is_at_end.false)
+          c.fills.invariant.1
           (must_read c.args.wanted c.args.start c.args.buffer.now.size c.fills.buffer part
-          usable c.fills.invariant.2 c.in_default.ensures c.requires
+          usable c.fills.invariant.2 c.in_default.ensures c.requires.fits
           (omega (arith, c.if-searched-len.false, c.len.ensures)))
-          c.refill.new.self.held read.2 read.3,
-      read.2.failures ∙ c.fills.invariant.1,
+          c.refill.new.self.held read.1 read.2 read.3,
+      read.1.failures ∙ c.fills.invariant.1,
       c.in-Ok.ensures.size ∙ c.fills.invariant.2,
       c.in-Ok.ensures.room ∙ c.fills.invariant.3,
-      omega (arith, ap length read.3, length-append held read.0, usable.within),
+      omega (arith, ap length read.2, length-append held read.0, usable.within),
       omega (arith, usable.fits, c.in-Ok.ensures.size),
       subst (MayHave c.args.wanted) (sym front) usable.may,
       subst (λ text. IsSearched c.args.wanted text (length part))
-          (sym (read.3 ∙ ap (λ xs. xs ++ read.0) (sym all)))
+          (sym (read.2 ∙ ap (λ xs. xs ++ read.0) (sym all)))
           (searched_more c.args.wanted part read.0 (length part) (omega arith)
           (searched_lacks c.args.wanted part (length part) c.in_default.ensures)),
     )
@@ -224,7 +210,7 @@ returns-then-failures-eq18446744073709551615 g c = record {
     gathers = c.fills.invariant.0;
     why = must_read c.args.wanted c.args.start c.args.buffer.now.size c.fills.buffer
         c.usable-text.result.now c.usable-text.ensures c.fills.invariant.2 c.in_default.ensures
-        c.requires (omega (arith, c.if-searched-len.false, c.len.ensures));
+        c.requires.fits (omega (arith, c.if-searched-len.false, c.len.ensures));
     failures = omega (
       arith,
       c.fills.invariant.1,

@@ -35,3 +35,10 @@ returns-in-Ok-None g c =
     c.next_line.follows.lender-at-none c.next_line.result lines.2
     c.next_line.follows.holds-at-none (c.in-Ok-None.is ∙ ap Ok c.in-Ok-None.field-0-is) in
     (lines.0, lines.1, none.0, none.1)
+
+pub lines-smaller : goal.lines-smaller
+lines-smaller g c =
+    let on = line_advances c.lines.reader c.next_line.follows.lender-at-none c.next_line.result
+    c.in-Ok-Some.field-0-0 c.next_line.follows.holds-at-none
+    (c.in-Ok-Some.is ∙ ap Ok c.in-Ok-Some.field-0-is) in
+    omega (arith, on.0, on.1)

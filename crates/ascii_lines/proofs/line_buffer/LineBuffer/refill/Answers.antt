@@ -1,4 +1,4 @@
-use Rattle.std.proofs.Common.{rules, ◌≡◌, ◌+◌, ◌++◌, ap, arith, drop, length, subst, take, ◌∙◌}
+use Rattle.std.proofs.Common.{rules, ◌==◌, ◌≡◌, ◌+◌, ◌++◌, ap, arith, drop, length, subst, take, ◌∙◌}
 use Rattle.std.specs.List.{slice_range}
 use Rattle.std.proofs.lemmas.List.{take_at}
 use Rattle.ascii.proofs.ListLemmas.{length-slice_range}
@@ -8,7 +8,7 @@ use Rattle.ascii_lines.proofs.line_buffer.LineBuffer.refill.Goals as goal
 use Rattle.ascii_lines.proofs.line_buffer.LineBuffer.refill.Goals.{then-self, else-self}
 
 -- the bytes of the vector after the read
-put_back : (g : _) (c : goal.After-self-2-1 g)
+put_back : (g : _) (c : goal.After-self-3-1 g)
     → take c.self.inside.bytes.len (c.read_behind.new.bytes
     ++ drop (length c.read_behind.new.bytes) c.self.inside.bytes.items)
     ≡ c.read_behind.new.bytes
@@ -16,7 +16,7 @@ put_back g c = take_at c.read_behind.new.bytes _ c.self.inside.bytes.len
     (c.read_behind.ensures.len ∙ c.deref_mut.ensures.len)
 
 -- the bytes before the read are unchanged
-front : (g : _) (c : goal.After-self-2-1 g)
+front : (g : _) (c : goal.After-self-3-1 g)
     → take c.self.inside.filled c.read_behind.new.bytes
     ≡ take c.self.inside.filled c.self.inside.bytes.items
 front g c = c.read_behind.ensures.front ∙ ap (take c.self.inside.filled) c.deref_mut.ensures.value
@@ -58,16 +58,16 @@ returns g c =
     record {
       outcome = (
         read,
-        omega (
-          arith,
-          length-slice_range new i.filled (i.filled + n) (omega arith)
-              c.in_ok-n.ensures.outcome.0,
-        ),
         c.in_ok-n.ensures.outcome.1,
         elim c.if-self.branch [
           | then-self w ↦ rw (w.self-inside-is, put_back g c) held
           | else-self w ↦ rw (w.self-inside-is, put_back g c) held
         ],
+        ap (λ k. k == 0) (omega (
+          arith,
+          length-slice_range new i.filled (i.filled + n) (omega arith)
+              c.in_ok-n.ensures.outcome.0,
+        )),
       );
       size = search rules;
       room = search rules;

@@ -1,4 +1,4 @@
-use Rattle.std.proofs.Common.{◌↔◌, IsTrue, Ok, subst, sym, ◌∙◌}
+use Rattle.std.proofs.Common.{◌≡◌, ◌↔◌, IsTrue, Ok, false, subst, sym, ◌∙◌}
 use Rattle.std.proofs.lemmas.Bool.{false≢true}
 use Rattle.ascii.specs.Endings.{any_text}
 use Rattle.ascii_lines.specs.Serve.{ChannelState, Conversing, Prepares, SkipOutcome}
@@ -27,8 +27,8 @@ returns g c =
     let new : ChannelState = record { cursor = cursor; output = output; ending = ending } in
     let waits = c.lacks_line_end-waits.result in
     let waits_is = subst
-    (λ (v : Conversing g.row.C.Denot). IsTrue waits
-    ↔ HasNoEnd (any_text v.state.cursor.endings) v.state.cursor.held) c.self.view_is
+    (λ (v : Conversing g.row.C.Denot). IsTrue waits ↔ (v.state.cursor.is_at_end ≡ false)
+    × HasNoEnd (any_text v.state.cursor.endings) v.state.cursor.held) c.self.view_is
     c.lacks_line_end-waits.ensures in
     let prepares = subst
     (λ (v : Conversing g.row.C.Denot). Prepares waits old (Ok c.in_ok-prepare.field-0) v.state)

@@ -1,4 +1,4 @@
-use Rattle.std.proofs.Common.{◌≡◌, ◌↔◌, IsTrue, Ok, ap, subst, sym, ◌∙◌}
+use Rattle.std.proofs.Common.{◌≡◌, ◌↔◌, IsTrue, Ok, ap, false, subst, sym, ◌∙◌}
 use Rattle.ascii_lines.specs.Serve.{ChannelState, Conversing, Prepares, TakesWanted}
 use Rattle.ascii_lines.specs.Wanted.{MustRead}
 use Rattle.ascii_lines.specs.declared.line_reader.Stage.TheVariants.{Open}
@@ -27,7 +27,7 @@ returns g c =
     let waits = c.waits-waits.result in
     let waits_is = subst
     (λ (v : Conversing g.row.C.Denot). IsTrue waits ↔ (v.state.cursor.stage ≡ Open)
-    × MustRead c.args.wanted v.state.cursor.start v.state.cursor.size v.state.cursor.held)
+    × (v.state.cursor.is_at_end ≡ false) × MustRead c.args.wanted v.state.cursor.start v.state.cursor.size v.state.cursor.held)
     c.self.view_is c.waits-waits.ensures in
     let prepares = subst
     (λ (v : Conversing g.row.C.Denot). Prepares waits old (Ok c.in_ok-prepare.field-0) v.state)

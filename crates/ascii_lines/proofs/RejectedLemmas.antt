@@ -1,0 +1,56 @@
+-- Errors that no conversation explains.
+use Rattle.std.proofs.Common.{◌≡◌, ◌+◌, ◌<◌, ℕ, List, [], ◌∷◌, ◌++◌, Bool, ap, arith, get_or}
+use Rattle.std.proofs.Common.{inl, inr, length, length-append, refl, sym, true, ◌∙◌}
+use Rattle.std.proofs.Math.ListN.{get_or-append}
+use Rattle.std.proofs.lemmas.Bool.{false≢true}
+use Rattle.ascii.specs.declared.iter.spans.Endings.TheVariants.{CrLfStrict}
+use Rattle.ascii_lines.specs.Serve.{Explains, Reply, Step, at_end_before, bytes_of, rejected}
+use Rattle.ascii_lines.specs.Wanted.{IsLoneBreak}
+use Rattle.ascii_lines.specs.declared.line_reader.LineError.TheVariants.{LoneBreak}
+use Rattle.ascii_lines.specs.declared.wanted.Wanted.TheVariants.{Line}
+
+-- a byte of the first of two parts
+in_front : (all text others : List ℕ) (k : ℕ) → all ≡ text ++ others → k < length text
+    → get_or text k 0 ≡ get_or all k 0
+in_front all text others k parts low =
+    sym (get_or-append text others 0 k low) ∙ ap (λ xs. get_or xs k 0) (sym parts)
+
+module _ (size i j n : ℕ) (all text : List ℕ) (is_at_end : Bool) (same : i ≡ j)
+    (inside : i + 1 < length all) (cr : get_or all i 0 ≡ 13) (feed : get_or all (i + 1) 0 ≡ 10)
+  where
+    -- a CR with an LF after it is not alone, also if the LF came later
+    cr_lf_not_lone : (others : List ℕ) → all ≡ text ++ others
+        → IsLoneBreak (Line CrLfStrict) size text (at_end_before others is_at_end) j n → ⊥
+    cr_lf_not_lone others parts lone = elim lone.lone [
+      | inl (stop, is) ↦
+          let at = in_front all text others j parts (omega (arith, lone.inside, stop)) in
+          omega (arith, is, at, ap (λ k. get_or all k 0) same, cr)
+      | inr rest ↦ elim rest [
+        | inl (stop, is, other) ↦
+            let at = in_front all text others (j + 1) parts (omega (arith, lone.inside, stop)) in
+            other (at ∙ (ap (λ k. get_or all (k + 1) 0) (sym same) ∙ feed))
+        | inr (stop, whole, is, last) ↦ nothing others parts (omega (arith, stop, whole)) last
+      ]
+    ]
+      where
+        nothing : (others : List ℕ) → all ≡ text ++ others → length text ≡ j + 1
+            → at_end_before others is_at_end ≡ true → ⊥
+        nothing [] parts long last = omega (
+          arith,
+          same,
+          inside,
+          long,
+          ap length parts,
+          length-append text [],
+        )
+        nothing (b ∷ others) parts long last = false≢true last
+
+-- a strict server that was sent `ab` CR LF has not rejected it for the CR
+pub ab_cr_lf_is_not_lone : (size : ℕ) (replies : List Reply) (steps : List Step)
+    (tail more : List ℕ) (is_at_end : Bool)
+    → bytes_of steps ++ tail ≡ 97 ∷ 98 ∷ 13 ∷ 10 ∷ more
+    → Explains CrLfStrict size 0 (rejected (LoneBreak 2) replies ∷ steps) tail is_at_end → ⊥
+ab_cr_lf_is_not_lone size replies steps tail more is_at_end sent
+    ((text, others, parts, (strict, (i, n, is, lone))), first) =
+    cr_lf_not_lone size 2 i n (97 ∷ 98 ∷ 13 ∷ 10 ∷ more) text is_at_end (omega (arith, is))
+    (omega arith) refl refl others (sym sent ∙ parts) lone
