@@ -1,7 +1,7 @@
 //! Callers that cut a view at a prefix, at its last separator, at the end of a class, or into words, or
 //! that trim it.
 
-ghost use Rattle.std.specs.Prelude.{◌≡◌, ◌==◌, ◌↔◌, ◌⊎◌, ◌∷◌, ℕ, [], Contains, IfOk, IsSomeAnd, IsTrue};
+ghost use Rattle.std.specs.Prelude.{◌≡◌, ◌==◌, ◌↔◌, ◌⊎◌, ◌∷◌, ◌++◌, ℕ, [], Contains, IfOk, IfSome, IsSomeAnd, IsTrue};
 ghost use Rattle.std.specs.Prelude.{List, MatchOption, codes, false, length, map, true};
 ghost use Rattle.std.specs.List.{All};
 ghost use Rattle.std.specs.Str.{IsAscii};
@@ -18,7 +18,7 @@ ghost use Rattle.ascii.specs.Words.{OfWords};
 ghost use Rattle.tests_callers.specs.Cuts.{EndsWithPiece};
 
 use ascii::classes::{Digit, Searched, Whitespace};
-use ascii::{AsciiChar, AsciiStr};
+use ascii::{AsciiChar, AsciiRange, AsciiStr};
 use std::alloc::{AllocError, Global};
 
 /// The view without a prefix, or the view itself if it does not start with it.
@@ -72,6 +72,23 @@ pub fn first_word<'a>(view: AsciiStr<'a>) -> Option<AsciiStr<'a>>
     view.split_whitespace().next()
 }
 
+/// The first word of a line, cut out by its place, which the step says is in the line; or `None` if
+/// the line has no word.
+pub fn first_word_by_place<'a>(line: AsciiStr<'a>) -> Option<AsciiStr<'a>> {
+    let span = line.word_spans::<Whitespace>().next()?;
+    Some(line.slice(AsciiRange::Range(span.start, span.start + span.text.len())))
+}
+
+/// The first word of a view, and all that comes after it, whitespace included.
+pub fn first_word_and_rest<'a>(view: AsciiStr<'a>) -> Option<(AsciiStr<'a>, AsciiStr<'a>)>
+    ensures { IfSome result (λ parts. (gap : List ℕ)
+        × (gap ++ (text_of parts.0 ++ text_of parts.1) ≡ text_of view.entry)) }
+{
+    let mut words = view.split_whitespace();
+    let word = words.next()?;
+    Some((word, words.as_str()))
+}
+
 /// The number of words of a view.
 pub fn word_count(view: AsciiStr<'_>) -> usize
     ensures { result ≡ length (words_by is_whitespace (text_of view.entry)) }
@@ -80,11 +97,10 @@ pub fn word_count(view: AsciiStr<'_>) -> usize
 }
 
 /// The number of words of a view, by the words with their starts.
-#[tactic(auto, using(ascii::proofs::CallerLemmas::as_many_words))]
 pub fn word_span_count(view: AsciiStr<'_>) -> usize
     ensures { result ≡ length (words_by is_whitespace (text_of view.entry)) }
 {
-    view.word_spans::<Whitespace>().count()
+    view.split_whitespace().spans().count()
 }
 
 /// The number of words of a view between characters of a class, by what the words are.

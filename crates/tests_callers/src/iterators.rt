@@ -127,7 +127,6 @@ pub fn line_lengths(alloc: Global, view: AsciiStr<'_>) -> Result<Vec<usize>, All
 
 /// Appends the characters of a view one by one. On error, the characters before the one that did not
 /// fit have been appended.
-#[tactic(auto, using(ascii::proofs::CallerLemmas::extends_chars))]
 pub fn append_chars(string: &mut AsciiString, view: AsciiStr<'_>) -> Result<(), AllocError>
     ensures { OnOk result (string.new.text ≡ string.old.text ++ text_of view.entry) }
 {

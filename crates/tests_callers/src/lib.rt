@@ -16,6 +16,7 @@ pub mod prefixes;
 pub mod quotes;
 pub mod remainders;
 pub mod servers;
+pub mod small_strings;
 pub mod spans;
 pub mod strings;
 pub mod texts;

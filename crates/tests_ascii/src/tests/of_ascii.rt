@@ -6,7 +6,8 @@ use ascii::decimals::Decimal;
 use ascii::endings::{ends_in_cr_lf, find_end, lone_break, split_ending};
 use ascii::folded::{FoldedStr, FoldedText};
 use ascii::iter::{
-    Cut, CutBack, End, Endings, take_end, walk_line_spans, walk_lines, walk_split, walk_split_spans,
+    AtTerminator, Cut, CutBack, End, Endings, take_end, walk_line_spans, walk_lines, walk_split,
+    walk_split_spans,
 };
 use ascii::json::{JsonError, char_from_json, char_to_json, str_from_json, string_from_json};
 use ascii::maps::{AsciiMap, FoldedMap};
@@ -1805,14 +1806,6 @@ fn rsplit_spans_of_ascii_str(rt: HostRuntime) {
     assert_debug!(rt; spans.next(), "Some(SplitSpan { start: 4, text: \"c\" })");
 }
 
-// RSplit::remainder
-#[test]
-fn remainder_of_rsplit(rt: HostRuntime) {
-    let mut pieces = view("a.b.c").rsplit(AsciiChar::Dot);
-    assert_debug!(rt; pieces.next(), "Some(\"c\")");
-    assert_debug!(rt; pieces.remainder(), "Some(\"a.b\")");
-}
-
 // AsciiStr::split_by
 #[test]
 fn split_by_of_ascii_str(rt: HostRuntime) {
@@ -1871,44 +1864,12 @@ fn run_spans_of_ascii_str(rt: HostRuntime) {
     assert_debug!(rt; spans.next_back(), "Some(SplitSpan { start: 3, text: \"20\" })");
 }
 
-// SplitBy::remainder
+// Items::as_str
 #[test]
-fn remainder_of_split_by(rt: HostRuntime) {
-    let mut pieces = view("a b\tc").split_by::<Blank>();
-    assert_debug!(rt; pieces.next(), "Some(\"a\")");
-    assert_debug!(rt; pieces.remainder(), "Some(\"b\\tc\")");
-}
-
-// Words::remainder
-#[test]
-fn remainder_of_words(rt: HostRuntime) {
-    let mut words = view("to be").split_whitespace();
-    assert_debug!(rt; words.next(), "Some(\"to\")");
-    assert_debug!(rt; words.remainder(), "Some(\" be\")");
-}
-
-// Words::as_str
-#[test]
-fn as_str_of_words(rt: HostRuntime) {
+fn as_str_of_items(rt: HostRuntime) {
     let mut words = view("a b c").split_whitespace();
     assert_debug!(rt; words.next(), "Some(\"a\")");
     assert_debug!(rt; words.as_str(), "\" b c\"");
-}
-
-// Runs::remainder
-#[test]
-fn remainder_of_runs(rt: HostRuntime) {
-    let mut runs = view("v1.20").runs::<Digit>();
-    assert_debug!(rt; runs.next(), "Some(\"1\")");
-    assert_debug!(rt; runs.remainder(), "Some(\".20\")");
-}
-
-// Runs::as_str
-#[test]
-fn as_str_of_runs(rt: HostRuntime) {
-    let mut runs = view("v1.20").runs::<Digit>();
-    assert_debug!(rt; runs.next(), "Some(\"1\")");
-    assert_debug!(rt; runs.as_str(), "\".20\"");
 }
 
 // AsciiStr::split_str
@@ -1948,22 +1909,6 @@ fn match_spans_of_ascii_str(rt: HostRuntime) {
     assert_debug!(rt; spans.next(), "Some(SplitSpan { start: 1, text: \"an\" })");
     assert_debug!(rt; spans.next(), "Some(SplitSpan { start: 3, text: \"an\" })");
     assert_debug!(rt; spans.next(), "None");
-}
-
-// SplitStr::remainder
-#[test]
-fn remainder_of_split_str(rt: HostRuntime) {
-    let mut pieces = view("one, two, three").split_str(view(", "));
-    assert_debug!(rt; pieces.next(), "Some(\"one\")");
-    assert_debug!(rt; pieces.remainder(), "Some(\"two, three\")");
-}
-
-// Matches::remainder
-#[test]
-fn remainder_of_matches(rt: HostRuntime) {
-    let mut matches = view("banana").matches(view("an"));
-    assert_debug!(rt; matches.next(), "Some(\"an\")");
-    assert_debug!(rt; matches.remainder(), "Some(\"ana\")");
 }
 
 // Chars::as_str
@@ -2093,20 +2038,13 @@ fn split_inclusive_spans_of_ascii_str(rt: HostRuntime) {
     assert_debug!(rt; spans.remainder(), "Some((0, \"a;\"))");
 }
 
-// SplitTerminator::remainder
+// iter::Cut::tell_laws
 #[test]
-fn remainder_of_split_terminator(rt: HostRuntime) {
-    let mut pieces = view("a;b;").split_terminator(AsciiChar::Semicolon);
-    assert_debug!(rt; pieces.next_back(), "Some(\"b\")");
-    assert_debug!(rt; pieces.remainder(), "Some(\"a;\")");
-}
-
-// SplitInclusive::remainder
-#[test]
-fn remainder_of_split_inclusive(rt: HostRuntime) {
-    let mut pieces = view("a;b;").split_inclusive(AsciiChar::Semicolon);
-    assert_debug!(rt; pieces.next(), "Some(\"a;\")");
-    assert_debug!(rt; pieces.remainder(), "Some(\"b;\")");
+fn tell_laws_of_cut(rt: HostRuntime) {
+    AtTerminator {
+        on: AsciiChar::Comma,
+    }
+    .tell_laws();
 }
 
 // Clone for Spans::clone
@@ -2167,6 +2105,25 @@ fn next_of_items(rt: HostRuntime) {
 #[test]
 fn next_back_of_items(rt: HostRuntime) {
     assert_debug!(rt; view("a,b").split(AsciiChar::Comma).next_back(), "Some(\"b\")");
+}
+
+// Items::spans
+#[test]
+fn spans_of_items(rt: HostRuntime) {
+    assert_debug!(
+        rt;
+        view("a b").words::<Blank>().spans().next_back(),
+        "Some(SplitSpan { start: 2, text: \"b\" })"
+    );
+}
+
+// Items::remainder
+#[test]
+fn remainder_of_items(rt: HostRuntime) {
+    let mut pieces = view("foo;bar;baz").split(AsciiChar::Semicolon);
+    assert_debug!(rt; pieces.next(), "Some(\"foo\")");
+    assert_debug!(rt; pieces.remainder(), "Some(\"bar;baz\")");
+    assert_debug!(rt; view(" ").words::<Blank>().remainder(), "None");
 }
 
 // Clone for LineSpans::clone
@@ -2385,14 +2342,6 @@ fn line_spans_by_of_ascii_str(rt: HostRuntime) {
     let mut spans = view("x\r\ny").line_spans_by(Endings::CrLf);
     assert_debug!(rt; spans.next(), "Some(LineSpan { start: 0, text: \"x\", ending: CrLf })");
     assert_debug!(rt; spans.next(), "Some(LineSpan { start: 3, text: \"y\", ending: Absent })");
-}
-
-// Split::remainder
-#[test]
-fn remainder_of_split(rt: HostRuntime) {
-    let mut pieces = view("foo;bar;baz").split(AsciiChar::Semicolon);
-    assert_debug!(rt; pieces.next(), "Some(\"foo\")");
-    assert_debug!(rt; pieces.remainder(), "Some(\"bar;baz\")");
 }
 
 // AsciiStr::split

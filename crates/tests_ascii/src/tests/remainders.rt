@@ -1,12 +1,13 @@
 //! Walks that stop at each step and go on over the remainder yield what an unbroken walk yields.
 
 use super::both_ends::{scripts, walk_on};
+use ascii::classes::Blank;
 use ascii::iter::{
-    End, LineSpan, SplitSpan, walk_line_spans, walk_lines, walk_split, walk_split_spans,
+    Cut, End, Items, LineSpan, SplitSpan, walk_line_spans, walk_lines, walk_split, walk_split_spans,
 };
 use ascii::{AsciiChar, AsciiStr};
 use std::process::Abort;
-use testing::ascii;
+use testing::{ascii, assert_row};
 
 /// A script that stops at an index: the ends up to it, and those after it.
 #[derive(Clone, Copy)]
@@ -124,5 +125,44 @@ fn lines_resumed_at_each_place(rt: HostRuntime) {
         for script in &scripts(&rt) {
             stop_lines(&rt, ascii(source), script);
         }
+    }
+}
+
+/// A text, and the number of its pieces at `;`, of those that `;` ends, of those with their `;`, of its words
+/// and of the occurrences of `;`.
+static COUNTS: [(&str, [usize; 5]); 6] = [
+    ("", [1, 0, 0, 0, 0]),
+    (";", [2, 1, 1, 1, 1]),
+    ("a;", [2, 1, 1, 1, 1]),
+    ("a; ;", [3, 2, 2, 2, 2]),
+    ("  ", [1, 1, 1, 0, 0]),
+    (" a ", [1, 1, 1, 1, 0]),
+];
+
+/// The number of steps after which an iterator has no remainder.
+fn steps_while_some<C: Cut + Drop>(items: Items<'_, C>) -> usize {
+    let mut items = items;
+    for steps in 0..10 {
+        if items.remainder().is_none() {
+            return steps;
+        }
+        items.next();
+    }
+    10
+}
+
+#[test]
+fn remainder_is_none_when_no_item_is_left(rt: HostRuntime) {
+    let on = AsciiChar::Semicolon;
+    for (text, counts) in &COUNTS {
+        let view = ascii(text);
+        let [pieces, terminated, inclusive, words, found] = *counts;
+        assert_row!(rt; steps_while_some(view.split(on)), pieces);
+        assert_row!(rt; steps_while_some(view.rsplit(on)), pieces);
+        assert_row!(rt; steps_while_some(view.split_str(ascii(";"))), pieces);
+        assert_row!(rt; steps_while_some(view.split_terminator(on)), terminated);
+        assert_row!(rt; steps_while_some(view.split_inclusive(on)), inclusive);
+        assert_row!(rt; steps_while_some(view.words::<Blank>()), words);
+        assert_row!(rt; steps_while_some(view.matches(ascii(";"))), found);
     }
 }

@@ -236,15 +236,6 @@ fn answer_to(input: &Input<'_>, from: usize, call: Call) -> Answer {
     }
 }
 
-/// The input for a call after an error: if the end was found before, it is asked for again.
-fn after_end<'a>(input: &Input<'a>, last: Answer) -> Input<'a> {
-    let again = usize::from(last.seen > input.text.len());
-    Input {
-        calls: input.calls.saturating_sub(again),
-        ..*input
-    }
-}
-
 /// What a reader returns for a call after an answer.
 fn answer_after(input: &Input<'_>, last: Answer, call: Call) -> Answer {
     let result = match (last.then, call) {
@@ -252,7 +243,7 @@ fn answer_after(input: &Input<'_>, last: Answer, call: Call) -> Answer {
         (
             Then::Refused(LineError::NotAscii(_) | LineError::LoneBreak(_) | LineError::TooLong(_)),
             Call::Skip(most),
-        ) => return skip_from(&after_end(input, last), last.position, most),
+        ) => return skip_from(input, last.position, most),
         (Then::Refused(error), _) => Err(error),
         (Then::Ended, Call::Part(_)) => Err(LineError::Incomplete(0)),
         (Then::Ended, _) => Ok((0, None, Ending::Absent)),

@@ -48,6 +48,34 @@ impl io::Read for Counted<'_> {
     }
 }
 
+/// A reader that gives these pieces, one at a call, also after one without bytes, and counts its calls.
+#[derive(Drop)]
+pub(super) struct Scripted {
+    pieces: &'static [&'static [u8]],
+    pub(super) calls: usize,
+}
+
+/// A line that ends in a CR at the end of the input, after which a source would give more.
+pub(super) fn resumed() -> Scripted {
+    Scripted {
+        pieces: &[b"ab\r", b"", b"\ncd\r\n"],
+        calls: 0,
+    }
+}
+
+impl io::Read for Scripted {
+    fn read(&mut self, buf: &mut [u8]) -> io::Result<usize> {
+        let piece = self
+            .pieces
+            .get(self.calls)
+            .map_or(b"".as_slice(), |piece| *piece);
+        self.calls = self.calls.saturating_add(1);
+        let n = piece.len().min(buf.len());
+        buf[..n].copy_from_slice(&piece[..n]);
+        Ok(n)
+    }
+}
+
 /// What a reader with a buffer of this size keeps of a source.
 fn kept(
     alloc: Global,
@@ -270,6 +298,21 @@ fn an_answer_for_good(rt: HostRuntime) {
         (4, 0),
         Some(LineError::Read),
     );
+}
+
+#[test]
+fn a_source_is_not_read_after_its_end(rt: HostRuntime) {
+    let source = Input::new(resumed());
+    let reader = LineReader::new(rt.alloc(), source, 16, Endings::CrLfStrict);
+    let mut reader = reader.expect(&rt, "refused");
+    assert_row!(rt; reader.next_line(), Err(LineError::LoneBreak(2)));
+    assert_row!(rt; reader.skip_line(2), Err(LineError::TooLong(0)));
+    let rest = reader
+        .skip_line(100)
+        .map(|skipped| (skipped.start, skipped.length));
+    assert_row!(rt; rest, Ok((2, 1)));
+    assert_row!(rt; reader.next_line(), Ok(None));
+    assert_row!(rt; reader.into_source().into_inner().calls, 2);
 }
 
 #[test]

@@ -1,6 +1,6 @@
 //! A line writer over sinks that take little at a call or fail.
 
-use ascii_lines::{Ending, LineWriter, Output, WriteError};
+use ascii_lines::{Duplex, Ending, LineWriter, Output, Sink, WriteError};
 use std::alloc::Global;
 use std::io::{self, ErrorKind};
 use std::process::Abort;
@@ -78,6 +78,18 @@ fn compare<R: Abort>(rt: &R, writer: LineWriter<Output<Counted>>, taken: &[u8], 
     let sink = writer.into_sink().into_inner();
     assert!(rt; sink.taken.as_slice() == taken);
     assert_row!(rt; sink.calls, calls);
+}
+
+#[test]
+fn each_flush_of_a_device_flushes_its_writer(rt: HostRuntime) {
+    let mut output = Output::new(make_counted(rt.alloc(), 100, u64::MAX));
+    assert!(rt; output.flush().is_ok());
+    assert_row!(rt; output.into_inner().calls, 1);
+    let mut failing = Output::new(make_counted(rt.alloc(), 100, 0));
+    assert!(rt; failing.flush().is_err());
+    let mut duplex = Duplex::new(b"".as_slice(), make_counted(rt.alloc(), 100, u64::MAX));
+    assert!(rt; duplex.flush().is_ok());
+    assert_row!(rt; duplex.into_parts().1.into_inner().calls, 1);
 }
 
 #[test]

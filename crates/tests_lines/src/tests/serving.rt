@@ -2,6 +2,7 @@
 
 ghost use Rattle.ascii_lines.specs.Serve.{IsRequest};
 
+use super::line_reader::resumed;
 use super::line_writer::{Counted, make_counted};
 use ascii_lines::{
     AsciiStr, Duplex, Ending, Endings, Handler, LineChannel, LineError, Next, Replies, Sink, Stop,
@@ -237,6 +238,18 @@ fn replies_that_come_together_are_one_write(rt: HostRuntime) {
     );
     // A flush before the only read, and then a write with its flush.
     assert_row!(rt; sink.calls, 3);
+}
+
+#[test]
+fn a_device_is_not_read_after_its_end(rt: HostRuntime) {
+    let device = Duplex::new(resumed(), make_counted(rt.alloc(), 100, u64::MAX));
+    let lines = LineChannel::new(rt.alloc(), device, 16, Endings::CrLfStrict, Ending::CrLf);
+    let mut lines = lines.expect(&rt, "refused");
+    let stop = serve(&mut lines, &mut Words { count: 0 });
+    assert_row!(rt; stop, Stop::EndOfInput);
+    let (input, output) = lines.into_device().into_parts();
+    assert_row!(rt; input.into_inner().calls, 2);
+    assert!(rt; output.into_inner().taken.as_slice() == b"bad break\n".as_slice());
 }
 
 #[test]

@@ -11,6 +11,7 @@ mod iterators;
 mod numbers;
 mod places;
 mod servers;
+mod small_strings;
 mod spans;
 mod texts;
 mod writers;

@@ -5,6 +5,6 @@ use Rattle.tests_callers.proofs.escapes.through_escapes.Goals as goal
 
 pub returns : goal.returns
 returns c =
-    let escaped = collects_chars _ _ c.in-Ok.ensures in
+    let escaped = collects_chars _ _ c.in-Ok.ensures.text in
     escaped_comes_back (λ string. string.text) _ _ _ c.args.view.ascii
     (c.as_ascii_str.ensures ∙ escaped ∙ c.escape_ascii.ensures) c.unescape.ensures

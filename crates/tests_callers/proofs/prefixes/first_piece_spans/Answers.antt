@@ -2,7 +2,8 @@ use Rattle.std.proofs.Common.{List, ap, map, ℕ, refl, ◌∙◌}
 use Rattle.ascii.specs.Pieces.{Remaining}
 use Rattle.std.proofs.lemmas.Iterator.Consumers.{YieldsList-at}
 use Rattle.ascii.specs.Spans.{WithStart, piece_in}
-use Rattle.ascii.specs.Steps.{StepsPieceSpan}
+use Rattle.ascii.specs.Steps.{StepsSpan, at_front}
+use Rattle.ascii.specs.TheCuts.{at_code}
 use Rattle.ascii.proofs.ExtendLemmas.{if_ok}
 use Rattle.ascii.proofs.StepsLemmas.{road_from_first_and}
 use Rattle.tests_callers.proofs.TakenLemmas.{taken}
@@ -15,5 +16,5 @@ returns c = if_ok c.collect.result c.collect.ensures.ran (λ given ran. (
   ap (map piece_in) ran.2.0 ∙ taken c.args.n c.take.result ran.0
       (YieldsList-at c.take.ensures.source
       (road_from_first_and piece_in (λ (split : Remaining ℕ (WithStart (List ℕ))). split.items)
-      StepsPieceSpan c.split_spans.result.items refl)) c.take.ensures.count ran.1,
+      (StepsSpan at_front at_code) c.split_spans.result.items refl)) c.take.ensures.count ran.1,
 ))

@@ -26,4 +26,4 @@ returns c =
     let steps = c.in_ok-next.ensures.steps in
     after_first c.args.n (code_of c.args.on) (text_of c.args.view) (text_of c.in_ok-next.field-0)
     c.splitn-pieces.result c.next.new.self c.remainder.result c.splitn-pieces.ensures.iterates.pieces
-    c.splitn-pieces.ensures.separator steps.0 steps.1.0 c.remainder.ensures
+    c.splitn-pieces.ensures.separator steps.0 steps.1 c.remainder.ensures

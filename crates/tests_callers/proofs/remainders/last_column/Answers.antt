@@ -1,9 +1,8 @@
 use Rattle.std.proofs.Common.{◌≡◌, ◌∙◌, ◌∷◌, [], ap, arith, subst}
 use Rattle.ascii.specs.Code.{code_of}
-use Rattle.ascii.specs.Found.{piece_spans}
 use Rattle.ascii.specs.Spans.{PieceSpans, items_of, piece_in, piece_size}
 use Rattle.ascii.specs.View.{text_of}
-use Rattle.ascii.proofs.CallerLemmas.{last_of_piece_spans, rest_of_piece_spans}
+use Rattle.ascii.proofs.CallerLemmas.{last_of_piece_spans}
 use Rattle.tests_callers.proofs.LastLemmas.{same_start}
 use Rattle.tests_callers.proofs.remainders.last_column.Goals as goal
 
@@ -18,9 +17,8 @@ returns c =
     let steps = c.in_ok-last.ensures.steps in
     let found = c.split_spans-columns.ensures.iterates in
     let whole = subst (PieceSpans 0 row on) steps.0 found.spans in
-    let rest = rest_of_piece_spans on start others left.items
-    (subst (λ o. piece_spans o (record { start = start; item = others }) ≡ left.items)
-    (steps.1.0 ∙ found.separator) c.in_ok-_start.ensures.remainder) in
+    let remains = c.in_ok-_start.ensures.remainder in
+    let rest = subst (λ o. PieceSpans start others o left.items) (steps.1.0 ∙ found.separator) remains.1 in
     let first : start ≡ 0 = same_start piece_size start 0 left.items (last ∷ [])
     (λ none. rest.pieces.some (ap items_of none)) rest.starts whole.starts in
     let at = last_of_piece_spans 0 on row others last left.items whole

@@ -1,6 +1,8 @@
 use Rattle.std.proofs.Common.{◌≡◌, ◌∙◌, List, ◌∷◌, ◌++◌, [], None, Option, Some, subst, ℕ}
 use Rattle.std.specs.Option.{IfSome}
-use Rattle.ascii.specs.Pieces.{IsRemainderOfPieces, Pieces, Remaining}
+use Rattle.ascii.specs.Cuts.{IsRemainder}
+use Rattle.ascii.specs.Pieces.{Pieces, Remaining}
+use Rattle.ascii.specs.TheCuts.{at_code}
 use Rattle.ascii.specs.View.{text_of}
 use Rattle.ascii.specs.declared.ascii_str.AsciiStr.{AsciiStr}
 use Rattle.ascii.proofs.CallerLemmas.{last_of_pieces}
@@ -8,13 +10,13 @@ use Rattle.tests_callers.proofs.remainders.stem.Goals as goal
 
 module _ (on : ℕ) (text last : List ℕ) (left : Remaining ℕ (List ℕ)) where
   before_last : (result : Option AsciiStr) → Pieces text on (left.items ++ last ∷ [])
-      → left.on ≡ on → IsRemainderOfPieces left result
+      → left.on ≡ on → IsRemainder at_code left result
       → IfSome result (λ stem. (extension : List ℕ) × (text_of stem ++ on ∷ extension ≡ text))
   before_last None whole is rest = tt
   before_last (Some stem) whole is rest = (
     last,
     last_of_pieces on text (text_of stem) last left.items whole
-        (subst (λ o. Pieces (text_of stem) o left.items) is rest),
+        (subst (λ o. Pieces (text_of stem) o left.items) is rest.1),
   )
 
 pub returns : goal.returns

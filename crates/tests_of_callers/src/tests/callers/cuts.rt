@@ -4,9 +4,9 @@ use ascii::classes::Whitespace;
 use ascii::{AsciiChar, AsciiStr};
 use testing::{ascii, assert_row};
 use tests_callers::cuts::{
-    all_words, extension, first_comma, first_word, has_mark, help_reply, is_get, known_text,
-    number_and_unit, only_piece, trim_twice, without_prefix, word_count, word_count_by,
-    word_span_count,
+    all_words, extension, first_comma, first_word, first_word_and_rest, first_word_by_place,
+    has_mark, help_reply, is_get, known_text, number_and_unit, only_piece, trim_twice,
+    without_prefix, word_count, word_count_by, word_span_count,
 };
 
 fn text_in<'a>(part: Option<AsciiStr<'a>>) -> Option<&'a str> {
@@ -35,6 +35,8 @@ fn cuts(rt: HostRuntime) {
 fn words(rt: HostRuntime) {
     let view = ascii(" one\t two ");
     assert_row!(rt; text_in(first_word(view)), Some("one"));
+    assert_row!(rt; text_in(first_word_by_place(view)), Some("one"));
+    assert_row!(rt; first_word_and_rest(view), Some((ascii("one"), ascii("\t two "))));
     assert_row!(rt; word_count(view), 2);
     assert_row!(rt; word_count_by::<Whitespace>(view), 2);
     assert_row!(rt; word_span_count(view), 2);
