@@ -1,10 +1,12 @@
 """Dialogues of real clients with the example servers: a connection is the standard input and output of the program."""
+import itertools
 import shutil
 import smtplib
 import socket
 import subprocess
 import tempfile
 import threading
+import time
 import unittest
 from contextlib import contextmanager
 from pathlib import Path
@@ -15,12 +17,14 @@ WAIT = 10  # seconds for a reply
 
 
 class Dialogue(NamedTuple):
-    """What a client sends, and what it has to get before it sends more. At the end it sends no more; `then` comes after."""
+    """What a client sends, and what it has to get before it sends more. At the end it sends no more; `then` comes after.
+    All of it takes at most `seconds`, if that is not 0."""
 
     name: str
     program: str
     steps: list
     then: bytes = b""
+    seconds: int = 0
 
 
 BEGUN = (b"HELO c\r\nMAIL FROM:<a@b>\r\nRCPT TO:<c@d>\r\nDATA\r\n", b"250 OK\r\n" * 3 + b"354 send the lines\r\n")
@@ -51,8 +55,30 @@ def mail(name, *steps, then=b""):
     return Dialogue(name, "example_smtp", [HELLO, *steps], then)
 
 
-def store(name, *steps, then=b""):
-    return Dialogue(name, "example_resp", list(steps), then)
+def store(name, *steps, then=b"", seconds=0):
+    return Dialogue(name, "example_resp", list(steps), then, seconds)
+
+
+def colliding_keys(count):
+    """Keys that all have one hash in the toolchain's `HashMap`, whose seed is fixed. It reads 16 bytes at a time and multiplies
+    their halves, the first one after an xor with its state. Here the second 16 bytes begin with that state, so their
+    product is 0, whatever their other half is."""
+    number = lambda text: int.from_bytes(text, "little")
+    for n in itertools.count():
+        first = b"%016d" % n
+        product = (number(first[:8]) ^ 0x243F6A8885A308D3 + 48) * (number(first[8:]) ^ 0x9E3779B97F4A7C15)
+        state = (product % 2**64 ^ product >> 64).to_bytes(8, "little")
+        if state.isascii():
+            return [b"%s%s%08d%016d" % (first, state, key, 0) for key in range(count)]
+
+
+def request(*words):
+    """A request of the store, as an array of its words."""
+    return b"*%d\r\n" % len(words) + b"".join(b"$%d\r\n%s\r\n" % (len(word), word) for word in words)
+
+
+KEYS = colliding_keys(100_000)
+SETS = [b"".join(request(b"SET", key, b"v") for key in KEYS[n : n + 1000]) for n in range(0, len(KEYS), 1000)]
 
 
 def smuggled(name, end):
@@ -97,6 +123,7 @@ DIALOGUES = [
     store("a request in two packets", (b"*1\r\n$4\r\nPI", b""), (b"NG\r\n", b"+PONG\r\n")),
     store("a reply before more is sent", (b"SET a 1\r\n", b"+OK\r\n"), (b"GET a\r\n", b"$1\r\n1\r\n")),
     store("2,000 requests in one packet", (b"PING\r\n" * 2000, b"+PONG\r\n" * 2000)),
+    store("100,000 keys of one hash", *[(sets, b"+OK\r\n" * 1000) for sets in SETS], (request(b"GET", KEYS[-1]), b"$1\r\nv\r\n"), seconds=10),
     store("a value with breaks", (b"*3\r\n$3\r\nSET\r\n$1\r\nk\r\n$5\r\na\r\n\nb\r\nGET k\r\n", b"+OK\r\n$5\r\na\r\n\nb\r\n")),
     store("a rejected length, and requests in its payload", (b"*2\r\n$3\r\nGET\r\n$9999\r\nSET a 1\r\nGET a\r\n", b"-ERR the length is not a number or too large\r\n")),
     store("a byte above 127", (b"PING\r\n\xff\r\nPING\r\n", b"+PONG\r\n-ERR Protocol error: bad input\r\n")),
@@ -128,6 +155,7 @@ class Talks(unittest.TestCase):
         return f"{self.dialogue.program}: {self.dialogue.name}"
 
     def runTest(self):
+        began = time.monotonic()
         client, server = socket.socketpair()
         with start(self.dialogue.program, server), client:
             server.close()
@@ -148,6 +176,8 @@ class Talks(unittest.TestCase):
             except ConnectionResetError:
                 rest = b""
             self.assertEqual(rest, self.dialogue.then)
+        if self.dialogue.seconds:
+            self.assertLess(time.monotonic() - began, self.dialogue.seconds, "seconds")
 
 
 @contextmanager

@@ -140,7 +140,7 @@ def rejected(wrong):
     """Plants a wrong body in a copy of the crates, and compares the check's answer with the pages. Returns the faults."""
     with tempfile.TemporaryDirectory() as scratch:
         copy = Path(scratch)
-        shutil.copytree(TOP / "crates", copy / "crates", symlinks=True, ignore=shutil.ignore_patterns("out", "must-fail"))
+        shutil.copytree(TOP / "crates", copy / "crates", symlinks=True, ignore=shutil.ignore_patterns("out", "must-fail", "mutations"))
         for name in ("crates.txt", "HANDLES"):
             shutil.copy(TOP / name, copy / name)
         file = copy / "crates" / wrong.crate / wrong.file
@@ -188,7 +188,7 @@ def compiled():
     with tempfile.TemporaryDirectory() as scratch:
         top, crate = Path(scratch), Path(scratch) / "crates/rows"
         for name in ("ascii_base", "ascii"):
-            shutil.copytree(TOP / "crates" / name, top / "crates" / name, ignore=shutil.ignore_patterns("out", "must-fail"))
+            shutil.copytree(TOP / "crates" / name, top / "crates" / name, ignore=shutil.ignore_patterns("out", "must-fail", "mutations"))
         (crate / "src").mkdir(parents=True)
         (crate / "src/main.rt").write_text(program, encoding="utf-8")
         lines = [line for line in (TOP / "crates.txt").read_text().splitlines() if re.match(r"(ascii|ascii_base):", line)]

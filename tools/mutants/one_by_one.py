@@ -1,8 +1,9 @@
-"""Tries each mutation of the must-fail edits apart. `rt ci` checks that the prover rejects a file of crates/CRATE/must-fail as
-a whole; this names the goals by which each mutation under a line `# MUTATION` is rejected, in these files and in
-edits/CRATE.edit of the data folder, which `rt ci` does not read. Mutations of different functions are tried in one check, in
+"""Tries each mutation that was written by hand. `rt ci` checks that the prover rejects a file of crates/CRATE/must-fail as a
+whole; this names the goals by which each mutation under a line `# MUTATION` is rejected, in these files, in those of
+crates/CRATE/mutations, and in edits/CRATE.edit of the data folder, which `rt ci` does not read. Mutations of different functions are tried in one check, in
 rounds, and those that no round rejects on their own. A mutation survives if the check passes with it. Status
 1: one survives, or cannot be applied, or does not reach the prover."""
+import contextlib
 import re
 import subprocess
 import tempfile
@@ -54,27 +55,33 @@ def functions_at(changes, crate):
     return found
 
 
-def round_of(mutations):
-    """The mutations of one round: the first of each function; and one at most that changes none."""
+def round_of(mutations, are_apart=lambda one, other: True):
+    """The mutations of one round, each apart from the others: the first of each function; and one at most that changes none."""
     chosen, taken = [], set()
     for it in mutations:
-        if taken.isdisjoint(it.functions or [None]):
+        if taken.isdisjoint(it.functions or [None]) and all(are_apart(it, other) for other in chosen):
             chosen.append(it)
             taken.update(it.functions or [None])
     return chosen
 
 
-def check_with(mutations, crate):
-    """What the check says of the crate with these mutations."""
+@contextlib.contextmanager
+def planted(mutations, crate):
+    """The crate has these mutations as long as this is open."""
     kept = {}
     for file, old, new in (change for it in mutations for change in it.changes):
         text = (crate / file).read_text(encoding="utf-8")
         kept.setdefault(file, text)
         (crate / file).write_text(text.replace(old, new), encoding="utf-8")
-    said = subprocess.run(["rt", "check"], cwd=crate, stdout=subprocess.PIPE, stderr=subprocess.STDOUT, text=True).stdout
+    yield
     for file, text in kept.items():
         (crate / file).write_text(text, encoding="utf-8")
-    return said
+
+
+def check_with(mutations, crate):
+    """What the check says of the crate with these mutations."""
+    with planted(mutations, crate):
+        return subprocess.run(["rt", "check"], cwd=crate, stdout=subprocess.PIPE, stderr=subprocess.STDOUT, text=True).stdout
 
 
 def goals_in(said, functions, outside=False):
@@ -120,9 +127,15 @@ def try_crate(crate, texts, only, tell):
             left.remove(it)
 
 
+def files_of(settings, crate):
+    """The files with mutations in the folder of a crate: those that `rt ci` tries as a whole, and the others."""
+    folder = settings.root / "crates" / crate
+    return [file for it in ("must-fail", "mutations") for file in sorted((folder / it).glob("*.edit"))]
+
+
 def edits_of(settings, crate):
     """The texts of the files with mutations of a crate."""
-    files = [*sorted((settings.root / "crates" / crate / "must-fail").glob("*.edit")), settings.data / "edits" / f"{crate}.edit"]
+    files = [*files_of(settings, crate), settings.data / "edits" / f"{crate}.edit"]
     return [file.read_text(encoding="utf-8") for file in files if file.is_file()]
 
 

@@ -6,7 +6,7 @@ import subprocess
 
 def copied(root, folder, kept):
     """Copies the repository, with the work of `rt check` or without."""
-    left_out = [".git", "must-fail", "mutants"] if kept else [".git", "out"]
+    left_out = [".git", "must-fail", "mutations", "mutants"] if kept else [".git", "out"]
     shutil.copytree(root, folder, symlinks=True, ignore=shutil.ignore_patterns(*left_out))
     return folder
 

@@ -1,5 +1,6 @@
 """Tests of the parts of tools/mutants/mutants, on a small crate of their own: `python3 tools/mutants/test_mutants.py`."""
 import contextlib
+import functools
 import io
 import sys
 import tempfile
@@ -8,11 +9,14 @@ import unittest.mock
 from pathlib import Path
 
 sys.dont_write_bytecode = True
-sys.path[:0] = [str(Path(__file__).resolve().parents[1] / it) for it in ("mutants", "reader")]
+sys.path[:0] = [str(Path(__file__).resolve().parents[2] / it) for it in ("tools/mutants", "tools/reader", "bin/lib")]
+import giving_up  # noqa: E402
+from judge import expected, name_of  # noqa: E402
 from mutation import Crate, camel, changed, give_kinds, in_turn, mutants_of  # noqa: E402
 from one_by_one import edits_of, functions_at, goals_in, Mutation, mutations_of, round_of, try_crate  # noqa: E402
 from operators import Operators  # noqa: E402
 from planting import narrow  # noqa: E402
+from rounds import are_apart, how_rejected, is_in_doubt, names_of, placed, try_rounds  # noqa: E402
 from run import Run  # noqa: E402
 from settings import Settings  # noqa: E402
 from functions import Names, functions_of
@@ -379,13 +383,137 @@ class OneByOne(SmallCrate):
         self.assertTrue(told["outside"].startswith("cannot be applied"))
 
 
+ROUNDS = """\
+# larger
+file: src/lib.rt
+old: if a < b { a }
+new: if a > b { a }
+# the_same
+file: src/lib.rt
+old: self.size *= 2
+new: self.size = self.size * 2
+# half_is_one_more
+file: src/lib.rt
+old: Ok(self.size)
+new: Ok(self.size + 1)
+# outside
+file: src/lib.rt
+old:     Left,
+new:     Wrong,
+"""
+
+
+class Rounds(SmallCrate):
+    """Rounds of mutations, with what a check would say."""
+
+    def setUp(self):
+        super().setUp()
+        self.crate.symbols = {f"small::{it}": "" for it in ("smaller", "PairShown::shown", "PairShown::double", "Pair::half")}
+        self.mutations = [placed(name, changes, self.crate) for name, changes in mutations_of(ROUNDS)]
+
+    def told(self, said, calls={}):
+        """What is told of each mutation, and the names of each check, if a check of these names says this."""
+        told, checks = {}, []
+
+        def check(chosen, whole=False):
+            checks.append([it.name for it in chosen] + ["the whole crate"] * whole)
+            return said(chosen)
+
+        try_rounds(self.mutations, calls, check, told.__setitem__)
+        return told, checks
+
+    def test_a_right_body_is_named(self):
+        said = (
+            "note: src/lib.rt:9:5: it is not proved that .. (`returns`)\nfn small::smaller: no proof: expected answers\n"
+            "fn small::PairShown::double: proved\nproofs/Pair/half/Answers.antt:3:1: error: `low`: differs\n"
+            "fn small::Pair::half: not proved\nonly=3 proved=1\n"
+        )
+        apart = "note: src/lib.rt:43:1: (`elsewhere`)\nlogic=not-proved"
+        told, checks = self.told(lambda chosen: said if chosen[0].functions else apart)
+        self.assertEqual(told["larger"], "returns")
+        self.assertEqual(told["half_is_one_more"], "low")
+        self.assertEqual(told["outside"], "elsewhere")
+        self.assertEqual(told["the_same"], "NOT REJECTED: fn small::PairShown::double: proved")
+        self.assertEqual(checks, [["larger", "the_same", "half_is_one_more"], ["outside"], ["the_same"]])
+
+    def test_waiting_for_a_callee_is_not_enough(self):
+        said = (
+            "fn small::Pair::half: no proof: it calls `small::smaller`, which is not proved\n"
+            "proofs/Pair/half/Answers.antt:3:1: error: `low`: names `smaller.met`, which was not admitted\nonly=1 proved=0\n"
+        )
+        self.assertEqual(how_rejected(said, self.mutations[2]), "")
+        self.assertEqual(how_rejected("", self.mutations[2]), "")
+
+    def test_a_caller_is_tried_alone_if_an_unchanged_function_has_an_open_goal(self):
+        said = (
+            "src/lib.rt:9:5: (`returns`)\nfn small::smaller: not proved\nsrc/lib.rt:34:5: (`low`)\n"
+            "fn small::Pair::half: not proved; it calls `small::smaller`, which is not proved\nonly=2 proved=0\n"
+        )
+        chosen = [self.mutations[0], self.mutations[2]]
+        self.assertEqual([is_in_doubt(said, it, chosen) for it in chosen], [False, False])
+        said += "src/lib.rt:17:5: (`side`)\n"
+        self.assertEqual([is_in_doubt(said, it, chosen) for it in chosen], [False, True])
+
+    def test_the_proof_of_another_function_of_that_name(self):
+        said = "proofs/Other/half/Answers.antt:3:1: error: `low`: differs\nfn small::Pair::half: not proved\nonly=1 proved=0\n"
+        self.assertEqual(how_rejected(said, self.mutations[2]), "")
+
+    def test_a_function_and_its_callee_are_not_in_one_round(self):
+        calls = {"small::Pair::half": {"small::smaller"}}
+        self.assertFalse(are_apart(self.mutations[2], self.mutations[0], calls))
+        self.assertTrue(are_apart(self.mutations[1], self.mutations[0], calls))
+        _, checks = self.told(lambda chosen: "", calls)
+        self.assertEqual(checks[:2], [["larger", "the_same"], ["half_is_one_more"]])
+
+    def test_what_does_not_compile(self):
+        told, _ = self.told(lambda chosen: "src/lib.rt:9:5: error[syntax]: expected")
+        self.assertTrue(all(it.startswith("cannot be applied: src/lib.rt") for it in told.values()))
+
+    def test_what_a_check_names(self):
+        self.assertEqual(names_of(self.mutations[:2]), ["PairShown::double", "smaller"])
+        self.assertEqual(names_of(self.mutations[3:]), [])
+
+    def test_a_law_of_an_impl_counts_for_a_change_in_no_function(self):
+        law = "impl small::Side: not proved; antt refuses `matches` in `x`\nlogic=not-proved"
+        sayings = iter(["only=1 proved=1", law])
+        told = {}
+        try_rounds(self.mutations[3:], {}, lambda chosen, whole=False: next(sayings), told.__setitem__)
+        self.assertEqual(told, {"outside": "matches"})
+        self.assertEqual(how_rejected(law, self.mutations[0]), "")
+
+    def test_a_function_that_is_gone(self):
+        del self.crate.symbols["small::smaller"]
+        with self.assertRaisesRegex(ValueError, "no function smaller"):
+            placed("larger", mutations_of(ROUNDS)[0][1], self.crate)
+
+
 class OfThisRepository(unittest.TestCase):
     ROOT = Path(__file__).resolve().parents[2]
+    SETTINGS = Settings(ROOT, Path(__file__).resolve().parent)
+
+    @functools.lru_cache(maxsize=None)
+    def crate(self, name):
+        return Crate(self.ROOT, name, self.SETTINGS)
+
+    def test_each_expected_survivor_is_still_made(self):
+        lines = expected(self.SETTINGS)
+        made = {(name, *name_of(m)) for name in {line[0] for line in lines} for m in self.crate(name).mutants()}
+        for line in sorted(lines - made):
+            with self.subTest("survivors.txt: " + ", ".join(line)):
+                self.fail("no operator makes this change any more: remove the line")
+
+    def test_each_body_that_gives_up_can_be_planted(self):
+        for body in giving_up.listed(self.SETTINGS, ""):
+            with self.subTest(f"giving_up.txt: {body.crate} {body.file} {body.function}, {body.statement}"):
+                try:
+                    body.mutant(self.crate(body.crate), 0)
+                except SystemExit as fault:
+                    self.fail(str(fault))
 
     def test_each_mutation_written_by_hand_can_be_applied(self):
         names = [it.name for it in sorted((self.ROOT / "crates").iterdir()) if (it / "src").is_dir()]
         for crate in names:
-            for text in edits_of(Settings(self.ROOT, Path(__file__).resolve().parent), crate):
+            for text in edits_of(self.SETTINGS, crate):
                 for name, changes in mutations_of(text):
                     with self.subTest(f"{crate}/{name}"):
                         functions_at(changes, self.ROOT / "crates" / crate)

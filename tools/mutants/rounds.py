@@ -1,0 +1,155 @@
+"""Shows that the prover rejects each mutation of crates/CRATE/mutations and crates/CRATE/must-fail, in a few minutes, over the
+libraries as `rt ci` or `rt lib` built them. A round plants mutations of different functions, none of which calls another one of
+them, and checks these functions only. A mutation is rejected if the check names a goal of its own function that is open, or a
+proof by hand of that function that fails: it is not enough that a function that it calls is not proved. A mutation that a round
+does not reject is tried alone; so is one that waits for a function that is not proved, if the round leaves a goal open in a
+function that it did not change; and so is one that is in no function, if need be over the whole crate, where a law that is not
+proved counts. Prints a line for each mutation. Status 1: one is not rejected, or cannot be applied. JOBS (2) crates are tried
+at once."""
+import os
+import re
+import shutil
+import sys
+import tempfile
+from concurrent.futures import ThreadPoolExecutor
+from dataclasses import dataclass
+from pathlib import Path
+
+import libraries
+from built import Built, Checks
+from mutation import Crate
+from one_by_one import Mutation, files_of, functions_at, goals_in, mutations_of, planted, round_of
+
+# The line of a check that came to its end, and a line that says that a proof rests on one that failed.
+ENDED = re.compile(r"^(only=|logic=)", re.MULTILINE)
+WAITS = re.compile(r"^.*which was not admitted.*$", re.MULTILINE)
+VERDICT = re.compile(r"^fn (\S+): (.*)", re.MULTILINE)
+# The line of an impl of which a law is not proved, which is in no function.
+LAW = re.compile(r"^impl \S+: not proved; antt \w+ `([^`]+)`", re.MULTILINE)
+
+
+@dataclass
+class Placed(Mutation):
+    """A mutation whose functions have names by which the check knows them."""
+    symbols: list
+
+    def paths(self):
+        """Its functions, each with the path of its proofs as its name."""
+        return [(*it[:3], symbol.partition("::")[2].replace("::", "/")) for it, symbol in zip(self.functions, self.symbols)]
+
+
+def placed(name, changes, crate):
+    """A mutation of a crate. Fails with a reason if it cannot be applied."""
+    functions = functions_at(changes, crate.folder)
+    line = lambda f, at: crate.sources[f.file].count("\n", 0, at) + 1  # noqa: E731
+    by_place = {(f.file, line(f, f.start), line(f, f.end), f.name): f for f in crate.functions}
+    symbols = [crate.symbol_of(by_place[it]) for it in functions]
+    if None in symbols:
+        raise ValueError(f"the built library has no function {functions[symbols.index(None)][3]}")
+    return Placed(name, changes, functions, symbols)
+
+
+def are_apart(one, other, calls):
+    """Whether no function of a mutation calls one of another mutation."""
+    return not any(a in calls.get(b, ()) or b in calls.get(a, ()) for a in one.symbols for b in other.symbols)
+
+
+def how_rejected(said, mutation):
+    """The goals of its own by which a check rejects a mutation; none if it does not. One in no function may have any goal."""
+    verdicts = dict(VERDICT.findall(said))
+    if mutation.functions and all(verdicts.get(it, "proved").startswith("proved") for it in mutation.symbols):
+        return ""
+    goals = goals_in(WAITS.sub("", said), mutation.paths(), outside=not mutation.functions)
+    return ", ".join(goals or ([] if mutation.functions else sorted(set(LAW.findall(said)))))
+
+
+def is_in_doubt(said, mutation, chosen):
+    """Whether the goals of a mutation may be open only because another one of the round is not proved: its function waits for
+    such a one, and the check names a goal of a function that the round did not change."""
+    waiting = {symbol for symbol, how in VERDICT.findall(said) if "it calls" in how}
+    return bool(waiting.intersection(mutation.symbols) and goals_in(said, [it for m in chosen for it in m.paths()], outside=True))
+
+
+def why_not(said, mutation):
+    """Why a check with this mutation only does not reject it."""
+    if not ENDED.search(said):
+        return f"cannot be applied: {' '.join(said.split()[-30:])}"
+    verdicts = dict(VERDICT.findall(said))
+    lines = [f"fn {it}: {verdicts.get(it, 'no line')}" for it in mutation.symbols]
+    return f"NOT REJECTED: {'; '.join(lines) or said.splitlines()[-1]}"
+
+
+def names_of(mutations):
+    """What a check of mutations names: their functions, or the modules of one in no function."""
+    symbols = [it.partition("::")[2] for m in mutations for it in m.symbols]
+    files = {file for m in mutations if not m.symbols for file, _, _ in m.changes} - {"src/lib.rt"}
+    return sorted({*symbols, *(re.sub(r"^src/|\.rt$", "", it).replace("/", "::") for it in files)})
+
+
+def try_rounds(mutations, calls, check, tell):
+    """Tries mutations, and tells how each is rejected. `check` is what the check says with some of them: of their functions, or
+    of the whole crate, which a table or a law of an impl may need."""
+    left, alone = [it for it in mutations if it.functions], [it for it in mutations if not it.functions]
+    while left:
+        chosen = round_of(left, lambda one, other: are_apart(one, other, calls))
+        said = check(chosen)
+        for it in chosen:
+            goals = "" if is_in_doubt(said, it, chosen) else how_rejected(said, it)
+            tell(it.name, goals) if goals else alone.append(it)
+        left = [it for it in left if it not in chosen]
+    for it in alone:
+        said = check([it])
+        if not it.functions and not how_rejected(said, it):
+            said = check([it], whole=True)
+        tell(it.name, how_rejected(said, it) or why_not(said, it))
+
+
+def try_crate(settings, name, scratch, tell):
+    """Tries the mutations of a built crate. Returns the CPU seconds that its checks took."""
+    copy = scratch / "crates" / name
+    for part in ("src", "specs", "proofs"):
+        shutil.copytree(settings.root / "crates" / name / part, copy / part)
+    built, crate, mutations = Built(name), Crate(scratch, name), []
+    crate.symbols = dict.fromkeys(built.symbols, "")
+    for text in (file.read_text(encoding="utf-8") for file in files_of(settings, name)):
+        for mutation, changes in mutations_of(text):
+            try:
+                mutations.append(placed(mutation, changes, crate))
+            except ValueError as fault:
+                tell(mutation, f"cannot be applied: {fault}")
+    checks = Checks(built, copy, scratch)
+
+    def check(chosen, whole=False):
+        with planted(chosen, copy):
+            return checks.check([] if whole else names_of(chosen))
+
+    try_rounds(mutations, built.calls, check, tell)
+    return checks.seconds
+
+
+def arguments(asks):
+    asks.add_argument("crates", nargs="*", metavar="CRATE", help="default: every crate that has such mutations, except static libraries")
+
+
+def run(settings, given):
+    libraries.ROOT = str(settings.root)
+    uses, static = libraries.listed()
+    names = given.crates or [name for name in settings.all_crates() if files_of(settings, name) and name not in static]
+    lacking = [name for name in names if not libraries.are_built([*libraries.below(name, uses), name])]
+    if lacking:
+        print(f"mutants: not built: run rt lib in the folder of {', '.join(lacking)}", file=sys.stderr)
+        return 70
+    rejected, others = [], []
+
+    def tried(name):
+        def tell(mutation, how):
+            (others if how.startswith(("NOT REJECTED", "cannot be applied")) else rejected).append(mutation)
+            print(f"{name}/{mutation}: {how}", flush=True)
+
+        with tempfile.TemporaryDirectory(prefix="rounds-") as scratch:
+            print(f"{name}: {try_crate(settings, name, Path(scratch), tell):.0f} CPU seconds", flush=True)
+
+    with ThreadPoolExecutor(int(os.environ.get("JOBS", "2"))) as pool:
+        list(pool.map(tried, names))
+    print(f"{len(rejected)} rejected, {len(others)} not rejected")
+    return 1 if others else 0
