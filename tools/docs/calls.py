@@ -184,7 +184,8 @@ class Mutation:
 def mutations(crate):
     """The mutations of a crate that were written by hand."""
     found = []
-    for file in [*sorted((CRATES / crate / "must-fail").glob("*.edit")), TOP / f"tools/mutants/edits/{crate}.edit"]:
+    of_crate = [file for it in ("must-fail", "mutations") for file in sorted((CRATES / crate / it).glob("*.edit"))]
+    for file in [*of_crate, TOP / f"tools/mutants/edits/{crate}.edit"]:
         for line in read(file).splitlines() if file.is_file() else []:
             kind, _, rest = line.partition(" ")
             if kind == "#":

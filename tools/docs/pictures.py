@@ -132,7 +132,7 @@ def bytes_through():
 def edit():
     """How `push` of a string reaches the bytes of its buffer."""
     parts, y = [text(20, 20, "string.push(AsciiChar::A)", "code", "start")], 34
-    steps = [("Text<B>", "GrowsTo (text ++ 65 ∷ [])"), ("Buffer::append_byte", "the same, of bytes"), ("a buffer", "one of three")]
+    steps = [("Text<B>", "GrowsTo B.sure (text ++ 65 ∷ [])"), ("Buffer::append_byte", "the same, of bytes"), ("a buffer", "one of three")]
     for at, (name, what) in enumerate(steps):
         x = 20 + at * 200
         parts += [box(x, y + 44, 180, 54, "mark" if at == 0 else "box"), text(x + 90, y + 66, name, "code"),

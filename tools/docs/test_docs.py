@@ -8,6 +8,7 @@ from pathlib import Path
 sys.dont_write_bytecode = True
 TOP = Path(__file__).resolve().parents[2]
 sys.path[:0] = [str(TOP / "tools" / it) for it in ("docs", "reader")]
+import clauses  # noqa: E402
 import lengths  # noqa: E402
 import reach  # noqa: E402
 import recipes  # noqa: E402
@@ -72,6 +73,75 @@ class Examples(unittest.TestCase):
         lines = ["let mut a = b();", "a.next() // 1", "a.next() // 2"]
         shown = [f'    assert_debug!(rt; a.next(), "{n}");' for n in (1, 2)]
         self.assertEqual(statements(lines), [lines[0], *shown])
+
+
+class Clauses(unittest.TestCase):
+    LIB = "mod texts;\npub use texts::{Cut, take};\n"
+    TEXTS = '''ghost use Rattle.low.specs.Words.{IsCut, IsSame};
+
+pub trait Cut {
+    ghost is: { Type 0 };
+    fn cut(self) -> u8
+        ensures { IsSame self result };
+}
+
+impl Cut for Kept {
+    ghost is = { IsCut 1 };
+    fn cut(self) -> u8 { 1 }
+}
+
+pub fn take(n: u8) -> u8
+    requires small { n < 9 }
+    ensures cut { IsCut  result }
+{ n }
+fn hidden() ensures { IsCut } {}
+'''
+    WORDS = "-- one\npub record IsCut (n : N) : Type 0 where\n  pub one : IsLess n\n\n-- two\nabbrev pub IsLess : N → Type 0\nIsLess n = n < 1\n"
+
+    def contracts(self, lib=LIB, texts=TEXTS, words=WORDS, module="Words"):
+        with tempfile.TemporaryDirectory() as folder:
+            for name, text in (("src/lib.rt", lib), ("src/texts.rt", texts), (f"specs/{module}.antt", words)):
+                file = Path(folder) / "low" / name
+                file.parent.mkdir(parents=True, exist_ok=True)
+                file.write_text(text, encoding="utf-8")
+            return clauses.Contracts(Path(folder))
+
+    def brief(self, new, moved=""):
+        return clauses.in_brief(clauses.Comparison(self.contracts(), new, clauses.moved_names(moved)))
+
+    def test_calls_are_public_functions_and_what_an_impl_says_of_a_trait(self):
+        want = ["low::Cut", "low::Cut::cut", "low::Kept::Cut", "low::texts::take"]
+        self.assertEqual(sorted(self.contracts().calls), want)
+
+    def test_white_space_and_comments_do_not_count(self):
+        texts, words = self.TEXTS.replace("IsCut  result", "IsCut\n        result"), self.WORDS.replace("-- one", "-- other")
+        self.assertEqual(self.brief(self.contracts(texts=texts, words=words)), [])
+
+    def test_clauses_that_are_gone_new_and_changed(self):
+        texts = self.TEXTS.replace("small { n < 9 }", "low { n < 9 }").replace("IsCut  result", "IsCut n")
+        want = ["low::texts::take: requires small gone, ensures cut changed, requires low new"]
+        self.assertEqual(self.brief(self.contracts(texts=texts)), want)
+
+    def test_a_definition_that_a_clause_reaches(self):
+        words = self.WORDS.replace("n < 1", "n < 2")
+        want = [f"low::{name}: definition low.specs.Words.IsLess changed" for name in ("Kept::Cut", "texts::take")]
+        self.assertEqual(self.brief(self.contracts(words=words)), want)
+
+    def test_calls_that_are_gone_and_new(self):
+        lib, texts = self.LIB.replace("take", "keep"), self.TEXTS.replace("fn take", "fn keep")
+        self.assertEqual(self.brief(self.contracts(lib, texts)), ["low::texts::keep: new", "low::texts::take: gone"])
+        self.assertEqual(self.brief(self.contracts(lib, texts), "# a table\nlow::texts::take low::texts::keep\n"), [])
+
+    def test_names_that_moved(self):
+        texts = self.TEXTS.replace("specs.Words", "specs.Parts").replace("IsCut", "IsPart")
+        new = self.contracts(texts=texts, words=self.WORDS.replace("IsCut", "IsPart"), module="Parts")
+        self.assertEqual(len(self.brief(new)), 2)
+        self.assertEqual(self.brief(new, "low.specs.Words.IsCut low.specs.Parts.IsPart\n"), [])
+
+    def test_the_report_shows_both_texts(self):
+        new = self.contracts(words=self.WORDS.replace("n < 1", "n < 2"))
+        shown = clauses.report(clauses.Comparison(self.contracts(), new, {}), "take")
+        self.assertEqual([line for line in shown if "IsLess n =" in line], ["    - IsLess n = n < 1", "    + IsLess n = n < 2"])
 
 
 class Documentation(unittest.TestCase):
