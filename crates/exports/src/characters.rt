@@ -4,11 +4,10 @@ ghost use Rattle.std.specs.Prelude.{◌≤◌};
 
 use crate::answer::Answer;
 use ascii::{AsciiChar, ToAsciiChar, caret_decode, caret_encode};
-use std::alloc::Global;
 
 /// For each number: the character of that number as a `u8`, an `i8`, a `u16`, a `u32` and a `char`.
-pub fn ask_characters_of(alloc: Global, numbers: &[i64], room: &mut [u8]) -> usize {
-    let mut answer = Answer::new(alloc);
+pub fn ask_characters_of(numbers: &[i64], room: &mut [u8]) -> usize {
+    let mut answer = Answer::new(room);
     for number in numbers {
         convert(u8::try_from(*number).ok(), &mut answer);
         convert(i8::try_from(*number).ok(), &mut answer);
@@ -17,10 +16,10 @@ pub fn ask_characters_of(alloc: Global, numbers: &[i64], room: &mut [u8]) -> usi
         convert(number, &mut answer);
         convert(char::from_u32(number.unwrap_or(u32::MAX)), &mut answer);
     }
-    answer.finish(room)
+    answer.finish()
 }
 
-fn convert<C: ToAsciiChar + Drop>(number: Option<C>, answer: &mut Answer) {
+fn convert<C: ToAsciiChar + Drop>(number: Option<C>, answer: &mut Answer<'_>) {
     match number {
         Some(number) => answer.character(number.to_ascii_char().ok()),
         None => answer.none(),
@@ -29,10 +28,10 @@ fn convert<C: ToAsciiChar + Drop>(number: Option<C>, answer: &mut Answer) {
 
 /// For each ASCII code: its class tests, its upper case, lower case and printable character, and its value
 /// as a digit.
-pub fn ask_characters(alloc: Global, codes: &[u8], radix: u32, room: &mut [u8]) -> usize
+pub fn ask_characters(codes: &[u8], radix: u32, room: &mut [u8]) -> usize
     requires { radix ≤ 36 }
 {
-    let mut answer = Answer::new(alloc);
+    let mut answer = Answer::new(room);
     for code in codes {
         if let Ok(ch) = AsciiChar::from_ascii(*code) {
             answer.flags(&letter_tests(ch));
@@ -44,7 +43,7 @@ pub fn ask_characters(alloc: Global, codes: &[u8], radix: u32, room: &mut [u8]) 
             answer.long(ch.to_digit(radix).unwrap_or(radix) as u64);
         }
     }
-    answer.finish(room)
+    answer.finish()
 }
 
 fn letter_tests(ch: AsciiChar) -> [bool; 9] {
@@ -75,8 +74,8 @@ fn other_tests(ch: AsciiChar) -> [bool; 8] {
 }
 
 /// For each pair of ASCII codes, one after the other: whether they are equal, ignoring case, and their order.
-pub fn ask_character_pairs(alloc: Global, codes: &[u8], room: &mut [u8]) -> usize {
-    let mut answer = Answer::new(alloc);
+pub fn ask_character_pairs(codes: &[u8], room: &mut [u8]) -> usize {
+    let mut answer = Answer::new(room);
     for pair in codes.chunks(2) {
         if let [first, second] = pair {
             if let (Ok(first), Ok(second)) = (first.to_ascii_char(), second.to_ascii_char()) {
@@ -85,15 +84,15 @@ pub fn ask_character_pairs(alloc: Global, codes: &[u8], room: &mut [u8]) -> usiz
             }
         }
     }
-    answer.finish(room)
+    answer.finish()
 }
 
 /// For each byte: what it is in caret notation, and what it is read as there.
-pub fn ask_carets(alloc: Global, codes: &[u8], room: &mut [u8]) -> usize {
-    let mut answer = Answer::new(alloc);
+pub fn ask_carets(codes: &[u8], room: &mut [u8]) -> usize {
+    let mut answer = Answer::new(room);
     for code in codes {
         answer.character(caret_encode(*code));
         answer.character(caret_decode(*code));
     }
-    answer.finish(room)
+    answer.finish()
 }

@@ -14,7 +14,7 @@ use std::fmt::{self, Write as _};
 /// A copy of bytes and of their `str`, the string that has their `Vec` and that which has their `String`;
 /// each of them the text, or the position of the error.
 pub fn ask_conversions(alloc: Global, source: &[u8], room: &mut [u8]) -> usize {
-    let mut answer = Answer::new(alloc);
+    let mut answer = Answer::new(room);
     put_copy(bytes::to_ascii_string(alloc, source), &mut answer);
     if let Ok(list) = Vec::from_slice(alloc, source) {
         put(vec::into_ascii_string(list), &mut answer);
@@ -25,10 +25,10 @@ pub fn ask_conversions(alloc: Global, source: &[u8], room: &mut [u8]) -> usize {
             put(string::into_ascii_string(owned), &mut answer);
         }
     }
-    answer.finish(room)
+    answer.finish()
 }
 
-fn put_copy<O: Drop>(copy: Result<AsciiString, CopyError<O>>, answer: &mut Answer) {
+fn put_copy<O: Drop>(copy: Result<AsciiString, CopyError<O>>, answer: &mut Answer<'_>) {
     match copy {
         Ok(string) => answer.text(string.as_ascii_str()),
         Err(CopyError::NotAscii(error)) => answer.number(error.ascii_error().valid_up_to()),
@@ -36,7 +36,7 @@ fn put_copy<O: Drop>(copy: Result<AsciiString, CopyError<O>>, answer: &mut Answe
     }
 }
 
-fn put<O: Drop>(made: Result<AsciiString, FromAsciiError<O>>, answer: &mut Answer) {
+fn put<O: Drop>(made: Result<AsciiString, FromAsciiError<O>>, answer: &mut Answer<'_>) {
     match made {
         Ok(string) => answer.text(string.as_ascii_str()),
         Err(error) => answer.number(error.ascii_error().valid_up_to()),
@@ -48,14 +48,14 @@ pub fn ask_round_trips(alloc: Global, source: &[u8], room: &mut [u8]) -> usize
     requires { IsAscii source.now }
 {
     let view = bytes::as_ascii_str_unchecked(source);
-    let mut answer = Answer::new(alloc);
+    let mut answer = Answer::new(room);
     answer.owned(through_chars(alloc, view));
     answer.owned(through_boxes(alloc, view));
     if let Ok(string) = view.to_ascii_string(alloc) {
         answer.owned(string.clone());
         answer.name(String::from(string).as_str());
     }
-    answer.finish(room)
+    answer.finish()
 }
 
 fn through_chars(alloc: Global, view: AsciiStr<'_>) -> Result<AsciiString, AllocError> {
@@ -79,7 +79,7 @@ pub fn ask_written(alloc: Global, source: &[u8], piece: &[u8], room: &mut [u8]) 
     requires { IsAscii source.now }
 {
     let view = bytes::as_ascii_str_unchecked(source);
-    let mut answer = Answer::new(alloc);
+    let mut answer = Answer::new(room);
     if let Ok(piece) = str::from_utf8(piece) {
         write(view.to_ascii_string(alloc), piece, &mut answer);
         write(
@@ -88,13 +88,13 @@ pub fn ask_written(alloc: Global, source: &[u8], piece: &[u8], room: &mut [u8]) 
             &mut answer,
         );
     }
-    answer.finish(room)
+    answer.finish()
 }
 
 fn write<B: AsciiBuf + fmt::Write + Drop>(
     made: Result<B, AllocError>,
     piece: &str,
-    answer: &mut Answer,
+    answer: &mut Answer<'_>,
 ) {
     if let Ok(buf) = made {
         let mut buf = buf;
@@ -108,12 +108,12 @@ pub fn ask_character_written(alloc: Global, number: u32, source: &[u8], room: &m
     requires { IsAscii source.now }
 {
     let view = bytes::as_ascii_str_unchecked(source);
-    let mut answer = Answer::new(alloc);
+    let mut answer = Answer::new(room);
     if let (Some(ch), Ok(mut string)) = (char::from_u32(number), view.to_ascii_string(alloc)) {
         answer.flag(string.write_char(ch).is_ok());
         answer.text(string.as_ascii_str());
     }
-    answer.finish(room)
+    answer.finish()
 }
 
 /// The pieces at a character collected into one string, and then the lines appended to it.
@@ -121,7 +121,7 @@ pub fn ask_collected(alloc: Global, code: u8, source: &[u8], room: &mut [u8]) ->
     requires { IsAscii source.now }
 {
     let view = bytes::as_ascii_str_unchecked(source);
-    let mut answer = Answer::new(alloc);
+    let mut answer = Answer::new(room);
     if let Ok(on) = AsciiChar::from_ascii(code) {
         if let Ok(mut string) = AsciiString::collect_strs(alloc, view.split(on)) {
             answer.text(string.as_ascii_str());
@@ -129,7 +129,7 @@ pub fn ask_collected(alloc: Global, code: u8, source: &[u8], room: &mut [u8]) ->
             answer.text(string.as_ascii_str());
         }
     }
-    answer.finish(room)
+    answer.finish()
 }
 
 /// The two parts of a string that is cut at a position.
@@ -137,12 +137,12 @@ pub fn ask_split_off(alloc: Global, at: usize, source: &[u8], room: &mut [u8]) -
     requires { IsAscii source.now }
 {
     let view = bytes::as_ascii_str_unchecked(source);
-    let mut answer = Answer::new(alloc);
+    let mut answer = Answer::new(room);
     if let Ok(mut string) = view.to_ascii_string(alloc) {
         if at <= string.len() {
             answer.owned(string.split_off(at));
             answer.text(string.as_ascii_str());
         }
     }
-    answer.finish(room)
+    answer.finish()
 }

@@ -24,7 +24,7 @@ pub fn ask_edits(
 {
     let view = bytes::as_ascii_str_unchecked(source);
     let texts = bytes::as_ascii_str_unchecked(texts);
-    let mut answer = Answer::new(alloc);
+    let mut answer = Answer::new(room);
     if is_small {
         if let Ok(mut small) = SmallAsciiString::from_ascii_str(alloc, view) {
             put_run(alloc, &mut small, texts, steps, &mut answer);
@@ -32,7 +32,7 @@ pub fn ask_edits(
     } else if let Ok(mut string) = view.to_ascii_string(alloc) {
         put_run(alloc, &mut string, texts, steps, &mut answer);
     }
-    answer.finish(room)
+    answer.finish()
 }
 
 fn put_run<B: AsciiBuf>(
@@ -40,7 +40,7 @@ fn put_run<B: AsciiBuf>(
     buf: &mut B,
     texts: AsciiStr<'_>,
     steps: &[Step],
-    answer: &mut Answer,
+    answer: &mut Answer<'_>,
 ) {
     if let Ok(cmds) = commands(alloc, texts, steps) {
         if let Ok(replies) = run(alloc, buf, &cmds) {
@@ -89,7 +89,7 @@ fn command<'a>(step: Step, texts: AsciiStr<'a>) -> Cmd<'a> {
     }
 }
 
-fn put_reply(reply: &Reply, answer: &mut Answer) {
+fn put_reply(reply: &Reply, answer: &mut Answer<'_>) {
     match reply {
         Reply::Done => answer.name("done"),
         Reply::Char(ch) => answer.character(*ch),
@@ -115,7 +115,7 @@ pub fn ask_capacities(
     requires { IsAscii texts.now }
 {
     let texts = bytes::as_ascii_str_unchecked(texts);
-    let mut answer = Answer::new(alloc);
+    let mut answer = Answer::new(room);
     if let Ok(mut string) = AsciiString::with_capacity(alloc, capacity) {
         answer.number(string.capacity());
         for step in steps {
@@ -127,10 +127,10 @@ pub fn ask_capacities(
             answer.number(string.capacity());
         }
     }
-    answer.finish(room)
+    answer.finish()
 }
 
-fn reserve_exactly(string: &mut AsciiString, additional: usize, answer: &mut Answer) {
+fn reserve_exactly(string: &mut AsciiString, additional: usize, answer: &mut Answer<'_>) {
     if additional > usize::MAX - string.len() {
         return answer.name("many");
     }
@@ -145,7 +145,7 @@ fn follow<B: AsciiBuf>(
     buf: &mut B,
     step: Step,
     texts: AsciiStr<'_>,
-    answer: &mut Answer,
+    answer: &mut Answer<'_>,
 ) {
     if let Ok(replies) = run(alloc, buf, &[command(step, texts)]) {
         for reply in &replies {
@@ -167,7 +167,7 @@ pub fn ask_small_capacities(
 {
     let texts = bytes::as_ascii_str_unchecked(texts);
     let view = bytes::as_ascii_str_unchecked(source);
-    let mut answer = Answer::new(alloc);
+    let mut answer = Answer::new(room);
     if let Ok(mut small) = SmallAsciiString::from_ascii_str(alloc, view) {
         answer.flag(small.is_inline());
         answer.number(small.capacity());
@@ -177,5 +177,5 @@ pub fn ask_small_capacities(
             answer.number(small.capacity());
         }
     }
-    answer.finish(room)
+    answer.finish()
 }

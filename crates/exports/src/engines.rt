@@ -19,7 +19,7 @@ pub fn ask_engine(
     writes: &Device,
     room: &mut [u8],
 ) -> usize {
-    let mut answer = Answer::new(alloc);
+    let mut answer = Answer::new(room);
     if let Ok(script) = ends_of(alloc, script) {
         let mut input = Input::new(Given::new(source, *reads));
         let mut output = Output::new(Taken::new(alloc, *writes));
@@ -33,7 +33,7 @@ pub fn ask_engine(
         }
         answer.bytes(&output.into_inner().bytes);
     }
-    answer.finish(room)
+    answer.finish()
 }
 
 fn ends_of(alloc: Global, script: &[u8]) -> Result<Vec<End>, AllocError> {
@@ -76,7 +76,7 @@ pub fn ask_bounded_engine(
         6 => BoundedMode::Escape,
         _ => BoundedMode::Lossy,
     };
-    let mut answer = Answer::new(alloc);
+    let mut answer = Answer::new(room);
     let mut input = Input::new(Given::new(source, *reads));
     let mut output = Output::new(Taken::new(alloc, *writes));
     match bounded_engine(alloc, mode, &mut input, &mut output) {
@@ -91,5 +91,5 @@ pub fn ask_bounded_engine(
         Err(BoundedFault::Write) => answer.name("write"),
     }
     answer.bytes(&output.into_inner().bytes);
-    answer.finish(room)
+    answer.finish()
 }

@@ -26,7 +26,7 @@ pub fn ask_reader(
     steps: &[Step],
     room: &mut [u8],
 ) -> usize {
-    let mut answer = Answer::new(alloc);
+    let mut answer = Answer::new(room);
     let source = Input::new(Given::new(source, *device));
     if let Ok(mut reader) = LineReader::new(alloc, source, size, Endings::Any) {
         for step in steps {
@@ -34,10 +34,10 @@ pub fn ask_reader(
             answer.long(reader.position());
         }
     }
-    answer.finish(room)
+    answer.finish()
 }
 
-fn read(reader: &mut LineReader<Input<Given<'_>>>, step: Step, answer: &mut Answer) {
+fn read(reader: &mut LineReader<Input<Given<'_>>>, step: Step, answer: &mut Answer<'_>) {
     match step.kind {
         0 => put_next_line(reader, answer),
         1 => reader.lines_ended_by(Endings::Any),
@@ -54,7 +54,7 @@ fn read(reader: &mut LineReader<Input<Given<'_>>>, step: Step, answer: &mut Answ
     }
 }
 
-fn put_next_line(reader: &mut LineReader<Input<Given<'_>>>, answer: &mut Answer) {
+fn put_next_line(reader: &mut LineReader<Input<Given<'_>>>, answer: &mut Answer<'_>) {
     match reader.next_line() {
         Ok(Some(line)) => put_line(line.start, line.text, line.ending, answer),
         Ok(None) => answer.none(),
@@ -62,7 +62,7 @@ fn put_next_line(reader: &mut LineReader<Input<Given<'_>>>, answer: &mut Answer)
     }
 }
 
-fn put_next_bytes(reader: &mut LineReader<Input<Given<'_>>>, answer: &mut Answer) {
+fn put_next_bytes(reader: &mut LineReader<Input<Given<'_>>>, answer: &mut Answer<'_>) {
     match reader.next_bytes() {
         Ok(Some(line)) => {
             answer.long(line.start);
@@ -78,13 +78,13 @@ fn put_next_bytes(reader: &mut LineReader<Input<Given<'_>>>, answer: &mut Answer
     }
 }
 
-fn put_line(start: u64, text: AsciiStr<'_>, ending: Ending, answer: &mut Answer) {
+fn put_line(start: u64, text: AsciiStr<'_>, ending: Ending, answer: &mut Answer<'_>) {
     answer.long(start);
     answer.text(text);
     answer.name(ending_name(ending));
 }
 
-fn put_error(error: LineError, answer: &mut Answer) {
+fn put_error(error: LineError, answer: &mut Answer<'_>) {
     match error {
         LineError::NotAscii(position) => put_error_at("ascii", position, answer),
         LineError::LoneBreak(position) => put_error_at("lone", position, answer),
@@ -95,7 +95,7 @@ fn put_error(error: LineError, answer: &mut Answer) {
     }
 }
 
-fn put_error_at(name: &str, position: u64, answer: &mut Answer) {
+fn put_error_at(name: &str, position: u64, answer: &mut Answer<'_>) {
     answer.name(name);
     answer.long(position);
 }
@@ -108,7 +108,7 @@ pub fn ask_collected_lines(
     device: &Device,
     room: &mut [u8],
 ) -> usize {
-    let mut answer = Answer::new(alloc);
+    let mut answer = Answer::new(room);
     let source = Input::new(Given::new(source, *device));
     if let Ok(mut reader) = LineReader::new(alloc, source, size, Endings::Any) {
         if let Ok(kept) = collect_lines(alloc, &mut reader) {
@@ -126,7 +126,7 @@ pub fn ask_collected_lines(
             }
         }
     }
-    answer.finish(room)
+    answer.finish()
 }
 
 /// What a writer with a buffer of `size` bytes returns to each step, and what its sink has taken. The kinds are 0
@@ -142,7 +142,7 @@ pub fn ask_writer(
     requires { IsAscii texts.now }
 {
     let texts = bytes::as_ascii_str_unchecked(texts);
-    let mut answer = Answer::new(alloc);
+    let mut answer = Answer::new(room);
     if let Ok(mut writer) = LineWriter::new(alloc, Output::new(Taken::new(alloc, *device)), size) {
         for step in steps {
             match write(&mut writer, *step, texts) {
@@ -152,7 +152,7 @@ pub fn ask_writer(
         }
         answer.bytes(&writer.into_sink().into_inner().bytes);
     }
-    answer.finish(room)
+    answer.finish()
 }
 
 fn write(
@@ -170,7 +170,7 @@ fn write(
     }
 }
 
-fn put_write_error(error: WriteError, answer: &mut Answer) {
+fn put_write_error(error: WriteError, answer: &mut Answer<'_>) {
     match error {
         WriteError::LineBreak(position) => answer.fault("break", position),
         WriteError::Write => answer.name("write"),
@@ -186,7 +186,7 @@ pub fn ask_conversation(
     writes: &Device,
     room: &mut [u8],
 ) -> usize {
-    let mut answer = Answer::new(alloc);
+    let mut answer = Answer::new(room);
     let device = Duplex::new(Given::new(source, *reads), Taken::new(alloc, *writes));
     if let Ok(mut lines) = LineChannel::new(alloc, device, size, Endings::Any, Ending::CrLf) {
         let mut echo = Echo {
@@ -204,7 +204,7 @@ pub fn ask_conversation(
         let (_, output) = lines.into_device().into_parts();
         answer.bytes(&output.into_inner().bytes);
     }
-    answer.finish(room)
+    answer.finish()
 }
 
 /// A handler. It replies to a line or a part in upper case. After a line that starts with `p` it asks for a

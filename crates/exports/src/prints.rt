@@ -13,7 +13,7 @@ pub fn ask_printed(alloc: Global, form: u8, source: &[u8], room: &mut [u8]) -> u
     requires { IsAscii source.now }
 {
     let view = bytes::as_ascii_str_unchecked(source);
-    let mut answer = Answer::new(alloc);
+    let mut answer = Answer::new(room);
     put(alloc, form, Ok(view), &mut answer);
     put(alloc, form, Ok(view.folded()), &mut answer);
     put(alloc, form, view.to_ascii_string(alloc), &mut answer);
@@ -23,12 +23,12 @@ pub fn ask_printed(alloc: Global, form: u8, source: &[u8], room: &mut [u8]) -> u
         SmallAsciiString::from_ascii_str(alloc, view),
         &mut answer,
     );
-    answer.finish(room)
+    answer.finish()
 }
 
 /// Each of some characters in a form.
 pub fn ask_printed_characters(alloc: Global, form: u8, codes: &[u8], room: &mut [u8]) -> usize {
-    let mut answer = Answer::new(alloc);
+    let mut answer = Answer::new(room);
     for code in codes {
         put(
             alloc,
@@ -37,14 +37,14 @@ pub fn ask_printed_characters(alloc: Global, form: u8, codes: &[u8], room: &mut 
             &mut answer,
         );
     }
-    answer.finish(room)
+    answer.finish()
 }
 
 fn put<T: fmt::Display + fmt::Debug + Drop>(
     alloc: Global,
     form: u8,
     value: Result<T, AllocError>,
-    answer: &mut Answer,
+    answer: &mut Answer<'_>,
 ) {
     if let Ok(value) = value {
         if let Ok(text) = print(alloc, form, &value) {
@@ -77,7 +77,7 @@ fn print<T: fmt::Display + fmt::Debug>(
 pub fn ask_json(alloc: Global, source: &[u8], room: &mut [u8]) -> usize
     requires { IsAscii source.now }
 {
-    let mut answer = Answer::new(alloc);
+    let mut answer = Answer::new(room);
     if let Ok(value) = bytes::as_ascii_str_unchecked(source).to_json(alloc) {
         if let Ok(text) = format!(in alloc; "{value}") {
             answer.name(text.as_str());
@@ -86,5 +86,5 @@ pub fn ask_json(alloc: Global, source: &[u8], room: &mut [u8]) -> usize
             answer.text(string.as_ascii_str());
         }
     }
-    answer.finish(room)
+    answer.finish()
 }

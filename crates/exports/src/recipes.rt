@@ -18,23 +18,23 @@ use cookbook::table::{RowError, read_row};
 use std::alloc::Global;
 
 /// A line as a header.
-pub fn ask_header(alloc: Global, source: &[u8], room: &mut [u8]) -> usize
+pub fn ask_header(source: &[u8], room: &mut [u8]) -> usize
     requires { IsAscii source.now }
 {
-    let mut answer = Answer::new(alloc);
+    let mut answer = Answer::new(room);
     match read_header(bytes::as_ascii_str_unchecked(source)) {
         Ok(header) => put_header(header, &mut answer),
         Err(error) => put_header_error(error, &mut answer),
     }
-    answer.finish(room)
+    answer.finish()
 }
 
-fn put_header(header: Header<'_>, answer: &mut Answer) {
+fn put_header(header: Header<'_>, answer: &mut Answer<'_>) {
     answer.text(header.name);
     answer.text(header.value);
 }
 
-fn put_header_error(error: HeaderError, answer: &mut Answer) {
+fn put_header_error(error: HeaderError, answer: &mut Answer<'_>) {
     match error {
         HeaderError::NoColon => answer.name("colon"),
         HeaderError::NoName => answer.name("name"),
@@ -48,7 +48,7 @@ pub fn ask_headers(alloc: Global, name: &[u8], block: &[u8], room: &mut [u8]) ->
     requires block { IsAscii block.now }
 {
     let name = bytes::as_ascii_str_unchecked(name);
-    let mut answer = Answer::new(alloc);
+    let mut answer = Answer::new(room);
     match read_headers(alloc, bytes::as_ascii_str_unchecked(block)) {
         Ok(headers) => {
             for header in &headers {
@@ -73,7 +73,7 @@ pub fn ask_headers(alloc: Global, name: &[u8], block: &[u8], room: &mut [u8]) ->
         }
         Err(HeaderBlockError::Memory) => answer.failed(),
     }
-    answer.finish(room)
+    answer.finish()
 }
 
 /// Two names of hosts: the first one in lower case, whether they are the same host, and their order.
@@ -83,7 +83,7 @@ pub fn ask_hosts(alloc: Global, first: &[u8], second: &[u8], room: &mut [u8]) ->
 {
     let first = bytes::as_ascii_str_unchecked(first);
     let second = bytes::as_ascii_str_unchecked(second);
-    let mut answer = Answer::new(alloc);
+    let mut answer = Answer::new(room);
     match HostName::parse(alloc, first) {
         Ok(host) => answer.text(host.as_ascii_str()),
         Err(error) => put_host_error(error, &mut answer),
@@ -96,10 +96,10 @@ pub fn ask_hosts(alloc: Global, first: &[u8], second: &[u8], room: &mut [u8]) ->
         Ok(order) => answer.order(order),
         Err(error) => put_host_error(error, &mut answer),
     }
-    answer.finish(room)
+    answer.finish()
 }
 
-fn put_host_error(error: HostNameError, answer: &mut Answer) {
+fn put_host_error(error: HostNameError, answer: &mut Answer<'_>) {
     match error {
         HostNameError::TooLong => answer.name("long"),
         HostNameError::EmptyLabel(position) => answer.fault("empty", position),
@@ -111,10 +111,10 @@ fn put_host_error(error: HostNameError, answer: &mut Answer) {
 }
 
 /// A line as a setting.
-pub fn ask_setting(alloc: Global, source: &[u8], room: &mut [u8]) -> usize
+pub fn ask_setting(source: &[u8], room: &mut [u8]) -> usize
     requires { IsAscii source.now }
 {
-    let mut answer = Answer::new(alloc);
+    let mut answer = Answer::new(room);
     match read_setting(bytes::as_ascii_str_unchecked(source)) {
         Ok(Some(setting)) => {
             answer.text(setting.key);
@@ -124,14 +124,14 @@ pub fn ask_setting(alloc: Global, source: &[u8], room: &mut [u8]) -> usize
         Err(SettingError::NoEquals(position)) => answer.fault("equals", position),
         Err(SettingError::NoKey(position)) => answer.fault("key", position),
     }
-    answer.finish(room)
+    answer.finish()
 }
 
 /// A line as the fields of a row with a number of columns.
 pub fn ask_row(alloc: Global, columns: usize, source: &[u8], room: &mut [u8]) -> usize
     requires { IsAscii source.now }
 {
-    let mut answer = Answer::new(alloc);
+    let mut answer = Answer::new(room);
     match read_row(alloc, bytes::as_ascii_str_unchecked(source), columns) {
         Ok(fields) => {
             for field in &fields {
@@ -146,7 +146,7 @@ pub fn ask_row(alloc: Global, columns: usize, source: &[u8], room: &mut [u8]) ->
         Err(RowError::TooMany { start }) => answer.fault("many", start),
         Err(RowError::Memory) => answer.failed(),
     }
-    answer.finish(room)
+    answer.finish()
 }
 
 /// A text as a screen of some width shows it, and the column after it.
@@ -154,30 +154,30 @@ pub fn ask_screen(alloc: Global, width: usize, source: &[u8], room: &mut [u8]) -
     requires width { 2 ≤ width }
     requires ascii { IsAscii source.now }
 {
-    let mut answer = Answer::new(alloc);
+    let mut answer = Answer::new(room);
     if let Ok(shown) = wrap_for_screen(alloc, bytes::as_ascii_str_unchecked(source), width) {
         answer.text(shown.text.as_ascii_str());
         answer.number(shown.column);
     }
-    answer.finish(room)
+    answer.finish()
 }
 
 /// Bytes as a text with a mark in place of each run of non-ASCII bytes.
 pub fn ask_lossy(alloc: Global, source: &[u8], room: &mut [u8]) -> usize {
-    let mut answer = Answer::new(alloc);
+    let mut answer = Answer::new(room);
     answer.owned(copy_lossy(alloc, source));
-    answer.finish(room)
+    answer.finish()
 }
 
 /// The last `n` lines of a text, the lines before them, the end of the last body, and whether the last line is open.
-pub fn ask_last_lines(alloc: Global, n: usize, source: &[u8], room: &mut [u8]) -> usize
+pub fn ask_last_lines(n: usize, source: &[u8], room: &mut [u8]) -> usize
     requires { IsAscii source.now }
 {
     let view: AsciiStr<'_> = bytes::as_ascii_str_unchecked(source);
-    let mut answer = Answer::new(alloc);
+    let mut answer = Answer::new(room);
     answer.text(last_lines(view, n));
     answer.text(without_last_lines(view, n));
     answer.position(last_body_end(view));
     answer.flag(is_open(view));
-    answer.finish(room)
+    answer.finish()
 }

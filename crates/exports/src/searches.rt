@@ -8,13 +8,13 @@ use std::alloc::Global;
 
 /// The first and the last position of a needle, and the two sides of both; whether the text contains it, starts with it
 /// and ends with it, the last two also ignoring case; and the text without it at the start and at the end.
-pub fn ask_find(alloc: Global, source: &[u8], needle: &[u8], room: &mut [u8]) -> usize
+pub fn ask_find(source: &[u8], needle: &[u8], room: &mut [u8]) -> usize
     requires source { IsAscii source.now }
     requires needle { IsAscii needle.now }
 {
     let view = bytes::as_ascii_str_unchecked(source);
     let needle = bytes::as_ascii_str_unchecked(needle);
-    let mut answer = Answer::new(alloc);
+    let mut answer = Answer::new(room);
     answer.position(view.find(needle));
     answer.position(view.rfind(needle));
     answer.cut(view.split_once_str(needle));
@@ -30,36 +30,36 @@ pub fn ask_find(alloc: Global, source: &[u8], needle: &[u8], room: &mut [u8]) ->
     answer.part(view.strip_suffix(needle));
     answer.part(view.strip_prefix_ignore_ascii_case(needle));
     answer.part(view.strip_suffix_ignore_ascii_case(needle));
-    answer.finish(room)
+    answer.finish()
 }
 
 /// The first and the last position of a character, and the two sides of each.
-pub fn ask_find_character(alloc: Global, code: u8, source: &[u8], room: &mut [u8]) -> usize
+pub fn ask_find_character(code: u8, source: &[u8], room: &mut [u8]) -> usize
     requires { IsAscii source.now }
 {
     let view = bytes::as_ascii_str_unchecked(source);
-    let mut answer = Answer::new(alloc);
+    let mut answer = Answer::new(room);
     if let Ok(on) = AsciiChar::from_ascii(code) {
         answer.position(view.position(on));
         answer.position(view.rposition(on));
         answer.cut(view.split_once(on));
         answer.cut(view.rsplit_once(on));
     }
-    answer.finish(room)
+    answer.finish()
 }
 
 /// At most `n` pieces at a character.
-pub fn ask_splitn(alloc: Global, n: usize, code: u8, source: &[u8], room: &mut [u8]) -> usize
+pub fn ask_splitn(n: usize, code: u8, source: &[u8], room: &mut [u8]) -> usize
     requires { IsAscii source.now }
 {
     let view = bytes::as_ascii_str_unchecked(source);
-    let mut answer = Answer::new(alloc);
+    let mut answer = Answer::new(room);
     if let Ok(on) = AsciiChar::from_ascii(code) {
         for piece in view.splitn(n, on) {
             answer.text(piece);
         }
     }
-    answer.finish(room)
+    answer.finish()
 }
 
 /// A text with another one in place of each occurrence of a needle that is not empty.
@@ -70,9 +70,9 @@ pub fn ask_replace(alloc: Global, source: &[u8], needle: &[u8], to: &[u8], room:
 {
     let view = bytes::as_ascii_str_unchecked(source);
     let needle = bytes::as_ascii_str_unchecked(needle);
-    let mut answer = Answer::new(alloc);
+    let mut answer = Answer::new(room);
     if !needle.is_empty() {
         answer.owned(view.replace(alloc, needle, bytes::as_ascii_str_unchecked(to)));
     }
-    answer.finish(room)
+    answer.finish()
 }

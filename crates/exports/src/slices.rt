@@ -2,7 +2,6 @@
 
 use crate::answer::Answer;
 use ascii::{AsciiChar, AsciiRange, bytes, text};
-use std::alloc::Global;
 
 /// A range in one of the six forms of `AsciiRange`, in their order.
 pub(crate) fn range_of(form: u8, start: usize, end: usize) -> AsciiRange {
@@ -17,15 +16,8 @@ pub(crate) fn range_of(form: u8, start: usize, end: usize) -> AsciiRange {
 }
 
 /// The part of a source in a range: as bytes, as a `str` if it is UTF-8, and as a view if it is ASCII.
-pub fn ask_slices(
-    alloc: Global,
-    form: u8,
-    start: usize,
-    end: usize,
-    source: &[u8],
-    room: &mut [u8],
-) -> usize {
-    let mut answer = Answer::new(alloc);
+pub fn ask_slices(form: u8, start: usize, end: usize, source: &[u8], room: &mut [u8]) -> usize {
+    let mut answer = Answer::new(room);
     let range = range_of(form, start, end);
     answer.slice(bytes::slice_ascii(source, range));
     if let Ok(source) = str::from_utf8(source) {
@@ -37,13 +29,12 @@ pub fn ask_slices(
             answer.text(view.slice(range));
         }
     }
-    answer.finish(room)
+    answer.finish()
 }
 
 /// Changes the part of a source in a range to upper case, and sets its first character; and returns
 /// that part.
 pub fn ask_slice_mut(
-    alloc: Global,
     form: u8,
     start: usize,
     end: usize,
@@ -51,7 +42,7 @@ pub fn ask_slice_mut(
     source: &mut [u8],
     room: &mut [u8],
 ) -> usize {
-    let mut answer = Answer::new(alloc);
+    let mut answer = Answer::new(room);
     match bytes::slice_ascii_mut(source, range_of(form, start, end)) {
         Ok(mut part) => {
             part.make_ascii_uppercase();
@@ -64,13 +55,13 @@ pub fn ask_slice_mut(
         }
         Err(error) => answer.number(error.valid_up_to()),
     }
-    answer.finish(room)
+    answer.finish()
 }
 
 /// The character at a position: of bytes, of a `str` if they are UTF-8, and of a view if they are ASCII,
 /// with its first and last character.
-pub fn ask_position(alloc: Global, at: usize, source: &[u8], room: &mut [u8]) -> usize {
-    let mut answer = Answer::new(alloc);
+pub fn ask_position(at: usize, source: &[u8], room: &mut [u8]) -> usize {
+    let mut answer = Answer::new(room);
     answer.character(bytes::get_ascii(source, at));
     if let Ok(source) = str::from_utf8(source) {
         answer.character(text::get_ascii(source, at));
@@ -83,5 +74,5 @@ pub fn ask_position(alloc: Global, at: usize, source: &[u8], room: &mut [u8]) ->
             answer.character(Some(view.char_at(at)));
         }
     }
-    answer.finish(room)
+    answer.finish()
 }

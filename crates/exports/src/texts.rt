@@ -9,48 +9,43 @@ use std::alloc::{AllocError, Global};
 use std::hash::{DefaultHasher, Hash, Hasher};
 
 /// The position of the first non-ASCII byte, and those of the first and the last one that is not whitespace.
-pub fn ask_kernels(alloc: Global, source: &[u8], room: &mut [u8]) -> usize {
-    let mut answer = Answer::new(alloc);
+pub fn ask_kernels(source: &[u8], room: &mut [u8]) -> usize {
+    let mut answer = Answer::new(room);
     answer.position(kernels::first_other(source));
     answer.position(kernels::first_not_whitespace(source));
     answer.position(kernels::last_not_whitespace(source));
-    answer.finish(room)
+    answer.finish()
 }
 
 /// Changes the letters of bytes to upper or to lower case.
-pub fn ask_case_in_place(
-    alloc: Global,
-    to_upper: bool,
-    source: &mut [u8],
-    room: &mut [u8],
-) -> usize {
+pub fn ask_case_in_place(to_upper: bool, source: &mut [u8], room: &mut [u8]) -> usize {
     if to_upper {
         kernels::upper_in_place(source);
     } else {
         kernels::lower_in_place(source);
     }
-    let mut answer = Answer::new(alloc);
+    let mut answer = Answer::new(room);
     answer.bytes(source);
-    answer.finish(room)
+    answer.finish()
 }
 
 /// Whether any two lists of bytes are equal, ignoring case.
-pub fn ask_equal_bytes(alloc: Global, first: &[u8], second: &[u8], room: &mut [u8]) -> usize {
-    let mut answer = Answer::new(alloc);
+pub fn ask_equal_bytes(first: &[u8], second: &[u8], room: &mut [u8]) -> usize {
+    let mut answer = Answer::new(room);
     answer.flag(kernels::eq_ignore_case(first, second));
-    answer.finish(room)
+    answer.finish()
 }
 
 /// A text without the whitespace at both ends, at its start and at its end.
-pub fn ask_trims(alloc: Global, source: &[u8], room: &mut [u8]) -> usize
+pub fn ask_trims(source: &[u8], room: &mut [u8]) -> usize
     requires { IsAscii source.now }
 {
     let view = bytes::as_ascii_str_unchecked(source);
-    let mut answer = Answer::new(alloc);
+    let mut answer = Answer::new(room);
     answer.text(view.trim());
     answer.text(view.trim_start());
     answer.text(view.trim_end());
-    answer.finish(room)
+    answer.finish()
 }
 
 /// Copies of a text in upper and in lower case, and a string that is changed in place to them.
@@ -58,7 +53,7 @@ pub fn ask_cases(alloc: Global, source: &[u8], room: &mut [u8]) -> usize
     requires { IsAscii source.now }
 {
     let view = bytes::as_ascii_str_unchecked(source);
-    let mut answer = Answer::new(alloc);
+    let mut answer = Answer::new(room);
     answer.owned(view.to_ascii_uppercase(alloc));
     answer.owned(view.to_ascii_lowercase(alloc));
     if let Ok(mut string) = view.to_ascii_string(alloc) {
@@ -67,17 +62,17 @@ pub fn ask_cases(alloc: Global, source: &[u8], room: &mut [u8]) -> usize
         string.make_ascii_lowercase();
         answer.text(string.as_ascii_str());
     }
-    answer.finish(room)
+    answer.finish()
 }
 
 /// Whether two texts are equal and which is the lesser one, with case and without.
-pub fn ask_comparisons(alloc: Global, first: &[u8], second: &[u8], room: &mut [u8]) -> usize
+pub fn ask_comparisons(first: &[u8], second: &[u8], room: &mut [u8]) -> usize
     requires first { IsAscii first.now }
     requires second { IsAscii second.now }
 {
     let view = bytes::as_ascii_str_unchecked(first);
     let other = bytes::as_ascii_str_unchecked(second);
-    let mut answer = Answer::new(alloc);
+    let mut answer = Answer::new(room);
     answer.flags(&[
         view == other,
         view.eq_text(other),
@@ -88,7 +83,7 @@ pub fn ask_comparisons(alloc: Global, first: &[u8], second: &[u8], room: &mut [u
     ]);
     answer.order(view.cmp(&other));
     answer.order(view.folded().cmp(&other.folded()));
-    answer.finish(room)
+    answer.finish()
 }
 
 /// Whether two texts are equal and which is the lesser one, as strings and as inline strings.
@@ -98,7 +93,7 @@ pub fn ask_owned_comparisons(alloc: Global, first: &[u8], second: &[u8], room: &
 {
     let view = bytes::as_ascii_str_unchecked(first);
     let other = bytes::as_ascii_str_unchecked(second);
-    let mut answer = Answer::new(alloc);
+    let mut answer = Answer::new(room);
     compare(
         view.to_ascii_string(alloc),
         other.to_ascii_string(alloc),
@@ -110,13 +105,13 @@ pub fn ask_owned_comparisons(alloc: Global, first: &[u8], second: &[u8], room: &
         SmallAsciiString::from_ascii_str(alloc, other),
         &mut answer,
     );
-    answer.finish(room)
+    answer.finish()
 }
 
 fn compare<T: Ord + Drop>(
     first: Result<T, AllocError>,
     second: Result<T, AllocError>,
-    answer: &mut Answer,
+    answer: &mut Answer<'_>,
 ) {
     if let (Ok(first), Ok(second)) = (first, second) {
         answer.flag(first == second);
@@ -129,7 +124,7 @@ pub fn ask_hashes(alloc: Global, source: &[u8], room: &mut [u8]) -> usize
     requires { IsAscii source.now }
 {
     let view = bytes::as_ascii_str_unchecked(source);
-    let mut answer = Answer::new(alloc);
+    let mut answer = Answer::new(room);
     hash(Ok(view), &mut answer);
     hash(Ok(view.folded()), &mut answer);
     hash(view.to_ascii_string(alloc), &mut answer);
@@ -138,10 +133,10 @@ pub fn ask_hashes(alloc: Global, source: &[u8], room: &mut [u8]) -> usize
     hash(RcAsciiStr::from_ascii_str(alloc, view), &mut answer);
     hash(Ok(CowAsciiStr::<Global>::from(view)), &mut answer);
     hash(view.first().ok_or(AllocError), &mut answer);
-    answer.finish(room)
+    answer.finish()
 }
 
-fn hash<T: Hash + Drop>(value: Result<T, AllocError>, answer: &mut Answer) {
+fn hash<T: Hash + Drop>(value: Result<T, AllocError>, answer: &mut Answer<'_>) {
     if let Ok(value) = value {
         let mut hasher = DefaultHasher::new();
         value.hash(&mut hasher);

@@ -19,8 +19,8 @@ use std::alloc::Global;
 ///
 /// Which of the bytes are in the class, the first and the last one that is not and that is; and of a text
 /// its run at the start, the text without the class at its ends, and its words, runs and pieces by a script.
-pub fn ask_class(alloc: Global, class: u8, source: &[u8], script: &[u8], room: &mut [u8]) -> usize {
-    let mut answer = Answer::new(alloc);
+pub fn ask_class(class: u8, source: &[u8], script: &[u8], room: &mut [u8]) -> usize {
+    let mut answer = Answer::new(room);
     match class {
         0 => search::<Ascii>(source, script, &mut answer),
         1 => search::<Whitespace>(source, script, &mut answer),
@@ -43,10 +43,10 @@ pub fn ask_class(alloc: Global, class: u8, source: &[u8], script: &[u8], room: &
         18 => search::<Quotable>(source, script, &mut answer),
         _ => search::<Atom>(source, script, &mut answer),
     }
-    answer.finish(room)
+    answer.finish()
 }
 
-fn search<C: Searched>(source: &[u8], script: &[u8], answer: &mut Answer) {
+fn search<C: Searched>(source: &[u8], script: &[u8], answer: &mut Answer<'_>) {
     for byte in source {
         answer.flag(C::has(*byte));
     }
@@ -65,7 +65,7 @@ fn search<C: Searched>(source: &[u8], script: &[u8], answer: &mut Answer) {
     }
 }
 
-fn walk_words<C: Searched>(view: AsciiStr<'_>, script: &[u8], answer: &mut Answer) {
+fn walk_words<C: Searched>(view: AsciiStr<'_>, script: &[u8], answer: &mut Answer<'_>) {
     let mut words = view.words::<C>();
     let mut spans = view.word_spans::<C>();
     let mut runs = view.run_spans::<C>();
@@ -84,20 +84,20 @@ pub fn ask_numbers(alloc: Global, source: &[u8], room: &mut [u8]) -> usize
     requires { IsAscii source.now }
 {
     let view = bytes::as_ascii_str_unchecked(source);
-    let mut answer = Answer::new(alloc);
+    let mut answer = Answer::new(room);
     read_number::<u8>(alloc, view, &mut answer);
     read_number::<u16>(alloc, view, &mut answer);
     read_number::<u32>(alloc, view, &mut answer);
     read_number::<u64>(alloc, view, &mut answer);
     read_number::<u128>(alloc, view, &mut answer);
     read_number::<usize>(alloc, view, &mut answer);
-    answer.finish(room)
+    answer.finish()
 }
 
 fn read_number<N: Number + std::string::ToString + Drop>(
     alloc: Global,
     view: AsciiStr<'_>,
-    answer: &mut Answer,
+    answer: &mut Answer<'_>,
 ) {
     match view.to_number::<N>() {
         Ok(n) => put_number(alloc, n, answer),
@@ -112,13 +112,13 @@ fn read_number<N: Number + std::string::ToString + Drop>(
     }
 }
 
-fn put_number<N: std::string::ToString + Drop>(alloc: Global, n: N, answer: &mut Answer) {
+fn put_number<N: std::string::ToString + Drop>(alloc: Global, n: N, answer: &mut Answer<'_>) {
     if let Ok(digits) = n.to_string(alloc) {
         answer.name(digits.as_str());
     }
 }
 
-fn put_error(error: NumberError, answer: &mut Answer) {
+fn put_error(error: NumberError, answer: &mut Answer<'_>) {
     match error {
         NumberError::Empty => answer.name("empty"),
         NumberError::NotDigit(position) => answer.fault("digit", position),
@@ -134,7 +134,7 @@ pub fn ask_decimals(alloc: Global, high: u64, low: u64, source: &[u8], room: &mu
     let view = bytes::as_ascii_str_unchecked(source);
     let long = (u128::from(high) << 64) | u128::from(low);
     let signed = i64::from_le_bytes(low.to_le_bytes());
-    let mut answer = Answer::new(alloc);
+    let mut answer = Answer::new(room);
     push_digits(alloc, Some(long), view, &mut answer);
     push_digits(
         alloc,
@@ -147,14 +147,14 @@ pub fn ask_decimals(alloc: Global, high: u64, low: u64, source: &[u8], room: &mu
     push_digits(alloc, i32::try_from(signed).ok(), view, &mut answer);
     push_digits(alloc, u16::try_from(low).ok(), view, &mut answer);
     push_digits(alloc, i8::try_from(signed).ok(), view, &mut answer);
-    answer.finish(room)
+    answer.finish()
 }
 
 fn push_digits<I: Integer>(
     alloc: Global,
     number: Option<I>,
     view: AsciiStr<'_>,
-    answer: &mut Answer,
+    answer: &mut Answer<'_>,
 ) {
     if let (Some(number), Ok(mut string)) = (number, view.to_ascii_string(alloc)) {
         answer.flag(string.push_decimal(number).is_ok());
@@ -167,7 +167,7 @@ pub fn ask_retain(alloc: Global, code: u8, source: &[u8], room: &mut [u8]) -> us
     requires { IsAscii source.now }
 {
     let view = bytes::as_ascii_str_unchecked(source);
-    let mut answer = Answer::new(alloc);
+    let mut answer = Answer::new(room);
     if let (Ok(other), Ok(mut string)) = (
         AsciiChar::from_ascii(code),
         view.to_ascii_string(alloc),
@@ -175,5 +175,5 @@ pub fn ask_retain(alloc: Global, code: u8, source: &[u8], room: &mut [u8]) -> us
         string.retain(|ch| ch != other);
         answer.text(string.as_ascii_str());
     }
-    answer.finish(room)
+    answer.finish()
 }
