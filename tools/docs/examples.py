@@ -1,54 +1,25 @@
-"""Makes tests from the examples in the documentation of the libraries that have a page CALLING.md: one test for each call.
+"""The examples in the documentation of the libraries that have a page CALLING.md, as tests: one for each call.
 
 An example is a paragraph of a doc comment that is indented by four spaces. The comment after `//` in a line is the `{:?}`
-output of the value before it; the other lines are statements. `alloc` is the allocator. The tests are written to src/tests/of_NAME.rt of the test crate that TESTS names, in the layout of `rt fmt`.
+output of the value before it; the other lines are statements. `alloc` is the allocator. The tests are a crate that
+`bin/test examples` makes in a temporary folder.
 
-A fault is a file of tests that is out of date, and a call without an example."""
+A fault is a call without an example."""
 import re
-import subprocess
-import tempfile
+from functools import cache
 from pathlib import Path
 
+import calls
 import callers
 import sources
-from made import LIBRARIES, settle
+from made import LIBRARIES, modules_of
 
-# The test crate that has the examples of a crate.
-TESTS = {
-    "ascii_base": "tests_base",
-    "ascii": "tests_ascii",
-    "ascii_devices": "tests_run",
-    "ascii_lines": "tests_lines",
-    "ascii_run": "tests_run",
-}
-
-# The names that an example may have from a crate above its own, and that crate, whose tests have the example.
-FROM_ABOVE = {"Inline": "ascii_run", "SmallAsciiString": "ascii_run"}
-
-# What the tests share.
-SHARED = {
-    "assert_debug!": "use testing::assert_debug;",
-    "boxed": "use super::boxed;",
-    "owned": "use super::owned;",
-    "shared": "use super::shared;",
-    "small": "use super::small;",
-    "view": "use testing::view;",
-}
-
-# What many examples begin with, and the function of the test crate that does it: an `expect` at each takes half a second
-# to be proved.
-LITERAL = r'view\(("(?:\\.|[^"\\])*")\)'
-BEGINNINGS = {
-    rf"{LITERAL}\.to_ascii_string\(alloc\)\?": r"owned(&rt, \1)",
-    rf"BoxedAsciiStr::from_ascii_str\(alloc, {LITERAL}\)\?": r"boxed(&rt, \1)",
-    rf"RcAsciiStr::from_ascii_str\(alloc, {LITERAL}\)\?": r"shared(&rt, \1)",
-    rf"SmallAsciiString::from_ascii_str\(alloc, {LITERAL}\)\?": r"small(&rt, \1)",
-}
+# The root of the tests: what they share.
+ROOT = Path(__file__).with_name("examples.txt")
 
 # What else an example may name.
 OTHERS = {
     "AllocError": "std::alloc::AllocError",
-    "Echo": "super::Echo",
     "AsStr": "std::convert::AsStr",
     "Global": "std::alloc::Global",
     "Alignment": "std::fmt::Alignment",
@@ -59,6 +30,9 @@ OTHERS = {
     ".path_text(": "std::path::AsPath",
     "write!": "std::fmt::Write",
 }
+# The one call with a condition that every example may make: that a text is ASCII, which is checked here.
+LITERAL = re.compile(r'\bAsciiStr::literal\("((?:\\.|[^"\\])*)"\)')
+ASCII = re.compile(r"""(?:[ !#-\[\]-~]|\\["'\\nrt0]|\\x[0-7][0-9A-Fa-f]|\\u\{[0-7]?[0-9A-Fa-f]\})*""")
 SHOWN = re.compile(r"(?P<call>.*\S) // (?P<shown>.*)")
 
 
@@ -116,18 +90,22 @@ def names_of_tests(crate, keys):
     return names
 
 
-def tests(crate, examples):
-    """The tests of the examples, one for each call, as lines."""
-    names = names_of_tests(crate, [key for key, _ in examples])
-    for name, (key, lines) in zip(names, examples):
-        body = list(statements(lines if key == "AsciiStr::literal" else [with_view(line) for line in lines]))
+def tests(crate, examples, is_proved):
+    """The tests of some examples of a crate, as lines: a module for each, with the lines that its page has above it."""
+    yield f"//! The examples in the documentation of `{crate}`."
+    for name, key, lines in examples:
+        uses = [*use_lines(lines, crate, key), "use testing::assert_debug;"]
+        uses += ["use super::super::Echo;"] if re.search(r"\bEcho\b", "\n".join(lines)) else []
+        if is_proved and key != "AsciiStr::literal":
+            lines, uses = [with_view(line) for line in lines], [*uses, "use testing::view;"]
+        body = list(statements(lines))
         alloc = ["let alloc = rt.alloc();"] if re.search(r"\balloc\b", "\n".join(body)) else []
-        yield from ["", f"// {key}", "#[test]", f"fn {name}(rt: HostRuntime) {{", *alloc, *body, "}"]
+        yield from ["", f"// {key}", f"mod {name} {{", *uses, "", "#[test]", f"fn {name}(rt: HostRuntime) {{", *alloc, *body, "}", "}"]
 
 
 def with_view(line):
     """A line of an example with `view` of the crate `testing` for `AsciiStr::literal`, which takes longer to be proved."""
-    return re.sub(r'\bAsciiStr::literal\((?=")', "view(", line)
+    return LITERAL.sub(r'view("\1")', line)
 
 
 def statements(lines):
@@ -160,10 +138,8 @@ def escaped(text):
 
 def expecting(line):
     """A line of code, with `expect` for `?`: it takes less to be proved, since no way out is left."""
-    for beginning, call in BEGINNINGS.items():
-        line = re.sub(beginning, call, line)
     parts = re.split(r'("(?:\\.|[^"\\])*")', line)
-    parts[::2] = [part.replace("?", '.expect(&rt, "refused")') for part in parts[::2]]
+    parts[::2] = [part.replace("?", '.expect(&rt, "an error")') for part in parts[::2]]
     return "".join(parts)
 
 
@@ -188,45 +164,89 @@ def imports(found, lines):
     return sorted({f"use {found[name]};" for name in names if name in found})
 
 
-def tests_of(crate, found, examples):
-    lines = list(tests(crate, examples))
-    head = [f"//! The examples in the documentation of `{crate}`, made by `bin/docs examples`.", ""]
-    uses = [line for name, line in SHARED.items() if any(re.search(rf"\b{name}\(", code) for code in lines)]
-    uses += imports(found, lines)
-    return "\n".join([*head, *uses, *lines]) + "\n"
+@cache
+def importable(crate, about=""):
+    """The paths of the names that examples use, those of a crate if it has them; of traits only for the calls that no type has,
+    and for the calls of the traits that an example is about."""
+    found = {name: path for name, path in OTHERS.items() if not path.startswith("super::")}
+    paths = calls.paths_of_items()
+    for name in LIBRARIES:
+        found |= names_of(name, modules_of(name), found)
+    methods = {call.name for call in calls.table_without_names() if not call.of_trait}
+    found = {name: path for name, path in found.items() if not re.match(r"(\.|::)", name) or name.strip(".:(") not in methods}
+    for item in (it for name in LIBRARIES for items in modules_of(name).values() for it in items if id(it) in paths):
+        found[item.name] = next((path for path in paths[id(item)] if path.startswith(f"{crate}::")), paths[id(item)][0])
+    words = set(re.findall(r"\w+", about))
+    words |= {of_trait for of_trait, of_type in implemented() if of_type in words}
+    own = {f"{mark}{it.name}(": item.name for item in traits() if item.name in words for it in item.inner for mark in (".", "::")}
+    named = {name: path.rpartition("::")[2] for name, path in found.items() if re.match(r"(\.|::)", name)}
+    return found | {name: found[trait] for name, trait in (named | own).items() if trait in found}
 
 
-def laid_out(texts):
-    """The texts of files in the layout of `rt fmt`, which works on a crate."""
-    with tempfile.TemporaryDirectory() as folder:
-        crate = Path(folder) / "crates" / "laid_out"
-        (crate / "src").mkdir(parents=True)
-        (Path(folder) / "crates.txt").write_text("laid_out:\n")
-        for name, text in texts.items():
-            (crate / "src" / f"{name}.rt").write_text(text, encoding="utf-8")
-        subprocess.run(["rt", "fmt"], cwd=crate, check=True, capture_output=True)
-        return {name: sources.read(crate / "src" / f"{name}.rt") for name in texts}
+def items_of_kind(kind):
+    return [item for crate in LIBRARIES for module in modules_of(crate).values() for item in module if item.kind == kind]
 
 
-def home_of(crate, example):
-    """The crate whose tests have an example of a crate."""
-    words = set(re.findall(r"\w+", "\n".join(example[1])))
-    return next((above for name, above in FROM_ABOVE.items() if name in words), crate)
+def traits():
+    """The traits of the libraries."""
+    return items_of_kind("trait")
 
 
-def faults(is_check):
-    """Writes the tests, or compares them with the sources. Returns the faults."""
-    wrong, found, texts = [], dict(OTHERS), {}
-    examples = {crate: [] for crate in LIBRARIES}
+@cache
+def implemented():
+    """The traits that types have, as pairs."""
+    return {tuple(sources.impl_name(item)) for item in items_of_kind("impl")}
+
+
+def use_lines(lines, crate, about):
+    """The lines that bring the names of an example, one for each module. It is about a type or a trait, or about both."""
+    modules = {}
+    for line in imports(importable(crate, about), lines):
+        module, _, name = line.removeprefix("use ").removesuffix(";").rpartition("::")
+        modules.setdefault(module, []).append(name)
+    return [f"use {module}::{names[0] if len(names) == 1 else '{' + ', '.join(names) + '}'};" for module, names in modules.items()]
+
+
+def with_a_condition():
+    """The names of the public calls of the libraries that have a condition. A literal's is checked by its text."""
+    calls = [(it, False) for it in items_of_kind("fn")]
+    calls += [(it, True) for item in traits() for it in item.inner]
+    calls += [(it, " for " in item.head) for item in items_of_kind("impl") for it in item.inner if it.kind == "fn"]
+    has_one = lambda it: any(label.startswith("requires") for label, _ in it.clauses)  # noqa: E731
+    return {it.name for it, of_trait in calls if has_one(it) and (it.public or of_trait)} - {"literal"}
+
+
+def may_have_a_condition(lines, names):
+    """Whether an example names a call that has a condition, or passes `literal` what is not plainly an ASCII text."""
+    text = "\n".join(lines)
+    literals = LITERAL.findall(text)
+    are_ascii = len(literals) == len(re.findall(r"\bliteral\(", text)) and all(map(ASCII.fullmatch, literals))
+    return not are_ascii or bool(names.intersection(re.findall(r"(\w+)(?:::<[^()]*>)?\(", text)))
+
+
+def examples_by_crate():
+    """The examples of each library: names of tests, calls and lines."""
     for crate in LIBRARIES:
-        modules = sources.read_modules(crate)
-        own, without = examples_of(crate, modules)
-        for example in own:
-            examples[home_of(crate, example)].append(example)
-        wrong += [f"no example at {call}" for call in without]
-        found = {**found, **names_of(crate, modules, found)}
-        texts[crate] = tests_of(crate, found, examples[crate])
-    for crate, text in laid_out(texts).items():
-        file = sources.CRATES / TESTS[crate] / "src" / "tests" / f"of_{crate}.rt"
-        wrong += settle(file, text, "examples", is_check)
-    return wrong
+        pairs = examples_of(crate, modules_of(crate))[0]
+        names = names_of_tests(crate, [key for key, _ in pairs])
+        yield crate, [(name, *pair) for name, pair in zip(names, pairs)]
+
+
+def write_crate(folder, is_proved=False):
+    """Writes the sources of a crate with the tests: all of them, or those that are to be proved, since they name a call that
+    may have a condition. Returns how many there are."""
+    conditions, count, modules = with_a_condition(), 0, ""
+    (folder / "src/tests").mkdir(parents=True)
+    for crate, own in examples_by_crate():
+        chosen = [it for it in own if not is_proved or may_have_a_condition(it[2], conditions)]
+        text = "\n".join(tests(crate, chosen, is_proved)) + "\n"
+        (folder / f"src/tests/of_{crate}.rt").write_text(text, encoding="utf-8")
+        modules, count = f"{modules}mod of_{crate};\n", count + len(chosen)
+    (folder / "src/tests.rt").write_text(modules + "\n" + ROOT.read_text(encoding="utf-8"), encoding="utf-8")
+    (folder / "src/lib.rt").write_text("#![tactic(auto)]\n\n#[cfg(test)]\nmod tests;\n", encoding="utf-8")
+    return count
+
+
+def faults():
+    """The calls without an example."""
+    return [f"no example at {call}" for crate in LIBRARIES for call in examples_of(crate, modules_of(crate))[1]]

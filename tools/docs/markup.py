@@ -83,33 +83,10 @@ def linked_docs(html, owner):
     return CODE.sub(lambda m: f'<a href="{url(m[1])}">{m[0]}</a>' if url(m[1]) else m[0], html)
 
 
-@cache
-def importable(crate):
-    """The paths of the names that examples use, those of a crate if it has them; of traits only for the calls that no type has."""
-    found = {name: path for name, path in examples.OTHERS.items() if not path.startswith("super::")}
-    paths = calls.paths_of_items()
-    for name in LIBRARIES:
-        found |= examples.names_of(name, modules_of(name), found)
-    methods = {call.name for call in calls.table_without_names() if not call.of_trait}
-    found = {name: path for name, path in found.items() if not re.match(r"(\.|::)", name) or name.strip(".:(") not in methods}
-    for item in (it for name in LIBRARIES for items in modules_of(name).values() for it in items if id(it) in paths):
-        found[item.name] = next((path for path in paths[id(item)] if path.startswith(f"{crate}::")), paths[id(item)][0])
-    return found
-
-
-def use_lines(lines, crate):
-    """The lines that bring the names of an example, one for each module."""
-    modules = {}
-    for line in examples.imports(importable(crate), lines):
-        module, _, name = line.removeprefix("use ").removesuffix(";").rpartition("::")
-        modules.setdefault(module, []).append(name)
-    return [f"use {module}::{names[0] if len(names) == 1 else '{' + ', '.join(names) + '}'};" for module, names in modules.items()]
-
-
-def copyable(paragraphs, crate):
+def copyable(paragraphs, crate, about):
     """The paragraphs of a documentation, the first example of which has the lines that bring its names."""
     code = [it for it in paragraphs if it.startswith("    ")]
-    uses = use_lines([line for it in code for line in it.splitlines()], crate)
+    uses = examples.use_lines([line for it in code for line in it.splitlines()], crate, about)
     runtime = ["let alloc = rt.alloc();"] if re.search(r"\balloc\b", "".join(code)) and "let alloc" not in "".join(code) else []
     for paragraph in paragraphs:
         if paragraph in code[:1]:
@@ -117,10 +94,10 @@ def copyable(paragraphs, crate):
         yield paragraph
 
 
-def docs_html(docs, owner=None):
-    """Documentation, with each condition in a box."""
+def docs_html(docs, owner=None, of_trait=""):
+    """Documentation of what has an owner, or of its part of a trait, with each condition in a box."""
     parts = [[]]
-    for paragraph in copyable("\n".join(docs).split("\n\n"), owner.path.partition("::")[0] if owner else "ascii"):
+    for paragraph in copyable("\n".join(docs).split("\n\n"), owner.path.partition("::")[0] if owner else "ascii", f"{owner.name if owner else ''} {of_trait}"):
         if paragraph.startswith("Condition"):
             parts += [[paragraph], []]
         else:

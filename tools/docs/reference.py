@@ -151,7 +151,7 @@ class Reference:
         source = f"{source_page(call.crate, call.module)}#{line_anchor(call.item)}"
         return (f'<section class="call" id="{anchor}"><h3><a class="perma" href="#{anchor}" aria-label="link to {call.name}">§</a>'
                 f'<code>{linked_code(re.sub(r"^pub ", "", call.item.head))}</code><a class="src" href="{source}">source</a></h3>'
-                f'<div class="docs">{docs_html(docs, owner)}{said}{contract(call)}{evidence(call)}</div></section>')
+                f'<div class="docs">{docs_html(docs, owner, call.of_trait)}{said}{contract(call)}{evidence(call)}</div></section>')
 
     def impls(self, owner, page):
         derived = [it for it in owner.item.derives if it != "Drop"] if owner.item else []
@@ -178,7 +178,7 @@ class Reference:
         words = meanings_html([without_braces(it.head) for it in ghosts], ghosts[0].words) if ghosts else ""
         return (f'<details class="impl" id="{anchor}"><summary><code>{linked_code(impl.item.head)}</code></summary>'
                 f'<div class="docs">{of}'
-                f"{docs_html(impl.item.docs, owner)}{''.join(map(ghost_html, ghosts))}{words}{calls}</div></details>")
+                f"{docs_html(impl.item.docs, owner, impl.of_trait)}{''.join(map(ghost_html, ghosts))}{words}{calls}</div></details>")
 
 # The parts of a page
 

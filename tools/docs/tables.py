@@ -3,6 +3,7 @@
 A page has a table between a line that says that it is made and a line that ends it:
   <!-- Made by `bin/docs tables`: modules -->       a row for each module of the libraries, with its public calls
   <!-- Made by `bin/docs tables`: calls CRATE -->   a row for each group of calls: clauses, examples, tests and mutations
+  <!-- Made by `bin/docs tables`: times -->         what each task of the full check took in the run of tools/check/times.txt
   <!-- end of the table -->
 A signpost is a paragraph at the head of a source that begins with "Made by `bin/docs tables`: the other calls of `TYPE` are in": it
 names the modules that have calls of that type, each with its calls.
@@ -10,12 +11,16 @@ names the modules that have calls of that type, each with its calls.
 The table that `--print` prints has a line for each public call, with tabs between the fields: the call by the path that callers
 import, its file, its clauses, its tests, its mutations, and whether it has an example."""
 import re
+import sys
 import textwrap
 from functools import cache
 
 from calls import entries, headings, table
 from made import LIBRARIES, TOP, example, first_sentence, head_lines, module_file, modules_of, settle
 from sources import CRATES, read
+
+sys.path.append(str(TOP / "tools" / "check"))
+import times  # noqa: E402
 
 MOST = 6
 BLOCK = re.compile(r"(<!-- Made by `bin/docs tables`: (\w+)(?: (\w+))? -->\n).*?(<!-- end of the table -->)", re.S)
@@ -62,7 +67,7 @@ def calls_table(crate):
     return [*lines, f"| sum | {' | '.join(map(str, total))} |"]
 
 
-TABLES = {"modules": modules_table, "calls": calls_table}
+TABLES = {"modules": modules_table, "calls": calls_table, "times": lambda _: times.table()}
 
 
 def page_with_tables(text):

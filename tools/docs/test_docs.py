@@ -9,6 +9,7 @@ sys.dont_write_bytecode = True
 TOP = Path(__file__).resolve().parents[2]
 sys.path[:0] = [str(TOP / "tools" / it) for it in ("docs", "reader")]
 import clauses  # noqa: E402
+import examples  # noqa: E402
 import lengths  # noqa: E402
 import reach  # noqa: E402
 import recipes  # noqa: E402
@@ -59,15 +60,18 @@ class Examples(unittest.TestCase):
     def test_values_are_compared_as_one_tuple(self):
         self.assertEqual(statements(["a() // 1"]), ['    assert_debug!(rt; a(), "1");'])
         code = "".join(line.strip() for line in statements(["a() // 1", "b()? // \"x\""]))
-        self.assertEqual(code, 'assert_debug!(rt;(a(),b().expect(&rt, "refused"),),"(1, \\"x\\")");')
+        self.assertEqual(code, 'assert_debug!(rt;(a(),b().expect(&rt, "an error"),),"(1, \\"x\\")");')
 
-    def test_a_string_is_made_by_a_function_of_the_test_crate(self):
-        code = 'view("fo").to_ascii_string(alloc)?.pop() // Some(\'o\')'
-        self.assertEqual(statements([code]), ["""    assert_debug!(rt; owned(&rt, "fo").pop(), "Some('o')");"""])
-        code = 'view("fo").to_ascii_string(alloc) // Ok("fo")'
-        self.assertEqual(
-            statements([code]), ["""    assert_debug!(rt; view("fo").to_ascii_string(alloc), "Ok(\\"fo\\")");"""]
-        )
+    def test_an_example_with_a_condition_is_proved(self):
+        names = {"set", "new"}
+        for line in ("view.set(1, 'a')", "Thing::new(8)", 'AsciiStr::literal("\\u{e9}")', "AsciiStr::literal(text)"):
+            self.assertTrue(examples.may_have_a_condition([line], names), line)
+        for line in ('AsciiStr::literal("a\\u{7f}").len()', "offset(1)", "renew(2)"):
+            self.assertFalse(examples.may_have_a_condition([line], names), line)
+
+    def test_an_example_brings_the_traits_that_it_is_about(self):
+        line = 'Output::new(Vec::new(alloc)).failures()'
+        self.assertIn("use ascii_devices::{Output, Sink};", examples.use_lines([line], "ascii_devices", "Output"))
 
     def test_a_value_between_statements_is_compared_at_its_place(self):
         lines = ["let mut a = b();", "a.next() // 1", "a.next() // 2"]

@@ -1,8 +1,9 @@
 """Tries each mutation that was written by hand. `rt ci` checks that the prover rejects a file of crates/CRATE/must-fail as a
 whole; this names the goals by which each mutation under a line `# MUTATION` is rejected, in these files, in those of
-crates/CRATE/mutations, and in edits/CRATE.edit of the data folder, which `rt ci` does not read. Mutations of different functions are tried in one check, in
-rounds, and those that no round rejects on their own. A mutation survives if the check passes with it. Status
-1: one survives, or cannot be applied, or does not reach the prover."""
+crates/CRATE/mutations, and in edits/CRATE.edit of the data folder, which `rt ci` does not read. Mutations of different
+functions are tried in one check, in rounds, and those that no round rejects on their own. A mutation survives if the check
+passes with it. With --changed, tries those whose record is stale or lacking, and writes their records. Status 1: one
+survives, or cannot be applied, or does not reach the prover."""
 import contextlib
 import re
 import subprocess
@@ -10,6 +11,8 @@ import tempfile
 from dataclasses import dataclass
 from pathlib import Path
 
+import records
+from edit_files import edits_of, mutations_of
 from functions import functions_of
 from planting import copied
 
@@ -24,21 +27,6 @@ class Mutation:
     name: str
     changes: list
     functions: list  # (file, first line, last line, name)
-
-
-def mutations_of(text):
-    """The mutations of a file of edits, as pairs of a name and changes."""
-    mutations, file, old = [], None, None
-    for line in text.splitlines():
-        if line.startswith("# "):
-            mutations.append((line[2:], []))
-        elif line.startswith("file: "):
-            file = line[6:]
-        elif line.startswith("old: "):
-            old = line[5:]
-        elif line.startswith("new:"):
-            mutations[-1][1].append((file, old, re.sub(r"^new: ?", "", line)))
-    return mutations
 
 
 def functions_at(changes, crate):
@@ -110,10 +98,10 @@ def try_apart(mutation, crate):
     return "survives" if "logic=proved" in said else f"cannot be applied: {' '.join(said.split()[-30:])}"
 
 
-def try_crate(crate, texts, only, tell):
-    """Tries the mutations of a crate, and tells how each is rejected."""
+def try_crate(crate, texts, is_chosen, tell):
+    """Tries the mutations of a crate whose names are chosen, and tells how each is rejected."""
     left = []
-    for name, changes in (it for text in texts for it in mutations_of(text) if only in ("", it[0])):
+    for name, changes in (it for text in texts for it in mutations_of(text) if is_chosen(it[0])):
         try:
             left.append(Mutation(name, changes, functions_at(changes, crate)))
         except ValueError as fault:
@@ -127,38 +115,32 @@ def try_crate(crate, texts, only, tell):
             left.remove(it)
 
 
-def files_of(settings, crate):
-    """The files with mutations in the folder of a crate: those that `rt ci` tries as a whole, and the others."""
-    folder = settings.root / "crates" / crate
-    return [file for it in ("must-fail", "mutations") for file in sorted((folder / it).glob("*.edit"))]
-
-
-def edits_of(settings, crate):
-    """The texts of the files with mutations of a crate."""
-    files = [*files_of(settings, crate), settings.data / "edits" / f"{crate}.edit"]
-    return [file.read_text(encoding="utf-8") for file in files if file.is_file()]
-
-
 def arguments(asks):
     asks.add_argument("crates", nargs="*", metavar="CRATE[/MUTATION]", help="default: every crate that has mutations")
+    asks.add_argument("--changed", action="store_true", help="those whose record is stale or lacking; write their records")
 
 
 def run(settings, given):
     names = given.crates or [name for name in settings.all_crates() if edits_of(settings, name)]
     rejected, others = [], []
+    sums = records.Sums(settings.root) if given.changed else None
     with tempfile.TemporaryDirectory(prefix="one-by-one-") as scratch:
         copy = copied(settings.root, Path(scratch) / "copy", True)
         for name in names:
             crate, _, only = name.partition("/")
+            writer = records.Writer(settings, crate, sums) if given.changed else None
+            is_chosen = lambda it, only=only, writer=writer: only in ("", it) and (not writer or it in writer.sums)  # noqa: E731
 
-            def tell(mutation, how, crate=crate):
+            def tell(mutation, how, crate=crate, writer=writer):
                 is_other = how == "survives" or how.startswith("cannot be applied")
                 (others if is_other else rejected).append((mutation, how))
                 print(f"{crate}/{mutation}: {how}", flush=True)
+                if writer and not is_other:
+                    writer.add(mutation, how)
 
             before = len(rejected) + len(others)
-            try_crate(copy / "crates" / crate, edits_of(settings, crate), only, tell)
-            if only and len(rejected) + len(others) == before:
+            try_crate(copy / "crates" / crate, edits_of(settings, crate), is_chosen, tell)
+            if only and not given.changed and len(rejected) + len(others) == before:
                 tell(only, "cannot be applied: there is no such mutation")
     survive = sum(how == "survives" for _, how in others)
     faults = len(others) - survive

@@ -1,5 +1,6 @@
-"""Shows that the prover rejects each mutation of crates/CRATE/mutations and crates/CRATE/must-fail, in a few minutes, over the
-libraries as `rt ci` or `rt lib` built them. A round plants mutations of different functions, none of which calls another one of
+"""Shows that the prover rejects each mutation of crates/CRATE/must-fail and crates/CRATE/mutations/each_check.edit, in a few
+minutes, over the libraries as `rt ci` or `rt lib` built them; with --changed, each one whose record is stale or lacking, and
+writes its record. A round plants mutations of different functions, none of which calls another one of
 them, and checks these functions only. A mutation is rejected if the check names a goal of its own function that is open, or a
 proof by hand of that function that fails: it is not enough that a function that it calls is not proved. A mutation that a round
 does not reject is tried alone; so is one that waits for a function that is not proved, if the round leaves a goal open in a
@@ -16,9 +17,11 @@ from dataclasses import dataclass
 from pathlib import Path
 
 import libraries
+import records
 from built import Built, Checks
+from edit_files import files_of, mutations_of, recorded_files
 from mutation import Crate
-from one_by_one import Mutation, files_of, functions_at, goals_in, mutations_of, planted, round_of
+from one_by_one import Mutation, functions_at, goals_in, planted, round_of
 
 # The line of a check that came to its end, and a line that says that a proof rests on one that failed.
 ENDED = re.compile(r"^(only=|logic=)", re.MULTILINE)
@@ -104,19 +107,18 @@ def try_rounds(mutations, calls, check, tell):
         tell(it.name, how_rejected(said, it) or why_not(said, it))
 
 
-def try_crate(settings, name, scratch, tell):
-    """Tries the mutations of a built crate. Returns the CPU seconds that its checks took."""
+def try_crate(settings, name, files, scratch, tell, is_chosen=lambda mutation: True):
+    """Tries the chosen mutations of files of a built crate. Returns the CPU seconds that its checks took."""
     copy = scratch / "crates" / name
     for part in ("src", "specs", "proofs"):
         shutil.copytree(settings.root / "crates" / name / part, copy / part)
     built, crate, mutations = Built(name), Crate(scratch, name), []
     crate.symbols = dict.fromkeys(built.symbols, "")
-    for text in (file.read_text(encoding="utf-8") for file in files_of(settings, name)):
-        for mutation, changes in mutations_of(text):
-            try:
-                mutations.append(placed(mutation, changes, crate))
-            except ValueError as fault:
-                tell(mutation, f"cannot be applied: {fault}")
+    for mutation, changes in (it for file in files for it in mutations_of(file.read_text(encoding="utf-8")) if is_chosen(it[0])):
+        try:
+            mutations.append(placed(mutation, changes, crate))
+        except ValueError as fault:
+            tell(mutation, f"cannot be applied: {fault}")
     checks = Checks(built, copy, scratch)
 
     def check(chosen, whole=False):
@@ -128,13 +130,19 @@ def try_crate(settings, name, scratch, tell):
 
 
 def arguments(asks):
-    asks.add_argument("crates", nargs="*", metavar="CRATE", help="default: every crate that has such mutations, except static libraries")
+    asks.add_argument("crates", nargs="*", metavar="CRATE", help="default: every library that has such mutations")
+    asks.add_argument("--changed", action="store_true", help="those whose record is stale or lacking; write their records")
 
 
 def run(settings, given):
     libraries.ROOT = str(settings.root)
     uses, static = libraries.listed()
-    names = given.crates or [name for name in settings.all_crates() if files_of(settings, name) and name not in static]
+    files = recorded_files if given.changed else files_of
+    is_library = lambda name: name not in static and (settings.root / "crates" / name / "src/lib.rt").is_file()  # noqa: E731
+    names = given.crates or [name for name in settings.all_crates() if files(settings, name) and is_library(name)]
+    sums = records.Sums(settings.root) if given.changed else None
+    writers = {name: records.Writer(settings, name, sums) for name in names if given.changed}
+    names = [name for name in names if not given.changed or writers[name].sums]
     lacking = [name for name in names if not libraries.are_built([*libraries.below(name, uses), name])]
     if lacking:
         print(f"mutants: not built: run rt lib in the folder of {', '.join(lacking)}", file=sys.stderr)
@@ -142,12 +150,19 @@ def run(settings, given):
     rejected, others = [], []
 
     def tried(name):
+        writer = writers.get(name)
+
         def tell(mutation, how):
-            (others if how.startswith(("NOT REJECTED", "cannot be applied")) else rejected).append(mutation)
+            is_other = how.startswith(("NOT REJECTED", "cannot be applied"))
+            (others if is_other else rejected).append(mutation)
             print(f"{name}/{mutation}: {how}", flush=True)
+            if writer and not is_other:
+                writer.add(mutation, how)
 
         with tempfile.TemporaryDirectory(prefix="rounds-") as scratch:
-            print(f"{name}: {try_crate(settings, name, Path(scratch), tell):.0f} CPU seconds", flush=True)
+            is_chosen = lambda mutation: not writer or mutation in writer.sums  # noqa: E731
+            seconds = try_crate(settings, name, files(settings, name), Path(scratch), tell, is_chosen)
+            print(f"{name}: {seconds:.0f} CPU seconds", flush=True)
 
     with ThreadPoolExecutor(int(os.environ.get("JOBS", "2"))) as pool:
         list(pool.map(tried, names))

@@ -11,9 +11,11 @@ from pathlib import Path
 sys.dont_write_bytecode = True
 sys.path[:0] = [str(Path(__file__).resolve().parents[2] / it) for it in ("tools/mutants", "tools/reader", "bin/lib")]
 import giving_up  # noqa: E402
+import records  # noqa: E402
 from judge import expected, name_of  # noqa: E402
 from mutation import Crate, camel, changed, give_kinds, in_turn, mutants_of  # noqa: E402
-from one_by_one import edits_of, functions_at, goals_in, Mutation, mutations_of, round_of, try_crate  # noqa: E402
+from edit_files import edits_of, mutations_of  # noqa: E402
+from one_by_one import functions_at, goals_in, Mutation, round_of, try_crate  # noqa: E402
 from operators import Operators  # noqa: E402
 from planting import narrow  # noqa: E402
 from rounds import are_apart, how_rejected, is_in_doubt, names_of, placed, try_rounds  # noqa: E402
@@ -377,10 +379,47 @@ class OneByOne(SmallCrate):
             return "logic=proved" if mutations[0].name == "second" else "error"
 
         with unittest.mock.patch("one_by_one.check_with", check):
-            try_crate(self.crate.folder, [EDITS, "# lost\nfile: src/lib.rt\nold: nowhere\nnew: x\n"], "", told.__setitem__)
+            try_crate(self.crate.folder, [EDITS, "# lost\nfile: src/lib.rt\nold: nowhere\nnew: x\n"], bool, told.__setitem__)
         self.assertEqual([told["first"], told["second"]], ["returns", "survives"])
         self.assertIn("occurs 0 times", told["lost"])
         self.assertTrue(told["outside"].startswith("cannot be applied"))
+
+
+class Records(SmallCrate):
+    """The checksum of what a verdict rests on, after changes of the crate."""
+
+    CHANGES = [("src/lib.rt", "if a < b { a }", "if a > b { a }")]
+
+    def sum_after(self, old, new):
+        """The checksum with one text in place of another."""
+        file = self.crate.folder / "src/lib.rt"
+        file.write_text(SOURCE.replace(old, new), encoding="utf-8")
+        return records.Sums(self.crate.folder.parents[1]).of("small", "larger", self.CHANGES)
+
+    def test_layout_comments_and_other_functions_do_not_count(self):
+        before = self.sum_after("", "")
+        for old, new in (("// a < b { is a comment", "// a"), ("(a: u8, b: u8)", "(\n    a: u8,\n    b: u8,\n)"), ("*= 2", "*= 3")):
+            self.assertEqual(self.sum_after(old, new), before, new)
+
+    def test_the_body_and_the_clauses_count(self):
+        before = self.sum_after("", "")
+        for old, new in (("else { b }", "else { a }"), ("result ≤ b", "result ≤ a")):
+            self.assertNotEqual(self.sum_after(old, new), before, new)
+
+    def test_definitions_count(self):
+        use = "ghost use Rattle.small.specs.Less.{Less};\n\n/// The smaller"
+        text = SOURCE.replace("/// The smaller", use).replace("result ≤ b", "Less result b")
+        specs, sums = self.crate.folder / "specs", []
+        specs.mkdir()
+        (self.crate.folder / "src/lib.rt").write_text(text, encoding="utf-8")
+        for body in ("a < b", "a ≤ b"):
+            (specs / "Less.antt").write_text(f"-- one less\nabbrev pub Less : ℕ → ℕ → Type 0\nLess a b = {body}\n", encoding="utf-8")
+            sums.append(records.Sums(self.crate.folder.parents[1]).of("small", "larger", self.CHANGES))
+        self.assertNotEqual(*sums)
+
+    def test_a_text_that_is_gone(self):
+        with self.assertRaises(ValueError):
+            self.sum_after("if a < b", "if b > a")
 
 
 ROUNDS = """\

@@ -2,12 +2,10 @@ mod ascii_char;
 mod classes;
 mod free_functions;
 mod kernels;
-mod of_ascii_base;
 mod range;
 
 ghost use Rattle.std.specs.Prelude.{IsTrue};
 
-use std::alloc::Global;
 use std::fmt::Debug;
 use std::process::Abort;
 
@@ -16,9 +14,4 @@ fn assert_same<T: PartialEq + Debug + Drop>(rt: &impl Abort, got: T, want: T, so
     ensures { IsTrue (T.eq got want) }
 {
     testing::compare(got, want, source).expect(rt, "got differs from want")
-}
-
-/// Fails the test if the `{:?}` output of `got` is not `want`.
-fn assert_shows<T: Debug>(rt: &impl Abort, alloc: Global, got: &T, want: &str) {
-    testing::compare_debug(alloc, got, want).expect(rt, "the output of {:?} differs")
 }

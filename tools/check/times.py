@@ -1,0 +1,149 @@
+"""What each task of the full check takes: CPU seconds, and seconds by the clock. A task's figures are the kernel's account of the
+processes that it started. Those of the proofs in one `rt ci` are read from /proc ten times a second while they run.
+
+The baseline times.txt has a line for each task: its name, its CPU seconds and its seconds by the clock, with tabs between. The
+last run is in times.new, which git leaves out. Machines differ, so a task is compared with the median of all tasks that ran."""
+import os
+import re
+import resource
+import statistics
+import threading
+import time
+from contextlib import contextmanager
+from pathlib import Path
+
+FOLDER = Path(__file__).resolve().parent
+BASELINE, LAST = FOLDER / "times.txt", FOLDER / "times.new"
+TICKS = os.sysconf("SC_CLK_TCK")
+# A task that takes less is not compared, and by how much a task may grow.
+SMALL, GROWN = 20, 1.5
+
+
+def of_children():
+    used = resource.getrusage(resource.RUSAGE_CHILDREN)
+    return used.ru_utime + used.ru_stime
+
+
+def read(path):
+    """The bytes of a file of /proc; none if its process has ended."""
+    try:
+        return Path(path).read_bytes()
+    except OSError:
+        return b""
+
+
+def task_of(words):
+    """What a command of the toolchain does: the proof of a crate or of its tests; nothing for another command."""
+    if "--crate-name" not in words[:-1] or not re.search(r"/rattle$", words[0]):
+        return ""
+    crate = words[words.index("--crate-name") + 1]
+    return f"the tests of {crate}" if "--test" in words else f"the proof of {crate}"
+
+
+class Watch(threading.Thread):
+    """Reads the times of the processes below this one until it is told to stop."""
+
+    def __init__(self):
+        super().__init__(daemon=True)
+        self.over, self.used, self.names, self.seen = threading.Event(), {}, {}, {}
+
+    def run(self):
+        while not self.over.wait(0.1):
+            self.look()
+
+    def look(self):
+        parents, used = {}, {}
+        for pid in filter(str.isdigit, os.listdir("/proc")):
+            _, found, rest = read(f"/proc/{pid}/stat").rpartition(b") ")
+            if found:
+                fields = rest.split()
+                # (a number can be given again: the time at which the process began tells two of them apart)
+                parents[pid], used[pid] = fields[1].decode(), (fields[19], (int(fields[11]) + int(fields[12])) / TICKS)
+        for pid, (begun, seconds) in used.items():
+            key = (pid, begun)
+            if key not in self.names:
+                words = read(f"/proc/{pid}/cmdline").decode(errors="replace").split("\0")
+                self.names[key] = task_of(words) if self.is_below(pid, parents) else ""
+            if self.names[key]:
+                now = time.monotonic()
+                self.used[key], self.seen[key] = seconds, (self.seen.get(key, (now,))[0], now)
+
+    def is_below(self, pid, parents):
+        while pid in parents and pid != "1":
+            pid = parents[pid]
+            if pid == str(os.getpid()):
+                return True
+        return False
+
+    def tasks(self):
+        """The tasks that were seen, with their CPU seconds and their seconds by the clock."""
+        found = {}
+        for key, seconds in self.used.items():
+            first, last = self.seen[key]
+            cpu, clock = found.get(self.names[key], (0, 0))
+            found[self.names[key]] = (cpu + seconds, clock + last - first)
+        return found
+
+
+class Times:
+    """The tasks of a run."""
+
+    def __init__(self):
+        self.tasks = {}
+
+    @contextmanager
+    def task(self, name, watched=False):
+        """Counts what a task takes; of a watched one, what each proof takes and what is left."""
+        watch, cpu, clock = Watch(), of_children(), time.monotonic()
+        if watched:
+            watch.start()
+        try:
+            yield
+        finally:
+            watch.over.set()
+            if watched:
+                watch.join()
+            cpu, clock = of_children() - cpu, time.monotonic() - clock
+            found = watch.tasks()
+            self.tasks |= found
+            self.tasks[name] = (max(0, cpu - sum(used for used, _ in found.values())), clock)
+
+    def end(self):
+        """Writes the figures, and returns them as lines with the tasks that grew."""
+        lines = [f"{name}\t{cpu:.0f}\t{clock:.0f}" for name, (cpu, clock) in self.tasks.items()]
+        LAST.write_text("".join(f"{line}\n" for line in lines), encoding="utf-8")
+        rows = sorted(self.tasks.items(), key=lambda it: -it[1][0])
+        shown = [f"{cpu:6.0f} {clock:6.0f}  {name}" for name, (cpu, clock) in rows]
+        total = sum(cpu for cpu, _ in self.tasks.values())
+        return ["CPU seconds, seconds by the clock:", *shown, f"{total:6.0f} CPU seconds in all", *grown(self.tasks, baseline())]
+
+
+def baseline():
+    """The figures in the repository."""
+    lines = [line.split("\t") for line in BASELINE.read_text(encoding="utf-8").splitlines()]
+    return {name: (float(cpu), float(clock)) for name, cpu, clock in lines}
+
+
+def grown(tasks, before):
+    """A line for each task that takes much more than before, by what this machine takes for all of them."""
+    both = [name for name in tasks if name in before and min(tasks[name][0], before[name][0]) >= 1]
+    if not both:
+        return []
+    machine = statistics.median(tasks[name][0] / before[name][0] for name in both)
+    found = [name for name in both if tasks[name][0] >= SMALL and tasks[name][0] > GROWN * machine * before[name][0]]
+    return [f"{name} takes {tasks[name][0] / machine / before[name][0]:.1f} times as long as in times.txt" for name in found]
+
+
+def in_code(name):
+    """The name of a task, with that of its crate as code."""
+    return re.sub(r"(^the (?:proof|tests) of )(\w+)$", r"\1`\2`", name)
+
+
+def table():
+    """The figures in the repository as a table of minutes, the tasks of less than half a minute as one."""
+    rows = sorted(baseline().items(), key=lambda it: -it[1][0])
+    large = [(name, cpu) for name, (cpu, _) in rows if cpu >= 30]
+    rest = sum(cpu for name, (cpu, _) in rows if cpu < 30)
+    total = sum(cpu for _, (cpu, _) in rows)
+    lines = [f"| {in_code(name)} | {cpu / 60:.1f} |" for name, cpu in large]
+    return ["| Task | CPU minutes |", "|---|--:|", *lines, f"| all others | {rest / 60:.1f} |", f"| together | {total / 60:.0f} |"]
