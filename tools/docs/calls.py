@@ -9,7 +9,6 @@ from functions import functions_of
 from items import Item
 from made import LIBRARIES, TOP, module_file, modules_of
 from sources import CRATES, bare, exported, of_trait_and_type, read
-from uses import Place
 
 # The crates in whose order a caller names what several of them have.
 IMPORTED_FROM = ["ascii", "ascii_lines", "ascii_run", "ascii_devices", "ascii_base", "cookbook", "ascii_c"]
@@ -150,24 +149,11 @@ def table():
             for call in calls:
                 names = call.tests if is_test else call.users
                 names += [function] if function not in names else []
-    for call, test in example_tests():
-        call.tests = [test, *(it for it in call.tests if it != test)]
     for crate in SHOWN:
         for mutation in mutations(crate):
             for call in {id(it): it for old, _ in mutation.edits for it in changed(crate, mutation.file, old)}.values():
                 call.mutations.append(mutation)
     return table_without_names()
-
-
-def example_tests():
-    """The test of the example of each call, which `bin/docs examples` makes: pairs of a call and a place."""
-    for file in sorted(CRATES.glob("tests_*/src/tests/of_*.rt")):
-        of_crate, crate, text = file.stem.removeprefix("of_"), file.relative_to(CRATES).parts[0], read(file)
-        for found in re.finditer(r"^// (.+)\n#\[test\]\nfn (\w+)", text, re.M):
-            place = Place(f"{crate}::{file.stem}::{found[2]}", str(file.relative_to(TOP)), text.count("\n", 0, found.end()) + 1)
-            for call in table_without_names():
-                if f"{call.key}::".startswith(f"{found[1]}::") and call.crate in (of_crate, "ascii", "ascii_base"):
-                    yield call, place
 
 
 # Mutations

@@ -2,13 +2,11 @@
 import re
 import sys
 from collections import Counter
-from functools import cache
 from html import escape
 from pathlib import Path
 
 import calls
 import examples
-from made import LIBRARIES, TOP, modules_of
 from meanings import words_in
 from owners import by_name, owners
 
