@@ -74,7 +74,11 @@ pub fn first_word<'a>(view: AsciiStr<'a>) -> Option<AsciiStr<'a>>
 
 /// The first word of a line, cut out by its place, which the step says is in the line; or `None` if
 /// the line has no word.
-pub fn first_word_by_place<'a>(line: AsciiStr<'a>) -> Option<AsciiStr<'a>> {
+pub fn first_word_by_place<'a>(line: AsciiStr<'a>) -> Option<AsciiStr<'a>>
+    ensures { MatchOption result (words_by is_whitespace (text_of line.entry) ≡ [])
+        (λ word. (rest : List (List ℕ))
+        × (words_by is_whitespace (text_of line.entry) ≡ text_of word ∷ rest)) }
+{
     let span = line.word_spans::<Whitespace>().next()?;
     Some(line.slice(AsciiRange::Range(span.start, span.start + span.text.len())))
 }
