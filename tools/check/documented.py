@@ -22,7 +22,7 @@ FAILED = re.compile(r"^test (\S+) \.\.\. FAILED\n((?:[ \t].*\n)*)", re.M)
 VERDICT = re.compile(r"^fn (\S+): (.*)", re.M)
 
 
-def made(top, is_proved=False):
+def made(top, is_proved=False, only=""):
     """Makes the crate, with the sources of the libraries beside it. Returns its folder and the number of examples."""
     uses, _ = libraries.listed()
     used = [*LIBRARIES, *BESIDE]
@@ -34,7 +34,7 @@ def made(top, is_proved=False):
     (top / "crates.txt").write_text("".join([*lines, f"{NAME}: {' '.join(used)}\n"]), encoding="utf-8")
     shutil.copy(TOP / "HANDLES", top / "HANDLES")
     folder = top / "crates" / NAME
-    return folder, examples.write_crate(folder, is_proved)
+    return folder, examples.write_crate(folder, is_proved, only)
 
 
 def said_by(command, folder):
@@ -42,10 +42,10 @@ def said_by(command, folder):
     return ran.returncode, ran.stdout + ran.stderr
 
 
-def run():
-    """Runs all examples, unproved. Returns how many passed, and what each other one said."""
+def run(only=""):
+    """Runs all examples, or those of one library, unproved. Returns how many passed, and what each other one said."""
     with tempfile.TemporaryDirectory() as scratch:
-        folder, count = made(Path(scratch))
+        folder, count = made(Path(scratch), only=only)
         status, said = said_by(["rt", "try", "--test", "--seconds", "600"], folder)
     failed = {name.removeprefix("tests::"): text.strip() for name, text in FAILED.findall(said)}
     counts = TESTED.search(said)

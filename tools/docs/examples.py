@@ -232,13 +232,13 @@ def examples_by_crate():
         yield crate, [(name, *pair) for name, pair in zip(names, pairs)]
 
 
-def write_crate(folder, is_proved=False):
-    """Writes the sources of a crate with the tests: all of them, or those that are to be proved, since they name a call that
-    may have a condition. Returns how many there are."""
+def write_crate(folder, is_proved=False, only=""):
+    """Writes the sources of a crate with the tests: all of them, or those of one library; or those that are to be proved, since
+    they name a call that may have a condition. Returns how many there are."""
     conditions, count, modules = with_a_condition(), 0, ""
     (folder / "src/tests").mkdir(parents=True)
     for crate, own in examples_by_crate():
-        chosen = [it for it in own if not is_proved or may_have_a_condition(it[2], conditions)]
+        chosen = [it for it in own if only in ("", crate) and (not is_proved or may_have_a_condition(it[2], conditions))]
         text = "\n".join(tests(crate, chosen, is_proved)) + "\n"
         (folder / f"src/tests/of_{crate}.rt").write_text(text, encoding="utf-8")
         modules, count = f"{modules}mod of_{crate};\n", count + len(chosen)

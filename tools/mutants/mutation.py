@@ -99,7 +99,13 @@ class Crate:
                 s for s in found if name.startswith(s.split("::")[-2])
             ]
         else:
-            found = [s for s in found if s.split("::")[-2] == re.match(r"\w*", owner or head)[0]]
+            of_type = owner or head
+            whole = "+".join(re.findall(r"\b[A-Za-z]\w*", re.sub(r"'\w+", "", of_type)))
+            here = [s for s in found if s.split("::")[1:-2] == module]
+            # An impl for some types of a parameter has these in its name, and that of an alias has the name of its type.
+            found = (
+                [s for s in found if s.split("::")[-2] == re.match(r"\w*", of_type)[0]] or [s for s in here if s.split("::")[-2] == whole] or here
+            )
         return found[0] if len(found) == 1 else None
 
     def proofs_of(self, symbol):
