@@ -14,16 +14,25 @@ pub struct Step {
     pub end: usize,
 }
 
-/// How a reader or a writer behaves: the most bytes that a call moves, and the call that fails.
+/// How a reader or a writer behaves: the most bytes that a call moves, the call that fails, the call that moves no
+/// byte, and the number of the error.
 #[repr(C)]
 #[derive(Clone, Copy, Debug)]
 pub struct Device {
     pub most: usize,
     pub fails: u64,
+    pub empty: u64,
+    pub error: u8,
 }
 
 /// A device that moves all that fits, and does not fail.
-pub const WHOLE: Device = Device { most: usize::MAX, fails: u64::MAX };
+pub const WHOLE: Device = Device { most: usize::MAX, fails: u64::MAX, empty: u64::MAX, error: INTERRUPTED };
+
+/// The number of the error that a device is most likely to pass over.
+const INTERRUPTED: u8 = 35;
+
+/// How many kinds of error a device can name.
+pub const ERRORS: u8 = 41;
 
 /// Declares calls, each as a function that asks a question.
 macro_rules! calls {
@@ -88,6 +97,8 @@ calls! {
     fn ask_carets(codes: &[u8]);
     fn ask_slices(form: u8, start: usize, end: usize, source: &[u8]);
     fn ask_slice_mut(form: u8, start: usize, end: usize, code: u8, source: &mut [u8]);
+    fn ask_views(source: &[u8]);
+    fn ask_view_mut(source: &mut [u8]);
     fn ask_position(at: usize, source: &[u8]);
     fn ask_kernels(source: &[u8]);
     fn ask_case_in_place(to_upper: bool, source: &mut [u8]);
@@ -134,6 +145,26 @@ calls! {
     fn ask_conversation(source: &[u8], size: usize, reads: &Device, writes: &Device);
     fn ask_engine(mode: u8, script: &[u8], source: &[u8], reads: &Device, writes: &Device);
     fn ask_bounded_engine(mode: u8, source: &[u8], reads: &Device, writes: &Device);
+    fn ask_engine_runs(
+        mode: u8,
+        script: &[u8],
+        texts: &[u8],
+        edits: &[Step],
+        source: &[u8],
+        reads: &Device,
+        writes: &Device
+    );
+    fn ask_mode_names(word: &[u8]);
+    fn ask_device_calls(
+        tells_errors: bool,
+        source: &[u8],
+        texts: &[u8],
+        steps: &[Step],
+        reads: &[Step],
+        writes: &[Step]
+    );
+    fn ask_buffered(size: usize, texts: &[u8], steps: &[Step], plan: &[Step]);
+    fn ask_served(endings: u8, size: usize, source: &[u8], reads: &Device, writes: &Device);
     fn ask_header(source: &[u8]);
     fn ask_headers(name: &[u8], block: &[u8]);
     fn ask_hosts(first: &[u8], second: &[u8]);

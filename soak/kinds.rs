@@ -1,18 +1,18 @@
 //! The kinds of questions.
 
 mod characters;
-mod conversions;
-mod edits;
-mod engines;
-mod lines;
-mod prints;
+pub mod conversions;
+pub mod edits;
+pub mod engines;
+pub mod lines;
+pub mod prints;
 mod recipes;
 mod searches;
-mod slices;
-mod texts;
+pub mod slices;
+pub mod texts;
 #[cfg(upstream)]
 mod upstream;
-mod walks;
+pub mod walks;
 mod words;
 
 use crate::asked::Asked;
@@ -65,6 +65,7 @@ pub static KINDS: &[Kind] = &[
     kind("pairs of characters", characters::pairs),
     kind("caret notation", characters::carets),
     long("classes, their runs and words", 2, words::class),
+    kind("views", slices::views),
     kind("slices", slices::parts),
     kind("mutable slices", slices::part_mut),
     kind("positions", slices::position),

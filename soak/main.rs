@@ -12,6 +12,7 @@
 mod asked;
 mod calls;
 mod kinds;
+mod line_model;
 mod random;
 
 use asked::Asked;

@@ -5,25 +5,34 @@ use crate::asked::{Answer, Asked};
 use crate::calls;
 use crate::random::Random;
 
-/// The text, or the position of the error.
-fn conversion(source: &[u8], want: &mut Answer) {
-    match non_ascii(source) {
-        Some(at) => want.number(at),
-        None => want.text(source),
-    }
+pub fn all(random: &mut Random, asked: &mut Asked) {
+    ask_all(&source(random), asked);
 }
 
-pub fn all(random: &mut Random, asked: &mut Asked) {
-    let source = source(random);
-    calls::ask_conversions(asked, &source);
-    let times = if std::str::from_utf8(&source).is_ok() { 4 } else { 2 };
-    (0..times).for_each(|_| conversion(&source, &mut asked.want));
+/// A copy and an owned source are each the text, or the position of the error; an owned source is then returned.
+pub fn ask_all(source: &[u8], asked: &mut Asked) {
+    calls::ask_conversions(asked, source);
+    let times = if std::str::from_utf8(source).is_ok() { 2 } else { 1 };
+    for _ in 0..times {
+        match non_ascii(source) {
+            Some(at) => {
+                asked.want.number(at);
+                asked.want.number(at);
+                asked.want.text(source);
+            }
+            None => (0..2).for_each(|_| asked.want.text(source)),
+        }
+    }
 }
 
 pub fn round_trips(random: &mut Random, asked: &mut Asked) {
     let text = random.text();
-    calls::ask_round_trips(asked, &text);
-    (0..4).for_each(|_| asked.want.text(&text));
+    ask_round_trips(&text, asked);
+}
+
+pub fn ask_round_trips(text: &[u8], asked: &mut Asked) {
+    calls::ask_round_trips(asked, text);
+    (0..5).for_each(|_| asked.want.text(&text));
 }
 
 /// Whether a piece is appended, and the text after that, some times.
@@ -39,9 +48,12 @@ fn appended(mut text: Vec<u8>, piece: &[u8], times: usize, want: &mut Answer) {
 }
 
 pub fn written(random: &mut Random, asked: &mut Asked) {
-    let (text, piece) = (random.text(), random.unicode());
-    calls::ask_written(asked, &text, &piece);
-    appended(text, &piece, 2, &mut asked.want);
+    ask_written(&random.text(), &random.unicode(), asked);
+}
+
+pub fn ask_written(text: &[u8], piece: &[u8], asked: &mut Asked) {
+    calls::ask_written(asked, text, piece);
+    appended(text.to_vec(), piece, 2, &mut asked.want);
 }
 
 /// A character of ASCII or of a length of 1 to 4 bytes.

@@ -14,13 +14,13 @@ pub struct Commands {
 
 impl Commands {
     /// Adds a command that takes a text.
-    fn add_text(&mut self, kind: u8, at: usize, text: &[u8]) {
+    pub fn add_text(&mut self, kind: u8, at: usize, text: &[u8]) {
         let start = self.texts.len();
         self.texts.extend(text);
         self.steps.push(Step { kind, at, start, end: self.texts.len(), ..Step::default() });
     }
 
-    fn add(&mut self, kind: u8, at: usize, code: u8) {
+    pub fn add(&mut self, kind: u8, at: usize, code: u8) {
         self.steps.push(Step { kind, at, code, ..Step::default() });
     }
 }
@@ -44,8 +44,14 @@ pub fn small(random: &mut Random, asked: &mut Asked) {
 
 fn edits(is_small: bool, random: &mut Random, asked: &mut Asked) {
     let source = random.text();
+    let count = random.count(24);
+    ask_edits(is_small, source, count, random, asked);
+}
+
+/// Asks for a number of commands over a text.
+pub fn ask_edits(is_small: bool, source: Vec<u8>, count: usize, random: &mut Random, asked: &mut Asked) {
     let (mut text, mut commands, mut want) = (source.clone(), Commands::default(), Answer::default());
-    for _ in 0..random.count(24) {
+    for _ in 0..count {
         match random.below(4) {
             0 => grow(random, &mut text, &mut commands, &mut want),
             1 => insert(random, &mut text, &mut commands, &mut want),

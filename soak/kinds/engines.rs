@@ -49,7 +49,7 @@ fn ends(text: &[u8], script: &[u8], with_starts: bool) -> Vec<u8> {
 }
 
 /// The output of a mode of the engine, by its number, over a text.
-fn output(mode: usize, text: &[u8], script: &[u8]) -> Vec<u8> {
+pub fn output(mode: usize, text: &[u8], script: &[u8]) -> Vec<u8> {
     match mode {
         0 => text.to_vec(),
         1 => bodies(text, false),
@@ -62,7 +62,7 @@ fn output(mode: usize, text: &[u8], script: &[u8]) -> Vec<u8> {
 }
 
 /// What the engine is expected to return, and to write.
-fn expect(mode: usize, source: &[u8], script: &[u8], want: &mut Answer) {
+pub fn expect(mode: usize, source: &[u8], script: &[u8], want: &mut Answer) {
     match non_ascii(source) {
         Some(at) => {
             want.fault("ascii", at);
@@ -83,14 +83,14 @@ pub fn engine(random: &mut Random, asked: &mut Asked) {
 }
 
 /// The number of modes of the bounded engine. The last two take all bytes.
-const BOUNDED: usize = 8;
+pub const BOUNDED: usize = 8;
 
 fn takes_all(mode: usize) -> bool {
     mode >= 6
 }
 
 /// What a mode of the bounded engine has written when an error ends its input, or at the end.
-fn bounded_output(mode: usize, text: &[u8], is_whole: bool) -> Vec<u8> {
+pub fn bounded_output(mode: usize, text: &[u8], is_whole: bool) -> Vec<u8> {
     match mode {
         0 => text.to_vec(),
         2 => caret(text),
@@ -105,17 +105,20 @@ fn bounded_output(mode: usize, text: &[u8], is_whole: bool) -> Vec<u8> {
     }
 }
 
-fn expect_bounded(mode: usize, source: &[u8], want: &mut Answer) {
-    match non_ascii(source).filter(|_| !takes_all(mode)) {
-        Some(at) => {
-            want.fault("ascii", at);
-            want.text(bounded_output(mode, &source[..at], false));
-        }
-        None => {
-            want.text("done");
-            want.text(bounded_output(mode, source, true));
-        }
+pub fn expect_bounded(mode: usize, source: &[u8], want: &mut Answer) {
+    let at = non_ascii(source).filter(|_| !takes_all(mode));
+    match at {
+        Some(at) => want.fault("ascii", at),
+        None => want.text("done"),
     }
+    put_failures(0, 0, want);
+    want.text(bounded_output(mode, &source[..at.unwrap_or(source.len())], at.is_none()));
+}
+
+/// How many reads and writes have failed.
+pub fn put_failures(reads: usize, writes: usize, want: &mut Answer) {
+    want.number(reads);
+    want.number(writes);
 }
 
 pub fn bounded(random: &mut Random, asked: &mut Asked) {
@@ -133,7 +136,7 @@ pub fn failing(random: &mut Random, asked: &mut Asked) {
     let mode = random.below(if is_bounded { BOUNDED } else { 7 });
     let source = if is_bounded && takes_all(mode) { random.bytes() } else { random.text() };
     let is_read = random.below(2) == 0;
-    let device = Device { most: 1 + random.below(8), fails: random.below(source.len() + 4) as u64 };
+    let device = Device { most: 1 + random.below(8), fails: random.below(source.len() + 4) as u64, ..WHOLE };
     let (reads, writes) = if is_read { (device, WHOLE) } else { (WHOLE, device) };
     if is_bounded {
         calls::ask_bounded_engine(asked, mode as u8, &source, &reads, &writes);
@@ -152,6 +155,9 @@ pub fn failing(random: &mut Random, asked: &mut Asked) {
     }
     asked.want = Answer::default();
     asked.want.text(if is_read { "read" } else { "write" });
+    if is_bounded {
+        put_failures(usize::from(is_read), usize::from(!is_read), &mut asked.want);
+    }
     if is_read && is_bounded {
         let given = source.len().min(device.most.saturating_mul(device.fails as usize));
         asked.want.text(bounded_output(mode, &source[..given], false));

@@ -1,147 +1,9 @@
 //! Lines that are read and written, by plain loops.
 
-use super::slices::non_ascii;
 use crate::asked::{items_of, Answer, Asked, Item};
 use crate::calls::{self, Device, Step, WHOLE};
+use crate::line_model::{put_line, put_stop, Model};
 use crate::random::Random;
-
-/// Why a reader returns no line: `None` at the end, or an error and its position.
-type Stop = Option<(&'static str, Option<usize>)>;
-
-/// A reader by a plain loop over the bytes of its source. It fails before the byte at `fails`.
-struct Model<'a> {
-    source: &'a [u8],
-    size: usize,
-    fails: usize,
-    start: usize,
-    /// 0 for any ending, 1 for CR LF, 2 for CR LF alone.
-    endings: u8,
-    has_ended: bool,
-    error: Option<Stop>,
-}
-
-impl<'a> Model<'a> {
-    fn new(source: &'a [u8], size: usize) -> Model<'a> {
-        Model { source, size, fails: usize::MAX, start: 0, endings: 0, has_ended: false, error: None }
-    }
-
-    /// The next line: its start, its body and its ending.
-    fn next_line(&mut self) -> Result<(usize, &'a [u8], &'static str), Stop> {
-        self.next(true)
-    }
-
-    /// The next line, which is ASCII or may have any bytes.
-    fn next(&mut self, is_ascii: bool) -> Result<(usize, &'a [u8], &'static str), Stop> {
-        if let Some(error) = self.error {
-            return Err(error);
-        }
-        if self.has_ended {
-            return Err(None);
-        }
-        match self.line_at(is_ascii) {
-            Ok((body, ending, next)) => {
-                let start = std::mem::replace(&mut self.start, next);
-                self.has_ended = ending == "none";
-                Ok((start, body, ending))
-            }
-            Err(None) => {
-                self.has_ended = true;
-                Err(None)
-            }
-            Err(error) => {
-                self.error = Some(error);
-                Err(error)
-            }
-        }
-    }
-
-    /// Goes through the bytes once, so the first byte that shows a fault decides.
-    fn line_at(&self, is_ascii: bool) -> Result<(&'a [u8], &'static str, usize), Stop> {
-        let (start, is_strict) = (self.start, self.endings == 2);
-        let rest = &self.source[start..];
-        let mut follows_cr = false;
-        for (at, byte) in rest.iter().enumerate() {
-            let place = start + at;
-            match byte {
-                _ if place == self.fails => return Err(Some(("read", None))),
-                _ if at == self.size => return Err(Some(("long", Some(start)))),
-                128.. if is_ascii => return Err(Some(("ascii", Some(place)))),
-                b'\n' if follows_cr => return Ok((&rest[..at - 1], "crlf", place + 1)),
-                b'\n' if self.endings == 0 => return Ok((&rest[..at], "lf", place + 1)),
-                b'\n' if is_strict => return Err(Some(("lone", Some(place)))),
-                _ if is_strict && follows_cr => return Err(Some(("lone", Some(place - 1)))),
-                _ => follows_cr = *byte == b'\r',
-            }
-        }
-        match rest.last() {
-            _ if self.source.len() == self.fails => Err(Some(("read", None))),
-            None => Err(None),
-            Some(_) if is_strict && follows_cr => Err(Some(("lone", Some(self.source.len() - 1)))),
-            Some(_) => Ok((rest, "none", self.source.len())),
-        }
-    }
-
-    /// The next `n` bytes with their start.
-    fn part(&mut self, n: usize) -> Result<(usize, &'a [u8]), Stop> {
-        if let Some(error) = self.error {
-            return Err(error);
-        }
-        if self.has_ended {
-            return Err(Some(("incomplete", Some(0))));
-        }
-        let (start, source) = (self.start, self.source);
-        let part = &source[start..source.len().min(start.saturating_add(n))];
-        let known = &part[..part.len().min(self.fails - start)];
-        let error = match non_ascii(known) {
-            _ if n > self.size => ("long", Some(start)),
-            Some(at) => ("ascii", Some(start + at)),
-            None if known.len() < part.len() => ("read", None),
-            None if part.len() < n && self.fails == source.len() => ("read", None),
-            None if part.len() < n => ("incomplete", Some(part.len())),
-            None => {
-                self.start += n;
-                return Ok((start, part));
-            }
-        };
-        self.error = Some(Some(error));
-        Err(Some(error))
-    }
-}
-
-fn put_stop(stop: Stop, want: &mut Answer) {
-    match stop {
-        None => want.none(),
-        Some((name, None)) => want.text(name),
-        Some((name, Some(position))) => want.fault(name, position),
-    }
-}
-
-fn put_line(line: Result<(usize, &[u8], &'static str), Stop>, want: &mut Answer) {
-    match line {
-        Ok((start, body, ending)) => {
-            want.number(start);
-            want.text(body);
-            want.text(ending);
-        }
-        Err(stop) => put_stop(stop, want),
-    }
-}
-
-/// A line with its body as text, or the position of its first byte that is not ASCII.
-fn put_line_of_bytes(line: Result<(usize, &[u8], &'static str), Stop>, want: &mut Answer) {
-    match line {
-        Ok((start, body, ending)) => {
-            want.number(start);
-            want.text(body);
-            match non_ascii(body) {
-                Some(at) => want.fault("ascii", start + at),
-                None => want.text(body),
-            }
-            want.text(ending);
-        }
-        Err(stop) => put_stop(stop, want),
-    }
-}
 
 /// A source of lines whose bodies are up to 300 codes, and a buffer.
 fn source_and_size(random: &mut Random) -> (Vec<u8>, usize) {
@@ -170,33 +32,39 @@ pub fn slow(random: &mut Random) -> Device {
     Device { most, ..WHOLE }
 }
 
-/// Asks for lines to the end and beyond.
-fn ask_lines(source: &[u8], size: usize, endings: u8, device: Device, asked: &mut Asked) {
+/// Asks a reader for steps, and expects what the model answers to them. The model knows the number of calls if each
+/// gives one byte.
+pub fn ask_steps(model: &mut Model<'_>, source: &[u8], size: usize, device: Device, steps: &[Step], asked: &mut Asked) {
+    calls::ask_reader(asked, source, size, &device, steps);
+    model.run(steps, &mut asked.want);
+    let calls = asked.got().last_chunk().map_or(0, |calls| u64::from_le_bytes(*calls) as usize);
+    asked.want.number(if device.most == 1 { model.calls } else { calls });
+}
+
+/// Asks for lines to the end and beyond, as text or as bytes.
+pub fn ask_lines(source: &[u8], size: usize, endings: u8, device: Device, is_ascii: bool, asked: &mut Asked) {
     let lines = source.iter().filter(|byte| **byte == b'\n').count() + 4;
-    let next = Step::default();
+    let next = Step { kind: if is_ascii { 0 } else { 5 }, ..Step::default() };
     let steps: Vec<Step> =
         [Step { kind: 1 + endings, ..next }].into_iter().chain(std::iter::repeat_n(next, lines)).collect();
-    calls::ask_reader(asked, source, size, &device, &steps);
-    let mut model = Model { endings, ..Model::new(source, size) };
-    asked.want.number(0);
-    for _ in 0..lines {
-        put_line(model.next_line(), &mut asked.want);
-        asked.want.number(model.start);
-    }
+    ask_steps(&mut Model::new(source, size), source, size, device, &steps, asked);
 }
 
 pub fn reader(random: &mut Random, asked: &mut Asked) {
     let (source, size) = source_and_size(random);
-    let (endings, device) = (random.below(3) as u8, slow(random));
-    ask_lines(&source, size, endings, device, asked);
+    let (endings, device, is_ascii) = (random.below(3) as u8, slow(random), random.below(2) == 0);
+    ask_lines(&source, size, endings, device, is_ascii, asked);
 }
 
-/// Lines, parts and endings in any order, also after an error.
-fn mixed_steps(random: &mut Random, size: usize) -> Vec<Step> {
-    let step = |random: &mut Random| match random.below(8) {
+/// Lines, parts, endings, skipped lines and tests of what is held, in any order, also after an error. What is held is
+/// known if each call of the source gives one byte.
+fn mixed_steps(random: &mut Random, size: usize, most: usize) -> Vec<Step> {
+    let step = |random: &mut Random| match random.below(if most == 1 { 10 } else { 9 }) {
         0 => Step { kind: 1 + random.below(3) as u8, ..Step::default() },
         1 | 2 => Step { kind: 4, at: random.part_length(size), ..Step::default() },
         3 | 4 => Step { kind: 5, ..Step::default() },
+        5 => Step { kind: 6, at: random.part_length(size), ..Step::default() },
+        9 => Step { kind: 7 + random.below(2) as u8, at: random.below(3), ..Step::default() },
         _ => Step::default(),
     };
     (0..1 + random.count(12)).map(|_| step(random)).collect()
@@ -213,44 +81,30 @@ impl Random {
     }
 }
 
-fn run_steps(model: &mut Model<'_>, steps: &[Step], want: &mut Answer) {
-    for step in steps {
-        match step.kind {
-            0 => put_line(model.next_line(), want),
-            4 => match model.part(step.at) {
-                Ok((start, part)) => {
-                    want.number(start);
-                    want.text(part);
-                }
-                Err(stop) => put_stop(stop, want),
-            },
-            5 => put_line_of_bytes(model.next(false), want),
-            kind => model.endings = kind - 1,
-        }
-        want.number(model.start);
-    }
-}
-
 pub fn steps(random: &mut Random, asked: &mut Asked) {
     let (source, size) = source_and_size(random);
-    let (steps, device) = (mixed_steps(random, size), slow(random));
-    calls::ask_reader(asked, &source, size, &device, &steps);
-    run_steps(&mut Model::new(&source, size), &steps, &mut asked.want);
+    let device = slow(random);
+    let steps = mixed_steps(random, size, device.most);
+    ask_steps(&mut Model::new(&source, size), &source, size, device, &steps, asked);
 }
 
 /// A source that gives one byte a call fails before the byte whose number the call has.
 pub fn failing_reader(random: &mut Random, asked: &mut Asked) {
     let (source, size) = source_and_size(random);
-    let (steps, fails) = (mixed_steps(random, size), random.place(source.len()));
-    calls::ask_reader(asked, &source, size, &Device { most: 1, fails: fails as u64 }, &steps);
-    run_steps(&mut Model { fails, ..Model::new(&source, size) }, &steps, &mut asked.want);
+    let (steps, fails) = (mixed_steps(random, size, 1), random.place(source.len()));
+    let device = Device { most: 1, fails: fails as u64, ..WHOLE };
+    ask_steps(&mut Model::failing(&source, size, fails), &source, size, device, &steps, asked);
 }
 
 pub fn collected(random: &mut Random, asked: &mut Asked) {
     let (source, size) = source_and_size(random);
     let device = slow(random);
-    calls::ask_collected_lines(asked, &source, size, &device);
-    let mut model = Model::new(&source, size);
+    ask_collected(&mut Model::new(&source, size), &source, size, device, asked);
+}
+
+/// Asks for the lines up to the end or the first error.
+pub fn ask_collected(model: &mut Model<'_>, source: &[u8], size: usize, device: Device, asked: &mut Asked) {
+    calls::ask_collected_lines(asked, source, size, &device);
     loop {
         let line = model.next_line();
         put_line(line, &mut asked.want);
@@ -298,7 +152,19 @@ pub fn written(random: &mut Random, asked: &mut Asked) {
     let (size, device) = (random.size(texts.len()), slow(random));
     calls::ask_writer(asked, &texts, size, &device, &steps);
     answers.iter().for_each(|answer| asked.want.bytes.extend(&answer.bytes));
+    // A sink that takes one byte a call has a call for each byte, and for each flush.
+    let flushes = steps.iter().filter(|step| step.kind == 3).count();
+    let calls = if device.most == 1 { sent.len() + flushes } else { calls_of_sink(asked) };
+    asked.want.number(calls);
     asked.want.text(sent);
+}
+
+/// The number of calls that `ask_writer` has answered.
+fn calls_of_sink(asked: &Asked) -> usize {
+    match items_of(asked.got()).iter().nth_back(1) {
+        Some(Item::Number(calls)) => *calls as usize,
+        _ => 0,
+    }
 }
 
 /// A sink fails at a call. Up to some step all is as if it did not; from then on each step is answered with the error,
@@ -307,8 +173,9 @@ pub fn failing_writer(random: &mut Random, asked: &mut Asked) {
     let (texts, steps, answers, sent) = lines_to_write(random);
     let (size, most) = (random.size(texts.len()), 1 + random.below(3));
     let fails = random.below(sent.len() + 3);
-    calls::ask_writer(asked, &texts, size, &Device { most, fails: fails as u64 }, &steps);
+    calls::ask_writer(asked, &texts, size, &Device { most, fails: fails as u64, ..WHOLE }, &steps);
     let Some(Item::Text(taken)) = items_of(asked.got()).pop() else { return };
+    let calls = calls_of_sink(asked);
     let mut write = Answer::default();
     write.text("write");
     for failed in 0..=answers.len() {
@@ -319,8 +186,10 @@ pub fn failing_writer(random: &mut Random, asked: &mut Asked) {
         let may_take = if failed < answers.len() {
             sent.starts_with(&taken) && taken.len() <= most * fails
         } else {
-            sent == taken && sent.len().div_ceil(most) < fails
+            sent == taken && sent.len().div_ceil(most) < fails && calls <= fails
         };
+        // After the call that fails there is none.
+        asked.want.number(if failed < answers.len() { fails + 1 } else { calls });
         asked.want.text(if may_take { &taken } else { &b"another prefix"[..] });
         if !asked.differs() {
             return;
@@ -404,5 +273,5 @@ pub fn long_inputs(random: &mut Random, asked: &mut Asked) {
     let size = *random.pick(&[32_768, 65_535, 65_536, 65_537, 131_072, 131_073, 1 << 20]);
     let (endings, device) =
         (random.below(3) as u8, if random.below(2) == 0 { WHOLE } else { Device { most: 4093, ..WHOLE } });
-    ask_lines(&source, size, endings, device, asked);
+    ask_lines(&source, size, endings, device, true, asked);
 }

@@ -2,13 +2,13 @@
 
 use super::characters::codes;
 use super::string;
-use crate::asked::{Answer, Asked};
+use crate::asked::Asked;
 use crate::calls;
 use crate::random::Random;
 use std::fmt::{Debug, Display};
 
 /// The number of forms.
-pub const FORMS: usize = 11;
+pub const FORMS: usize = 12;
 
 /// A value in one of the forms of `print` in `crates/exports/src/prints.rt`.
 pub fn printed<T: Display + Debug + ?Sized>(form: usize, value: &T) -> String {
@@ -23,14 +23,19 @@ pub fn printed<T: Display + Debug + ?Sized>(form: usize, value: &T) -> String {
         7 => format!("{value:.0}"),
         8 => format!("{value:10.3}"),
         9 => format!("{value:->12.40}"),
+        10 => format!("{value:>5}"),
         _ => format!("{value:^1}"),
     }
 }
 
 pub fn texts(random: &mut Random, asked: &mut Asked) {
     let (form, text) = (random.below(FORMS), random.text());
-    calls::ask_printed(asked, form as u8, &text);
-    let printed = printed(form, string(text).as_str());
+    ask_printed(form, &string(text), asked);
+}
+
+pub fn ask_printed(form: usize, text: &str, asked: &mut Asked) {
+    calls::ask_printed(asked, form as u8, text.as_bytes());
+    let printed = printed(form, text);
     (0..4).for_each(|_| asked.want.text(&printed));
 }
 
@@ -64,9 +69,11 @@ pub fn quoted(bytes: &[u8]) -> Vec<u8> {
 }
 
 pub fn json(random: &mut Random, asked: &mut Asked) {
-    let text = random.text();
-    calls::ask_json(asked, &text);
-    let want: &mut Answer = &mut asked.want;
-    want.text(quoted(&text));
-    want.text(&text);
+    ask_json(&random.text(), asked);
+}
+
+pub fn ask_json(text: &[u8], asked: &mut Asked) {
+    calls::ask_json(asked, text);
+    asked.want.text(quoted(text));
+    asked.want.text(text);
 }

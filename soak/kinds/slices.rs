@@ -1,6 +1,6 @@
 //! Parts of bytes, texts and views, by std's `get`.
 
-use crate::asked::Asked;
+use crate::asked::{Answer, Asked};
 use crate::calls;
 use crate::random::Random;
 
@@ -29,23 +29,49 @@ pub fn source(random: &mut Random) -> Vec<u8> {
     }
 }
 
+/// The view of a source, or the position of the error.
+pub fn views(random: &mut Random, asked: &mut Asked) {
+    ask_views(&mut source(random), asked);
+}
+
+pub fn ask_views(source: &mut [u8], asked: &mut Asked) {
+    calls::ask_views(asked, source);
+    let times = if std::str::from_utf8(source).is_ok() { 4 } else { 2 };
+    (0..times).for_each(|_| part_of(source, Some((0, source.len())), &mut asked.want));
+    let mut want = source.to_vec();
+    if source.is_ascii() {
+        want.make_ascii_uppercase();
+    }
+    calls::ask_view_mut(asked, source);
+    part_of(&want, Some((0, want.len())), &mut asked.want);
+    asked.compare(source, &want);
+}
+
+/// The part of a source with these bounds, if they fit, or the position of the error.
+fn part_of(source: &[u8], bounds: Option<(usize, usize)>, want: &mut Answer) {
+    match bounds {
+        None => want.number(source.len()),
+        Some((start, end)) => match non_ascii(&source[start..end]) {
+            Some(at) => want.number(start + at),
+            None => want.text(&source[start..end]),
+        },
+    }
+}
+
 pub fn parts(random: &mut Random, asked: &mut Asked) {
     let (form, source) = (random.below(6), source(random));
     let (a, b) = random.places(source.len());
-    calls::ask_slices(asked, form as u8, a, b, &source);
+    ask_parts(form, a, b, &source, asked);
+}
+
+/// The part in a range of one of the six forms.
+pub fn ask_parts(form: usize, a: usize, b: usize, source: &[u8], asked: &mut Asked) {
+    calls::ask_slices(asked, form as u8, a, b, source);
     let bounds = bounds(form, a, b, source.len());
     // As bytes, as a `str`, as a view, and as a view that is known to have the part.
     let ascii = source.is_ascii();
-    let times = 1 + usize::from(std::str::from_utf8(&source).is_ok()) + usize::from(ascii);
-    for _ in 0..times + usize::from(ascii && bounds.is_some()) {
-        match bounds {
-            None => asked.want.number(source.len()),
-            Some((start, end)) => match non_ascii(&source[start..end]) {
-                Some(at) => asked.want.number(start + at),
-                None => asked.want.text(&source[start..end]),
-            },
-        }
-    }
+    let times = 1 + usize::from(std::str::from_utf8(source).is_ok()) + usize::from(ascii);
+    (0..times + usize::from(ascii && bounds.is_some())).for_each(|_| part_of(source, bounds, &mut asked.want));
 }
 
 pub fn part_mut(random: &mut Random, asked: &mut Asked) {
@@ -73,12 +99,16 @@ pub fn part_mut(random: &mut Random, asked: &mut Asked) {
 
 pub fn position(random: &mut Random, asked: &mut Asked) {
     let source = source(random);
-    let at = random.place(source.len());
-    calls::ask_position(asked, at, &source);
+    ask_position(random.place(source.len()), &source, asked);
+}
+
+/// The character at a position.
+pub fn ask_position(at: usize, source: &[u8], asked: &mut Asked) {
+    calls::ask_position(asked, at, source);
     let code = |byte: Option<&u8>| byte.filter(|byte| byte.is_ascii()).map(|byte| usize::from(*byte));
     let want = &mut asked.want;
     want.position(code(source.get(at)));
-    if std::str::from_utf8(&source).is_ok() {
+    if std::str::from_utf8(source).is_ok() {
         want.position(code(source.get(at)));
     }
     if source.is_ascii() {

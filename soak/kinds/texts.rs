@@ -6,6 +6,7 @@ use crate::asked::{Answer, Asked};
 use crate::calls;
 use crate::random::Random;
 use std::cell::OnceCell;
+use std::cmp::Ordering;
 use std::hash::{DefaultHasher, Hash, Hasher};
 use std::ptr::null_mut;
 
@@ -135,10 +136,14 @@ pub fn comparisons(random: &mut Random, asked: &mut Asked) {
 
 pub fn owned_comparisons(random: &mut Random, asked: &mut Asked) {
     let (first, second) = pair(random);
-    calls::ask_owned_comparisons(asked, &first, &second);
+    ask_owned_comparisons(&first, &second, first.cmp(&second), asked);
+}
+
+pub fn ask_owned_comparisons(first: &[u8], second: &[u8], order: Ordering, asked: &mut Asked) {
+    calls::ask_owned_comparisons(asked, first, second);
     for _ in 0..2 {
-        asked.want.flag(first == second);
-        asked.want.order(first.cmp(&second));
+        asked.want.flag(order == Ordering::Equal);
+        asked.want.order(order);
     }
 }
 
@@ -148,13 +153,17 @@ fn hash_of(value: impl Hash) -> usize {
     hasher.finish() as usize
 }
 
-/// A view and each type of owned text is hashed as its list of codes, a folded view as that list in lower case, and a
-/// character as its code.
 pub fn hashes(random: &mut Random, asked: &mut Asked) {
     let text = random.text();
-    calls::ask_hashes(asked, &text);
-    asked.want.number(hash_of(&text));
+    ask_hashes(&text, hash_of(&text), asked);
+}
+
+/// A view and each type of owned text is hashed as its list of codes, a folded view as that list in lower case, and a
+/// character as its code.
+pub fn ask_hashes(text: &[u8], hash: usize, asked: &mut Asked) {
+    calls::ask_hashes(asked, text);
+    asked.want.number(hash);
     asked.want.number(hash_of(text.to_ascii_lowercase()));
-    (0..5).for_each(|_| asked.want.number(hash_of(&text)));
+    (0..if text.len() <= 32 { 7 } else { 6 }).for_each(|_| asked.want.number(hash));
     text.first().iter().for_each(|code| asked.want.number(hash_of(code)));
 }

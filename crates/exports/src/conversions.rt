@@ -12,17 +12,21 @@ use std::alloc::{AllocError, Global};
 use std::fmt::{self, Write as _};
 
 /// A copy of bytes and of their `str`, the string that has their `Vec` and that which has their `String`;
-/// each of them the text, or the position of the error.
+/// each of them the text, or the position of the error. With that of the last two is the source that is returned.
 pub fn ask_conversions(alloc: Global, source: &[u8], room: &mut [u8]) -> usize {
     let mut answer = Answer::new(room);
     put_copy(bytes::to_ascii_string(alloc, source), &mut answer);
     if let Ok(list) = Vec::from_slice(alloc, source) {
-        put(vec::into_ascii_string(list), &mut answer);
+        if let Some(list) = put(vec::into_ascii_string(list), &mut answer) {
+            answer.bytes(&list);
+        }
     }
     if let Ok(source) = str::from_utf8(source) {
         put_copy(text::to_ascii_string(alloc, source), &mut answer);
         if let Ok(owned) = String::from_str(alloc, source) {
-            put(string::into_ascii_string(owned), &mut answer);
+            if let Some(owned) = put(string::into_ascii_string(owned), &mut answer) {
+                answer.name(owned.as_str());
+            }
         }
     }
     answer.finish()
@@ -36,14 +40,25 @@ fn put_copy<O: Drop>(copy: Result<AsciiString, CopyError<O>>, answer: &mut Answe
     }
 }
 
-fn put<O: Drop>(made: Result<AsciiString, FromAsciiError<O>>, answer: &mut Answer<'_>) {
+/// Returns the source of a string that was not made.
+fn put<O: Drop>(
+    made: Result<AsciiString, FromAsciiError<O>>,
+    answer: &mut Answer<'_>,
+) -> Option<O> {
     match made {
-        Ok(string) => answer.text(string.as_ascii_str()),
-        Err(error) => answer.number(error.ascii_error().valid_up_to()),
+        Ok(string) => {
+            answer.text(string.as_ascii_str());
+            None
+        }
+        Err(error) => {
+            answer.number(error.ascii_error().valid_up_to());
+            Some(error.into_source())
+        }
     }
 }
 
-/// A text after it was turned into lists of characters and back, and after it was each of the boxes.
+/// A text after it was turned into lists of characters and back, after it was each of the boxes, and after it was an
+/// inline string and a copy of one.
 pub fn ask_round_trips(alloc: Global, source: &[u8], room: &mut [u8]) -> usize
     requires { IsAscii source.now }
 {
@@ -51,6 +66,7 @@ pub fn ask_round_trips(alloc: Global, source: &[u8], room: &mut [u8]) -> usize
     let mut answer = Answer::new(room);
     answer.owned(through_chars(alloc, view));
     answer.owned(through_boxes(alloc, view));
+    answer.owned(through_inline(alloc, view));
     if let Ok(string) = view.to_ascii_string(alloc) {
         answer.owned(string.clone());
         answer.name(String::from(string).as_str());
@@ -72,6 +88,12 @@ fn through_boxes(alloc: Global, view: AsciiStr<'_>) -> Result<AsciiString, Alloc
     let shared = string.into_rc_ascii_str(alloc).ok().ok_or(AllocError)?;
     let borrowed = CowAsciiStr::from(shared.as_ascii_str());
     borrowed.into_owned(alloc).ok().ok_or(AllocError)
+}
+
+fn through_inline(alloc: Global, view: AsciiStr<'_>) -> Result<AsciiString, AllocError> {
+    let small = SmallAsciiString::from_ascii_str(alloc, view)?;
+    let copy = small.clone()?;
+    copy.into_ascii_string().ok().ok_or(AllocError)
 }
 
 /// Whether a piece was written to a text, and the text after that; as a string and as an inline string.

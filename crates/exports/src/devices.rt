@@ -1,14 +1,89 @@
-//! A reader and a writer that give and take little at a time, and that fail at one call.
+//! A reader and a writer that give and take little at a time, that fail at one call, and that move no byte at another.
 
 use std::alloc::Global;
 use std::io::{self, ErrorKind};
 
-/// How a device behaves: the most bytes that a call moves, and the call that fails, counted from 0.
+/// How a device behaves. Its calls are counted from 0.
 #[repr(C)]
 #[derive(Clone, Copy)]
 pub struct Device {
+    /// The most bytes that a call moves.
     pub most: usize,
+    /// The call that fails.
     pub fails: u64,
+    /// The call that moves no byte.
+    pub empty: u64,
+    /// The error of the call that fails, as its index in `KINDS`.
+    pub error: u8,
+}
+
+impl Device {
+    /// How many bytes a call may move, or its error.
+    fn most_at(self, call: u64) -> io::Result<usize> {
+        if call == self.fails {
+            return Err(error_of(self.error));
+        }
+        Ok(if call == self.empty { 0 } else { self.most })
+    }
+}
+
+/// The kinds of error that a device can name.
+static KINDS: [ErrorKind; 41] = [
+    ErrorKind::NotFound,
+    ErrorKind::PermissionDenied,
+    ErrorKind::ConnectionRefused,
+    ErrorKind::ConnectionReset,
+    ErrorKind::HostUnreachable,
+    ErrorKind::NetworkUnreachable,
+    ErrorKind::ConnectionAborted,
+    ErrorKind::NotConnected,
+    ErrorKind::AddrInUse,
+    ErrorKind::AddrNotAvailable,
+    ErrorKind::NetworkDown,
+    ErrorKind::BrokenPipe,
+    ErrorKind::AlreadyExists,
+    ErrorKind::WouldBlock,
+    ErrorKind::NotADirectory,
+    ErrorKind::IsADirectory,
+    ErrorKind::DirectoryNotEmpty,
+    ErrorKind::ReadOnlyFilesystem,
+    ErrorKind::FilesystemLoop,
+    ErrorKind::StaleNetworkFileHandle,
+    ErrorKind::InvalidInput,
+    ErrorKind::InvalidData,
+    ErrorKind::TimedOut,
+    ErrorKind::WriteZero,
+    ErrorKind::StorageFull,
+    ErrorKind::NotSeekable,
+    ErrorKind::QuotaExceeded,
+    ErrorKind::FileTooLarge,
+    ErrorKind::ResourceBusy,
+    ErrorKind::ExecutableFileBusy,
+    ErrorKind::Deadlock,
+    ErrorKind::CrossesDevices,
+    ErrorKind::TooManyLinks,
+    ErrorKind::InvalidFilename,
+    ErrorKind::ArgumentListTooLong,
+    ErrorKind::Interrupted,
+    ErrorKind::Unsupported,
+    ErrorKind::UnexpectedEof,
+    ErrorKind::OutOfMemory,
+    ErrorKind::InProgress,
+    ErrorKind::Other,
+];
+
+/// The error whose kind has this index in `KINDS`.
+pub(crate) fn error_of(number: u8) -> io::Error {
+    io::Error::from(match KINDS.get(usize::from(number)) {
+        Some(kind) => *kind,
+        None => ErrorKind::Other,
+    })
+}
+
+/// The index in `KINDS` of an error's kind.
+pub(crate) fn number_of(error: &io::Error) -> Option<usize> {
+    let kind = error.kind();
+    KINDS.iter().position(|other| *other == kind)
 }
 
 /// A reader of bytes.
@@ -16,7 +91,7 @@ pub struct Device {
 pub(crate) struct Given<'a> {
     rest: &'a [u8],
     device: Device,
-    calls: u64,
+    pub(crate) calls: u64,
 }
 
 impl<'a> Given<'a> {
@@ -33,10 +108,8 @@ impl io::Read for Given<'_> {
     fn read(&mut self, buf: &mut [u8]) -> io::Result<usize> {
         let call = self.calls;
         self.calls = call.saturating_add(1);
-        if call == self.device.fails {
-            return Err(io::Error::from(ErrorKind::Interrupted));
-        }
-        let n = self.device.most.min(buf.len()).min(self.rest.len());
+        let most = self.device.most_at(call)?;
+        let n = most.min(buf.len()).min(self.rest.len());
         let (now, later) = self.rest.split_at(n);
         buf[..n].copy_from_slice(now);
         self.rest = later;
@@ -49,7 +122,7 @@ impl io::Read for Given<'_> {
 pub(crate) struct Taken {
     pub(crate) bytes: Vec<u8>,
     device: Device,
-    calls: u64,
+    pub(crate) calls: u64,
 }
 
 impl Taken {
@@ -61,25 +134,23 @@ impl Taken {
         }
     }
 
-    fn count(&mut self) -> io::Result<()> {
+    /// Counts a call, and returns how many bytes it may move.
+    fn count(&mut self) -> io::Result<usize> {
         let call = self.calls;
         self.calls = call.saturating_add(1);
-        if call == self.device.fails {
-            return Err(io::Error::from(ErrorKind::Interrupted));
-        }
-        Ok(())
+        self.device.most_at(call)
     }
 }
 
 impl io::Write for Taken {
     fn write(&mut self, buf: &[u8]) -> io::Result<usize> {
-        self.count()?;
-        let n = self.device.most.min(buf.len());
+        let n = self.count()?.min(buf.len());
         self.bytes.extend_from_slice(&buf[..n])?;
         Ok(n)
     }
 
     fn flush(&mut self) -> io::Result<()> {
-        self.count()
+        self.count()?;
+        Ok(())
     }
 }

@@ -52,7 +52,7 @@ fn put_run<B: AsciiBuf>(
     answer.text(buf.as_ascii_str());
 }
 
-fn commands<'a>(
+pub(crate) fn commands<'a>(
     alloc: Global,
     texts: AsciiStr<'a>,
     steps: &[Step],

@@ -4,7 +4,8 @@ use crate::answer::Answer;
 use crate::devices::{Device, Given, Taken};
 use ascii::iter::End;
 use ascii_run::{
-    BoundedFault, BoundedMode, EngineFault, Input, Mode, Output, bounded_engine, engine,
+    BoundedFault, BoundedMode, EngineFault, Input, Mode, Output, Sink, Source, bounded_engine,
+    engine,
 };
 use std::alloc::{AllocError, Global};
 
@@ -23,20 +24,25 @@ pub fn ask_engine(
     if let Ok(script) = ends_of(alloc, script) {
         let mut input = Input::new(Given::new(source, *reads));
         let mut output = Output::new(Taken::new(alloc, *writes));
-        match engine(alloc, mode_of(mode, &script), &mut input, &mut output) {
-            Ok(()) => answer.name("done"),
-            Err(EngineFault::NotAscii(position)) => answer.fault("ascii", position),
-            Err(EngineFault::Position(position)) => answer.fault("position", position),
-            Err(EngineFault::Memory) => answer.failed(),
-            Err(EngineFault::Read) => answer.name("read"),
-            Err(EngineFault::Write) => answer.name("write"),
-        }
+        let run = engine(alloc, mode_of(mode, &script), &mut input, &mut output);
+        put_run(run, &mut answer);
         answer.bytes(&output.into_inner().bytes);
     }
     answer.finish()
 }
 
-fn ends_of(alloc: Global, script: &[u8]) -> Result<Vec<End>, AllocError> {
+pub(crate) fn put_run(run: Result<(), EngineFault>, answer: &mut Answer<'_>) {
+    match run {
+        Ok(()) => answer.name("done"),
+        Err(EngineFault::NotAscii(position)) => answer.fault("ascii", position),
+        Err(EngineFault::Position(position)) => answer.fault("position", position),
+        Err(EngineFault::Memory) => answer.failed(),
+        Err(EngineFault::Read) => answer.name("read"),
+        Err(EngineFault::Write) => answer.name("write"),
+    }
+}
+
+pub(crate) fn ends_of(alloc: Global, script: &[u8]) -> Result<Vec<End>, AllocError> {
     let mut ends = Vec::new(alloc);
     for number in script {
         ends.push(if *number == 0 { End::Front } else { End::Back })?;
@@ -44,7 +50,7 @@ fn ends_of(alloc: Global, script: &[u8]) -> Result<Vec<End>, AllocError> {
     Ok(ends)
 }
 
-fn mode_of<'a>(mode: u8, script: &'a [End]) -> Mode<'a> {
+pub(crate) fn mode_of<'a>(mode: u8, script: &'a [End]) -> Mode<'a> {
     match mode {
         0 => Mode::Copy,
         1 => Mode::Lines,
@@ -56,8 +62,8 @@ fn mode_of<'a>(mode: u8, script: &'a [End]) -> Mode<'a> {
     }
 }
 
-/// What `bounded_engine` returns, and what it wrote. The number of a mode is its index in the list of
-/// `BoundedMode`.
+/// What `bounded_engine` returns, how many reads and writes have failed, and what it wrote. The number of a mode is
+/// its index in the list of `BoundedMode`.
 pub fn ask_bounded_engine(
     alloc: Global,
     mode: u8,
@@ -66,16 +72,7 @@ pub fn ask_bounded_engine(
     writes: &Device,
     room: &mut [u8],
 ) -> usize {
-    let mode = match mode {
-        0 => BoundedMode::Copy,
-        1 => BoundedMode::Lines,
-        2 => BoundedMode::Caret,
-        3 => BoundedMode::Json,
-        4 => BoundedMode::Upper,
-        5 => BoundedMode::Lower,
-        6 => BoundedMode::Escape,
-        _ => BoundedMode::Lossy,
-    };
+    let mode = bounded_mode_of(mode);
     let mut answer = Answer::new(room);
     let mut input = Input::new(Given::new(source, *reads));
     let mut output = Output::new(Taken::new(alloc, *writes));
@@ -90,6 +87,21 @@ pub fn ask_bounded_engine(
         Err(BoundedFault::Read) => answer.name("read"),
         Err(BoundedFault::Write) => answer.name("write"),
     }
+    answer.long(input.failures());
+    answer.long(output.failures());
     answer.bytes(&output.into_inner().bytes);
     answer.finish()
+}
+
+pub(crate) fn bounded_mode_of(mode: u8) -> BoundedMode {
+    match mode {
+        0 => BoundedMode::Copy,
+        1 => BoundedMode::Lines,
+        2 => BoundedMode::Caret,
+        3 => BoundedMode::Json,
+        4 => BoundedMode::Upper,
+        5 => BoundedMode::Lower,
+        6 => BoundedMode::Escape,
+        _ => BoundedMode::Lossy,
+    }
 }

@@ -1,6 +1,6 @@
 //! Calls of the libraries with typed parameters, which `bin/lib/static_library` exports to two programs in Rust: the
-//! benchmark measures those of `measured`, and the randomized differential test compares the answers of the others,
-//! whose names begin with `ask_`, with those of other implementations.
+//! benchmark measures those of `measured`, and the differential test compares the answers of the others, whose names
+//! begin with `ask_`, with those of tables and of other implementations.
 //!
 //! Such a call writes its answer into a buffer and returns its length; `answer` says how. It states no more than what
 //! it needs of its caller, because its answers are what is compared.
@@ -11,13 +11,16 @@ pub mod characters;
 pub mod conversions;
 pub mod devices;
 pub mod edits;
+pub mod engine_runs;
 pub mod engines;
 pub mod everyday;
 pub mod lines_in_and_out;
 pub mod measured;
+pub mod planned_devices;
 pub mod prints;
 pub mod recipes;
 pub mod searches;
+pub mod serving;
 pub mod slices;
 pub mod steps;
 pub mod texts;

@@ -11,13 +11,14 @@ use ascii::iter::Ending;
 use ascii::{AsciiChar, AsciiStr, bytes};
 use ascii_lines::{
     Duplex, Endings, Handler, Input, LineChannel, LineError, LineReader, LineWriter, Next, Output,
-    Replies, Sink, Stop, WriteError, collect_lines, serve,
+    Replies, Sink, SkippedLine, Stop, WriteError, collect_lines, serve,
 };
 use std::alloc::{Allocator, Global};
 
-/// What a reader with a buffer of `size` bytes returns to each step, and its position after it. The kinds are 0
-/// for the next line, 1 to 3 for the endings of `Endings` from now on, 4 for a part of `at` bytes, and 5 for the next
-/// line as bytes.
+/// What a reader with a buffer of `size` bytes returns to each step, and its position after it; and the number of
+/// calls of its source. The kinds are 0 for the next line, 1 to 3 for the endings of `Endings` from now on, 4 for a
+/// part of `at` bytes, 5 for the next line as bytes, 6 for a line of up to `at` bytes that is skipped, 7 for whether
+/// a line is held, and 8 for whether a part of `at` bytes is.
 pub fn ask_reader(
     alloc: Global,
     source: &[u8],
@@ -33,6 +34,9 @@ pub fn ask_reader(
             read(&mut reader, *step, &mut answer);
             answer.long(reader.position());
         }
+        answer.long(reader.into_source().into_inner().calls);
+    } else {
+        answer.failed();
     }
     answer.finish()
 }
@@ -50,6 +54,9 @@ fn read(reader: &mut LineReader<Input<Given<'_>>>, step: Step, answer: &mut Answ
             }
             Err(error) => put_error(error, answer),
         },
+        6 => put_skipped(reader.skip_line(step.at as u64), answer),
+        7 => answer.flag(reader.has_buffered_line()),
+        8 => answer.flag(reader.has_buffered_part(step.at)),
         _ => put_next_bytes(reader, answer),
     }
 }
@@ -78,13 +85,27 @@ fn put_next_bytes(reader: &mut LineReader<Input<Given<'_>>>, answer: &mut Answer
     }
 }
 
+fn put_skipped(skipped: Result<SkippedLine, LineError>, answer: &mut Answer<'_>) {
+    match skipped {
+        Ok(line) => {
+            answer.long(line.start);
+            answer.long(line.length);
+            match line.non_ascii {
+                Some(position) => answer.long(position),
+                None => answer.none(),
+            }
+        }
+        Err(error) => put_error(error, answer),
+    }
+}
+
 fn put_line(start: u64, text: AsciiStr<'_>, ending: Ending, answer: &mut Answer<'_>) {
     answer.long(start);
     answer.text(text);
     answer.name(ending_name(ending));
 }
 
-fn put_error(error: LineError, answer: &mut Answer<'_>) {
+pub(crate) fn put_error(error: LineError, answer: &mut Answer<'_>) {
     match error {
         LineError::NotAscii(position) => put_error_at("ascii", position, answer),
         LineError::LoneBreak(position) => put_error_at("lone", position, answer),
@@ -129,8 +150,9 @@ pub fn ask_collected_lines(
     answer.finish()
 }
 
-/// What a writer with a buffer of `size` bytes returns to each step, and what its sink has taken. The kinds are 0
-/// to 2 for a text with an ending, in the order of `Ending`, 3 for a flush, and 4 for a text as it is.
+/// What a writer with a buffer of `size` bytes returns to each step, the number of calls of its sink, and what that
+/// has taken. The kinds are 0 to 2 for a text with an ending, in the order of `Ending`, 3 for a flush, and 4 for a
+/// text as it is.
 pub fn ask_writer(
     alloc: Global,
     texts: &[u8],
@@ -150,7 +172,11 @@ pub fn ask_writer(
                 Err(error) => put_write_error(error, &mut answer),
             }
         }
-        answer.bytes(&writer.into_sink().into_inner().bytes);
+        let taken = writer.into_sink().into_inner();
+        answer.long(taken.calls);
+        answer.bytes(&taken.bytes);
+    } else {
+        answer.failed();
     }
     answer.finish()
 }

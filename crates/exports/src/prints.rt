@@ -69,6 +69,7 @@ fn print<T: fmt::Display + fmt::Debug>(
         7 => format!(in alloc; "{value:.0}"),
         8 => format!(in alloc; "{value:10.3}"),
         9 => format!(in alloc; "{value:->12.40}"),
+        10 => format!(in alloc; "{value:>5}"),
         _ => format!(in alloc; "{value:^1}"),
     }
 }

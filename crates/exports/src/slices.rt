@@ -15,6 +15,31 @@ pub(crate) fn range_of(form: u8, start: usize, end: usize) -> AsciiRange {
     }
 }
 
+/// The view of a source: of bytes, and of a `str` if they are UTF-8; each by two calls.
+pub fn ask_views(source: &[u8], room: &mut [u8]) -> usize {
+    let mut answer = Answer::new(room);
+    answer.slice(bytes::as_ascii_str(source));
+    answer.slice(bytes::from_ascii(source));
+    if let Ok(source) = str::from_utf8(source) {
+        answer.slice(text::as_ascii_str(source));
+        answer.slice(text::from_ascii(source));
+    }
+    answer.finish()
+}
+
+/// Changes bytes to upper case as a mutable view, and returns that view.
+pub fn ask_view_mut(source: &mut [u8], room: &mut [u8]) -> usize {
+    let mut answer = Answer::new(room);
+    match bytes::as_mut_ascii_str(source) {
+        Ok(mut view) => {
+            view.make_ascii_uppercase();
+            answer.text(view.as_ascii_str());
+        }
+        Err(error) => answer.number(error.valid_up_to()),
+    }
+    answer.finish()
+}
+
 /// The part of a source in a range: as bytes, as a `str` if it is UTF-8, and as a view if it is ASCII.
 pub fn ask_slices(form: u8, start: usize, end: usize, source: &[u8], room: &mut [u8]) -> usize {
     let mut answer = Answer::new(room);

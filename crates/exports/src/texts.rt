@@ -4,7 +4,7 @@ ghost use Rattle.std.specs.Str.{IsAscii};
 
 use crate::answer::Answer;
 use ascii::{BoxedAsciiStr, CowAsciiStr, RcAsciiStr, bytes, kernels};
-use ascii_run::SmallAsciiString;
+use ascii_run::{ArrayAsciiString, SmallAsciiString};
 use std::alloc::{AllocError, Global};
 use std::hash::{DefaultHasher, Hash, Hasher};
 
@@ -119,7 +119,8 @@ fn compare<T: Ord + Drop>(
     }
 }
 
-/// The hashes of a text: as a view, ignoring case, as each type of owned text and as `Cow` text; and of its first character.
+/// The hashes of a text: as a view, ignoring case, as each type of owned text, as borrowed and as owned `Cow` text, and in
+/// an array of 32 bytes if it fits; and of its first character.
 pub fn ask_hashes(alloc: Global, source: &[u8], room: &mut [u8]) -> usize
     requires { IsAscii source.now }
 {
@@ -132,6 +133,12 @@ pub fn ask_hashes(alloc: Global, source: &[u8], room: &mut [u8]) -> usize
     hash(BoxedAsciiStr::from_ascii_str(alloc, view), &mut answer);
     hash(RcAsciiStr::from_ascii_str(alloc, view), &mut answer);
     hash(Ok(CowAsciiStr::<Global>::from(view)), &mut answer);
+    if let Ok(string) = view.to_ascii_string(alloc) {
+        hash(Ok(CowAsciiStr::<Global>::from(string)), &mut answer);
+    }
+    if let Ok(array) = ArrayAsciiString::<32>::from_ascii_str((), view) {
+        hash(Ok(array), &mut answer);
+    }
     hash(view.first().ok_or(AllocError), &mut answer);
     answer.finish()
 }

@@ -1,0 +1,269 @@
+//! A line reader by a plain loop over the bytes of its source.
+
+use crate::asked::Answer;
+use crate::calls::Step;
+use crate::kinds::slices::non_ascii;
+
+/// Why a reader returns no line: `None` at the end, or an error and its position.
+pub type Stop = Option<(&'static str, Option<usize>)>;
+
+/// A line: its start, its body and the name of its ending.
+pub type Line<'a> = (usize, &'a [u8], &'static str);
+
+const READ: Stop = Some(("read", None));
+
+/// A reader. Its source gives one byte a call and fails at the call number `fails`.
+#[derive(Clone, Copy)]
+pub struct Model<'a> {
+    source: &'a [u8],
+    size: usize,
+    fails: usize,
+    pub start: usize,
+    /// 0 for any ending, 1 for CR LF, 2 for CR LF alone.
+    endings: u8,
+    has_ended: bool,
+    error: Option<Stop>,
+    /// How many calls the source has had.
+    pub calls: usize,
+}
+
+impl<'a> Model<'a> {
+    pub fn new(source: &'a [u8], size: usize) -> Model<'a> {
+        Model { source, size, fails: usize::MAX, start: 0, endings: 0, has_ended: false, error: None, calls: 0 }
+    }
+
+    /// A reader whose source fails at a call.
+    pub fn failing(source: &'a [u8], size: usize, fails: usize) -> Model<'a> {
+        Model { fails, ..Model::new(source, size) }
+    }
+
+    /// What is at a position: a byte, or `None` at the end.
+    fn at(&self, place: usize) -> Result<Option<u8>, Stop> {
+        if place >= self.fails {
+            return Err(READ);
+        }
+        Ok(self.source.get(place).copied())
+    }
+
+    fn follows_cr(&self, place: usize) -> bool {
+        place > self.start && self.source[place - 1] == b'\r'
+    }
+
+    /// Whether a line ends with the LF at a position.
+    fn ends(&self, place: usize) -> bool {
+        self.source[place] == b'\n' && (self.endings == 0 || self.follows_cr(place))
+    }
+
+    /// The next line.
+    pub fn next_line(&mut self) -> Result<Line<'a>, Stop> {
+        self.next(true)
+    }
+
+    /// The next line, which is ASCII or may have any bytes.
+    pub fn next(&mut self, is_ascii: bool) -> Result<Line<'a>, Stop> {
+        if let Some(error) = self.error {
+            return Err(error);
+        }
+        if self.has_ended {
+            return Err(None);
+        }
+        let (line, calls) = self.line(is_ascii);
+        self.calls = self.calls.max(calls);
+        match line {
+            Ok((body, ending, next)) => {
+                let start = std::mem::replace(&mut self.start, next);
+                self.has_ended = ending == "none";
+                Ok((start, body, ending))
+            }
+            Err(None) => {
+                self.has_ended = true;
+                Err(None)
+            }
+            Err(error) => {
+                self.error = Some(error);
+                Err(error)
+            }
+        }
+    }
+
+    /// The next line and where the one after it starts, by the first byte that shows a fault; and how many calls of the
+    /// source that takes.
+    fn line(&self, is_ascii: bool) -> (Result<(&'a [u8], &'static str, usize), Stop>, usize) {
+        let (start, is_strict) = (self.start, self.endings == 2);
+        let mut place = start;
+        let line = loop {
+            let byte = match self.at(place) {
+                Err(error) => break Err(error),
+                Ok(None) if is_strict && self.follows_cr(place) => break Err(Some(("lone", Some(place - 1)))),
+                Ok(None) if place == start => break Err(None),
+                Ok(None) => break Ok((&self.source[start..], "none", place)),
+                Ok(Some(byte)) => byte,
+            };
+            match byte {
+                _ if place - start == self.size => break Err(Some(("long", Some(start)))),
+                128.. if is_ascii => break Err(Some(("ascii", Some(place)))),
+                b'\n' if self.follows_cr(place) => break Ok((&self.source[start..place - 1], "crlf", place + 1)),
+                b'\n' if self.endings == 0 => break Ok((&self.source[start..place], "lf", place + 1)),
+                b'\n' if is_strict => break Err(Some(("lone", Some(place)))),
+                _ if is_strict && self.follows_cr(place) => break Err(Some(("lone", Some(place - 1)))),
+                _ => place += 1,
+            }
+        };
+        (line, place + 1)
+    }
+
+    /// The next `n` bytes with their start.
+    pub fn part(&mut self, n: usize) -> Result<(usize, &'a [u8]), Stop> {
+        if let Some(error) = self.error {
+            return Err(error);
+        }
+        if self.has_ended {
+            return Err(Some(("incomplete", Some(0))));
+        }
+        let start = self.start;
+        let (fault, calls) = self.fault_in_part(n);
+        self.calls = self.calls.max(calls);
+        match fault {
+            Some(error) => {
+                self.error = Some(error);
+                Err(error)
+            }
+            None => {
+                self.start += n;
+                Ok((start, &self.source[start..start + n]))
+            }
+        }
+    }
+
+    /// The error of a part, and how many calls of the source it takes.
+    fn fault_in_part(&self, n: usize) -> (Option<Stop>, usize) {
+        if n > self.size {
+            return (Some(Some(("long", Some(self.start)))), self.calls);
+        }
+        for at in 0..n {
+            let place = self.start + at;
+            let error = match self.at(place) {
+                Err(error) => error,
+                Ok(None) => Some(("incomplete", Some(at))),
+                Ok(Some(128..)) => Some(("ascii", Some(place))),
+                Ok(Some(_)) => continue,
+            };
+            return (Some(error), place + 1);
+        }
+        (None, self.start + n)
+    }
+
+    /// Skips a line of up to `most` bytes, or what remains of one with a fault: its start, its length, and the position
+    /// of its first non-ASCII byte.
+    pub fn skip(&mut self, most: usize) -> Result<(usize, usize, Option<usize>), Stop> {
+        match self.error {
+            Some(Some(("ascii" | "lone" | "long", _))) | None => (),
+            Some(error) => return Err(error),
+        }
+        let start = self.start;
+        if self.has_ended {
+            return Ok((start, 0, None));
+        }
+        let mut place = start;
+        let end = loop {
+            // A CR at the end may belong to the ending, so it is not skipped.
+            let skipped = place - usize::from(self.endings != 0 && self.follows_cr(place));
+            let error = match self.at(place) {
+                Err(error) => error,
+                Ok(None) => break place,
+                Ok(Some(_)) if place - start == most => Some(("long", Some(start))),
+                Ok(Some(_)) if self.ends(place) => break place + 1,
+                Ok(Some(_)) => {
+                    place += 1;
+                    continue;
+                }
+            };
+            (self.start, self.error) = (skipped, Some(error));
+            self.calls = self.calls.max(place + 1);
+            return Err(error);
+        };
+        (self.start, self.error) = (end, None);
+        self.has_ended = place == end;
+        self.calls = self.calls.max(place + 1);
+        Ok((start, end - start, non_ascii(&self.source[start..end]).map(|at| start + at)))
+    }
+
+    /// The reader with a source that fails at its next call.
+    fn without_more(&self) -> Model<'a> {
+        Model { fails: self.fails.min(self.calls), ..*self }
+    }
+
+    /// Whether the next line takes no call of the source.
+    fn holds_line(&self) -> bool {
+        self.has_ended || self.error.is_some() || self.without_more().line(true).0 != Err(READ)
+    }
+
+    /// Whether a part takes no call of the source.
+    fn holds_part(&self, n: usize) -> bool {
+        self.has_ended || self.error.is_some() || self.without_more().fault_in_part(n).0 != Some(READ)
+    }
+
+    /// What is answered to each step of `ask_reader`, and the position after it.
+    pub fn run(&mut self, steps: &[Step], want: &mut Answer) {
+        for step in steps {
+            match step.kind {
+                0 => put_line(self.next_line(), want),
+                4 => match self.part(step.at) {
+                    Ok((start, part)) => {
+                        want.number(start);
+                        want.text(part);
+                    }
+                    Err(stop) => put_stop(stop, want),
+                },
+                5 => put_line_of_bytes(self.next(false), want),
+                6 => match self.skip(step.at) {
+                    Ok((start, length, other)) => {
+                        want.number(start);
+                        want.number(length);
+                        want.position(other);
+                    }
+                    Err(stop) => put_stop(stop, want),
+                },
+                7 => want.flag(self.holds_line()),
+                8 => want.flag(self.holds_part(step.at)),
+                kind => self.endings = kind - 1,
+            }
+            want.number(self.start);
+        }
+    }
+}
+
+pub fn put_stop(stop: Stop, want: &mut Answer) {
+    match stop {
+        None => want.none(),
+        Some((name, None)) => want.text(name),
+        Some((name, Some(position))) => want.fault(name, position),
+    }
+}
+
+pub fn put_line(line: Result<Line<'_>, Stop>, want: &mut Answer) {
+    match line {
+        Ok((start, body, ending)) => {
+            want.number(start);
+            want.text(body);
+            want.text(ending);
+        }
+        Err(stop) => put_stop(stop, want),
+    }
+}
+
+/// A line with its body as text, or the position of its first non-ASCII byte.
+fn put_line_of_bytes(line: Result<Line<'_>, Stop>, want: &mut Answer) {
+    match line {
+        Ok((start, body, ending)) => {
+            want.number(start);
+            want.text(body);
+            match non_ascii(body) {
+                Some(at) => want.fault("ascii", start + at),
+                None => want.text(body),
+            }
+            want.text(ending);
+        }
+        Err(stop) => put_stop(stop, want),
+    }
+}
