@@ -2,22 +2,26 @@
 //! plain loops, and, if it was compiled with `--cfg upstream`, of the upstream crate `ascii` 1.1.0.
 //!
 //!     soak SECONDS SEED THREADS [planted]
+//!     soak row NAME [planted]
 //!
-//! It first asks small cases of each kind of question: all of them up to the length at which there are not too many, and
-//! the first ones of longer texts. Then it asks at random for that time; the seed decides those questions. With `planted`
-//! it asks each kind while the library is passed wrong arguments, until an answer differs. `bin/soak` says what is
-//! printed. The status is 1 if an answer differs or this program panics, or if a planted answer is not seen, and 2 for bad
-//! arguments.
+//! It first asks the rows: calls whose answers are known from a table, from std or from a plain loop. Then it asks
+//! small cases of each kind of question: all of them up to the length at which there are not too many, and the first
+//! ones of longer texts. Then it asks at random for that time; the seed decides those questions. With `row` it asks the
+//! row of that name alone. With `planted` it asks each row and each kind while the library is passed wrong arguments,
+//! until an answer differs. `bin/soak` says what is printed. The status is 1 if an answer differs or this program
+//! panics, or if a planted answer is not seen, and 2 for bad arguments.
 
 mod asked;
 mod calls;
 mod kinds;
 mod line_model;
 mod random;
+mod rows;
 
 use asked::Asked;
 use kinds::{Ask, Kind, KINDS};
 use random::Random;
+use std::any::Any;
 use std::panic::{catch_unwind, AssertUnwindSafe};
 use std::process::ExitCode;
 use std::sync::atomic::{AtomicU64, Ordering};
@@ -51,10 +55,13 @@ fn differ(what: &str) {
 fn asks(ask: Ask, random: &mut Random, asked: &mut Asked) -> Result<bool, String> {
     asked.clear();
     let outcome = catch_unwind(AssertUnwindSafe(|| ask(random, asked)));
-    outcome.map(|()| asked.differs()).map_err(|panic| {
-        let text = panic.downcast_ref::<String>().map(String::as_str);
-        text.or_else(|| panic.downcast_ref::<&str>().copied()).unwrap_or("").into()
-    })
+    outcome.map(|()| asked.differs()).map_err(|panic| panic_text(&*panic))
+}
+
+/// The text of a panic.
+fn panic_text(panic: &(dyn Any + Send)) -> String {
+    let text = panic.downcast_ref::<String>().map(String::as_str);
+    text.or_else(|| panic.downcast_ref::<&str>().copied()).unwrap_or("").into()
 }
 
 /// Asks a question of a kind. If its answer differs, asks it again to show it.
@@ -114,9 +121,28 @@ fn random_share(seed: u64, time: Duration) -> Vec<u64> {
     counts
 }
 
+/// The rows that are a thread's: the number of the questions of each.
+fn row_share(share: usize, threads: usize) -> Vec<u64> {
+    let mut counts = vec![0; rows::all().count()];
+    for (at, row) in rows::all().enumerate().skip(share).step_by(threads) {
+        let (count, differ) = rows::run(row, false);
+        counts[at] = count;
+        DIFFER.fetch_add(differ, Ordering::Relaxed);
+    }
+    counts
+}
+
+/// Asks the row of a name alone, and returns whether all is as expected, or `None` if there is no such row.
+fn one_row(name: &str, is_planted: bool) -> Option<bool> {
+    let row = rows::all().find(|row| row.0 == name)?;
+    let (count, differ) = rows::run(row, is_planted);
+    println!("{count} answers of the row {name}: {differ} differ");
+    Some((differ > 0) == is_planted)
+}
+
 /// Runs a share on each thread, and adds up what they count.
-fn on_threads(threads: usize, share: impl Fn(usize) -> Vec<u64> + Sync) -> Vec<u64> {
-    let mut all = vec![0; KINDS.len()];
+fn on_threads(threads: usize, length: usize, share: impl Fn(usize) -> Vec<u64> + Sync) -> Vec<u64> {
+    let mut all = vec![0; length];
     std::thread::scope(|scope| {
         let share = &share;
         let running: Vec<_> = (0..threads).map(|number| scope.spawn(move || share(number))).collect();
@@ -131,23 +157,39 @@ fn on_threads(threads: usize, share: impl Fn(usize) -> Vec<u64> + Sync) -> Vec<u
     all
 }
 
-/// Asks each kind with wrong arguments, and returns whether each has seen one.
+/// Asks each row and each kind with wrong arguments, and returns whether each has seen one.
 fn planted(seed: u64) -> bool {
-    let mut asked = Asked::new();
-    asked.is_planted = true;
     let (mut seen, mut all) = (0, 0);
-    for (_, kind, make) in kinds() {
-        let mut random = Random::new(seed);
-        let number = (1..=PLANTED).find(|_| asks(make, &mut random, &mut asked) != Ok(false));
+    let mut tell = |number: Option<u64>, what: &str| {
         match number {
-            Some(number) => println!("{number:>10} questions until a wrong answer is seen: {}", kind.name),
-            None => println!("{:>10} wrong answer is seen: {}", "no", kind.name),
+            Some(number) => println!("{number:>10} questions until a wrong answer is seen: {what}"),
+            None => println!("{:>10} wrong answer is seen: {what}", "no"),
         }
         seen += u32::from(number.is_some());
         all += 1;
+    };
+    for row in rows::all() {
+        let (count, differ) = rows::run(row, true);
+        tell((differ > 0).then_some(count), &format!("row {}", row.0));
+    }
+    let mut asked = Asked::new();
+    asked.is_planted = true;
+    for (_, kind, make) in kinds() {
+        let mut random = Random::new(seed);
+        tell((1..=PLANTED).find(|_| asks(make, &mut random, &mut asked) != Ok(false)), kind.name);
     }
     println!("{seen} of {all} planted answers seen");
     seen == all
+}
+
+/// Prints the number of questions of each row and each kind.
+fn print_counts(rows: &[u64], small: &[u64], random: &[u64]) {
+    for (count, (name, _)) in rows.iter().zip(rows::all()) {
+        println!("{count:>10} of the row {name}");
+    }
+    for (at, kind, _) in kinds() {
+        println!("{:>10} small {:>12} at random: {}", small[at], random[at], kind.name);
+    }
 }
 
 /// Prints how many kinds have no question.
@@ -160,26 +202,38 @@ fn print_left_out() {
 
 fn main() -> ExitCode {
     let words: Vec<String> = std::env::args().skip(1).collect();
-    let numbers: Vec<u64> = words.iter().filter_map(|word| word.parse().ok()).collect();
-    let (&[seconds, seed, threads], is_planted) = (&numbers[..], words.len() == 4 && words[3] == "planted") else {
-        eprintln!("usage: soak SECONDS SEED THREADS [planted]");
-        return ExitCode::from(2);
-    };
     // A position outside the text makes the upstream crate panic, which is an answer here.
     std::panic::set_hook(Box::new(|_| ()));
+    if words.first().is_some_and(|word| word == "row") && words.len() > 1 {
+        return match one_row(&words[1], words.len() > 2) {
+            Some(as_expected) => ExitCode::from(u8::from(!as_expected)),
+            None => {
+                eprintln!("there is no row {}", words[1]);
+                ExitCode::from(2)
+            }
+        };
+    }
+    let numbers: Vec<u64> = words.iter().filter_map(|word| word.parse().ok()).collect();
+    let (&[seconds, seed, threads], is_planted) = (&numbers[..], words.len() == 4 && words[3] == "planted") else {
+        eprintln!("usage: soak SECONDS SEED THREADS [planted]\n       soak row NAME [planted]");
+        return ExitCode::from(2);
+    };
     if is_planted {
         let all_seen = planted(seed);
         print_left_out();
         return ExitCode::from(u8::from(!all_seen));
     }
     let (threads, time) = (threads.max(1) as usize, Duration::from_secs(seconds));
+    let rows = on_threads(threads, rows::all().count(), |share| row_share(share, threads));
     let begin = Instant::now();
-    let small = on_threads(threads, |share| small_share(share, threads));
-    let random = on_threads(threads, |share| random_share(seed.wrapping_add(share as u64), time));
+    let small = on_threads(threads, KINDS.len(), |share| small_share(share, threads));
+    let random = on_threads(threads, KINDS.len(), |share| random_share(seed.wrapping_add(share as u64), time));
     let took = begin.elapsed().as_secs_f64();
-    for (at, kind, _) in kinds() {
-        println!("{:>10} small {:>12} at random: {}", small[at], random[at], kind.name);
+    // The differences are to be the last lines but a few.
+    if DIFFER.load(Ordering::Relaxed) == 0 {
+        print_counts(&rows, &small, &random);
     }
+    println!("{} answers of {} rows", rows.iter().sum::<u64>(), rows.len());
     let all: u64 = small.iter().chain(&random).sum();
     println!("{:.1} million answers a second on {threads} threads", all as f64 / took / 1e6);
     let differ = DIFFER.load(Ordering::Relaxed);

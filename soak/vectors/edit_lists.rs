@@ -1,12 +1,12 @@
-//! Makes the table of `src/tests/edit_table.rt` with the Rust crate `ascii` 1.1.0: 200 lists of 1 to
-//! 200 edits, and for each the characters that were taken out and the text at the end.
+//! Prints `soak/rows/edit_lists.txt` with the upstream crate `ascii` 1.1.0: for the lists of 1 to 200 edits the characters
+//! that were taken out, `.` if there was none, a colon, and the text at the end.
 //!
-//! With the library of that crate, built by `cargo build --release` in its folder, it is run so:
+//! With the library of that crate, built by `cargo build --release` in its folder, run it in this folder:
 //!
 //!     rustc --edition 2021 -O --extern ascii=libascii.rlib -o edit_lists edit_lists.rs
-//!     ./edit_lists > ../src/tests/edit_table.rt
+//!     ./edit_lists > ../rows/edit_lists.txt
 //!
-//! The edits of a list follow from its number alone; `src/tests/edit_lists.rt` makes the same ones.
+//! The number of a list decides its edits; `soak/rows/edit_lists.rs` makes the same ones.
 use ascii::{AsAsciiStr, AsciiString};
 
 const LETTERS: &str = "abcdefghijklmnopqrstuvwxyz";
@@ -57,12 +57,8 @@ fn ran(number: usize) -> (String, AsciiString) {
 }
 
 fn main() {
-    println!("//! Made by `vectors/edit_lists.rs`: for the lists of 1 to 200 edits the characters that were taken out,");
-    println!("//! `.` where there was none, a colon, and the text at the end.\n");
-    println!("pub const RAN: &str = \"\\");
     for number in 1..=200 {
         let (taken, string) = ran(number);
-        println!("{taken}:{string}\\n\\");
+        println!("{taken}:{string}");
     }
-    println!("\";");
 }

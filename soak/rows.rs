@@ -1,0 +1,89 @@
+//! Rows: calls whose answers are known from a table, from std or from a plain loop.
+
+mod commands;
+mod devices;
+mod edit_lists;
+mod engines;
+mod readers;
+mod serving;
+mod sources;
+mod strings;
+mod writers;
+
+use crate::asked::Asked;
+use std::panic::{catch_unwind, AssertUnwindSafe};
+
+/// A row: its name, and what it asks.
+pub type Row = (&'static str, fn(&mut Rows));
+
+/// All rows, one subject after another.
+pub fn all() -> impl Iterator<Item = &'static Row> {
+    [
+        sources::ROWS,
+        strings::ROWS,
+        commands::ROWS,
+        edit_lists::ROWS,
+        devices::ROWS,
+        engines::ROWS,
+        readers::ROWS,
+        writers::ROWS,
+        serving::ROWS,
+    ]
+    .into_iter()
+    .flatten()
+}
+
+/// The differences of a row that are printed whole.
+const SHOWN: u64 = 3;
+
+/// The questions of a row, and how often an answer differs.
+pub struct Rows {
+    asked: Asked,
+    name: &'static str,
+    count: u64,
+    differ: u64,
+}
+
+impl Rows {
+    /// Asks a question. If its answer differs, asks it again to show it.
+    pub fn ask(&mut self, question: impl Fn(&mut Asked)) {
+        // With wrong arguments, one difference is enough.
+        if self.asked.is_planted && self.differ > 0 {
+            return;
+        }
+        self.asked.clear();
+        self.count += 1;
+        question(&mut self.asked);
+        if !self.asked.differs() {
+            return;
+        }
+        self.differ += 1;
+        if !self.asked.is_planted && self.differ <= SHOWN {
+            self.asked.clear();
+            self.asked.calls = Some(Vec::new());
+            question(&mut self.asked);
+            self.show(&self.asked.report());
+            self.asked.calls = None;
+        }
+    }
+
+    /// Prints a difference, and the command that runs the row alone.
+    fn show(&self, what: &str) {
+        let name = self.name;
+        println!("row {name}: {what}\n  alone:    bin/soak --row {name}");
+    }
+}
+
+/// Runs a row, and returns the number of its questions and of the answers that differ. With `is_planted` the library is
+/// passed wrong arguments, and the first answer that differs ends the row. A panic of the driver is a difference.
+pub fn run(row: &Row, is_planted: bool) -> (u64, u64) {
+    let mut rows = Rows { asked: Asked::new(), name: row.0, count: 0, differ: 0 };
+    rows.asked.is_planted = is_planted;
+    if let Err(panic) = catch_unwind(AssertUnwindSafe(|| row.1(&mut rows))) {
+        rows.differ += 1;
+        if !is_planted {
+            rows.show(&format!("the driver panicked: {}", crate::panic_text(&*panic)));
+        }
+    }
+    (rows.count, rows.differ)
+}

@@ -1,0 +1,388 @@
+//! Commands over a string and an inline string: their replies, and the text after them.
+
+use super::{Row, Rows};
+use crate::asked::Answer;
+use crate::calls::{self, Step, WHOLE};
+use crate::kinds::edits::{ask_edits, Commands};
+use crate::kinds::engines::put_failures;
+use crate::random::Random;
+
+pub static ROWS: &[Row] = &[
+    ("commands_by_position", by_position),
+    ("commands_by_position_over_no_text", by_position_over_no_text),
+    ("other_commands", other_commands),
+    ("copies_of_a_range", copies),
+    ("lists_of_commands", lists),
+    ("long_lists_of_commands_of_every_kind", of_every_kind),
+    ("many_commands", many_commands),
+    ("capacity_is_reserved_and_returned", reserved_and_shrunk),
+    ("edits_of_the_engine", edits_of_the_engine),
+];
+
+/// A command, as in `ascii_run`. A range has its form and its bounds.
+#[derive(Clone, Copy)]
+pub enum Cmd {
+    Push(u8),
+    PushStr(&'static str),
+    Insert(usize, u8),
+    InsertStr(usize, &'static str),
+    Remove(usize),
+    Pop,
+    Truncate(usize),
+    Clear,
+    Set(usize, u8),
+    Upper,
+    Lower,
+    Reserve(usize),
+    Shrink,
+    Len,
+    First,
+    Last,
+    Get(usize),
+    Copy(Range),
+    EqIgnoreCase(&'static str),
+}
+
+/// A range by its form, as in `AsciiRange`.
+#[derive(Clone, Copy)]
+pub enum Range {
+    Full,
+    From(usize),
+    To(usize),
+    Range(usize, usize),
+    Inclusive(usize, usize),
+    ToInclusive(usize),
+}
+
+/// A reply.
+#[derive(Clone, Copy)]
+enum Reply {
+    Done,
+    Char(Option<u8>),
+    Number(usize),
+    Truth(bool),
+    Text(&'static str),
+    BadPosition,
+    Refused(usize),
+    NoMemory,
+    TooMany,
+}
+
+use Cmd::*;
+use Reply::{BadPosition, Char, Done, NoMemory, Number, Refused, Text, TooMany, Truth};
+
+/// The commands as they are passed.
+pub fn commands_of(cmds: &[Cmd]) -> Commands {
+    let mut all = Commands::default();
+    for cmd in cmds {
+        match *cmd {
+            Push(code) => all.add(0, 0, code),
+            PushStr(text) => all.add_text(1, 0, text.as_bytes()),
+            Insert(at, code) => all.add(2, at, code),
+            InsertStr(at, text) => all.add_text(3, at, text.as_bytes()),
+            Remove(at) => all.add(4, at, 0),
+            Pop => all.add(5, 0, 0),
+            Truncate(at) => all.add(6, at, 0),
+            Clear => all.add(7, 0, 0),
+            Set(at, code) => all.add(8, at, code),
+            Upper => all.add(9, 0, 0),
+            Lower => all.add(10, 0, 0),
+            Reserve(n) => all.add(11, n, 0),
+            Shrink => all.add(12, 0, 0),
+            Len => all.add(13, 0, 0),
+            First => all.add(14, 0, 0),
+            Last => all.add(15, 0, 0),
+            Get(at) => all.add(16, at, 0),
+            Copy(range) => all.steps.push(copy_of(range)),
+            EqIgnoreCase(text) => all.add_text(18, 0, text.as_bytes()),
+        }
+    }
+    all
+}
+
+fn copy_of(range: Range) -> Step {
+    let (code, start, end) = match range {
+        Range::Full => (0, 0, 0),
+        Range::From(start) => (1, start, 0),
+        Range::To(end) => (2, 0, end),
+        Range::Range(start, end) => (3, start, end),
+        Range::Inclusive(start, end) => (4, start, end),
+        Range::ToInclusive(end) => (5, 0, end),
+    };
+    Step { kind: 17, code, start, end, ..Step::default() }
+}
+
+fn put_reply(reply: Reply, want: &mut Answer) {
+    match reply {
+        Done => want.text("done"),
+        Char(ch) => want.position(ch.map(usize::from)),
+        Number(number) => want.number(number),
+        Truth(holds) => want.flag(holds),
+        Text(text) => want.text(text),
+        BadPosition => want.text("position"),
+        Refused(position) => want.fault("ascii", position),
+        NoMemory => want.text("memory"),
+        TooMany => want.text("many"),
+    }
+}
+
+/// Asks both types of string for the replies to commands, and for the text after them.
+fn ask(rows: &mut Rows, source: &str, cmds: &[Cmd], replies: &[Reply], text: &str) {
+    let all = commands_of(cmds);
+    for is_small in [false, true] {
+        rows.ask(|asked| {
+            calls::ask_edits(asked, is_small, source.as_bytes(), &all.texts, &all.steps);
+            replies.iter().for_each(|reply| put_reply(*reply, &mut asked.want));
+            asked.want.text(text);
+        });
+    }
+}
+
+/// The commands that take a position or a number.
+static BY_POSITION: [fn(usize) -> Cmd; 7] =
+    [|n| Insert(n, b'x'), |n| InsertStr(n, "de"), Remove, |n| Set(n, b'x'), Truncate, Get, Reserve];
+
+/// The reply to each command by position over `abc`, and the text after it, at these positions.
+static POSITIONS: [usize; 5] = [0, 2, 3, 4, usize::MAX];
+static OVER_ABC: [[(Reply, &str); 5]; 7] = [
+    [(Done, "xabc"), (Done, "abxc"), (Done, "abcx"), (BadPosition, "abc"), (BadPosition, "abc")],
+    [(Done, "deabc"), (Done, "abdec"), (Done, "abcde"), (BadPosition, "abc"), (BadPosition, "abc")],
+    [
+        (Char(Some(b'a')), "bc"),
+        (Char(Some(b'c')), "ab"),
+        (BadPosition, "abc"),
+        (BadPosition, "abc"),
+        (BadPosition, "abc"),
+    ],
+    [(Done, "xbc"), (Done, "abx"), (BadPosition, "abc"), (BadPosition, "abc"), (BadPosition, "abc")],
+    [(Done, ""), (Done, "ab"), (Done, "abc"), (Done, "abc"), (Done, "abc")],
+    [
+        (Char(Some(b'a')), "abc"),
+        (Char(Some(b'c')), "abc"),
+        (Char(None), "abc"),
+        (Char(None), "abc"),
+        (Char(None), "abc"),
+    ],
+    [(Done, "abc"), (Done, "abc"), (Done, "abc"), (Done, "abc"), (TooMany, "abc")],
+];
+
+fn by_position(rows: &mut Rows) {
+    for (cmd, expected) in BY_POSITION.iter().zip(OVER_ABC) {
+        for (n, (reply, text)) in POSITIONS.into_iter().zip(expected) {
+            ask(rows, "abc", &[cmd(n)], &[reply], text);
+        }
+    }
+}
+
+/// The reply to each command by position over the empty text, and the text after it, at 0, 1 and the largest position.
+static OVER_NOTHING: [[(Reply, &str); 3]; 7] = [
+    [(Done, "x"), (BadPosition, ""), (BadPosition, "")],
+    [(Done, "de"), (BadPosition, ""), (BadPosition, "")],
+    [(BadPosition, ""), (BadPosition, ""), (BadPosition, "")],
+    [(BadPosition, ""), (BadPosition, ""), (BadPosition, "")],
+    [(Done, ""), (Done, ""), (Done, "")],
+    [(Char(None), ""), (Char(None), ""), (Char(None), "")],
+    [(Done, ""), (Done, ""), (NoMemory, "")],
+];
+
+fn by_position_over_no_text(rows: &mut Rows) {
+    for (cmd, expected) in BY_POSITION.iter().zip(OVER_NOTHING) {
+        for (n, (reply, text)) in [0, 1, usize::MAX].into_iter().zip(expected) {
+            ask(rows, "", &[cmd(n)], &[reply], text);
+        }
+    }
+}
+
+/// A command, and its reply and the text after it: over `aBc`, and over the empty text.
+type OtherCommand = (Cmd, (Reply, &'static str), (Reply, &'static str));
+
+static OTHER_COMMANDS: [OtherCommand; 17] = [
+    (Push(b'x'), (Done, "aBcx"), (Done, "x")),
+    (PushStr("de"), (Done, "aBcde"), (Done, "de")),
+    (PushStr(""), (Done, "aBc"), (Done, "")),
+    (InsertStr(0, ""), (Done, "aBc"), (Done, "")),
+    (Pop, (Char(Some(b'c')), "aB"), (Char(None), "")),
+    (Clear, (Done, ""), (Done, "")),
+    (Upper, (Done, "ABC"), (Done, "")),
+    (Lower, (Done, "abc"), (Done, "")),
+    (Reserve(usize::MAX - 2), (TooMany, "aBc"), (NoMemory, "")),
+    (Reserve(usize::MAX - 3), (NoMemory, "aBc"), (NoMemory, "")),
+    (Shrink, (Done, "aBc"), (Done, "")),
+    (Len, (Number(3), "aBc"), (Number(0), "")),
+    (First, (Char(Some(b'a')), "aBc"), (Char(None), "")),
+    (Last, (Char(Some(b'c')), "aBc"), (Char(None), "")),
+    (EqIgnoreCase("AbC"), (Truth(true), "aBc"), (Truth(false), "")),
+    (EqIgnoreCase("abd"), (Truth(false), "aBc"), (Truth(false), "")),
+    (EqIgnoreCase(""), (Truth(false), "aBc"), (Truth(true), "")),
+];
+
+fn other_commands(rows: &mut Rows) {
+    ask(rows, "abc", &[], &[], "abc");
+    for (cmd, (reply, text), (reply_over_nothing, nothing)) in OTHER_COMMANDS {
+        ask(rows, "aBc", &[cmd], &[reply], text);
+        ask(rows, "", &[cmd], &[reply_over_nothing], nothing);
+    }
+}
+
+/// A range, and the copy of it from `abc`.
+static COPIES: [(Range, Reply); 21] = [
+    (Range::Full, Text("abc")),
+    (Range::From(0), Text("abc")),
+    (Range::From(3), Text("")),
+    (Range::From(4), Refused(3)),
+    (Range::From(usize::MAX), Refused(3)),
+    (Range::To(0), Text("")),
+    (Range::To(3), Text("abc")),
+    (Range::To(4), Refused(3)),
+    (Range::To(usize::MAX), Refused(3)),
+    (Range::Range(1, 2), Text("b")),
+    (Range::Range(3, 3), Text("")),
+    (Range::Range(3, 0), Refused(3)),
+    (Range::Range(4, 4), Refused(3)),
+    (Range::Inclusive(0, 2), Text("abc")),
+    (Range::Inclusive(3, 2), Text("")),
+    (Range::Inclusive(0, 3), Refused(3)),
+    (Range::Inclusive(0, usize::MAX), Refused(3)),
+    (Range::ToInclusive(0), Text("a")),
+    (Range::ToInclusive(2), Text("abc")),
+    (Range::ToInclusive(3), Refused(3)),
+    (Range::ToInclusive(usize::MAX), Refused(3)),
+];
+
+fn copies(rows: &mut Rows) {
+    for (range, reply) in COPIES {
+        ask(rows, "abc", &[Copy(range)], &[reply], "abc");
+    }
+}
+
+/// A text that is just short enough to be inline.
+const FULL: &str = "aaaaaaaaaaaaaaaaaaaaaaaa";
+
+fn lists(rows: &mut Rows) {
+    let longer = [Insert(0, b'b'), Len, Truncate(3), Shrink, Len];
+    ask(rows, FULL, &longer, &[Done, Number(25), Done, Done, Number(3)], "baa");
+    ask(rows, "", &[Reserve(usize::MAX)], &[NoMemory], "");
+    ask(rows, "a", &[Reserve(usize::MAX)], &[TooMany], "a");
+    ask(rows, "", &[Reserve(24), Push(b'a'), Copy(Range::Full)], &[Done, Done, Text("a")], "a");
+    ask(rows, "", &[Push(b'a'); 25], &[Done; 25], &format!("{FULL}a"));
+    let each_reply = [
+        (Insert(4, b'x'), BadPosition),
+        (Insert(3, b'x'), Done),
+        (Remove(4), BadPosition),
+        (Remove(0), Char(Some(b'a'))),
+        (Set(3, b'z'), BadPosition),
+        (Truncate(1), Done),
+        (Upper, Done),
+        (EqIgnoreCase("b"), Truth(true)),
+        (Copy(Range::From(2)), Refused(1)),
+        (Copy(Range::Inclusive(1, 0)), Text("")),
+        (Reserve(usize::MAX), TooMany),
+        (Len, Number(1)),
+        (Pop, Char(Some(b'B'))),
+        (Pop, Char(None)),
+    ];
+    let (cmds, replies): (Vec<Cmd>, Vec<Reply>) = each_reply.into_iter().unzip();
+    ask(rows, "abc", &cmds, &replies, "");
+    let each_edit = [
+        (PushStr("abc"), Done),
+        (InsertStr(1, "def"), Done),
+        (Insert(6, b'x'), Done),
+        (Truncate(9), Done),
+        (PushStr(""), Done),
+        (Upper, Done),
+        (Copy(Range::Full), Text("ADEFBCX")),
+        (Lower, Done),
+        (Remove(1), Char(Some(b'd'))),
+        (Set(1, b'Z'), Done),
+        (Copy(Range::Full), Text("aZfbcx")),
+        (Clear, Done),
+        (Push(b'y'), Done),
+        (Reserve(30), Done),
+        (Shrink, Done),
+        (Pop, Char(Some(b'y'))),
+        (Pop, Char(None)),
+    ];
+    let (cmds, replies): (Vec<Cmd>, Vec<Reply>) = each_edit.into_iter().unzip();
+    ask(rows, "", &cmds, &replies, "");
+}
+
+/// Lists of 19 to 218 commands at random, against std's `Vec`.
+fn of_every_kind(rows: &mut Rows) {
+    for number in 0..200 {
+        for is_small in [false, true] {
+            rows.ask(|asked| {
+                let count = 19 + number as usize;
+                ask_edits(is_small, b"Some".to_vec(), count, &mut Random::new(number), asked);
+            });
+        }
+    }
+}
+
+fn many_commands(rows: &mut Rows) {
+    let (long, cmds) = ("a".repeat(5_000), commands_of(&[Push(b'a'); 5_000]));
+    rows.ask(|asked| {
+        calls::ask_edits(asked, false, b"", &cmds.texts, &cmds.steps);
+        (0..5_000).for_each(|_| asked.want.text("done"));
+        asked.want.text(&long);
+    });
+    let mut cmds = Commands::default();
+    cmds.add_text(3, 1, long.as_bytes());
+    cmds.steps.push(copy_of(Range::Full));
+    rows.ask(|asked| {
+        calls::ask_edits(asked, false, long.as_bytes(), &cmds.texts, &cmds.steps);
+        asked.want.text("done");
+        (0..2).for_each(|_| asked.want.text(long.repeat(2)));
+    });
+}
+
+fn reserved_and_shrunk(rows: &mut Rows) {
+    let cmds = commands_of(&[Push(b'x'), Reserve(10_000), Shrink]);
+    rows.ask(|asked| {
+        calls::ask_capacities(asked, 1, &cmds.texts, &cmds.steps);
+        asked.want.number(1);
+        for capacity in [1, 10_001, 1] {
+            asked.want.text("done");
+            asked.want.number(capacity);
+        }
+    });
+}
+
+/// What the mode `Edit` answers over a text and over the end of it: `Ok` and what it writes, or an error.
+fn ask_mode(rows: &mut Rows, source: &str, cmds: &Commands, runs: [Result<&str, (&str, usize)>; 2]) {
+    rows.ask(|asked| {
+        calls::ask_engine_runs(asked, 7, &[], &cmds.texts, &cmds.steps, source.as_bytes(), &WHOLE, &WHOLE);
+        let (mut calls, mut output) = (0, String::new());
+        for run in runs {
+            match run {
+                Ok(text) => {
+                    asked.want.text("done");
+                    output.push_str(text);
+                    // A write, unless there is nothing to write, and a flush.
+                    calls += 1 + usize::from(!text.is_empty());
+                }
+                Err(("memory", _)) => asked.want.bytes.push(b'!'),
+                Err((name, position)) => asked.want.fault(name, position),
+            }
+            put_failures(0, 0, &mut asked.want);
+        }
+        asked.want.number(calls);
+        asked.want.text(output);
+    });
+}
+
+fn edits_of_the_engine(rows: &mut Rows) {
+    let stops = Err(("position", 1));
+    ask_mode(rows, "abc", &commands_of(&[Pop, Remove(2), Set(9, b'x')]), [stops, stops]);
+    let memory = Err(("memory", 0));
+    ask_mode(rows, "ab", &commands_of(&[Reserve(usize::MAX - 2), Remove(2)]), [memory, memory]);
+    ask_mode(rows, "ab", &commands_of(&[Push(b'x'), Truncate(9), Upper]), [Ok("ABX"), Ok("X")]);
+    ask_mode(rows, "ab", &Commands::default(), [Ok("ab"), Ok("")]);
+    for count in [1_000, 100_000] {
+        let mut cmds = commands_of(&vec![Push(b'b'); count]);
+        let text = "b".repeat(count);
+        ask_mode(rows, "", &cmds, [Ok(&text), Ok(&text)]);
+        cmds.add(4, count, 0);
+        let stops = Err(("position", count));
+        ask_mode(rows, "", &cmds, [stops, stops]);
+    }
+}

@@ -1,0 +1,152 @@
+//! A server over inputs of lines and parts, with bad input, and over sinks that fail. `Words` in
+//! `crates/exports/src/serving.rt` says what it replies.
+
+use super::{Row, Rows};
+use crate::calls::{self, Device, WHOLE};
+use crate::line_model::{put_stop, Stop};
+
+pub static ROWS: &[Row] = &[
+    ("replies_to_all_inputs_are_sent", replies),
+    ("a_server_whose_sink_fails", failing_sinks),
+    ("replies_that_come_together_are_one_write", one_write),
+    ("a_device_is_not_read_after_its_end", not_read_after_its_end),
+    ("each_start_of_a_session_is_answered", each_start),
+];
+
+/// Endings by their numbers.
+const ANY: u8 = 0;
+const STRICT: u8 = 2;
+
+/// Why a conversation stops.
+#[derive(Clone, Copy)]
+enum Why {
+    Closed,
+    Writer,
+    /// The end of the input, or an error of the reader.
+    Stops(Stop),
+}
+
+use Why::{Closed, Stops, Writer};
+
+const END: Why = Stops(None);
+
+const fn fault(name: &'static str, position: usize) -> Why {
+    Stops(Some((name, Some(position))))
+}
+
+/// An input, which endings end its lines, why the conversation stops, and what is written.
+static SESSIONS: [(&[u8], u8, Why, &str); 20] = [
+    (b"", ANY, END, ""),
+    (b"a\nb", ANY, END, "ok\r\nok\r\n"),
+    (b"two\r\nquit\nz\n", ANY, Closed, "one\r\ntwo\r\nbye\r\n"),
+    (b"part\na\nb\nc\nquit\n", ANY, Closed, "ok\r\nok\r\nbye\r\n"),
+    (b"\r\n\n", ANY, END, "ok\r\nok\r\n"),
+    (b"a\ncut", ANY, Closed, "ok\r\ncut off"),
+    // A fault in a part, and one that no line can be skipped after, end the conversation.
+    (b"a\npart\nbc", ANY, fault("incomplete", 2), "ok\r\nclosed\n"),
+    (b"part", ANY, fault("incomplete", 0), "closed\n"),
+    (b"a\npart\nbc\xffd\na\n", ANY, fault("ascii", 9), "ok\r\nbad byte\n"),
+    // A line that is rejected is skipped, and the conversation goes on.
+    (b"a\nb\xff\nc\n", ANY, END, "ok\r\nbad byte\nok\r\n"),
+    (b"\xff\nquit\n\xff\n", ANY, Closed, "bad byte\nbye\r\n"),
+    (b"\xff", ANY, END, "bad byte\n"),
+    (b"a\nabcdefgh\nxyquit\n", ANY, Closed, "ok\r\ntoo long\nok\r\nbye\r\n"),
+    (b"abcdefghijklmnopqrstuvwxyz\nxyquit\n", ANY, Closed, "too long\nok\r\nbye\r\n"),
+    (b"abcdefghijkl", ANY, END, "too long\n"),
+    (b"abcdefgh\nx", ANY, fault("incomplete", 1), "too long\nclosed\n"),
+    (b"a\nb\r\nquit\r\n", STRICT, Closed, "bad break\nbye\r\n"),
+    (b"a\nquit\r\nb\r\n", STRICT, END, "bad break\nok\r\n"),
+    (b"a\rb\r\nquit\r\n", STRICT, Closed, "bad break\nbye\r\n"),
+    (b"a\r", STRICT, END, "bad break\n"),
+];
+
+/// What a row knows of a conversation. `None` is what it does not say.
+struct Expected<'a> {
+    why: Why,
+    count: Option<usize>,
+    reads: Option<usize>,
+    writes: Option<usize>,
+    written: &'a str,
+}
+
+/// Serves an input through buffers of a size. The calls of the devices and the texts that the handler was handed are
+/// expected if the row says how many they are.
+fn ask(
+    rows: &mut Rows,
+    input: &[u8],
+    endings: u8,
+    size: usize,
+    (reads, writes): (Device, Device),
+    expected: &Expected<'_>,
+) {
+    rows.ask(|asked| {
+        calls::ask_served(asked, endings, size, input, &reads, &writes);
+        match expected.why {
+            Closed => asked.want.text("closed"),
+            Writer => asked.want.text("write"),
+            Stops(stop) => put_stop(stop, &mut asked.want),
+        }
+        for number in [expected.count, expected.reads, expected.writes] {
+            let got = asked.got().get(asked.want.bytes.len() + 1..).and_then(|rest| rest.first_chunk());
+            let got = got.map_or(0, |number| u64::from_le_bytes(*number) as usize);
+            asked.want.number(number.unwrap_or(got));
+        }
+        asked.want.text(expected.written);
+    });
+}
+
+fn replies(rows: &mut Rows) {
+    for (input, endings, why, written) in SESSIONS {
+        for most in [1, 100] {
+            let expected = Expected { why, count: None, reads: None, writes: None, written };
+            ask(rows, input, endings, 8, (WHOLE, Device { most, ..WHOLE }), &expected);
+        }
+    }
+}
+
+/// A session of which all lines come in one read, whose replies are 19 bytes.
+const TOGETHER: &[u8] = b"a\ntwo\nquit\n";
+
+/// A sink that fails has taken nothing, or what went out of the buffer before; then the handler is not asked again.
+fn failing_sinks(rows: &mut Rows) {
+    for (size, fails, count, written) in [(8, 0, 0, ""), (8, 1, 2, ""), (100, 0, 0, ""), (100, 1, 3, "")] {
+        let expected = Expected { why: Writer, count: Some(count), reads: None, writes: Some(fails + 1), written };
+        ask(rows, TOGETHER, ANY, size, (WHOLE, Device { most: 100, fails: fails as u64, ..WHOLE }), &expected);
+    }
+}
+
+fn one_write(rows: &mut Rows) {
+    // A flush before the only read, and then a write with its flush.
+    let written = "ok\r\none\r\ntwo\r\nbye\r\n";
+    let expected = Expected { why: Closed, count: Some(3), reads: Some(1), writes: Some(3), written };
+    ask(rows, TOGETHER, ANY, 100, (WHOLE, WHOLE), &expected);
+}
+
+fn not_read_after_its_end(rows: &mut Rows) {
+    // A line that ends in a CR at the end of the input, after which the source would give more.
+    let reads = Device { most: 3, empty: 1, ..WHOLE };
+    let expected = Expected { why: END, count: Some(0), reads: Some(2), writes: None, written: "bad break\n" };
+    ask(rows, b"ab\r\ncd\r\n", STRICT, 16, (reads, WHOLE), &expected);
+    // From a source without such an end these are two lines.
+    let expected = Expected { why: END, count: Some(2), reads: Some(2), writes: None, written: "ok\r\nok\r\n" };
+    ask(rows, b"ab\r\ncd\r\n", STRICT, 16, (WHOLE, WHOLE), &expected);
+}
+
+/// Each start of a session of 200 bytes.
+fn each_start(rows: &mut Rows) {
+    let session = ["two\nab\r\ntwo\n\n".repeat(15), "two\na".to_string()].concat();
+    for end in 0..=session.len() {
+        let text = &session[..end];
+        let mut written = String::new();
+        for (count, line) in (1..).zip(text.lines()) {
+            written.push_str(match line {
+                "two" => "one\r\ntwo\r\n",
+                _ if count > 9 => "many\r\n",
+                _ => "ok\r\n",
+            });
+        }
+        let expected =
+            Expected { why: END, count: Some(text.lines().count()), reads: None, writes: None, written: &written };
+        ask(rows, text.as_bytes(), ANY, 8, (WHOLE, WHOLE), &expected);
+    }
+}
