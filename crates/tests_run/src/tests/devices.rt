@@ -1,14 +1,12 @@
-//! Sources and sinks over readers and writers that follow a list of steps, and devices of this file's own.
+//! Devices of this file's own, and what the contracts of `Output` and `Log` say of any writer.
 
 ghost use Rattle.std.specs.Prelude.{◌≡◌, ◌<◌, ◌⊎◌, ◌∷◌, [], Some};
 ghost use Rattle.ascii_devices.specs.Wrapped.{output_failures, output_history};
 ghost use Rattle.ascii_devices.specs.declared.log.Event.TheVariants.{Flushed, Sent};
 
-use super::device_steps::{Giving, Recording, Step};
-use ascii_devices::{DeviceFault, Duplex, Event, Input, Log, Output, Sink, Source};
+use ascii_devices::{DeviceFault, Event, Input, Log, Output, Sink, Source};
 use std::convert::AsSlice;
 use std::io::{self, ErrorKind};
-use std::process::Abort;
 use testing::assert_row;
 
 /// A source of some bytes that has only the members that every source has, and so keeps no history.
@@ -93,100 +91,51 @@ fn write_a<W: io::Write>(writer: W) -> Output<W>
     output
 }
 
+/// A writer that writes down its calls: the bytes that it took and `|` for a write, `!` for a flush.
+#[derive(Drop)]
+struct Recording {
+    calls: Vec<u8>,
+}
+
+impl io::Write for Recording {
+    fn write(&mut self, buf: &[u8]) -> io::Result<usize> {
+        self.calls.extend_from_slice(buf)?;
+        self.calls.push(b'|')?;
+        Ok(buf.len())
+    }
+
+    fn flush(&mut self) -> io::Result<()> {
+        self.calls.push(b'!')?;
+        Ok(())
+    }
+}
+
 #[test]
 fn a_history_of_any_writer(rt: HostRuntime) {
     let recording = Recording {
-        steps: &[],
         calls: Vec::new(rt.alloc()),
     };
     assert_row!(rt; write_a(recording).into_inner().calls.as_slice(), b"a|!".as_slice());
 }
 
-/// The kind of an error.
-fn kind_of(error: Option<io::Error>) -> Option<ErrorKind> {
-    match error {
-        Some(error) => Some(error.kind()),
-        None => None,
+/// A reader that counts its calls, which all fail.
+#[derive(Drop)]
+struct Unreadable {
+    calls: u64,
+}
+
+impl io::Read for Unreadable {
+    fn read(&mut self, _buf: &mut [u8]) -> io::Result<usize> {
+        self.calls = self.calls.saturating_add(1);
+        Err(io::Error::from(ErrorKind::Interrupted))
     }
 }
 
 #[test]
-fn a_source_keeps_its_last_error(rt: HostRuntime) {
-    let fails = Step::Fails(ErrorKind::NotFound);
-    let closes = Step::Fails(ErrorKind::BrokenPipe);
-    let rows: [([Step; 2], Option<ErrorKind>, u64); 4] = [
-        ([Step::Moves(1), Step::Moves(0)], None, 0),
-        ([Step::Moves(1), fails], Some(ErrorKind::NotFound), 1),
-        ([fails, Step::Moves(1)], Some(ErrorKind::NotFound), 1),
-        ([fails, closes], Some(ErrorKind::BrokenPipe), 2),
-    ];
-    for (steps, want, failures) in rows {
-        let mut input = Input::new(Giving {
-            steps: &steps,
-            bytes: b"abc",
-        });
-        let _ = input.read(&mut [0u8; 2]);
-        let _ = input.read(&mut [0u8; 2]);
-        assert_row!(rt; input.failures(), failures);
-        assert_row!(rt; kind_of(input.into_error()), want);
-    }
-}
-
-#[test]
-fn a_sink_keeps_its_last_error(rt: HostRuntime) {
-    let fails = Step::Fails(ErrorKind::NotFound);
-    let closes = Step::Fails(ErrorKind::BrokenPipe);
-    let rows: [([Step; 2], Option<ErrorKind>, u64); 6] = [
-        ([Step::Moves(1), Step::Moves(1)], None, 0),
-        (
-            [Step::Moves(0), Step::Moves(1)],
-            Some(ErrorKind::WriteZero),
-            1,
-        ),
-        ([fails, Step::Moves(1)], Some(ErrorKind::NotFound), 1),
-        ([Step::Moves(1), closes], Some(ErrorKind::BrokenPipe), 1),
-        ([fails, closes], Some(ErrorKind::BrokenPipe), 2),
-        ([fails, Step::Moves(0)], Some(ErrorKind::NotFound), 1),
-    ];
-    for (steps, want, failures) in rows {
-        let mut output = Output::new(Recording {
-            steps: &steps,
-            calls: Vec::new(rt.alloc()),
-        });
-        let _ = output.write(b"ab");
-        let _ = output.flush();
-        assert_row!(rt; output.failures(), failures);
-        assert_row!(rt; kind_of(output.into_error()), want);
-    }
-}
-
-#[test]
-fn both_directions_of_a_duplex(rt: HostRuntime) {
-    let fails = Step::Fails(ErrorKind::TimedOut);
-    let reads = [Step::Moves(2), fails];
-    let writes = [Step::Moves(1), fails, fails];
-    let giving = Giving {
-        steps: &reads,
-        bytes: b"abcd",
-    };
-    let recording = Recording {
-        steps: &writes,
-        calls: Vec::new(rt.alloc()),
-    };
-    let mut duplex = Duplex::new(giving, recording);
-    let mut buf = [0u8; 4];
-    assert_row!(rt; duplex.write(b"xy"), Ok(1));
-    assert_row!(rt; duplex.read(&mut buf), Ok(2));
-    assert_row!(rt; buf.as_slice(), b"ab\0\0".as_slice());
-    assert_row!(rt; duplex.read(&mut buf), Err(DeviceFault));
-    assert_row!(rt; duplex.write(b"y"), Err(DeviceFault));
-    assert_row!(rt; duplex.flush(), Err(DeviceFault));
-    assert_row!(rt; (Source::failures(&duplex), Sink::failures(&duplex)), (1, 2));
-    assert_row!(rt; duplex.flush(), Ok(()));
-    let (input, output) = duplex.into_parts();
-    assert_row!(rt; input.failures(), 1);
-    assert_row!(rt; kind_of(input.into_error()), Some(ErrorKind::TimedOut));
-    assert_row!(rt; output.into_inner().calls.as_slice(), b"x|!".as_slice());
+fn a_reader_that_fails_is_called_once(rt: HostRuntime) {
+    let mut input = Input::new(Unreadable { calls: 0 });
+    assert_row!(rt; input.read(&mut [0; 2]), Err(DeviceFault));
+    assert_row!(rt; input.into_inner().calls, 1);
 }
 
 #[test]
