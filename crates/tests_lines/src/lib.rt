@@ -1,4 +1,4 @@
-//! The tests of `ascii_lines`, over devices that give and take little at a call or fail.
+//! The tests of `ascii_lines` that are in Rattle: the examples in its documentation, and one of its devices.
 #![tactic(auto)]
 
 #[cfg(test)]

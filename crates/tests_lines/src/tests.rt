@@ -1,11 +1,6 @@
-//! Each public call of `ascii_lines` over devices that give or take little at a call, or fail.
+//! A test that is run unproved, too. The rows of readers, writers and servers are those of `bin/soak`.
 
-mod all_texts;
-mod endings;
-mod line_reader;
-mod line_writer;
-mod next_bytes;
-mod serving;
+mod flushes;
 
 ghost use Rattle.std.specs.Prelude.{IsTrue};
 
