@@ -132,18 +132,3 @@ def grown(tasks, before):
     machine = statistics.median(tasks[name][0] / before[name][0] for name in both)
     found = [name for name in both if tasks[name][0] >= SMALL and tasks[name][0] > GROWN * machine * before[name][0]]
     return [f"{name} takes {tasks[name][0] / machine / before[name][0]:.1f} times as long as in times.txt" for name in found]
-
-
-def in_code(name):
-    """The name of a task, with that of its crate as code."""
-    return re.sub(r"(^the (?:proof|tests) of )(\w+)$", r"\1`\2`", name)
-
-
-def table():
-    """The figures in the repository as a table of minutes, the tasks of less than half a minute as one."""
-    rows = sorted(baseline().items(), key=lambda it: -it[1][0])
-    large = [(name, cpu) for name, (cpu, _) in rows if cpu >= 30]
-    rest = sum(cpu for name, (cpu, _) in rows if cpu < 30)
-    total = sum(cpu for _, (cpu, _) in rows)
-    lines = [f"| {in_code(name)} | {cpu / 60:.1f} |" for name, cpu in large]
-    return ["| Task | CPU minutes |", "|---|--:|", *lines, f"| all others | {rest / 60:.1f} |", f"| together | {total / 60:.0f} |"]

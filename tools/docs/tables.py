@@ -3,7 +3,7 @@
 A page has a table between a line that says that it is made and a line that ends it:
   <!-- Made by `bin/docs tables`: modules -->       a row for each module of the libraries, with its public calls
   <!-- Made by `bin/docs tables`: calls CRATE -->   a row for each group of calls: clauses, examples, tests and mutations
-  <!-- Made by `bin/docs tables`: times -->         what each task of the full check took in the run of tools/check/times.txt
+  <!-- Made by `bin/docs tables`: sizes -->         the lines of each crate: code, definitions, proofs and tests
   <!-- end of the table -->
 A signpost is a paragraph at the head of a source that begins with "Made by `bin/docs tables`: the other calls of `TYPE` are in": it
 names the modules that have calls of that type, each with its calls.
@@ -11,16 +11,12 @@ names the modules that have calls of that type, each with its calls.
 The table that `--print` prints has a line for each public call, with tabs between the fields: the call by the path that callers
 import, its file, its clauses, its tests, its mutations, and whether it has an example."""
 import re
-import sys
 import textwrap
 from functools import cache
 
 from calls import entries, headings, table
 from made import LIBRARIES, TOP, example, first_sentence, head_lines, module_file, modules_of, settle
 from sources import CRATES, read
-
-sys.path.append(str(TOP / "tools" / "check"))
-import times  # noqa: E402
 
 MOST = 6
 BLOCK = re.compile(r"(<!-- Made by `bin/docs tables`: (\w+)(?: (\w+))? -->\n).*?(<!-- end of the table -->)", re.S)
@@ -67,7 +63,26 @@ def calls_table(crate):
     return [*lines, f"| sum | {' | '.join(map(str, total))} |"]
 
 
-TABLES = {"modules": modules_table, "calls": calls_table, "times": lambda _: times.table()}
+def lines_of(file):
+    """The number of lines of a source without blanks and comments."""
+    mark = {".rt": "//", ".antt": "--"}[file.suffix]
+    return sum(not line.strip().startswith(mark) for line in read(file).splitlines() if line.strip())
+
+
+def sizes_table(_):
+    """The lines of each crate, in the order of crates.txt."""
+    lines = ["| Crate | Code | Definitions | Proofs | Tests |", "|---|--:|--:|--:|--:|"]
+    for crate in re.findall(r"^(\w+)[ :]", read(TOP / "crates.txt"), re.M):
+        is_test = lambda file, crate=crate: "tests" in (*file.parts, file.stem) or re.match(r"tests_(?!callers)", crate)  # noqa: E731
+        sources = [(it, bool(is_test(it.relative_to(CRATES / crate)))) for it in (CRATES / crate / "src").rglob("*.rt")]
+        counts = [sum(lines_of(file) for file, tests in sources if not tests)]
+        counts += [sum(map(lines_of, (CRATES / crate / part).rglob("*.antt"))) for part in ("specs", "proofs")]
+        counts += [sum(lines_of(file) for file, tests in sources if tests)]
+        lines.append(f"| `{crate}` | {' | '.join(f'{it:,}' if it else '' for it in counts)} |")
+    return lines
+
+
+TABLES = {"modules": modules_table, "calls": calls_table, "sizes": sizes_table}
 
 
 def page_with_tables(text):
