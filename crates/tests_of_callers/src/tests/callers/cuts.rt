@@ -13,6 +13,14 @@ fn text_in<'a>(part: Option<AsciiStr<'a>>) -> Option<&'a str> {
     Some(part?.as_str())
 }
 
+/// The first word and what comes after it; empty texts without a word.
+fn first_and_rest(view: AsciiStr<'_>) -> [&str; 2] {
+    match first_word_and_rest(view) {
+        Some((word, rest)) => [word.as_str(), rest.as_str()],
+        None => ["", ""],
+    }
+}
+
 #[test]
 fn cuts(rt: HostRuntime) {
     assert_row!(rt; without_prefix(ascii("foobar"), ascii("foo")).as_str(), "bar");
@@ -36,7 +44,8 @@ fn words(rt: HostRuntime) {
     let view = ascii(" one\t two ");
     assert_row!(rt; text_in(first_word(view)), Some("one"));
     assert_row!(rt; text_in(first_word_by_place(view)), Some("one"));
-    assert_row!(rt; first_word_and_rest(view), Some((ascii("one"), ascii("\t two "))));
+    assert_row!(rt; first_and_rest(view), ["one", "\t two "]);
+    assert_row!(rt; first_and_rest(ascii(" ")), ["", ""]);
     assert_row!(rt; word_count(view), 2);
     assert_row!(rt; word_count_by::<Whitespace>(view), 2);
     assert_row!(rt; word_span_count(view), 2);
