@@ -20,6 +20,8 @@ BESIDE = ["serde_json", "testing"]
 TESTED = re.compile(r"^test result: .*?(\d+) passed; (\d+) failed", re.M)
 FAILED = re.compile(r"^test (\S+) \.\.\. FAILED\n((?:[ \t].*\n)*)", re.M)
 VERDICT = re.compile(r"^fn (\S+): (.*)", re.M)
+# The test of an example is in a module of its own, which has its name.
+EXAMPLE = re.compile(r"of_\w+::(\w+)::\1")
 
 
 def made(top, is_proved=False, only=""):
@@ -54,15 +56,17 @@ def run(only=""):
     return int(counts[1]) if counts else 0, failed
 
 
-def prove():
-    """Proves the examples that name a call with a condition. Returns how many are proved, and the verdict of each other one."""
+def prove(only=""):
+    """Proves the examples, or those of one library, that name a call with a condition. Returns how many are proved, and the
+    verdict of each other one."""
     with tempfile.TemporaryDirectory() as scratch:
-        folder, count = made(Path(scratch), is_proved=True)
+        folder, count = made(Path(scratch), True, only)
         uses, _ = libraries.listed()
         words = libraries.words("check", NAME, "src/lib.rt", [*LIBRARIES, *BESIDE], uses)
         status, said = said_by([*words, "--test"], folder)
     verdicts = {name.partition("::tests::")[2]: how for name, how in VERDICT.findall(said)}
-    proved = sum(how.startswith("proved") for name, how in verdicts.items() if name.startswith("of_"))
+    # (a closure of an example has a verdict of its own, under a longer name)
+    proved = sum(how.startswith("proved") for name, how in verdicts.items() if EXAMPLE.fullmatch(name))
     failed = {name: how for name, how in verdicts.items() if not how.startswith("proved")}
     if not failed and (status or proved != count):
         failed = {"the proofs of examples": f"status {status}\n{said[-1500:]}"}
