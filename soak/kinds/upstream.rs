@@ -33,6 +33,17 @@ impl Answer {
             Err(error) => self.number(error.ascii_error().valid_up_to()),
         }
     }
+
+    /// A conversion of an owned source, which is returned if it is not ASCII.
+    fn owned_conversion<O: AsRef<[u8]>>(&mut self, made: Result<AsciiString, FromAsciiError<O>>) {
+        match made {
+            Ok(string) => self.text(string.as_bytes()),
+            Err(error) => {
+                self.number(error.ascii_error().valid_up_to());
+                self.text(error.into_source());
+            }
+        }
+    }
 }
 
 /// Slices a source by a range of a form: `..`, `a..`, `..b`, `a..b`, `a..=b` or `..=b`.
@@ -256,10 +267,10 @@ pub fn conversions(random: &mut Random, asked: &mut Asked) {
     calls::ask_conversions(asked, &source);
     let want = &mut asked.want;
     want.conversion(source[..].into_ascii_string());
-    want.conversion(source.clone().into_ascii_string());
+    want.owned_conversion(source.clone().into_ascii_string());
     if let Ok(text) = std::str::from_utf8(&source) {
         want.conversion(text.into_ascii_string());
-        want.conversion(text.to_string().into_ascii_string());
+        want.owned_conversion(text.to_string().into_ascii_string());
     }
 }
 
