@@ -46,7 +46,7 @@ struct Mode<'a> {
 /// What a run writes, or why it stops: the error and what was written before.
 type Run<'a> = Result<&'a [u8], (&'static str, &'a [u8])>;
 
-/// Asks for two runs over the same devices. Of `writes`, each call is known to move one byte or all.
+/// Asks for two runs over the same devices. Each call of `writes` moves one byte or all.
 fn ask_runs(rows: &mut Rows, mode: &Mode<'_>, source: &[u8], (reads, writes): (&Device, &Device), runs: [Run<'_>; 2]) {
     rows.ask(|asked| {
         let Commands { texts, steps } = mode.commands;
