@@ -116,7 +116,6 @@ calls! {
     fn ask_split_spans(from: usize, code: u8, source: &[u8], script: &[u8]);
     fn ask_lines(source: &[u8], script: &[u8]);
     fn ask_line_spans(from: usize, source: &[u8], script: &[u8]);
-    fn ask_lines_by(endings: u8, source: &[u8], script: &[u8]);
     fn ask_chars(source: &[u8], script: &[u8]);
     fn ask_chars_of_view(source: &[u8], script: &[u8]);
     fn ask_words(source: &[u8], script: &[u8]);

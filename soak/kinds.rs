@@ -90,7 +90,6 @@ pub static KINDS: &[Kind] = &[
     kind("pieces at a text", walks::pieces_at),
     kind("lines", walks::lines),
     kind("lines with starts", walks::line_spans),
-    kind("lines by their endings", walks::lines_by),
     kind("characters by scripts", walks::chars),
     kind("characters of a view", walks::chars_of_view),
     kind("words", walks::words),

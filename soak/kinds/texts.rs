@@ -128,7 +128,7 @@ pub fn comparisons(random: &mut Random, asked: &mut Asked) {
     let (first, second) = pair(random);
     calls::ask_comparisons(asked, &first, &second);
     let (low, lower) = (first.to_ascii_lowercase(), second.to_ascii_lowercase());
-    (0..4).for_each(|_| asked.want.flag(first == second));
+    (0..3).for_each(|_| asked.want.flag(first == second));
     (0..2).for_each(|_| asked.want.flag(low == lower));
     asked.want.order(first.cmp(&second));
     asked.want.order(low.cmp(&lower));

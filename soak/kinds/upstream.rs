@@ -204,7 +204,6 @@ pub fn comparisons(random: &mut Random, asked: &mut Asked) {
     calls::ask_comparisons(asked, &first, &second);
     let (first, second, want) = (view(&first), view(&second), &mut asked.want);
     want.flag(first == second);
-    want.flag(first == second);
     want.flag(first == second.as_str());
     want.flag(first.as_bytes() == second.as_bytes());
     want.flag(first.eq_ignore_ascii_case(second));

@@ -43,33 +43,6 @@ pub fn lines_of(text: &[u8]) -> VecDeque<Item> {
     items
 }
 
-/// The lines that only CR LF ends, by std's `split`.
-fn cr_lf_lines(text: &[u8]) -> VecDeque<Item> {
-    let mut items = VecDeque::new();
-    let mut start = 0;
-    for body in as_str(text).split("\r\n") {
-        let end = start + body.len();
-        if start < text.len() {
-            items.push_back(Item { start, end, whole_end: text.len().min(end + 2) });
-        }
-        start = end + 2;
-    }
-    items
-}
-
-/// The position of the first CR or LF that is not part of a CR LF.
-fn lone_break(text: &[u8]) -> Option<usize> {
-    let mut at = 0;
-    while at < text.len() {
-        match text[at..] {
-            [b'\r', b'\n', ..] => at += 2,
-            [b'\r' | b'\n', ..] => return Some(at),
-            _ => at += 1,
-        }
-    }
-    None
-}
-
 /// The words: the longest runs that are not in a class.
 pub fn words_of(text: &[u8], is_in: impl Fn(u8) -> bool) -> VecDeque<Item> {
     let mut items = pieces_by(text, is_in);
@@ -219,49 +192,6 @@ pub fn line_spans(random: &mut Random, asked: &mut Asked) {
     }
 }
 
-/// What a call of an iterator from the front yields: `step_forward` in `crates/exports/src/walks.rt` says which call.
-fn take_forward(items: &mut VecDeque<Item>, number: u8) -> Option<Item> {
-    match number {
-        0 => items.pop_front(),
-        1 => take(items, 2),
-        _ => items.front().copied(),
-    }
-}
-
-/// The lines by endings, to the end and beyond, or by a script. Strict ones stop before the line with a lone CR or LF.
-pub fn lines_by(random: &mut Random, asked: &mut Asked) {
-    let endings = random.below(3) as u8;
-    let text = match random.below(2) {
-        0 => random.text(),
-        _ => random.joined(&[b"\r\n", b"ab", b"c\r\n", b"d\r\n", b"\n", b"\r"]),
-    };
-    let mut items = if endings == 0 { lines_of(&text) } else { cr_lf_lines(&text) };
-    let lone = if endings == 2 { lone_break(&text) } else { None };
-    items.retain(|line| lone.is_none_or(|place| line.whole_end <= place));
-    let stop = items.back().map_or(0, |line| line.whole_end);
-    let is_whole = random.is_small() || random.below(2) == 0;
-    let script = if is_whole { vec![0; items.len() + 2] } else { random.script(3) };
-    calls::ask_lines_by(asked, endings, &text, &script);
-    for number in &script {
-        let line = take_forward(&mut items, *number);
-        let start = items.front().map_or(stop, |line| line.start);
-        let rest = (start < text.len()).then(|| (start, &text[start..]));
-        let want = &mut asked.want;
-        want.part(text_of(&text, line));
-        want.part(rest.map(|rest| rest.1));
-        want.position(lone);
-        match line {
-            Some(line) => {
-                want.fault(ending(line), line.start);
-                want.text(&text[line.start..line.end]);
-            }
-            None => want.none(),
-        }
-        span(0, rest, want);
-        want.position(lone);
-    }
-}
-
 fn code_by<'a>(items: &mut std::slice::Iter<'a, u8>, number: u8) -> Option<&'a u8> {
     match number {
         0 => items.next(),
@@ -298,18 +228,21 @@ pub fn chars_of_view(random: &mut Random, asked: &mut Asked) {
 }
 
 /// The words by a script, each with what remains: after a word or before a word that was taken.
-pub fn words_and_rests<'a>(text: &'a [u8], mut items: VecDeque<Item>, script: &[u8]) -> Vec<(Option<Item>, &'a [u8])> {
+pub fn words_and_rests<'a>(
+    text: &'a [u8],
+    mut items: VecDeque<Item>,
+    script: &[u8],
+) -> Vec<(Option<Item>, Option<&'a [u8]>)> {
     let (mut from, mut to) = (0, text.len());
     let mut words = Vec::new();
     for number in script {
-        let first = items.front().copied();
         let word = take(&mut items, *number);
-        match (word.or(first), number) {
+        match (word, number) {
             (Some(word), 0 | 2) => from = word.end,
             (Some(word), 1) => to = word.start,
             _ => (),
         }
-        words.push((word, &text[from..to]));
+        words.push((word, (!items.is_empty()).then(|| &text[from..to])));
     }
     words
 }
@@ -319,7 +252,7 @@ pub fn words(random: &mut Random, asked: &mut Asked) {
     calls::ask_words(asked, &text, &script);
     for (word, rest) in words_and_rests(&text, words_of(&text, is_white), &script) {
         asked.want.part(text_of(&text, word));
-        asked.want.text(rest);
+        asked.want.part(rest);
     }
 }
 

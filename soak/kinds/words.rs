@@ -78,7 +78,7 @@ pub fn class_answers(class: u8, source: &[u8], script: &[u8], want: &mut Answer)
     for ((word, rest), number) in words.into_iter().zip(script) {
         let word = word.map(|word| (word.start, &source[word.start..word.end]));
         want.part(word.map(|word| word.1));
-        want.text(rest);
+        want.part(rest);
         span(0, word, want);
         for items in [&mut runs, &mut pieces] {
             let item = take(items, *number);

@@ -1,10 +1,10 @@
 -- How the pieces of a text at another text break at the front.
 use Rattle.std.proofs.Common.{◌≡◌, ◌≢◌, ℕ, zero, suc, ◌+◌, ◌<◌, ◌≤◌, false, List, [], ◌∷◌}
-use Rattle.std.proofs.Common.{length, take, drop, refl, sym, ap, subst, ◌∙◌, arith, inl, inr}
+use Rattle.std.proofs.Common.{length, take, drop, refl, sym, ap, ◌∙◌, arith, inl, inr}
 use Rattle.std.proofs.Common.{None, Some}
 use Rattle.std.specs.List.{onto_first}
 use Rattle.std.proofs.lemmas.Bool.{cases_Bool, cond_both, cond-true, cond-false}
-use Rattle.std.proofs.lemmas.List.{get_or-take, length-map, length-take-le}
+use Rattle.std.proofs.lemmas.List.{get_or-take, length-take-le}
 use Rattle.memchr.specs.Find.{FindsNeedle, OccursAt, occurs_at}
 use Rattle.memchr.proofs.lemmas.MatchLemmas.{OccursAt-from_part, OccursAt-part, OccursAt-true}
 use Rattle.memchr.proofs.lemmas.MatchLemmas.{occurs_at-true}
@@ -130,12 +130,6 @@ module _ (start : ℕ) (t needle : List ℕ) where
       go (n ∷ ns) finds = ap (with_starts (after_piece (length (n ∷ ns))) start)
           (pieces_absent n ns t (nowhere t (n ∷ ns) finds))
 
-  pub piece_spans_at_empty : needle ≡ []
-      → piece_spans_at needle (record { start = start; item = t })
-      ≡ record { start = start; item = t } ∷ []
-  piece_spans_at_empty none = subst (λ n. piece_spans_at n (record { start = start; item = t })
-      ≡ record { start = start; item = t } ∷ []) (sym none) refl
-
   pub free_before : (k : ℕ) → FindsNeedle t needle 0 (Some k) → IsFreeOf needle (take k t)
   free_before k finds some j occurs =
       let fits = finds.1.fits in
@@ -226,8 +220,3 @@ module _ (start : ℕ) (needle t : List ℕ) where
       → match_spans_at needle (record { start = start; item = t }) ≡ []
   match_spans_at_none finds =
       ap (match_spans_between needle) (piece_spans_at_none start t needle finds)
-
-  pub match_spans_at_empty : needle ≡ []
-      → match_spans_at needle (record { start = start; item = t }) ≡ []
-  match_spans_at_empty none =
-      ap (match_spans_between needle) (piece_spans_at_empty start t needle none)

@@ -3,12 +3,12 @@
 use Rattle.std.proofs.Common.{◌≡◌, ◌≢◌, ℕ, ◌+◌, ◌≤◌, List, [], ◌∷◌, ◌++◌, length, append-nil, refl}
 use Rattle.std.proofs.Common.{arith, append_assoc, ap, ◌∙◌, Result, IsOk, OnOk, ◌-◌, ◌<◌, Option}
 use Rattle.std.proofs.Common.{Some, get_or, length-append, map, sym, subst, Bool, true, false, cond}
-use Rattle.std.proofs.Common.{◌⊎◌, ◌↔◌, None, drop, inl, inr, is_some}
+use Rattle.std.proofs.Common.{◌↔◌, is_some}
 use Rattle.std.specs.Char.{is_ascii}
 use Rattle.std.specs.Iterator.{YieldsFirstBy}
 use Rattle.std.specs.Fn.{Called, Mut}
 use Rattle.std.specs.List.{All, Contains, filter, flat_map, items_where_true, join_with_byte}
-use Rattle.std.specs.List.{FoldsTo, list_all, slice_get}
+use Rattle.std.specs.List.{list_all, slice_get}
 use Rattle.std.specs.List.Retain.{ReturnsInTurn}
 use Rattle.std.specs.Prelude.{IsTrue}
 use Rattle.std.specs.Str.{IsAscii}
@@ -16,24 +16,17 @@ use Rattle.std.specs.declared.alloc.AllocError.{AllocError}
 use Rattle.std.proofs.lemmas.Grind.{flat_map-append, common_steps}
 use Rattle.std.proofs.lemmas.Iterator.{YieldsList}
 use Rattle.std.proofs.lemmas.Iterator.Consumers.{YieldsList-from_first}
-use Rattle.std.proofs.lemmas.List.{drop_more, length-map, same_from_push, map_push}
+use Rattle.std.proofs.lemmas.List.{same_from_push, map_push}
 use Rattle.std.proofs.lemmas.List.Elements.{All-cons, All-nil, All-get_or, All-head}
 use Rattle.std.proofs.lemmas.List.Elements.{filter_from_retain}
 use Rattle.memchr.specs.Find.{FindsNeedle}
 use Rattle.ascii_base.specs.Code.{code_of, code_text}
 use Rattle.ascii_base.specs.declared.ascii_char.AsciiChar.{AsciiChar}
-use Rattle.ascii.specs.ByClass.{whole, word_spans_by, words_by}
-use Rattle.ascii.specs.ByClosure.{FindsBy}
+use Rattle.ascii.specs.ByClass.{whole}
 use Rattle.ascii.specs.Chunks.{ChunksOf, Run}
 use Rattle.ascii.specs.Extend.{Collects, Extends}
-use Rattle.ascii.specs.declared.iter.spans.Ending.{Ending}
-use Rattle.ascii.specs.declared.iter.spans.Ending.TheVariants as ending
-use Rattle.ascii.specs.declared.iter.spans.Endings.{Endings}
-use Rattle.ascii.specs.declared.iter.spans.Endings.TheVariants.{CrLfStrict}
-use Rattle.ascii.specs.Lines.{EndsInCr, IsListOfLines, Line, LinesEndedBy, LinesOf, MayFollow}
+use Rattle.ascii.specs.Lines.{Line, LinesOf}
 use Rattle.ascii.specs.Lines.{bodies, line_text}
-use Rattle.ascii.specs.LinesBy.{LinesUpTo}
-use Rattle.ascii.proofs.LinesLeftLemmas.{LinesUpTo-all}
 use Rattle.ascii.specs.Pieces.{Pieces, Remaining}
 use Rattle.ascii.specs.Spans.{LineSpansOf, PieceSpans, WithStart}
 use Rattle.ascii.specs.Spans.{items_of, line_size, piece_size}
@@ -43,15 +36,14 @@ use Rattle.ascii.specs.Steps.{DropsFirst, StepsText, YieldsFirstAnd, at_front}
 use Rattle.ascii.specs.TheCuts.{at_code}
 use Rattle.ascii.specs.StringState.{StringState}
 use Rattle.ascii.specs.View.{text_of}
-use Rattle.ascii.proofs.ByClassLemmas.{words_of_spans}
 use Rattle.ascii.proofs.CutLemmas.{found_if_contained}
 use Rattle.ascii.proofs.ExtendLemmas.{all_from_extends, ok_from_extends, pieces_from_drains}
 use Rattle.ascii.proofs.ExtendLemmas.{singles}
 use Rattle.ascii.proofs.PiecesLemmas.{HasNo-from_absent, Pieces-only, Pieces-pieces_of}
 use Rattle.ascii.proofs.PiecesLemmas.{pieces_of-free, pieces_of-split_at_last}
-use Rattle.ascii.proofs.SpansLemmas.{piece_spans_found, room, room-lines, room-pieces, with_starts-last}
+use Rattle.ascii.proofs.SpansLemmas.{room, room-lines, room-pieces, with_starts-last}
 use Rattle.ascii.proofs.StepsLemmas.{road_from_first_and}
-use Rattle.std.specs.Option.{IfSome, IsSomeAnd, MatchOption}
+use Rattle.std.specs.Option.{IfSome, IsSomeAnd}
 use Rattle.std.proofs.Math.Seq.{get_or-append_seam, take-append_seam}
 use Rattle.std.proofs.lemmas.Bool.{and_parts, lt-ltb, ltb-true}
 use Rattle.std.proofs.lemmas.Bool.Decides.{nat_tests}
@@ -60,7 +52,7 @@ use Rattle.std.proofs.lemmas.Str.Ascii.{All-from_ascii, IsAscii-cons, IsAscii-ni
 use Rattle.std.proofs.lemmas.Option.{slice_get-get_or}
 use Rattle.ascii_base.specs.Case.{lower_image, upper_image}
 use Rattle.ascii.specs.First.{IsFirstAt}
-use Rattle.ascii.specs.Found.{piece_spans, pieces_of}
+use Rattle.ascii.specs.Found.{pieces_of}
 use Rattle.ascii.specs.Search.{ContainsText, IsCut}
 use Rattle.ascii.specs.Trim.{IsSpan, Trims, TrimsEnd}
 
@@ -163,66 +155,6 @@ last_of_line_spans start text front last spans whole left =
       ),
       last_of_lines text front last.item items (rw map_push at whole.lines) left.lines,
     )
-
--- ---- which lists are lines
-
--- the relation of the calls, and the five sentences that say which lists are the lines of a text
-pub list_of_lines : (text : List ℕ) (lines : List Line)
-    → LinesOf text lines ↔ IsListOfLines text lines
-list_of_lines text lines = (
-  λ held. record {
-    no_lf = held.bodies;
-    kinds = λ k d low. each_ending (get_or lines k d).ending;
-    lf = λ k d low. (follows (get_or lines k d).ending (get_or lines k d).body
-        (held.endings k d low)).0;
-    absent = (
-      held.ended,
-      λ k d low. (follows (get_or lines k d).ending (get_or lines k d).body
-          (held.endings k d low)).1,
-    );
-    joined = held.joined;
-  },
-  λ said. record {
-    bodies = said.no_lf;
-    endings = λ k d low. may_follow (get_or lines k d).ending (get_or lines k d).body
-        (said.lf k d low) (said.absent.1 k d low);
-    ended = said.absent.0;
-    joined = said.joined;
-  },
-)
-  where
-    each_ending : (end : Ending) → (end ≡ ending.Lf) ⊎ (end ≡ ending.CrLf) ⊎ (end ≡ ending.Absent)
-    each_ending ending.Lf = inl refl
-    each_ending ending.CrLf = inr (inl refl)
-    each_ending ending.Absent = inr (inr refl)
-
-    follows : (end : Ending) (body : List ℕ) → MayFollow end body
-        → (end ≡ ending.Lf → ¬ (EndsInCr body)) × (end ≡ ending.Absent → body ≢ [])
-    follows ending.Lf body may = (λ is. may, λ none. cc)
-    follows ending.CrLf body may = (λ is. cc, λ none. cc)
-    follows ending.Absent body may = (λ is. cc, λ none. may)
-
-    may_follow : (end : Ending) (body : List ℕ) → (end ≡ ending.Lf → ¬ (EndsInCr body))
-        → (end ≡ ending.Absent → body ≢ []) → MayFollow end body
-    may_follow ending.Lf body lf absent = lf refl
-    may_follow ending.CrLf body lf absent = tt
-    may_follow ending.Absent body lf absent = absent refl
-
--- lines after which nothing comes are the lines of the text
-pub lines_to_end : (endings : Endings) (text : List ℕ) (lines : List Line)
-    → LinesUpTo endings text lines [] ↔ LinesEndedBy endings text lines
-lines_to_end endings text lines = (
-  λ held. subst (λ t. LinesEndedBy endings t lines)
-      (sym (append-nil (flat_map line_text lines)) ∙ held.joined) held.are,
-  LinesUpTo-all endings text lines,
-)
-
--- something comes after lines with `CrLfStrict` only
-pub nothing_after : (endings : Endings) (text : List ℕ) (lines : List Line) (rest : List ℕ)
-    → endings ≢ CrLfStrict → LinesUpTo endings text lines rest → rest ≡ []
-nothing_after endings text lines [] other held = refl
-nothing_after endings text lines (c ∷ rest) other held =
-    absurd (other (held.stop (λ none. cc)).0)
 
 -- ---- extends and collects over `chars()`, `split()` and `lines()`
 
@@ -417,40 +349,3 @@ kept_in_class {F} calls Is keep old new is says =
         called.2 refl))
     each f (ch ∷ chars) (false ∷ answers) last many kept called are =
         each called.0 chars answers last (omega (arith, many)) kept called.2 are
-
--- ---- a closure that is asked about each character
-
-module _ {F : Type 0} (calls : Mut F (AsciiChar × Unit {0}) Bool) (test : ℕ → Bool)
-    (says : (f : F) (ch : AsciiChar) (answer : Bool) (g : F) → Called calls f (ch, tt) answer g
-    → answer ≡ test (code_of ch)) where
-  none_pass : (f g : F) (chars : List AsciiChar)
-      → FoldsTo (λ p ch q. Called calls p (ch, tt) false q) f chars g
-      → All (λ code. test code ≡ false) (map code_of chars)
-  none_pass f g [] asked = All-nil (λ code. test code ≡ false)
-  none_pass f g (ch ∷ chars) asked =
-      All-cons (λ code. test code ≡ false) (code_of ch) (map code_of chars)
-      (sym (says f ch false asked.0 asked.1)) (none_pass asked.0 g chars asked.2)
-
-  -- a closure that tests the code of each character finds the first code that passes the test
-  pub position_by_code : (closure : F) (text : List ℕ) (found : Option ℕ)
-      → FindsBy calls closure text found
-      → MatchOption found (All (λ code. test code ≡ false) text)
-      (IsFirstAt (λ code. test code ≡ false) (λ code. test code ≡ true) text)
-  position_by_code closure text None finds =
-      let asks = finds.1 in
-      subst (All (λ code. test code ≡ false)) asks.are
-      (none_pass closure asks.before asks.chars asks.asked)
-  position_by_code closure text (Some k) finds =
-      let asks = finds.1.1 in
-      let first : slice_get (drop k text) 0 ≡ Some (get_or text k 0) =
-      ap (λ t. slice_get t 0) (drop_more text k 0 finds.0) in
-      let stop = subst (λ found. MatchOption found (finds.1.0 ≡ asks.before) (λ code.
-      (ch : AsciiChar) × (code_of ch ≡ code)
-      × Called calls asks.before (ch, tt) true finds.1.0)) first asks.ended in
-      record {
-        here = subst (λ found. IsSomeAnd found (λ code. test code ≡ true))
-            (sym (slice_get-get_or text k 0 finds.0))
-            (ap test (sym stop.1) ∙ sym (says asks.before stop.0 true finds.1.0 stop.2));
-        before = subst (All (λ code. test code ≡ false)) asks.are
-            (none_pass closure asks.before asks.chars asks.asked);
-      }

@@ -10,7 +10,7 @@ use Rattle.ascii.proofs.ListLemmas.{map-reverse}
 use Rattle.ascii.proofs.PiecesLemmas.{Pieces-only, Pieces-pieces_of}
 use Rattle.ascii.proofs.PlacedLemmas.{inclusive_placed, matches_placed, pieces_at_placed, pieces_placed}
 use Rattle.ascii.proofs.PlacedLemmas.{placed_reversed, terminated_placed, words_placed}
-use Rattle.ascii.specs.Spans.{items_of, piece_size}
+use Rattle.ascii.specs.Spans.{piece_size}
 use Rattle.ascii.proofs.SpansLemmas.{items-with_starts, piece_spans_fit, piece_spans_found}
 use Rattle.ascii.specs.TheCuts.{at_class, at_code, at_end, at_matches, at_terminator, at_text, at_words}
 

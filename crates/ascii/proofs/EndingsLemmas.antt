@@ -6,11 +6,10 @@ use Rattle.std.proofs.Math.ListN.{get_or-append}
 use Rattle.std.proofs.Common.{◌≢◌, ◌⊎◌, Bool, true, eqb}
 use Rattle.std.proofs.lemmas.Bool.{cases_lt, or_cases, or_left, or_right}
 use Rattle.ascii.proofs.ListLemmas.{length-slice_range, slice_range-at}
-use Rattle.memchr.specs.Find.{IsFirst, IsFirstByte, NoneBefore, Nowhere, Passes, is_byte, is_byte2}
+use Rattle.memchr.specs.Find.{IsFirst, IsFirstByte, NoneBefore, Nowhere, Passes, is_byte2}
 use Rattle.ascii.specs.declared.iter.spans.Endings.{Endings}
 use Rattle.ascii.specs.declared.iter.spans.Endings.TheVariants.{Any, CrLf, CrLfStrict}
 use Rattle.ascii.specs.Endings.{StopsAt, IsFirstStop, FreeUpTo}
-use Rattle.ascii.specs.Lines.{IsCrLfAt}
 
 -- the first `n` bytes of two texts are the same
 abbrev pub AgreeUpTo : List ℕ → List ℕ → ℕ → Type 0
@@ -85,20 +84,6 @@ module _ (text : List ℕ) (from : ℕ) (within : from ≤ length text) where
 
 -- ---- a search for CR LF
 
--- no CR LF ends up to an LF that is not after a CR
-pub cr_lf_free : (text : List ℕ) (from place : ℕ) → FreeUpTo CrLf text from
-    → Nowhere (Passes (is_byte 10) text) from place → ¬ (IsCrLfAt text place)
-    → FreeUpTo CrLf text (place + 1)
-cr_lf_free text from place free none other k inside = λ is. elim (cases_lt k from) [
-  | inl before ↦ free k before is
-  | inr after ↦ elim (cases_lt k place) [
-    | inl early ↦ none k after early (eq-eqb _ _ is.1)
-    | inr late ↦
-        let same : k ≡ place = omega (arith, inside, late) in
-        other (subst (IsCrLfAt text) same is)
-  ]
-]
-
 -- ---- a search for CR and LF
 
 pub is_break : (x : ℕ) → (x ≡ 13) ⊎ (x ≡ 10) → is_byte2 13 10 x ≡ true
@@ -133,12 +118,6 @@ module _ (text : List ℕ) (from : ℕ) (free : FreeUpTo CrLfStrict text from)
       ]
     ]
   ]
-
-  pub no_break : Nowhere (Passes (is_byte2 13 10) text) from (length text)
-      → FreeUpTo CrLfStrict text (length text)
-  no_break none = free_until (length text) (omega arith)
-      (λ k low high is. none k low high (is_break _ (inr is)))
-      (λ k low high is. none k low (omega (arith, high)) (is_break _ (inl is)))
 
   -- up to the first CR or LF
   pub before_break : (place : ℕ)

@@ -9,7 +9,7 @@ use Rattle.std.proofs.lemmas.Bool.{cases_lt}
 use Rattle.std.proofs.lemmas.Bool.Decides.{nat_tests}
 use Rattle.std.proofs.lemmas.List.{drop-map, get_or-drop, get_or-take, length-map, take-map}
 use Rattle.std.proofs.lemmas.Option.{get_or_from_slice_get, slice_get_within}
-use Rattle.memchr.specs.Find.{FindsLastNeedle, FindsNeedle, IsFirst, IsFirstByte, IsLast}
+use Rattle.memchr.specs.Find.{FindsNeedle, IsFirst, IsFirstByte, IsLast}
 use Rattle.memchr.specs.Find.{IsLastByte, Nowhere, OccursAt, is_byte2}
 use Rattle.memchr.proofs.lemmas.MatchLemmas.{OccursAt-from_part, OccursAt-part}
 use Rattle.ascii_base.specs.Case.{lower_image, upper_image}
@@ -182,40 +182,3 @@ module _ (text needle : List ℕ) (first : ℕ) (starts : Some first ≡ slice_g
       nowhere_in_both IsThere 0 from (length text) before (nowhere from (length text) none) k low
       (let inside = occurs_inside text needle k occurs in
       omega (arith, inside, some)) occurs
-
-  -- positions after a candidate, and the candidate itself
-  pub nowhere_down_to : (to at : ℕ) → to ≤ length text → Nowhere IsThere to (length text + 1)
-      → IsLast IsCandidate 0 to (Some at) → ¬ (IsThere at)
-      → Nowhere IsThere at (length text + 1)
-  nowhere_down_to to at inside after found not_here k low high occurs =
-      elim (cases_lt at k) [
-        | inl above ↦ nowhere_in_both IsThere (at + 1) to (length text + 1)
-            (nowhere (at + 1) to found.0.after) after k (omega arith) high occurs
-        | inr below ↦ let same : k ≡ at = omega arith in
-            not_here (subst IsThere same occurs)
-      ]
-
-  pub last_found : (to at : ℕ) → to ≤ length text → Nowhere IsThere to (length text + 1)
-      → IsLast IsCandidate 0 to (Some at) → IsThere at
-      → FindsLastNeedle (map lower_image text) (map lower_image needle) (Some at)
-  last_found to at inside after found here =
-      let size : length (map lower_image text) ≡ length text = length-map text lower_image in (
-        record {
-          low = omega arith;
-          high = omega (arith, size, found.0.high);
-          after = rw size (nowhere_in_both IsThere (at + 1) to (length text + 1)
-              (nowhere (at + 1) to found.0.after) after);
-        },
-        here,
-      )
-
-  pub last_missing : (to : ℕ) → Nowhere IsThere to (length text + 1) → IsLast IsCandidate 0 to None
-      → FindsLastNeedle (map lower_image text) (map lower_image needle) None
-  last_missing to after none =
-      rw (length-map text lower_image) (nowhere_in_both IsThere 0 to (length text + 1)
-      (nowhere 0 to none) after)
-
-  -- the needle is not at the end of the text
-  pub not_at_end : Nowhere IsThere (length text) (length text + 1)
-  not_at_end k low high occurs = let inside = occurs_inside text needle k occurs in
-      absurd (omega (arith, inside, some))

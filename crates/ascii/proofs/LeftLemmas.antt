@@ -1,23 +1,20 @@
 -- What a cut leaves of a part.
-use Rattle.std.proofs.Common.{◌≡◌, ℕ, Bool, ◌+◌, ◌-◌, ◌≤◌, List, [], ◌∷◌, ◌++◌, length, take, drop, sym, ap, ◌∙◌}
-use Rattle.std.proofs.Common.{append_assoc, append-nil, arith, drop-drop, length-append, length-drop, length-take-le, refl, subst, take_all, None, Option, Some}
+use Rattle.std.proofs.Common.{◌≡◌, ℕ, ◌+◌, ◌-◌, ◌≤◌, List, [], ◌∷◌, ◌++◌, length, take, drop, sym, ap, ◌∙◌}
+use Rattle.std.proofs.Common.{append_assoc, arith, length-append, length-take-le, refl, subst, None, Option, Some}
 use Rattle.std.proofs.Math.Seq.{drop-append_seam, take-append_seam}
 use Rattle.std.proofs.lemmas.List.{get_or_push, length_push, take-append-drop}
 use Rattle.ascii.specs.declared.iter.cursor.Cursor.{Cursor}
-use Rattle.ascii.specs.Found.{IsSplitAfterLast, IsSplitAt, part_in}
-use Rattle.std.specs.List.{All}
+use Rattle.ascii.specs.Found.{IsSplitAt, part_in}
 use Rattle.std.proofs.lemmas.List.Elements.{All-head}
-use Rattle.ascii.specs.ByClass.{whole}
-use Rattle.ascii.specs.Parts.{IsBefore, IsAfter, LeavesAfter, WithStart, part_end, rest_text}
+use Rattle.ascii.specs.Parts.{IsBefore, IsAfter, WithStart, part_end}
 use Rattle.ascii.specs.View.{text_of}
 use Rattle.std.specs.Option.{IfSome, IsSomeAnd}
 use Rattle.ascii.specs.declared.iter.spans.SplitSpan.{SplitSpan}
 use Rattle.ascii.specs.Cutting.{Cutting, IsLawful, left_of}
 use Rattle.ascii.specs.Pieces.{Remaining}
-use Rattle.ascii.specs.Placed.{ArePlaced, HasAt, IsPlaced}
+use Rattle.ascii.specs.Placed.{ArePlaced, IsPlaced}
 use Rattle.ascii.specs.Spans.{items_of, piece_in}
-use Rattle.ascii.specs.TheCuts.{at_words}
-use Rattle.ascii.specs.Steps.{CutsOff, Side, StepsSpan, StepsText, at_front}
+use Rattle.ascii.specs.Steps.{CutsOff, Side, StepsSpan, StepsText}
 
 module _ (gap : ℕ) (part item : WithStart (List ℕ)) where
   pub after_text : (tail : WithStart (List ℕ)) (front : List ℕ) → part.item ≡ front ++ tail.item
@@ -134,49 +131,3 @@ pub placed_left : (cut : Cutting) → IsLawful cut → (rest : Option (WithStart
 placed_left cut laws None items is = tt
 placed_left cut laws (Some part) items is =
     subst (ArePlaced part.start part.item) (sym is) (laws.placed part)
-
--- ---- what a caller has after a first step
-
--- an item at a place, and what comes after it
-at_place : (text item : List ℕ) (n : ℕ) (rest : Option (WithStart (List ℕ)))
-    → HasAt text n item
-    → LeavesAfter 0 (whole text) (record { start = n; item = item }) rest
-    → take n text ++ (item ++ rest_text rest) ≡ text
-at_place text item n None has end =
-    let size : n + length item - n ≡ length item = omega arith in
-    let is : take (length item) (drop n text) ≡ item = ap (λ m. take m (drop n text)) (sym size) ∙ has in
-    let long : length (drop n text) ≡ length item = length-drop n text ∙ omega (arith, end) in
-    let same : item ≡ drop n text =
-    sym is ∙ take_all (length item) (drop n text) (omega (arith, long)) in
-    ap (λ t. take n text ++ t) (append-nil item ∙ same) ∙ take-append-drop n text
-at_place text item n (Some tail) has behind =
-    let size : n + length item - n ≡ length item = omega arith in
-    let is : take (length item) (drop n text) ≡ item = ap (λ m. take m (drop n text)) (sym size) ∙ has in
-    let at : tail.start - 0 ≡ n + length item = omega (arith, behind.start) in
-    let after : tail.item ≡ drop (length item) (drop n text) =
-    behind.text ∙ (ap (λ m. drop m text) at ∙ sym (drop-drop (length item) n text)) in
-    ap (λ t. take n text ++ t) (ap (λ t. item ++ t) after
-    ∙ (ap (λ t. t ++ drop (length item) (drop n text)) (sym is)
-    ∙ take-append-drop (length item) (drop n text))) ∙ take-append-drop n text
-
-module _ (Is : ℕ → Type 0) (test : ℕ → Bool) (text word : List ℕ) where
-  go : (rest : Option (WithStart (List ℕ))) (span : WithStart (List ℕ)) → span.item ≡ word
-      → IsPlaced 0 text span → LeavesAfter 0 (whole text) span rest
-      → (gap : List ℕ) × (gap ++ (word ++ rest_text rest) ≡ text)
-  go rest span item placed behind =
-      let at : span.start - 0 ≡ span.start = omega arith in (
-        take span.start text,
-        subst (λ w. take span.start text ++ (w ++ rest_text rest) ≡ text) item
-            (at_place text span.item span.start rest (subst (λ n. HasAt text n span.item) at placed.has)
-            behind),
-      )
-
-  -- the text before a first word, the word and what is left are the text
-  pub first_and_rest : (old rest : Option (WithStart (List ℕ))) → old ≡ Some (whole text)
-      → IsSomeAnd old (λ part. (span : WithStart (List ℕ)) × (span.item ≡ word)
-      × CutsOff at_front (at_words Is test) part span rest)
-      → (gap : List ℕ) × (gap ++ (word ++ rest_text rest) ≡ text)
-  first_and_rest old rest is step =
-      let known = subst (λ o. IsSomeAnd o (λ part. (span : WithStart (List ℕ)) × (span.item ≡ word)
-      × CutsOff at_front (at_words Is test) part span rest)) is step in
-      go rest known.0 known.1 known.2.placed known.2.leaves

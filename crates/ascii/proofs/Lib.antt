@@ -1,5 +1,4 @@
 pub mod ByClassLemmas
-pub mod ByClosureLemmas
 pub mod ByTextLemmas
 pub mod CallerLemmas
 pub mod ChunkLemmas
@@ -16,10 +15,8 @@ pub mod FoldFindLemmas
 pub mod FoldLemmas
 pub mod FoldedMapLemmas
 pub mod JsonLemmas
-pub mod LastLineLemmas
 pub mod LeftLemmas
 pub mod LinesByLemmas
-pub mod LinesLeftLemmas
 pub mod LinesLemmas
 pub mod ListLemmas
 pub mod MarkedBackLemmas

@@ -18,7 +18,7 @@ use Rattle.ascii.proofs.ListLemmas.{front_is}
 use Rattle.ascii.proofs.SpansLemmas.{items-with_starts, line_spans_found}
 use Rattle.ascii.specs.declared.iter.spans.Endings.{Endings}
 use Rattle.ascii.specs.declared.iter.spans.Endings.TheVariants.{Any, CrLf, CrLfStrict}
-use Rattle.ascii.specs.Endings.{FreeUpTo, IsFirstStop, IsOneLine, any_text}
+use Rattle.ascii.specs.Endings.{FreeUpTo, IsOneLine, any_text}
 use Rattle.ascii.specs.Lines.{IsBody, IsCrLfAt, MayEnd}
 use Rattle.ascii.specs.Spans.{LineSpansEndedBy}
 use Rattle.ascii.specs.Lines.{LinesEndedBy}
@@ -337,10 +337,6 @@ no_code : (xs : List ℕ) (c : ℕ) → ((k : ℕ) → k < length xs → get_or 
 no_code xs c none found =
     none found.0 found.1 (get_or_default xs found.0 0 c found.1 ∙ found.2)
 
--- bytes that stop at no earlier byte stop at no earlier byte by CR LF
-pub free_cr_lf : (line : List ℕ) (n : ℕ) → FreeUpTo CrLfStrict line n → FreeUpTo CrLf line n
-free_cr_lf line n free k low is = free k low (inl is.1)
-
 -- the body of a line, which is its front, has neither CR nor LF
 clean_body : (line body : List ℕ) (n : ℕ) → length body ≡ n
     → ((k : ℕ) → k < n → get_or line k 0 ≡ get_or body k 0)
@@ -424,20 +420,3 @@ strict_line start line span held one =
       };
       starts = held.starts;
     }
-
--- if it stops at its last byte, that is the end of CR LF
-pub strict_stop : (line : List ℕ) → IsOneLine CrLfStrict line
-    → IsFirstStop CrLfStrict line (length line) → IsFirstStop CrLf line (length line)
-strict_stop line one stop = record {
-  some = stop.some;
-  last = elim one.2 [
-    | inl ends ↦ ends
-    | inr open_end ↦ elim stop.last [
-      | inl feed ↦ absurd (open_end.0 feed)
-      | inr cr ↦
-          let at : length line - 1 - 1 ≡ length line - 2 = omega arith in
-          absurd (open_end.2 (subst (λ j. get_or line j 0 ≡ 13) at cr.1))
-    ]
-  ];
-  free = free_cr_lf line (length line - 1) stop.free;
-}

@@ -17,10 +17,10 @@ use Rattle.std.proofs.Common.{◌↔◌, not, w8, w64}
 use Rattle.std.proofs.lemmas.Bool.{false≢true}
 use Rattle.std.proofs.lemmas.Nat.Bits.{bit_at-trailing_zeros}
 use Rattle.std.proofs.lemmas.Simd.{tops_compared}
-use Rattle.memchr.specs.Find.{FindsLastNeedle, FindsNeedle, IsFirst, IsFirstByte, IsLast}
-use Rattle.memchr.specs.Find.{IsLastByte, Nowhere, OccursAt, Passes, is_byte}
-use Rattle.memchr.proofs.lemmas.FindLemmas.{IsFirst-agree, IsFirst-wider, IsLast-agree}
-use Rattle.memchr.proofs.lemmas.FindLemmas.{IsLast-wider, OccursAt-byte, byte-OccursAt}
+use Rattle.memchr.specs.Find.{FindsNeedle, IsFirst, IsFirstByte}
+use Rattle.memchr.specs.Find.{Nowhere, OccursAt, Passes, is_byte}
+use Rattle.memchr.proofs.lemmas.FindLemmas.{IsFirst-agree, IsFirst-wider}
+use Rattle.memchr.proofs.lemmas.FindLemmas.{OccursAt-byte, byte-OccursAt}
 use Rattle.ascii.specs.Masks.{HasBit, HasByte, HasPart, IsCandidate, MarksCandidates}
 
 -- the bits of a mask that is shifted up in a word
@@ -64,14 +64,6 @@ within_word m k word is = elim (cases_lt k 64) [
   | inl few ↦ few
   | inr g ↦ absurd (omega (arith, is, bit_at_above m 64 k word g))
 ]
-
--- a mask has no bit where it has none when it is shifted up
-pub none_above : (m s i e : ℕ) → e + s ≤ 64 → Nowhere (HasBit (m * 2 ^ s % 2 ^ 64)) (i + s) 64
-    → Nowhere (HasBit m) i e
-none_above m s i e inside none k from to is =
-    let same : k + s - s ≡ k = omega arith in
-    none (k + s) (omega arith) (omega arith)
-    (shifted_here m s (k + s) (omega arith) (omega arith) ∙ ap (bit_at m) same ∙ is)
 
 -- the bits of two masks
 or_left : (a b k : ℕ) → HasBit a k → HasBit (bit_or a b) k
@@ -420,22 +412,6 @@ module _ (hay needle : List ℕ) where
         found.1,
       )
 
-  -- the last of all positions, of which none is from `end` on, and all before `start` were searched
-  pub found_last : (start end : ℕ) (found : Option ℕ) → (found ≡ None → start ≡ 0)
-      → Nowhere (OccursAt hay needle) end (length hay + 1)
-      → IsLast (OccursAt hay needle) start end found → FindsLastNeedle hay needle found
-  found_last start end None all after none = nowhere_in_both _ 0 end _
-      (λ k from to. none k (omega (arith, all refl)) to) after
-  found_last start end (Some p) all after found =
-      let fits = found.1.fits in (
-        record {
-          low = omega arith;
-          high = omega (arith, fits);
-          after = nowhere_in_both _ (p + 1) end _ found.0.after after;
-        },
-        found.1,
-      )
-
 -- a search for the byte of a needle of one byte is one for the needle
 module _ (hay needle : List ℕ) (one : length needle ≡ 1) where
   abbrev on : ℕ → Bool
@@ -447,10 +423,4 @@ module _ (hay needle : List ℕ) (one : length needle ≡ 1) where
   pub finds_byte : (found : Option ℕ) → IsFirstByte on hay found → FindsNeedle hay needle 0 found
   finds_byte found is = IsFirst-wider (OccursAt hay needle) 0 (length hay) _ (omega arith) inside
       found (IsFirst-agree (Passes on hay) (OccursAt hay needle) 0 (length hay)
-      (OccursAt-byte hay needle one) (λ k _. byte-OccursAt hay needle one k) found is)
-
-  pub finds_last_byte : (found : Option ℕ) → IsLastByte on hay found
-      → FindsLastNeedle hay needle found
-  finds_last_byte found is = IsLast-wider (OccursAt hay needle) 0 (length hay) _ (omega arith)
-      inside found (IsLast-agree (Passes on hay) (OccursAt hay needle) 0 (length hay)
       (OccursAt-byte hay needle one) (λ k _. byte-OccursAt hay needle one k) found is)

@@ -1,7 +1,7 @@
 -- Where a quoted text is closed: past each code inside, and at the quote.
 use Rattle.std.proofs.Common.{◌≡◌, ◌≢◌, ℕ, zero, suc, ◌+◌, ◌≤◌, List, [], ◌∷◌, ◌++◌, length, drop}
-use Rattle.std.proofs.Common.{◌<◌, take, get_or, refl, sym, ap, ap₂, subst, ◌∙◌, arith, inl, inr}
-use Rattle.std.proofs.Common.{append_assoc, drop-cons, drop-drop, length-append, length-drop}
+use Rattle.std.proofs.Common.{take, get_or, refl, sym, ap, ap₂, subst, ◌∙◌, arith, inl, inr}
+use Rattle.std.proofs.Common.{append_assoc, drop-cons, drop-drop, length-append}
 use Rattle.std.proofs.Math.Seq.{take-append_seam}
 use Rattle.std.proofs.lemmas.List.{drop_all}
 use Rattle.std.proofs.lemmas.Option.{get_or_from_slice_get, slice_get_within}
@@ -200,29 +200,6 @@ scan_end q e text i end before rest closes =
     not_closed q e rest (rw (drop_all i text end) at ((before rest).0 closes))
 
 -- ---- the text with its first quote
-
--- what is inside ends where the closing quote is
-inside_is : (q end : ℕ) (text inside : List ℕ) → end < length text
-    → inside ++ q ∷ drop (end + 1) text ≡ text → inside ≡ take end text
-inside_is q end text inside within joined =
-    let size : length inside ≡ end = omega (
-      arith,
-      ap length joined,
-      length-append inside (q ∷ drop (end + 1) text),
-      length-drop (end + 1) text,
-      within,
-    ) in
-    sym (take-append_seam inside (q ∷ drop (end + 1) text)) ∙ ap₂ take size joined
-
-pub quoted_at : (q e : ℕ) (text : List ℕ) (end : ℕ) → slice_get text 0 ≡ Some q
-    → end < length (drop 1 text) → ClosesBefore q e (drop 1 text) (drop (end + 1) (drop 1 text))
-    → StartsQuoted q e text (take end (drop 1 text)) (drop (end + 1) (drop 1 text))
-quoted_at q e text end first within closes =
-    let tail = drop 1 text in
-    let is = inside_is q end tail closes.0 within (ap (drop 1) closes.1.joined) in
-    subst (λ whole. StartsQuoted q e whole (take end tail) (drop (end + 1) tail))
-    (sym (left_at text 0 q first))
-    (subst (λ inside. StartsQuoted q e (q ∷ tail) inside (drop (end + 1) tail)) is closes.1)
 
 pub not_quoted : (q e : ℕ) (text : List ℕ) → slice_get text 0 ≡ Some q
     → ((rest : List ℕ) → ¬ (ClosesBefore q e (drop 1 text) rest))

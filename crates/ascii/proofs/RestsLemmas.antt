@@ -23,7 +23,6 @@ use denote.FollowSlice.{heres_id}
 use denote.Laws.{shows}
 use denote.Shadow.{makes_shadow}
 use denote.Steps.{peeks}
-use Rattle.std.specs.Borrow.{RestsIfErr}
 use Rattle.ascii.specs.WritingView.{FinalSource, borrow_of, whole_source_of}
 use Rattle.ascii.specs.declared.ascii_str.AsAsciiStrError.{AsAsciiStrError}
 use Rattle.std.specs.declared.result.Result.TheVariants.{Ok, Err}
@@ -80,19 +79,6 @@ module _ {M : Type 1} {𝓤 : Ura M} (𝓛 : Logic 𝓤) where
       qed 𝓛 (‵ (fres (borrow_of v) (code (whole_source_of v))) ∷ []) ∵
       rewrite ! 0 (λ (γ : GName). ‵ (fres γ (code (whole_source_of v)))) lender refl $
       fpack ! _ From (((λ w. w), whole_source_of v), (λ w. tt), same) $ done !
-
-  -- at `Err` the source has the value that it rests at
-  pub rested : (X E : Type 0) (name : X → GName) (s : MutBor (List ℕ)) (e : E)
-      → ent 𝓤 (sem 𝓛 (RestsIfErr Bytes s name (Err e) (λ n. n ≡ s.now)))
-      (A.res s.ghost_name (Bytes.coded.code s.now))
-  unfolding such_by follows_by
-  rested X E name s e =
-      let code = Bytes.coded.code in
-      let From = λ (r : (x : (List ℕ → List ℕ) × List ℕ) × (List ℕ → ⊤) × (x.1 ≡ s.now)).
-      follows_by (List ℕ) (List ℕ) code code s.ghost_name none r.0.0 r.0.1 in
-      qed 𝓛 (‵ (fex _ From) ∷ []) ∵
-      fpick ! (λ r. rewrite ! 0 (λ (xs : List ℕ). ‵ (fres s.ghost_name (code xs))) r.2 refl $
-      done !)
 
   -- a view that is dropped leaves its source at the value that it has then
   pub given_up : (a : NamedLft) (v : AsciiStrMut) (vs : List Val)

@@ -1,7 +1,7 @@
 -- The pieces and the lines of a text with their starts, and how they break at either end.
 use Rattle.std.proofs.Common.{◌≡◌, ◌≢◌, ℕ, suc, ◌+◌, ◌≤◌, List, [], ◌∷◌, ◌++◌, length, append-nil}
-use Rattle.std.proofs.Common.{reverse, refl, sym, ap, ◌∙◌, subst, arith, length-append}
-use Rattle.std.specs.List.{Contains, flat_map, join_with_byte}
+use Rattle.std.proofs.Common.{refl, sym, ap, ◌∙◌, subst, arith, length-append}
+use Rattle.std.specs.List.{flat_map, join_with_byte}
 use Rattle.std.proofs.lemmas.List.Splits.{join_with_byte-slice_split}
 use Rattle.ascii.specs.declared.iter.cursor.Cursor.{Cursor}
 use Rattle.ascii.specs.declared.iter.spans.Ending.TheVariants.{Absent}
@@ -14,11 +14,10 @@ use Rattle.ascii.specs.Pieces.{Pieces}
 use Rattle.ascii.specs.Spans.{LineSpansOf, PieceSpans, WithStart, items_of, line_size, piece_size}
 use Rattle.ascii.specs.Spans.{with_starts}
 use Rattle.ascii.specs.View.{text_of}
-use Rattle.ascii.proofs.ListLemmas.{map-reverse}
 use Rattle.ascii.proofs.LinesLemmas.{LinesOf-lines_of, LinesOf-only, length-lines_of}
 use Rattle.ascii.proofs.LinesLemmas.{line_text-ended, lines_of-split_at_first, lines_of-last_ended}
 use Rattle.ascii.proofs.LinesLemmas.{lines_of-last_open, lines_of-open, lines_of-some, not_whole}
-use Rattle.ascii.proofs.PiecesLemmas.{absent-from_Free, Pieces-only, Pieces-pieces_of}
+use Rattle.ascii.proofs.PiecesLemmas.{Pieces-only, Pieces-pieces_of}
 use Rattle.ascii.proofs.PiecesLemmas.{length-pieces_of, pieces_of-split_at_first}
 use Rattle.ascii.proofs.PiecesLemmas.{pieces_of-split_at_last}
 use Rattle.ascii.proofs.PiecesLemmas.{pieces_of-free, slice_split-some}
@@ -71,12 +70,6 @@ room-pieces on (piece ∷ next ∷ others) some = omega (
 room-pieces_of : (on : ℕ) (t : List ℕ) → room piece_size (pieces_of on t) ≡ length t + 1
 room-pieces_of on t = room-pieces on (pieces_of on t) (slice_split-some _ t)
     ∙ ap (λ xs. length xs + 1) (join_with_byte-slice_split on t)
-
--- a piece that the search found to be free of the separator does not contain it
-pub free_piece : (on byte : ℕ) (part piece : WithStart (List ℕ)) → byte ≡ on → HasNo byte part.item
-    → piece ≡ part → ¬ (Contains piece.item on)
-free_piece on byte part piece byte_is free is =
-    rw is (absent-from_Free on part.item (rw byte_is at free))
 
 module _ (on : ℕ) (part : WithStart (List ℕ)) where
   -- the first piece is before the first separator
@@ -166,9 +159,6 @@ module _ (part : WithStart (List ℕ)) where
       → line_spans part ≡ only ∷ line_spans (part_in cursor)
   line_spans_open cursor only free some none only_is = rw (only_is, none)
       (ap (with_starts line_size part.start) (lines_of-open part.item free some))
-
-  pub line_spans_none : part.item ≡ [] → line_spans part ≡ []
-  line_spans_none none = rw none
 
   -- a text that is not empty has a line
   pub line_spans_some : part.item ≢ [] → line_spans part ≢ []

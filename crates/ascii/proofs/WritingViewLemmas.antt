@@ -2,9 +2,7 @@
 use Rattle.std.proofs.Common.{map, ◌≡◌, ℕ, ◌-◌, ◌<◌, ◌≤◌, List, length, get_or, arith}
 use Rattle.std.specs.List.{slice_range}
 use Rattle.std.specs.Str.{IsAscii}
-use Rattle.ascii_base.specs.declared.range.AsciiRange.{AsciiRange}
-use Rattle.ascii_base.specs.Range.{start_of, end_of}
-use Rattle.ascii.specs.Slice.{AsciiBetween, IsAsciiBounds}
+use Rattle.ascii.specs.Slice.{AsciiBetween}
 use Rattle.std.proofs.lemmas.List.{length-map, get_or-map, places}
 use Rattle.std.proofs.lemmas.Grind.{common_steps}
 use borrow.Rule.Slice.PartMut.{put_mid}
@@ -14,19 +12,6 @@ use Rattle.ascii.proofs.TextLemmas.{lower_image-below, upper_image-below}
 pub AsciiBetween-part : (bytes : List ℕ) (s e : ℕ) → IsAscii (slice_range bytes s e)
     → AsciiBetween bytes s e
 AsciiBetween-part bytes s e ascii k from to = grind (arith, common_steps, ascii (k - s))
-
--- accepted bounds are those of a writing view
-pub bounds_hold : (bytes : List ℕ) (r : AsciiRange) (s e : ℕ) → IsAsciiBounds bytes r (s, e)
-    → (s ≤ e) × (e ≤ length bytes) × AsciiBetween bytes s e
-bounds_hold bytes r s e bounds =
-    let n = length bytes in
-    let start : s ≡ start_of r = bounds.start in
-    let end : e ≡ end_of r n = bounds.end in
-    let ordered : start_of r ≤ end_of r n = bounds.fits.0 in
-    let inside : end_of r n ≤ n = bounds.fits.1 in
-    let part : AsciiBetween bytes (start_of r) (end_of r n) =
-    AsciiBetween-part bytes (start_of r) (end_of r n) bounds.ascii in
-    (omega arith, omega arith, λ k from to. part k (omega arith) (omega arith))
 
 -- a part that is mapped to bytes below 128 keeps to them
 pub AsciiBetween-mapped : (f : ℕ → ℕ) (xs ys : List ℕ) (s e : ℕ)

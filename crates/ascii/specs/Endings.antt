@@ -1,5 +1,5 @@
 -- The bytes of a line, and where it ends.
-use Rattle.std.specs.Prelude.{◌≡◌, ◌≢◌, ◌⊎◌, ℕ, ◌+◌, ◌-◌, ◌<◌, ◌≤◌, List, length, slice_index}
+use Rattle.std.specs.Prelude.{◌≡◌, ◌≢◌, ◌⊎◌, ℕ, ◌+◌, ◌-◌, ◌<◌, List, length, slice_index}
 use Rattle.std.specs.Prelude.{None, Some, ⊤}
 use Rattle.std.specs.declared.option.Option.{Option}
 use Rattle.ascii.specs.Lines.{IsCrLfAt}
@@ -50,15 +50,3 @@ FindsLoneBreak kind bytes (Some i) = (kind ≡ CrLfStrict)
 abbrev pub IsOneLine : Endings → List ℕ → Type 0
 IsOneLine endings bytes = (0 < length bytes) × FreeUpTo endings bytes (length bytes - 1)
     × IsWhole endings bytes
-
--- the first `n` bytes are those up to the first that ends a line or shows a lone CR or LF, or all
--- bytes if none does
-abbrev pub IsLineLength : Endings → List ℕ → ℕ → Type 0
-IsLineLength endings text n =
-    IsFirstStop endings text n ⊎ ((n ≡ length text) × FreeUpTo endings text n)
-
--- the first `n` bytes are those up to the last CR LF, or none if there is no CR LF
-pub record IsAfterLastCrLf (text : List ℕ) (n : ℕ) : Type 0 where
-  pub within : n ≤ length text
-  pub ended : n ≢ 0 → IsCrLfAt text (n - 1)
-  pub free : (k : ℕ) → n ≤ k → k < length text → ¬ (IsCrLfAt text k)

@@ -3,7 +3,7 @@
 -- calls that make the iterators ensure that it finds the pieces or lines, and that nothing else is
 -- them.
 use Rattle.std.specs.Prelude.{◌≡◌, ℕ, ◌+◌, ◌-◌, List, [], ◌∷◌, ◌++◌, ◌⊎◌, length, take}
-use Rattle.std.specs.Prelude.{slice_index_or, cond, Bool, ◌==◌, false, Option, Some, None}
+use Rattle.std.specs.Prelude.{slice_index_or, cond, Bool, ◌==◌, false, Option}
 use Rattle.std.specs.Prelude.{zero, suc}
 use Rattle.std.specs.List.{All, join_with_byte, slice_split}
 use Rattle.ascii.specs.declared.iter.cursor.Cursor.{Cursor}

@@ -1,6 +1,5 @@
 pub mod Buffer
 pub mod ByClass
-pub mod ByClosure
 pub mod ByText
 pub mod Chunks
 pub mod ConversionError
@@ -16,7 +15,6 @@ pub mod Folded
 pub mod Found
 pub mod Json
 pub mod Lines
-pub mod LinesBy
 pub mod Maps
 pub mod Marked
 pub mod Masks

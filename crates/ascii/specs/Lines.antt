@@ -1,5 +1,5 @@
 -- The lines of a text.
-use Rattle.std.specs.Prelude.{◌≡◌, ◌≢◌, ◌⊎◌, ℕ, ◌-◌, ◌^◌, ◌<◌, List, [], ◌∷◌, ◌++◌, length, take}
+use Rattle.std.specs.Prelude.{◌≡◌, ◌≢◌, ℕ, ◌-◌, ◌^◌, ◌<◌, List, [], ◌∷◌, ◌++◌, length, take}
 use Rattle.std.specs.Prelude.{slice_get, slice_index, Some, map, ⊤, Option, MatchOption}
 use Rattle.std.specs.List.{All, Contains, flat_map}
 use Rattle.ascii.specs.declared.ascii_str.AsciiStr.{AsciiStr}
@@ -65,17 +65,6 @@ pub record LinesEndedBy (kind : Endings) (text : List ℕ) (lines : List Line) :
 -- `lines` are the lines of `text`, which end in LF or CR LF
 abbrev pub LinesOf : List ℕ → List Line → Type 0
 LinesOf = LinesEndedBy by.Any
-
--- the same in five sentences: no body contains LF; an ending is LF, CR LF or absent; LF alone comes
--- only after a body that does not end in CR; an absent ending comes only in the last line, after a
--- body that is not empty; the bodies and endings in order are the text
-pub record IsListOfLines (text : List ℕ) (lines : List Line) : Type 0 where
-  pub no_lf : All (λ line. ¬ (Contains line.body 10)) lines
-  pub kinds : All (λ line. (line.ending ≡ Lf) ⊎ (line.ending ≡ CrLf) ⊎ (line.ending ≡ Absent)) lines
-  pub lf : All (λ line. line.ending ≡ Lf → ¬ (EndsInCr line.body)) lines
-  pub absent : All (λ line. line.ending ≢ Absent) (take (length lines - 1) lines)
-      × All (λ line. line.ending ≡ Absent → line.body ≢ []) lines
-  pub joined : flat_map line_text lines ≡ text
 
 -- `Holds` is true of a list that is the lines of the view
 abbrev pub OfLines : AsciiStr → (List Line → Type 0) → Type 0

@@ -1,5 +1,5 @@
 -- Parts of a text with their start positions, and what a cut leaves of one.
-use Rattle.std.specs.Prelude.{◌≡◌, ℕ, ◌+◌, ◌-◌, List, [], MatchOption, None, Option, Some, drop, length, take}
+use Rattle.std.specs.Prelude.{◌≡◌, ℕ, ◌+◌, ◌-◌, List, MatchOption, Option, drop, length, take}
 
 -- an item with its start position
 pub record WithStart (A : Type 0) : Type 0 where
@@ -9,11 +9,6 @@ pub record WithStart (A : Type 0) : Type 0 where
 -- the position after the last code of a part
 abbrev pub part_end : WithStart (List ℕ) → ℕ
 part_end part = part.start + length part.item
-
--- the text of a part; the empty text without a part
-abbrev pub rest_text : Option (WithStart (List ℕ)) → List ℕ
-rest_text None = []
-rest_text (Some part) = part.item
 
 -- `tail` is what `part` has from `gap` codes after `item` on
 pub record IsAfter (gap : ℕ) (part item tail : WithStart (List ℕ)) : Type 0 where

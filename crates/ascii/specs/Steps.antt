@@ -1,5 +1,5 @@
 -- Iterator steps that also say how the rest of the state changes.
-use Rattle.std.specs.Prelude.{◌≡◌, ℕ, ◌-◌, ◌^◌, ◌<◌, List, [], ◌∷◌, ◌++◌, IfSome, IsSomeAnd, MatchOption, Option, Some, None, drop, length, take}
+use Rattle.std.specs.Prelude.{◌≡◌, ℕ, ◌-◌, ◌^◌, ◌<◌, List, [], ◌∷◌, ◌++◌, IfSome, IsSomeAnd, MatchOption, Option, Some, drop, length, take}
 use Rattle.std.specs.List.{Contains}
 use Rattle.std.specs.Iterator.{YieldsFirstBy, YieldsLastBy}
 use Rattle.std.specs.Iterator.Runs.{EveryRun, ItemsMapTo, ItemsMapToReversed}

@@ -1,5 +1,5 @@
 -- The ways to cut that the iterators of a view use.
-use Rattle.std.specs.Prelude.{◌≡◌, ℕ, Bool, List, ◌++◌, ◌∷◌, [], length}
+use Rattle.std.specs.Prelude.{◌≡◌, ℕ, Bool, List, length}
 use Rattle.std.specs.List.{slice_split}
 use Rattle.ascii.specs.ByClass.{IsOutside, piece_spans_by, word_spans_by, words_by}
 use Rattle.ascii.specs.ByText.{IsFreeOf, match_spans_at, matches_at, piece_spans_at, pieces_at}

@@ -1,4 +1,4 @@
-//! Where a line of some bytes ends, and in what: the search under `lines_by` and under readers of lines.
+//! Where a line of some bytes ends, and in what: the search under readers of lines.
 //!
 //! A reader of lines cuts off the bytes up to `find_end`, tests them with `lone_break`, and splits them with
 //! `split_ending`:
@@ -8,23 +8,20 @@
 //! | the end of a line in bytes of which the first are searched | `find_end` |
 //! | a lone CR or LF in the bytes up to there | `lone_break` |
 //! | the body and the ending of a line | `split_ending` |
-//! | whether bytes end in CR LF | `ends_in_cr_lf` |
 //!
 //! None of them allocates. The searches for CR and LF are those of the crate `memchr`. If a view has the whole text,
-//! use `lines_by` or `line_spans_by` of the view.
+//! `lines` of the view has its lines that end in LF or CR LF.
 
 ghost use Rattle.std.specs.Prelude.{◌≡◌, ◌≢◌, ◌+◌, ◌-◌, ◌<◌, ◌≤◌, ◌↔◌, ◌∷◌, [], IsTrue};
 ghost use Rattle.std.specs.Prelude.{MatchOption, length, slice_index};
-ghost use Rattle.ascii.specs.Endings.{FindsLoneBreak, FreeUpTo, IsAfterLastCrLf, IsFirstStop};
+ghost use Rattle.ascii.specs.Endings.{FindsLoneBreak, FreeUpTo, IsFirstStop};
 ghost use Rattle.ascii.specs.Endings.{IsOneLine};
 ghost use Rattle.ascii.specs.Lines.{IsCrLfAt, LinesEndedBy};
-ghost use Rattle.ascii.specs.View.{text_of};
 ghost use Rattle.ascii.specs.declared.iter.spans.Endings.TheVariants.{CrLf, CrLfStrict};
 ghost use Rattle.memchr.specs.Find.{IsFirst, Passes, is_byte, is_byte2};
 
-use crate::ascii_str::AsciiStr;
 use crate::iter::{Ending, Endings};
-use memchr::{memchr, memchr2, memrchr};
+use memchr::{memchr, memchr2};
 
 /// Returns how many bytes of `text` there are up to the first byte that ends a line or shows a lone
 /// CR or LF, that byte included, or `None` if no byte does. With `CrLfStrict`, a CR is shown to be
@@ -85,7 +82,7 @@ fn follows_cr(text: &[u8], place: usize) -> bool
 }
 
 /// The position of the first CR or LF of a text from `from` on.
-pub(crate) fn first_break(text: &[u8], from: usize) -> Option<usize>
+fn first_break(text: &[u8], from: usize) -> Option<usize>
     requires { from ≤ length text.now }
     ensures { IsFirst (Passes (is_byte2 13 10) text.now) from (length text.now) result }
 {
@@ -127,11 +124,8 @@ fn last_lone_break(bytes: &[u8]) -> Option<usize>
     }
 }
 
-/// Returns `true` if `text` ends in CR LF.
-///
-///     ends_in_cr_lf(b"a\r\n") // true
-///     ends_in_cr_lf(b"a\n") // false
-pub fn ends_in_cr_lf(text: &[u8]) -> bool
+/// Whether a text ends in CR LF.
+fn ends_in_cr_lf(text: &[u8]) -> bool
     ensures { IsTrue result ↔ IsCrLfAt text.now (length text.now - 1) }
 {
     let n = text.len();
@@ -155,22 +149,6 @@ fn find_cr_lf(text: &[u8], searched: usize) -> Option<usize>
             return Some(place + 1);
         }
         from = place + 1;
-    }
-}
-
-/// Returns the number of bytes up to the end of the last CR LF of a text, or 0 if there is none.
-pub(crate) fn after_last_cr_lf(text: &[u8]) -> usize
-    ensures { IsAfterLastCrLf text.now result }
-{
-    let mut end = text.len();
-    'feeds: loop {
-        let Some(place) = memrchr(b'\n', &text[..end]) else {
-            return 0;
-        };
-        if follows_cr(text, place) {
-            return place + 1;
-        }
-        end = place;
     }
 }
 

@@ -1,6 +1,6 @@
 //! Views that are compared ignoring ASCII case: keys of a map or a set, such as names of headers.
 //!
-//!     AsciiStr::literal("Host").folded() == AsciiStr::literal("HOST").folded() // true
+//!     FoldedStr::new(AsciiStr::literal("Host")) == FoldedStr::new(AsciiStr::literal("HOST")) // true
 //!
 //! A `FoldedString` is such a key that owns its text.
 
@@ -24,7 +24,7 @@ use std::hash::{Hash, Hasher};
 /// A view whose equality, order and hash are those of its text in lower case. It keeps the text in
 /// its own case, which is what it prints.
 ///
-///     AsciiStr::literal("Host").folded() // "Host"
+///     FoldedStr::new(AsciiStr::literal("Host")) // "Host"
 #[derive(Clone, Copy)]
 pub struct FoldedStr<'a> {
     view: AsciiStr<'a>,
@@ -54,20 +54,6 @@ impl<'a> FoldedStr<'a> {
     }
 }
 
-impl<'a> AsciiStr<'a> {
-    ghost use Rattle.ascii.specs.Folded.{own_text};
-
-    /// Returns the view as one that is compared ignoring ASCII case. Nothing is copied.
-    ///
-    ///     AsciiStr::literal("Host").folded() == AsciiStr::literal("HOST").folded() // true
-    #[inline]
-    pub fn folded(self) -> FoldedStr<'a>
-        ensures { own_text result ≡ text_of self.entry }
-    {
-        FoldedStr::new(self)
-    }
-}
-
 impl PartialEq for FoldedStr<'_> {
     ghost use Rattle.ascii.specs.Folded.{folded_text};
 
@@ -77,7 +63,7 @@ impl PartialEq for FoldedStr<'_> {
 
     /// Returns `true` if the two texts are equal, ignoring ASCII case.
     ///
-    ///     AsciiStr::literal("Host").folded() == AsciiStr::literal("Hosts").folded() // false
+    ///     FoldedStr::new(AsciiStr::literal("Host")) == FoldedStr::new(AsciiStr::literal("Hosts")) // false
     fn eq(&self, other: &Self) -> bool {
         self.view.eq_ignore_ascii_case(other.view)
     }
@@ -97,7 +83,7 @@ impl PartialOrd for FoldedStr<'_> {
 
     /// Returns the order of the two texts in lower case: that of `cmp`.
     ///
-    ///     AsciiStr::literal("HOST").folded() < AsciiStr::literal("hostess").folded() // true
+    ///     FoldedStr::new(AsciiStr::literal("HOST")) < FoldedStr::new(AsciiStr::literal("hostess")) // true
     fn partial_cmp(&self, other: &Self) -> Option<Ordering> {
         Some(self.cmp(other))
     }
@@ -116,7 +102,7 @@ impl Ord for FoldedStr<'_> {
 
     /// Returns the order of the two texts in lower case: lexicographic, by the codes.
     ///
-    ///     AsciiStr::literal("b").folded().cmp(&AsciiStr::literal("A").folded()) // Greater
+    ///     FoldedStr::new(AsciiStr::literal("b")).cmp(&FoldedStr::new(AsciiStr::literal("A"))) // Greater
     fn cmp(&self, other: &Self) -> Ordering {
         compare_lower(self.view.bytes, other.view.bytes)
     }
@@ -132,8 +118,8 @@ impl Hash for FoldedStr<'_> {
     /// Hashes the text in lower case, so that equal texts have equal hashes.
     ///
     ///     let mut seen = HashSet::new(alloc);
-    ///     seen.insert(AsciiStr::literal("Host").folded())?;
-    ///     seen.contains(&AsciiStr::literal("HOST").folded()) // true
+    ///     seen.insert(FoldedStr::new(AsciiStr::literal("Host")))?;
+    ///     seen.contains(&FoldedStr::new(AsciiStr::literal("HOST"))) // true
     fn hash<H: Hasher>(&self, state: &mut H) {
         state.write_usize(self.view.len());
         feed_lower(self.view.bytes, state);
@@ -184,7 +170,7 @@ impl fmt::Display for FoldedStr<'_> {
     /// Writes the text in its own case, with the width, the alignment and the precision of the
     /// format, as for `str`.
     ///
-    ///     format!(in alloc; "{}", AsciiStr::literal("Host").folded())? // "Host"
+    ///     format!(in alloc; "{}", FoldedStr::new(AsciiStr::literal("Host")))? // "Host"
     fn fmt<W: fmt::Write>(&self, f: &mut fmt::Formatter<W>) -> fmt::Result {
         fmt::Display::fmt(&self.view, f)
     }
@@ -199,7 +185,7 @@ impl fmt::Debug for FoldedStr<'_> {
 
     /// Writes the text in its own case, in double quotes, escaped as std escapes it.
     ///
-    ///     format!(in alloc; "{:?}", AsciiStr::literal("Host").folded())? // "\"Host\""
+    ///     format!(in alloc; "{:?}", FoldedStr::new(AsciiStr::literal("Host")))? // "\"Host\""
     fn fmt<W: fmt::Write>(&self, f: &mut fmt::Formatter<W>) -> fmt::Result {
         fmt::Debug::fmt(&self.view, f)
     }

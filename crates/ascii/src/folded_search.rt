@@ -2,7 +2,7 @@
 //! allocates.
 
 ghost use Rattle.std.specs.Prelude.{◌≡◌, ◌↔◌, ◌≤◌, IsTrue, length, map, slice_index};
-ghost use Rattle.memchr.specs.Find.{FindsLastNeedle, FindsNeedle, IsFirst, IsLast, OccursAt};
+ghost use Rattle.memchr.specs.Find.{FindsNeedle, IsFirst, OccursAt};
 ghost use Rattle.ascii_base.specs.Case.{lower_image};
 ghost use Rattle.ascii_base.specs.Code.{code_of};
 ghost use Rattle.ascii.specs.Search.{ContainsText, EndsWith, IgnoringCase, IsPrefix, IsSuffix};
@@ -38,34 +38,6 @@ impl<'a> AsciiStr<'a> {
                 return Some(at);
             }
             from = at + 1;
-        }
-        None
-    }
-
-    /// Returns the position of the last `needle` in the view, ignoring ASCII case, or `None` if the
-    /// view does not contain it so. An empty needle is found at the length.
-    ///
-    /// Compares the needle at each position that has its first character in either case, from the
-    /// last one on.
-    ///
-    /// If case matters, use `rfind`.
-    ///
-    ///     AsciiStr::literal("ab aB").rfind_ignore_ascii_case(AsciiStr::literal("AB")) // Some(3)
-    ///     AsciiStr::literal("ab aB").rfind_ignore_ascii_case(AsciiStr::literal("BA")) // None
-    ///     AsciiStr::literal("abc").rfind_ignore_ascii_case(AsciiStr::literal("")) // Some(3)
-    pub fn rfind_ignore_ascii_case(self, needle: AsciiStr<'_>) -> Option<usize>
-        ensures { FindsLastNeedle (map lower_image (text_of self.entry))
-            (map lower_image (text_of needle.entry)) result }
-    {
-        let Some(first) = needle.first() else {
-            return Some(self.len());
-        };
-        let mut to = self.len();
-        while let Some(at) = candidate_to(self.bytes, first, to) {
-            if is_at(self.bytes, needle.bytes, at) {
-                return Some(at);
-            }
-            to = at;
         }
         None
     }
@@ -168,17 +140,6 @@ fn candidate_from(bytes: &[u8], ch: AsciiChar, from: usize) -> Option<usize>
     let (lower, upper) = (ch.to_ascii_lowercase(), ch.to_ascii_uppercase());
     let at = memchr::memchr2(lower.as_byte(), upper.as_byte(), &bytes[from..])?;
     Some(from + at)
-}
-
-/// Returns the last position before `to` that has `ch`, ignoring ASCII case, or `None` if there is
-/// none.
-fn candidate_to(bytes: &[u8], ch: AsciiChar, to: usize) -> Option<usize>
-    requires { to ≤ length bytes.now }
-    ensures { IsLast (λ k. lower_image (slice_index bytes.now k) ≡ lower_image (code_of ch))
-        0 to result }
-{
-    let (lower, upper) = (ch.to_ascii_lowercase(), ch.to_ascii_uppercase());
-    memchr::memrchr2(lower.as_byte(), upper.as_byte(), &bytes[..to])
 }
 
 /// Returns `true` if `needle` is in the bytes from position `at` on, ignoring ASCII case.

@@ -53,12 +53,12 @@ impl<B: Buffer> FoldedText<B> {
 
     /// Returns a view of the text that is compared in the same way.
     ///
-    ///     FoldedText::new(AsciiStr::literal("Host").to_ascii_string(alloc)?).as_folded() == AsciiStr::literal("HOST").folded() // true
+    ///     FoldedText::new(AsciiStr::literal("Host").to_ascii_string(alloc)?).as_folded() == FoldedStr::new(AsciiStr::literal("HOST")) // true
     #[inline]
     pub fn as_folded(&self) -> FoldedStr<'_>
         ensures { own_text result ≡ self.now }
     {
-        self.string.as_ascii_str().folded()
+        FoldedStr::new(self.string.as_ascii_str())
     }
 
     /// Returns a view of the text, in its own case.
@@ -88,7 +88,7 @@ impl FoldedStr<'_> {
     /// Returns a copy of the text, in its own case, that is compared in the same way. Fails only if
     /// the allocation fails.
     ///
-    ///     AsciiStr::literal("Host").folded().to_folded_string(alloc)? // "Host"
+    ///     FoldedStr::new(AsciiStr::literal("Host")).to_folded_string(alloc)? // "Host"
     pub fn to_folded_string<A: Allocator>(self, alloc: A) -> Result<FoldedString<A>, AllocError>
         ensures { IfOk result (λ folded. folded ≡ own_text self.entry) }
     {
@@ -103,7 +103,7 @@ impl<B: Buffer> PartialEq for FoldedText<B> {
 
     /// Returns `true` if the two texts are equal, ignoring ASCII case.
     ///
-    ///     AsciiStr::literal("Host").folded().to_folded_string(alloc)? == AsciiStr::literal("HOST").folded().to_folded_string(alloc)? // true
+    ///     FoldedStr::new(AsciiStr::literal("Host")).to_folded_string(alloc)? == FoldedStr::new(AsciiStr::literal("HOST")).to_folded_string(alloc)? // true
     fn eq(&self, other: &FoldedText<B>) -> bool {
         self.as_folded() == other.as_folded()
     }
@@ -121,7 +121,7 @@ impl<B: Buffer> PartialOrd for FoldedText<B> {
 
     /// Returns the order of the two texts in lower case: that of `cmp`.
     ///
-    ///     AsciiStr::literal("A").folded().to_folded_string(alloc)? < AsciiStr::literal("b").folded().to_folded_string(alloc)? // true
+    ///     FoldedStr::new(AsciiStr::literal("A")).to_folded_string(alloc)? < FoldedStr::new(AsciiStr::literal("b")).to_folded_string(alloc)? // true
     fn partial_cmp(&self, other: &FoldedText<B>) -> Option<Ordering> {
         Some(self.cmp(other))
     }
@@ -138,7 +138,7 @@ impl<B: Buffer> Ord for FoldedText<B> {
 
     /// Returns the order of the two texts in lower case: lexicographic, by the codes.
     ///
-    ///     AsciiStr::literal("b").folded().to_folded_string(alloc)?.cmp(&AsciiStr::literal("A").folded().to_folded_string(alloc)?) // Greater
+    ///     FoldedStr::new(AsciiStr::literal("b")).to_folded_string(alloc)?.cmp(&FoldedStr::new(AsciiStr::literal("A")).to_folded_string(alloc)?) // Greater
     fn cmp(&self, other: &FoldedText<B>) -> Ordering {
         self.as_folded().cmp(&other.as_folded())
     }
@@ -152,8 +152,8 @@ impl<B: Buffer> Hash for FoldedText<B> {
     /// Hashes the text in lower case, as a `FoldedStr` of it is hashed.
     ///
     ///     let mut seen = HashSet::new(alloc);
-    ///     seen.insert(AsciiStr::literal("Host").folded().to_folded_string(alloc)?)?;
-    ///     seen.contains(&AsciiStr::literal("HOST").folded().to_folded_string(alloc)?) // true
+    ///     seen.insert(FoldedStr::new(AsciiStr::literal("Host")).to_folded_string(alloc)?)?;
+    ///     seen.contains(&FoldedStr::new(AsciiStr::literal("HOST")).to_folded_string(alloc)?) // true
     fn hash<H: Hasher>(&self, state: &mut H) {
         self.as_folded().hash(state);
     }
@@ -170,7 +170,7 @@ impl<B: Buffer> fmt::Display for FoldedText<B> {
     /// Writes the text in its own case, with the width, the alignment and the precision of the
     /// format, as for `str`.
     ///
-    ///     format!(in alloc; "{}", AsciiStr::literal("Host").folded().to_folded_string(alloc)?)? // "Host"
+    ///     format!(in alloc; "{}", FoldedStr::new(AsciiStr::literal("Host")).to_folded_string(alloc)?)? // "Host"
     fn fmt<W: fmt::Write>(&self, f: &mut fmt::Formatter<W>) -> fmt::Result {
         fmt::Display::fmt(&self.as_ascii_str(), f)
     }
@@ -184,7 +184,7 @@ impl<B: Buffer> fmt::Debug for FoldedText<B> {
 
     /// Writes the text in its own case, in double quotes, escaped as std escapes it.
     ///
-    ///     format!(in alloc; "{:?}", AsciiStr::literal("Host").folded().to_folded_string(alloc)?)? // "\"Host\""
+    ///     format!(in alloc; "{:?}", FoldedStr::new(AsciiStr::literal("Host")).to_folded_string(alloc)?)? // "\"Host\""
     fn fmt<W: fmt::Write>(&self, f: &mut fmt::Formatter<W>) -> fmt::Result {
         fmt::Debug::fmt(&self.as_ascii_str(), f)
     }

@@ -4,17 +4,16 @@
 //! |---|---|---|---|
 //! | characters | `chars()` | | yes |
 //! | pieces between separators | `split(on)` | `split_spans(on)` | yes |
-//! | .. the last one first | `rsplit(on)` | `rsplit_spans(on)` | yes |
+//! | .. the last one first | `rsplit(on)` | `.spans()` | yes |
 //! | .. at most `n` | `splitn(n, on)` | | no |
-//! | .. without an empty last one | `split_terminator(on)` | `split_terminator_spans(on)` | yes |
-//! | .. with their separators | `split_inclusive(on)` | `split_inclusive_spans(on)` | yes |
-//! | pieces at the characters of a class | `split_by::<C>()` | `split_spans_by::<C>()` | yes |
-//! | pieces at each occurrence of a text | `split_str(needle)` | `split_spans_str(needle)` | no |
-//! | these occurrences | `matches(needle)` | `match_spans(needle)` | no |
-//! | words: the longest runs outside a class | `words::<C>()`, `split_whitespace()` | `word_spans::<C>()` | yes |
-//! | runs: the longest runs of a class | `runs::<C>()` | `run_spans::<C>()` | yes |
+//! | .. without an empty last one | `split_terminator(on)` | `.spans()` | yes |
+//! | .. with their separators | `split_inclusive(on)` | `.spans()` | yes |
+//! | pieces at the characters of a class | `split_by::<C>()` | `.spans()` | yes |
+//! | pieces at each occurrence of a text | `split_str(needle)` | `.spans()` | no |
+//! | these occurrences | `matches(needle)` | `.spans()` | no |
+//! | words: the longest runs outside a class | `words::<C>()`, `split_whitespace()` | `.spans()` | yes |
+//! | runs: the longest runs of a class | `runs::<C>()` | `.spans()` | yes |
 //! | lines | `lines()` | `line_spans()`, also with their endings | yes |
-//! | lines by the endings that you choose | `lines_by(endings)` | `line_spans_by(endings)`, also with their endings | yes |
 //!
 //! A double-ended iterator yields from the front and from the back, in any order. `remainder`, or `as_str` of `chars`, returns what is left
 //! as a view, which can be iterated again:
@@ -37,7 +36,6 @@ pub(crate) mod cursor;
 mod ended;
 mod items;
 mod lines;
-mod lines_by;
 mod marked;
 mod marked_back;
 mod spans;
@@ -45,18 +43,13 @@ mod split;
 mod split_n;
 mod walks;
 
-pub use backwards::{Backwards, RSplit, RSplitSpans};
-pub use by_class::{
-    AtClass, AtRuns, AtWords, RunSpans, Runs, SplitBy, SplitSpansBy, WordSpans, Words,
-};
-pub use by_text::{AtMatches, AtText, MatchSpans, Matches, SplitSpansStr, SplitStr};
+pub use backwards::{Backwards, RSplit};
+pub use by_class::{AtClass, AtRuns, AtWords, Runs, SplitBy, Words};
+pub use by_text::{AtMatches, AtText, Matches, SplitStr};
 pub use chars::{Chars, CharsRef};
-pub use ended::{
-    AtEnd, AtTerminator, SplitInclusive, SplitInclusiveSpans, SplitTerminator, SplitTerminatorSpans,
-};
+pub use ended::{AtEnd, AtTerminator, SplitInclusive, SplitTerminator};
 pub use items::{Cut, CutBack, Items, Spans};
 pub use lines::{LineSpans, Lines};
-pub use lines_by::{LineSpansBy, LinesBy};
 pub use spans::{Ending, Endings, LineSpan, SplitSpan};
 pub use split::{AtChar, Split, SplitSpans};
 pub use split_n::SplitN;

@@ -11,8 +11,7 @@
 //! | to edit a part of a source in place | `bytes::slice_ascii_mut`, which returns an `AsciiStrMut` |
 //! | an owned string | `AsciiString`; the buffer of a `Vec<u8>` or a `String`: the modules `vec` and `string` |
 //! | characters, pieces, lines or words, by a double-ended iterator | `chars`, `split`, `lines`, `split_whitespace` of a view |
-//! | the positions of pieces, lines or words | `split_spans`, `line_spans`, `word_spans` |
-//! | lines that end in CR LF only | `lines_by` and `line_spans_by` of a view, with `Endings` of the module `iter` |
+//! | the positions of pieces, lines or words | `split_spans`, `line_spans`, `spans()` of the iterator of words |
 //! | to search for a text, a character or a class | `find`, `position`, `span::<C>()` of a view |
 //! | a quoted text at the start of a view | `take_quoted` |
 //! | a view in escapes or in caret notation; escapes read back | `escape_ascii`, `caret`; `unescape` |
@@ -37,7 +36,6 @@ mod boxed;
 mod boxed_order;
 mod boxed_print;
 pub mod buffer;
-mod by_closure;
 pub mod bytes;
 mod bytes_mut;
 pub mod chunks;

@@ -21,7 +21,7 @@ ghost use Rattle.std.specs.Option.{option_copied};
 ghost use Rattle.ascii.specs.View.{text_of};
 
 use crate::ascii_str::AsciiStr;
-use crate::folded_text::FoldedString;
+use crate::folded::{FoldedStr, FoldedString};
 use std::alloc::{AllocError, Global};
 use std::cmp::Ordering;
 use std::collections::BTreeMap;
@@ -196,7 +196,7 @@ impl<V: Drop> FoldedMap<V> {
         match self.place_of(key) {
             Ok(place) => Ok(Some(mem::replace(&mut self.entries[place].1, value))),
             Err(place) => {
-                let key = key.folded().to_folded_string(self.alloc)?;
+                let key = FoldedStr::new(key).to_folded_string(self.alloc)?;
                 self.entries.insert(place, (key, value))?;
                 Ok(None)
             }
@@ -248,7 +248,7 @@ impl<V: Drop> FoldedMap<V> {
         self.entries.binary_search_by(
             |entry: &(FoldedString, V)| -> Ordering
                 ensures { result ≡ folded_order entry.now.0 (text_of key.entry) }
-            { entry.0.as_folded().cmp(&key.folded()) },
+            { entry.0.as_folded().cmp(&FoldedStr::new(key)) },
         )
     }
 }

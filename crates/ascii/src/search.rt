@@ -18,6 +18,7 @@ use ascii_base::ascii_char::AsciiChar;
 use ascii_base::classes::Searched;
 use ascii_base::kernels;
 use ascii_base::range::AsciiRange;
+use memchr::memmem;
 
 impl<'a> AsciiStr<'a> {
     /// Returns the position of the first `needle` in the view, or `None` if the view does not
@@ -58,7 +59,7 @@ impl<'a> AsciiStr<'a> {
     pub fn rfind(self, needle: AsciiStr<'_>) -> Option<usize>
         ensures { FindsLastNeedle (text_of self.entry) (text_of needle.entry) result }
     {
-        short_search::last_needle(self.bytes, needle.bytes)
+        memmem::rfind(self.bytes, needle.bytes)
     }
 
     /// Returns `true` if the view contains `needle`.
@@ -148,17 +149,6 @@ impl<'a> AsciiStr<'a> {
         kernels::first_not::<C>(self.bytes)
     }
 
-    /// Returns `true` if the two views have the same text. The clause says so in the texts, where
-    /// that of `==` compares codes.
-    ///
-    ///     AsciiStr::literal("foo").eq_text(AsciiStr::literal("foo")) // true
-    ///     AsciiStr::literal("foo").eq_text(AsciiStr::literal("Foo")) // false
-    pub fn eq_text(self, other: AsciiStr<'_>) -> bool
-        ensures { IsTrue result ↔ (text_of self.entry ≡ text_of other.entry) }
-    {
-        self.eq_bytes(other.as_bytes())
-    }
-
     /// Returns `true` if the view starts with `prefix`.
     ///
     /// To take the rest too, use `strip_prefix`; ignoring ASCII case, `starts_with_ignore_ascii_case`.
@@ -198,7 +188,7 @@ impl<'a> AsciiStr<'a> {
             (IsPrefix (text_of prefix.entry) (text_of self.entry)) result }
     {
         let n = prefix.len();
-        if n <= self.len() && self.slice(AsciiRange::To(n)).eq_text(prefix) {
+        if n <= self.len() && self.slice(AsciiRange::To(n)).eq_bytes(prefix.bytes) {
             Some(self.slice(AsciiRange::From(n)))
         } else {
             None
@@ -222,7 +212,7 @@ impl<'a> AsciiStr<'a> {
             return None;
         }
         let start = self.len() - n;
-        if self.slice(AsciiRange::From(start)).eq_text(suffix) {
+        if self.slice(AsciiRange::From(start)).eq_bytes(suffix.bytes) {
             Some(self.slice(AsciiRange::To(start)))
         } else {
             None

@@ -6,8 +6,8 @@
 //! tested one by one. The crate `memchr` searches texts of more than 256 bytes and texts with too many
 //! candidates.
 
-ghost use Rattle.std.specs.Prelude.{◌≡◌, ◌≢◌, ◌↔◌, ◌+◌, ◌<◌, ◌≤◌, IsTrue, length};
-ghost use Rattle.memchr.specs.Find.{FindsLastNeedle, FindsNeedle, IsFirst, IsLast, OccursAt};
+ghost use Rattle.std.specs.Prelude.{◌≡◌, ◌↔◌, ◌+◌, ◌<◌, ◌≤◌, IsTrue, length};
+ghost use Rattle.memchr.specs.Find.{FindsNeedle, IsFirst, OccursAt};
 ghost use Rattle.ascii.specs.Masks.{HasBit, HasPart, IsCandidate, MarksCandidates};
 
 use memchr::arch::all::is_prefix;
@@ -62,36 +62,6 @@ pub(crate) fn first_needle(hay: &[u8], needle: &[u8]) -> Option<usize>
     first_compared(hay, needle, marked)
 }
 
-/// Returns the position of the last `needle` in `hay`, or `None` if there is none.
-pub(crate) fn last_needle(hay: &[u8], needle: &[u8]) -> Option<usize>
-    ensures { FindsLastNeedle hay.now needle.now result }
-{
-    if hay.len() > SHORT {
-        return memmem::rfind(hay, needle);
-    }
-    if needle.is_empty() {
-        return Some(hay.len());
-    }
-    if hay.len() < needle.len() {
-        return None;
-    }
-    let positions = hay.len() - needle.len() + 1;
-    if positions > BLOCK {
-        return last_far(hay, needle);
-    }
-    if positions < LEAST {
-        return last_one_by_one(hay, needle);
-    }
-    let marked = all_candidates(hay, needle);
-    if marked == 0 {
-        return None;
-    }
-    if needle.len() <= EXACT {
-        return last_marked(hay, needle, 0, marked);
-    }
-    last_compared(hay, needle, marked)
-}
-
 /// Returns the position of the first `needle`, compared at the candidates among all positions, of which
 /// there are at most 64, or `None` if there is none. Not inlined, so that a search without a
 /// candidate does not save registers for the comparison.
@@ -123,37 +93,6 @@ fn first_far(hay: &[u8], needle: &[u8]) -> Option<usize>
     first_by_blocks(hay, needle)
 }
 
-/// Returns the position of the last `needle`, compared at the candidates among all positions, of which
-/// there are at most 64, or `None` if there is none. Not inlined, so that a search without a
-/// candidate does not save registers for the comparison.
-#[inline(never)]
-fn last_compared(hay: &[u8], needle: &[u8], marked: u64) -> Option<usize>
-    requires some { 0 < length needle.now }
-    requires fits { length needle.now ≤ length hay.now }
-    requires short { length hay.now + 1 ≤ 64 + length needle.now }
-    requires marks { MarksCandidates hay.now needle.now 0 64 marked }
-    ensures { FindsLastNeedle hay.now needle.now result }
-{
-    let positions = hay.len() - needle.len() + 1;
-    if positions >= 32 && is_crowded(needle, marked) {
-        return memmem::rfind(hay, needle);
-    }
-    last_marked(hay, needle, 0, marked)
-}
-
-/// Returns the position of the last `needle` among at least 64, or `None` if there is none.
-#[inline(always)]
-fn last_far(hay: &[u8], needle: &[u8]) -> Option<usize>
-    requires some { 0 < length needle.now }
-    requires long { 64 + length needle.now ≤ length hay.now + 1 }
-    ensures { FindsLastNeedle hay.now needle.now result }
-{
-    if needle.len() == 1 {
-        return last_byte(hay, needle);
-    }
-    last_by_blocks(hay, needle)
-}
-
 /// Returns the position of the first `needle`, which has one byte, or `None` if there is none.
 #[inline(never)]
 fn first_byte(hay: &[u8], needle: &[u8]) -> Option<usize>
@@ -161,15 +100,6 @@ fn first_byte(hay: &[u8], needle: &[u8]) -> Option<usize>
     ensures { FindsNeedle hay.now needle.now 0 result }
 {
     memchr::memchr(needle[0], hay)
-}
-
-/// Returns the position of the last `needle`, which has one byte, or `None` if there is none.
-#[inline(never)]
-fn last_byte(hay: &[u8], needle: &[u8]) -> Option<usize>
-    requires { length needle.now ≡ 1 }
-    ensures { FindsLastNeedle hay.now needle.now result }
-{
-    memchr::memrchr(needle[0], hay)
 }
 
 /// Returns the position of the first `needle` among at least 64, or `None` if there is none.
@@ -199,32 +129,6 @@ fn first_by_blocks(hay: &[u8], needle: &[u8]) -> Option<usize>
     None
 }
 
-/// Returns the position of the last `needle` among at least 64, or `None` if there is none.
-#[inline(never)]
-fn last_by_blocks(hay: &[u8], needle: &[u8]) -> Option<usize>
-    requires some { 0 < length needle.now }
-    requires long { 64 + length needle.now ≤ length hay.now + 1 }
-    ensures { FindsLastNeedle hay.now needle.now result }
-{
-    let mut left = hay.len() - needle.len() + 1;
-    while left > 0 {
-        let start = left.saturating_sub(BLOCK);
-        let marked = candidates::<BLOCK>(hay, needle, start);
-        if marked == 0 {
-            left = start;
-            continue;
-        }
-        if is_crowded(needle, marked) {
-            return memmem::rfind(hay, needle);
-        }
-        match last_marked(hay, needle, start, marked) {
-            None => left = start,
-            found => return found,
-        }
-    }
-    None
-}
-
 /// Returns the position of the first `needle`, tested at one position after the other if it is small, or
 /// `None` if there is none.
 #[inline(always)]
@@ -237,25 +141,6 @@ fn first_one_by_one(hay: &[u8], needle: &[u8]) -> Option<usize>
         return memmem::find(hay, needle);
     }
     for position in 0..hay.len() - needle.len() + 1 {
-        if is_at(hay, needle, position) {
-            return Some(position);
-        }
-    }
-    None
-}
-
-/// Returns the position of the last `needle`, tested at one position before the other if it is small, or
-/// `None` if there is none.
-#[inline(always)]
-fn last_one_by_one(hay: &[u8], needle: &[u8]) -> Option<usize>
-    requires some { 0 < length needle.now }
-    requires fits { length needle.now ≤ length hay.now }
-    ensures { FindsLastNeedle hay.now needle.now result }
-{
-    if needle.len() > SMALL {
-        return memmem::rfind(hay, needle);
-    }
-    for position in (0..hay.len() - needle.len() + 1).rev() {
         if is_at(hay, needle, position) {
             return Some(position);
         }
@@ -424,24 +309,6 @@ fn first_marked(hay: &[u8], needle: &[u8], start: usize, marked: u64) -> Option<
     None
 }
 
-/// Returns the last of the 64 positions from `start` on where the needle is, or `None` if it is at none
-/// of them. It is compared at the marked ones.
-#[inline(always)]
-fn last_marked(hay: &[u8], needle: &[u8], start: usize, marked: u64) -> Option<usize>
-    requires some { 0 < length needle.now }
-    requires marks { MarksCandidates hay.now needle.now start 64 marked }
-    ensures { IsLast (OccursAt hay.now needle.now) start (start + 64) result }
-{
-    let mut tested = 64;
-    while let Some(bit) = last_bit(marked, tested) {
-        if is_there(hay, needle, start + bit) {
-            return Some(start + bit);
-        }
-        tested = bit;
-    }
-    None
-}
-
 /// Returns the lowest bit of `mask` that is set and is not below `from`, or `None` if there is none.
 #[inline(always)]
 fn first_bit(mask: u64, from: usize) -> Option<usize>
@@ -456,21 +323,4 @@ fn first_bit(mask: u64, from: usize) -> Option<usize>
         return None;
     }
     Some(from + left.trailing_zeros() as usize)
-}
-
-/// Returns the highest bit of `mask` that is set and is below `end`, or `None` if there is none.
-#[inline(always)]
-fn last_bit(mask: u64, end: usize) -> Option<usize>
-    requires { end ≤ 64 }
-    ensures { IsLast (HasBit mask) 0 end result }
-{
-    if end == 0 {
-        return None;
-    }
-    let shift = 64 - end;
-    let left = mask << shift;
-    if left == 0 {
-        return None;
-    }
-    Some(left.ilog2() as usize - shift)
 }

@@ -7,6 +7,7 @@ ghost use Rattle.ascii.specs.Case.{lower_image, upper_image};
 ghost use Rattle.ascii.specs.Class.{IsWhitespace};
 ghost use Rattle.ascii.specs.Trim.{Trims};
 
+use ascii::folded::FoldedStr;
 use ascii::{AsciiChar, AsciiStr, AsciiString, bytes};
 use ascii_lines::{Endings, LineReader, LineWriter};
 use ascii_run::{AsciiBuf, Input, Output, SmallAsciiString};
@@ -173,7 +174,7 @@ pub fn bench_folded(first: &[u8], second: &[u8]) -> bool
     requires first { IsAscii first.now }
     requires second { IsAscii second.now }
 {
-    bytes::as_ascii_str_unchecked(first).folded() == bytes::as_ascii_str_unchecked(second).folded()
+    FoldedStr::new(bytes::as_ascii_str_unchecked(first)) == FoldedStr::new(bytes::as_ascii_str_unchecked(second))
 }
 
 /// The sum of the codes of a text.

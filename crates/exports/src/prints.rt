@@ -3,6 +3,7 @@
 ghost use Rattle.std.specs.Str.{IsAscii};
 
 use crate::answer::Answer;
+use ascii::folded::FoldedStr;
 use ascii::{AsciiChar, bytes, json};
 use ascii_run::SmallAsciiString;
 use std::alloc::{AllocError, Global};
@@ -15,7 +16,7 @@ pub fn ask_printed(alloc: Global, form: u8, source: &[u8], room: &mut [u8]) -> u
     let view = bytes::as_ascii_str_unchecked(source);
     let mut answer = Answer::new(room);
     put(alloc, form, Ok(view), &mut answer);
-    put(alloc, form, Ok(view.folded()), &mut answer);
+    put(alloc, form, Ok(FoldedStr::new(view)), &mut answer);
     put(alloc, form, view.to_ascii_string(alloc), &mut answer);
     put(
         alloc,

@@ -3,6 +3,7 @@
 ghost use Rattle.std.specs.Str.{IsAscii};
 
 use crate::answer::Answer;
+use ascii::folded::FoldedStr;
 use ascii::{BoxedAsciiStr, CowAsciiStr, RcAsciiStr, bytes, kernels};
 use ascii_run::{ArrayAsciiString, SmallAsciiString};
 use std::alloc::{AllocError, Global};
@@ -75,14 +76,13 @@ pub fn ask_comparisons(first: &[u8], second: &[u8], room: &mut [u8]) -> usize
     let mut answer = Answer::new(room);
     answer.flags(&[
         view == other,
-        view.eq_text(other),
         view.eq_str(other.as_str()),
         view.eq_bytes(second),
         view.eq_ignore_ascii_case(other),
-        view.folded() == other.folded(),
+        FoldedStr::new(view) == FoldedStr::new(other),
     ]);
     answer.order(view.cmp(&other));
-    answer.order(view.folded().cmp(&other.folded()));
+    answer.order(FoldedStr::new(view).cmp(&FoldedStr::new(other)));
     answer.finish()
 }
 
@@ -127,7 +127,7 @@ pub fn ask_hashes(alloc: Global, source: &[u8], room: &mut [u8]) -> usize
     let view = bytes::as_ascii_str_unchecked(source);
     let mut answer = Answer::new(room);
     hash(Ok(view), &mut answer);
-    hash(Ok(view.folded()), &mut answer);
+    hash(Ok(FoldedStr::new(view)), &mut answer);
     hash(view.to_ascii_string(alloc), &mut answer);
     hash(SmallAsciiString::from_ascii_str(alloc, view), &mut answer);
     hash(BoxedAsciiStr::from_ascii_str(alloc, view), &mut answer);

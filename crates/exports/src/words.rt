@@ -67,12 +67,12 @@ fn search<C: Searched>(source: &[u8], script: &[u8], answer: &mut Answer<'_>) {
 
 fn walk_words<C: Searched>(view: AsciiStr<'_>, script: &[u8], answer: &mut Answer<'_>) {
     let mut words = view.words::<C>();
-    let mut spans = view.word_spans::<C>();
-    let mut runs = view.run_spans::<C>();
-    let mut pieces = view.split_spans_by::<C>();
+    let mut spans = view.words::<C>().spans();
+    let mut runs = view.runs::<C>().spans();
+    let mut pieces = view.split_by::<C>().spans();
     for number in script {
         answer.part(step(&mut words, *number));
-        answer.text(words.as_str());
+        answer.part(words.remainder());
         answer.span(start_and_text(step(&mut spans, *number)));
         answer.span(start_and_text(step(&mut runs, *number)));
         answer.span(start_and_text(step(&mut pieces, *number)));

@@ -10,7 +10,6 @@ mod decimals;
 mod folded;
 mod joins;
 mod json;
-mod lines_by;
 mod long_texts;
 mod maps;
 mod mutable_views;

@@ -1,13 +1,11 @@
 //! Callers that cut a view at a prefix, at its last separator, at the end of a class, or into words, or
 //! that trim it.
 
-ghost use Rattle.std.specs.Prelude.{◌≡◌, ◌==◌, ◌↔◌, ◌⊎◌, ◌∷◌, ◌++◌, ℕ, [], Contains, IfOk, IfSome, IsSomeAnd, IsTrue};
-ghost use Rattle.std.specs.Prelude.{List, MatchOption, codes, false, length, map, true};
-ghost use Rattle.std.specs.List.{All};
+ghost use Rattle.std.specs.Prelude.{◌≡◌, ◌==◌, ◌↔◌, ◌⊎◌, ◌∷◌, ℕ, [], Contains, IfOk, IsSomeAnd, IsTrue};
+ghost use Rattle.std.specs.Prelude.{List, MatchOption, codes, length, map};
 ghost use Rattle.std.specs.Str.{IsAscii};
 ghost use Rattle.ascii.specs.Class.{IsDigit, IsWhitespace};
 ghost use Rattle.ascii.specs.Code.{code_of};
-ghost use Rattle.ascii.specs.First.{IsFirstAt};
 ghost use Rattle.ascii.specs.Pieces.{OfPieces};
 ghost use Rattle.ascii.specs.Search.{ContainsText, IsPrefix, StartsWith};
 ghost use Rattle.ascii.specs.Trim.{IsSpan, Trims};
@@ -36,15 +34,6 @@ pub fn has_mark(view: AsciiStr<'_>, mark: AsciiStr<'_>) -> bool
     ensures { IsTrue result ↔ ContainsText (text_of mark.entry) (text_of view.entry) }
 {
     view.find(mark).is_some()
-}
-
-/// The position of the first comma of a view, by a closure.
-pub fn first_comma(view: AsciiStr<'_>) -> Option<usize>
-    ensures { let text = text_of view.entry in
-        MatchOption result (All (λ code. (code == 44) ≡ false) text)
-        (IsFirstAt (λ code. (code == 44) ≡ false) (λ code. (code == 44) ≡ true) text) }
-{
-    view.position_by(|ch| ch == AsciiChar::Comma)
 }
 
 /// The text after the last dot of a file name, or `None` if it has no dot.
@@ -79,18 +68,8 @@ pub fn first_word_by_place<'a>(line: AsciiStr<'a>) -> Option<AsciiStr<'a>>
         (λ word. (rest : List (List ℕ))
         × (words_by is_whitespace (text_of line.entry) ≡ text_of word ∷ rest)) }
 {
-    let span = line.word_spans::<Whitespace>().next()?;
+    let span = line.split_whitespace().spans().next()?;
     Some(line.slice(AsciiRange::Range(span.start, span.start + span.text.len())))
-}
-
-/// The first word of a view, and all that comes after it, whitespace included.
-pub fn first_word_and_rest<'a>(view: AsciiStr<'a>) -> Option<(AsciiStr<'a>, AsciiStr<'a>)>
-    ensures { IfSome result (λ parts. (gap : List ℕ)
-        × (gap ++ (text_of parts.0 ++ text_of parts.1) ≡ text_of view.entry)) }
-{
-    let mut words = view.split_whitespace();
-    let word = words.next()?;
-    Some((word, words.as_str()))
 }
 
 /// The number of words of a view.
@@ -126,7 +105,7 @@ pub fn all_words<'a>(alloc: Global, view: AsciiStr<'a>) -> Result<Vec<AsciiStr<'
 pub fn is_get(word: AsciiStr<'_>) -> bool
     ensures { IsTrue result ↔ (text_of word.entry ≡ codes "GET") }
 {
-    word.eq_text(AsciiStr::literal("GET"))
+    word == AsciiStr::literal("GET")
 }
 
 /// A reply with the commands of a server, as a literal that is longer than the others here.

@@ -1,16 +1,14 @@
 //! Callers of the iterators of a view: loops and adapters, and what they gave.
 
-ghost use Rattle.std.specs.Prelude.{◌≡◌, ◌+◌, ◌≤◌, ◌↔◌, ◌++◌, ◌∷◌, IfOk, IsOk, IsTrue, List, OnOk, ℕ};
+ghost use Rattle.std.specs.Prelude.{◌≡◌, ◌+◌, ◌≤◌, ◌++◌, IfOk, IsOk, OnOk, ℕ};
 ghost use Rattle.std.specs.Prelude.{reverse, string_bytes, codes, length, map, take};
 ghost use Rattle.std.specs.List.{flat_map};
 ghost use Rattle.ascii.specs.Case.{upper_image};
 ghost use Rattle.ascii.specs.View.{debug_text};
-ghost use Rattle.ascii.specs.Lines.{IsListOfLines, Line, LinesEndedBy, OfLines, bodies};
-ghost use Rattle.ascii.specs.declared.iter.spans.Endings.TheVariants.{CrLf, CrLfStrict};
+ghost use Rattle.ascii.specs.Lines.{OfLines, bodies};
 ghost use Rattle.ascii.specs.Pieces.{OfPieces};
 ghost use Rattle.ascii.specs.View.{text_of};
 
-use ascii::iter::Endings;
 use ascii::{AsciiChar, AsciiStr, AsciiString};
 use std::alloc::{AllocError, Global};
 
@@ -66,32 +64,6 @@ pub fn line_count(view: AsciiStr<'_>) -> usize
     ensures { OfLines view.entry (λ lines. result ≡ length lines) }
 {
     view.lines().count()
-}
-
-/// The number of lines of a view, in the one list that the five sentences on lines allow.
-pub fn allowed_line_count(view: AsciiStr<'_>) -> usize
-    ensures some { (lines : List Line)
-        × IsListOfLines (text_of view.entry) lines × (result ≡ length lines) }
-    ensures every { (lines : List Line)
-        → IsListOfLines (text_of view.entry) lines → result ≡ length lines }
-{
-    line_count(view)
-}
-
-/// The number of lines of a view that CR LF ends.
-pub fn cr_lf_line_count(view: AsciiStr<'_>) -> usize
-    ensures { (lines : List Line)
-        × LinesEndedBy CrLf (text_of view.entry) lines × (result ≡ length lines) }
-{
-    view.lines_by(Endings::CrLf).count()
-}
-
-/// Whether a view has lines that CR LF ends and in which no CR or LF is alone.
-pub fn has_strict_lines(view: AsciiStr<'_>) -> bool
-    ensures { IsTrue result
-        ↔ ((lines : List Line) × LinesEndedBy CrLfStrict (text_of view.entry) lines) }
-{
-    view.lines_by(Endings::CrLfStrict).lone_break().is_none()
 }
 
 /// The lengths of the lines of a view, without their endings, by a loop.

@@ -3,15 +3,14 @@
 //! Nothing here allocates.
 
 ghost use Rattle.ascii_base.specs.Code.{code_of};
-ghost use Rattle.ascii.specs.ByClass.{whole};
 ghost use Rattle.ascii.specs.Cutting.{backwards};
-ghost use Rattle.ascii.specs.Steps.{Iterates, IteratesSpans};
+ghost use Rattle.ascii.specs.Steps.{Iterates};
 ghost use Rattle.ascii.specs.TheCuts.{at_code};
 ghost use Rattle.ascii.specs.View.{text_of};
 
 use crate::ascii_str::AsciiStr;
 use crate::iter::cursor::Cursor;
-use crate::iter::items::{Cut, CutBack, Items, Spans};
+use crate::iter::items::{Cut, CutBack, Items};
 use crate::iter::spans::SplitSpan;
 use crate::iter::split::AtChar;
 use ascii_base::ascii_char::AsciiChar;
@@ -65,10 +64,6 @@ impl<C: CutBack> CutBack for Backwards<C> {
 /// A double-ended iterator over the pieces of a view between separators, the last piece first.
 pub type RSplit<'a> = Items<'a, Backwards<AtChar>>;
 
-/// A double-ended iterator over the pieces of a view between separators with their starts, the last
-/// piece first.
-pub type RSplitSpans<'a> = Spans<'a, Backwards<AtChar>>;
-
 impl<'a> AsciiStr<'a> {
     /// Returns a double-ended iterator over the pieces of the view at each `on`, the last piece
     /// first.
@@ -87,26 +82,6 @@ impl<'a> AsciiStr<'a> {
                 cut: AtChar::new(on),
             },
             (),
-        )
-    }
-
-    /// Returns a double-ended iterator over the pieces of the view at each `on`, the last piece
-    /// first, each with the position in the view at which it starts.
-    ///
-    /// Constant time; a full walk searches the view once.
-    ///
-    ///     let mut spans = AsciiStr::literal("a.b.c").rsplit_spans(AsciiChar::Dot);
-    ///     spans.next() // Some(SplitSpan { start: 4, text: "c" })
-    pub fn rsplit_spans(self, on: AsciiChar) -> RSplitSpans<'a>
-        ensures iterates { IteratesSpans (λ back. backwards (at_code back.cut))
-            (record { cut = code_of on }) (whole (text_of self.entry)) result }
-    {
-        self.spans_at(
-            Backwards {
-                cut: AtChar::new(on),
-            },
-            (),
-            0,
         )
     }
 }

@@ -7,15 +7,14 @@ ghost use Rattle.std.specs.Prelude.{not, true};
 ghost use Rattle.ascii_base.specs.Class.{IsWhitespace};
 ghost use Rattle.ascii_base.specs.Bytes.{IsOnSide};
 ghost use Rattle.ascii_base.specs.Tests.{is_whitespace};
-ghost use Rattle.ascii.specs.ByClass.{whole};
 ghost use Rattle.ascii.specs.Marked.{AreEndMarks};
-ghost use Rattle.ascii.specs.Steps.{Iterates, IteratesSpans};
+ghost use Rattle.ascii.specs.Steps.{Iterates};
 ghost use Rattle.ascii.specs.TheCuts.{at_class, at_words};
 ghost use Rattle.ascii.specs.View.{text_of};
 
 use crate::ascii_str::AsciiStr;
 use crate::iter::cursor::Cursor;
-use crate::iter::items::{Cut, CutBack, Items, Spans};
+use crate::iter::items::{Cut, CutBack, Items};
 use crate::iter::marked::{MarkedEnds, first_piece, first_run, marks_to};
 use crate::iter::marked_back::{last_marks_from, last_piece, last_run};
 use crate::iter::spans::SplitSpan;
@@ -148,21 +147,11 @@ pub type AtWords<C> = AtRuns<C, false>;
 /// A double-ended iterator over the pieces of a view between characters of a class.
 pub type SplitBy<'a, C> = Items<'a, AtClass<C>>;
 
-/// A double-ended iterator over the pieces of a view between characters of a class, each with its
-/// start.
-pub type SplitSpansBy<'a, C> = Spans<'a, AtClass<C>>;
-
 /// A double-ended iterator over the words of a view.
 pub type Words<'a, C> = Items<'a, AtWords<C>>;
 
-/// A double-ended iterator over the words of a view, each with its start.
-pub type WordSpans<'a, C> = Spans<'a, AtWords<C>>;
-
 /// A double-ended iterator over the runs of characters of a class.
 pub type Runs<'a, C> = Items<'a, AtRuns<C, true>>;
-
-/// A double-ended iterator over the runs of characters of a class, each with its start.
-pub type RunSpans<'a, C> = Spans<'a, AtRuns<C, true>>;
 
 impl<'a> AsciiStr<'a> {
     /// Returns a double-ended iterator over the pieces of the view at each character of the class.
@@ -183,20 +172,6 @@ impl<'a> AsciiStr<'a> {
             result.on (text_of self.entry) result }
     {
         self.items_at(AtClass { class: PhantomData }, MarkedEnds::none())
-    }
-
-    /// Returns a double-ended iterator over the pieces of the view at each character of the class,
-    /// each with the position in the view at which it starts.
-    ///
-    /// Constant time; a full walk searches the view once.
-    ///
-    ///     let mut spans = AsciiStr::literal("a b\tc").split_spans_by::<Blank>();
-    ///     spans.next_back() // Some(SplitSpan { start: 4, text: "c" })
-    pub fn split_spans_by<C: Searched>(self) -> SplitSpansBy<'a, C>
-        ensures iterates { IteratesSpans (λ _. at_class C.is C.test)
-            result.on (whole (text_of self.entry)) result }
-    {
-        self.spans_at(AtClass { class: PhantomData }, MarkedEnds::none(), 0)
     }
 
     /// Returns a double-ended iterator over the words of the view: the longest runs of characters
@@ -235,21 +210,6 @@ impl<'a> AsciiStr<'a> {
         self.words::<Whitespace>()
     }
 
-    /// Returns a double-ended iterator over the words of the view, each with the position in the
-    /// view at which it starts. The words are the longest runs of characters that are not in the
-    /// class.
-    ///
-    /// Constant time; a full walk searches the view once.
-    ///
-    ///     let mut spans = AsciiStr::literal(" to be").word_spans::<Blank>();
-    ///     spans.next() // Some(SplitSpan { start: 1, text: "to" })
-    pub fn word_spans<C: Searched>(self) -> WordSpans<'a, C>
-        ensures iterates { IteratesSpans (λ _. at_words C.is C.test)
-            result.on (whole (text_of self.entry)) result }
-    {
-        self.spans_at(AtRuns { class: PhantomData }, MarkedEnds::none(), 0)
-    }
-
     /// Returns a double-ended iterator over the longest runs of characters of the class in the
     /// view. There are no empty runs.
     ///
@@ -265,43 +225,5 @@ impl<'a> AsciiStr<'a> {
             result.on (text_of self.entry) result }
     {
         self.items_at(AtRuns { class: PhantomData }, MarkedEnds::none())
-    }
-
-    /// Returns a double-ended iterator over the longest runs of characters of the class in the
-    /// view, each with the position in the view at which it starts.
-    ///
-    /// Constant time; a full walk searches the view once.
-    ///
-    ///     let mut spans = AsciiStr::literal("v1.20").run_spans::<Digit>();
-    ///     spans.next_back() // Some(SplitSpan { start: 3, text: "20" })
-    pub fn run_spans<C: Searched>(self) -> RunSpans<'a, C>
-        ensures iterates { IteratesSpans
-            (λ _. at_words (λ code. ¬ (C.is code)) (λ code. not (C.test code)))
-            result.on (whole (text_of self.entry)) result }
-    {
-        self.spans_at(AtRuns { class: PhantomData }, MarkedEnds::none(), 0)
-    }
-}
-
-impl<'a, C: Searched, const INSIDE: bool> Items<'a, AtRuns<C, INSIDE>> {
-    ghost use Rattle.std.specs.Prelude.{◌≡◌};
-    ghost use Rattle.ascii.specs.ByClass.{side_test, words_by};
-    ghost use Rattle.ascii.specs.Parts.{rest_text};
-
-    /// Returns the text that is left, in which the remaining words or runs are. Constant time.
-    ///
-    ///     let mut words = AsciiStr::literal("a b c").split_whitespace();
-    ///     words.next() // Some("a")
-    ///     words.as_str() // " b c"
-    #[inline]
-    pub fn as_str(&self) -> AsciiStr<'a>
-        ensures rest { text_of result ≡ rest_text self.now.rest }
-        ensures words { words_by (side_test C.test (not INSIDE)) (text_of result) ≡ self.now.items }
-    {
-        self.spans.on.tell_laws();
-        let Some(part) = self.spans.rest else {
-            return AsciiStr::default();
-        };
-        part.view
     }
 }

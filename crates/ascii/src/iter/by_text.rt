@@ -6,14 +6,13 @@
 //! Nothing here allocates.
 
 ghost use Rattle.std.specs.Prelude.{⊤, ◌≡◌};
-ghost use Rattle.ascii.specs.ByClass.{whole};
-ghost use Rattle.ascii.specs.Steps.{Iterates, IteratesSpans};
+ghost use Rattle.ascii.specs.Steps.{Iterates};
 ghost use Rattle.ascii.specs.TheCuts.{at_matches, at_text};
 ghost use Rattle.ascii.specs.View.{text_of};
 
 use crate::ascii_str::AsciiStr;
 use crate::iter::cursor::Cursor;
-use crate::iter::items::{Cut, Items, Spans};
+use crate::iter::items::{Cut, Items};
 use crate::iter::spans::SplitSpan;
 
 /// The cut at each occurrence of a text.
@@ -95,14 +94,8 @@ impl<'n> Cut for AtMatches<'n> {
 /// An iterator over the pieces of a view at each occurrence of a text, from the front.
 pub type SplitStr<'a, 'n> = Items<'a, AtText<'n>>;
 
-/// An iterator over the pieces of a view at each occurrence of a text, with their starts, from the front.
-pub type SplitSpansStr<'a, 'n> = Spans<'a, AtText<'n>>;
-
 /// An iterator over the occurrences of a text in a view, from the front.
 pub type Matches<'a, 'n> = Items<'a, AtMatches<'n>>;
-
-/// An iterator over the occurrences of a text in a view, with their starts, from the front.
-pub type MatchSpans<'a, 'n> = Spans<'a, AtMatches<'n>>;
 
 impl<'a> AsciiStr<'a> {
     /// Returns an iterator over the pieces of the view at each occurrence of `needle`, from the front.
@@ -123,23 +116,6 @@ impl<'a> AsciiStr<'a> {
         self.items_at(AtText { needle }, ())
     }
 
-    /// Returns an iterator over the pieces of the view at each occurrence of `needle`, from the front,
-    /// each with the position in the view at which it starts. If `needle` is empty, the view is the
-    /// only piece.
-    ///
-    /// Constant time; a full walk searches the view once.
-    ///
-    ///     let mut spans = AsciiStr::literal("one, two").split_spans_str(AsciiStr::literal(", "));
-    ///     spans.next() // Some(SplitSpan { start: 0, text: "one" })
-    ///     spans.next() // Some(SplitSpan { start: 5, text: "two" })
-    pub fn split_spans_str<'n>(self, needle: AsciiStr<'n>) -> SplitSpansStr<'a, 'n>
-        ensures on { result.on ≡ record { needle = needle.entry } }
-        ensures iterates { IteratesSpans (λ at. at_text (text_of at.needle))
-            (record { needle = needle.entry }) (whole (text_of self.entry)) result }
-    {
-        self.spans_at(AtText { needle }, (), 0)
-    }
-
     /// Returns an iterator over the occurrences of `needle` in the view, from the front. Each is a part
     /// of the view. There are none if `needle` is empty.
     ///
@@ -153,22 +129,5 @@ impl<'a> AsciiStr<'a> {
             (record { needle = needle.entry }) (text_of self.entry) result }
     {
         self.items_at(AtMatches { needle }, ())
-    }
-
-    /// Returns an iterator over the occurrences of `needle` in the view, from the front, each with the
-    /// position in the view at which it starts. There are none if `needle` is empty.
-    ///
-    /// Constant time; a full walk searches the view once.
-    ///
-    ///     let mut spans = AsciiStr::literal("banana").match_spans(AsciiStr::literal("an"));
-    ///     spans.next() // Some(SplitSpan { start: 1, text: "an" })
-    ///     spans.next() // Some(SplitSpan { start: 3, text: "an" })
-    ///     spans.next() // None
-    pub fn match_spans<'n>(self, needle: AsciiStr<'n>) -> MatchSpans<'a, 'n>
-        ensures on { result.on ≡ record { needle = needle.entry } }
-        ensures iterates { IteratesSpans (λ at. at_matches (text_of at.needle))
-            (record { needle = needle.entry }) (whole (text_of self.entry)) result }
-    {
-        self.spans_at(AtMatches { needle }, (), 0)
     }
 }

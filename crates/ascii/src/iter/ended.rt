@@ -5,14 +5,13 @@
 
 ghost use Rattle.std.specs.Prelude.{⊤, ◌≡◌};
 ghost use Rattle.ascii_base.specs.Code.{code_of};
-ghost use Rattle.ascii.specs.ByClass.{whole};
-ghost use Rattle.ascii.specs.Steps.{Iterates, IteratesSpans};
+ghost use Rattle.ascii.specs.Steps.{Iterates};
 ghost use Rattle.ascii.specs.TheCuts.{at_end, at_terminator};
 ghost use Rattle.ascii.specs.View.{text_of};
 
 use crate::ascii_str::AsciiStr;
 use crate::iter::cursor::Cursor;
-use crate::iter::items::{Cut, CutBack, Items, Spans};
+use crate::iter::items::{Cut, CutBack, Items};
 use crate::iter::spans::SplitSpan;
 use ascii_base::ascii_char::AsciiChar;
 
@@ -131,15 +130,8 @@ impl CutBack for AtEnd {
 /// A double-ended iterator over the pieces of a view that a character ends.
 pub type SplitTerminator<'a> = Items<'a, AtTerminator>;
 
-/// A double-ended iterator over the pieces of a view that a character ends, with their starts.
-pub type SplitTerminatorSpans<'a> = Spans<'a, AtTerminator>;
-
 /// A double-ended iterator over the pieces of a view with the separators that end them.
 pub type SplitInclusive<'a> = Items<'a, AtEnd>;
-
-/// A double-ended iterator over the pieces of a view with the separators that end them, each with
-/// its start.
-pub type SplitInclusiveSpans<'a> = Spans<'a, AtEnd>;
 
 impl<'a> AsciiStr<'a> {
     /// Returns a double-ended iterator over the pieces of the view that `on` ends: like `split`,
@@ -161,22 +153,6 @@ impl<'a> AsciiStr<'a> {
         self.items_at(AtTerminator { on }, ())
     }
 
-    /// Returns an iterator over the pieces of the view that `on` ends, like `split_terminator`, each
-    /// with the position in the view at which it starts.
-    ///
-    /// Constant time; a full walk searches the view once.
-    ///
-    ///     let mut spans = AsciiStr::literal("a;b;").split_terminator_spans(AsciiChar::Semicolon);
-    ///     spans.next_back() // Some(SplitSpan { start: 2, text: "b" })
-    ///     spans.remainder() // Some((0, "a;"))
-    pub fn split_terminator_spans(self, on: AsciiChar) -> SplitTerminatorSpans<'a>
-        ensures on { result.on ≡ record { on = on } }
-        ensures iterates { IteratesSpans (λ at. at_terminator (code_of at.on)) (record { on = on })
-            (whole (text_of self.entry)) result }
-    {
-        self.spans_at(AtTerminator { on }, (), 0)
-    }
-
     /// Returns a double-ended iterator over the pieces of the view at each `on`, each with the `on`
     /// that ends it. A last piece without one is yielded unless it is empty. Joined, the pieces are
     /// the view.
@@ -194,21 +170,5 @@ impl<'a> AsciiStr<'a> {
             (text_of self.entry) result }
     {
         self.items_at(AtEnd { on }, ())
-    }
-
-    /// Returns an iterator over the pieces of the view at each `on`, like `split_inclusive`, each with
-    /// the position in the view at which it starts.
-    ///
-    /// Constant time; a full walk searches the view once.
-    ///
-    ///     let mut spans = AsciiStr::literal("a;b;").split_inclusive_spans(AsciiChar::Semicolon);
-    ///     spans.next_back() // Some(SplitSpan { start: 2, text: "b;" })
-    ///     spans.remainder() // Some((0, "a;"))
-    pub fn split_inclusive_spans(self, on: AsciiChar) -> SplitInclusiveSpans<'a>
-        ensures on { result.on ≡ record { on = on } }
-        ensures iterates { IteratesSpans (λ at. at_end (code_of at.on)) (record { on = on })
-            (whole (text_of self.entry)) result }
-    {
-        self.spans_at(AtEnd { on }, (), 0)
     }
 }

@@ -90,7 +90,7 @@ pub trait CutBack: Cut {
 /// An iterator over the items of a view, each with its start. It is double-ended if the way to cut,
 /// `C`, has a back.
 ///
-/// `SplitSpans`, `WordSpans` and the other types of this module over items with starts are names of it.
+/// `SplitSpans` is a name of it, and `spans` of an iterator over items makes it of the same items.
 pub struct Spans<'a, C: Cut> {
     // What is left to cut, or `None` if no items are left.
     pub(crate) rest: Option<Cursor<'a>>,

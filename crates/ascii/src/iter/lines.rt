@@ -270,7 +270,7 @@ impl<'a> AsciiStr<'a> {
     ///
     /// Constant time; a full walk searches the view once.
     ///
-    /// If only CR LF ends a line, use `lines_by`; to read the lines of an input, `LineReader` of
+    /// To read the lines of an input, also those that only CR LF ends, use `LineReader` of
     /// `ascii_lines`.
     ///
     ///     let mut lines = AsciiStr::literal("x\r\ny\nz").lines();

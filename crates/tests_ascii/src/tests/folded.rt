@@ -1,5 +1,6 @@
 //! Folded views, compared with std's texts in lower case.
 
+use ascii::folded::FoldedStr;
 use std::alloc::Global;
 use std::collections::{BTreeMap, HashMap};
 use std::process::Abort;
@@ -20,7 +21,7 @@ fn order_is_that_of_lower_texts(rt: HostRuntime) {
         for &second in &TEXTS {
             let lower = lower_text(&rt, rt.alloc(), first);
             let other = lower_text(&rt, rt.alloc(), second);
-            let (one, two) = (ascii(first).folded(), ascii(second).folded());
+            let (one, two) = (FoldedStr::new(ascii(first)), FoldedStr::new(ascii(second)));
             assert_row!(rt; one == two, lower == other);
             assert_row!(rt; one.cmp(&two), lower.cmp(&other));
             assert_row!(rt; one < two, lower < other);
@@ -32,13 +33,13 @@ fn order_is_that_of_lower_texts(rt: HostRuntime) {
 fn maps_find_the_name_in_any_case(rt: HostRuntime) {
     let mut hashed = HashMap::new(rt.alloc());
     let mut sorted = BTreeMap::new(rt.alloc());
-    let name = ascii("Content-Type").folded();
+    let name = FoldedStr::new(ascii("Content-Type"));
     let in_hashed: Result<_, _> = hashed.insert(name, 7);
     in_hashed.expect(&rt, "refused");
     let in_sorted: Result<_, _> = sorted.insert(name, 7);
     in_sorted.expect(&rt, "refused");
-    let same = ascii("content-TYPE").folded();
-    let other = ascii("content_type").folded();
+    let same = FoldedStr::new(ascii("content-TYPE"));
+    let other = FoldedStr::new(ascii("content_type"));
     assert_row!(rt; hashed.get(&same).copied(), Some(7));
     assert_row!(rt; sorted.get(&same).copied(), Some(7));
     assert_row!(rt; hashed.get(&other).copied(), None);

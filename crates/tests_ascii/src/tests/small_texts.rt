@@ -167,52 +167,6 @@ fn lines_of_every_small_text(rt: HostRuntime) {
     }
 }
 
-/// The lines by `endings` are the same from both ends; after a step from the back nothing else remains, and
-/// the lone CR or LF is where it was.
-fn compare_lines_by<R: Abort + AllocGlobal>(
-    rt: &R,
-    view: AsciiStr<'_>,
-    endings: Endings,
-    scripts: &[Vec<End>],
-) {
-    let alloc = rt.alloc();
-    let lines = view.line_spans_by(endings);
-    let lines: Vec<LineSpan<'_>> = lines.collect(alloc).expect(rt, "no memory");
-    let bodies = lines.iter().map(|line| line.text);
-    let bodies: Vec<AsciiStr<'_>> = bodies.collect(alloc).expect(rt, "no memory");
-    let lone = view.lines_by(endings).lone_break();
-    for script in scripts {
-        let mut left = view.line_spans_by(endings);
-        let mut answers = Vec::new(alloc);
-        walk_on(rt, &mut left, script, &mut answers);
-        assert_row!(rt; answers, taken(rt, script, &lines));
-        assert_row!(rt; left.remainder().is_none(), true);
-        assert_row!(rt; left.lone_break(), lone);
-        let mut left = view.lines_by(endings);
-        let mut answers = Vec::new(alloc);
-        walk_on(rt, &mut left, script, &mut answers);
-        assert_row!(rt; answers, taken(rt, script, &bodies));
-        assert_row!(rt; left.remainder().is_none(), true);
-        assert_row!(rt; left.lone_break(), lone);
-    }
-}
-
-#[test]
-fn lines_of_every_small_text_by_each_kind_from_both_ends(rt: HostRuntime) {
-    let alloc = rt.alloc();
-    let mut scripts = Vec::new(alloc);
-    for letters in ["BBBBBBBB", "BFBFBFBF", "FBFBFBFB"] {
-        let script = ends(alloc, letters).expect(&rt, "no memory");
-        scripts.push(script).expect(&rt, "no memory");
-    }
-    for text in &small_texts(&rt) {
-        let view = bytes::as_ascii_str(text).unwrap_or_default();
-        for endings in [Endings::Any, Endings::CrLf, Endings::CrLfStrict] {
-            compare_lines_by(&rt, view, endings, &scripts);
-        }
-    }
-}
-
 #[test]
 fn pieces_of_every_small_text(rt: HostRuntime) {
     let scripts = scripts(&rt);

@@ -4,21 +4,13 @@ use ascii::classes::Whitespace;
 use ascii::{AsciiChar, AsciiStr};
 use testing::{ascii, assert_row};
 use tests_callers::cuts::{
-    all_words, extension, first_comma, first_word, first_word_and_rest, first_word_by_place,
-    has_mark, help_reply, is_get, known_text, number_and_unit, only_piece, trim_twice,
-    without_prefix, word_count, word_count_by, word_span_count,
+    all_words, extension, first_word, first_word_by_place, has_mark, help_reply, is_get,
+    known_text, number_and_unit, only_piece, trim_twice, without_prefix, word_count, word_count_by,
+    word_span_count,
 };
 
 fn text_in<'a>(part: Option<AsciiStr<'a>>) -> Option<&'a str> {
     Some(part?.as_str())
-}
-
-/// The first word and what comes after it; empty texts without a word.
-fn first_and_rest(view: AsciiStr<'_>) -> [&str; 2] {
-    match first_word_and_rest(view) {
-        Some((word, rest)) => [word.as_str(), rest.as_str()],
-        None => ["", ""],
-    }
 }
 
 #[test]
@@ -30,7 +22,6 @@ fn cuts(rt: HostRuntime) {
     assert_row!(rt; unit.as_str(), "px");
     assert_row!(rt; is_get(ascii("GET")), true);
     assert_row!(rt; has_mark(ascii("a: b"), ascii(": ")), true);
-    assert_row!(rt; first_comma(ascii("a,b,c")), Some(1));
     assert_row!(rt; help_reply().as_bytes().last(), Some(&b'F'));
     assert_row!(rt; known_text("foo").as_str(), "foo");
     assert_row!(rt; trim_twice(ascii(" a b\n")).as_str(), "a b");
@@ -44,8 +35,6 @@ fn words(rt: HostRuntime) {
     let view = ascii(" one\t two ");
     assert_row!(rt; text_in(first_word(view)), Some("one"));
     assert_row!(rt; text_in(first_word_by_place(view)), Some("one"));
-    assert_row!(rt; first_and_rest(view), ["one", "\t two "]);
-    assert_row!(rt; first_and_rest(ascii(" ")), ["", ""]);
     assert_row!(rt; word_count(view), 2);
     assert_row!(rt; word_count_by::<Whitespace>(view), 2);
     assert_row!(rt; word_span_count(view), 2);

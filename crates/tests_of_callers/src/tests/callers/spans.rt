@@ -4,8 +4,7 @@ use ascii::AsciiChar;
 use ascii::iter::End;
 use testing::{ascii, assert_debug};
 use tests_callers::iterators::{
-    allowed_line_count, cr_lf_line_count, has_strict_lines, line_count, line_lengths_by_for,
-    piece_lengths_by_map, pieces_reversed,
+    line_count, line_lengths_by_for, piece_lengths_by_map, pieces_reversed,
 };
 use tests_callers::prefixes::{first_bodies, first_line_spans, first_piece_spans, first_pieces};
 use tests_callers::remainders::{
@@ -37,10 +36,6 @@ fn loops_over_lines(rt: HostRuntime) {
     let alloc = rt.alloc();
     let view = ascii("ab\r\n\nc");
     assert_debug!(rt; line_count(view), "3");
-    assert_debug!(rt; allowed_line_count(view), "3");
-    assert_debug!(rt; cr_lf_line_count(view), "2");
-    assert_debug!(rt; has_strict_lines(view), "false");
-    assert_debug!(rt; has_strict_lines(ascii("ab\r\nc")), "true");
     assert_debug!(rt; line_span_count(view), "3");
     assert_debug!(rt; line_starts(alloc, view), "Ok([0, 4, 5])");
     assert_debug!(rt; line_starts_by_for(alloc, view), "Ok([0, 4, 5])");

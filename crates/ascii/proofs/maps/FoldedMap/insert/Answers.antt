@@ -6,7 +6,7 @@ use Rattle.ascii.proofs.maps.FoldedMap.insert.Goals as goal
 
 pub invariant_of-self-in-Err : goal.invariant_of-self-in-Err
 invariant_of-self-in-Err over c =
-    rw (c.in_ok-insert-in-Err.ensures.items, c.in_ok-key-in-Err.ensures, c.folded.ensures)
+    rw (c.in_ok-insert-in-Err.ensures.items, c.in_ok-key-in-Err.ensures, c.new.ensures)
     (insert_in_order c.self.inside.entries.items (text_of c.args.key) c.in-Err.place
     (rw c.self.view_is c.in-Err.ensures.absent) c.args.value c.self.invariant)
 
@@ -31,7 +31,7 @@ returns-in_ok-insert-in-Err-clause-puts over c =
     rw (
       c.in_ok-insert-in-Err.ensures.items,
       c.in_ok-key-in-Err.ensures,
-      c.folded.ensures,
+      c.new.ensures,
       c.self.view_is,
     ) (insert_there
     c.args.self.now (text_of c.args.key) c.in-Err.place c.in-Err.ensures.absent c.args.value)

@@ -1,4 +1,4 @@
-use Rattle.std.proofs.Common.{ap, refl, reverse, sym, ◌∙◌}
+use Rattle.std.proofs.Common.{ap, reverse, sym, ◌∙◌}
 use Rattle.std.proofs.lemmas.List.{reverse-reverse}
 use Rattle.ascii.specs.Found.{part_in}
 use Rattle.ascii.proofs.iter.backwards.BackwardsCut.has_none.Goals as goal

@@ -1,4 +1,3 @@
-use Rattle.std.proofs.Common.{◌++◌, ◌∷◌, []}
 use Rattle.ascii_base.specs.Code.{code_of}
 use Rattle.ascii.specs.Found.{part_in}
 use Rattle.ascii.proofs.EndedLemmas.{ended_empty, ended_none}

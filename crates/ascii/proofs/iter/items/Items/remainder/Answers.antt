@@ -1,7 +1,6 @@
 use Rattle.std.proofs.Common.{Some, ap, subst}
 use Rattle.std.specs.Option.{option_map}
 use Rattle.ascii.specs.Cuts.{IsRemainder}
-use Rattle.ascii.proofs.LeftLemmas.{texts_left}
 use Rattle.ascii.proofs.SpansLemmas.{items_some}
 use Rattle.ascii.proofs.iter.items.Items.remainder.Goals as goal
 

@@ -1,7 +1,7 @@
 use Rattle.std.proofs.Common.{refl, subst, sym}
 use Rattle.std.proofs.lemmas.List.{length-map}
 use Rattle.ascii.specs.Cuts.{IsSpansOf}
-use Rattle.ascii.proofs.LeftLemmas.{placed_left, texts_left}
+use Rattle.ascii.proofs.LeftLemmas.{placed_left}
 use Rattle.ascii.proofs.StepsLemmas.{runs_in_order, runs_in_reverse}
 use Rattle.ascii.proofs.iter.items.Items.spans.Goals as goal
 

@@ -1,4 +1,4 @@
-use Rattle.std.proofs.Common.{◌≡◌, ◌∷◌, ◌++◌, [], Some, refl, rules, subst}
+use Rattle.std.proofs.Common.{◌≡◌, ◌∷◌, Some, refl, rules, subst}
 use Rattle.std.specs.Option.{option_map}
 use Rattle.ascii.specs.Cutting.{left_of}
 use Rattle.ascii.specs.Found.{part_in}
