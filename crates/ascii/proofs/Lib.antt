@@ -13,7 +13,6 @@ mod Examples
 pub mod ExtendLemmas
 pub mod FoldFindLemmas
 pub mod FoldLemmas
-pub mod FoldedMapLemmas
 pub mod JsonLemmas
 pub mod LeftLemmas
 pub mod LinesByLemmas
@@ -24,7 +23,6 @@ pub mod MarkedLemmas
 pub mod MasksLemmas
 pub mod NotationsLemmas
 pub mod NumbersLemmas
-pub mod OrderLemmas
 pub mod PaddingLemmas
 pub mod PiecesLemmas
 pub mod PlaceLemmas

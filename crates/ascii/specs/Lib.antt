@@ -11,11 +11,9 @@ pub mod Ended
 pub mod Endings
 pub mod Extend
 pub mod First
-pub mod Folded
 pub mod Found
 pub mod Json
 pub mod Lines
-pub mod Maps
 pub mod Marked
 pub mod Masks
 pub mod Notations

@@ -16,7 +16,7 @@
 //! | a quoted text at the start of a view | `take_quoted` |
 //! | a view in escapes or in caret notation; escapes read back | `escape_ascii`, `caret`; `unescape` |
 //! | a part that keeps its position; a line and a column | `Spanned` of the module `spanned`; `line_and_column` |
-//! | keys that ignore case; a map asked by a view | the module `folded`; the module `maps` |
+//! | keys that ignore case; a map asked by a view | the crate `ascii_keys` |
 //! | the ASCII runs of bytes that may hold others | `bytes::ascii_chunks` |
 //! | a class of characters of your own | the module `classes` |
 //! | JSON values, serde | the module `json`; the traits of `serde` |
@@ -45,14 +45,11 @@ mod copies;
 pub mod decimals;
 pub mod endings;
 mod errors;
-pub mod folded;
 mod folded_search;
-mod folded_text;
 mod from_ascii;
 pub mod iter;
 pub mod json;
 mod line_feeds;
-pub mod maps;
 pub mod notations;
 pub mod numbers;
 mod padding;

@@ -20,8 +20,8 @@ ghost use Rattle.std.specs.Prelude.{if◌then◌else◌, is_some};
 ghost use Rattle.std.specs.Option.{option_copied};
 ghost use Rattle.ascii.specs.View.{text_of};
 
-use crate::ascii_str::AsciiStr;
 use crate::folded::{FoldedStr, FoldedString};
+use ascii::AsciiStr;
 use std::alloc::{AllocError, Global};
 use std::cmp::Ordering;
 use std::collections::BTreeMap;
@@ -39,7 +39,7 @@ pub struct AsciiMap<V> {
 }
 
 impl<V: Drop> AsciiMap<V> {
-    ghost use Rattle.ascii.specs.Maps.{ChangesAt, HasSame, size_of, value_at};
+    ghost use Rattle.ascii_keys.specs.Maps.{ChangesAt, HasSame, size_of, value_at};
 
     /// Creates an empty map. Does not allocate.
     ///
@@ -137,7 +137,7 @@ pub struct FoldedMap<V> {
 }
 
 impl<V> Model for FoldedMap<V> {
-    ghost use Rattle.ascii.specs.Maps.{Entries, IsInOrder};
+    ghost use Rattle.ascii_keys.specs.Maps.{Entries, IsInOrder};
 
     ghost Value = { Entries V };
 
@@ -148,8 +148,8 @@ impl<V> Model for FoldedMap<V> {
 
 impl<V: Drop> FoldedMap<V> {
     ghost use Rattle.std.specs.Prelude.{[], ◌<◌, IfErr, All, length};
-    ghost use Rattle.ascii.specs.Maps.{Changes, folded_value_at, same_folded};
-    ghost use Rattle.ascii.specs.Maps.{IsGapFor, IsPlaceOf, folded_order};
+    ghost use Rattle.ascii_keys.specs.Maps.{Changes, folded_value_at, same_folded};
+    ghost use Rattle.ascii_keys.specs.Maps.{IsGapFor, IsPlaceOf, folded_order};
 
     /// Creates an empty map. Does not allocate.
     ///

@@ -1,7 +1,7 @@
 use Rattle.std.proofs.Common.{sym}
 use Rattle.ascii.specs.View.{text_of}
-use Rattle.ascii.proofs.FoldedMapLemmas.{no_value, value_there}
-use Rattle.ascii.proofs.maps.FoldedMap.get.Goals as goal
+use Rattle.ascii_keys.proofs.FoldedMapLemmas.{no_value, value_there}
+use Rattle.ascii_keys.proofs.maps.FoldedMap.get.Goals as goal
 
 pub returns-in-Ok : goal.returns-in-Ok
 returns-in-Ok over c = rw (← c.self.view_is)

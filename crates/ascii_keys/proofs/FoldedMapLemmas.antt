@@ -19,9 +19,9 @@ use Rattle.std.specs.List.{IsDistinct, insert, remove}
 use Rattle.std.specs.List.Sorted.{IsBinarySearchResult, IsNonDecreasingBy, IsSearchInRange}
 use Rattle.std.specs.Map.{keys_of, lookup, remove_entry, set_value}
 use Rattle.std.specs.Ordering.{eq_by_cmp, ordering_index, ordering_reverse}
-use Rattle.ascii_base.specs.Case.{lower_image}
-use Rattle.ascii.specs.Maps.{Changes, Entries, IsGapFor, IsInOrder, IsPlaceOf, folded_order}
-use Rattle.ascii.specs.Maps.{folded_value_at, same_folded}
+use Rattle.ascii.specs.Case.{lower_image}
+use Rattle.ascii_keys.specs.Maps.{Changes, Entries, IsGapFor, IsInOrder, IsPlaceOf, folded_order}
+use Rattle.ascii_keys.specs.Maps.{folded_value_at, same_folded}
 
 -- ---- the order and the equality of texts
 

@@ -1,8 +1,8 @@
 use Rattle.std.proofs.Common.{sym}
 use Rattle.ascii.specs.View.{text_of}
-use Rattle.ascii.proofs.FoldedMapLemmas.{insert_in_order, insert_there, no_value, set_there}
-use Rattle.ascii.proofs.FoldedMapLemmas.{value_there}
-use Rattle.ascii.proofs.maps.FoldedMap.insert.Goals as goal
+use Rattle.ascii_keys.proofs.FoldedMapLemmas.{insert_in_order, insert_there, no_value, set_there}
+use Rattle.ascii_keys.proofs.FoldedMapLemmas.{value_there}
+use Rattle.ascii_keys.proofs.maps.FoldedMap.insert.Goals as goal
 
 pub invariant_of-self-in-Err : goal.invariant_of-self-in-Err
 invariant_of-self-in-Err over c =

@@ -10,8 +10,8 @@ use Rattle.std.specs.Prelude.{◌≡◌, ℕ, ◌<◌, ◌≤◌, Bool, List, Op
 use Rattle.std.specs.Str.{bytes_eq}
 use Rattle.std.specs.declared.cmp.Ordering.{Ordering}
 use Rattle.std.specs.declared.cmp.Ordering.TheVariants.{Equal, Greater, Less}
-use Rattle.ascii_base.specs.Case.{lower_image}
-use Rattle.ascii.specs.declared.maps.AsciiMap.{AsciiMap}
+use Rattle.ascii.specs.Case.{lower_image}
+use Rattle.ascii_keys.specs.declared.maps.AsciiMap.{AsciiMap}
 
 -- a value at each text, or `None` if there is none
 abbrev pub Values : Type 0 → Type 0

@@ -1,7 +1,7 @@
 use Rattle.std.proofs.Common.{◌≡◌, Some, rules, string_bytes}
 use Rattle.std.proofs.lemmas.Map.Text.{btree_map_updates_text}
 use Rattle.ascii.specs.View.{text_of}
-use Rattle.ascii.proofs.maps.AsciiMap.insert.Goals as goal
+use Rattle.ascii_keys.proofs.maps.AsciiMap.insert.Goals as goal
 
 pub returns-clause-puts : goal.returns-clause-puts
 returns-clause-puts over c =

@@ -1,8 +1,8 @@
 use Rattle.std.proofs.Common.{sym}
 use Rattle.ascii.specs.View.{text_of}
-use Rattle.ascii.proofs.FoldedMapLemmas.{no_value, none_there, remove_in_order, remove_there}
-use Rattle.ascii.proofs.FoldedMapLemmas.{value_there}
-use Rattle.ascii.proofs.maps.FoldedMap.remove.Goals as goal
+use Rattle.ascii_keys.proofs.FoldedMapLemmas.{no_value, none_there, remove_in_order, remove_there}
+use Rattle.ascii_keys.proofs.FoldedMapLemmas.{value_there}
+use Rattle.ascii_keys.proofs.maps.FoldedMap.remove.Goals as goal
 
 pub invariant_of-self : goal.invariant_of-self
 invariant_of-self over c = rw c.remove.ensures.items (remove_in_order

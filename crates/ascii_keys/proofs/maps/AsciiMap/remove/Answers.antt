@@ -1,6 +1,6 @@
 use Rattle.std.proofs.Common.{None}
 use Rattle.std.proofs.lemmas.Map.Text.{btree_map_updates_text}
-use Rattle.ascii.proofs.maps.AsciiMap.remove.Goals as goal
+use Rattle.ascii_keys.proofs.maps.AsciiMap.remove.Goals as goal
 
 pub returns-clause-removes : goal.returns-clause-removes
 returns-clause-removes over c =

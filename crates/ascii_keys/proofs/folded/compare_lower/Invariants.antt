@@ -1,6 +1,6 @@
 use Rattle.std.proofs.Common.{◌≡◌}
-use Rattle.ascii.proofs.OrderLemmas.{rest_cmp}
-use Rattle.ascii.proofs.folded.compare_lower.Given as goal
+use Rattle.ascii_keys.proofs.OrderLemmas.{rest_cmp}
+use Rattle.ascii_keys.proofs.folded.compare_lower.Given as goal
 
 -- what is left of both texts is ordered as they are
 abbrev pub invariant-loop-i : goal.invariant-loop-i

@@ -1,8 +1,8 @@
 use Rattle.std.proofs.Common.{◌≡◌, take, map}
 use Rattle.std.specs.Hash as fed
 use Rattle.std.specs.List.{flat_map, fold}
-use Rattle.ascii_base.specs.Case.{lower_image}
-use Rattle.ascii.proofs.folded.feed_lower.Given as goal
+use Rattle.ascii.specs.Case.{lower_image}
+use Rattle.ascii_keys.proofs.folded.feed_lower.Given as goal
 
 -- the bytes so far were fed
 abbrev pub invariant-loop-byte : goal.invariant-loop-byte

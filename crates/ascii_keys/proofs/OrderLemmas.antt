@@ -7,7 +7,7 @@ use Rattle.std.proofs.lemmas.List.{drop_more}
 use Rattle.std.specs.Cmp.Lexicographic.{slice_cmp}
 use Rattle.std.specs.Ordering.{nat_cmp, ordering_then}
 use Rattle.std.specs.declared.cmp.Ordering.{Ordering}
-use Rattle.ascii_base.specs.Case.{lower_image}
+use Rattle.ascii.specs.Case.{lower_image}
 
 -- the order of what two texts have from the position `i` on
 abbrev pub rest_cmp : List ℕ → List ℕ → ℕ → Ordering

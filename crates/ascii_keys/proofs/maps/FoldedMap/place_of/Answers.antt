@@ -1,9 +1,9 @@
 use Rattle.std.proofs.Common.{rules}
 use Rattle.std.proofs.lemmas.Fn.{always_returns_same}
-use Rattle.ascii.specs.Maps.{folded_order}
+use Rattle.ascii_keys.specs.Maps.{folded_order}
 use Rattle.ascii.specs.View.{text_of}
-use Rattle.ascii.proofs.FoldedMapLemmas.{gap_found, place_found}
-use Rattle.ascii.proofs.maps.FoldedMap.place_of.Goals as goal
+use Rattle.ascii_keys.proofs.FoldedMapLemmas.{gap_found, place_found}
+use Rattle.ascii_keys.proofs.maps.FoldedMap.place_of.Goals as goal
 
 -- the closure gives the order of a key and the key that is looked for
 pub returns-clause-found : goal.returns-clause-found

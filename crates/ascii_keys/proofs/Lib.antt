@@ -1,0 +1,2 @@
+pub mod FoldedMapLemmas
+pub mod OrderLemmas

@@ -1,0 +1,20 @@
+//! Texts that are compared ignoring ASCII case, and maps from texts to values.
+//!
+//!     let mut headers = FoldedMap::new(alloc);
+//!     headers.insert(AsciiStr::literal("Host"), 1)?;
+//!     headers.get(AsciiStr::literal("HOST")) // Some(1)
+//!
+//! | You want | Use |
+//! |---|---|
+//! | to compare, order or hash views ignoring case | `FoldedStr` |
+//! | such a key that owns its text | `FoldedString` |
+//! | a map from texts to values that is asked by a view | `AsciiMap`; ignoring case, `FoldedMap` |
+//!
+//! In an example, `alloc` is an allocator, and the comment after `//` is the value's `{:?}` output.
+#![tactic(auto)]
+
+mod folded;
+mod maps;
+
+pub use folded::{Folded, FoldedStr, FoldedString};
+pub use maps::{AsciiMap, FoldedMap};
