@@ -1,8 +1,6 @@
 -- Worked values of the definitions. docs/MODEL.md quotes them.
-use Rattle.std.proofs.Common.{◌≡◌, ◌∙◌, [], ◌∷◌, List, None, Some, ap, arith, rules, false, refl, sym, true, ℕ}
-use Rattle.std.specs.Fmt.{digits}
-use Rattle.std.specs.Prelude.{codes, negsuc}
-use Rattle.std.below.core.specs.declared.fmt.formatter.Alignment.TheVariants as align
+use Rattle.std.proofs.Common.{◌≡◌, ◌∙◌, [], ◌∷◌, List, Some, ap, rules, refl, sym, ℕ}
+use Rattle.std.specs.Prelude.{codes}
 use Rattle.ascii_base.specs.declared.range.AsciiRange.TheVariants as range
 use Rattle.ascii_base.specs.Range.{Fits, part_of}
 use Rattle.std.specs.Option.{option_map}
@@ -12,13 +10,9 @@ use Rattle.ascii.specs.Pieces.{Remaining}
 use Rattle.ascii.specs.TheCuts.{at_terminator}
 use Rattle.ascii.specs.View.{text_of}
 use Rattle.ascii.specs.declared.ascii_str.AsciiStr.{AsciiStr}
-use Rattle.ascii.specs.Decimals.{IsDecimalFault, WritesDecimal, decimal_text}
 use Rattle.ascii.specs.Found.{lines_of, pieces_of}
-use Rattle.ascii.specs.Numbers.{IsFaultIn, WritesNumberIn, signed_up_to}
-use Rattle.ascii.specs.Padding.{padded}
 use Rattle.ascii.specs.Spans.{piece_size, with_starts}
 use Rattle.ascii.specs.StringState.{insert_text}
-use Rattle.ascii.specs.declared.numbers.NumberError.TheVariants.{NotDigit, TooLarge}
 use Rattle.ascii.specs.declared.iter.spans.Ending.TheVariants.{Absent, CrLf, Lf}
 
 -- a text is the list of its codes
@@ -62,52 +56,3 @@ last_feed = refl
 -- an insertion before position 1
 insertion : insert_text (codes "ac") 1 (codes "b") ≡ codes "abc"
 insertion = refl
-
--- the least number of an `i8`, and the position of the digit with which one less leaves the range
-least : WritesNumberIn (signed_up_to 127) 10 (codes "-128") (negsuc 127)
-least = search rules
-
-one_less : IsFaultIn (signed_up_to 127) 10 (codes "-129") (TooLarge 3)
-one_less = search rules
-
--- two characters in the center of five: one more comes after them
-center : padded align.Center 5 46 (codes "ab") ≡ codes ".ab.."
-center = refl
-
--- a decimal number without the zero at its end, the fault at a point that nothing follows, and what
--- is written of a number with two places
-price : WritesDecimal (codes "-1.50") (record { negative = true; digits = 15; places = 1 })
-price = record {
-  whole = codes "1";
-  fraction = Some (codes "50");
-  kept = codes "5";
-  parts = record { joined = refl; digits = search rules; point = search rules };
-  some = search rules;
-  after = search rules;
-  trimmed = record {
-    cut = codes "0";
-    joined = refl;
-    within = search rules;
-    bounded = search rules;
-  };
-  digits = refl;
-  fits = search rules;
-  places = refl;
-}
-
-last_point : IsDecimalFault (codes "5.") (NotDigit 1)
-last_point = (
-  codes "5",
-  None,
-  record {
-    inside = search rules;
-    start = record { joined = refl; digits = search rules; point = tt };
-    fits = search rules;
-  },
-  search rules,
-  λ point. omega (arith, point.3),
-)
-
-two_places : decimal_text (record { negative = false; digits = 5; places = 2 }) ≡ codes "0.05"
-unfolding digits
-two_places = refl

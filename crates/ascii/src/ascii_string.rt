@@ -30,7 +30,7 @@
 
 ghost use Rattle.std.specs.Prelude.{◌≡◌, ◌+◌, ◌-◌, ◌<◌, ◌≤◌, ◌↔◌, ◌++◌, ◌∷◌, [], IfErr, IfOk, IsOk};
 ghost use Rattle.std.specs.Prelude.{IsTrue, MatchResult, OnErr, OnOk, drop, insert, length, map, remove, slice_get};
-ghost use Rattle.std.specs.Prelude.{slice_index, slice_set, take, vec_capacity, vec_len};
+ghost use Rattle.std.specs.Prelude.{slice_index, slice_set, take, vec_capacity};
 ghost use Rattle.std.specs.Option.{option_map};
 ghost use Rattle.ascii_base.specs.Case.{lower_image, upper_image};
 ghost use Rattle.ascii_base.specs.Code.{code_of, code_text};
@@ -42,7 +42,6 @@ use crate::buffer::{Buffer, CloneBuffer, InlineBuffer, NewBuffer};
 use crate::text;
 use ascii_base::ascii_char::{AsciiChar, ToAsciiChar};
 use ascii_base::kernels;
-use itoa::{Buffer as Digits, Integer};
 use std::alloc::{AllocError, Allocator, Global};
 use std::cmp::Ordering;
 use std::fmt;
@@ -243,19 +242,6 @@ impl<B: Buffer> Text<B> {
         ensures { GrowsTo B.sure (self.old.text ++ text_of view.entry) self.old self.new result }
     {
         self.bytes.append(view.as_bytes())
-    }
-
-    /// Appends the decimal digits of `n`, after `-` if `n` is negative. Fails only if the string has
-    /// to grow and the allocation fails; the text is then unchanged.
-    ///
-    ///     let mut text = AsciiStr::literal("n = ").to_ascii_string(alloc)?;
-    ///     text.push_decimal(42u64) // Ok(())
-    ///     text // "n = 42"
-    pub fn push_decimal<I: Integer>(&mut self, n: I) -> Result<(), B::Refusal>
-        ensures { GrowsTo B.sure (self.old.text ++ I.text n) self.old self.new result }
-    {
-        let mut digits = Digits::new();
-        self.bytes.append(digits.format(n).as_bytes())
     }
 
     /// Inserts `ch` before position `idx`, or appends it if `idx` is the length. Fails only if the

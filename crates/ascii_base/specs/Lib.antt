@@ -4,6 +4,7 @@ pub mod Case
 pub mod Class
 pub mod Code
 pub mod Lanes
+pub mod Notations
 pub mod Printable
 pub mod Range
 pub mod Runs

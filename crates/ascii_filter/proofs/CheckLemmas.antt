@@ -25,12 +25,12 @@ use Rattle.ascii_run.specs.declared.faults.BoundedFault.TheVariants as fault
 use Rattle.ascii_filter.specs.Checked.{IsWritten, LooksAt, StopsAt, check_output}
 use Rattle.ascii_filter.specs.Places.{FindsNext, IsFresh, ScanOutcome, ScanState, others_from}
 use Rattle.ascii_filter.specs.Places.{others_of}
-use Rattle.ascii.specs.Places.{place_after, place_after_byte, start}
+use Rattle.ascii_formats.specs.Places.{place_after, place_after_byte, start}
 use Rattle.ascii_filter.specs.declared.answer.Answer.{Answer}
 use Rattle.ascii_filter.specs.declared.options.Check.{Check}
 use Rattle.ascii_filter.specs.declared.scanner.OtherByte.{OtherByte}
-use Rattle.ascii.specs.declared.places.Place.{Place}
-use Rattle.ascii.proofs.PlaceLemmas.{place_after-append}
+use Rattle.ascii_formats.specs.declared.places.Place.{Place}
+use Rattle.ascii_formats.proofs.PlaceLemmas.{place_after-append}
 
 -- ---- the bytes of a text
 

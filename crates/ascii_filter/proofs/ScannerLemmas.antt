@@ -20,8 +20,8 @@ use Rattle.ascii_run.specs.declared.faults.BoundedFault.{BoundedFault}
 use Rattle.ascii_run.specs.declared.faults.BoundedFault.TheVariants as fault
 use Rattle.ascii_filter.specs.Places.{FillOutcome, FindsNext, HeldNext, ScanOutcome, ScanState}
 use Rattle.ascii_filter.specs.Places.{Skips}
-use Rattle.ascii.specs.Places.{place_after}
-use Rattle.ascii.proofs.PlaceLemmas.{place_after-append}
+use Rattle.ascii_formats.specs.Places.{place_after}
+use Rattle.ascii_formats.proofs.PlaceLemmas.{place_after-append}
 
 -- ---- the bytes that are held
 

@@ -9,8 +9,8 @@ use Rattle.std.specs.declared.result.Result.TheVariants.{Ok, Err}
 use Rattle.ascii_run.specs.declared.faults.BoundedFault.{BoundedFault}
 use Rattle.ascii_run.specs.declared.faults.BoundedFault.TheVariants.{Read, TooLong}
 use Rattle.ascii_filter.specs.declared.scanner.OtherByte.{OtherByte}
-use Rattle.ascii.specs.declared.places.Place.{Place}
-use Rattle.ascii.specs.Places.{place_after, place_after_byte, start}
+use Rattle.ascii_formats.specs.declared.places.Place.{Place}
+use Rattle.ascii_formats.specs.Places.{place_after, place_after_byte, start}
 
 -- the non-ASCII bytes of a text that begins at a place, in order, each with its place
 abbrev pub others_from : Place → List ℕ → List OtherByte

@@ -9,11 +9,11 @@ use Rattle.std.specs.Str.Parse.{AllDigits}
 use Rattle.std.proofs.lemmas.Str.{IsAscii-append}
 use Rattle.std.proofs.lemmas.Str.Ascii.{IsAscii-cons, IsAscii-nil}
 use Rattle.std.proofs.lemmas.Str.Parse.{digit_from_value}
-use Rattle.ascii.proofs.NumbersLemmas.{no_fault}
-use Rattle.ascii.specs.Numbers.{IsNumberFault, WritesNumber}
+use Rattle.ascii_formats.proofs.NumbersLemmas.{no_fault}
+use Rattle.ascii_formats.specs.Numbers.{IsNumberFault, WritesNumber}
 use Rattle.ascii.specs.View.{text_of}
 use Rattle.ascii.specs.declared.ascii_str.AsciiStr.{AsciiStr}
-use Rattle.ascii.specs.declared.numbers.NumberError.{NumberError}
+use Rattle.ascii_formats.specs.declared.numbers.NumberError.{NumberError}
 use Rattle.ascii_run.specs.declared.commands.Cmd.{Cmd}
 use Rattle.ascii_run.specs.declared.commands.Cmd.TheVariants.{PushStr, InsertStr, Remove, Pop}
 use Rattle.ascii_run.specs.declared.commands.Cmd.TheVariants.{Truncate, Upper, Lower}

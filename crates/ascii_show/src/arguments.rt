@@ -13,6 +13,7 @@ use crate::failure::Failure;
 use crate::modes::{Takes, find_mode};
 use ascii::iter::End;
 use ascii::{AsciiRange, AsciiStr, text};
+use ascii_formats::AsciiStrExt;
 use ascii_run::{Cmd, Mode};
 use std::alloc::Allocator;
 

@@ -7,7 +7,7 @@ use Rattle.std.proofs.lemmas.List.Elements.{All-cons, All-nil}
 use Rattle.std.proofs.lemmas.Slice.Eq.{bytes_eq-Decides}
 use Rattle.std.specs.Bool.{Decides}
 use Rattle.std.specs.Option.{option_map}
-use Rattle.ascii.specs.Maps.{Changes, Entries, folded_value_at, same_folded}
+use Rattle.ascii_keys.specs.Maps.{Changes, Entries, folded_value_at, same_folded}
 use Rattle.ascii.specs.View.{text_of}
 use Rattle.ascii.specs.declared.ascii_str.AsciiStr.{AsciiStr}
 use Rattle.cookbook.specs.Cases.{lower_text}

@@ -1,6 +1,6 @@
 -- The texts of the errors of the cookbook. Positions, fields and lines are counted from 0.
 use Rattle.std.specs.Prelude.{List, ℕ, ◌++◌, codes, decimal}
-use Rattle.ascii.specs.Places.{place_text}
+use Rattle.ascii_formats.specs.Places.{place_text}
 use Rattle.cookbook.specs.declared.headers.HeaderBlockError.{HeaderBlockError}
 use Rattle.cookbook.specs.declared.headers.HeaderBlockError.TheVariants.{InLine}
 use Rattle.cookbook.specs.declared.headers.HeaderError.{HeaderError}

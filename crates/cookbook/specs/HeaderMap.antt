@@ -1,7 +1,7 @@
 -- A map from header names to values: a function from names.
 use Rattle.std.specs.Option.{option_map}
 use Rattle.std.specs.Prelude.{◌≡◌, ℕ, List, Option, reverse}
-use Rattle.ascii.specs.Maps.{Entries, folded_value_at}
+use Rattle.ascii_keys.specs.Maps.{Entries, folded_value_at}
 use Rattle.ascii.specs.View.{text_of}
 use Rattle.ascii.specs.declared.ascii_str.AsciiStr.{AsciiStr}
 use Rattle.cookbook.specs.Headers.{FindsHeader}

@@ -8,9 +8,9 @@ use Rattle.std.specs.declared.result.Result.{Result}
 use Rattle.std.specs.declared.vec.Vec.{Vec}
 use Rattle.ascii.specs.First.{IsFirstAt}
 use Rattle.ascii.specs.Lines.{Line}
-use Rattle.ascii.specs.Places.{place_at}
+use Rattle.ascii_formats.specs.Places.{place_at}
 use Rattle.ascii.specs.Spans.{LineSpansOf, WithStart}
-use Rattle.ascii.specs.declared.places.Fault.{Fault}
+use Rattle.ascii_formats.specs.declared.places.Fault.{Fault}
 use Rattle.ascii.specs.Class.{IsWhitespace}
 use Rattle.ascii.specs.Trim.{Trims, TrimsStart}
 use Rattle.ascii.specs.View.{text_of}

@@ -3,7 +3,7 @@
 
 use crate::headers::Header;
 use ascii::AsciiStr;
-use ascii::maps::FoldedMap;
+use ascii_keys::FoldedMap;
 use std::alloc::{AllocError, Global};
 
 /// The values of headers by name, ignoring ASCII case. If a name occurs more than once, its last value

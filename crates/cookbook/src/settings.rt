@@ -1,13 +1,14 @@
 //! Reading the lines of a settings file: `key = value # comment`.
 
 ghost use Rattle.std.specs.Prelude.{◌≡◌, ◌+◌, ◌≤◌, length};
-ghost use Rattle.ascii.specs.Places.{place_at};
+ghost use Rattle.ascii_formats.specs.Places.{place_at};
 ghost use Rattle.ascii.specs.View.{text_of};
 ghost use Rattle.cookbook.specs.Settings.{IsWithoutComment, ReadsSetting, ReadsSettings};
 ghost use Rattle.cookbook.specs.Settings.{position_of, what_of};
 
-use ascii::places::Fault;
+use ascii_formats::places::Fault;
 use ascii::{AsciiChar, AsciiStr};
+use ascii_formats::AsciiStrExt;
 use std::alloc::{AllocFailed, Global};
 
 /// A setting, without whitespace around its key and its value.

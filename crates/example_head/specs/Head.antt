@@ -1,7 +1,7 @@
 -- The head of an HTTP/1.1 request.
 use Rattle.std.specs.Prelude.{◌≡◌, ◌≢◌, List, [], ◌∷◌, ◌++◌, ◌-◌, ◌^◌, All, codes, ℕ}
 use Rattle.ascii.specs.Class.{IsGraphic, IsTokenCode}
-use Rattle.ascii.specs.Numbers.{WritesNumber}
+use Rattle.ascii_formats.specs.Numbers.{WritesNumber}
 use Rattle.ascii.specs.View.{text_of}
 use Rattle.example_head.specs.declared.head.RequestLine.{RequestLine}
 

@@ -5,7 +5,8 @@ ghost use Rattle.ascii.specs.View.{text_of};
 ghost use Rattle.example_head.specs.Head.{IsRequestLine};
 
 use ascii::classes::{Blank, Graphic, Token};
-use ascii::maps::FoldedMap;
+use ascii_formats::AsciiStrExt;
+use ascii_keys::FoldedMap;
 use ascii_lines::{AsciiChar, AsciiStr, OwnedLine};
 use std::alloc::Global;
 

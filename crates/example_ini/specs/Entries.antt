@@ -4,9 +4,9 @@ use Rattle.std.specs.List.{Contains}
 use Rattle.std.specs.declared.result.Result.{Result}
 use Rattle.ascii.specs.Class.{IsWhitespace}
 use Rattle.ascii.specs.Search.{IsCutAt, StartsWith}
-use Rattle.ascii.specs.Spanned.{IsTrimmedAt, LiesIn}
+use Rattle.ascii_formats.specs.Spanned.{IsTrimmedAt, LiesIn}
 use Rattle.ascii.specs.View.{text_of}
-use Rattle.ascii.specs.declared.spanned.Spanned.{Spanned}
+use Rattle.ascii_formats.specs.declared.spanned.Spanned.{Spanned}
 use Rattle.example_ini.specs.declared.entries.IniError.{IniError}
 use Rattle.example_ini.specs.declared.entries.IniError.TheVariants.{At, Memory}
 use Rattle.example_ini.specs.declared.entries.What.TheVariants.{NoEquals, NoKey, OpenSection}

@@ -1,11 +1,11 @@
 //! The entries of a settings file: `key = value` in sections `[name]`, comments after `;`.
 
 ghost use Rattle.std.specs.Prelude.{◌≡◌, ℕ, All, IfErr, IfOk, List};
-ghost use Rattle.ascii.specs.Spanned.{LiesIn};
+ghost use Rattle.ascii_formats.specs.Spanned.{LiesIn};
 ghost use Rattle.ascii.specs.View.{text_of};
 ghost use Rattle.example_ini.specs.Entries.{ArePlacesIn, IsEntryOf, IsFaultOf, SaysFault};
 
-use ascii::spanned::Spanned;
+use ascii_formats::spanned::Spanned;
 use ascii::{AsciiChar, AsciiStr};
 use std::alloc::Global;
 use thiserror::Error;

@@ -5,6 +5,7 @@
 mod entries;
 
 use ascii::text;
+use ascii_formats::AsciiStrExt;
 use entries::{IniError, read_entries};
 use std::io::{self, Read};
 

@@ -2,10 +2,10 @@
 use Rattle.std.specs.Int.Bits.{bit_xor}
 use Rattle.std.specs.List.{fold}
 use Rattle.std.specs.Prelude.{◌≡◌, ℕ, List, ◌∷◌, ◌++◌, ◌^◌, ◌-◌, Some, length, slice_get}
-use Rattle.ascii.specs.Decimals.{WritesDecimal}
-use Rattle.ascii.specs.Numbers.{WritesNumberIn, unsigned_up_to}
+use Rattle.ascii_formats.specs.Decimals.{WritesDecimal}
+use Rattle.ascii_formats.specs.Numbers.{WritesNumberIn, unsigned_up_to}
 use Rattle.ascii.specs.Pieces.{Pieces}
-use Rattle.ascii.specs.declared.decimals.Decimal.{Decimal}
+use Rattle.ascii_formats.specs.declared.decimals.Decimal.{Decimal}
 use Rattle.example_nmea.specs.declared.sentence.Fix.{Fix}
 
 -- the exclusive or of the codes

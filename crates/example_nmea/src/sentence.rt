@@ -9,8 +9,9 @@ ghost use Rattle.ascii.specs.View.{text_of};
 ghost use Rattle.example_nmea.specs.Sentence.{HasDecimal, IsSentence, ReportsFix, xor_of};
 
 use ascii::classes::{ByRanges, Ranges};
-use ascii::decimals::Decimal;
+use ascii_formats::decimals::Decimal;
 use ascii::{AsciiChar, AsciiStr};
+use ascii_formats::AsciiStrExt;
 use thiserror::Error;
 
 /// Why a line has no position. A field is named by its index, counted from 0.

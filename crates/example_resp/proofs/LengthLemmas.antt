@@ -1,8 +1,8 @@
 -- Which digits do not write a length.
 use Rattle.std.proofs.Common.{◌≢◌, ℕ, ◌<◌, ◌≤◌, List, [], ◌∷◌, arith, length, refl}
-use Rattle.ascii.proofs.NumbersLemmas.{no_fault}
-use Rattle.ascii.specs.Numbers.{IsNumberFault, WritesNumber}
-use Rattle.ascii.specs.declared.numbers.NumberError.{NumberError}
+use Rattle.ascii_formats.proofs.NumbersLemmas.{no_fault}
+use Rattle.ascii_formats.specs.Numbers.{IsNumberFault, WritesNumber}
+use Rattle.ascii_formats.specs.declared.numbers.NumberError.{NumberError}
 
 -- digits that write a number of more than `most` do not write one of at most `most`
 pub too_large : (most wide n : ℕ) (digits : List ℕ) → WritesNumber wide digits n → most < n

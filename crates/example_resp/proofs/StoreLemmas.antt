@@ -3,7 +3,7 @@ use Rattle.std.proofs.Common.{◌≡◌, ◌∙◌, Bool, List, None, Option, So
 use Rattle.std.proofs.Common.{is_some, true, ℕ}
 use Rattle.std.specs.Option.{option_map}
 use Rattle.std.specs.Str.{bytes_eq}
-use Rattle.ascii.specs.Maps.{ChangesAt, value_at}
+use Rattle.ascii_keys.specs.Maps.{ChangesAt, value_at}
 use Rattle.ascii.specs.StringState.{StringState}
 use Rattle.example_resp.specs.Store.{Changes, contents_of}
 use Rattle.example_resp.specs.declared.store.Store.{Store}

@@ -1,6 +1,6 @@
 -- What a session answers to each line and each word: a request is a line of words, or an array.
 use Rattle.std.specs.Prelude.{◌≡◌, ◌≢◌, ◌⊎◌, ◌<◌, ◌≤◌, ℕ, List, [], ◌∷◌, ◌++◌, codes, length}
-use Rattle.ascii.specs.Numbers.{WritesNumber}
+use Rattle.ascii_formats.specs.Numbers.{WritesNumber}
 use Rattle.ascii.specs.Search.{IsPrefix, StartsWith}
 use Rattle.ascii_lines.specs.declared.serving.Next.TheVariants as next
 use Rattle.example_resp.specs.Session.{Answer, Awaits, CarriesOut, Rejects, State}

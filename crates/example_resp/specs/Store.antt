@@ -4,7 +4,7 @@ use Rattle.std.specs.Map.{update}
 use Rattle.std.specs.Option.{option_map}
 use Rattle.std.specs.Prelude.{◌≡◌, ◌+◌, ℕ, List, [], ◌∷◌, None, Option, if◌then◌else◌, is_some, map}
 use Rattle.std.specs.Str.{bytes_eq}
-use Rattle.ascii.specs.Maps.{value_at}
+use Rattle.ascii_keys.specs.Maps.{value_at}
 use Rattle.ascii.specs.StringState.{StringState}
 use Rattle.example_resp.specs.declared.store.Store.{Store}
 

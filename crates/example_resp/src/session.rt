@@ -13,6 +13,7 @@ use crate::replies::{Reply, follow, line_of, say_number, say_value};
 use crate::store::Store;
 use crate::words::split_words;
 use ascii::{AsciiStr, AsciiString};
+use ascii_formats::AsciiStrExt;
 use ascii_lines::{Ending, Handler, LineError, Next, Replies, Sink};
 use std::alloc::{AllocError, Allocator, Global};
 

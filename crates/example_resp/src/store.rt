@@ -1,6 +1,6 @@
 //! A store: a value for each key that was set.
 
-use ascii::maps::AsciiMap;
+use ascii_keys::AsciiMap;
 use ascii::{AsciiStr, AsciiString};
 use std::alloc::{AllocError, Global};
 

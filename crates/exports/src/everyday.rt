@@ -4,6 +4,7 @@
 use crate::measured::{mark, mixed};
 use ascii::classes::{Blank, Hexdigit, Token};
 use ascii::{AsciiChar, AsciiStr, AsciiString, bytes};
+use ascii_formats::{AsciiStrExt, AsciiStringExt};
 use cookbook::identifiers::Identifier;
 use std::alloc::{AllocError, Global};
 use std::fmt::Write;

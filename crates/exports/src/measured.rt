@@ -7,8 +7,9 @@ ghost use Rattle.ascii.specs.Case.{lower_image, upper_image};
 ghost use Rattle.ascii.specs.Class.{IsWhitespace};
 ghost use Rattle.ascii.specs.Trim.{Trims};
 
-use ascii::folded::FoldedStr;
+use ascii_keys::FoldedStr;
 use ascii::{AsciiChar, AsciiStr, AsciiString, bytes};
+use ascii_formats::AsciiStrExt;
 use ascii_lines::{Endings, LineReader, LineWriter};
 use ascii_run::{AsciiBuf, Input, Output, SmallAsciiString};
 use std::alloc::{AllocError, Global};

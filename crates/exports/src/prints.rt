@@ -3,7 +3,7 @@
 ghost use Rattle.std.specs.Str.{IsAscii};
 
 use crate::answer::Answer;
-use ascii::folded::FoldedStr;
+use ascii_keys::FoldedStr;
 use ascii::{AsciiChar, bytes, json};
 use ascii_run::SmallAsciiString;
 use std::alloc::{AllocError, Global};

@@ -3,7 +3,7 @@
 ghost use Rattle.std.specs.Str.{IsAscii};
 
 use crate::answer::Answer;
-use ascii::folded::FoldedStr;
+use ascii_keys::FoldedStr;
 use ascii::{BoxedAsciiStr, CowAsciiStr, RcAsciiStr, bytes, kernels};
 use ascii_run::{ArrayAsciiString, SmallAsciiString};
 use std::alloc::{AllocError, Global};

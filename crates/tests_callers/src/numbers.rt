@@ -2,12 +2,13 @@
 
 ghost use Rattle.std.specs.Prelude.{◌≡◌, ◌<◌, ◌^◌, IfOk, Ok};
 ghost use Rattle.std.specs.Str.Parse.{IsNumeral, digits_value};
-ghost use Rattle.ascii.specs.Decimals.{WritesDecimal};
+ghost use Rattle.ascii_formats.specs.Decimals.{WritesDecimal};
 ghost use Rattle.ascii.specs.View.{text_of};
 
-use ascii::decimals::Decimal;
-use ascii::numbers::NumberError;
+use ascii_formats::decimals::Decimal;
+use ascii_formats::numbers::NumberError;
 use ascii::{AsciiStr, AsciiString};
+use ascii_formats::{AsciiStrExt, AsciiStringExt};
 use std::alloc::{AllocError, Global};
 
 /// The number that is read from the digits of `n`: it is `n`.

@@ -1,11 +1,12 @@
 //! Callers of `take_quoted`.
 
 ghost use Rattle.std.specs.Prelude.{◌≡◌, ◌↔◌, IsOkAnd, IsTrue, List, ℕ};
-ghost use Rattle.ascii.specs.Quotes.{StartsQuoted};
+ghost use Rattle.ascii_formats.specs.Quotes.{StartsQuoted};
 ghost use Rattle.ascii.specs.View.{text_of};
 
-use ascii::quotes::QuoteError;
+use ascii_formats::quotes::QuoteError;
 use ascii::{AsciiChar, AsciiStr};
+use ascii_formats::AsciiStrExt;
 
 /// Returns `true` if a quoted string is at the start of the view.
 pub fn starts_quoted(view: AsciiStr<'_>) -> bool

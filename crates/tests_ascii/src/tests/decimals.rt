@@ -2,8 +2,9 @@
 
 ghost use Rattle.std.specs.Prelude.{◌<◌};
 
-use ascii::decimals::Decimal;
-use ascii::numbers::NumberError;
+use ascii_formats::AsciiStrExt;
+use ascii_formats::decimals::Decimal;
+use ascii_formats::numbers::NumberError;
 use std::process::Abort;
 use testing::{ascii, assert_row};
 

@@ -1,6 +1,6 @@
 //! Folded views, compared with std's texts in lower case.
 
-use ascii::folded::FoldedStr;
+use ascii_keys::FoldedStr;
 use std::alloc::Global;
 use std::collections::{BTreeMap, HashMap};
 use std::process::Abort;

@@ -1,7 +1,7 @@
 //! Maps asked by a view, and keys that own their text.
 
-use ascii::folded::{FoldedStr, FoldedString};
-use ascii::maps::{AsciiMap, FoldedMap};
+use ascii_keys::{FoldedStr, FoldedString};
+use ascii_keys::{AsciiMap, FoldedMap};
 use std::alloc::{AllocError, Global};
 use std::collections::{BTreeMap, HashSet};
 use testing::{assert_debug, assert_row, view};

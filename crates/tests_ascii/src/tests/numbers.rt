@@ -2,8 +2,9 @@
 
 ghost use Rattle.std.specs.Prelude.{◌≤◌};
 
-use ascii::numbers::NumberError;
+use ascii_formats::numbers::NumberError;
 use ascii::{NewBuffer, Text};
+use ascii_formats::{AsciiStrExt, AsciiStringExt};
 use std::alloc::{AllocError, Global};
 use std::process::Abort;
 use testing::{ascii, assert_row};

@@ -1,6 +1,7 @@
 //! Texts and hexadecimal digits that are filled up to a width, compared with those that std's `format!` writes.
 
 use ascii::{AsciiChar, NewBuffer, Text};
+use ascii_formats::AsciiStringExt;
 use std::alloc::{AllocError, Global};
 use std::fmt::Alignment;
 use std::process::Abort;

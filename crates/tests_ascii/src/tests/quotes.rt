@@ -1,7 +1,8 @@
 //! Quoted texts at the start of a view: rows by hand, among them those of RFC 4180 (CSV) and RFC 9110 (quoted strings).
 
-use ascii::quotes::QuoteError;
+use ascii_formats::quotes::QuoteError;
 use ascii::{AsciiChar, AsciiStr};
+use ascii_formats::AsciiStrExt;
 use testing::ascii;
 
 fn texts_in<'a>(

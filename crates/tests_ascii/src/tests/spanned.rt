@@ -2,7 +2,8 @@
 
 use ascii::AsciiChar;
 use ascii::classes::{Blank, Digit};
-use ascii::spanned::Spanned;
+use ascii_formats::AsciiStrExt;
+use ascii_formats::spanned::Spanned;
 use testing::{assert_debug, assert_row, view};
 
 /// The part after `n` characters, or the part itself if it has fewer.

@@ -1,6 +1,7 @@
 //! Escapes that are read back: what std's `escape_ascii` writes of each code, and rows by hand.
 
-use ascii::unescape::UnescapeError;
+use ascii_formats::AsciiStrExt;
+use ascii_formats::unescape::UnescapeError;
 use std::alloc::{AllocError, Global};
 use testing::{ascii, assert_row};
 

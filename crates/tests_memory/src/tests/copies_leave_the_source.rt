@@ -6,6 +6,7 @@ use super::each_allocation::{
 };
 use ascii::iter::{End, walk_line_spans, walk_lines, walk_split, walk_split_spans};
 use ascii::{AsciiChar, AsciiStr, BoxedAsciiStr, CloneBuffer, NewBuffer, RcAsciiStr, Text};
+use ascii_formats::AsciiStrExt;
 use std::alloc::{AllocError, Global};
 
 /// A call that makes a string with any buffer.

@@ -5,6 +5,7 @@ use ascii::iter::{End, walk_line_spans, walk_split_spans};
 use ascii::{
     AsciiChar, AsciiRange, AsciiStr, CloneBuffer, CowAsciiStr, InlineBuffer, NewBuffer, Text, bytes,
 };
+use ascii_formats::AsciiStringExt;
 use ascii_run::{Cmd, Inline, Input, Mode, Output, Reply, engine, run_both};
 use std::alloc::{AllocError, Global};
 use std::fmt::{Alignment, Write};

@@ -3,6 +3,7 @@
 use super::each_allocation::{Heap, told, view, with_each_allocation_failing};
 use super::each_free_block::{Scarce, with_each_free_block};
 use ascii::{AsciiChar, AsciiRange, AsciiString, Buffer, Text};
+use ascii_formats::AsciiStringExt;
 use ascii_run::{ArrayAsciiString, SmallAsciiString};
 use std::alloc::{AllocError, Global};
 use std::fmt::{Alignment, Write};

@@ -1,7 +1,8 @@
 //! Maps with many keys.
 
 use ascii::AsciiString;
-use ascii::maps::{AsciiMap, FoldedMap};
+use ascii_formats::AsciiStringExt;
+use ascii_keys::{AsciiMap, FoldedMap};
 
 #[test]
 fn many_keys_have_their_values(rt: HostRuntime) {

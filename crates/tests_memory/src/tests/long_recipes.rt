@@ -2,6 +2,7 @@
 
 use super::repeated;
 use ascii::{AsciiChar, AsciiString};
+use ascii_formats::AsciiStringExt;
 use cookbook::copy_lossy::copy_lossy;
 use cookbook::header_map::HeaderMap;
 use cookbook::headers::read_headers;

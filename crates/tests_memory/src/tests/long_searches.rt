@@ -3,6 +3,7 @@
 use super::repeated;
 use ascii::classes::Digit;
 use ascii::{AsciiChar, AsciiStr};
+use ascii_formats::AsciiStrExt;
 use testing::{ascii, assert_row};
 
 #[test]

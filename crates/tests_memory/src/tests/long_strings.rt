@@ -2,6 +2,7 @@
 
 use super::repeated;
 use ascii::{AsciiChar, AsciiRange, AsciiString};
+use ascii_formats::{AsciiStrExt, AsciiStringExt};
 use ascii_run::{AsciiBuf, SmallAsciiString};
 use testing::{ascii, assert_row};
 

@@ -1,7 +1,7 @@
 //! The library together with std and the toolchain's crates, one combination a test. docs/BESIDE.md quotes them.
 
 use anyhow::Context;
-use ascii::folded::FoldedStr;
+use ascii_keys::FoldedStr;
 use ascii::{AsAsciiStrError, AsciiChar, AsciiRange, AsciiStr, AsciiString, bytes, string, vec};
 use base64::engine::general_purpose::STANDARD;
 use bstr::ByteSlice;

@@ -3,6 +3,7 @@
 //! Tests with many calls are functions over the buffer, which are called with a fixed or an inline one.
 
 use ascii::{AsciiString, CloneBuffer, NewBuffer, Text};
+use ascii_formats::AsciiStringExt;
 use ascii_run::buf::Array;
 use ascii_run::{ArrayAsciiString, Full, Inline, SmallAsciiString};
 use std::alloc::{AllocError, Global};

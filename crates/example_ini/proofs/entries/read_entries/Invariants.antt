@@ -1,5 +1,5 @@
 use Rattle.std.proofs.Common.{All, length}
-use Rattle.ascii.specs.Spanned.{LiesIn}
+use Rattle.ascii_formats.specs.Spanned.{LiesIn}
 use Rattle.ascii.specs.View.{text_of}
 use Rattle.example_ini.specs.Entries.{IsEntryOf}
 use Rattle.example_ini.proofs.entries.read_entries.Given as goal

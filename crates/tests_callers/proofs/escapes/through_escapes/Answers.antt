@@ -1,6 +1,6 @@
 use Rattle.std.proofs.Common.{sym, ◌∙◌}
 use Rattle.ascii.proofs.CallerLemmas.{collects_chars}
-use Rattle.ascii.proofs.UnescapeLemmas.{escaped_comes_back}
+use Rattle.ascii_formats.proofs.UnescapeLemmas.{escaped_comes_back}
 use Rattle.tests_callers.proofs.escapes.through_escapes.Goals as goal
 
 pub returns : goal.returns

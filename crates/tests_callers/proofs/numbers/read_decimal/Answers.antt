@@ -1,5 +1,5 @@
 use Rattle.ascii.specs.View.{text_of}
-use Rattle.ascii.proofs.DecimalsLemmas.{reads_decimal_number}
+use Rattle.ascii_formats.proofs.DecimalsLemmas.{reads_decimal_number}
 use Rattle.tests_callers.proofs.numbers.read_decimal.Goals as goal
 
 pub returns : goal.returns

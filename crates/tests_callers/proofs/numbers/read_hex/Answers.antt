@@ -1,7 +1,7 @@
 use Rattle.std.proofs.Common.{◌-◌, ◌^◌, arith, lit≤}
-use Rattle.ascii.specs.Numbers.{unsigned_up_to}
+use Rattle.ascii_formats.specs.Numbers.{unsigned_up_to}
 use Rattle.ascii.specs.View.{text_of}
-use Rattle.ascii.proofs.NumbersLemmas.{reads_number_in}
+use Rattle.ascii_formats.proofs.NumbersLemmas.{reads_number_in}
 use Rattle.tests_callers.proofs.numbers.read_hex.Goals as goal
 
 pub returns : goal.returns

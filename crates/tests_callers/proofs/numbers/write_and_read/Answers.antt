@@ -1,7 +1,7 @@
 use Rattle.std.proofs.Common.{◌≡◌, ◌-◌, ◌^◌, arith, rules}
 use Rattle.std.specs.Prelude.{decimal}
 use Rattle.ascii.specs.View.{text_of}
-use Rattle.ascii.proofs.NumbersLemmas.{reads_decimal}
+use Rattle.ascii_formats.proofs.NumbersLemmas.{reads_decimal}
 use Rattle.tests_callers.proofs.numbers.write_and_read.Goals as goal
 
 pub returns : goal.returns

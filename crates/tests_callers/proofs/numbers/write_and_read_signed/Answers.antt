@@ -2,7 +2,7 @@ use Rattle.std.proofs.Common.{◌≡◌, rules}
 use Rattle.std.specs.Fmt.{signed_decimal}
 use Rattle.std.specs.Int.{w64}
 use Rattle.ascii.specs.View.{text_of}
-use Rattle.ascii.proofs.NumbersLemmas.{reads_signed_decimal}
+use Rattle.ascii_formats.proofs.NumbersLemmas.{reads_signed_decimal}
 use Rattle.tests_callers.proofs.numbers.write_and_read_signed.Goals as goal
 
 pub returns : goal.returns

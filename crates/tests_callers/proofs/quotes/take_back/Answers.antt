@@ -1,5 +1,5 @@
 use Rattle.ascii.specs.View.{text_of}
-use Rattle.ascii.proofs.QuotesLemmas.{quoted_taken}
+use Rattle.ascii_formats.proofs.QuotesLemmas.{quoted_taken}
 use Rattle.tests_callers.proofs.quotes.take_back.Goals as goal
 
 pub returns : goal.returns

@@ -1,6 +1,6 @@
 //! The caller of folded views.
 
-use ascii::folded::FoldedStr;
+use ascii_keys::FoldedStr;
 use testing::{ascii, assert_row};
 use tests_callers::folded::are_alike;
 

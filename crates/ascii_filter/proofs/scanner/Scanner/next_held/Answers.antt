@@ -1,6 +1,6 @@
 use Rattle.std.proofs.Common.{◌≡◌, ◌+◌, ◌-◌, ◌∷◌, ◌++◌, ◌∙◌, ap, rules, take, drop}
 use Rattle.std.proofs.Common.{arith, get_or}
-use Rattle.ascii.specs.Places.{place_after}
+use Rattle.ascii_formats.specs.Places.{place_after}
 use Rattle.ascii_filter.proofs.ScannerLemmas.{ascii_before, cut_held}
 use Rattle.ascii_filter.proofs.scanner.Scanner.next_held.Goals as goal
 

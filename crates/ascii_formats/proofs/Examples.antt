@@ -1,0 +1,59 @@
+-- Worked values of the definitions. docs/MODEL.md quotes them.
+use Rattle.std.proofs.Common.{◌≡◌, None, Some, arith, rules, false, refl, true}
+use Rattle.std.specs.Fmt.{digits}
+use Rattle.std.specs.Prelude.{codes, negsuc}
+use Rattle.std.below.core.specs.declared.fmt.formatter.Alignment.TheVariants as align
+use Rattle.ascii.specs.ByClass.{whole}
+use Rattle.ascii_formats.specs.Decimals.{IsDecimalFault, WritesDecimal, decimal_text}
+use Rattle.ascii_formats.specs.Numbers.{IsFaultIn, WritesNumberIn, signed_up_to}
+use Rattle.ascii_formats.specs.Padding.{padded}
+use Rattle.ascii_formats.specs.declared.numbers.NumberError.TheVariants.{NotDigit, TooLarge}
+
+-- the least number of an `i8`, and the position of the digit with which one less leaves the range
+least : WritesNumberIn (signed_up_to 127) 10 (codes "-128") (negsuc 127)
+least = search rules
+
+one_less : IsFaultIn (signed_up_to 127) 10 (codes "-129") (TooLarge 3)
+one_less = search rules
+
+-- two characters in the center of five: one more comes after them
+center : padded align.Center 5 46 (codes "ab") ≡ codes ".ab.."
+center = refl
+
+-- a decimal number without the zero at its end, the fault at a point that nothing follows, and what
+-- is written of a number with two places
+price : WritesDecimal (codes "-1.50") (record { negative = true; digits = 15; places = 1 })
+price = record {
+  whole = codes "1";
+  fraction = Some (codes "50");
+  kept = codes "5";
+  parts = record { joined = refl; digits = search rules; point = search rules };
+  some = search rules;
+  after = search rules;
+  trimmed = record {
+    cut = codes "0";
+    joined = refl;
+    within = search rules;
+    bounded = search rules;
+  };
+  digits = refl;
+  fits = search rules;
+  places = refl;
+}
+
+last_point : IsDecimalFault (codes "5.") (NotDigit 1)
+last_point = (
+  codes "5",
+  None,
+  record {
+    inside = search rules;
+    start = record { joined = refl; digits = search rules; point = tt };
+    fits = search rules;
+  },
+  search rules,
+  λ point. omega (arith, point.3),
+)
+
+two_places : decimal_text (record { negative = false; digits = 5; places = 2 }) ≡ codes "0.05"
+unfolding digits
+two_places = refl

@@ -1,0 +1,215 @@
+-- Appending a text in parts.
+use Rattle.std.proofs.Common.{◌≡◌, ℕ, zero, suc, ◌+◌, ◌-◌, ◌<◌, ◌≤◌, List, [], ◌∷◌, ◌++◌, length}
+use Rattle.std.proofs.Common.{drop, false, replicate, set}
+use Rattle.std.proofs.Common.{Ok, Err, Result, length-append, arith, ap, refl, subst, sym, ◌∙◌}
+use Rattle.std.proofs.lemmas.List.{append_assoc, append-nil, drop_all}
+use Rattle.std.proofs.lemmas.List.{replicate-append-replicate}
+use Rattle.std.proofs.Common.{◌/◌, ◌%◌, ◌^◌, ◌≢◌, ◌⊎◌, ⊎_elim, inl, inr, eq-eqb, ne_eqb}
+use Rattle.std.proofs.Math.Nat.{pow-suc}
+use Rattle.std.proofs.lemmas.Bool.Decides.{nat_tests}
+use Rattle.std.specs.Fmt.{digit_glyph, digits, digits_onto}
+use Rattle.std.specs.Str.{IsAscii}
+use Rattle.std.proofs.lemmas.Str.Ascii.{IsAscii-cons, IsAscii-nil}
+use Rattle.ascii_formats.specs.Padding.{AppendsInParts}
+use Rattle.ascii.specs.StringState.{GrowsTo, StringState}
+
+-- two texts that are empty together
+both_empty : (a b : List ℕ) → a ++ b ≡ [] → (a ≡ []) × (b ≡ [])
+both_empty [] b none = (refl, none)
+both_empty (code ∷ codes) b none = absurd (omega (arith, ap length none))
+
+-- a part that is appended at once
+pub part_at_once : {E : Type 0} {sure : ℕ} (codes : List ℕ) (old new : StringState)
+    (result : Result (Unit {0}) E)
+    → GrowsTo sure (old.text ++ codes) old new result → AppendsInParts sure codes old new result
+part_at_once codes old new (Ok u) grows = record {
+  ok = grows.ok;
+  err = tt;
+  full = tt;
+  beyond = tt;
+  nothing = λ none. refl;
+  capacity = grows.capacity;
+}
+part_at_once codes old new (Err e) grows = record {
+  ok = tt;
+  err = ([], grows.err ∙ sym (append-nil old.text));
+  full = omega (arith, grows.full, length-append old.text codes);
+  beyond = omega (arith, grows.beyond, length-append old.text codes);
+  nothing = λ none. grows.nothing (ap (λ part. old.text ++ part) none ∙ append-nil old.text);
+  capacity = grows.capacity;
+}
+
+-- a part, and then another
+pub two_parts : {E F : Type 0} {sure : ℕ} (a b : List ℕ) (old mid new : StringState) (u : Unit {0})
+    (result : Result (Unit {0}) E)
+    → AppendsInParts {E = F} sure a old mid (Ok u) → AppendsInParts sure b mid new result
+    → AppendsInParts sure (a ++ b) old new result
+two_parts a b old mid new u (Ok v) first second = record {
+  ok = second.ok ∙ ap (λ text. text ++ b) first.ok ∙ append_assoc old.text a b;
+  err = tt;
+  full = tt;
+  beyond = tt;
+  nothing = λ none. refl;
+  capacity = omega (arith, first.capacity, second.capacity);
+}
+two_parts a b old mid new u (Err e) first second = record {
+  ok = tt;
+  err = (
+    a ++ second.err.0,
+    second.err.1 ∙ ap (λ text. text ++ second.err.0) first.ok
+        ∙ append_assoc old.text a second.err.0,
+  );
+  full = omega (
+    arith,
+    first.capacity,
+    second.full,
+    ap length first.ok,
+    length-append old.text a,
+    length-append a b,
+  );
+  beyond = omega (
+    arith,
+    second.beyond,
+    ap length first.ok,
+    length-append old.text a,
+    length-append a b,
+  );
+  nothing = λ none. second.nothing (both_empty a b none).1;
+  capacity = omega (arith, first.capacity, second.capacity);
+}
+
+-- a part that did not fit, before another
+pub first_part : {E F : Type 0} {sure : ℕ} (a b : List ℕ) (old new : StringState) (e : F) (f : E)
+    → AppendsInParts sure a old new (Err e) → AppendsInParts sure (a ++ b) old new (Err f)
+first_part a b old new e f first = record {
+  ok = tt;
+  err = first.err;
+  full = omega (arith, first.full, length-append a b);
+  beyond = omega (arith, first.beyond, length-append a b);
+  nothing = λ none. first.nothing (both_empty a b none).0;
+  capacity = first.capacity;
+}
+
+-- no part
+pub no_part : {E : Type 0} {sure : ℕ} (old : StringState) → AppendsInParts {E = E} sure [] old old (Ok tt)
+no_part old = record {
+  ok = sym (append-nil old.text);
+  err = tt;
+  full = tt;
+  beyond = tt;
+  nothing = λ none. refl;
+  capacity = omega arith;
+}
+
+-- a code once more, if it fits
+pub one_more : {E : Type 0} {sure : ℕ} (n code : ℕ) (old mid new : StringState) (result : Result (Unit {0}) E)
+    → AppendsInParts {E = E} sure (replicate n code) old mid (Ok tt)
+    → GrowsTo sure (mid.text ++ code ∷ []) mid new result
+    → AppendsInParts sure (replicate (n + 1) code) old new result
+one_more {sure = sure} n code old mid new result before grows =
+    subst (λ codes. AppendsInParts sure codes old new result) (replicate-append-replicate n 1 code)
+    (two_parts (replicate n code) (code ∷ []) old mid new tt result before
+    (part_at_once (code ∷ []) mid new result grows))
+
+-- some of as many of a code
+pub some_of : {E F : Type 0} {sure : ℕ} (n count code : ℕ) (old new : StringState) (e : F) (f : E) → n ≤ count
+    → AppendsInParts sure (replicate n code) old new (Err e)
+    → AppendsInParts sure (replicate count code) old new (Err f)
+some_of {sure = sure} n count code old new e f inside first =
+    let rest : n + (count - n) ≡ count = omega (arith, inside) in
+    subst (λ codes. AppendsInParts sure codes old new (Err f))
+    (replicate-append-replicate n (count - n) code ∙ ap (λ k. replicate k code) rest)
+    (first_part (replicate n code) (replicate (count - n) code) old new e f first)
+
+-- the codes from one on that is written
+pub from_written : (room : List ℕ) (at code : ℕ) → at < length room
+    → drop at (set room at code) ≡ code ∷ drop (suc at) room
+from_written [] at code inside = absurd (omega (arith, inside))
+from_written (first ∷ rest) zero code inside = refl
+from_written (first ∷ rest) (suc at) code inside = from_written rest at code (omega (arith, inside))
+
+-- a number below the base has one digit, and another has one more than its quotient
+last_digit : (turns n : ℕ) (after : List ℕ) → n / 16 ≡ 0
+    → digits_onto (suc turns) 16 false n after ≡ digit_glyph false (n % 16) ∷ after
+last_digit turns n after none = rw (eq-eqb (n / 16) 0 none) refl
+
+more_digits : (turns n : ℕ) (after : List ℕ) → n / 16 ≢ 0
+    → digits_onto (suc turns) 16 false n after
+    ≡ digits_onto turns 16 false (n / 16) (digit_glyph false (n % 16) ∷ after)
+more_digits turns n after more = rw (ne_eqb (n / 16) 0 more) refl
+
+-- the codes from the one that is written at `15 - written` on
+after_digit : (room : List ℕ) (written code : ℕ) → length room ≡ 16 → written < 16
+    → drop (15 - written) (set room (15 - written) code) ≡ code ∷ drop (16 - written) room
+after_digit room written code size inside =
+    let next : suc (15 - written) ≡ 16 - written = omega (arith, inside) in
+    from_written room (15 - written) code (omega (arith, size))
+    ∙ ap (λ at. code ∷ drop at room) next
+
+-- the digits of a number, when the last of its quotients is written
+pub digits_written : (room : List ℕ) (written rest n : ℕ) → length room ≡ 16 → written < 16
+    → digits_onto (64 - written) 16 false rest (drop (16 - written) room) ≡ digits 16 false n
+    → rest / 16 ≡ 0
+    → drop (15 - written) (set room (15 - written) (digit_glyph false (rest % 16)))
+    ≡ digits 16 false n
+digits_written room written rest n size inside so_far none =
+    let turns : 64 - written ≡ suc (63 - written) = omega (arith, inside) in
+    after_digit room written (digit_glyph false (rest % 16)) size inside
+    ∙ sym (last_digit (63 - written) rest (drop (16 - written) room) none)
+    ∙ ap (λ k. digits_onto k 16 false rest (drop (16 - written) room)) (sym turns) ∙ so_far
+
+-- none is written
+pub no_digits : (room : List ℕ) (n : ℕ) → length room ≡ 16
+    → digits_onto 64 16 false n (drop 16 room) ≡ digits 16 false n
+unfolding digits
+no_digits room n size = ap (digits_onto 64 16 false n) (drop_all 16 room (omega (arith, size)))
+
+-- and when another is
+pub digit_written : (room : List ℕ) (written rest n : ℕ) → length room ≡ 16 → written < 16
+    → digits_onto (64 - written) 16 false rest (drop (16 - written) room) ≡ digits 16 false n
+    → rest / 16 ≢ 0
+    → digits_onto (64 - (written + 1)) 16 false (rest / 16)
+    (drop (16 - (written + 1)) (set room (15 - written) (digit_glyph false (rest % 16))))
+    ≡ digits 16 false n
+digit_written room written rest n size inside so_far more =
+    let glyph = digit_glyph false (rest % 16) in
+    let longer = set room (15 - written) glyph in
+    let left : 64 - (written + 1) ≡ 63 - written = omega (arith, inside) in
+    let at : 16 - (written + 1) ≡ 15 - written = omega (arith, inside) in
+    let turns : 64 - written ≡ suc (63 - written) = omega (arith, inside) in
+    ap (λ k. digits_onto k 16 false (rest / 16) (drop (16 - (written + 1)) longer))
+    left
+    ∙ ap (λ k. digits_onto (63 - written) 16 false (rest / 16) (drop k longer))
+    at
+    ∙ ap (digits_onto (63 - written) 16 false (rest / 16))
+    (after_digit room written glyph size inside)
+    ∙ sym (more_digits (63 - written) rest (drop (16 - written) room) more)
+    ∙ ap (λ k. digits_onto k 16 false rest (drop (16 - written) room)) (sym turns) ∙ so_far
+
+-- a quotient has one digit less
+pub fewer_digits : (rest written : ℕ) → written < 16 → rest < 16 ^ (16 - written)
+    → rest / 16 < 16 ^ (16 - (written + 1))
+fewer_digits rest written inside below =
+    let size : 16 - written ≡ suc (16 - (written + 1)) = omega (arith, inside) in
+    omega (arith, below, ap (λ k. 16 ^ k) size, pow-suc 16 (16 - (written + 1)))
+
+-- a number is 0, or more
+zero_or_more : (n : ℕ) → (n ≡ 0) ⊎ (0 < n)
+zero_or_more zero = inl refl
+zero_or_more (suc n) = inr (omega arith)
+
+-- the digits of a number are ASCII
+digits_ascii : (turns n : ℕ) (after : List ℕ) → IsAscii after
+    → IsAscii (digits_onto turns 16 false n after)
+digits_ascii zero n after ascii = ascii
+digits_ascii (suc turns) n after ascii =
+    let glyph : digit_glyph false (n % 16) < 128 = grind (arith, nat_tests) in
+    let longer = IsAscii-cons (digit_glyph false (n % 16)) after glyph ascii in
+    ⊎_elim (λ none. subst IsAscii (sym (last_digit turns n after none)) longer)
+    (λ more. subst IsAscii (sym (more_digits turns n after (λ none. omega (arith, more, none))))
+    (digits_ascii turns (n / 16) (digit_glyph false (n % 16) ∷ after) longer))
+    (zero_or_more (n / 16))
+
+pub hex_ascii : (n : ℕ) → IsAscii (digits 16 false n)
+unfolding digits
+hex_ascii n = digits_ascii 64 n [] IsAscii-nil

@@ -1,0 +1,258 @@
+//! The calls of a view that read formats.
+
+ghost use Rattle.std.specs.Prelude.{◌≡◌, ℕ, ◌≤◌, List, MatchResult, length};
+ghost use Rattle.ascii.specs.Code.{code_of};
+ghost use Rattle.ascii.specs.View.{text_of};
+ghost use Rattle.ascii_formats.specs.Decimals.{IsDecimalFault, WritesDecimal};
+ghost use Rattle.ascii_formats.specs.Numbers.{IsFaultIn, IsStartFault, StartsWithNumber};
+ghost use Rattle.ascii_formats.specs.Numbers.{WritesNumberIn};
+ghost use Rattle.ascii_formats.specs.Places.{place_at};
+ghost use Rattle.ascii_formats.specs.Quotes.{IsQuoteFault, StartsQuoted};
+ghost use Rattle.ascii_formats.specs.Unescape.{IsUnescapeFault, Unescapes};
+
+use crate::decimals::{Decimal, continue_number, split_sign, without_zeros};
+use crate::numbers::{Number, NumberError, begins_with_sign, leading_number};
+use crate::places::{Fault, Place};
+use crate::quotes::{QuoteError, closing_quote};
+use crate::unescape::{UnescapeError, unescape_into};
+use ascii::{AsciiChar, AsciiRange, AsciiStr, AsciiString};
+use std::alloc::Allocator;
+
+/// The calls of a view that read numbers, quotes and escapes, and find a line and a column.
+pub trait AsciiStrExt: Sized {
+    // the codes of the text
+    ghost codes: { Self → List ℕ };
+
+    /// Returns the number that the decimal digits of the view write, or an error with the first
+    /// position at fault.
+    ///
+    /// For a signed type a `-` before the digits is a sign. For another radix use `to_number_radix`;
+    /// if something follows the digits, `take_number`.
+    ///
+    ///     AsciiStr::literal("0042").to_number::<u8>() // Ok(42)
+    ///     AsciiStr::literal("-128").to_number::<i8>() // Ok(-128)
+    ///     AsciiStr::literal("4.2").to_number::<u8>() // Err(NotDigit(1))
+    ///     AsciiStr::literal("256").to_number::<u8>() // Err(TooLarge(2))
+    ///     AsciiStr::literal("-129").to_number::<i8>() // Err(TooLarge(3))
+    ///     AsciiStr::literal("").to_number::<u8>() // Err(Empty)
+    fn to_number<N: Number>(self) -> Result<N, NumberError>
+        ensures { let text = codes self in
+            MatchResult result (WritesNumberIn N.range 10 text) (IsFaultIn N.range 10 text) };
+
+    /// Returns the number that the digits of the view write in `radix`, or an error with the first
+    /// position at fault.
+    ///
+    /// Condition: `radix` is from 2 to 36.
+    ///
+    /// The digits are `0` to `9` and the letters of either case, as far as the radix has them. For a
+    /// signed type a `-` before them is a sign. A `+` is an error, which `from_str_radix` of std
+    /// accepts.
+    ///
+    ///     AsciiStr::literal("fF").to_number_radix::<u8>(16) // Ok(255)
+    ///     AsciiStr::literal("-1000").to_number_radix::<i8>(2) // Ok(-8)
+    ///     AsciiStr::literal("+F").to_number_radix::<u8>(16) // Err(NotDigit(0))
+    ///     AsciiStr::literal("128").to_number_radix::<u8>(8) // Err(NotDigit(2))
+    ///     AsciiStr::literal("100").to_number_radix::<u8>(16) // Err(TooLarge(2))
+    fn to_number_radix<N: Number>(self, radix: u32) -> Result<N, NumberError>
+        requires two { 2 ≤ radix }
+        requires most { radix ≤ 36 }
+        ensures { let text = codes self in
+            MatchResult result (WritesNumberIn N.range radix text) (IsFaultIn N.range radix text) };
+
+    /// Returns the number that the decimal digits at the start of the view write, and the view after
+    /// them, or an error if there are no digits or the type does not hold the number.
+    ///
+    /// For a signed type a `-` before the digits is a sign. If the whole view has to be a number, use
+    /// `to_number`.
+    ///
+    ///     AsciiStr::literal("42 km").take_number::<u8>() // Ok((42, " km"))
+    ///     AsciiStr::literal("-3 C").take_number::<i8>() // Ok((-3, " C"))
+    ///     AsciiStr::literal("km").take_number::<u8>() // Err(NotDigit(0))
+    ///     AsciiStr::literal("256 km").take_number::<u8>() // Err(TooLarge(2))
+    fn take_number<N: Number>(self) -> Result<(N, Self), NumberError>
+        ensures { let text = codes self in MatchResult result
+            (λ taken. StartsWithNumber N.range 10 text taken.0 (codes taken.1))
+            (IsStartFault N.range 10 text) };
+
+    /// Returns the decimal number that the view writes, or an error with the first position at fault.
+    ///
+    /// A decimal number is an optional `-`, one digit or more, and optionally a `.` and one digit or
+    /// more. Zeros at the start count for nothing. Those at the end of the fraction are dropped, and
+    /// `places` is the number of the digits after the point that are left.
+    ///
+    /// The error is `Empty` if the view is empty or `-` alone. Otherwise the position is that of a
+    /// character that is not a digit, or of a point with no digit before it or nothing after it; or of
+    /// the digit with which the digits that count are more than a `u64` holds.
+    ///
+    ///     AsciiStr::literal("-12.50").to_decimal() // Ok(Decimal { negative: true, digits: 125, places: 1 })
+    ///     AsciiStr::literal("0.05").to_decimal() // Ok(Decimal { negative: false, digits: 5, places: 2 })
+    ///     AsciiStr::literal("2.000").to_decimal() // Ok(Decimal { negative: false, digits: 2, places: 0 })
+    ///     AsciiStr::literal("1e3").to_decimal() // Err(NotDigit(1))
+    ///     AsciiStr::literal("5.").to_decimal() // Err(NotDigit(1))
+    ///     AsciiStr::literal("18446744073709551616").to_decimal() // Err(TooLarge(19))
+    ///     AsciiStr::literal("-").to_decimal() // Err(Empty)
+    fn to_decimal(self) -> Result<Decimal, NumberError>
+        ensures { let text = codes self in
+            MatchResult result (WritesDecimal text) (IsDecimalFault text) };
+
+    /// Returns the text between the quotes at the start of the view, and the view after them, or an
+    /// error if the view does not begin with `quote` or nothing closes the text.
+    ///
+    /// The text is returned as it is written, with its escapes. It ends at the first `quote` that is
+    /// not escaped: `escape` makes the character after it an ordinary one. If `escape` is `quote`, a
+    /// doubled quote does not end the text.
+    ///
+    /// Scans the view once, up to the closing quote.
+    ///
+    ///     AsciiStr::literal("'a\\'b' c").take_quoted(AsciiChar::Apostrophe, AsciiChar::BackSlash) // Ok(("a\\'b", " c"))
+    ///     AsciiStr::literal("'a''b' c").take_quoted(AsciiChar::Apostrophe, AsciiChar::Apostrophe) // Ok(("a''b", " c"))
+    ///     AsciiStr::literal("''").take_quoted(AsciiChar::Apostrophe, AsciiChar::BackSlash) // Ok(("", ""))
+    ///     AsciiStr::literal("a").take_quoted(AsciiChar::Apostrophe, AsciiChar::BackSlash) // Err(NoQuote)
+    ///     AsciiStr::literal("'a").take_quoted(AsciiChar::Apostrophe, AsciiChar::BackSlash) // Err(NotClosed(2))
+    fn take_quoted(
+        self,
+        quote: AsciiChar,
+        escape: AsciiChar,
+    ) -> Result<(Self, Self), QuoteError>
+        ensures { let text = codes self in MatchResult result
+            (λ taken. StartsQuoted (code_of quote) (code_of escape) text
+            (codes taken.0) (codes taken.1))
+            (IsQuoteFault (code_of quote) (code_of escape) text) };
+
+    /// Returns the text that the view represents, in which characters are escaped as by std's
+    /// `escape_ascii`, or an error: with the position of the first backslash that does not begin an
+    /// escape, or of the first escape of a byte above 127, whichever comes first; or `Memory` if the
+    /// allocation fails.
+    ///
+    /// Characters other than a backslash represent themselves. An escape is `\t`, `\r`, `\n`, `\'`,
+    /// `\"`, `\\`, or `\x` with two hexadecimal digits, in either case.
+    ///
+    /// Allocates once, for the length of the view. Never fails for the empty view.
+    ///
+    ///     AsciiStr::literal("a\\tb\\x41").unescape(alloc) // Ok("a\tbA")
+    ///     AsciiStr::literal("").unescape(alloc) // Ok("")
+    ///     AsciiStr::literal("a\\q").unescape(alloc) // Err(Invalid(1))
+    ///     AsciiStr::literal("\\xc4").unescape(alloc) // Err(NotAscii(0))
+    fn unescape<A: Allocator>(self, alloc: A) -> Result<AsciiString<A>, UnescapeError>
+        ensures { let text = codes self in
+            MatchResult result (λ string. Unescapes text string.text) (IsUnescapeFault text) };
+
+    /// Returns the line and the column of a position, both counted from 1, columns in bytes. A line
+    /// ends at LF. Scans the view up to the position.
+    ///
+    /// Condition: `position` is at most the length.
+    ///
+    ///     AsciiStr::literal("ab\ncd").line_and_column(2) // Place { line: 1, column: 3 }
+    ///     AsciiStr::literal("ab\ncd").line_and_column(3) // Place { line: 2, column: 1 }
+    ///     AsciiStr::literal("").line_and_column(0) // Place { line: 1, column: 1 }
+    fn line_and_column(self, position: usize) -> Place
+        requires { position ≤ length (codes self) }
+        ensures { result ≡ place_at (codes self) position };
+
+    /// Returns what is wrong at a position, with its line and column, which `line_and_column` counts.
+    ///
+    /// Condition: `position` is at most the length.
+    ///
+    ///     AsciiStr::literal("ab\ncd").fault_at(4, "no '='") // Fault { place: Place { line: 2, column: 2 }, what: "no '='" }
+    fn fault_at<E>(self, position: usize, what: E) -> Fault<E>
+        requires { position ≤ length (codes self) }
+        ensures { result ≡ record { place = place_at (codes self) position; what = what } };
+}
+
+impl<'a> AsciiStrExt for AsciiStr<'a> {
+    ghost codes = { text_of };
+
+    fn to_number<N: Number>(self) -> Result<N, NumberError> {
+        self.to_number_radix(10)
+    }
+
+    fn to_number_radix<N: Number>(self, radix: u32) -> Result<N, NumberError> {
+        let minus = begins_with_sign::<N>(self);
+        let (number, end) = leading_number(self, minus, radix as u8).map_err(
+            NumberError::TooLarge,
+        )?;
+        if end < self.len() {
+            Err(NumberError::NotDigit(end))
+        } else if end == usize::from(minus) {
+            Err(NumberError::Empty)
+        } else {
+            Ok(number)
+        }
+    }
+
+    fn take_number<N: Number>(self) -> Result<(N, AsciiStr<'a>), NumberError> {
+        let minus = begins_with_sign::<N>(self);
+        let (number, end) = leading_number(self, minus, 10).map_err(NumberError::TooLarge)?;
+        if usize::from(minus) < end {
+            Ok((number, self.slice(AsciiRange::From(end))))
+        } else if end < self.len() {
+            Err(NumberError::NotDigit(end))
+        } else {
+            Err(NumberError::Empty)
+        }
+    }
+
+    fn to_decimal(self) -> Result<Decimal, NumberError> {
+        let (negative, unsigned) = split_sign(self);
+        let start = usize::from(negative);
+        let Some((whole, fraction)) = unsigned.split_once(AsciiChar::Dot) else {
+            let digits = continue_number(0, unsigned, start)?;
+            if unsigned.is_empty() {
+                return Err(NumberError::Empty);
+            }
+            return Ok(Decimal {
+                negative,
+                digits,
+                places: 0,
+            });
+        };
+        let point = start + whole.len();
+        let number = continue_number(0, whole, start)?;
+        if whole.is_empty() || fraction.is_empty() {
+            return Err(NumberError::NotDigit(point));
+        }
+        let kept = without_zeros(fraction);
+        let digits = continue_number(number, kept, point + 1)?;
+        Ok(Decimal {
+            negative,
+            digits,
+            places: kept.len(),
+        })
+    }
+
+    fn take_quoted(
+        self,
+        quote: AsciiChar,
+        escape: AsciiChar,
+    ) -> Result<(AsciiStr<'a>, AsciiStr<'a>), QuoteError> {
+        if self.is_empty() || self.as_bytes()[0] != quote.as_byte() {
+            return Err(QuoteError::NoQuote);
+        }
+        let tail = self.slice(AsciiRange::From(1));
+        let Some(end) = closing_quote(tail.as_bytes(), quote.as_byte(), escape.as_byte()) else {
+            return Err(QuoteError::NotClosed(self.len()));
+        };
+        Ok((
+            tail.slice(AsciiRange::To(end)),
+            tail.slice(AsciiRange::From(end + 1)),
+        ))
+    }
+
+    fn unescape<A: Allocator>(self, alloc: A) -> Result<AsciiString<A>, UnescapeError> {
+        let Ok(mut string) = AsciiString::with_capacity(alloc, self.len()) else {
+            return Err(UnescapeError::Memory);
+        };
+        unescape_into(self, &mut string)?;
+        Ok(string)
+    }
+
+    fn line_and_column(self, position: usize) -> Place {
+        let first = Place { line: 1, column: 1 };
+        first.after(&self.as_bytes()[..position])
+    }
+
+    fn fault_at<E>(self, position: usize, what: E) -> Fault<E> {
+        let place = self.line_and_column(position);
+        Fault { place, what }
+    }
+}
