@@ -11,7 +11,7 @@ from made import LIBRARIES, TOP, module_file, modules_of
 from sources import CRATES, bare, exported, of_trait_and_type, read
 
 # The crates in whose order a caller names what several of them have.
-IMPORTED_FROM = ["ascii", "ascii_lines", "ascii_run", "ascii_devices", "ascii_base", "cookbook", "ascii_c"]
+IMPORTED_FROM = ["ascii", "ascii_formats", "ascii_keys", "ascii_lines", "ascii_run", "ascii_devices", "ascii_base", "cookbook", "ascii_c"]
 # The crates of which the site has each public call.
 SHOWN = [*LIBRARIES, "cookbook", "ascii_c"]
 USERS = ("cookbook", "tests_*", "example_*", "ascii_show", "ascii_filter")

@@ -71,8 +71,8 @@ def pieces():
 LAYERS = {
     "ascii_show": (0, 0, 1.9, "a program"), "ascii_filter": (0, 2, 3.9, "a program"), "cookbook": (0, 4, 5.9, "recipes"),
     "example_resp": (0, 7.4, 9.6, "a store"), "example_smtp": (0, 9.7, 12, "mail"),
-    "ascii_c": (1, 0, 2.4, "the library for C"), "ascii_run": (1, 2.6, 7.2, "string types, commands, engines"),
-    "ascii_lines": (1, 7.6, 12, "lines in and out, a server"),
+    "ascii_c": (1, 0, 1.6, "for C"), "ascii_formats": (1, 1.7, 3.7, "numbers, escapes"), "ascii_keys": (1, 3.8, 5.2, "maps"),
+    "ascii_run": (1, 5.3, 7.4, "commands, engines"), "ascii_lines": (1, 7.6, 12, "lines in and out, a server"),
     "ascii": (2, 0, 7.2, "views, iterators, searches, strings, JSON, serde"), "ascii_devices": (2, 7.6, 12, "sources, sinks"),
     "ascii_base": (3, 0, 7.2, "characters, classes of bytes, kernels, ranges"),
 }

@@ -1,4 +1,4 @@
-//! Callers of `escape_ascii` and `unescape`.
+//! Callers of `EscapeAscii` and `unescape`.
 
 ghost use Rattle.std.specs.Prelude.{◌≡◌, MatchResult};
 ghost use Rattle.ascii_formats.specs.declared.unescape.UnescapeError.TheVariants.{Memory};

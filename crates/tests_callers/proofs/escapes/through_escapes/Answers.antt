@@ -7,4 +7,4 @@ pub returns : goal.returns
 returns c =
     let escaped = collects_chars _ _ c.in-Ok.ensures.text in
     escaped_comes_back (λ string. string.text) _ _ _ c.args.view.ascii
-    (c.as_ascii_str.ensures ∙ escaped ∙ c.escape_ascii.ensures) c.unescape.ensures
+    (c.as_ascii_str.ensures ∙ escaped ∙ c.new.ensures) c.unescape.ensures
