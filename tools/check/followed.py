@@ -187,11 +187,11 @@ def compiled():
     program += '\nfn main(rt: HostRuntime) -> io::Result<()> {\n    println!(rt; "compiled")\n}\n'
     with tempfile.TemporaryDirectory() as scratch:
         top, crate = Path(scratch), Path(scratch) / "crates/rows"
-        for name in ("ascii_base", "ascii"):
+        for name in ("ascii_base", "ascii_search", "ascii"):
             shutil.copytree(TOP / "crates" / name, top / "crates" / name, ignore=shutil.ignore_patterns("out", "must-fail", "mutations"))
         (crate / "src").mkdir(parents=True)
         (crate / "src/main.rt").write_text(program, encoding="utf-8")
-        lines = [line for line in (TOP / "crates.txt").read_text().splitlines() if re.match(r"(ascii|ascii_base):", line)]
+        lines = [line for line in (TOP / "crates.txt").read_text().splitlines() if re.match(r"ascii(_base|_search)?:", line)]
         (top / "crates.txt").write_text("\n".join([*lines, "rows: ascii"]) + "\n")
         shutil.copy(TOP / "HANDLES", top / "HANDLES")
         status, printed, said = run(["rt", "try"], crate)

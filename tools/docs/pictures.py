@@ -74,7 +74,8 @@ LAYERS = {
     "ascii_c": (1, 0, 1.6, "for C"), "ascii_formats": (1, 1.7, 3.7, "numbers, escapes"), "ascii_keys": (1, 3.8, 5.2, "maps"),
     "ascii_run": (1, 5.3, 7.4, "commands, engines"), "ascii_lines": (1, 7.6, 12, "lines in and out, a server"),
     "ascii": (2, 0, 7.2, "views, iterators, searches, strings, JSON, serde"), "ascii_devices": (2, 7.6, 12, "sources, sinks"),
-    "ascii_base": (3, 0, 7.2, "characters, classes of bytes, kernels, ranges"),
+    "ascii_search": (3, 0, 3.4, "searches by masks"),
+    "ascii_base": (4, 0, 7.2, "characters, classes of bytes, kernels, ranges"),
 }
 
 
@@ -101,8 +102,8 @@ def layers():
             parts.append(arrow((start + end) / 2, y + 50, (start + end) / 2, top - 2))
         else:
             parts.append(arrow(x + (0 if below < x else width), y + 48, below + (wide if below < x else 0), top - 2))
-    parts.append(text(20, 14 + 4 * 84, "A user of text names ascii; a reader of lines names ascii_lines.", "small", "start"))
-    return picture(12 * column + 40, 14 + 4 * 84 + 16, "The crates, each with arrows to those that it uses", parts)
+    parts.append(text(20, 14 + 5 * 84, "A user of text names ascii; a reader of lines names ascii_lines.", "small", "start"))
+    return picture(12 * column + 40, 14 + 5 * 84 + 16, "The crates, each with arrows to those that it uses", parts)
 
 
 def bytes_through():

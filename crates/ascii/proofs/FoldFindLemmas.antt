@@ -13,7 +13,7 @@ use Rattle.memchr.specs.Find.{FindsNeedle, IsFirst, IsFirstByte, IsLast}
 use Rattle.memchr.specs.Find.{IsLastByte, Nowhere, OccursAt, is_byte2}
 use Rattle.memchr.proofs.lemmas.MatchLemmas.{OccursAt-from_part, OccursAt-part}
 use Rattle.ascii_base.specs.Case.{lower_image, upper_image}
-use Rattle.ascii.proofs.MasksLemmas.{nowhere_in_both}
+use Rattle.ascii_search.proofs.MasksLemmas.{nowhere_in_both}
 
 -- the bytes that are a letter in one of its two cases are those with its image in lower case
 has_either_case : (code byte : ℕ) → is_byte2 (lower_image code) (upper_image code) byte ≡ true

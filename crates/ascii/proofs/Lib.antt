@@ -17,9 +17,6 @@ pub mod LeftLemmas
 pub mod LinesByLemmas
 pub mod LinesLemmas
 pub mod ListLemmas
-pub mod MarkedBackLemmas
-pub mod MarkedLemmas
-pub mod MasksLemmas
 pub mod PiecesLemmas
 pub mod PlacedLemmas
 pub mod ReplaceLemmas

@@ -14,6 +14,7 @@ use Rattle.std.proofs.lemmas.Option.{slice_get-get_or, slice_get_past}
 use Rattle.ascii_base.specs.Bytes.{IsOnSide}
 use Rattle.ascii.specs.ByClass.{side_test}
 use Rattle.ascii_base.specs.Runs.{EndsRun, StartsRun}
+use Rattle.ascii_search.proofs.MarkedLemmas.{not_not}
 use Rattle.ascii.specs.Spans.{WithStart}
 
 -- the code at a position, if there is one
@@ -119,10 +120,6 @@ module _ (Is : ℕ → Type 0) where
     stop = run.stop;
   }
 
-  pub not_not : (side : Bool) (code : ℕ) → IsOnSide Is (not (not side)) code → IsOnSide Is side code
-  not_not true code is = is
-  not_not false code is = is
-
   -- the run before a gap, with its last code, in the text up to the gap
   pub starts_last : (side : Bool) (text : List ℕ) (end start : ℕ)
       → StartsRun Is (not side) text (length text) end → end ≢ 0
@@ -137,7 +134,7 @@ module _ (Is : ℕ → Type 0) where
         run = λ k from_on before. subst (IsOnSide Is side)
             (sym (within k (omega (arith, size, before)))) (elim (cases_eq k (end - 1)) [
               | inl same ↦ subst (λ i. IsOnSide Is side (get_or text i 0)) (sym same)
-                  (not_not side _ (gap.stop (omega (arith, some))))
+                  (not_not Is side _ (gap.stop (omega (arith, some))))
               | inr other ↦ run.run k from_on (omega (arith, size, before, other))
             ]);
         stop = λ inside. subst (IsOnSide Is (not side))

@@ -13,8 +13,6 @@ pub mod First
 pub mod Found
 pub mod Json
 pub mod Lines
-pub mod Marked
-pub mod Masks
 pub mod Parts
 pub mod Pieces
 pub mod Placed

@@ -36,8 +36,6 @@ pub(crate) mod cursor;
 mod ended;
 mod items;
 mod lines;
-mod marked;
-mod marked_back;
 mod spans;
 mod split;
 mod split_n;

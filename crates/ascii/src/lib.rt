@@ -53,7 +53,6 @@ mod replace;
 mod retain;
 mod search;
 mod serde_impls;
-mod short_search;
 mod splits;
 pub mod string;
 pub mod text;

@@ -13,11 +13,11 @@ ghost use Rattle.ascii.specs.View.{text_of};
 
 use crate::ascii_str::AsciiStr;
 use crate::iter::cursor::find_first;
-use crate::short_search;
 use ascii_base::ascii_char::AsciiChar;
 use ascii_base::classes::Searched;
 use ascii_base::kernels;
 use ascii_base::range::AsciiRange;
+use ascii_search::short_search;
 use memchr::memmem;
 
 impl<'a> AsciiStr<'a> {

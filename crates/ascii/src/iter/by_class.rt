@@ -7,7 +7,7 @@ ghost use Rattle.std.specs.Prelude.{not, true};
 ghost use Rattle.ascii_base.specs.Class.{IsWhitespace};
 ghost use Rattle.ascii_base.specs.Bytes.{IsOnSide};
 ghost use Rattle.ascii_base.specs.Tests.{is_whitespace};
-ghost use Rattle.ascii.specs.Marked.{AreEndMarks};
+ghost use Rattle.ascii_search.specs.Marked.{AreEndMarks};
 ghost use Rattle.ascii.specs.Steps.{Iterates};
 ghost use Rattle.ascii.specs.TheCuts.{at_class, at_words};
 ghost use Rattle.ascii.specs.View.{text_of};
@@ -15,10 +15,10 @@ ghost use Rattle.ascii.specs.View.{text_of};
 use crate::ascii_str::AsciiStr;
 use crate::iter::cursor::Cursor;
 use crate::iter::items::{Cut, CutBack, Items};
-use crate::iter::marked::{MarkedEnds, first_piece, first_run, marks_to};
-use crate::iter::marked_back::{last_marks_from, last_piece, last_run};
 use crate::iter::spans::SplitSpan;
 use ascii_base::classes::{Searched, Whitespace};
+use ascii_search::marked::{MarkedEnds, first_piece, first_run, marks_to};
+use ascii_search::marked_back::{last_marks_from, last_piece, last_run};
 use std::marker::PhantomData;
 
 /// The cut at each character of a class.

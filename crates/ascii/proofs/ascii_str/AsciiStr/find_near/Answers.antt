@@ -1,6 +1,6 @@
 use Rattle.std.proofs.Common.{sym, ◌∙◌}
 use Rattle.ascii.specs.View.{text_of}
-use Rattle.ascii.proofs.MasksLemmas.{finds_byte}
+use Rattle.ascii_search.proofs.MasksLemmas.{finds_byte}
 use Rattle.ascii.proofs.ascii_str.AsciiStr.find_near.Goals as goal
 
 pub returns-then-len-eq1 : goal.returns-then-len-eq1

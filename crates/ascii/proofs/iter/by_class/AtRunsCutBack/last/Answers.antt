@@ -1,7 +1,7 @@
 use Rattle.std.proofs.Common.{ap, subst, sym, ◌∙◌, drop, eqb, not, arith, take}
 use Rattle.ascii_base.specs.Bytes.{IsOnSide}
 use Rattle.ascii.specs.ByClass.{side_test}
-use Rattle.ascii.specs.Marked.{AreLastMarks, AreMarks}
+use Rattle.ascii_search.specs.Marked.{AreLastMarks, AreMarks}
 use Rattle.ascii.specs.Words.{IsWord}
 use Rattle.ascii.specs.View.{text_of}
 use Rattle.ascii.proofs.ByClassLemmas.{last_is_word, last_word_by, no_word}

@@ -1,5 +1,0 @@
-use Rattle.ascii.proofs.MasksLemmas.{finds_byte}
-use Rattle.ascii.proofs.short_search.first_byte.Goals as goal
-
-pub returns : goal.returns
-returns c = finds_byte c.args.hay.now c.args.needle.now c.requires c.memchr.result c.memchr.ensures

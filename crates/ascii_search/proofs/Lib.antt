@@ -1,0 +1,3 @@
+pub mod MarkedBackLemmas
+pub mod MarkedLemmas
+pub mod MasksLemmas

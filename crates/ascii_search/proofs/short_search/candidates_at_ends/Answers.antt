@@ -1,0 +1,10 @@
+use Rattle.std.proofs.Common.{◌+◌, ◌-◌, length, arith}
+use Rattle.ascii_search.proofs.MasksLemmas.{all_positions, joined}
+use Rattle.ascii_search.proofs.short_search.candidates_at_ends.Goals as goal
+
+pub returns : goal.returns
+returns g c =
+    let last = length c.args.hay.now - length c.args.needle.now + 1 - g.row.N in
+    all_positions c.args.hay.now c.args.needle.now (last + g.row.N) _ (omega arith) (omega arith)
+    (joined _ _ g.row.N last _ _ (omega arith) (omega arith) c.candidates.ensures
+    c.candidates-2.ensures)

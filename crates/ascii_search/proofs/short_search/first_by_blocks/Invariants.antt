@@ -1,0 +1,13 @@
+use Rattle.std.proofs.Common.{◌-◌, ◌≤◌}
+use Rattle.memchr.specs.Find.{Nowhere, OccursAt}
+use Rattle.ascii_search.proofs.short_search.first_by_blocks.Given as goal
+
+-- the needle is at no position before `tested`
+abbrev pub invariant-loop-tested : goal.invariant-loop-tested
+invariant-loop-tested l = record {
+  inside : l.tested ≤ l.positions;
+  before : Nowhere (OccursAt l.hay l.needle) 0 l.tested;
+}
+
+abbrev pub decreases-loop-tested : goal.decreases-loop-tested
+decreases-loop-tested l = l.positions - l.tested
