@@ -161,19 +161,21 @@ def imports(found, lines):
     """The lines that bring the names of the examples."""
     text = re.sub(r'"(?:\\.|[^"])*"|// .*', "", "\n".join(lines))
     names = re.findall(r"(?<![\w.:])(?:[A-Z]\w*|[a-z]\w*(?=\(|::<)|[a-z]\w*(?:::|!))|(?:\.|::)\w+\(", text)
+    names += [f"{name}(" for name in re.findall(r"\.\w+(?=::<)", text)]
     return sorted({f"use {found[name]};" for name in names if name in found})
 
 
 @cache
 def importable(crate, about=""):
     """The paths of the names that examples use, those of a crate if it has them; of traits only for the calls that no type has,
-    and for the calls of the traits that an example is about."""
+    for those of extension traits, and for the calls of the traits that an example is about."""
     found = {name: path for name, path in OTHERS.items() if not path.startswith("super::")}
     paths = calls.paths_of_items()
     for name in LIBRARIES:
         found |= names_of(name, modules_of(name), found)
     methods = {call.name for call in calls.table_without_names() if not call.of_trait}
-    found = {name: path for name, path in found.items() if not re.match(r"(\.|::)", name) or name.strip(".:(") not in methods}
+    is_named = lambda name, path: name.strip(".:(") not in methods or path.endswith("Ext")  # noqa: E731
+    found = {name: path for name, path in found.items() if not re.match(r"(\.|::)", name) or is_named(name, path)}
     for item in (it for name in LIBRARIES for items in modules_of(name).values() for it in items if id(it) in paths):
         found[item.name] = next((path for path in paths[id(item)] if path.startswith(f"{crate}::")), paths[id(item)][0])
     words = set(re.findall(r"\w+", about))

@@ -11,16 +11,16 @@ use ascii_base::classes::{ClassBy, Searched};
 use ascii_base::kernels::{first_of, run_end};
 
 /// At most this many bytes have marks at once.
-pub const BLOCK: usize = 64;
+pub(crate) const BLOCK: usize = 64;
 
 /// Fewer bytes than this have no marks.
-pub const FEWEST: usize = 8;
+pub(crate) const FEWEST: usize = 8;
 
 /// Marks of the bytes that come next: bit `at` of the mask is that of the first one.
 #[derive(Clone, Copy)]
 pub struct Marked {
-    pub at: usize,
-    pub mask: u64,
+    pub(crate) at: usize,
+    pub(crate) mask: u64,
 }
 
 impl Marked {
@@ -74,7 +74,7 @@ fn lowest(mask: u64) -> usize
 /// Marks the bytes on the side among the first 64. Inlined, as all of this module is: a walk without a call
 /// saves no registers, which counts in short texts.
 #[inline(always)]
-pub fn block_marks<C: Searched, const INSIDE: bool>(bytes: &[u8]) -> u64
+pub(crate) fn block_marks<C: Searched, const INSIDE: bool>(bytes: &[u8]) -> u64
     requires { BLOCK ≤ length bytes.now }
     ensures { Shows C.is INSIDE bytes.now 0 result }
 {
@@ -83,7 +83,7 @@ pub fn block_marks<C: Searched, const INSIDE: bool>(bytes: &[u8]) -> u64
 
 /// Marks the bytes on the side of 8 to 63: the last one has the highest bit.
 #[inline(always)]
-pub fn short_marks<C: Searched, const INSIDE: bool>(bytes: &[u8]) -> u64
+pub(crate) fn short_marks<C: Searched, const INSIDE: bool>(bytes: &[u8]) -> u64
     requires fewest { FEWEST ≤ length bytes.now }
     requires short { length bytes.now < BLOCK }
     ensures { Shows C.is INSIDE bytes.now (BLOCK - length bytes.now) result }
