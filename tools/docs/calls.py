@@ -9,6 +9,7 @@ from functions import functions_of
 from items import Item
 from made import LIBRARIES, TOP, module_file, modules_of
 from sources import CRATES, bare, exported, of_trait_and_type, read
+from uses import head_of
 
 # The crates in whose order a caller names what several of them have.
 IMPORTED_FROM = ["ascii", "ascii_formats", "ascii_keys", "ascii_lines", "ascii_run", "ascii_devices", "ascii_base", "cookbook", "ascii_c"]
@@ -129,7 +130,18 @@ def known():
             found.types.update({path: item.name for path in paths.get(id(item), [])})
             if item.kind == "type":
                 found.aliases[item.name] = bare(item.head.rpartition(" = ")[2])
+    for of_trait, of_type in implemented():
+        for call in (it for it in table_without_names() if it.owner == of_trait):
+            found.methods.setdefault((of_type, call.name), found.methods[of_trait, call.name])
     return found
+
+
+def implemented():
+    """The traits of the libraries that types have, as pairs of their names."""
+    items = [it for crate in SHOWN for items in modules_of(crate).values() for it in items]
+    own = {it.name for it in items if it.kind == "trait"}
+    pairs = [of_trait_and_type(it) for it in items if it.kind == "impl"]
+    return {(of_trait, head_of(of_type)) for of_trait, of_type in pairs if of_trait in own}
 
 
 @cache
