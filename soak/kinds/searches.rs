@@ -10,7 +10,7 @@ fn find(text: String, needle: String, asked: &mut Asked) {
     calls::ask_find(asked, text.as_bytes(), needle.as_bytes());
     let (text, needle, want) = (text.as_str(), needle.as_str(), &mut asked.want);
     let (low, lower) = (text.to_ascii_lowercase(), needle.to_ascii_lowercase());
-    let (starts, ends) = (low.starts_with(&lower), low.ends_with(&lower));
+    let starts = low.starts_with(&lower);
     want.position(text.find(needle));
     want.position(text.rfind(needle));
     want.cut(text.split_once(needle));
@@ -18,12 +18,9 @@ fn find(text: String, needle: String, asked: &mut Asked) {
     want.flag(text.contains(needle));
     want.flag(text.starts_with(needle));
     want.flag(text.ends_with(needle));
-    want.flag(starts);
-    want.flag(ends);
     want.part(text.strip_prefix(needle));
     want.part(text.strip_suffix(needle));
     want.part(starts.then(|| &text[needle.len()..]));
-    want.part(ends.then(|| &text[..text.len() - needle.len()]));
 }
 
 pub fn text(random: &mut Random, asked: &mut Asked) {

@@ -51,7 +51,7 @@ use Rattle.std.proofs.lemmas.List.Sums.{list_all-from_AllPass}
 use Rattle.std.proofs.lemmas.Str.Ascii.{All-from_ascii, IsAscii-cons, IsAscii-nil}
 use Rattle.std.proofs.lemmas.Option.{slice_get-get_or}
 use Rattle.ascii_base.specs.Case.{lower_image, upper_image}
-use Rattle.ascii.specs.First.{IsFirstAt}
+use Rattle.ascii_base.specs.First.{IsFirstAt}
 use Rattle.ascii.specs.Found.{pieces_of}
 use Rattle.ascii.specs.Search.{ContainsText, IsCut}
 use Rattle.ascii.specs.Trim.{IsSpan, Trims, TrimsEnd}

@@ -6,7 +6,7 @@ use Rattle.ascii.proofs.ByClassLemmas.{piece_spans_fit_by, word_spans_fit_by, wo
 use Rattle.ascii.proofs.ByTextLemmas.{match_spans_fit, matches_of_spans, piece_spans_at_fit, pieces_of_spans_at}
 use Rattle.ascii.specs.Cutting.{Cutting, IsLawful, backwards}
 use Rattle.ascii.proofs.EndedLemmas.{ended_spans_fit, items_of_ended}
-use Rattle.ascii.proofs.ListLemmas.{map-reverse}
+use Rattle.ascii_base.proofs.ListLemmas.{map-reverse}
 use Rattle.ascii.proofs.PiecesLemmas.{Pieces-only, Pieces-pieces_of}
 use Rattle.ascii.proofs.PlacedLemmas.{inclusive_placed, matches_placed, pieces_at_placed, pieces_placed}
 use Rattle.ascii.proofs.PlacedLemmas.{placed_reversed, terminated_placed, words_placed}

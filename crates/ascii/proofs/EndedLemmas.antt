@@ -15,7 +15,7 @@ use Rattle.ascii.specs.Spans.{WithStart, items_of, piece_size, with_starts}
 use Rattle.ascii.specs.declared.iter.cursor.Cursor.{Cursor}
 use Rattle.ascii.specs.View.{text_of}
 use Rattle.ascii.proofs.ByClassLemmas.{pieces_joint, pieces_none}
-use Rattle.ascii.proofs.ListLemmas.{append-some}
+use Rattle.ascii_base.proofs.ListLemmas.{append-some}
 use Rattle.ascii.proofs.PiecesLemmas.{Pieces-pieces_of, absent-from_Free, is_on, length-pieces_of, slice_split-some}
 use Rattle.ascii.proofs.SpansLemmas.{items-with_starts, length-with_starts}
 

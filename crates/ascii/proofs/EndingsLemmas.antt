@@ -5,7 +5,7 @@ use Rattle.std.specs.List.{slice_range}
 use Rattle.std.proofs.Math.ListN.{get_or-append}
 use Rattle.std.proofs.Common.{◌≢◌, ◌⊎◌, Bool, true, eqb}
 use Rattle.std.proofs.lemmas.Bool.{cases_lt, or_cases, or_left, or_right}
-use Rattle.ascii.proofs.ListLemmas.{length-slice_range, slice_range-at}
+use Rattle.ascii_base.proofs.ListLemmas.{length-slice_range, slice_range-at}
 use Rattle.memchr.specs.Find.{IsFirst, IsFirstByte, NoneBefore, Nowhere, Passes, is_byte2}
 use Rattle.ascii.specs.declared.iter.spans.Endings.{Endings}
 use Rattle.ascii.specs.declared.iter.spans.Endings.TheVariants.{Any, CrLf, CrLfStrict}

@@ -16,7 +16,6 @@ pub mod JsonLemmas
 pub mod LeftLemmas
 pub mod LinesByLemmas
 pub mod LinesLemmas
-pub mod ListLemmas
 pub mod PiecesLemmas
 pub mod PlacedLemmas
 pub mod ReplaceLemmas
@@ -33,4 +32,5 @@ pub mod TrimLemmas
 pub mod UpToLemmas
 pub mod WritingViewLemmas
 pub use Rattle.ascii_base.proofs.LanesLemmas
+pub use Rattle.ascii_base.proofs.ListLemmas
 pub use Rattle.ascii_base.proofs.range

@@ -14,7 +14,7 @@ use Rattle.ascii.specs.Found.{line_spans}
 use Rattle.ascii.specs.Lines.{Line, MayFollow, ending_text, line_text}
 use Rattle.ascii.specs.Spans.{WithStart, items_of, line_size, with_starts}
 use Rattle.ascii.proofs.LinesLemmas.{LinesEndedBy-cons, LinesEndedBy-nil}
-use Rattle.ascii.proofs.ListLemmas.{front_is}
+use Rattle.ascii_base.proofs.ListLemmas.{front_is}
 use Rattle.ascii.proofs.SpansLemmas.{items-with_starts, line_spans_found}
 use Rattle.ascii.specs.declared.iter.spans.Endings.{Endings}
 use Rattle.ascii.specs.declared.iter.spans.Endings.TheVariants.{Any, CrLf, CrLfStrict}

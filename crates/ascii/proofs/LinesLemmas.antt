@@ -19,7 +19,7 @@ use Rattle.ascii.specs.declared.iter.spans.Endings.{Endings}
 use Rattle.ascii.specs.declared.iter.spans.Endings.TheVariants as by
 use Rattle.ascii.specs.Lines.{IsBody, LinesEndedBy, MayEnd}
 use Rattle.ascii.specs.Lines.{EndsInCr, Line, LinesOf, MayFollow, ending_text, line_text}
-use Rattle.ascii.proofs.ListLemmas.{append-some, front_is}
+use Rattle.ascii_base.proofs.ListLemmas.{append-some, front_is}
 use Rattle.ascii.proofs.PiecesLemmas.{HasNo-from_absent, absent-from_Free, all_free}
 use Rattle.ascii.proofs.PiecesLemmas.{length-pieces_of, pieces_of-free, slice_split-joint}
 use Rattle.ascii.proofs.PiecesLemmas.{slice_split-some}

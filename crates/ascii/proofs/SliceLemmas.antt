@@ -3,7 +3,7 @@ use Rattle.std.proofs.Common.{ℕ, ◌+◌, ◌-◌, ◌<◌, ◌≤◌, List, l
 use Rattle.std.proofs.lemmas.Grind.{common_steps}
 use Rattle.std.specs.List.{slice_range}
 use Rattle.ascii_base.specs.Bytes.{FirstOther}
-use Rattle.ascii.proofs.ListLemmas.{slice_range-at}
+use Rattle.ascii_base.proofs.ListLemmas.{slice_range-at}
 
 -- the first non-ASCII byte of a part is that of the source between the ends of the part
 pub FirstOther-shift : (bytes : List ℕ) (s e i : ℕ) → e ≤ length bytes

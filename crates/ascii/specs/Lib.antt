@@ -9,7 +9,6 @@ pub mod Cutting
 pub mod Ended
 pub mod Endings
 pub mod Extend
-pub mod First
 pub mod Found
 pub mod Json
 pub mod Lines
@@ -34,6 +33,7 @@ pub use Rattle.ascii_base.specs.Caret
 pub use Rattle.ascii_base.specs.Case
 pub use Rattle.ascii_base.specs.Class
 pub use Rattle.ascii_base.specs.Code
+pub use Rattle.ascii_base.specs.First
 pub use Rattle.ascii_base.specs.Lanes
 pub use Rattle.ascii_base.specs.Notations
 pub use Rattle.ascii_base.specs.Printable

@@ -1,11 +1,11 @@
-//! Searches, prefixes and suffixes of views, ignoring ASCII case. No call of this module
+//! Searches and prefixes of views, ignoring ASCII case. No call of this module
 //! allocates.
 
 ghost use Rattle.std.specs.Prelude.{◌≡◌, ◌↔◌, ◌≤◌, IsTrue, length, map, slice_index};
 ghost use Rattle.memchr.specs.Find.{FindsNeedle, IsFirst, OccursAt};
 ghost use Rattle.ascii_base.specs.Case.{lower_image};
 ghost use Rattle.ascii_base.specs.Code.{code_of};
-ghost use Rattle.ascii.specs.Search.{ContainsText, EndsWith, IgnoringCase, IsPrefix, IsSuffix};
+ghost use Rattle.ascii.specs.Search.{ContainsText, IgnoringCase, IsPrefix};
 ghost use Rattle.ascii.specs.Search.{StartsWith, Strips};
 ghost use Rattle.ascii.specs.View.{text_of};
 
@@ -57,19 +57,6 @@ impl<'a> AsciiStr<'a> {
         self.find_ignore_ascii_case(needle).is_some()
     }
 
-    /// Returns `true` if the view starts with `prefix`, ignoring ASCII case.
-    /// Returns `true` if the view starts with `prefix`, ignoring ASCII case.
-    ///
-    ///     AsciiStr::literal("Host: a").starts_with_ignore_ascii_case(AsciiStr::literal("hOST")) // true
-    ///     AsciiStr::literal("Host: a").starts_with_ignore_ascii_case(AsciiStr::literal("a")) // false
-    #[tactic(auto, using(crate::proofs::FoldLemmas::folded_starts))]
-    pub fn starts_with_ignore_ascii_case(self, prefix: AsciiStr<'_>) -> bool
-        ensures { IsTrue result ↔
-            IgnoringCase (λ start. StartsWith start (text_of self.entry)) (text_of prefix.entry) }
-    {
-        self.strip_prefix_ignore_ascii_case(prefix).is_some()
-    }
-
     /// Returns the view without `prefix`, or `None` if the view does not start with it,
     /// ignoring ASCII case.
     ///
@@ -85,45 +72,6 @@ impl<'a> AsciiStr<'a> {
         let n = prefix.len();
         if n <= self.len() && self.slice(AsciiRange::To(n)).eq_ignore_ascii_case(prefix) {
             Some(self.slice(AsciiRange::From(n)))
-        } else {
-            None
-        }
-    }
-
-    /// Returns `true` if the view ends with `suffix`, ignoring ASCII case.
-    ///
-    ///     AsciiStr::literal("a.HTML").ends_with_ignore_ascii_case(AsciiStr::literal(".html")) // true
-    ///     AsciiStr::literal("a.HTML").ends_with_ignore_ascii_case(AsciiStr::literal("a")) // false
-    #[tactic(auto, using(crate::proofs::FoldLemmas::folded_ends))]
-    pub fn ends_with_ignore_ascii_case(self, suffix: AsciiStr<'_>) -> bool
-        ensures { IsTrue result ↔
-            IgnoringCase (λ end. EndsWith end (text_of self.entry)) (text_of suffix.entry) }
-    {
-        self.strip_suffix_ignore_ascii_case(suffix).is_some()
-    }
-
-    /// Returns the view without `suffix`, or `None` if the view does not end with it,
-    /// ignoring ASCII case.
-    ///
-    ///     AsciiStr::literal("a.HTML").strip_suffix_ignore_ascii_case(AsciiStr::literal(".html")) // Some("a")
-    ///     AsciiStr::literal("a.HTML").strip_suffix_ignore_ascii_case(AsciiStr::literal("a")) // None
-    #[tactic(auto, using(crate::proofs::FoldLemmas::folded_suffix_reads, crate::proofs::FoldLemmas::folded_suffix_fits, crate::proofs::FoldLemmas::folded_front))]
-    pub fn strip_suffix_ignore_ascii_case(self, suffix: AsciiStr<'_>) -> Option<AsciiStr<'a>>
-        ensures { Strips
-            (IgnoringCase (λ end. EndsWith end (text_of self.entry)) (text_of suffix.entry))
-            (λ rest. IgnoringCase (λ end. IsSuffix end (text_of self.entry) rest)
-            (text_of suffix.entry)) result }
-    {
-        let n = suffix.len();
-        if self.len() < n {
-            return None;
-        }
-        let start = self.len() - n;
-        if self
-            .slice(AsciiRange::From(start))
-            .eq_ignore_ascii_case(suffix)
-        {
-            Some(self.slice(AsciiRange::To(start)))
         } else {
             None
         }

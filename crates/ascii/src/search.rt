@@ -151,7 +151,7 @@ impl<'a> AsciiStr<'a> {
 
     /// Returns `true` if the view starts with `prefix`.
     ///
-    /// To take the rest too, use `strip_prefix`; ignoring ASCII case, `starts_with_ignore_ascii_case`.
+    /// To take the rest too, use `strip_prefix`; ignoring ASCII case, `strip_prefix_ignore_ascii_case`.
     ///
     ///     AsciiStr::literal("foobar").starts_with(AsciiStr::literal("foo")) // true
     ///     AsciiStr::literal("foobar").starts_with(AsciiStr::literal("bar")) // false
@@ -164,7 +164,7 @@ impl<'a> AsciiStr<'a> {
 
     /// Returns `true` if the view ends with `suffix`.
     ///
-    /// To take the rest too, use `strip_suffix`; ignoring ASCII case, `ends_with_ignore_ascii_case`.
+    /// To take the rest too, use `strip_suffix`.
     ///
     ///     AsciiStr::literal("foobar").ends_with(AsciiStr::literal("bar")) // true
     ///     AsciiStr::literal("foobar").ends_with(AsciiStr::literal("foo")) // false

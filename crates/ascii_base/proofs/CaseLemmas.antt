@@ -233,12 +233,6 @@ pub same_front : (xs ys : List ℕ) (i : ℕ) → map lower_image xs ≡ map low
 same_front xs ys i same = sym (take-map lower_image i xs) ∙ ap (take i) same
     ∙ take-map lower_image i ys
 
-pub same_whole : (xs ys : List ℕ) (i : ℕ) → length xs ≤ i → length ys ≤ i → SameBefore xs ys i
-    → map lower_image xs ≡ map lower_image ys
-same_whole xs ys i in_xs in_ys same =
-    ap (map lower_image) (sym (take_all i xs in_xs)) ∙ same
-    ∙ ap (map lower_image) (take_all i ys in_ys)
-
 -- fronts with equal images go on over a chunk exactly if the images of the chunks are one
 pub same_more : (xs ys : List ℕ) (at n : ℕ) → SameBefore xs ys at
     → (map lower_image (chunk at n xs) ≡ map lower_image (chunk at n ys)) ↔ SameBefore xs ys

@@ -1,5 +1,6 @@
 mod CaseLemmas
 mod Examples
 pub mod LanesLemmas
+pub mod ListLemmas
 pub mod RangesLemmas
 pub mod TokenLemmas

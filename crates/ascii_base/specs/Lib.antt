@@ -3,6 +3,7 @@ pub mod Caret
 pub mod Case
 pub mod Class
 pub mod Code
+pub mod First
 pub mod Lanes
 pub mod Notations
 pub mod Printable

@@ -12,10 +12,6 @@ use Rattle.ascii_base.specs.Class.{IsAlphanumeric, IsTokenCode, in_ranges}
 abbrev pub is_whitespace : ℕ → Bool
 is_whitespace n = in_ranges ((9, 13) ∷ (32, 32) ∷ []) n
 
--- the test of the class `Blank`
-abbrev pub is_blank : ℕ → Bool
-is_blank n = in_ranges ((9, 9) ∷ (32, 32) ∷ []) n
-
 abbrev pub is_ascii : ℕ → Bool
 is_ascii n = ltb n 128
 

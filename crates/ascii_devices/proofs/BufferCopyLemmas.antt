@@ -2,8 +2,6 @@
 use Rattle.std.proofs.Common.{◌≡◌, ℕ, ◌+◌, ◌-◌, ◌≤◌, List, ◌++◌, length, take, drop, ap, sym, ◌∙◌}
 use Rattle.std.proofs.Common.{arith, append_assoc, length-append, length-take-le, length-drop}
 use Rattle.std.proofs.Common.{take-add, take-take, take_at, drop_at, take_all, take-append-drop}
-use Rattle.std.proofs.lemmas.Slice.{take-put_mid}
-use borrow.Rule.Slice.PartMut.{put_mid, same_len_mid}
 use Rattle.ascii_devices.specs.BufferCopy.{CopiesTo}
 
 -- a second copy begins at the position where the first ended
@@ -28,16 +26,6 @@ CopiesTo-take {a} {b} {bytes} {i} {j} n within few p =
       moved = omega (arith, length-take-le n bytes few);
       size = p.size;
     }
-
--- a part of the buffer was replaced
-pub CopiesTo-part : (a bytes : List ℕ) (i k : ℕ) → i + k ≤ length a → length bytes ≡ k
-    → CopiesTo a (put_mid i k a bytes) i bytes (i + k)
-CopiesTo-part a bytes i k fits long = record {
-  front = take-put_mid i k a bytes (i + k) (omega arith) (omega arith);
-  moved = omega arith;
-  size = same_len_mid i k a bytes
-      (omega (arith, length-take-le k (drop i a) (omega (arith, length-drop i a))));
-}
 
 -- the first and the last `half` of the bytes, which overlap, are all of them
 pub CopiesTo-ends : {a b c : List ℕ} {i j k : ℕ} (bytes : List ℕ) (half : ℕ)

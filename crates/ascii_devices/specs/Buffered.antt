@@ -43,11 +43,6 @@ IsReady buffer = (buffer.bytes ≡ []) × (buffer.is_broken ≡ false)
 abbrev pub MayFail : OutputState → Type 0
 MayFail state = state.buffer.is_broken ≡ false → state.failures < 2 ^ 64 - 1
 
--- the sink took a prefix of the bytes
-abbrev pub AppendsFront : Option (List ℕ) → Option (List ℕ) → List ℕ → Type 0
-AppendsFront old new bytes =
-    (sent others : List ℕ) × Appends old new sent × (sent ++ others ≡ bytes)
-
 -- the sink took the bytes, and its history says that they were sent
 abbrev pub Sends : OutputState → OutputState → List ℕ → Type 0
 Sends old new bytes =

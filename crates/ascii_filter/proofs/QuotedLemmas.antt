@@ -62,10 +62,6 @@ pub end_piece : (b : Bool) → Piece (reading_of b) (codes "'") [] bare
 end_piece true = record { printable = one_quote; word = refl; reading = refl }
 end_piece false = record { printable = one_quote; word = refl; reading = refl }
 
--- their start
-pub start_piece : Piece bare (codes "'") [] single
-start_piece = record { printable = one_quote; word = refl; reading = refl }
-
 -- one more byte of a name
 pub piece_more : (items new bytes : List ℕ) (q r : Reading) (x : ℕ)
     → Piece bare items bytes q → Adds items new q x r

@@ -117,7 +117,11 @@ pub(crate) fn without_zeros(digits: AsciiStr<'_>) -> AsciiStr<'_>
 /// The number that the digits write after those of `number`, or the first position at fault. The
 /// digits start at position `start`.
 #[inline]
-pub(crate) fn continue_number(number: u64, digits: AsciiStr<'_>, start: usize) -> Result<u64, NumberError>
+pub(crate) fn continue_number(
+    number: u64,
+    digits: AsciiStr<'_>,
+    start: usize,
+) -> Result<u64, NumberError>
     requires { start + length (text_of digits) ≤ 2 ^ 64 - 1 }
     ensures { let codes = text_of digits.entry in MatchResult result
         (λ n. AllDigits 10 codes × (n ≡ digits_value_after 10 number codes))

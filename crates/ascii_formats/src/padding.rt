@@ -50,7 +50,11 @@ fn push_parts<B: Buffer>(
 }
 
 /// Appends `fill` the given number of times, as far as there is room.
-fn push_fill<B: Buffer>(string: &mut Text<B>, fill: AsciiChar, count: usize) -> Result<(), B::Refusal>
+fn push_fill<B: Buffer>(
+    string: &mut Text<B>,
+    fill: AsciiChar,
+    count: usize,
+) -> Result<(), B::Refusal>
     ensures { AppendsInParts B.sure (replicate count (code_of fill)) string.old string.new result }
 {
     for _ in 0..count {

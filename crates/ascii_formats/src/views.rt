@@ -109,11 +109,7 @@ pub trait AsciiStrExt: Sized {
     ///     AsciiStr::literal("''").take_quoted(AsciiChar::Apostrophe, AsciiChar::BackSlash) // Ok(("", ""))
     ///     AsciiStr::literal("a").take_quoted(AsciiChar::Apostrophe, AsciiChar::BackSlash) // Err(NoQuote)
     ///     AsciiStr::literal("'a").take_quoted(AsciiChar::Apostrophe, AsciiChar::BackSlash) // Err(NotClosed(2))
-    fn take_quoted(
-        self,
-        quote: AsciiChar,
-        escape: AsciiChar,
-    ) -> Result<(Self, Self), QuoteError>
+    fn take_quoted(self, quote: AsciiChar, escape: AsciiChar) -> Result<(Self, Self), QuoteError>
         ensures { let text = codes self in MatchResult result
             (λ taken. StartsQuoted (code_of quote) (code_of escape) text
             (codes taken.0) (codes taken.1))

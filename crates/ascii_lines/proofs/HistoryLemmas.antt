@@ -5,7 +5,7 @@ use Rattle.std.proofs.Common.{append_assoc, append-nil, map}
 use Rattle.std.specs.List.{flat_map}
 use Rattle.std.proofs.lemmas.Bool.{false≢true}
 use Rattle.std.proofs.lemmas.Grind.{flat_map-append}
-use Rattle.ascii_devices.proofs.HistoryLemmas.{Grows-nil, Grows-trans, received_of-append}
+use Rattle.ascii_devices.proofs.HistoryLemmas.{Grows-trans, received_of-append}
 use Rattle.ascii_devices.proofs.HistoryLemmas.{sent_of-all, sent_of-append}
 use Rattle.ascii_devices.specs.Devices.{Grows, read_of, received_of, sent_of, write_of}
 use Rattle.ascii_devices.specs.declared.log.Event.{Event}
@@ -30,9 +30,6 @@ noted_two : (xs ys : List Event) (one two : List ℕ) → sent_of xs ≡ one →
     → sent_of (xs ++ ys) ≡ one ++ two
 noted_two xs ys one two first then =
     sent_of-append xs ys ∙ (ap (λ zs. zs ++ sent_of ys) first ∙ ap (λ zs. one ++ zs) then)
-
-pub TellsSent-nil : (a : Option (List Event)) → TellsSent a a []
-TellsSent-nil a = record { events = []; grows = Grows-nil a; writes = tt; noted = refl }
 
 -- the bytes were written
 pub TellsSent-write : {a b : Option (List Event)} (sent : List ℕ)

@@ -13,19 +13,10 @@ use Rattle.ascii_lines.specs.LineWriter.{FailsToWrite, WritesBytes, is_line_brea
 use Rattle.ascii_lines.specs.Serve.{Reply, IsLineOutcome, Says, SaysBytes, Saying}
 use Rattle.ascii_lines.specs.Serve.{is_unbroken, line_given, line_reply, part_reply, reply_bytes}
 use Rattle.ascii_lines.specs.Serve.{reply_text}
-use Rattle.ascii_lines.proofs.WriteBufferLemmas.{Passes-nil, Passes-prefix, Passes-trans}
+use Rattle.ascii_lines.proofs.WriteBufferLemmas.{Passes-prefix, Passes-trans}
 use Rattle.ascii_lines.proofs.WriteBufferLemmas.{PassesPrefix-more}
 
 -- ---- bytes after bytes
-
-WritesBytes-nil : (a : OutputState) → a.buffer.is_broken ≡ false → WritesBytes a a []
-WritesBytes-nil a is = record {
-  passed = Passes-nil a;
-  failures = refl;
-  aside = refl;
-  stage = is;
-  size = refl;
-}
 
 WritesBytes-trans : {a b c : OutputState} (xs ys : List ℕ)
     → WritesBytes a b xs → WritesBytes b c ys → WritesBytes a c (xs ++ ys)
@@ -57,12 +48,6 @@ FailsToWrite-more {a} {b} xs ys fails = record {
   size = fails.size;
 }
 
--- nothing was written
-SaysBytes-nil : (broken : Bool) (a : OutputState) → a.buffer.is_broken ≡ broken
-    → SaysBytes broken a [] a
-SaysBytes-nil false a whole = inl (WritesBytes-nil a whole)
-SaysBytes-nil true a is = refl
-
 -- bytes, and then more
 SaysBytes-trans : (p q : Bool) (a b c : OutputState) (xs ys : List ℕ)
     → a.buffer.is_broken ≡ p → b.buffer.is_broken ≡ q → SaysBytes p a xs b → SaysBytes q b ys c
@@ -84,9 +69,6 @@ SaysBytes-trans true true a b c xs ys was is first then = then ∙ first
 -- ---- replies after replies
 
 module _ {K : Type 0} where
-  -- no reply was given
-  pub Says-nil : (a : Saying K) → Says a [] a
-  Says-nil a = (SaysBytes-nil a.state.buffer.is_broken a.state refl, refl)
 
   -- replies, and then more
   pub Says-trans : (a b c : Saying K) (first after : List Reply) → Says a first b

@@ -3,23 +3,14 @@ use Rattle.std.proofs.Common.{◌≡◌, ℕ, List, [], ◌++◌, ap, sym, subst
 use Rattle.std.proofs.Common.{Err, Ok, OnErr, Result}
 use Rattle.std.proofs.Common.{Bool, true, false, ◌+◌, ◌-◌, ◌^◌, ◌<◌, arith}
 use Rattle.std.proofs.lemmas.Bool.{false≢true}
-use Rattle.std.proofs.KnownBytes.{Appends-nil, Appends-trans}
+use Rattle.std.proofs.KnownBytes.{Appends-trans}
 use Rattle.ascii_devices.specs.Buffered.{AppendsBy, AppendsBytes, FinishOutcome, OutputState}
 use Rattle.ascii_devices.specs.Buffered.{SendsFront}
 use Rattle.ascii_devices.specs.declared.DeviceFault.{DeviceFault}
 use Rattle.ascii_devices.proofs.ListLemmas.{append_two}
 use Rattle.ascii_lines.specs.WriteBuffer.{Passes, PassesPrefix, PutsBytes}
 use Rattle.ascii_lines.specs.Failures.{one_more}
-use Rattle.ascii_lines.proofs.HistoryLemmas.{TellsSent-nil, TellsSent-trans, TellsSent-write}
-
--- nothing was written
-pub Passes-nil : (a : OutputState) → Passes a a []
-Passes-nil a = record {
-  sent = [];
-  took = Appends-nil a.taken;
-  told = TellsSent-nil a.history;
-  all = sym (append-nil a.buffer.bytes);
-}
+use Rattle.ascii_lines.proofs.HistoryLemmas.{TellsSent-trans, TellsSent-write}
 
 -- one piece and then another
 pub Passes-trans : {a b c : OutputState} (first second : List ℕ)

@@ -2,7 +2,6 @@
 use Rattle.std.specs.Prelude.{◌≡◌, ◌≤◌, ℕ, Bool, List, [], ◌∷◌, ◌++◌, length, Ok, Err, None, Some}
 use Rattle.std.specs.Prelude.{true, false}
 use Rattle.std.specs.Io.KnownBytes.{Appends}
-use Rattle.std.specs.List.{flat_map}
 use Rattle.std.specs.declared.result.Result.{Result}
 use Rattle.ascii.specs.declared.ascii_str.AsciiStr.{AsciiStr}
 use Rattle.ascii.specs.declared.iter.spans.Ending.{Ending}
@@ -77,11 +76,6 @@ pub record Flushes (old new : OutputState) : Type 0 where
   pub aside : new.aside ≡ old.aside
   pub stage : new.buffer.is_broken ≡ false
   pub size : new.buffer.size ≡ old.buffer.size
-
--- from the state `old` to the state `new` these lines were written, in order: `WritesBytes` of
--- their bytes
-abbrev pub WritesLines : OutputState → List Line → OutputState → Type 0
-WritesLines old lines new = WritesBytes old new (flat_map line_text lines)
 
 -- what writing bytes does. `Ok`: they were written. `Err`, always `Write`: a call of the sink
 -- failed

@@ -1,6 +1,6 @@
 -- The output of a script of ends: one more answer, and the output of a mode.
 use Rattle.std.proofs.Common.{◌≡◌, ℕ, ◌+◌, ◌-◌, ◌<◌, ◌≤◌, List, [], ◌∷◌, ◌++◌, length, get_or, take, drop}
-use Rattle.std.proofs.Common.{Option, Some, None, map, sym, subst, ap, ◌∙◌, append-nil, refl, arith}
+use Rattle.std.proofs.Common.{Option, Some, None, map, sym, ap, ◌∙◌, append-nil, refl, arith}
 use Rattle.std.specs.List.{flat_map}
 use Rattle.std.specs.Option.{option_map}
 use Rattle.std.specs.Borrow.{Bor}
@@ -14,7 +14,7 @@ use Rattle.ascii.specs.Lines.{Line}
 use Rattle.ascii.specs.Spans.{LineSpansOf, WithStart, items_of}
 use Rattle.ascii.specs.declared.iter.walks.End.{End}
 use Rattle.ascii.specs.declared.iter.walks.End.TheVariants.{Front, Back}
-use Rattle.ascii.specs.Walks.{ListAnswers, ListAnswersTo, TakesEnd}
+use Rattle.ascii.specs.Walks.{ListAnswersTo, TakesEnd}
 use Rattle.ascii.proofs.EndsLemmas.{AnswersTo-all, AnswersTo-step}
 use Rattle.ascii_run.specs.Modes.{IsOutput}
 use Rattle.ascii_run.specs.Modes.Ends.{answer_text, answers, mode_of, shown_text, span_text}
@@ -85,46 +85,6 @@ module _ {A : Type 0} (shown : Option A → List ℕ) (items left : List A) (scr
       (AnswersTo-all TakesEnd items left script k so_far.0 past so_far.1))
 
 -- ---- the answers to a script
-
--- the last item of a list that is not empty
-split_last : {A : Type 0} (x : A) (xs : List A)
-    → (front : List A) × (last : A) × (x ∷ xs ≡ front ++ last ∷ [])
-split_last x [] = ([], x, refl)
-split_last x (y ∷ ys) =
-    let later = split_last y ys in (x ∷ later.0, later.1, ap (λ items. x ∷ items) later.2)
-
-takes_front : {A : Type 0} (items : List A)
-    → TakesEnd Front items (slice_get items 0) (drop 1 items)
-takes_front [] = (refl, refl)
-takes_front (x ∷ xs) = refl
-
-takes_last : {A : Type 0} (front : List A) (x : A)
-    → TakesEnd Back (front ++ x ∷ []) (slice_get (front ++ x ∷ []) (length (front ++ x ∷ []) - 1))
-    (take (length (front ++ x ∷ []) - 1) (front ++ x ∷ []))
-takes_last front x =
-    let n : length (front ++ x ∷ []) - 1 ≡ length front = omega (arith, length_push front x) in
-    rw (n, last_item front x, take_at front (x ∷ []) (length front) refl) refl
-
-takes_back : {A : Type 0} (items : List A)
-    → TakesEnd Back items (slice_get items (length items - 1)) (take (length items - 1) items)
-takes_back [] = (refl, refl)
-takes_back {A} (x ∷ xs) =
-    let cut = split_last x xs in
-    let P : List A → Type 0 = λ items. TakesEnd Back items (slice_get items (length items - 1))
-    (take (length items - 1) items) in
-    subst P (sym cut.2) (takes_last cut.0 cut.1)
-
--- each list has its answers
-pub answers_are : {A : Type 0} (items : List A) (script : List End)
-    → ListAnswers items script (answers script items)
-answers_are items [] = (items, refl)
-answers_are items (Front ∷ script) =
-    let later = answers_are (drop 1 items) script in
-    (later.0, (drop 1 items, takes_front items, later.1))
-answers_are items (Back ∷ script) =
-    let left = take (length items - 1) items in
-    let later = answers_are left script in
-    (later.0, (left, takes_back items, later.1))
 
 -- ---- the output of a mode
 

@@ -1,10 +1,9 @@
 -- The compact JSON text of a text is what the toolchain's writer gives, and is itself a text.
 use Rattle.std.proofs.Common.{◌≡◌, ℕ, ◌<◌, List, [], ◌∷◌, ◌++◌, refl, ap, ◌∙◌, sym, arith}
-use Rattle.std.proofs.Common.{append-nil, length, map, take, drop, length-append, ◌+◌, ◌-◌, ◌≤◌}
+use Rattle.std.proofs.Common.{append-nil, map, length-append, ◌+◌}
 use Rattle.std.proofs.Common.{subst, nat_lt, Bool, true, ⊎_elim, get_or}
 use Rattle.std.proofs.lemmas.Bool.Decides.{nat_tests}
 use Rattle.std.proofs.lemmas.Str.Ascii.{All-from_ascii, IsAscii-from_all}
-use Rattle.std.proofs.lemmas.Grind.{common_steps}
 use Rattle.std.proofs.lemmas.List.{get_or-map, get_or_append_left, length-map, map-append}
 use Rattle.std.proofs.Math.Seq.{get_or-append_seam}
 use Rattle.std.proofs.lemmas.List.Elements.{All-append, All-from_get_or, All-cons, All-head}
@@ -99,20 +98,3 @@ escape_more text escapes escape n are is =
           subst (λ k. get_or (texts ++ text escape ∷ []) k [] ≡ json_text (k ∷ [])) (sym e)
           last) (cases_lt code n),
     )
-
--- the JSON string of one character is a quote, its code in a JSON string, and a quote
-escape_is : (escape : List ℕ) (code : ℕ) → escape ≡ json_text (code ∷ [])
-    → escape ≡ 34 ∷ (json_code code ++ 34 ∷ [])
-escape_is escape code is = is ∙ ap (λ xs. 34 ∷ (xs ++ 34 ∷ [])) (append-nil (json_code code))
-
-pub escape_long : (escape : List ℕ) (code : ℕ) → escape ≡ json_text (code ∷ []) → 2 ≤ length escape
-escape_long escape code is = subst (λ xs. 2 ≤ length xs) (sym (escape_is escape code is))
-    (omega (arith, length-append (json_code code) (34 ∷ [])))
-
--- the JSON string of one character without its quotes
-pub escape_inner : (escape : List ℕ) (code : ℕ) → escape ≡ json_text (code ∷ [])
-    → take (length escape - 1 - 1) (drop 1 escape) ≡ json_code code
-escape_inner escape code is =
-    subst (λ xs. take (length xs - 1 - 1) (drop 1 xs) ≡ json_code code)
-    (sym (escape_is escape code is))
-    (grind (arith, common_steps))

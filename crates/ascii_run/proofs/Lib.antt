@@ -5,7 +5,6 @@ pub mod EndsOutputLemmas
 pub mod FrontOutputLemmas
 pub mod JsonTextLemmas
 pub mod LineFeedLemmas
-pub mod ListLemmas
 pub mod NameLemmas
 pub mod OutputBufferLemmas
 pub mod PlainRunLemmas

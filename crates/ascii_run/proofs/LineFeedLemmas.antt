@@ -21,7 +21,7 @@ use Rattle.ascii.proofs.PiecesLemmas.{HasNo-from_absent}
 use Rattle.ascii_run.specs.Streamed.{IsLastSegment, held_cr, lines_part, unless_cr, with_feeds}
 use Rattle.ascii_run.specs.Streamed.{without_last_cr}
 use Rattle.ascii_run.specs.Modes.Lines.{ShowsLines, with_line_feed}
-use Rattle.ascii_run.proofs.ListLemmas.{last_is}
+use Rattle.ascii.proofs.ListLemmas.{last_is}
 
 -- the last code of a whole text: LF comes after it unless it is LF
 abbrev pub and_feed : ℕ → List ℕ

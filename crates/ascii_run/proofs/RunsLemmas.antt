@@ -1,5 +1,5 @@
 -- Runs of commands, one step after another.
-use Rattle.std.proofs.Common.{◌≡◌, ◌≢◌, ℕ, ◌≤◌, zero, suc, List, [], ◌∷◌, ◌++◌, ◌∙◌, length}
+use Rattle.std.proofs.Common.{◌≡◌, ◌≢◌, ℕ, ◌≤◌, zero, suc, List, [], ◌∷◌, ◌++◌, ◌∙◌}
 use Rattle.std.proofs.Common.{ap, map, refl, subst, sym, take, inl, inr, arith}
 use Rattle.std.specs.Prelude.{unwrap_or}
 use Rattle.std.specs.Option.{option_map_or}
@@ -84,16 +84,6 @@ runs_agree {A} {B} cmds first second runs =
       replies = λ none1 none2. (plain1 none1).0 ∙ sym ((plain2 none2).0);
       text = λ none1 none2. (plain1 none1).1 ∙ sym ((plain2 none2).1);
     }
-
--- a run gives as many replies as there are commands
-pub Run-count : {A : Type 0} (sure : ℕ) (t : List ℕ) (cmds : List Cmd)
-    (replies : List (Reply A)) (t2 : List ℕ)
-    → Run sure t cmds replies t2 → length replies ≡ length cmds
-Run-count sure t [] [] t2 run = refl
-Run-count sure t [] (r ∷ replies) t2 run = absurd run
-Run-count sure t (cmd ∷ cmds) [] t2 run = absurd run
-Run-count sure t (cmd ∷ cmds) (r ∷ replies) t2 run =
-    omega (arith, Run-count sure run.0 cmds replies t2 run.2)
 
 -- an allocation that may fail past a sure length may fail past a smaller one
 may_refuse_less : (sure less : ℕ) (t : List ℕ) (cmd : Cmd) → less ≤ sure → MayRunOut sure t cmd

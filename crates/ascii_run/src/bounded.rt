@@ -120,11 +120,8 @@ impl BoundedMode {
         modes!(with_name name)
     }
 
-    /// Returns `true` if the mode takes all bytes, and `false` if it takes an ASCII text alone.
-    ///
-    ///     BoundedMode::Escape.takes_all() // true
-    ///     BoundedMode::Lines.takes_all() // false
-    pub fn takes_all(self) -> bool
+    /// Whether the mode takes all bytes, and not an ASCII text alone.
+    fn takes_all(self) -> bool
         ensures { result ≡ takes_all self }
     {
         matches!(self, BoundedMode::Escape | BoundedMode::Lossy)

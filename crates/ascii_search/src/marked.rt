@@ -125,10 +125,7 @@ fn marks_of_two<C: ClassBy<N>, const N: usize, const INSIDE: bool>(
 
 /// The first run of bytes on the side.
 #[inline(always)]
-pub fn first_run<C: Searched, const INSIDE: bool>(
-    bytes: &[u8],
-    marks: Marked,
-) -> Option<MarkedRun>
+pub fn first_run<C: Searched, const INSIDE: bool>(bytes: &[u8], marks: Marked) -> Option<MarkedRun>
     requires { AreMarks C.is INSIDE marks bytes.now }
     ensures { MatchOption result (All (IsOnSide C.is (not INSIDE)) bytes.now)
         (IsFirstRun C.is INSIDE bytes.now) }
@@ -175,11 +172,7 @@ fn renewed<C: Searched, const INSIDE: bool>(bytes: &[u8], marks: Marked) -> Mark
 
 /// The marks of the first `len` bytes, if those after them are cut off.
 #[inline(always)]
-pub fn marks_to<C: Searched, const INSIDE: bool>(
-    bytes: &[u8],
-    marks: Marked,
-    len: usize,
-) -> Marked
+pub fn marks_to<C: Searched, const INSIDE: bool>(bytes: &[u8], marks: Marked, len: usize) -> Marked
     requires room { len ≤ length bytes.now }
     requires marks { AreMarks C.is INSIDE marks bytes.now }
     ensures { AreMarks C.is INSIDE result (take len bytes.now) }

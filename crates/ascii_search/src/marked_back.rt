@@ -39,10 +39,7 @@ fn bits_before(mask: u64, at: usize) -> u64
 
 /// The last run of bytes on the side.
 #[inline(always)]
-pub fn last_run<C: Searched, const INSIDE: bool>(
-    bytes: &[u8],
-    marks: Marked,
-) -> Option<MarkedRun>
+pub fn last_run<C: Searched, const INSIDE: bool>(bytes: &[u8], marks: Marked) -> Option<MarkedRun>
     requires { AreLastMarks C.is INSIDE marks bytes.now }
     ensures { MatchOption result (All (IsOnSide C.is (not INSIDE)) bytes.now)
         (IsLastRun C.is INSIDE bytes.now) }

@@ -18,10 +18,9 @@ use Rattle.ascii_run.specs.declared.faults.EngineFault.TheVariants.{Read, Write}
 use Rattle.ascii_run.specs.declared.modes.Mode.{Mode}
 use Rattle.ascii_run.specs.declared.modes.Mode.TheVariants.{Edit}
 use Rattle.ascii_show.specs.Answer.{HasFault, MayReturn, Writes}
-use Rattle.ascii_show.specs.Call.{IsWordsFault, Requests}
+use Rattle.ascii_show.specs.Call.{Requests}
 use Rattle.ascii_show.specs.declared.failure.Failure.{Failure}
-use Rattle.ascii_show.specs.declared.failure.Failure.TheVariants.{Usage, BadWord, Engine}
-use Rattle.std.proofs.KnownBytes.{Keeps-refl}
+use Rattle.ascii_show.specs.declared.failure.Failure.TheVariants.{Engine}
 
 -- a mode that has an output for a text rejects no command
 no_fault : (mode : Mode) (text output : List ℕ) → IsOutput mode text output
@@ -121,14 +120,6 @@ module _ {S K : Type 0} (source : source.Ghosts S) (sink : sink.Ghosts K) where
     ),
     takes.took,
   )
-
--- nothing was written where the words request nothing
-pub wrote_nothing : (words : List (List ℕ)) (known taken : Option (List ℕ)) (failure : Failure)
-    → IsWordsFault words failure → Writes words known (Err failure) taken taken
-wrote_nothing words known taken Usage fault = Keeps-refl taken
-wrote_nothing words known taken (BadWord n) fault = Keeps-refl taken
-wrote_nothing words known taken (Engine Memory) fault = Keeps-refl taken
-wrote_nothing words known taken other fault = absurd fault
 
 pub wrote_on : (words : List (List ℕ)) (known old new : Option (List ℕ)) (fault : EngineFault)
     (result : Result (Unit {0}) Failure)

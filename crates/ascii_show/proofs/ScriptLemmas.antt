@@ -1,6 +1,6 @@
 -- The letters of ends.
-use Rattle.std.proofs.Common.{◌≡◌, ◌≢◌, ◌∙◌, ◌⊎◌, ℕ, ◌<◌, List, [], ◌∷◌, length, get_or, arith, ap}
-use Rattle.std.proofs.Common.{ap₂, drop, map, refl, subst, sym, inl, inr}
+use Rattle.std.proofs.Common.{◌≡◌, ◌≢◌, ◌∙◌, ℕ, ◌<◌, List, [], ◌∷◌, length, get_or, arith, ap}
+use Rattle.std.proofs.Common.{ap₂, map, refl, subst, sym, inl, inr}
 use Rattle.std.specs.Prelude.{codes}
 use Rattle.std.specs.Borrow.{Bor}
 use Rattle.std.proofs.lemmas.List.{get_or-map, length-map}
@@ -92,54 +92,6 @@ script_fault words script n (Engine Memory) has fault = inr (inl (script, n, has
 script_fault words script n other has fault = absurd fault
 
 -- ---- a call begins with the name of a mode, and a mode that takes no word is alone
-
-call_of : (name : List ℕ) (others : List (List ℕ)) → IsCall (name ∷ others)
-    → (TakesNoArgument name × (others ≡ [])) ⊎ ((name ≡ codes "ends") ⊎ (name ≡ codes "edit"))
-call_of name others (inl (mode.Copy, is)) =
-    inl (inl (ap (λ ws. get_or ws 0 []) is), ap (drop 1) is)
-call_of name others (inl (mode.Lines, is)) =
-    inl (inr (inl (ap (λ ws. get_or ws 0 []) is)), ap (drop 1) is)
-call_of name others (inl (mode.Tac, is)) =
-    inl (inr (inr (inl (ap (λ ws. get_or ws 0 []) is))), ap (drop 1) is)
-call_of name others (inl (mode.Caret, is)) =
-    inl (inr (inr (inr (inl (ap (λ ws. get_or ws 0 []) is)))), ap (drop 1) is)
-call_of name others (inl (mode.Json, is)) =
-    inl (inr (inr (inr (inr (ap (λ ws. get_or ws 0 []) is)))), ap (drop 1) is)
-call_of name others (inl (mode.Ends script, is)) = inr (inl (ap (λ ws. get_or ws 0 []) is))
-call_of name others (inl (mode.EndsSpans script, is)) = inr (inl (ap (λ ws. get_or ws 0 []) is))
-call_of name others (inl (mode.Edit cmds, is)) = inr (inr (ap (λ ws. get_or ws 0 []) is.1))
-call_of name others (inr (inl (script, n, inl is))) = inr (inl (ap (λ ws. get_or ws 0 []) is.0))
-call_of name others (inr (inl (script, n, inr is))) = inr (inl (ap (λ ws. get_or ws 0 []) is.0))
-call_of name others (inr (inr (edits, is))) = inr (inr (ap (λ ws. get_or ws 0 []) is))
-
-pub call_names : (name : List ℕ) (others : List (List ℕ)) → IsCall (name ∷ others)
-    → IsModeName name
-call_names name others call = elim (call_of name others call) [
-  | inl plain ↦ inl plain.0
-  | inr named ↦ inr named
-]
-
--- no name of a mode that takes no word is that of one that does
-first_letter : (name : List ℕ) → get_or name 0 0 ≡ 101 → ¬ (TakesNoArgument name)
-first_letter name is (inl named) = omega (arith, is, ap (λ n. get_or n 0 0) named)
-first_letter name is (inr (inl named)) = omega (arith, is, ap (λ n. get_or n 0 0) named)
-first_letter name is (inr (inr (inl named))) = omega (arith, is, ap (λ n. get_or n 0 0) named)
-first_letter name is (inr (inr (inr (inl named)))) =
-    omega (arith, is, ap (λ n. get_or n 0 0) named)
-first_letter name is (inr (inr (inr (inr named)))) =
-    omega (arith, is, ap (λ n. get_or n 0 0) named)
-
-differs : (name : List ℕ) → TakesNoArgument name
-    → ¬ ((name ≡ codes "ends") ⊎ (name ≡ codes "edit"))
-differs name plain (inl other) = first_letter name (ap (λ n. get_or n 0 0) other) plain
-differs name plain (inr other) = first_letter name (ap (λ n. get_or n 0 0) other) plain
-
-pub plain_alone : (name : List ℕ) (others : List (List ℕ)) → TakesNoArgument name
-    → IsCall (name ∷ others) → others ≡ []
-plain_alone name others plain call = elim (call_of name others call) [
-  | inl alone ↦ alone.1
-  | inr named ↦ absurd (differs name plain named)
-]
 
 -- the name of a mode that takes no argument is one in the library
 plain_name : (name : List ℕ) → TakesNoArgument name → IsPlainName name

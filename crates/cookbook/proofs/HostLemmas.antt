@@ -11,7 +11,7 @@ use Rattle.cookbook.specs.declared.hosts.HostNameError.TheVariants.{Character, E
 use Rattle.cookbook.specs.declared.hosts.HostNameError.TheVariants.{LongLabel, Memory, TooLong}
 use Rattle.ascii.specs.Class.{IsLabelCode}
 use Rattle.cookbook.specs.Hosts.{IsHost, IsHostError, IsLabel, IsLabelError}
-use Rattle.cookbook.proofs.ListLemmas.{All-seam, IsFirstAt-not_all, IsFirstAt-seam}
+use Rattle.ascii.proofs.ListLemmas.{All-seam, IsFirstAt-not_all, IsFirstAt-seam}
 
 -- a name whose pieces are all labels is that of a host
 pub host_of_labels : (name : List ℕ) (spans rest : List (WithStart (List ℕ)))

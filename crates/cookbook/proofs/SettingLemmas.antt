@@ -14,7 +14,7 @@ use Rattle.ascii.specs.Search.{IsCutAt}
 use Rattle.ascii.specs.Spans.{LineSpansOf, WithStart, line_in}
 use Rattle.ascii.specs.Trim.{Trims}
 use Rattle.ascii.specs.declared.iter.spans.LineSpan.{LineSpan}
-use Rattle.cookbook.proofs.ListLemmas.{All-seam, map-push_front}
+use Rattle.ascii.proofs.ListLemmas.{All-seam, map-push_front}
 use Rattle.cookbook.specs.Settings.{IsWithoutComment, ReadsSetting, Says, position_of}
 use Rattle.cookbook.specs.declared.settings.Setting.{Setting}
 use Rattle.cookbook.specs.declared.settings.SettingError.{SettingError}

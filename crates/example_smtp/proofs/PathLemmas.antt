@@ -1,17 +1,11 @@
 -- Parts of paths.
 use Rattle.std.proofs.Common.{◌≡◌, ◌∙◌, ℕ, List, [], ◌∷◌, ◌++◌, ap, arith, drop, get_or}
-use Rattle.std.proofs.Common.{length, map, refl, subst, sym}
-use Rattle.std.proofs.lemmas.List.{append_assoc, append_cancel_left, append_cancel_right, map_push}
+use Rattle.std.proofs.Common.{map, refl, subst, sym}
+use Rattle.std.proofs.lemmas.List.{append_assoc, map_push}
 use Rattle.std.proofs.lemmas.List.Elements.{All-push, Contains-append_right}
 use Rattle.std.specs.List.{All, Contains}
-use Rattle.ascii.specs.Bytes.{IsFirstNot}
-use Rattle.example_smtp.specs.Paths.{IsBetween, IsCutAtLastAt, IsDomain}
+use Rattle.example_smtp.specs.Paths.{IsCutAtLastAt, IsDomain}
 use Rattle.example_smtp.specs.Paths.{IsMailbox, IsName}
-
--- a text with a code outside a class is not all in it
-pub not_all : (Is : ℕ → Type 0) (text : List ℕ) (place : ℕ)
-    → IsFirstNot Is text 0 (length text) place → ¬ (All Is text)
-not_all Is text place first all = first.other (all place 0 first.inside)
 
 -- a part more is taken from the front of the parts that are left
 pub moved : {A B : Type 0} (f : A → B) (taken : List A) (here : A) (rest items : List B)
@@ -25,12 +19,6 @@ pub one_more : {A B : Type 0} (P : B → Type 0) (f : A → B) (taken : List A) 
     → All P (map f taken) → P (f here) → All P (map f (taken ++ here ∷ []))
 one_more P f taken here each this =
     subst (All P) (sym (map_push f taken here)) (All-push P (map f taken) (f here) each this)
-
--- one text at most is between two others
-pub same_between : (start end text one other : List ℕ) → IsBetween start end text one
-    → IsBetween start end text other → one ≡ other
-same_between start end text one other is same = append_cancel_right one other end
-    (append_cancel_left start (one ++ end) (other ++ end) (is ∙ sym same))
 
 -- the last `@` is one
 pub same_cut : (name domain other last : List ℕ) → name ++ 64 ∷ domain ≡ other ++ 64 ∷ last

@@ -7,9 +7,9 @@ ghost use Rattle.ascii.specs.Case.{lower_image, upper_image};
 ghost use Rattle.ascii.specs.Class.{IsWhitespace};
 ghost use Rattle.ascii.specs.Trim.{Trims};
 
-use ascii_keys::FoldedStr;
 use ascii::{AsciiChar, AsciiStr, AsciiString, bytes};
 use ascii_formats::AsciiStrExt;
+use ascii_keys::FoldedStr;
 use ascii_lines::{Endings, LineReader, LineWriter};
 use ascii_run::{AsciiBuf, Input, Output, SmallAsciiString};
 use std::alloc::{AllocError, Global};
@@ -175,7 +175,8 @@ pub fn bench_folded(first: &[u8], second: &[u8]) -> bool
     requires first { IsAscii first.now }
     requires second { IsAscii second.now }
 {
-    FoldedStr::new(bytes::as_ascii_str_unchecked(first)) == FoldedStr::new(bytes::as_ascii_str_unchecked(second))
+    FoldedStr::new(bytes::as_ascii_str_unchecked(first))
+        == FoldedStr::new(bytes::as_ascii_str_unchecked(second))
 }
 
 /// The sum of the codes of a text.

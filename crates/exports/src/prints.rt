@@ -3,8 +3,8 @@
 ghost use Rattle.std.specs.Str.{IsAscii};
 
 use crate::answer::Answer;
-use ascii_keys::FoldedStr;
 use ascii::{AsciiChar, bytes, json};
+use ascii_keys::FoldedStr;
 use ascii_run::SmallAsciiString;
 use std::alloc::{AllocError, Global};
 use std::fmt;

@@ -23,13 +23,10 @@ pub fn ask_find(source: &[u8], needle: &[u8], room: &mut [u8]) -> usize
         view.contains(needle),
         view.starts_with(needle),
         view.ends_with(needle),
-        view.starts_with_ignore_ascii_case(needle),
-        view.ends_with_ignore_ascii_case(needle),
     ]);
     answer.part(view.strip_prefix(needle));
     answer.part(view.strip_suffix(needle));
     answer.part(view.strip_prefix_ignore_ascii_case(needle));
-    answer.part(view.strip_suffix_ignore_ascii_case(needle));
     answer.finish()
 }
 

@@ -3,8 +3,8 @@
 ghost use Rattle.std.specs.Str.{IsAscii};
 
 use crate::answer::Answer;
-use ascii_keys::FoldedStr;
 use ascii::{BoxedAsciiStr, CowAsciiStr, RcAsciiStr, bytes, kernels};
+use ascii_keys::FoldedStr;
 use ascii_run::{ArrayAsciiString, SmallAsciiString};
 use std::alloc::{AllocError, Global};
 use std::hash::{DefaultHasher, Hash, Hasher};

@@ -9,8 +9,8 @@ use ascii::classes::{
     Graphic, Hexdigit, Label, Lowercase, Printable, Punctuation, Quotable, Searched, Token,
     Uppercase, Whitespace,
 };
-use ascii_formats::numbers::{Number, NumberError};
 use ascii::{AsciiChar, AsciiStr, bytes, kernels};
+use ascii_formats::numbers::{Number, NumberError};
 use ascii_formats::{AsciiStrExt, AsciiStringExt};
 use cookbook::identifiers::Identifier;
 use itoa::Integer;

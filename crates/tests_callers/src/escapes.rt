@@ -4,10 +4,10 @@ ghost use Rattle.std.specs.Prelude.{◌≡◌, MatchResult};
 ghost use Rattle.ascii_formats.specs.declared.unescape.UnescapeError.TheVariants.{Memory};
 ghost use Rattle.ascii.specs.View.{text_of};
 
-use ascii_formats::unescape::UnescapeError;
 use ascii::{AsciiStr, AsciiString};
 use ascii_formats::AsciiStrExt;
 use ascii_formats::notations::EscapeAscii;
+use ascii_formats::unescape::UnescapeError;
 use std::alloc::Global;
 
 /// Escapes a text and reads it back, which gives the text.

@@ -5,9 +5,9 @@ ghost use Rattle.std.specs.Str.Parse.{IsNumeral, digits_value};
 ghost use Rattle.ascii_formats.specs.Decimals.{WritesDecimal};
 ghost use Rattle.ascii.specs.View.{text_of};
 
+use ascii::{AsciiStr, AsciiString};
 use ascii_formats::decimals::Decimal;
 use ascii_formats::numbers::NumberError;
-use ascii::{AsciiStr, AsciiString};
 use ascii_formats::{AsciiStrExt, AsciiStringExt};
 use std::alloc::{AllocError, Global};
 

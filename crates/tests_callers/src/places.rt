@@ -4,8 +4,8 @@ ghost use Rattle.std.specs.Prelude.{IfSome};
 ghost use Rattle.ascii.specs.Placed.{HasAt};
 ghost use Rattle.ascii.specs.View.{text_of};
 
-use ascii_formats::spanned::Spanned;
 use ascii::{AsciiChar, AsciiStr};
+use ascii_formats::spanned::Spanned;
 
 /// Returns the value of a setting `key = value`, without whitespace around it and with its start in
 /// the line, or `None` if the line has no `=`.

@@ -1,7 +1,7 @@
 use Rattle.std.proofs.Common.{rules}
 use Rattle.ascii.specs.View.{text_of}
 use Rattle.cookbook.specs.Headers.{IsNamed}
-use Rattle.cookbook.proofs.ListLemmas.{IsFirstAt-find}
+use Rattle.ascii.proofs.ListLemmas.{IsFirstAt-find}
 use Rattle.cookbook.proofs.headers.find_header.Goals as goal
 
 pub returns : goal.returns

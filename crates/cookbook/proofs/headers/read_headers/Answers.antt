@@ -5,7 +5,7 @@ use Rattle.ascii.specs.Spans.{LineSpansOf, line_in}
 use Rattle.ascii.specs.View.{text_of}
 use Rattle.cookbook.specs.Headers.{HasHeader, IsHeaderError, IsHeaderOf}
 use Rattle.ascii.proofs.ListLemmas.{AllZip-push}
-use Rattle.cookbook.proofs.ListLemmas.{All-from_zip, IsFirstAt-seam, map-push_front}
+use Rattle.ascii.proofs.ListLemmas.{All-from_zip, IsFirstAt-seam, map-push_front}
 use Rattle.cookbook.proofs.headers.read_headers.Goals as goal
 
 pub loop-line-preserved : goal.loop-line-preserved

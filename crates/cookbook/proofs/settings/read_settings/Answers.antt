@@ -2,7 +2,7 @@ use Rattle.std.proofs.Common.{◌++◌, ◌∷◌, [], append-nil, length, map, 
 use Rattle.std.specs.List.{filter_map}
 use Rattle.ascii.specs.Spans.{LineSpansOf, line_in}
 use Rattle.ascii.specs.View.{text_of}
-use Rattle.cookbook.proofs.ListLemmas.{All-from_zip, IsFirstAt-seam}
+use Rattle.ascii.proofs.ListLemmas.{All-from_zip, IsFirstAt-seam}
 use Rattle.cookbook.proofs.SettingLemmas.{error_inside, line_inside, line_more}
 use Rattle.cookbook.specs.Settings.{IsFaultOf, Says}
 use Rattle.cookbook.proofs.settings.read_settings.Goals as goal

@@ -4,7 +4,7 @@ use Rattle.std.proofs.lemmas.List.{length-map, length_push, map_push}
 use Rattle.ascii.specs.Spans.{PieceSpans, piece_in}
 use Rattle.ascii.specs.View.{text_of}
 use Rattle.cookbook.specs.Rows.{IsFilled}
-use Rattle.cookbook.proofs.ListLemmas.{All-map_push, IsFirstAt-seam, map-push_front}
+use Rattle.ascii.proofs.ListLemmas.{All-map_push, IsFirstAt-seam, map-push_front}
 use Rattle.cookbook.proofs.table.read_row.Goals as goal
 
 pub returns-then-len-columns : goal.returns-then-len-columns

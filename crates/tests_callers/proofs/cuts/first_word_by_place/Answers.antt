@@ -28,7 +28,7 @@ returns c =
     let same = (at_words_lawful IsWhitespace is_whitespace).same (whole (text_of c.args.line)) in
     let rest = c.split_whitespace.ensures.iterates.rest in
     let are = c.spans.ensures.are
-        ∙ ap (left_of (at_words IsWhitespace is_whitespace).spans) rest in
+    ∙ ap (left_of (at_words IsWhitespace is_whitespace).spans) rest in
     let spans = subst (λ spans. spans ≡ piece_in span ∷ left.items) are steps.0 in
     let words = subst (λ words. words ≡ text_of span.text ∷ items_of left.items) same
     (subst (λ spans. items_of spans ≡ text_of span.text ∷ items_of left.items) (sym spans) refl) in

@@ -3,7 +3,7 @@ use Rattle.std.specs.List.{flat_map}
 use Rattle.ascii_run.proofs.PlainRunLemmas.{shown_all, shown_more}
 use Rattle.ascii_devices.proofs.BufferedLemmas.{AppendsBytes-is, AppendsBytes-nil}
 use Rattle.ascii_devices.proofs.BufferedLemmas.{AppendsBytes-trans, MayFail-still}
-use Rattle.ascii_run.proofs.ListLemmas.{sent_more}
+use Rattle.ascii_devices.proofs.ListLemmas.{sent_more}
 use Rattle.ascii_run.proofs.modes.mapped.put_mapped.Goals as goal
 
 pub segments-init : goal.segments-init

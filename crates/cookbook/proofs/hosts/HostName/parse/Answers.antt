@@ -3,7 +3,7 @@ use Rattle.ascii.specs.Spans.{PieceSpans, piece_in}
 use Rattle.ascii.specs.View.{text_of}
 use Rattle.cookbook.specs.Hosts.{IsLabel}
 use Rattle.cookbook.proofs.HostLemmas.{host_of_labels, label_of_host, no_label, wrong_label}
-use Rattle.cookbook.proofs.ListLemmas.{All-map_push, map-push_front}
+use Rattle.ascii.proofs.ListLemmas.{All-map_push, map-push_front}
 use Rattle.cookbook.proofs.hosts.HostName.parse.Goals as goal
 
 pub loop-label-preserved : goal.loop-label-preserved

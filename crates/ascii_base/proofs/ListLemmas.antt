@@ -1,15 +1,50 @@
--- Facts on lists.
-use Rattle.std.proofs.Common.{◌≡◌, ℕ, ◌<◌, List, [], ◌∷◌, ◌++◌, None, Option, Some, ap, arith, inl}
-use Rattle.std.proofs.Common.{inr, length, length-append, map, refl, subst, sym, ◌∙◌}
+-- Facts on lists alone.
+use Rattle.std.proofs.Common.{◌≡◌, ◌≢◌, ℕ, ◌+◌, ◌-◌, ◌<◌, ◌≤◌, List, [], ◌∷◌, ◌++◌, length}
+use Rattle.std.proofs.Common.{get_or, take, arith, map, reverse, refl, sym, ap, ◌∙◌, None}
+use Rattle.std.proofs.Common.{Option, Some, inl, inr, length-append, subst, suc}
+use Rattle.std.proofs.lemmas.Grind.{common_steps}
+use Rattle.std.proofs.lemmas.List.{map_push, reverse-append, append_assoc, get_or-take}
+use Rattle.std.proofs.lemmas.List.{length-take, take_at}
+use Rattle.std.specs.List.{AllZip, slice_range, All, AllWithin, HoldsAt, slice_get}
 use Rattle.std.proofs.Math.Seq.{get_or-append_seam}
-use Rattle.std.proofs.lemmas.List.{append_assoc, get_or-take, get_or_default, length-take}
-use Rattle.std.proofs.lemmas.List.{map_push, take_at}
 use Rattle.std.proofs.lemmas.List.Elements.{All-cons, All-from_all_within, All-nil, All-push}
 use Rattle.std.proofs.lemmas.Option.{slice_get_cases}
-use Rattle.std.specs.List.{All, AllWithin, AllZip, HoldsAt, slice_get}
 use Rattle.std.specs.Option.{IsSomeAnd, MatchOption}
-use Rattle.ascii.specs.Bytes.{IsFirstNot}
-use Rattle.ascii.specs.First.{IsFirstAt}
+use Rattle.ascii_base.specs.First.{IsFirstAt}
+
+-- a byte of `&bytes[s..e]` is the byte of the source s positions later
+pub slice_range-at : (bytes : List ℕ) (s e k : ℕ) → k < e - s
+    → get_or (slice_range bytes s e) k 0 ≡ get_or bytes (s + k) 0
+slice_range-at bytes s e k h = grind (arith, common_steps)
+
+-- the length of `&bytes[s..e]`
+pub length-slice_range : (bytes : List ℕ) (s e : ℕ) → s ≤ e → e ≤ length bytes
+    → length (slice_range bytes s e) ≡ e - s
+length-slice_range bytes s e a b = grind (arith, common_steps)
+
+-- a list that ends in some items is not empty
+pub append-some : {X : Type 0} (xs ys : List X) → ys ≢ [] → xs ++ ys ≢ []
+append-some [] ys some = some
+append-some (x ∷ xs) ys some = λ none. cc
+
+-- what becomes of the items in reverse
+pub map-reverse : {A B : Type 0} (f : A → B) (xs : List A) → map f (reverse xs) ≡ reverse (map f xs)
+map-reverse f [] = refl
+map-reverse f (x ∷ xs) = ap (map f) (reverse-append (x ∷ []) xs) ∙ rw map_push
+    (ap (λ ys. ys ++ f x ∷ []) (map-reverse f xs) ∙ sym (reverse-append (f x ∷ []) (map f xs)))
+
+-- all but the last of two items and more
+pub front_is : {X : Type 0} (x y : X) (xs : List X)
+    → take (length (x ∷ y ∷ xs) - 1) (x ∷ y ∷ xs) ≡ x ∷ take (length (y ∷ xs) - 1) (y ∷ xs)
+front_is x y xs =
+    grind (arith, common_steps)
+
+-- two lists of any types whose items are related pair by pair, with one more pair
+pub AllZip-push : {A B : Type 0} (R : A → B → Type 0) (xs : List A) (ys : List B) (x : A) (y : B)
+    → AllZip R xs ys → R x y → AllZip R (xs ++ x ∷ []) (ys ++ y ∷ [])
+AllZip-push R [] [] x y all last = (last, tt)
+AllZip-push R (a ∷ xs) (b ∷ ys) x y all last = (all.0, AllZip-push R xs ys x y all.1 last)
+AllZip-push R xs ys x y all last = absurd all
 
 -- ---- what holds of each item
 
@@ -73,15 +108,6 @@ IsFirstAt-from_at Before Here items i inside is each = record {
       rw (get_or-take i items k d early) (each k d (omega arith) early);
 }
 
--- the first item without a property, which `position` finds
-pub IsFirstAt-position : {A : Type 0} (Is : A → Type 0) (items : List A) (found : Option ℕ)
-    → MatchOption found (AllWithin Is items 0 (length items))
-    (λ i. (i < length items) × HoldsAt (λ item. ¬ (Is item)) items i × AllWithin Is items 0 i)
-    → MatchOption found (All Is items) (IsFirstAt Is (λ item. ¬ (Is item)) items)
-IsFirstAt-position Is items None each = All-from_all_within Is items each
-IsFirstAt-position Is items (Some i) first =
-    IsFirstAt-from_at Is (λ item. ¬ (Is item)) items i first.0 first.1 first.2
-
 -- the first item with a property, which `find` finds
 pub IsFirstAt-find : {A : Type 0} (Is : A → Type 0) (items : List A) (found : Option A)
     → MatchOption found (AllWithin (λ item. ¬ (Is item)) items 0 (length items))
@@ -104,3 +130,10 @@ IsFirstAt-not_all Is items k first all = elim (slice_get_cases items k).1 [
       (subst Is at.3 (all k at.0 at.1))
   | inr past ↦ subst (λ o. IsSomeAnd o (λ item. ¬ (Is item))) past.1 first.here
 ]
+
+-- the last element of a list of two or more is that of the list without the first
+pub last_is : (c d : ℕ) (cs : List ℕ)
+    → get_or (c ∷ d ∷ cs) (length (c ∷ d ∷ cs) - 1) 0 ≡ get_or (d ∷ cs) (length (d ∷ cs) - 1) 0
+last_is c d cs =
+    let n : length (c ∷ d ∷ cs) - 1 ≡ suc (length (d ∷ cs) - 1) = omega arith in
+    ap (λ m. get_or (c ∷ d ∷ cs) m 0) n
