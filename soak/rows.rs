@@ -5,9 +5,12 @@ mod devices;
 mod edit_lists;
 mod engines;
 mod readers;
+mod searches;
 mod serving;
+mod small_texts;
 mod sources;
 mod strings;
+mod walks;
 mod writers;
 
 use crate::asked::Asked;
@@ -21,6 +24,9 @@ pub fn all() -> impl Iterator<Item = &'static Row> {
     [
         sources::ROWS,
         strings::ROWS,
+        searches::ROWS,
+        small_texts::ROWS,
+        walks::ROWS,
         commands::ROWS,
         edit_lists::ROWS,
         devices::ROWS,

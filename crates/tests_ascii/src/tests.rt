@@ -2,9 +2,6 @@
 //! made with the Rust crate; and its iterators: every script over short texts, the starts of pieces and lines, walks that
 //! are taken up again, and items that tell little of how many they are.
 
-mod both_ends;
-mod by_class;
-mod chunks;
 mod clones;
 mod decimals;
 mod folded;
@@ -16,27 +13,16 @@ mod mutable_views;
 mod notations;
 mod numbers;
 mod padding;
-mod pieces;
 mod quotes;
-mod remainders;
-mod replace;
-mod retain;
-mod searches;
 mod size_hints;
-mod small_text;
-mod small_texts;
 mod spanned;
-mod spans;
-mod split_n;
 mod split_off;
 mod strings;
 mod traits;
-mod trims;
 mod unescape;
 mod upstream_vectors;
 mod upstream_walks;
 mod views;
-mod words;
 
 ghost use Rattle.std.specs.Prelude.{IsTrue};
 
