@@ -4,6 +4,7 @@ mod commands;
 mod devices;
 mod edit_lists;
 mod engines;
+mod numbers;
 mod readers;
 mod searches;
 mod serving;
@@ -27,6 +28,7 @@ pub fn all() -> impl Iterator<Item = &'static Row> {
         searches::ROWS,
         small_texts::ROWS,
         walks::ROWS,
+        numbers::ROWS,
         commands::ROWS,
         edit_lists::ROWS,
         devices::ROWS,

@@ -3,7 +3,6 @@
 //! are taken up again, and items that tell little of how many they are.
 
 mod clones;
-mod decimals;
 mod folded;
 mod joins;
 mod json;
@@ -11,7 +10,6 @@ mod long_texts;
 mod maps;
 mod mutable_views;
 mod notations;
-mod numbers;
 mod padding;
 mod quotes;
 mod size_hints;
