@@ -11,6 +11,7 @@ mod serving;
 mod small_texts;
 mod sources;
 mod strings;
+mod views;
 mod walks;
 mod writers;
 
@@ -24,6 +25,7 @@ pub type Row = (&'static str, fn(&mut Rows));
 pub fn all() -> impl Iterator<Item = &'static Row> {
     [
         sources::ROWS,
+        views::ROWS,
         strings::ROWS,
         searches::ROWS,
         small_texts::ROWS,

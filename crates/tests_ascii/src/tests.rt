@@ -8,7 +8,6 @@ mod joins;
 mod json;
 mod long_texts;
 mod maps;
-mod mutable_views;
 mod notations;
 mod padding;
 mod quotes;
@@ -24,7 +23,6 @@ mod views;
 
 ghost use Rattle.std.specs.Prelude.{IsTrue};
 
-use std::alloc::Global;
 use std::fmt::Debug;
 use std::process::Abort;
 
@@ -33,9 +31,4 @@ fn assert_same<T: PartialEq + Debug + Drop>(rt: &impl Abort, got: T, want: T, so
     ensures { IsTrue (T.eq got want) }
 {
     testing::compare(got, want, source).expect(rt, "got differs from want")
-}
-
-/// Fails the test if the `{:?}` output of `got` is not `want`.
-fn assert_shows<T: Debug>(rt: &impl Abort, alloc: Global, got: &T, want: &str) {
-    testing::compare_debug(alloc, got, want).expect(rt, "the output of {:?} differs")
 }
