@@ -6,6 +6,7 @@ mod edit_lists;
 mod engines;
 mod numbers;
 mod readers;
+mod rewrites;
 mod searches;
 mod serving;
 mod small_texts;
@@ -31,6 +32,7 @@ pub fn all() -> impl Iterator<Item = &'static Row> {
         small_texts::ROWS,
         walks::ROWS,
         numbers::ROWS,
+        rewrites::ROWS,
         commands::ROWS,
         edit_lists::ROWS,
         devices::ROWS,

@@ -4,19 +4,13 @@
 
 mod clones;
 mod folded;
-mod joins;
 mod json;
 mod long_texts;
 mod maps;
-mod notations;
-mod padding;
-mod quotes;
 mod size_hints;
 mod spanned;
-mod split_off;
 mod strings;
 mod traits;
-mod unescape;
 mod upstream_vectors;
 mod upstream_walks;
 mod views;
