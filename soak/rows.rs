@@ -4,7 +4,10 @@ mod commands;
 mod devices;
 mod edit_lists;
 mod engines;
+mod json_values;
+mod maps;
 mod numbers;
+mod places;
 mod readers;
 mod rewrites;
 mod searches;
@@ -33,6 +36,9 @@ pub fn all() -> impl Iterator<Item = &'static Row> {
         walks::ROWS,
         numbers::ROWS,
         rewrites::ROWS,
+        places::ROWS,
+        maps::ROWS,
+        json_values::ROWS,
         commands::ROWS,
         edit_lists::ROWS,
         devices::ROWS,

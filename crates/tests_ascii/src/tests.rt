@@ -1,14 +1,9 @@
-//! Each public call of `ascii` on sources whose outcome is known from outside: worked examples, and tables that were
-//! made with the Rust crate; and its iterators: every script over short texts, the starts of pieces and lines, walks that
-//! are taken up again, and items that tell little of how many they are.
+//! What the differential test cannot ask of `ascii`: vectors that were made with the Rust crate, generic code at the types
+//! of a caller, the traits of std, what errors print, and long texts for the calls that may give up.
 
 mod clones;
-mod folded;
-mod json;
 mod long_texts;
-mod maps;
 mod size_hints;
-mod spanned;
 mod strings;
 mod traits;
 mod upstream_vectors;
