@@ -1,10 +1,12 @@
 //! Rows: calls whose answers are known from a table, from std or from a plain loop.
 
+mod characters;
 mod commands;
 mod devices;
 mod edit_lists;
 mod engines;
 mod json_values;
+mod kernels;
 mod maps;
 mod numbers;
 mod places;
@@ -28,6 +30,8 @@ pub type Row = (&'static str, fn(&mut Rows));
 /// All rows, one subject after another.
 pub fn all() -> impl Iterator<Item = &'static Row> {
     [
+        characters::ROWS,
+        kernels::ROWS,
         sources::ROWS,
         views::ROWS,
         strings::ROWS,
