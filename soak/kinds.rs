@@ -1,19 +1,24 @@
 //! The kinds of questions.
 
-mod characters;
+pub mod characters;
 pub mod conversions;
 pub mod edits;
 pub mod engines;
+pub mod json_values;
 pub mod lines;
+pub mod maps;
+pub mod numbers;
+pub mod places;
 pub mod prints;
 mod recipes;
-mod searches;
+pub mod rewrites;
+pub mod searches;
 pub mod slices;
 pub mod texts;
 #[cfg(upstream)]
 mod upstream;
 pub mod walks;
-mod words;
+pub mod words;
 
 use crate::asked::Asked;
 use crate::random::Random;
@@ -64,11 +69,17 @@ pub static KINDS: &[Kind] = &[
     long("characters", 4, characters::tests),
     kind("pairs of characters", characters::pairs),
     kind("caret notation", characters::carets),
+    kind("conversions of characters", characters::conversions),
+    kind("sets of characters", characters::set),
     long("classes, their runs and words", 2, words::class),
+    kind("marks of several bytes", words::marks),
     kind("views", slices::views),
     kind("slices", slices::parts),
     kind("mutable slices", slices::part_mut),
     kind("positions", slices::position),
+    kind("views that are not checked", slices::unchecked),
+    kind("sources equal to a text", slices::equal_sources),
+    kind("ranges", slices::range),
     kind("kernels", texts::kernels),
     kind("kernels that change case", texts::case_in_place),
     kind("kernels that compare", texts::equal_bytes),
@@ -88,15 +99,32 @@ pub static KINDS: &[Kind] = &[
     kind("pieces with starts", walks::split_spans),
     kind("pieces in other forms", walks::pieces_by_form),
     kind("pieces at a text", walks::pieces_at),
+    kind("numbers of pieces and lines", walks::counts),
+    kind("pieces and lines by lists of ends", walks::walks),
     kind("lines", walks::lines),
     kind("lines with starts", walks::line_spans),
     kind("characters by scripts", walks::chars),
     kind("characters of a view", walks::chars_of_view),
     kind("words", walks::words),
     kind("chunks", walks::chunks),
-    kind("numbers read", words::numbers),
-    kind("numbers appended", words::decimals),
+    long("numbers read", 2, numbers::numbers),
+    kind("numbers of a radix read", numbers::of_radix),
+    kind("numbers appended", numbers::decimals),
+    kind("decimal numbers read", numbers::decimal),
+    kind("decimal numbers written", numbers::decimal_written),
+    kind("hexadecimal digits appended", numbers::hex),
     kind("characters kept", words::retain),
+    kind("texts in another notation", rewrites::notation),
+    kind("texts with escapes", rewrites::unescaped),
+    kind("quoted texts", rewrites::quoted),
+    kind("joined pieces", rewrites::joined),
+    kind("repeated texts", rewrites::repeated),
+    kind("texts filled up to a width", rewrites::padded),
+    kind("edits of a range", rewrites::range_edits),
+    kind("parts with starts", places::spanned),
+    kind("lines and columns", places::place),
+    kind("maps of texts", maps::maps),
+    kind("maps of std", maps::std_maps),
     kind("conversions", conversions::all),
     kind("round trips", conversions::round_trips),
     kind("pieces written", conversions::written),
@@ -105,7 +133,9 @@ pub static KINDS: &[Kind] = &[
     kind("strings cut in two", conversions::split_off),
     kind("printed texts", prints::texts),
     kind("printed characters", prints::characters),
-    kind("JSON texts", prints::json),
+    kind("JSON texts", json_values::texts),
+    kind("JSON values", json_values::values),
+    kind("JSON characters", json_values::characters),
     long("edits", 4, edits::string),
     long("edits of inline strings", 4, edits::small),
     long("capacities", 2, edits::capacities),
@@ -114,6 +144,7 @@ pub static KINDS: &[Kind] = &[
     kind("steps of a reader", lines::steps),
     kind("a reader that fails", lines::failing_reader),
     kind("collected lines", lines::collected),
+    kind("blocks of lines", lines::blocks),
     kind("written lines", lines::written),
     kind("a writer that fails", lines::failing_writer),
     kind("conversations", lines::conversations),

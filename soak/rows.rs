@@ -1,13 +1,24 @@
 //! Rows: calls whose answers are known from a table, from std or from a plain loop.
 
+mod characters;
 mod commands;
 mod devices;
 mod edit_lists;
 mod engines;
+mod json_values;
+mod kernels;
+mod maps;
+mod numbers;
+mod places;
 mod readers;
+mod rewrites;
+mod searches;
 mod serving;
+mod small_texts;
 mod sources;
 mod strings;
+mod views;
+mod walks;
 mod writers;
 
 use crate::asked::Asked;
@@ -19,8 +30,19 @@ pub type Row = (&'static str, fn(&mut Rows));
 /// All rows, one subject after another.
 pub fn all() -> impl Iterator<Item = &'static Row> {
     [
+        characters::ROWS,
+        kernels::ROWS,
         sources::ROWS,
+        views::ROWS,
         strings::ROWS,
+        searches::ROWS,
+        small_texts::ROWS,
+        walks::ROWS,
+        numbers::ROWS,
+        rewrites::ROWS,
+        places::ROWS,
+        maps::ROWS,
+        json_values::ROWS,
         commands::ROWS,
         edit_lists::ROWS,
         devices::ROWS,

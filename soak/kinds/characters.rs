@@ -3,6 +3,7 @@
 use crate::asked::{Answer, Asked};
 use crate::calls;
 use crate::random::Random;
+use std::collections::HashSet;
 
 /// Numbers next to the borders of ASCII, bytes and the types.
 const NUMBERS: [i64; 12] = [-129, -128, -1, 0, 126, 127, 128, 255, 256, 0xd800, 0x10_ffff, 0x1_0000_0000];
@@ -19,9 +20,13 @@ pub fn numbers(random: &mut Random) -> Vec<i64> {
 
 pub fn of_numbers(random: &mut Random, asked: &mut Asked) {
     let numbers = numbers(random);
-    calls::ask_characters_of(asked, &numbers);
+    ask_characters_of(&numbers, asked);
+}
+
+pub fn ask_characters_of(numbers: &[i64], asked: &mut Asked) {
+    calls::ask_characters_of(asked, numbers);
     for number in numbers {
-        let code = (0..128).contains(&number).then_some(number as usize);
+        let code = (0..128).contains(number).then_some(*number as usize);
         (0..5).for_each(|_| asked.want.position(code));
     }
 }
@@ -61,8 +66,12 @@ fn letters(code: u8, want: &mut Answer) {
 
 pub fn tests(random: &mut Random, asked: &mut Asked) {
     let (codes, radix) = (codes(random, 128), random.below(37) as u32);
-    calls::ask_characters(asked, &codes, radix);
-    for code in codes {
+    ask_characters(&codes, radix, asked);
+}
+
+pub fn ask_characters(codes: &[u8], radix: u32, asked: &mut Asked) {
+    calls::ask_characters(asked, codes, radix);
+    for code in codes.iter().copied() {
         let want = &mut asked.want;
         letters(code, want);
         want.flag(matches!(code, 9 | 32));
@@ -92,18 +101,59 @@ pub fn pairs(random: &mut Random, asked: &mut Asked) {
             codes[at] = codes[at - 1] ^ *random.pick(&[0, 0x20, 1, 0x40]);
         }
     }
-    calls::ask_character_pairs(asked, &codes);
+    ask_pairs(&codes, asked);
+}
+
+pub fn ask_pairs(codes: &[u8], asked: &mut Asked) {
+    calls::ask_character_pairs(asked, codes);
     for pair in codes.chunks_exact(2) {
         asked.want.flag(pair[0].eq_ignore_ascii_case(&pair[1]));
         asked.want.order(pair[0].cmp(&pair[1]));
+        asked.want.flag(true);
     }
 }
 
 pub fn carets(random: &mut Random, asked: &mut Asked) {
-    let codes = codes(random, 256);
-    calls::ask_carets(asked, &codes);
-    for code in codes {
+    ask_carets(&codes(random, 256), asked);
+}
+
+pub fn ask_carets(codes: &[u8], asked: &mut Asked) {
+    calls::ask_carets(asked, codes);
+    for code in codes.iter().copied() {
         asked.want.position(matches!(code, 0..=31 | 127).then_some(usize::from(code ^ 64)));
         asked.want.position(matches!(code, 63..=95).then_some(usize::from(code ^ 64)));
     }
+}
+
+pub fn conversions(random: &mut Random, asked: &mut Asked) {
+    ask_conversions(&codes(random, 256), asked);
+}
+
+/// The character of a code by nine calls, in upper and in lower case, and its code three times.
+pub fn ask_conversions(codes: &[u8], asked: &mut Asked) {
+    calls::ask_character_conversions(asked, codes);
+    for code in codes {
+        let want = &mut asked.want;
+        if !code.is_ascii() {
+            want.text("not an ASCII character");
+            want.text("not an ASCII character not an ASCII character");
+            continue;
+        }
+        (0..9).for_each(|_| want.number(usize::from(*code)));
+        want.number(usize::from(code.to_ascii_uppercase()));
+        want.number(usize::from(code.to_ascii_lowercase()));
+        (0..3).for_each(|_| want.number(usize::from(*code)));
+    }
+}
+
+pub fn set(random: &mut Random, asked: &mut Asked) {
+    ask_set(&codes(random, 128), asked);
+}
+
+/// Whether each code is new in a set, and how many are in it.
+pub fn ask_set(codes: &[u8], asked: &mut Asked) {
+    calls::ask_character_set(asked, codes);
+    let mut seen = HashSet::new();
+    codes.iter().for_each(|code| asked.want.flag(seen.insert(code)));
+    asked.want.number(seen.len());
 }

@@ -9,16 +9,17 @@ pub fn all(random: &mut Random, asked: &mut Asked) {
     ask_all(&source(random), asked);
 }
 
-/// A copy and an owned source are each the text, or the position of the error; an owned source is then returned.
+/// A copy and an owned source are each the text, or the position of the error and the source that is returned.
 pub fn ask_all(source: &[u8], asked: &mut Asked) {
     calls::ask_conversions(asked, source);
     let times = if std::str::from_utf8(source).is_ok() { 2 } else { 1 };
     for _ in 0..times {
         match non_ascii(source) {
             Some(at) => {
-                asked.want.number(at);
-                asked.want.number(at);
-                asked.want.text(source);
+                for _ in 0..2 {
+                    asked.want.number(at);
+                    asked.want.text(source);
+                }
             }
             None => (0..2).for_each(|_| asked.want.text(source)),
         }
@@ -32,7 +33,8 @@ pub fn round_trips(random: &mut Random, asked: &mut Asked) {
 
 pub fn ask_round_trips(text: &[u8], asked: &mut Asked) {
     calls::ask_round_trips(asked, text);
-    (0..5).for_each(|_| asked.want.text(&text));
+    (0..9).for_each(|_| asked.want.text(text));
+    text.iter().take(1).for_each(|code| asked.want.text([*code]));
 }
 
 /// Whether a piece is appended, and the text after that, some times.
@@ -66,27 +68,41 @@ pub fn any_character(random: &mut Random) -> char {
 
 pub fn character_written(random: &mut Random, asked: &mut Asked) {
     let (text, ch) = (random.text(), any_character(random));
-    calls::ask_character_written(asked, ch as u32, &text);
-    appended(text, ch.to_string().as_bytes(), 1, &mut asked.want);
+    ask_character_written(ch, &text, asked);
+}
+
+pub fn ask_character_written(ch: char, text: &[u8], asked: &mut Asked) {
+    calls::ask_character_written(asked, ch as u32, text);
+    appended(text.to_vec(), ch.to_string().as_bytes(), 1, &mut asked.want);
 }
 
 pub fn collected(random: &mut Random, asked: &mut Asked) {
     let text = random.text();
-    let code = random.code_of(&text);
-    calls::ask_collected(asked, code, &text);
+    ask_collected(random.code_of(&text), &text, asked);
+}
+
+/// The characters collected, and then appended; the pieces at a character collected, and then the lines appended.
+pub fn ask_collected(code: u8, text: &[u8], asked: &mut Asked) {
+    calls::ask_collected(asked, code, text);
+    asked.want.text(text);
+    asked.want.flag(true);
+    asked.want.text(text.repeat(2));
     let mut string: Vec<u8> = text.iter().copied().filter(|other| *other != code).collect();
     asked.want.text(&string);
     asked.want.flag(true);
-    string.extend(super::walks::lines_of(&text).iter().flat_map(|line| &text[line.start..line.end]));
+    string.extend(super::walks::lines_of(text).iter().flat_map(|line| &text[line.start..line.end]));
     asked.want.text(string);
 }
 
 pub fn split_off(random: &mut Random, asked: &mut Asked) {
     let text = random.text();
-    let at = random.place(text.len());
-    calls::ask_split_off(asked, at, &text);
+    ask_split_off(random.place(text.len()), &text, asked);
+}
+
+pub fn ask_split_off(at: usize, text: &[u8], asked: &mut Asked) {
+    calls::ask_split_off(asked, at, text);
     if at <= text.len() {
-        asked.want.text(&text[at..]);
-        asked.want.text(&text[..at]);
+        let (before, after) = text.split_at(at);
+        [after, before, before, after].iter().for_each(|part| asked.want.text(part));
     }
 }

@@ -1,7 +1,7 @@
 //! The modes of both engines, by plain loops.
 
+use super::json_values::{json_codes, quoted};
 use super::lines::{long_source, slow};
-use super::prints::{json_codes, quoted};
 use super::slices::non_ascii;
 use super::walks::{ending, lines_of, take};
 use crate::asked::{items_of, Answer, Asked, Item};

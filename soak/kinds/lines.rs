@@ -114,6 +114,33 @@ pub fn ask_collected(model: &mut Model<'_>, source: &[u8], size: usize, device: 
     }
 }
 
+pub fn blocks(random: &mut Random, asked: &mut Asked) {
+    let (source, size) = source_and_size(random);
+    let (device, most) = (slow(random), random.count(6));
+    ask_block(&mut Model::new(&source, size), &source, size, device, most, asked);
+}
+
+/// Asks for the lines up to an empty one, at most `most`.
+pub fn ask_block(model: &mut Model<'_>, source: &[u8], size: usize, device: Device, most: usize, asked: &mut Asked) {
+    calls::ask_block(asked, source, size, &device, most);
+    put_block(model, most, &mut asked.want);
+    asked.want.number(model.start);
+}
+
+fn put_block(model: &mut Model<'_>, most: usize, want: &mut Answer) {
+    for _ in 0..most {
+        let line = model.next_line();
+        if line.is_ok_and(|(_, body, _)| body.is_empty()) {
+            return want.text("empty");
+        }
+        put_line(line, want);
+        if line.is_err() {
+            return;
+        }
+    }
+    want.text("full");
+}
+
 fn break_in(text: &[u8]) -> Option<usize> {
     text.iter().position(|byte| *byte == b'\r' || *byte == b'\n')
 }

@@ -1,4 +1,4 @@
-//! Printed texts and characters, by std, and JSON by a plain loop.
+//! Printed texts and characters, by std.
 
 use super::characters::codes;
 use super::string;
@@ -43,37 +43,4 @@ pub fn characters(random: &mut Random, asked: &mut Asked) {
     let (form, codes) = (random.below(FORMS), codes(random, 128));
     calls::ask_printed_characters(asked, form as u8, &codes);
     codes.iter().for_each(|code| asked.want.text(printed(form, &(*code as char))));
-}
-
-/// The codes of a JSON string, without its quotes.
-pub fn json_codes(bytes: &[u8]) -> Vec<u8> {
-    let mut out = Vec::new();
-    for byte in bytes {
-        match byte {
-            b'"' => out.extend(b"\\\""),
-            b'\\' => out.extend(b"\\\\"),
-            8 => out.extend(b"\\b"),
-            9 => out.extend(b"\\t"),
-            10 => out.extend(b"\\n"),
-            12 => out.extend(b"\\f"),
-            13 => out.extend(b"\\r"),
-            0..=31 => out.extend(format!("\\u{byte:04x}").bytes()),
-            _ => out.push(*byte),
-        }
-    }
-    out
-}
-
-pub fn quoted(bytes: &[u8]) -> Vec<u8> {
-    [b"\"".as_slice(), &json_codes(bytes), b"\""].concat()
-}
-
-pub fn json(random: &mut Random, asked: &mut Asked) {
-    ask_json(&random.text(), asked);
-}
-
-pub fn ask_json(text: &[u8], asked: &mut Asked) {
-    calls::ask_json(asked, text);
-    asked.want.text(quoted(text));
-    asked.want.text(text);
 }

@@ -1,14 +1,16 @@
 //! Searches and cuts, by std's `str`.
 
 use super::string;
+use super::walks::take_forward;
 use crate::asked::Asked;
 use crate::calls;
 use crate::random::Random;
+use std::collections::VecDeque;
 
 /// Asks for a needle in a text.
-fn find(text: String, needle: String, asked: &mut Asked) {
+pub fn ask_find(text: &str, needle: &str, asked: &mut Asked) {
     calls::ask_find(asked, text.as_bytes(), needle.as_bytes());
-    let (text, needle, want) = (text.as_str(), needle.as_str(), &mut asked.want);
+    let want = &mut asked.want;
     let (low, lower) = (text.to_ascii_lowercase(), needle.to_ascii_lowercase());
     let starts = low.starts_with(&lower);
     want.position(text.find(needle));
@@ -21,12 +23,16 @@ fn find(text: String, needle: String, asked: &mut Asked) {
     want.part(text.strip_prefix(needle));
     want.part(text.strip_suffix(needle));
     want.part(starts.then(|| &text[needle.len()..]));
+    want.position(low.find(&lower));
+    want.flag(low.contains(&lower));
+    // An empty text occurs nowhere.
+    want.number(if needle.is_empty() { 0 } else { text.matches(needle).count() });
 }
 
 pub fn text(random: &mut Random, asked: &mut Asked) {
     let text = random.text();
     let needle = random.needle(&text);
-    find(string(text), string(needle), asked);
+    ask_find(&string(text), &string(needle), asked);
 }
 
 /// A needle that mostly is a prefix or a suffix of the text in another case.
@@ -35,7 +41,7 @@ pub fn folded(random: &mut Random, asked: &mut Asked) {
     let at = random.count(text.len());
     let part = if random.below(2) == 0 { &text[at..] } else { &text[..at] };
     let needle = random.other(part);
-    find(string(text), string(needle), asked);
+    ask_find(&string(text), &string(needle), asked);
 }
 
 pub fn character(random: &mut Random, asked: &mut Asked) {
@@ -50,19 +56,37 @@ pub fn character(random: &mut Random, asked: &mut Asked) {
 }
 
 pub fn splitn(random: &mut Random, asked: &mut Asked) {
-    let text = random.text();
+    let (text, script) = (random.text(), random.script(3));
     let code = random.code_of(&text);
     let n = if random.once_in(8) { random.place(text.len()) } else { random.below(6) };
-    calls::ask_splitn(asked, n, code, &text);
-    string(text).splitn(n, code as char).for_each(|piece| asked.want.text(piece));
+    ask_splitn(n, code, &string(text), &script, asked);
+}
+
+/// The first pieces by a script from the front, each with what remains, which begins where the next piece does.
+pub fn ask_splitn(n: usize, code: u8, text: &str, script: &[u8], asked: &mut Asked) {
+    calls::ask_splitn(asked, n, code, text.as_bytes(), script);
+    let mut pieces: VecDeque<&str> = text.splitn(n, code as char).collect();
+    let rest = |pieces: &VecDeque<&str>| {
+        let left = pieces.iter().map(|piece| piece.len() + 1).sum::<usize>().checked_sub(1);
+        left.map(|left| &text[text.len() - left..])
+    };
+    asked.want.part(rest(&pieces));
+    for number in script {
+        asked.want.part(take_forward(&mut pieces, *number));
+        asked.want.part(rest(&pieces));
+    }
 }
 
 pub fn replace(random: &mut Random, asked: &mut Asked) {
     let text = random.text();
     let (needle, text) = (string(random.needle(&text)), string(text));
     let to = string(random.short_text());
+    ask_replace(&text, &needle, &to, asked);
+}
+
+pub fn ask_replace(text: &str, needle: &str, to: &str, asked: &mut Asked) {
     calls::ask_replace(asked, text.as_bytes(), needle.as_bytes(), to.as_bytes());
     if !needle.is_empty() {
-        asked.want.text(text.replace(&needle, &to));
+        asked.want.text(text.replace(needle, to));
     }
 }

@@ -1,7 +1,7 @@
 //! Parts of bytes, texts and views, by std's `get`.
 
 use crate::asked::{Answer, Asked};
-use crate::calls;
+use crate::calls::{self, Step};
 use crate::random::Random;
 
 /// The bounds of a range in one of the six forms, if it fits.
@@ -75,9 +75,13 @@ pub fn ask_parts(form: usize, a: usize, b: usize, source: &[u8], asked: &mut Ask
 }
 
 pub fn part_mut(random: &mut Random, asked: &mut Asked) {
-    let (form, mut source) = (random.below(6), random.bytes());
+    let (form, source) = (random.below(6), random.bytes());
     let (a, b) = random.places(source.len());
-    let code = random.code_of(b"");
+    ask_part_mut(form, a, b, random.code_of(b""), source, asked);
+}
+
+/// A part that is changed to upper case, and whose first character is set, in a source whose other bytes are unchanged.
+pub fn ask_part_mut(form: usize, a: usize, b: usize, code: u8, mut source: Vec<u8>, asked: &mut Asked) {
     let mut want = source.clone();
     calls::ask_slice_mut(asked, form as u8, a, b, code, &mut source);
     match bounds(form, a, b, want.len()) {
@@ -118,5 +122,50 @@ pub fn ask_position(at: usize, source: &[u8], asked: &mut Asked) {
         if at < source.len() {
             want.position(code(source.get(at)));
         }
+    }
+}
+
+pub fn unchecked(random: &mut Random, asked: &mut Asked) {
+    ask_unchecked(random.text(), asked);
+}
+
+/// Views of a text that are not checked; the last one makes it lower case.
+pub fn ask_unchecked(mut text: Vec<u8>, asked: &mut Asked) {
+    calls::ask_unchecked_views(asked, &text);
+    (0..6).for_each(|_| asked.want.text(&text));
+    asked.want.number(text.len());
+    asked.want.flag(text.is_empty());
+    let want = text.to_ascii_lowercase();
+    calls::ask_unchecked_view_mut(asked, &mut text);
+    asked.want.text(&want);
+    asked.compare(&text, &want);
+}
+
+pub fn equal_sources(random: &mut Random, asked: &mut Asked) {
+    let text = random.text();
+    let other = if random.below(2) == 0 { random.unicode() } else { random.other(&text) };
+    ask_equal_sources(&text, &other, asked);
+}
+
+/// Whether bytes, and a `str` if they are UTF-8, are those of a text.
+pub fn ask_equal_sources(text: &[u8], other: &[u8], asked: &mut Asked) {
+    calls::ask_equal_sources(asked, text, other);
+    let times = 1 + usize::from(std::str::from_utf8(other).is_ok());
+    (0..times).for_each(|_| asked.want.flag(text == other));
+}
+
+pub fn range(random: &mut Random, asked: &mut Asked) {
+    let (form, length) = (random.below(6), random.length());
+    let (a, b) = random.places(length);
+    ask_range(form, a, b, length, bounds(form, a, b, length), asked);
+}
+
+/// Whether a range fits a length, and its bounds if it does.
+pub fn ask_range(form: usize, a: usize, b: usize, length: usize, expected: Option<(usize, usize)>, asked: &mut Asked) {
+    calls::ask_ranges(asked, &[Step { kind: 0, code: form as u8, at: length, start: a, end: b }]);
+    asked.want.flag(expected.is_some());
+    if let Some((start, end)) = expected {
+        asked.want.number(start);
+        asked.want.number(end);
     }
 }

@@ -34,23 +34,35 @@ fn blanks(random: &mut Random) -> Vec<u8> {
 }
 
 pub fn kernels(random: &mut Random, asked: &mut Asked) {
-    let source = blanks(random);
-    calls::ask_kernels(asked, &source);
-    kernel_answers(&source, &mut asked.want);
+    ask_kernels(&blanks(random), asked);
+}
+
+pub fn ask_kernels(source: &[u8], asked: &mut Asked) {
+    calls::ask_kernels(asked, source);
+    kernel_answers(source, &mut asked.want);
 }
 
 pub fn case_in_place(random: &mut Random, asked: &mut Asked) {
-    let (to_upper, mut source) = (random.below(2) == 0, random.bytes());
+    let to_upper = random.below(2) == 0;
+    ask_case_in_place(to_upper, &mut random.bytes(), asked);
+}
+
+pub fn ask_case_in_place(to_upper: bool, source: &mut [u8], asked: &mut Asked) {
     let want = if to_upper { source.to_ascii_uppercase() } else { source.to_ascii_lowercase() };
-    calls::ask_case_in_place(asked, to_upper, &mut source);
-    asked.want.text(want);
+    calls::ask_case_in_place(asked, to_upper, source);
+    asked.want.text(&want);
+    asked.compare(source, &want);
 }
 
 pub fn equal_bytes(random: &mut Random, asked: &mut Asked) {
     let first = random.bytes();
     let second = random.other(&first);
-    calls::ask_equal_bytes(asked, &first, &second);
-    asked.want.flag(first.eq_ignore_ascii_case(&second));
+    ask_equal_bytes(&first, &second, asked);
+}
+
+pub fn ask_equal_bytes(first: &[u8], second: &[u8], asked: &mut Asked) {
+    calls::ask_equal_bytes(asked, first, second);
+    asked.want.flag(first.eq_ignore_ascii_case(second));
 }
 
 /// The end of a page after which memory may not be read or written.
@@ -100,17 +112,23 @@ pub fn trims(random: &mut Random, asked: &mut Asked) {
         text.splice(0..0, vec![b' '; random.count(40)]);
         text.resize(text.len() + random.count(40), b'\t');
     }
-    calls::ask_trims(asked, &text);
+    ask_trims(&super::string(text), asked);
+}
+
+pub fn ask_trims(text: &str, asked: &mut Asked) {
+    calls::ask_trims(asked, text.as_bytes());
     let white = |c: char| is_white(c as u8);
-    let text = super::string(text);
     asked.want.text(text.trim_matches(white));
     asked.want.text(text.trim_start_matches(white));
     asked.want.text(text.trim_end_matches(white));
 }
 
 pub fn cases(random: &mut Random, asked: &mut Asked) {
-    let text = random.text();
-    calls::ask_cases(asked, &text);
+    ask_cases(&random.text(), asked);
+}
+
+pub fn ask_cases(text: &[u8], asked: &mut Asked) {
+    calls::ask_cases(asked, text);
     for _ in 0..2 {
         asked.want.text(text.to_ascii_uppercase());
         asked.want.text(text.to_ascii_lowercase());
@@ -126,12 +144,18 @@ pub fn pair(random: &mut Random) -> (Vec<u8>, Vec<u8>) {
 
 pub fn comparisons(random: &mut Random, asked: &mut Asked) {
     let (first, second) = pair(random);
-    calls::ask_comparisons(asked, &first, &second);
+    ask_comparisons(&first, &second, asked);
+}
+
+pub fn ask_comparisons(first: &[u8], second: &[u8], asked: &mut Asked) {
+    calls::ask_comparisons(asked, first, second);
     let (low, lower) = (first.to_ascii_lowercase(), second.to_ascii_lowercase());
     (0..3).for_each(|_| asked.want.flag(first == second));
     (0..2).for_each(|_| asked.want.flag(low == lower));
-    asked.want.order(first.cmp(&second));
+    asked.want.order(first.cmp(second));
     asked.want.order(low.cmp(&lower));
+    asked.want.flag(true);
+    asked.want.flag(low < lower);
 }
 
 pub fn owned_comparisons(random: &mut Random, asked: &mut Asked) {
@@ -144,6 +168,7 @@ pub fn ask_owned_comparisons(first: &[u8], second: &[u8], order: Ordering, asked
     for _ in 0..2 {
         asked.want.flag(order == Ordering::Equal);
         asked.want.order(order);
+        asked.want.flag(true);
     }
 }
 

@@ -27,15 +27,8 @@ impl Answer {
         }
     }
 
-    fn conversion<O>(&mut self, made: Result<AsciiString, FromAsciiError<O>>) {
-        match made {
-            Ok(string) => self.text(string.as_bytes()),
-            Err(error) => self.number(error.ascii_error().valid_up_to()),
-        }
-    }
-
-    /// A conversion of an owned source, which is returned if it is not ASCII.
-    fn owned_conversion<O: AsRef<[u8]>>(&mut self, made: Result<AsciiString, FromAsciiError<O>>) {
+    /// A conversion of a source, which is returned if it is not ASCII.
+    fn conversion<O: AsRef<[u8]>>(&mut self, made: Result<AsciiString, FromAsciiError<O>>) {
         match made {
             Ok(string) => self.text(string.as_bytes()),
             Err(error) => {
@@ -210,6 +203,8 @@ pub fn comparisons(random: &mut Random, asked: &mut Asked) {
     want.flag(first.eq_ignore_ascii_case(second));
     want.order(first.cmp(second));
     want.order(first.to_ascii_lowercase().cmp(&second.to_ascii_lowercase()));
+    want.flag(true);
+    want.flag(first.to_ascii_lowercase() < second.to_ascii_lowercase());
 }
 
 /// The items of an iterator of the crate by `next`, `next_back` and `nth(1)`, each with the remainder after it, as the
@@ -258,6 +253,9 @@ pub fn chars(random: &mut Random, asked: &mut Asked) {
         let ch = if *number == 0 { chars.next() } else { chars.next_back() };
         asked.want.character(ch);
         asked.want.text(chars.as_str().as_bytes());
+        let (least, most) = chars.size_hint();
+        asked.want.number(least);
+        asked.want.position(most);
     }
 }
 
@@ -266,10 +264,10 @@ pub fn conversions(random: &mut Random, asked: &mut Asked) {
     calls::ask_conversions(asked, &source);
     let want = &mut asked.want;
     want.conversion(source[..].into_ascii_string());
-    want.owned_conversion(source.clone().into_ascii_string());
+    want.conversion(source.clone().into_ascii_string());
     if let Ok(text) = std::str::from_utf8(&source) {
         want.conversion(text.into_ascii_string());
-        want.owned_conversion(text.to_string().into_ascii_string());
+        want.conversion(text.to_string().into_ascii_string());
     }
 }
 

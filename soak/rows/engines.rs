@@ -6,7 +6,7 @@ use crate::asked::Answer;
 use crate::calls::{self, Device, ERRORS, WHOLE};
 use crate::kinds::edits::Commands;
 use crate::kinds::engines::{bounded_output, expect, expect_bounded, output, put_failures, BOUNDED};
-use crate::kinds::prints::{ask_json, quoted};
+use crate::kinds::json_values::{ask_json, quoted};
 
 pub static ROWS: &[Row] = &[
     ("each_mode_over_memory", over_memory),

@@ -1,9 +1,10 @@
 //! Readers of lines: all short texts, and rows by hand. What a call answers is that of `line_model`.
 
+use super::small_texts::texts_of;
 use super::{Row, Rows};
 use crate::asked::Asked;
 use crate::calls::{self, Device, Step, WHOLE};
-use crate::kinds::lines::{ask_collected, ask_lines, ask_steps};
+use crate::kinds::lines::{ask_block, ask_collected, ask_lines, ask_steps};
 use crate::line_model::{put_line, put_stop, Model, Stop};
 
 pub static ROWS: &[Row] = &[
@@ -11,6 +12,7 @@ pub static ROWS: &[Row] = &[
     ("lines_of_every_short_text_by_endings", by_endings),
     ("calls_over_every_short_text", calls_over_texts),
     ("collected_lines", collected),
+    ("blocks_of_every_short_text", blocks),
     ("lines_that_just_fit", just_fit),
     ("a_byte_above_127_at_each_position_of_lines", other_bytes),
     ("a_read_fails_at_each_call", failed_reads),
@@ -30,25 +32,18 @@ fn giving(most: usize) -> Device {
     Device { most, ..WHOLE }
 }
 
-/// Every text of some codes up to a length.
-fn texts_of(codes: &[u8], longest: usize) -> Vec<Vec<u8>> {
-    let mut all = vec![Vec::new()];
-    let mut from = 0;
-    for _ in 0..longest {
-        for at in from..all.len() {
-            from = at + 1;
-            for code in codes {
-                all.push([&all[at][..], &[*code]].concat());
-            }
-        }
-    }
-    all
-}
-
 fn every_short_text(rows: &mut Rows) {
     for text in texts_of(b"\n\ra", 6) {
         for (size, most) in (0..8).flat_map(|size| [(size, 1), (size, 100)]) {
             rows.ask(|asked| ask_collected(&mut Model::new(&text, size), &text, size, giving(most), asked));
+        }
+    }
+}
+
+fn blocks(rows: &mut Rows) {
+    for text in texts_of(b"\r\na\x80", 5) {
+        for (size, most) in (0..5).flat_map(|size| (0..5).map(move |most| (size, most))) {
+            rows.ask(|asked| ask_block(&mut Model::new(&text, size), &text, size, giving(1), most, asked));
         }
     }
 }

@@ -1,11 +1,14 @@
 //! Strings: their hashes, and what an inline string is.
 
+use super::commands::{commands_of, Cmd};
 use super::{Row, Rows};
 use crate::asked::{items_of, Item};
 use crate::calls::{self, Step};
-use crate::kinds::conversions::{ask_round_trips, ask_written};
-use crate::kinds::prints::ask_printed;
-use crate::kinds::texts::{ask_hashes, ask_owned_comparisons};
+use crate::kinds::conversions::{ask_all, ask_character_written, ask_collected, ask_round_trips, ask_written};
+use crate::kinds::json_values::ask_json;
+use crate::kinds::prints::{ask_printed, FORMS};
+use crate::kinds::texts::{ask_cases, ask_hashes, ask_owned_comparisons};
+use crate::kinds::walks::{ask_lines, ask_split};
 
 pub static ROWS: &[Row] = &[
     ("every_text_type_has_one_hash", hashes),
@@ -15,6 +18,10 @@ pub static ROWS: &[Row] = &[
     ("strings_in_rising_order", rising),
     ("printed_strings", printed),
     ("only_ascii_is_written", written),
+    ("single_edits_of_a_string", single_edits),
+    ("sources_that_are_taken_over", taken_over),
+    ("collected_characters_and_texts", collected),
+    ("calls_that_allocate_over_long_texts", long_texts),
 ];
 
 /// Texts, and the hash of their bytes by Rust's `DefaultHasher`, as `rustc` 1.95 prints it.
@@ -64,7 +71,7 @@ fn in_an_allocation(rows: &mut Rows) {
 }
 
 fn conversions(rows: &mut Rows) {
-    for text in ["", "abc", "abcdefghijklmnopqrstuvwxyz"] {
+    for text in ["", "A", "( ;", "abc", "abcdefghijklmnopqrstuvwxyz"] {
         rows.ask(|asked| ask_round_trips(text.as_bytes(), asked));
     }
 }
@@ -89,13 +96,77 @@ fn printed(rows: &mut Rows) {
         calls::ask_printed(asked, 1, b"\0\t'\\\x7f");
         (0..4).for_each(|_| asked.want.text("\"\\0\\t'\\\\\\u{7f}\""));
     });
-    for form in 0..crate::kinds::prints::FORMS {
-        rows.ask(|asked| ask_printed(form, "\0\t'\\\x7f", asked));
+    for (form, text) in (0..FORMS).flat_map(|form| ["\0\t'\\\x7f", "a\"b", "abc"].map(|text| (form, text))) {
+        rows.ask(|asked| ask_printed(form, text, asked));
     }
 }
 
 fn written(rows: &mut Rows) {
-    for (text, piece) in [("", "ab"), ("ab", "cé"), ("ab", "λ"), ("ab", "-"), ("ab-", "1 of  20")] {
+    for (text, piece) in
+        [("", "ab"), ("ab", "cé"), ("ab", "λ"), ("ab", "-"), ("ab-", "1 of  20"), ("Hello ", "World 9")]
+    {
         rows.ask(|asked| ask_written(text.as_bytes(), piece.as_bytes(), asked));
+    }
+    for (text, ch) in [("ab", 'é'), ("ab", 'c'), ("", '\u{80}'), ("", '\x7f')] {
+        rows.ask(|asked| ask_character_written(ch, text.as_bytes(), asked));
+    }
+}
+
+/// A text, a command over it, the answer of a command that has one, and the text after it.
+type Edit = (&'static str, Cmd, Option<u8>, &'static str);
+
+static SINGLE_EDITS: [Edit; 8] = [
+    ("", Cmd::Push(b'x'), None, "x"),
+    ("x", Cmd::Pop, Some(b'x'), ""),
+    ("foo", Cmd::Remove(0), Some(b'f'), "oo"),
+    ("oo", Cmd::Remove(1), Some(b'o'), "o"),
+    ("o", Cmd::Remove(0), Some(b'o'), ""),
+    ("foo", Cmd::Insert(2, b'b'), None, "fobo"),
+    ("hello", Cmd::Truncate(2), None, "he"),
+    ("hello world\0", Cmd::Set(0, b'H'), None, "Hello world\0"),
+];
+
+fn single_edits(rows: &mut Rows) {
+    for (text, cmd, answer, after) in SINGLE_EDITS {
+        let commands = commands_of(&[cmd]);
+        for is_small in [false, true] {
+            rows.ask(|asked| {
+                calls::ask_edits(asked, is_small, text.as_bytes(), &commands.texts, &commands.steps);
+                match answer {
+                    Some(code) => asked.want.number(usize::from(code)),
+                    None => asked.want.text("done"),
+                }
+                asked.want.text(after);
+            });
+        }
+    }
+}
+
+fn taken_over(rows: &mut Rows) {
+    let sources: [&[u8]; 5] = ["bø!".as_bytes(), "zoä华".as_bytes(), &[127, 128, 255], &[40, 32, 59], b""];
+    for source in sources {
+        rows.ask(|asked| ask_all(source, asked));
+    }
+}
+
+fn collected(rows: &mut Rows) {
+    for (text, code) in
+        [("abc", b','), ("a,b,,c", b','), ("one\ntwo\nthree", b' '), ("ASCII Ascii ascii", b' '), ("", b',')]
+    {
+        rows.ask(|asked| ask_collected(code, text.as_bytes(), asked));
+    }
+}
+
+/// Texts of `a` of 0, 1, 33 and 5,000 codes: each call that allocates for them returns them.
+fn long_texts(rows: &mut Rows) {
+    for length in [0, 1, 33, 5_000] {
+        let text = vec![b'a'; length];
+        rows.ask(|asked| ask_all(&text, asked));
+        rows.ask(|asked| ask_round_trips(&text, asked));
+        rows.ask(|asked| ask_cases(&text, asked));
+        rows.ask(|asked| ask_collected(b',', &text, asked));
+        rows.ask(|asked| ask_json(&text, asked));
+        rows.ask(|asked| ask_split(b'a', &text, &vec![0; length.min(1_000)], asked));
+        rows.ask(|asked| ask_lines(&text, &vec![0; length], asked));
     }
 }

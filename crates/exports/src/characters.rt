@@ -3,7 +3,9 @@
 ghost use Rattle.std.specs.Prelude.{◌≤◌};
 
 use crate::answer::Answer;
-use ascii::{AsciiChar, ToAsciiChar, caret_decode, caret_encode};
+use ascii::{AsciiChar, ToAsciiChar, ToAsciiCharError, caret_decode, caret_encode};
+use std::alloc::Global;
+use std::collections::HashSet;
 
 /// For each number: the character of that number as a `u8`, an `i8`, a `u16`, a `u32` and a `char`.
 pub fn ask_characters_of(numbers: &[i64], room: &mut [u8]) -> usize {
@@ -73,18 +75,80 @@ fn other_tests(ch: AsciiChar) -> [bool; 8] {
     ]
 }
 
-/// For each pair of ASCII codes, one after the other: whether they are equal, ignoring case, and their order.
+/// For each pair of ASCII codes, one after the other: whether they are equal, ignoring case, and their order, also as what
+/// may be missing.
 pub fn ask_character_pairs(codes: &[u8], room: &mut [u8]) -> usize {
     let mut answer = Answer::new(room);
     for pair in codes.chunks(2) {
         if let [first, second] = pair {
             if let (Ok(first), Ok(second)) = (first.to_ascii_char(), second.to_ascii_char()) {
-                answer.flag(first.eq_ignore_ascii_case(&second));
-                answer.order(first.cmp(&second));
+                put_pair(first, second, &mut answer);
             }
         }
     }
     answer.finish()
+}
+
+fn put_pair(first: AsciiChar, second: AsciiChar, answer: &mut Answer<'_>) {
+    answer.flag(first.eq_ignore_ascii_case(&second));
+    answer.order(first.cmp(&second));
+    answer.flag(first.partial_cmp(&second) == Some(first.cmp(&second)));
+}
+
+/// For each byte: the character of that number by each call that does not check it, in both cases if they are made in place,
+/// and as a byte and a `char`; or, if it is above 127, what the error prints.
+pub fn ask_character_conversions(alloc: Global, codes: &[u8], room: &mut [u8]) -> usize {
+    let mut answer = Answer::new(room);
+    for code in codes {
+        match code.to_ascii_char() {
+            Ok(ch) => put_conversions(*code, ch, &mut answer),
+            Err(error) => put_error(alloc, error, &mut answer),
+        }
+    }
+    answer.finish()
+}
+
+fn put_error(alloc: Global, error: ToAsciiCharError, answer: &mut Answer<'_>) {
+    answer.name(error.description());
+    if let Ok(text) = format!(in alloc; "{error} {error:?}") {
+        answer.name(text.as_str());
+    }
+}
+
+/// For each ASCII code, whether a set of std lacks the characters before it; and how many are in the set then.
+pub fn ask_character_set(alloc: Global, codes: &[u8], room: &mut [u8]) -> usize {
+    let mut answer = Answer::new(room);
+    let mut seen = HashSet::new(alloc);
+    for code in codes {
+        if let Ok(ch) = AsciiChar::from_ascii(*code) {
+            answer.flag(seen.insert(ch).ok().unwrap_or_default());
+        }
+    }
+    answer.number(seen.len());
+    answer.finish()
+}
+
+fn put_conversions(code: u8, ch: AsciiChar, answer: &mut Answer<'_>) {
+    if code < 128 {
+        answer.character(Some(AsciiChar::new(code as char)));
+        answer.character(Some(AsciiChar::from_ascii_unchecked(code)));
+        answer.character(Some(code.to_ascii_char_unchecked()));
+        answer.character(Some((code as i8).to_ascii_char_unchecked()));
+        answer.character(Some(u16::from(code).to_ascii_char_unchecked()));
+        answer.character(Some(u32::from(code).to_ascii_char_unchecked()));
+        answer.character(Some((code as char).to_ascii_char_unchecked()));
+    }
+    answer.character(ch.to_ascii_char().ok());
+    answer.character(Some(ch.to_ascii_char_unchecked()));
+    let mut upper: AsciiChar = ch;
+    upper.make_ascii_uppercase();
+    answer.character(Some(upper));
+    let mut lower: AsciiChar = ch;
+    lower.make_ascii_lowercase();
+    answer.character(Some(lower));
+    answer.long(u64::from(u8::from(ch)));
+    answer.long(u64::from(u32::from(ch.as_char())));
+    answer.long(u64::from(u32::from(char::from(ch))));
 }
 
 /// For each byte: what it is in caret notation, and what it is read as there.

@@ -10,8 +10,8 @@ use crate::walks::ending_name;
 use ascii::iter::Ending;
 use ascii::{AsciiChar, AsciiStr, bytes};
 use ascii_lines::{
-    Duplex, Endings, Handler, Input, LineChannel, LineError, LineReader, LineWriter, Next, Output,
-    Replies, Sink, SkippedLine, Stop, WriteError, collect_lines, serve,
+    BlockEnd, Duplex, Endings, Handler, Input, LineChannel, LineError, LineReader, LineWriter,
+    Next, Output, Replies, Sink, SkippedLine, Stop, WriteError, collect_lines, read_block, serve,
 };
 use std::alloc::{Allocator, Global};
 
@@ -148,6 +148,44 @@ pub fn ask_collected_lines(
         }
     }
     answer.finish()
+}
+
+/// The lines up to an empty one, at most `most`, that a reader with a buffer of `size` bytes returns, why there are no more,
+/// and the position after them.
+pub fn ask_block(
+    alloc: Global,
+    source: &[u8],
+    size: usize,
+    device: &Device,
+    most: usize,
+    room: &mut [u8],
+) -> usize {
+    let mut answer = Answer::new(room);
+    let source = Input::new(Given::new(source, *device));
+    if let Ok(mut reader) = LineReader::new(alloc, source, size, Endings::Any) {
+        if let Ok(block) = read_block(alloc, &mut reader, most) {
+            for line in &block.lines {
+                put_line(
+                    line.start,
+                    line.text.as_ascii_str(),
+                    line.ending,
+                    &mut answer,
+                );
+            }
+            put_block_end(block.end, &mut answer);
+        }
+        answer.long(reader.position());
+    }
+    answer.finish()
+}
+
+fn put_block_end(end: BlockEnd, answer: &mut Answer<'_>) {
+    match end {
+        BlockEnd::EmptyLine => answer.name("empty"),
+        BlockEnd::EndOfInput => answer.none(),
+        BlockEnd::Full => answer.name("full"),
+        BlockEnd::Reader(error) => put_error(error, answer),
+    }
 }
 
 /// What a writer with a buffer of `size` bytes returns to each step, the number of calls of its sink, and what that

@@ -1,9 +1,9 @@
-//! Printed texts and characters, and JSON. The number of a form is its index in `print`.
+//! Printed texts and characters. The number of a form is its index in `print`.
 
 ghost use Rattle.std.specs.Str.{IsAscii};
 
 use crate::answer::Answer;
-use ascii::{AsciiChar, bytes, json};
+use ascii::{AsciiChar, bytes};
 use ascii_keys::FoldedStr;
 use ascii_run::SmallAsciiString;
 use std::alloc::{AllocError, Global};
@@ -73,20 +73,4 @@ fn print<T: fmt::Display + fmt::Debug>(
         10 => format!(in alloc; "{value:>5}"),
         _ => format!(in alloc; "{value:^1}"),
     }
-}
-
-/// The JSON text of a view, and the string read back from its value.
-pub fn ask_json(alloc: Global, source: &[u8], room: &mut [u8]) -> usize
-    requires { IsAscii source.now }
-{
-    let mut answer = Answer::new(room);
-    if let Ok(value) = bytes::as_ascii_str_unchecked(source).to_json(alloc) {
-        if let Ok(text) = format!(in alloc; "{value}") {
-            answer.name(text.as_str());
-        }
-        if let Ok(string) = json::string_from_json(alloc, &value) {
-            answer.text(string.as_ascii_str());
-        }
-    }
-    answer.finish()
 }

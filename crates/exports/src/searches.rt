@@ -3,11 +3,13 @@
 ghost use Rattle.std.specs.Str.{IsAscii};
 
 use crate::answer::Answer;
+use crate::walks::step_forward;
 use ascii::{AsciiChar, bytes};
 use std::alloc::Global;
 
 /// The first and the last position of a needle, and the two sides of both; whether the text contains it, starts with it
-/// and ends with it, the last two also ignoring case; and the text without it at the start and at the end.
+/// and ends with it, the last two also ignoring case; the text without it at the start and at the end; its first position
+/// and whether the text contains it, ignoring case; and how often it occurs.
 pub fn ask_find(source: &[u8], needle: &[u8], room: &mut [u8]) -> usize
     requires source { IsAscii source.now }
     requires needle { IsAscii needle.now }
@@ -27,6 +29,9 @@ pub fn ask_find(source: &[u8], needle: &[u8], room: &mut [u8]) -> usize
     answer.part(view.strip_prefix(needle));
     answer.part(view.strip_suffix(needle));
     answer.part(view.strip_prefix_ignore_ascii_case(needle));
+    answer.position(view.find_ignore_ascii_case(needle));
+    answer.flag(view.contains_ignore_ascii_case(needle));
+    answer.number(view.count(needle));
     answer.finish()
 }
 
@@ -45,15 +50,18 @@ pub fn ask_find_character(code: u8, source: &[u8], room: &mut [u8]) -> usize
     answer.finish()
 }
 
-/// At most `n` pieces at a character.
-pub fn ask_splitn(n: usize, code: u8, source: &[u8], room: &mut [u8]) -> usize
+/// At most `n` pieces at a character by a script from the front, each with what remains; before them what remains at first.
+pub fn ask_splitn(n: usize, code: u8, source: &[u8], script: &[u8], room: &mut [u8]) -> usize
     requires { IsAscii source.now }
 {
     let view = bytes::as_ascii_str_unchecked(source);
     let mut answer = Answer::new(room);
     if let Ok(on) = AsciiChar::from_ascii(code) {
-        for piece in view.splitn(n, on) {
-            answer.text(piece);
+        let mut pieces = view.splitn(n, on);
+        answer.part(pieces.remainder());
+        for number in script {
+            answer.part(step_forward(&mut pieces, *number));
+            answer.part(pieces.remainder());
         }
     }
     answer.finish()

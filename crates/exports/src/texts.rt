@@ -66,27 +66,31 @@ pub fn ask_cases(alloc: Global, source: &[u8], room: &mut [u8]) -> usize
     answer.finish()
 }
 
-/// Whether two texts are equal and which is the lesser one, with case and without.
+/// Whether two texts are equal and which is the lesser one, with case and without; and whether the order that may be missing
+/// is there.
 pub fn ask_comparisons(first: &[u8], second: &[u8], room: &mut [u8]) -> usize
     requires first { IsAscii first.now }
     requires second { IsAscii second.now }
 {
     let view = bytes::as_ascii_str_unchecked(first);
     let other = bytes::as_ascii_str_unchecked(second);
+    let (folded, other_folded) = (FoldedStr::new(view), FoldedStr::new(other));
     let mut answer = Answer::new(room);
     answer.flags(&[
         view == other,
         view.eq_str(other.as_str()),
         view.eq_bytes(second),
         view.eq_ignore_ascii_case(other),
-        FoldedStr::new(view) == FoldedStr::new(other),
+        folded == other_folded,
     ]);
     answer.order(view.cmp(&other));
-    answer.order(FoldedStr::new(view).cmp(&FoldedStr::new(other)));
+    answer.order(folded.cmp(&other_folded));
+    answer.flag(view.partial_cmp(&other) == Some(view.cmp(&other)));
+    answer.flag(folded < other_folded);
     answer.finish()
 }
 
-/// Whether two texts are equal and which is the lesser one, as strings and as inline strings.
+/// Whether two texts are equal and which is the lesser one, also as what may be missing; as strings and as inline strings.
 pub fn ask_owned_comparisons(alloc: Global, first: &[u8], second: &[u8], room: &mut [u8]) -> usize
     requires first { IsAscii first.now }
     requires second { IsAscii second.now }
@@ -116,6 +120,7 @@ fn compare<T: Ord + Drop>(
     if let (Ok(first), Ok(second)) = (first, second) {
         answer.flag(first == second);
         answer.order(first.cmp(&second));
+        answer.flag(first.partial_cmp(&second) == Some(first.cmp(&second)));
     }
 }
 

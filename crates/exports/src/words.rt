@@ -1,25 +1,24 @@
-//! Classes of characters, numbers, and characters that are kept.
+//! Classes of characters, and characters that are kept.
 
+ghost use Rattle.std.specs.Prelude.{◌≤◌, length};
 ghost use Rattle.std.specs.Str.{IsAscii};
 
 use crate::answer::Answer;
-use crate::walks::{start_and_text, step};
+use crate::walks::put_items;
 use ascii::classes::{
-    Alphabetic, Alphanumeric, Ascii, AsciiWhitespace, Atom, Blank, Control, Digit, FieldText,
-    Graphic, Hexdigit, Label, Lowercase, Printable, Punctuation, Quotable, Searched, Token,
-    Uppercase, Whitespace,
+    Alphabetic, Alphanumeric, Ascii, AsciiWhitespace, Atom, Blank, ClassBy, Control, Digit,
+    FieldText, Graphic, Hexdigit, Label, Lowercase, Printable, Punctuation, Quotable, Searched,
+    Token, Uppercase, Whitespace,
 };
 use ascii::{AsciiChar, AsciiStr, bytes, kernels};
-use ascii_formats::numbers::{Number, NumberError};
-use ascii_formats::{AsciiStrExt, AsciiStringExt};
 use cookbook::identifiers::Identifier;
-use itoa::Integer;
 use std::alloc::Global;
 
 /// The number of a class is its index in the list of `ask_class`.
 ///
-/// Which of the bytes are in the class, the first and the last one that is not and that is; and of a text
-/// its run at the start, the text without the class at its ends, and its words, runs and pieces by a script.
+/// Which of the bytes are in the class, the first and the last one that is not and that is, and the ends of the run outside
+/// it at either end; and of a text the first character that is not in it, whether all are, its run at the start, the text
+/// without the class at its ends, and its words, runs and pieces by a script.
 pub fn ask_class(class: u8, source: &[u8], script: &[u8], room: &mut [u8]) -> usize {
     let mut answer = Answer::new(room);
     match class {
@@ -55,7 +54,11 @@ fn search<C: Searched>(source: &[u8], script: &[u8], answer: &mut Answer<'_>) {
     answer.position(kernels::last_not::<C>(source));
     answer.position(kernels::first_of::<C>(source));
     answer.position(kernels::last_of::<C>(source));
+    answer.number(kernels::run_end::<C>(source, 0, false));
+    answer.number(kernels::run_start::<C>(source, source.len(), false));
     if let Ok(view) = bytes::as_ascii_str(source) {
+        answer.position(view.first_not::<C>());
+        answer.flag(view.is_all::<C>());
         let (run, rest) = view.span::<C>();
         answer.text(run);
         answer.text(rest);
@@ -67,103 +70,38 @@ fn search<C: Searched>(source: &[u8], script: &[u8], answer: &mut Answer<'_>) {
 }
 
 fn walk_words<C: Searched>(view: AsciiStr<'_>, script: &[u8], answer: &mut Answer<'_>) {
-    let mut words = view.words::<C>();
-    let mut spans = view.words::<C>().spans();
-    let mut runs = view.runs::<C>().spans();
-    let mut pieces = view.split_by::<C>().spans();
-    for number in script {
-        answer.part(step(&mut words, *number));
-        answer.part(words.remainder());
-        answer.span(start_and_text(step(&mut spans, *number)));
-        answer.span(start_and_text(step(&mut runs, *number)));
-        answer.span(start_and_text(step(&mut pieces, *number)));
-    }
+    let words = view.words::<C>().spans();
+    put_items(view.words::<C>(), words, script, answer);
+    let runs = view.runs::<C>().spans();
+    put_items(view.runs::<C>(), runs, script, answer);
+    let pieces = view.split_by::<C>().spans();
+    put_items(view.split_by::<C>(), pieces, script, answer);
 }
 
-/// The number that a text writes and the one at its start, as each of the unsigned types.
-pub fn ask_numbers(alloc: Global, source: &[u8], room: &mut [u8]) -> usize
-    requires { IsAscii source.now }
-{
-    let view = bytes::as_ascii_str_unchecked(source);
+/// The marks of the bytes that are not in a class, of 4 and of 8 bytes from each position on: those of the digits, of the
+/// codes of a token and of whitespace.
+pub fn ask_marks(source: &[u8], room: &mut [u8]) -> usize {
     let mut answer = Answer::new(room);
-    read_number::<u8>(alloc, view, &mut answer);
-    read_number::<u16>(alloc, view, &mut answer);
-    read_number::<u32>(alloc, view, &mut answer);
-    read_number::<u64>(alloc, view, &mut answer);
-    read_number::<u128>(alloc, view, &mut answer);
-    read_number::<usize>(alloc, view, &mut answer);
+    for at in 0..source.len() {
+        put_marks::<Digit>(source, at, &mut answer);
+        put_marks::<Token>(source, at, &mut answer);
+        put_marks::<Whitespace>(source, at, &mut answer);
+    }
     answer.finish()
 }
 
-fn read_number<N: Number + std::string::ToString + Drop>(
-    alloc: Global,
-    view: AsciiStr<'_>,
-    answer: &mut Answer<'_>,
-) {
-    match view.to_number::<N>() {
-        Ok(n) => put_number(alloc, n, answer),
-        Err(error) => put_error(error, answer),
-    }
-    match view.take_number::<N>() {
-        Ok((n, rest)) => {
-            put_number(alloc, n, answer);
-            answer.text(rest);
-        }
-        Err(error) => put_error(error, answer),
-    }
-}
-
-fn put_number<N: std::string::ToString + Drop>(alloc: Global, n: N, answer: &mut Answer<'_>) {
-    if let Ok(digits) = n.to_string(alloc) {
-        answer.name(digits.as_str());
-    }
-}
-
-fn put_error(error: NumberError, answer: &mut Answer<'_>) {
-    match error {
-        NumberError::Empty => answer.name("empty"),
-        NumberError::NotDigit(position) => answer.fault("digit", position),
-        NumberError::TooLarge(position) => answer.fault("large", position),
-    }
-}
-
-/// A text with the digits of numbers appended, each as some types. `high` and `low` are the bits of a `u128` and an
-/// `i128`, and `low` those of the shorter types, as far as it fits them.
-pub fn ask_decimals(alloc: Global, high: u64, low: u64, source: &[u8], room: &mut [u8]) -> usize
-    requires { IsAscii source.now }
+fn put_marks<C: Searched>(source: &[u8], at: usize, answer: &mut Answer<'_>)
+    requires { at ≤ length source.now }
 {
-    let view = bytes::as_ascii_str_unchecked(source);
-    let long = (u128::from(high) << 64) | u128::from(low);
-    let signed = i64::from_le_bytes(low.to_le_bytes());
-    let mut answer = Answer::new(room);
-    push_digits(alloc, Some(long), view, &mut answer);
-    push_digits(
-        alloc,
-        Some(i128::from_le_bytes(long.to_le_bytes())),
-        view,
-        &mut answer,
-    );
-    push_digits(alloc, Some(low), view, &mut answer);
-    push_digits(alloc, Some(signed), view, &mut answer);
-    push_digits(alloc, i32::try_from(signed).ok(), view, &mut answer);
-    push_digits(alloc, u16::try_from(low).ok(), view, &mut answer);
-    push_digits(alloc, i8::try_from(signed).ok(), view, &mut answer);
-    answer.finish()
-}
-
-fn push_digits<I: Integer>(
-    alloc: Global,
-    number: Option<I>,
-    view: AsciiStr<'_>,
-    answer: &mut Answer<'_>,
-) {
-    if let (Some(number), Ok(mut string)) = (number, view.to_ascii_string(alloc)) {
-        answer.flag(string.push_decimal(number).is_ok());
-        answer.text(string.as_ascii_str());
+    if 4 <= source.len() - at {
+        answer.long(<C as ClassBy<4>>::marks(source, at));
+    }
+    if 8 <= source.len() - at {
+        answer.long(<C as ClassBy<8>>::marks(source, at));
     }
 }
 
-/// A text without a character.
+/// A text without a character, and whether it is empty then.
 pub fn ask_retain(alloc: Global, code: u8, source: &[u8], room: &mut [u8]) -> usize
     requires { IsAscii source.now }
 {
@@ -174,6 +112,7 @@ pub fn ask_retain(alloc: Global, code: u8, source: &[u8], room: &mut [u8]) -> us
         view.to_ascii_string(alloc),
     ) {
         string.retain(|ch| ch != other);
+        answer.flag(string.is_empty());
         answer.text(string.as_ascii_str());
     }
     answer.finish()

@@ -1,46 +1,17 @@
-//! Each public call of `ascii` on sources whose outcome is known from outside: worked examples, and tables that were
-//! made with the Rust crate; and its iterators: every script over short texts, the starts of pieces and lines, walks that
-//! are taken up again, and items that tell little of how many they are.
+//! What the differential test cannot ask of `ascii`: vectors that were made with the Rust crate, generic code at the types
+//! of a caller, the traits of std, what errors print, and long texts for the calls that may give up.
 
-mod both_ends;
-mod by_class;
-mod chunks;
 mod clones;
-mod decimals;
-mod folded;
-mod joins;
-mod json;
 mod long_texts;
-mod maps;
-mod mutable_views;
-mod notations;
-mod numbers;
-mod padding;
-mod pieces;
-mod quotes;
-mod remainders;
-mod replace;
-mod retain;
-mod searches;
 mod size_hints;
-mod small_text;
-mod small_texts;
-mod spanned;
-mod spans;
-mod split_n;
-mod split_off;
 mod strings;
 mod traits;
-mod trims;
-mod unescape;
 mod upstream_vectors;
 mod upstream_walks;
 mod views;
-mod words;
 
 ghost use Rattle.std.specs.Prelude.{IsTrue};
 
-use std::alloc::Global;
 use std::fmt::Debug;
 use std::process::Abort;
 
@@ -49,9 +20,4 @@ fn assert_same<T: PartialEq + Debug + Drop>(rt: &impl Abort, got: T, want: T, so
     ensures { IsTrue (T.eq got want) }
 {
     testing::compare(got, want, source).expect(rt, "got differs from want")
-}
-
-/// Fails the test if the `{:?}` output of `got` is not `want`.
-fn assert_shows<T: Debug>(rt: &impl Abort, alloc: Global, got: &T, want: &str) {
-    testing::compare_debug(alloc, got, want).expect(rt, "the output of {:?} differs")
 }

@@ -1,7 +1,7 @@
 //! Each call that takes memory, on texts of 0, 1, 33 and 5,000 bytes: nothing gives up past a length.
 
 use ascii::iter::{End, walk_lines, walk_split};
-use ascii::json::{char_from_json, char_to_json, string_from_json};
+use ascii::json::string_from_json;
 use ascii::{
     AsciiChar, AsciiStr, AsciiString, BoxedAsciiStr, CloneBuffer, NewBuffer, RcAsciiStr, Text,
     bytes, text,
@@ -144,11 +144,6 @@ fn walks(rt: HostRuntime) {
 #[test]
 fn json(rt: HostRuntime) {
     let alloc = rt.alloc();
-    for code in 0..128 {
-        let ch = AsciiChar::from_ascii_unchecked(code);
-        let value = char_to_json(alloc, ch).expect(&rt, "refused");
-        assert!(rt; char_from_json(&value) == Ok(ch), "{code}");
-    }
     for length in LENGTHS {
         let string = long_string(&rt, length);
         match string_from_json(alloc, &string.to_json(alloc).expect(&rt, "refused")) {

@@ -1,11 +1,18 @@
 //! Vectors that were made with the Rust crate.
 
-use super::views::outcome;
-use ascii::{AsciiChar, AsciiRange, bytes, text};
+use ascii::{AsAsciiStrError, AsciiChar, AsciiRange, AsciiStr, bytes, text};
 use std::alloc::{AllocError, Global};
 use std::cmp::Ordering;
 use std::process::Abort;
 use testing::{ascii, assert_row};
+
+/// The outcome of a slice: its text, or the position of the error.
+fn outcome(slice: Result<AsciiStr<'_>, AsAsciiStrError>) -> Result<&str, usize> {
+    match slice {
+        Ok(view) => Ok(view.as_str()),
+        Err(error) => Err(error.valid_up_to()),
+    }
+}
 
 // For sources of length 0, 1 and 33 the outcomes of the ranges in the order of `ranges`: `w` for the
 // whole source, `e` for no byte, `f` for the first byte, `r` for an error, which holds the length.

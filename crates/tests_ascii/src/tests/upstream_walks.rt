@@ -1,8 +1,55 @@
 //! Walks that were made with the Rust crate.
 
-use super::both_ends::{lines_walked, pieces_walked};
-use ascii::AsciiChar;
-use testing::assert_row;
+use ascii::iter::{End, walk_lines, walk_split};
+use ascii::{AsciiChar, AsciiStr, AsciiString};
+use std::alloc::{AllocError, Global};
+use testing::{ascii, assert_row};
+
+/// The ends that the letters `F` and `B` name.
+fn ends(alloc: Global, letters: &str) -> Result<Vec<End>, AllocError> {
+    letters
+        .bytes()
+        .map(|letter| {
+            if letter == b'F' {
+                End::Front
+            } else {
+                End::Back
+            }
+        })
+        .collect(alloc)
+}
+
+/// The answers of a walk, each followed by a bar, with `~` for a `None`.
+fn joined(alloc: Global, answers: &[Option<AsciiStr<'_>>]) -> Result<AsciiString, AllocError> {
+    let mut text = AsciiString::new(alloc);
+    for answer in answers {
+        match answer {
+            Some(view) => text.push_str(*view)?,
+            None => text.push(AsciiChar::Tilde)?,
+        }
+        text.push(AsciiChar::VerticalBar)?;
+    }
+    Ok(text)
+}
+
+/// The answers of a walk over the pieces of a text, by the ends that letters name.
+fn pieces_walked(
+    alloc: Global,
+    source: &str,
+    on: AsciiChar,
+    letters: &str,
+) -> Result<AsciiString, AllocError> {
+    let script = ends(alloc, letters)?;
+    let answers = walk_split(alloc, ascii(source), on, &script)?;
+    joined(alloc, &answers)
+}
+
+/// The answers of a walk over the lines of a text, by the ends that letters name.
+fn lines_walked(alloc: Global, source: &str, letters: &str) -> Result<AsciiString, AllocError> {
+    let script = ends(alloc, letters)?;
+    let answers = walk_lines(alloc, ascii(source), &script)?;
+    joined(alloc, &answers)
+}
 
 // A text, ends, and what its split at a comma yields for them: a bar after each, `~` for a `None`.
 static SPLITS: [(&str, &str, &str); 24] = [

@@ -1,0 +1,80 @@
+//! Texts and characters as JSON values.
+
+ghost use Rattle.std.specs.Str.{IsAscii};
+
+use crate::answer::Answer;
+use ascii::json::JsonError;
+use ascii::{AsciiChar, bytes, json};
+use serde_json::Value;
+use std::alloc::Global;
+
+/// The JSON text of a view, and the string read back from its value.
+pub fn ask_json(alloc: Global, source: &[u8], room: &mut [u8]) -> usize
+    requires { IsAscii source.now }
+{
+    let mut answer = Answer::new(room);
+    if let Ok(value) = bytes::as_ascii_str_unchecked(source).to_json(alloc) {
+        if let Ok(text) = format!(in alloc; "{value}") {
+            answer.name(text.as_str());
+        }
+        if let Ok(string) = json::string_from_json(alloc, &value) {
+            answer.text(string.as_ascii_str());
+        }
+    }
+    answer.finish()
+}
+
+/// The text, its copy and the character that a JSON value has, of a source that is JSON.
+pub fn ask_json_value(alloc: Global, source: &[u8], room: &mut [u8]) -> usize {
+    let mut answer = Answer::new(room);
+    if let Ok(source) = str::from_utf8(source) {
+        if let Ok(value) = Value::from_str(alloc, source) {
+            put_value(alloc, &value, &mut answer);
+        }
+    }
+    answer.finish()
+}
+
+fn put_value(alloc: Global, value: &Value, answer: &mut Answer<'_>) {
+    match json::str_from_json(value) {
+        Ok(text) => answer.text(text),
+        Err(error) => put_error(error, answer),
+    }
+    match json::string_from_json(alloc, value) {
+        Ok(string) => answer.text(string.as_ascii_str()),
+        Err(error) => put_error(error, answer),
+    }
+    match json::char_from_json(value) {
+        Ok(ch) => answer.character(Some(ch)),
+        Err(error) => put_error(error, answer),
+    }
+}
+
+fn put_error(error: JsonError, answer: &mut Answer<'_>) {
+    match error {
+        JsonError::NotText => answer.name("text"),
+        JsonError::NotOneByte => answer.name("byte"),
+        JsonError::NotAscii(error) => answer.fault("ascii", error.valid_up_to()),
+        JsonError::Memory => answer.failed(),
+    }
+}
+
+/// For each ASCII code, the JSON text of its character, and the character read back from its value.
+pub fn ask_json_characters(alloc: Global, codes: &[u8], room: &mut [u8]) -> usize {
+    let mut answer = Answer::new(room);
+    for code in codes {
+        if let Ok(ch) = AsciiChar::from_ascii(*code) {
+            put_character(alloc, ch, &mut answer);
+        }
+    }
+    answer.finish()
+}
+
+fn put_character(alloc: Global, ch: AsciiChar, answer: &mut Answer<'_>) {
+    if let Ok(value) = json::char_to_json(alloc, ch) {
+        if let Ok(text) = format!(in alloc; "{value}") {
+            answer.name(text.as_str());
+        }
+        answer.character(json::char_from_json(&value).ok());
+    }
+}

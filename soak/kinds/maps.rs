@@ -1,0 +1,75 @@
+//! Maps whose keys are texts, by std's `BTreeMap`.
+
+use crate::asked::{Answer, Asked};
+use crate::calls::{self, Step};
+use crate::random::Random;
+use std::collections::BTreeMap;
+
+/// A map of std with texts as keys.
+type Map = BTreeMap<Vec<u8>, usize>;
+
+/// Steps with keys that often are those of other steps, in another case.
+fn steps(random: &mut Random) -> (Vec<u8>, Vec<Step>) {
+    let (mut texts, mut steps) = (Vec::new(), Vec::new());
+    let mut key = random.short_text();
+    for (at, kind) in random.script(4).into_iter().enumerate() {
+        match random.below(3) {
+            0 => key = random.other(&key),
+            1 => key = random.short_text(),
+            _ => (),
+        }
+        let start = texts.len();
+        texts.extend(&key);
+        steps.push(Step { kind, code: 0, at, start, end: texts.len() });
+    }
+    (texts, steps)
+}
+
+pub fn maps(random: &mut Random, asked: &mut Asked) {
+    let (texts, steps) = steps(random);
+    ask_maps(&texts, &steps, asked);
+}
+
+/// A map with keys as they are, and one with keys in lower case.
+pub fn ask_maps(texts: &[u8], steps: &[Step], asked: &mut Asked) {
+    calls::ask_maps(asked, texts, steps);
+    let (mut map, mut folded) = (Map::new(), Map::new());
+    for step in steps {
+        let key = &texts[step.start..step.end];
+        put_step(&mut map, *step, key.to_vec(), &mut asked.want);
+        put_step(&mut folded, *step, key.to_ascii_lowercase(), &mut asked.want);
+    }
+}
+
+fn put_step(map: &mut Map, step: Step, key: Vec<u8>, want: &mut Answer) {
+    match step.kind {
+        0 => want.position(map.insert(key, step.at)),
+        1 => want.position(map.get(&key).copied()),
+        2 => want.position(map.remove(&key)),
+        _ => want.flag(map.contains_key(&key)),
+    }
+    want.number(map.len());
+    want.flag(map.is_empty());
+}
+
+pub fn std_maps(random: &mut Random, asked: &mut Asked) {
+    let (texts, steps) = steps(random);
+    let key = random.other(&texts);
+    ask_std_maps(&key, &texts, &steps, asked);
+}
+
+/// What maps with folded keys have at a key after the numbers of all steps were inserted at their keys.
+pub fn ask_std_maps(key: &[u8], texts: &[u8], steps: &[Step], asked: &mut Asked) {
+    calls::ask_std_maps(asked, key, texts, steps);
+    let keys = steps.iter().map(|step| (texts[step.start..step.end].to_ascii_lowercase(), step.at));
+    let map: Map = keys.collect();
+    for is_owned in [false, true] {
+        (0..2).for_each(|_| asked.want.position(map.get(&key.to_ascii_lowercase()).copied()));
+        (0..2).for_each(|_| asked.want.number(map.len()));
+        if is_owned {
+            asked.want.flag(true);
+            asked.want.text(key);
+        }
+        asked.want.text(key);
+    }
+}

@@ -1,0 +1,201 @@
+//! Texts in another form, joined, repeated and filled-up texts, and edits of a range, by std or by plain loops.
+
+use super::slices::bounds;
+use super::string;
+use super::walks::take;
+use crate::asked::{Answer, Asked};
+use crate::calls;
+use crate::random::Random;
+use std::collections::VecDeque;
+
+/// What represents a code in a notation: for form 0 as std's `escape_ascii` writes it, otherwise in caret notation.
+fn written(form: u8, code: u8) -> Vec<u8> {
+    match (form, code) {
+        (0, _) => code.escape_ascii().collect(),
+        (_, b'\n' | 32..=126) => vec![code],
+        _ => vec![b'^', code ^ 64],
+    }
+}
+
+pub fn notation(random: &mut Random, asked: &mut Asked) {
+    let (form, text, script) = (random.below(2) as u8, random.text(), random.script(4));
+    let codes = text.iter().flat_map(|code| written(form, *code)).collect();
+    ask_notation(form, &text, codes, &script, asked);
+}
+
+/// The codes that represent a text by a script, and then the others: printed, and in reverse.
+pub fn ask_notation(form: u8, text: &[u8], mut codes: VecDeque<u8>, script: &[u8], asked: &mut Asked) {
+    calls::ask_notation(asked, form, text, script);
+    for number in script {
+        asked.want.position(take(&mut codes, *number).map(usize::from));
+    }
+    asked.want.text(codes.iter().copied().collect::<Vec<u8>>());
+    asked.want.text(codes.into_iter().rev().collect::<Vec<u8>>());
+}
+
+/// Why a text with escapes represents none.
+#[derive(Clone, Copy)]
+pub enum Escaped {
+    Invalid(usize),
+    NotAscii(usize),
+}
+
+/// The code that an escape represents, and the length of the escape.
+fn escape_at(text: &[u8]) -> Option<(u8, usize)> {
+    let code = match text.get(1)? {
+        b't' => b'\t',
+        b'r' => b'\r',
+        b'n' => b'\n',
+        quoted @ (b'\'' | b'"' | b'\\') => *quoted,
+        b'x' => {
+            let digits = [*text.get(2)?, *text.get(3)?].map(|digit| (digit as char).to_digit(16));
+            return Some(((digits[0]? * 16 + digits[1]?) as u8, 4));
+        }
+        _ => return None,
+    };
+    Some((code, 2))
+}
+
+/// The text that a text with escapes represents.
+fn unescaped_of(text: &[u8]) -> Result<Vec<u8>, Escaped> {
+    let (mut codes, mut at) = (Vec::new(), 0);
+    while at < text.len() {
+        let (code, length) = match text[at] {
+            b'\\' => escape_at(&text[at..]).ok_or(Escaped::Invalid(at))?,
+            code => (code, 1),
+        };
+        if code > 127 {
+            return Err(Escaped::NotAscii(at));
+        }
+        codes.push(code);
+        at += length;
+    }
+    Ok(codes)
+}
+
+pub fn unescaped(random: &mut Random, asked: &mut Asked) {
+    let text = match random.below(3) {
+        0 => random.text().escape_ascii().collect(),
+        1 => random.joined(&[b"\\", b"x", b"4", b"f", b"\\x41", b"\\n", b"\\\"", b"a", b"\\xff"]),
+        _ => random.text(),
+    };
+    let expected = unescaped_of(&text);
+    ask_unescaped(&text, expected, asked);
+}
+
+pub fn ask_unescaped(text: &[u8], expected: Result<impl AsRef<[u8]>, Escaped>, asked: &mut Asked) {
+    calls::ask_unescaped(asked, text);
+    match expected {
+        Ok(text) => asked.want.text(text),
+        Err(Escaped::Invalid(at)) => asked.want.fault("invalid", at),
+        Err(Escaped::NotAscii(at)) => asked.want.fault("ascii", at),
+    }
+}
+
+/// Why no quoted text is at the start of a text.
+#[derive(Clone, Copy)]
+pub enum Unquoted {
+    NoQuote,
+    NotClosed(usize),
+}
+
+/// The text between the quotes at the start of a text, and what comes after it.
+fn quoted_in(text: &[u8], quote: u8, escape: u8) -> Result<(&[u8], &[u8]), Unquoted> {
+    if text.first() != Some(&quote) {
+        return Err(Unquoted::NoQuote);
+    }
+    let mut at = 1;
+    while at < text.len() {
+        let is_doubled = text[at] == quote && escape == quote && text.get(at + 1) == Some(&quote);
+        if is_doubled || text[at] == escape && escape != quote {
+            at += 2;
+        } else if text[at] == quote {
+            return Ok((&text[1..at], &text[at + 1..]));
+        } else {
+            at += 1;
+        }
+    }
+    Err(Unquoted::NotClosed(text.len()))
+}
+
+pub fn quoted(random: &mut Random, asked: &mut Asked) {
+    let (quote, escape) = (*random.pick(b"\"\'A"), *random.pick(b"\"\\\'"));
+    let text = match random.below(2) {
+        0 => random.text(),
+        _ => random.joined(&[&[quote], &[escape], b"a", b"b c", &[quote, b'a']]),
+    };
+    ask_quoted(quote, escape, &text, quoted_in(&text, quote, escape), asked);
+}
+
+pub fn ask_quoted<T: AsRef<[u8]>>(
+    quote: u8,
+    escape: u8,
+    text: &[u8],
+    expected: Result<(T, T), Unquoted>,
+    asked: &mut Asked,
+) {
+    calls::ask_quoted(asked, quote, escape, text);
+    match expected {
+        Ok((inside, rest)) => {
+            asked.want.text(inside);
+            asked.want.text(rest);
+        }
+        Err(Unquoted::NoQuote) => asked.want.none(),
+        Err(Unquoted::NotClosed(at)) => asked.want.number(at),
+    }
+}
+
+pub fn joined(random: &mut Random, asked: &mut Asked) {
+    let (text, separator) = (random.text(), random.short_text());
+    ask_joined(random.code_of(&text), &string(text), &string(separator), asked);
+}
+
+pub fn ask_joined(code: u8, text: &str, separator: &str, asked: &mut Asked) {
+    calls::ask_joined(asked, code, text.as_bytes(), separator.as_bytes());
+    asked.want.text(text.split(code as char).collect::<Vec<&str>>().join(separator));
+}
+
+pub fn repeated(random: &mut Random, asked: &mut Asked) {
+    let (text, times) = (random.text(), random.count(9));
+    ask_repeated(times, &text, asked);
+}
+
+pub fn ask_repeated(times: usize, text: &[u8], asked: &mut Asked) {
+    calls::ask_repeated(asked, times, text);
+    asked.want.text(text.repeat(times));
+}
+
+pub fn padded(random: &mut Random, asked: &mut Asked) {
+    let (form, text, piece) = (random.below(3) as u8, random.text(), random.short_text());
+    let (code, width) = (random.code_of(b""), random.count(80));
+    let fill = width.saturating_sub(piece.len());
+    let before = [0, fill, fill / 2][usize::from(form)];
+    let filled = [vec![code; before], piece.clone(), vec![code; fill - before]].concat();
+    ask_padded(form, code, width, &text, &piece, &filled, asked);
+}
+
+pub fn ask_padded(form: u8, code: u8, width: usize, text: &[u8], piece: &[u8], filled: &[u8], asked: &mut Asked) {
+    calls::ask_padded(asked, form, code, width, text, piece);
+    asked.want.flag(true);
+    asked.want.text([text, filled].concat());
+}
+
+pub fn range_edits(random: &mut Random, asked: &mut Asked) {
+    let (form, text, piece) = (random.below(6), random.text(), random.short_text());
+    let (start, end) = random.places(text.len());
+    ask_range_edits(form, start, end, &text, &piece, asked);
+}
+
+/// A text without the part in a range, and with another text in its place; nothing if the range does not fit.
+pub fn ask_range_edits(form: usize, start: usize, end: usize, text: &[u8], piece: &[u8], asked: &mut Asked) {
+    calls::ask_range_edits(asked, form as u8, start, end, text, piece);
+    if let Some((start, end)) = bounds(form, start, end, text.len()) {
+        put_edits(&text[..start], piece, &text[end..], &mut asked.want);
+    }
+}
+
+fn put_edits(before: &[u8], piece: &[u8], after: &[u8], want: &mut Answer) {
+    want.text([before, after].concat());
+    want.flag(true);
+    want.text([before, piece, after].concat());
+}

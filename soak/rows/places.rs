@@ -1,0 +1,95 @@
+//! Parts of a text that know where they start, and lines and columns.
+
+use super::{Row, Rows};
+use crate::asked::Answer;
+use crate::calls::{self, Step};
+use crate::kinds::numbers::Fault::{Empty, NotDigit, TooLarge};
+use crate::kinds::numbers::{put_fault, Fault};
+use crate::kinds::places::ask_place;
+
+pub static ROWS: &[Row] = &[
+    ("parts_of_a_part_know_their_start", parts),
+    ("a_number_that_is_too_large_has_its_position", too_large),
+    ("every_position_has_its_line_and_column", places),
+];
+
+/// A part: its start and its text, and what it writes as a `u8`.
+type Part = (usize, &'static str, Result<usize, Fault>);
+
+fn put_part(part: Option<Part>, want: &mut Answer) {
+    let Some((start, text, number)) = part else { return want.none() };
+    want.number(start);
+    want.text(text);
+    want.number(start + text.len());
+    match number {
+        Ok(number) => want.number(number),
+        Err(fault) => put_fault(fault, want),
+    }
+}
+
+/// A step of a kind, with its code or its position, and the part that it takes.
+type Taken = (u8, u8, usize, Option<Part>);
+
+/// The kinds of steps.
+const TRIM: u8 = 0;
+const TRIM_START: u8 = 1;
+const TRIM_END: u8 = 2;
+const TRIM_BLANKS: u8 = 3;
+const BEFORE: u8 = 4;
+const AFTER: u8 = 5;
+const FROM: u8 = 7;
+const WITHOUT_PREFIX: u8 = 8;
+const AFTER_DIGITS: u8 = 10;
+
+/// Asks for the parts that steps take, each of the part before it. The texts of the steps are their prefix.
+fn ask(rows: &mut Rows, text: &str, prefix: &str, taken: &[Taken]) {
+    let step = |(kind, code, at, _): &Taken| Step { kind: *kind, code: *code, at: *at, start: 0, end: prefix.len() };
+    let steps: Vec<Step> = taken.iter().map(step).collect();
+    rows.ask(|asked| {
+        calls::ask_spanned(asked, text.as_bytes(), prefix.as_bytes(), &steps);
+        taken.iter().for_each(|taken| put_part(taken.3, &mut asked.want));
+    });
+}
+
+/// A line of settings with a comment.
+const LINE: &str = "\tport = 080 # x";
+
+/// The setting before the comment, and its value.
+const SETTING: Taken = (BEFORE, b'#', 0, Some((0, "\tport = 080 ", Err(NotDigit(0)))));
+const VALUE: Taken = (AFTER, b'=', 0, Some((7, " 080 ", Err(NotDigit(7)))));
+const KEY: Taken = (BEFORE, b'=', 0, Some((0, "\tport ", Err(NotDigit(0)))));
+const DIGITS: Taken = (TRIM_BLANKS, 0, 0, Some((8, "080", Ok(80))));
+
+fn parts(rows: &mut Rows) {
+    ask(rows, LINE, "", &[(AFTER, b'#', 0, Some((13, " x", Err(NotDigit(13)))))]);
+    for trimmed in [
+        (TRIM, 0, 0, Some((1, "port", Err(NotDigit(1))))),
+        (TRIM_START, 0, 0, Some((1, "port ", Err(NotDigit(1))))),
+        (TRIM_END, 0, 0, Some((0, "\tport", Err(NotDigit(0))))),
+        (BEFORE, b'=', 0, None),
+    ] {
+        ask(rows, LINE, "", &[SETTING, KEY, trimmed]);
+    }
+    for of_digits in [
+        (FROM, 0, 1, Some((9, "80", Ok(80)))),
+        (FROM, 0, 3, Some((11, "", Err(Empty)))),
+        (FROM, 0, 4, None),
+        (WITHOUT_PREFIX, 0, 0, Some((10, "0", Ok(0)))),
+    ] {
+        ask(rows, LINE, "08", &[SETTING, VALUE, DIGITS, of_digits]);
+    }
+    ask(rows, LINE, "8", &[SETTING, VALUE, DIGITS, (WITHOUT_PREFIX, 0, 0, None)]);
+    ask(rows, LINE, "", &[SETTING, VALUE, (AFTER_DIGITS, 0, 0, Some((7, " 080 ", Err(NotDigit(7)))))]);
+}
+
+fn too_large(rows: &mut Rows) {
+    ask(rows, "x=2560", "", &[(FROM, 0, 2, Some((2, "2560", Err(TooLarge(4)))))]);
+}
+
+fn places(rows: &mut Rows) {
+    for text in ["", "a", "\n", "ab\ncd", "\n\n", "a\r\n\nb\n", "abc\nd"] {
+        for at in 0..=text.len() + 1 {
+            rows.ask(|asked| ask_place(at, text.as_bytes(), asked));
+        }
+    }
+}

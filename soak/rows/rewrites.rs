@@ -1,0 +1,195 @@
+//! Texts in another form: escapes and carets, quotes, joined and repeated texts, texts filled up, and edits of a range.
+
+use super::{Row, Rows};
+use crate::kinds::conversions::ask_split_off;
+use crate::kinds::rewrites::Escaped::{Invalid, NotAscii};
+use crate::kinds::rewrites::Unquoted::{NoQuote, NotClosed};
+use crate::kinds::rewrites::{
+    ask_joined, ask_notation, ask_padded, ask_quoted, ask_range_edits, ask_repeated, ask_unescaped, Escaped, Unquoted,
+};
+
+pub static ROWS: &[Row] = &[
+    ("escapes_are_those_of_std", escapes),
+    ("control_characters_in_caret_notation", carets),
+    ("what_std_escapes_comes_back", escaped_by_std),
+    ("escapes_that_are_read_back", unescaped),
+    ("quoted_texts_with_a_backslash", by_backslash),
+    ("quoted_texts_with_doubled_quotes", doubled),
+    ("joined_pieces", joined),
+    ("repeated_texts", repeated),
+    ("texts_are_filled_up_as_format_does", padded),
+    ("each_range_is_replaced_and_removed", ranges),
+    ("strings_cut_in_two", cut_in_two),
+];
+
+/// The numbers of the notations.
+const ESCAPES: u8 = 0;
+const CARETS: u8 = 1;
+
+/// Scripts from the front, from the back, and from both ends, with a clone and a longer step.
+const SCRIPTS: [&[u8]; 5] = [&[], &[0; 9], &[1; 9], &[0, 1, 3, 0, 1, 1, 0, 1], &[2, 3, 1, 2, 0, 1]];
+
+/// The codes that represent a text, by each script.
+fn ask_scripts(form: u8, text: &[u8], codes: &[u8], rows: &mut Rows) {
+    for script in SCRIPTS {
+        rows.ask(|asked| ask_notation(form, text, codes.iter().copied().collect(), script, asked));
+    }
+}
+
+fn escapes(rows: &mut Rows) {
+    for text in ["", "a", "a b~", "\t\r\n", "'\"\\", "\0\x01\x1f\x7f", "a\tb\\n", "\\x41", "a\n\x1b"] {
+        ask_scripts(ESCAPES, text.as_bytes(), text.as_bytes().escape_ascii().to_string().as_bytes(), rows);
+    }
+    for code in 0..128_u8 {
+        ask_scripts(ESCAPES, &[code], code.escape_ascii().to_string().as_bytes(), rows);
+    }
+}
+
+/// A text, and caret notation for it.
+static IN_CARETS: [(&str, &str); 11] = [
+    ("", ""),
+    ("a b~", "a b~"),
+    ("a\n", "a\n"),
+    ("^", "^"),
+    ("\x7f", "^?"),
+    ("\0\x01\x02\x03\x04\x05\x06\x07", "^@^A^B^C^D^E^F^G"),
+    ("\x08\t\x0b\x0c\r\x0e\x0f", "^H^I^K^L^M^N^O"),
+    ("\x10\x11\x12\x13\x14\x15\x16\x17", "^P^Q^R^S^T^U^V^W"),
+    ("\x18\x19\x1a\x1b\x1c\x1d\x1e\x1f", "^X^Y^Z^[^\\^]^^^_"),
+    ("a\tb", "a^Ib"),
+    ("a\tb\x7f", "a^Ib^?"),
+];
+
+fn carets(rows: &mut Rows) {
+    for (text, carets) in IN_CARETS {
+        ask_scripts(CARETS, text.as_bytes(), carets.as_bytes(), rows);
+    }
+}
+
+fn escaped_by_std(rows: &mut Rows) {
+    for code in 0..=255_u8 {
+        let text = [code, b'a', code];
+        let expected = if code.is_ascii() { Ok(text) } else { Err(NotAscii(0)) };
+        rows.ask(|asked| ask_unescaped(text.escape_ascii().to_string().as_bytes(), expected, asked));
+        let text = [b'a', code];
+        let expected = if code.is_ascii() { Ok(text) } else { Err(NotAscii(1)) };
+        rows.ask(|asked| ask_unescaped(text.escape_ascii().to_string().as_bytes(), expected, asked));
+    }
+}
+
+/// A text, and what it represents.
+static UNESCAPED: [(&str, Result<&str, Escaped>); 19] = [
+    ("", Ok("")),
+    ("a\tb'\"", Ok("a\tb'\"")),
+    (r#"\t\r\n\'\"\\"#, Ok("\t\r\n'\"\\")),
+    (r"\x41\x7f\x0a", Ok("A\x7f\n")),
+    (r"\x4F\x4f\x7F", Ok("OO\x7f")),
+    (r"\\x41", Ok(r"\x41")),
+    (r"\x412", Ok("A2")),
+    (r"\", Err(Invalid(0))),
+    (r"ab\", Err(Invalid(2))),
+    (r"\\\", Err(Invalid(2))),
+    (r"\0", Err(Invalid(0))),
+    (r"a\T", Err(Invalid(1))),
+    (r"a\x4", Err(Invalid(1))),
+    (r"\x4g", Err(Invalid(0))),
+    (r"\xg4", Err(Invalid(0))),
+    (r"\u{41}", Err(Invalid(0))),
+    (r"a\x80", Err(NotAscii(1))),
+    (r"\xFF\q", Err(NotAscii(0))),
+    (r"\q\xFF", Err(Invalid(0))),
+];
+
+fn unescaped(rows: &mut Rows) {
+    for (text, expected) in UNESCAPED {
+        rows.ask(|asked| ask_unescaped(text.as_bytes(), expected, asked));
+    }
+}
+
+/// A text, and the text between the quotes at its start and what comes after it.
+type Quoted = (&'static str, Result<(&'static str, &'static str), Unquoted>);
+
+/// With `"` as the quote and `\` as the escape, as in the quoted strings of RFC 9110.
+static BY_BACKSLASH: [Quoted; 12] = [
+    (r#""W/1"; a"#, Ok(("W/1", "; a"))),
+    (r#""""#, Ok(("", ""))),
+    (r#""foo\"bar",b"#, Ok((r#"foo\"bar"#, ",b"))),
+    (r#""\\"\"""#, Ok((r"\\", r#"\"""#))),
+    (r#""a""b""#, Ok(("a", r#""b""#))),
+    (r#""a'b'""#, Ok(("a'b'", ""))),
+    ("", Err(NoQuote)),
+    (r#"a"b""#, Err(NoQuote)),
+    (r#"\"b""#, Err(NoQuote)),
+    (r#"""#, Err(NotClosed(1))),
+    (r#""a\"#, Err(NotClosed(3))),
+    (r#""a\""#, Err(NotClosed(4))),
+];
+
+fn by_backslash(rows: &mut Rows) {
+    for (text, expected) in BY_BACKSLASH {
+        rows.ask(|asked| ask_quoted(b'"', b'\\', text.as_bytes(), expected, asked));
+    }
+}
+
+/// With `"` as the quote, doubled inside, as in the fields of RFC 4180.
+static DOUBLED: [Quoted; 9] = [
+    (r#""aaa","b""bb","ccc""#, Ok(("aaa", r#","b""bb","ccc""#))),
+    (r#""b""bb","ccc""#, Ok((r#"b""bb"#, r#","ccc""#))),
+    (r#""""""#, Ok((r#""""#, ""))),
+    (r#""""#, Ok(("", ""))),
+    (r#""a\"b"#, Ok((r"a\", "b"))),
+    (r#"aaa"#, Err(NoQuote)),
+    (r#"""#, Err(NotClosed(1))),
+    (r#"""""#, Err(NotClosed(3))),
+    (r#""a"""#, Err(NotClosed(4))),
+];
+
+fn doubled(rows: &mut Rows) {
+    for (text, expected) in DOUBLED {
+        rows.ask(|asked| ask_quoted(b'"', b'"', text.as_bytes(), expected, asked));
+    }
+}
+
+/// Texts whose pieces at a comma are joined, and which are repeated.
+static SOURCES: [&str; 6] = ["", "a", ",", "a,b", "a,,b,", "one,two,three"];
+
+fn joined(rows: &mut Rows) {
+    for (text, separator) in SOURCES.iter().flat_map(|text| ["", ";", ", "].map(|separator| (text, separator))) {
+        rows.ask(|asked| ask_joined(b',', text, separator, asked));
+    }
+}
+
+fn repeated(rows: &mut Rows) {
+    for (text, times) in SOURCES.iter().flat_map(|text| (0..4).map(move |times| (text, times))) {
+        rows.ask(|asked| ask_repeated(times, text.as_bytes(), asked));
+    }
+}
+
+fn padded(rows: &mut Rows) {
+    for (text, width) in ["", "a", "ab", "abc"].iter().flat_map(|text| (0..9).map(move |width| (text, width))) {
+        let filled = [format!("{text:.<width$}"), format!("{text:.>width$}"), format!("{text:.^width$}")];
+        for (form, filled) in filled.iter().enumerate() {
+            let (text, filled) = (text.as_bytes(), filled.as_bytes());
+            rows.ask(|asked| ask_padded(form as u8, b'.', width, b"-", text, filled, asked));
+        }
+    }
+}
+
+/// The number of the form of a range with a start and an end.
+const RANGE: usize = 3;
+
+fn ranges(rows: &mut Rows) {
+    for (text, end) in ["", "a", "abcde"].iter().flat_map(|text| (0..6).map(move |end| (text, end))) {
+        for start in 0..6 {
+            for piece in ["", "x", "xy", "xyz", "a longer text than the source"] {
+                rows.ask(|asked| ask_range_edits(RANGE, start, end, text.as_bytes(), piece.as_bytes(), asked));
+            }
+        }
+    }
+}
+
+fn cut_in_two(rows: &mut Rows) {
+    for (text, at) in [("", 0), ("abc", 0), ("abc", 2), ("abc", 3)] {
+        rows.ask(|asked| ask_split_off(at, text.as_bytes(), asked));
+    }
+}

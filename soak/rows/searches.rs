@@ -1,0 +1,211 @@
+//! Searches and cuts at a text and at a character, beside std's `str`.
+
+use super::small_texts::texts_of;
+use super::{Row, Rows};
+use crate::calls;
+use crate::kinds::searches::{ask_find, ask_replace, ask_splitn};
+use crate::kinds::words::ask_retain;
+
+pub static ROWS: &[Row] = &[
+    ("texts_that_are_found", found),
+    ("every_small_needle_in_every_small_text", small_needles),
+    ("a_needle_at_each_position", each_position),
+    ("a_character_is_found_and_cut_at", cuts),
+    ("prefixes_and_suffixes_ignore_the_case_of_letters_alone", prefixes_and_suffixes),
+    ("a_text_is_found_as_in_lower_case", folded),
+    ("the_first_pieces_of_every_small_text", first_pieces),
+    ("remainder_of_the_first_pieces", first_pieces_left),
+    ("replaced_texts", replaced),
+    ("kept_characters", kept),
+];
+
+/// A text, and a needle.
+static PAIRS: [(&str, &str); 10] = [
+    ("", ""),
+    ("", "a"),
+    ("abcabc", ""),
+    ("abcabc", "abc"),
+    ("abcabc", "bca"),
+    ("abcabc", "cab"),
+    ("abcabc", "abcabc"),
+    ("abcabc", "abcabca"),
+    ("aaa", "aa"),
+    ("abcabd", "bd"),
+];
+
+fn found(rows: &mut Rows) {
+    for (text, needle) in PAIRS {
+        rows.ask(|asked| ask_find(text, needle, asked));
+    }
+}
+
+/// Every text of `a` and `b` with 4 characters is a part of it, and so is every shorter one.
+static FOURS: &str = "aaaabaabbababbbbaaa";
+
+/// Every text of `a` and `b` with 8 characters is a part of it, and so is every shorter one.
+static EIGHTS: &str = "aaaaaaaabaaaaaabbaaaaababaaaaabbbaaaabaabaaaababbaaaabbabaaaabbbbaaabaaabaabbaaabab\
+    abaaababbbaaabbaabaaabbabbaaabbbabaaabbbbbaabaababaabaabbbaabababbaababbabaababbbbaabbaabbababbaab\
+    babbbaabbbabbaabbbbabaabbbbbbababababbbababbabbababbbbbabbabbbbabbbabbbbbbbbaaaaaaa";
+
+/// The parts of a text that have a length.
+fn parts(text: &str, length: usize) -> impl Iterator<Item = &str> {
+    (0..=text.len() - length).map(move |start| &text[start..start + length])
+}
+
+fn small_needles(rows: &mut Rows) {
+    for needle in (1..5).flat_map(|length| parts(FOURS, length)) {
+        for text in (1..9).flat_map(|length| parts(EIGHTS, length)) {
+            rows.ask(|asked| ask_find(text, needle, asked));
+        }
+    }
+}
+
+/// A needle, a filler that is before and after it in a longer text, and the number of fillers on each side. The fillers
+/// have no byte of the needle, its first byte, its first and last byte at few or at many positions, or all bytes except
+/// one.
+static NEEDLES: [(&str, &str, usize); 6] = [
+    ("#", ".", 300),
+    ("-#", "-.", 150),
+    ("(ab)", "(aa)....................", 12),
+    ("(ab)", "(aa)", 75),
+    ("-#-#", "-#.#", 75),
+    ("(a needle of 24 letters)", "(a meedle of 24 letters)", 12),
+];
+
+/// A text with a number of fillers before the needle and after it.
+fn around(needle: &str, filler: &str, count: usize) -> String {
+    let side = filler.repeat(count);
+    format!("{side}{needle}{side}")
+}
+
+fn each_position(rows: &mut Rows) {
+    for (needle, filler, count) in NEEDLES {
+        let text = around(needle, filler, count);
+        for length in (1..71).chain([96, 129, 255, 256, 257, 260, 280]) {
+            for part in parts(&text, length) {
+                rows.ask(|asked| ask_find(part, needle, asked));
+            }
+        }
+    }
+}
+
+/// Two sides of a character.
+type Cut = Option<(&'static str, &'static str)>;
+
+/// A text, and the first and the last position of `=` in it, and the two sides of each.
+static CUTS: [(&str, Option<usize>, Option<usize>, Cut, Cut); 5] = [
+    ("", None, None, None, None),
+    ("ab", None, None, None, None),
+    ("=", Some(0), Some(0), Some(("", "")), Some(("", ""))),
+    ("a=b=c", Some(1), Some(3), Some(("a", "b=c")), Some(("a=b", "c"))),
+    ("==", Some(0), Some(1), Some(("", "=")), Some(("=", ""))),
+];
+
+fn cuts(rows: &mut Rows) {
+    for (text, first, last, once, at_last) in CUTS {
+        rows.ask(|asked| {
+            calls::ask_find_character(asked, b'=', text.as_bytes());
+            asked.want.position(first);
+            asked.want.position(last);
+            asked.want.cut(once);
+            asked.want.cut(at_last);
+        });
+    }
+}
+
+/// A text and another one, and whether the first one starts and ends with it, ignoring ASCII case.
+static FOLDED: [(&str, &str, bool, bool); 11] = [
+    ("Host: a", "hOST:", true, false),
+    ("Host: a", "", true, true),
+    ("Host", "hosts", false, false),
+    ("", "h", false, false),
+    ("[a", "{", false, false),
+    ("@a", "`", false, false),
+    ("a.HTML", ".html", false, true),
+    ("a.HTML", "", true, true),
+    ("html", ".html", false, false),
+    ("a[", "{", false, false),
+    ("a@", "`", false, false),
+];
+
+fn prefixes_and_suffixes(rows: &mut Rows) {
+    for (text, needle, starts, ends) in FOLDED {
+        let (low, lower) = (text.to_ascii_lowercase(), needle.to_ascii_lowercase());
+        assert_eq!((low.starts_with(&lower), low.ends_with(&lower)), (starts, ends), "{text} {needle}");
+        rows.ask(|asked| ask_find(text, needle, asked));
+    }
+}
+
+/// Letters in both cases, the marks beside them, and a digit. Each two of the first are neighbors.
+static MIXED: &str = "aAbBaBAbb@`[{A@a{B1bAaA1BbAaBA";
+
+fn folded(rows: &mut Rows) {
+    for (text, needle) in [("", ""), ("", "a"), ("aB", "")] {
+        rows.ask(|asked| ask_find(text, needle, asked));
+    }
+    for needle in (1..4).flat_map(|length| parts(MIXED, length)) {
+        for text in (1..13).flat_map(|length| parts(MIXED, length)) {
+            rows.ask(|asked| ask_find(text, needle, asked));
+        }
+    }
+    for (needle, filler, count) in NEEDLES {
+        let text = around(needle, filler, count);
+        rows.ask(|asked| ask_find(&text, &needle.to_ascii_uppercase(), asked));
+    }
+}
+
+fn first_pieces(rows: &mut Rows) {
+    for text in texts_of(b" \x0ba,", 5) {
+        let text = String::from_utf8(text).expect("ASCII");
+        for n in 0..4 {
+            rows.ask(|asked| ask_splitn(n, b',', &text, &[0; 6], asked));
+        }
+    }
+}
+
+/// A text, a number of pieces, and what remains before each step and after the last one.
+static FIRST_PIECES: [(&str, usize, &[Option<&str>]); 5] = [
+    ("a,b,c", 2, &[Some("a,b,c"), Some("b,c"), None]),
+    ("a,b,c", 1, &[Some("a,b,c"), None]),
+    ("a,", 3, &[Some("a,"), Some(""), None]),
+    ("", 2, &[Some(""), None]),
+    ("a,b", 0, &[None, None]),
+];
+
+fn first_pieces_left(rows: &mut Rows) {
+    for (text, n, rests) in FIRST_PIECES {
+        rows.ask(|asked| {
+            calls::ask_splitn(asked, n, b',', text.as_bytes(), &vec![0; rests.len() - 1]);
+            asked.want.part(rests[0]);
+            let mut pieces = text.splitn(n, ',');
+            for rest in &rests[1..] {
+                asked.want.part(pieces.next());
+                asked.want.part(*rest);
+            }
+        });
+    }
+}
+
+/// A text, what is replaced in it, and by what.
+static REPLACED: [(&str, &str, &str); 8] = [
+    ("", "a", "b"),
+    ("abc", "d", "e"),
+    ("a-b-c", "-", "::"),
+    ("-a--", "-", ""),
+    ("aaaaa", "aa", "b"),
+    ("aaaa", "aa", "aaa"),
+    ("abab", "abab", "ab"),
+    ("ab", "abc", "x"),
+];
+
+fn replaced(rows: &mut Rows) {
+    for (text, needle, to) in REPLACED {
+        rows.ask(|asked| ask_replace(text, needle, to, asked));
+    }
+}
+
+fn kept(rows: &mut Rows) {
+    for text in ["", "-", "abc", "a-b--c", "--a", "a--"] {
+        rows.ask(|asked| ask_retain(b'-', text.as_bytes(), asked));
+    }
+}
