@@ -92,14 +92,3 @@ module _ {M : Type 1} {𝓤 : Ura M} (𝓛 : Logic 𝓤) where
           subst (λ (n : ℕ). Room u8 n) (sym e)
               room,
         ) $ fjoin ! $ done !)
-
-  -- the view in an `Ok`, written as its fields say
-  pub ok_view : (a : NamedLft) (v : AsciiStrMut) (vs : List Val)
-      → ent 𝓤 (sem 𝓛 ((RS.the_row (V.the_row a) E.the_row).own_val (Ok v) vs))
-      (sem 𝓛 ((V.the_row a).own_val v ((view_laws.the_told a).val v ∷ [])))
-  ok_view a v vs = qed 𝓛 (‵ ((RS.the_row (V.the_row a) E.the_row).own_val (Ok v) vs) ∷ []) ∵
-      fpick ! (λ us. fsplit ! $ drop ! $ fpick !
-      (λ vss. fsplit ! $ drop ! $ fsplit ! $ keep ! (0 ∷ []) $
-      peeks ! (V.the_row a) _ (shows 𝓛 (V.the_row a)) v vss.0 (λ is.
-      rewrite ! 0 (λ (ws : List Val). ‵ ((V.the_row a).own_val v ws))
-      ((view_laws.the_told a).tells v vss.0 is) refl $ done !)))
