@@ -188,21 +188,6 @@ impl<'a> Model<'a> {
         Ok((start, end - start, non_ascii(&self.source[start..end]).map(|at| start + at)))
     }
 
-    /// The reader with a source that fails at its next call.
-    fn without_more(&self) -> Model<'a> {
-        Model { fails: self.fails.min(self.calls), ..*self }
-    }
-
-    /// Whether the next line takes no call of the source.
-    fn holds_line(&self) -> bool {
-        self.has_ended || self.error.is_some() || self.without_more().line(true).0 != Err(READ)
-    }
-
-    /// Whether a part takes no call of the source.
-    fn holds_part(&self, n: usize) -> bool {
-        self.has_ended || self.error.is_some() || self.without_more().fault_in_part(n).0 != Some(READ)
-    }
-
     /// What is answered to each step of `ask_reader`, and the position after it.
     pub fn run(&mut self, steps: &[Step], want: &mut Answer) {
         for step in steps {
@@ -224,8 +209,6 @@ impl<'a> Model<'a> {
                     }
                     Err(stop) => put_stop(stop, want),
                 },
-                7 => want.flag(self.holds_line()),
-                8 => want.flag(self.holds_part(step.at)),
                 kind => self.endings = kind - 1,
             }
             want.number(self.start);

@@ -56,15 +56,13 @@ pub fn reader(random: &mut Random, asked: &mut Asked) {
     ask_lines(&source, size, endings, device, is_ascii, asked);
 }
 
-/// Lines, parts, endings, skipped lines and tests of what is held, in any order, also after an error. What is held is
-/// known if each call of the source gives one byte.
-fn mixed_steps(random: &mut Random, size: usize, most: usize) -> Vec<Step> {
-    let step = |random: &mut Random| match random.below(if most == 1 { 10 } else { 9 }) {
+/// Lines, parts, endings and skipped lines, in any order, also after an error.
+fn mixed_steps(random: &mut Random, size: usize) -> Vec<Step> {
+    let step = |random: &mut Random| match random.below(9) {
         0 => Step { kind: 1 + random.below(3) as u8, ..Step::default() },
         1 | 2 => Step { kind: 4, at: random.part_length(size), ..Step::default() },
         3 | 4 => Step { kind: 5, ..Step::default() },
         5 => Step { kind: 6, at: random.part_length(size), ..Step::default() },
-        9 => Step { kind: 7 + random.below(2) as u8, at: random.below(3), ..Step::default() },
         _ => Step::default(),
     };
     (0..1 + random.count(12)).map(|_| step(random)).collect()
@@ -84,14 +82,14 @@ impl Random {
 pub fn steps(random: &mut Random, asked: &mut Asked) {
     let (source, size) = source_and_size(random);
     let device = slow(random);
-    let steps = mixed_steps(random, size, device.most);
+    let steps = mixed_steps(random, size);
     ask_steps(&mut Model::new(&source, size), &source, size, device, &steps, asked);
 }
 
 /// A source that gives one byte a call fails before the byte whose number the call has.
 pub fn failing_reader(random: &mut Random, asked: &mut Asked) {
     let (source, size) = source_and_size(random);
-    let (steps, fails) = (mixed_steps(random, size, 1), random.place(source.len()));
+    let (steps, fails) = (mixed_steps(random, size), random.place(source.len()));
     let device = Device { most: 1, fails: fails as u64, ..WHOLE };
     ask_steps(&mut Model::failing(&source, size, fails), &source, size, device, &steps, asked);
 }

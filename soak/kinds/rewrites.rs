@@ -195,7 +195,6 @@ pub fn ask_range_edits(form: usize, start: usize, end: usize, text: &[u8], piece
 }
 
 fn put_edits(before: &[u8], piece: &[u8], after: &[u8], want: &mut Answer) {
-    want.text([before, after].concat());
     want.flag(true);
     want.text([before, piece, after].concat());
 }

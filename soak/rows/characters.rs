@@ -1,4 +1,4 @@
-//! Characters: a table of the upstream crate, and numbers that are no characters.
+//! Characters: a table of the upstream crate, and numbers that are not characters.
 
 use super::{Row, Rows};
 use crate::asked::Answer;

@@ -72,8 +72,7 @@ fn calls_over_texts(rows: &mut Rows) {
             let mut steps = vec![Step { kind: 1 + endings, ..Step::default() }];
             for number in 0..5 {
                 let (kind, at) = CALLS[(5 * run + 3 * number) % CALLS.len()];
-                let asked_before = [(7, 0), (8, 2), (kind, at)];
-                steps.extend(asked_before.map(|(kind, at)| Step { kind, at, ..Step::default() }));
+                steps.push(Step { kind, at, ..Step::default() });
             }
             let device = Device { fails: fails as u64, ..giving(1) };
             rows.ask(|asked| {

@@ -18,7 +18,7 @@ pub static ROWS: &[Row] = &[
     ("joined_pieces", joined),
     ("repeated_texts", repeated),
     ("texts_are_filled_up_as_format_does", padded),
-    ("each_range_is_replaced_and_removed", ranges),
+    ("each_range_is_replaced", ranges),
     ("strings_cut_in_two", cut_in_two),
 ];
 

@@ -20,8 +20,8 @@
 //!
 //! Made by `bin/docs tables`: the other calls of `Text` are in `collect` (`extend_chars`,
 //! `extend_strs`, `collect_chars`, `collect_strs`, `collect_joined`); `copies` (`from_char`,
-//! `from_chars`, `into_chars`); `json` (`to_json`, `from_json`); `range_edits` (`remove_range`,
-//! `replace_range`); `retain` (`retain`).
+//! `from_chars`, `into_chars`); `json` (`to_json`); `range_edits` (`replace_range`); `retain`
+//! (`retain`).
 //!
 //! The traits of std are in `conversions`, those of serde in `serde_impls`. Only `AsciiString` has
 //! `from_ascii_unchecked` here, the conversion to boxed text in `boxed`, and `From` of it for a `Vec` and a `String`,

@@ -55,23 +55,6 @@ impl<B: Buffer> Text<B> {
     }
 }
 
-impl<B: NewBuffer<Refusal = AllocError>> Text<B> {
-    /// Returns a copy of the text of a JSON string, or an error: `NotText` if the value is not a
-    /// JSON string, `NotAscii` with the position of the first non-ASCII byte, and `Memory` if the
-    /// allocation fails.
-    ///
-    /// The value is checked before anything is allocated. A copy of the empty text never fails.
-    ///
-    ///     AsciiString::from_json(alloc, &Value::from_str(alloc, "\"foo\"")?) // Ok("foo")
-    pub fn from_json(alloc: B::Alloc, value: &Value) -> Result<Text<B>, JsonError>
-        ensures { MatchResult result (λ string. as_str (view value.now) ≡ Some string.text)
-            (RejectsTextCopy B.sure (view value.now)) }
-    {
-        let view = str_from_json(value)?;
-        Text::from_ascii_str(alloc, view).map_err(|_| JsonError::Memory)
-    }
-}
-
 /// Returns the character as a JSON string of one byte. Fails only if the allocation fails.
 ///
 ///     char_to_json(alloc, AsciiChar::a)?.to_string(alloc)? // "\"a\""
@@ -124,5 +107,6 @@ pub fn string_from_json<A: Allocator>(alloc: A, value: &Value) -> Result<AsciiSt
     ensures { MatchResult result (λ string. as_str (view value.now) ≡ Some string.text)
         (RejectsTextCopy 0 (view value.now)) }
 {
-    AsciiString::from_json(alloc, value)
+    let view = str_from_json(value)?;
+    AsciiString::from_ascii_str(alloc, view).map_err(|_| JsonError::Memory)
 }

@@ -4,7 +4,6 @@
 
 ghost use Rattle.std.specs.Prelude.{◌+◌, ◌≤◌, ◌++◌, drop, length, take};
 ghost use Rattle.std.specs.List.{replace_range};
-ghost use Rattle.std.specs.Str.{IsAscii};
 ghost use Rattle.ascii_base.specs.Range.{Fits, end_of, start_of};
 ghost use Rattle.ascii.specs.StringState.{EditsInPlace, GrowsTo};
 ghost use Rattle.ascii.specs.View.{text_of};
@@ -15,28 +14,6 @@ use crate::buffer::Buffer;
 use ascii_base::range::AsciiRange;
 
 impl<B: Buffer> Text<B> {
-    /// Removes the characters in `range`. Does not allocate, and keeps the capacity.
-    ///
-    /// Condition: `range` fits the text.
-    ///
-    /// Moves the bytes after the range. For one character use `remove`; for the end of the text,
-    /// `truncate`.
-    ///
-    ///     let mut text = AsciiStr::literal("foobar").to_ascii_string(alloc)?;
-    ///     text.remove_range(AsciiRange::Range(1, 4));
-    ///     text // "far"
-    ///     text.remove_range(AsciiRange::Full);
-    ///     text // ""
-    pub fn remove_range(&mut self, range: AsciiRange)
-        requires { Fits range (length self.old.text) }
-        ensures { let text = self.old.text in
-            EditsInPlace (take (start_of range) text ++ drop (end_of range (length text)) text)
-            self.old self.new }
-    {
-        let end = range.end(self.len());
-        remove_bytes(&mut self.bytes, range.start(), end);
-    }
-
     /// Puts a view in place of the characters in `range`. Fails only if the string has to grow and the
     /// allocation fails; the text is then unchanged.
     ///

@@ -69,7 +69,6 @@ SaysBytes-trans true true a b c xs ys was is first then = then ∙ first
 -- ---- replies after replies
 
 module _ {K : Type 0} where
-
   -- replies, and then more
   pub Says-trans : (a b c : Saying K) (first after : List Reply) → Says a first b
       → Says b after c → Says a (first ++ after) c

@@ -106,11 +106,6 @@ ended_by endings reading = record reading { endings = endings }
 abbrev pub IsOpen : {S : Type 0} → Reading S → Type 0
 IsOpen reader = reader.state.stage ≡ Open
 
--- the reader has to read its source before it can return what is wanted, or an error
-abbrev pub Waits : Wanted → ReaderState → Type 0
-Waits wanted reading = (reading.stage ≡ Open) × (reading.is_at_end ≡ false)
-    × MustRead wanted reading.start reading.size reading.held
-
 -- a `ReadLine` as a line with its start
 abbrev pub read_line_in : ReadLine → WithStart Line
 read_line_in line =

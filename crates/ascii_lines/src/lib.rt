@@ -12,7 +12,6 @@
 //! | choose which endings end a line | `Endings`, an argument of `LineReader::new` |
 //! | read a part of an announced length | `LineReader::read_exact_part` |
 //! | go on after a line that was rejected | `LineReader::skip_line` |
-//! | know whether the next line or part needs a read | `LineReader::has_buffered_line`, `has_buffered_part` |
 //! | keep all lines, or those up to an empty one | `collect_lines`, `read_block` |
 //! | write lines, and texts with line breaks in them | `LineWriter::write_line`, `write_part` |
 //! | answer each line of an input with lines | `serve`, with a `Handler` |

@@ -107,8 +107,7 @@ impl<S: Source, A: Allocator> LineReader<S, A> {
     ghost use Rattle.std.specs.Borrow.{sem};
     ghost use Rattle.std.specs.Io.BufRead.{Rests};
     ghost use Rattle.ascii_lines.specs.LineReader.{Next, NextBytes, NextPart};
-    ghost use Rattle.std.specs.Prelude.{◌↔◌, IsTrue};
-    ghost use Rattle.ascii_lines.specs.LineReader.{Waits, ended_by, fresh_reader};
+    ghost use Rattle.ascii_lines.specs.LineReader.{ended_by, fresh_reader};
     ghost use Rattle.ascii_lines.specs.Skipping.{Skips};
     ghost use Rattle.ascii_lines.specs.contracts.line_reader.LineReader.{the_row};
 
@@ -303,36 +302,6 @@ impl<S: Source, A: Allocator> LineReader<S, A> {
             start,
             text: bytes::as_ascii_str_unchecked(self.cursor.line_bytes()),
         })
-    }
-
-    /// Returns `true` if `next_line` can return what it will return without a read of the source: the next line is
-    /// held, or a fault in it is, or the reader has returned `None` or an error. It searches the bytes held.
-    ///
-    ///     let source = Input::new(b"a\nb\nc".as_slice());
-    ///     let mut reader = LineReader::new(alloc, source, 64, Endings::Any)?;
-    ///     reader.has_buffered_line() // false
-    ///     let _ = reader.next_line();
-    ///     reader.has_buffered_line() // true
-    ///     let _ = reader.next_line();
-    ///     reader.has_buffered_line() // false
-    pub fn has_buffered_line(&self) -> bool
-        ensures { IsTrue result ↔ ¬ (Waits (Wanted.Line self.now.state.endings) self.now.state) }
-    {
-        !self.cursor.waits(Wanted::Line(self.cursor.endings()))
-    }
-
-    /// Returns `true` if `read_exact_part(n)` can return what it will return without a read of the source: these
-    /// bytes are held, or a fault in them is, or the part does not fit in the buffer, or the reader has returned
-    /// `None` or an error.
-    ///
-    ///     let source = Input::new(b"abc".as_slice());
-    ///     let reader = LineReader::new(alloc, source, 64, Endings::Any)?;
-    ///     reader.has_buffered_part(1) // false
-    ///     reader.has_buffered_part(65) // true
-    pub fn has_buffered_part(&self, n: usize) -> bool
-        ensures { IsTrue result ↔ ¬ (Waits (Wanted.Part n) self.now.state) }
-    {
-        !self.cursor.waits(Wanted::Part(n))
     }
 
     /// Reads over the next line, or over the line at fault after `NotAscii`, `LoneBreak` or `TooLong`, up to its

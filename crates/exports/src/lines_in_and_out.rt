@@ -55,8 +55,6 @@ fn read(reader: &mut LineReader<Input<Given<'_>>>, step: Step, answer: &mut Answ
             Err(error) => put_error(error, answer),
         },
         6 => put_skipped(reader.skip_line(step.at as u64), answer),
-        7 => answer.flag(reader.has_buffered_line()),
-        8 => answer.flag(reader.has_buffered_part(step.at)),
         _ => put_next_bytes(reader, answer),
     }
 }

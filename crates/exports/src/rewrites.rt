@@ -153,14 +153,7 @@ pub fn ask_range_edits(
     let range = range_of(form, start, end);
     let view = bytes::as_ascii_str_unchecked(source);
     let piece = bytes::as_ascii_str_unchecked(piece);
-    if let (Ok(mut removed), Ok(mut replaced)) = (
-        view.to_ascii_string(alloc),
-        view.to_ascii_string(alloc),
-    ) {
-        if range.fits(removed.len()) {
-            removed.remove_range(range);
-            answer.text(removed.as_ascii_str());
-        }
+    if let Ok(mut replaced) = view.to_ascii_string(alloc) {
         if range.fits(replaced.len()) {
             answer.flag(replaced.replace_range(range, piece).is_ok());
             answer.text(replaced.as_ascii_str());
