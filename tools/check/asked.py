@@ -7,8 +7,8 @@ two has. `--list` prints the calls that are not asked.
 
 The differential test asks a call that a question of crates/exports names. Questions are the functions of all its
 modules except those that the benchmark measures. A name is resolved by the types that tools/docs/uses.py knows. If that
-fails, a call whose name no other public call has is found by its name. The calls of traits are not compared, because
-questions reach them through generic code.
+fails, a call whose name no other public call has is found by its name. Of the calls of traits only those of extension
+traits are compared, because questions reach the others through generic code.
 Status 0: the list is right; 1: it is not; 64: bad arguments."""
 import re
 import sys
@@ -25,26 +25,24 @@ from sources import read  # noqa: E402
 
 UNASKED = Path(__file__).resolve().parent / "unasked.txt"
 EXPORTS = "exports"
-# The modules whose calls the benchmark measures.
-MEASURED = {"measured", "everyday"}
 
 
 def public_calls():
-    """The calls of the libraries, without those of traits."""
-    return [call for call in calls.table_without_names() if call.crate in LIBRARIES and not call.of_trait]
+    """The calls of the libraries, and of their extension traits."""
+    every = [call for call in calls.table_without_names() if call.crate in LIBRARIES]
+    return [call for call in every if not call.of_trait or (call.of_trait.endswith("Ext") and call.block.kind == "impl")]
 
 
 def named_by_type():
     """The calls that questions name, by what is known of their types."""
     known = calls.known()
     known.read_helpers(EXPORTS)
-    places = uses.named_in(known, EXPORTS)
-    return {id(call) for place, found in places if place.name.split("::")[1] not in MEASURED for call in found}
+    return {id(call) for place, found in uses.named_in(known, EXPORTS) if not calls.is_measured(place) for call in found}
 
 
 def names_in_questions():
     """The names after a `.` or a `::` that questions call."""
-    texts = [read(module_file(EXPORTS, path)) for path in modules_of(EXPORTS) if path and path[0] not in MEASURED]
+    texts = [read(module_file(EXPORTS, path)) for path in modules_of(EXPORTS) if path and path[0] not in calls.MEASURED]
     return {name for text in texts for name in re.findall(r"(?:\.|::)(\w+)(?:::<[^;{}]*?>)?\(", text)}
 
 

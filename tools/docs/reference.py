@@ -253,4 +253,6 @@ def evidence(call):
 
 def place_html(place):
     crate, _, path = place.file.removeprefix("crates/").partition("/src/")
+    if crate == "exports":  # the site has no page of its sources
+        return f"<code>{escape(place.name)}</code>"
     return link(f"{source_page(crate, tuple(path.removesuffix('.rt').split('/')))}#{place.line}", place.name)

@@ -72,7 +72,7 @@ pub fn ask_std_maps(
     requires source { IsAscii source.now }
     requires texts { IsAscii texts.now }
 {
-    let key = FoldedStr::new(bytes::as_ascii_str_unchecked(source));
+    let key = bytes::as_ascii_str_unchecked(source);
     let texts = bytes::as_ascii_str_unchecked(texts);
     let mut answer = Answer::new(room);
     if borrowed_keys(alloc, key, texts, steps, &mut answer).is_err() {
@@ -86,7 +86,7 @@ pub fn ask_std_maps(
 
 fn borrowed_keys(
     alloc: Global,
-    key: FoldedStr<'_>,
+    key: AsciiStr<'_>,
     texts: AsciiStr<'_>,
     steps: &[Step],
     answer: &mut Answer<'_>,
@@ -96,6 +96,7 @@ fn borrowed_keys(
         hashed.insert(FoldedStr::new(step.text(texts)), step.at)?;
         sorted.insert(FoldedStr::new(step.text(texts)), step.at)?;
     }
+    let key = FoldedStr::new(key);
     answer.position(hashed.get(&key).copied());
     answer.position(sorted.get(&key).copied());
     answer.number(hashed.len());
@@ -106,7 +107,7 @@ fn borrowed_keys(
 
 fn owned_keys(
     alloc: Global,
-    key: FoldedStr<'_>,
+    key: AsciiStr<'_>,
     texts: AsciiStr<'_>,
     steps: &[Step],
     answer: &mut Answer<'_>,
@@ -116,12 +117,12 @@ fn owned_keys(
         hashed.insert(owned_key(alloc, FoldedStr::new(step.text(texts)))?, step.at)?;
         sorted.insert(owned_key(alloc, FoldedStr::new(step.text(texts)))?, step.at)?;
     }
-    let owned = owned_key(alloc, key)?;
+    let owned = owned_key(alloc, FoldedStr::new(key))?;
     answer.position(hashed.get(&owned).copied());
     answer.position(sorted.get(&owned).copied());
     answer.number(hashed.len());
     answer.number(sorted.len());
-    answer.flag(owned.as_folded() == key);
+    answer.flag(owned.as_folded() == FoldedStr::new(key));
     answer.text(owned.as_folded().into_inner());
     answer.text(owned.into_inner().as_ascii_str());
     Ok(())
