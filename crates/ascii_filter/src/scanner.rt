@@ -10,8 +10,8 @@ ghost use Rattle.ascii_filter.specs.Places.{FillOutcome, HeldNext, IsFresh, Scan
 ghost use Rattle.ascii_run.specs.Reading.{Counts};
 
 use ascii::kernels::first_other;
-use ascii_formats::places::Place;
 use ascii_devices::{Source, zeros};
+use ascii_formats::places::Place;
 use ascii_run::BoundedFault;
 use std::alloc::{AllocError, Allocator};
 use std::marker::Model;

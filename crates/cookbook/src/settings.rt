@@ -6,8 +6,8 @@ ghost use Rattle.ascii.specs.View.{text_of};
 ghost use Rattle.cookbook.specs.Settings.{IsWithoutComment, ReadsSetting, ReadsSettings};
 ghost use Rattle.cookbook.specs.Settings.{position_of, what_of};
 
-use ascii_formats::places::Fault;
 use ascii::{AsciiChar, AsciiStr};
+use ascii_formats::places::Fault;
 use ascii_formats::AsciiStrExt;
 use std::alloc::{AllocFailed, Global};
 

@@ -5,8 +5,8 @@ ghost use Rattle.ascii_formats.specs.Spanned.{LiesIn};
 ghost use Rattle.ascii.specs.View.{text_of};
 ghost use Rattle.example_ini.specs.Entries.{ArePlacesIn, IsEntryOf, IsFaultOf, SaysFault};
 
-use ascii_formats::spanned::Spanned;
 use ascii::{AsciiChar, AsciiStr};
+use ascii_formats::spanned::Spanned;
 use std::alloc::Global;
 use thiserror::Error;
 

@@ -9,8 +9,8 @@ ghost use Rattle.ascii.specs.View.{text_of};
 ghost use Rattle.example_nmea.specs.Sentence.{HasDecimal, IsSentence, ReportsFix, xor_of};
 
 use ascii::classes::{ByRanges, Ranges};
-use ascii_formats::decimals::Decimal;
 use ascii::{AsciiChar, AsciiStr};
+use ascii_formats::decimals::Decimal;
 use ascii_formats::AsciiStrExt;
 use thiserror::Error;
 

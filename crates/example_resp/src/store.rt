@@ -1,7 +1,7 @@
 //! A store: a value for each key that was set.
 
-use ascii_keys::AsciiMap;
 use ascii::{AsciiStr, AsciiString};
+use ascii_keys::AsciiMap;
 use std::alloc::{AllocError, Global};
 
 /// A map from keys to values.

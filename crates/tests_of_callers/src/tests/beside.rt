@@ -1,12 +1,12 @@
 //! The library together with std and the toolchain's crates, one combination a test. docs/BESIDE.md quotes them.
 
 use anyhow::Context;
-use ascii_keys::FoldedStr;
 use ascii::{AsAsciiStrError, AsciiChar, AsciiRange, AsciiStr, AsciiString, bytes, string, vec};
+use ascii_keys::FoldedStr;
 use base64::engine::general_purpose::STANDARD;
 use bstr::ByteSlice;
-use httparse::Status;
 use httparse::spans::{EMPTY_HEADER_SPAN, parse_headers};
+use httparse::Status;
 use indexmap::IndexMap;
 use itertools::Itertools;
 use percent_encoding::{NON_ALPHANUMERIC, percent_decode, percent_encode};
