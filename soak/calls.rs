@@ -162,6 +162,7 @@ calls! {
     fn ask_maps(texts: &[u8], steps: &[Step]);
     fn ask_std_maps(source: &[u8], texts: &[u8], steps: &[Step]);
     fn ask_edits(is_small: bool, source: &[u8], texts: &[u8], steps: &[Step]);
+    fn ask_both_edits(source: &[u8], texts: &[u8], steps: &[Step]);
     fn ask_capacities(capacity: usize, texts: &[u8], steps: &[Step]);
     fn ask_small_capacities(source: &[u8], texts: &[u8], steps: &[Step]);
     fn ask_reader(source: &[u8], size: usize, device: &Device, steps: &[Step]);
@@ -191,6 +192,7 @@ calls! {
     );
     fn ask_buffered(size: usize, texts: &[u8], steps: &[Step], plan: &[Step]);
     fn ask_served(endings: u8, size: usize, source: &[u8], reads: &Device, writes: &Device);
+    fn ask_greeted(size: usize, greeting: &[u8], source: &[u8], reads: &Device, writes: &Device);
     fn ask_header(source: &[u8]);
     fn ask_headers(name: &[u8], block: &[u8]);
     fn ask_hosts(first: &[u8], second: &[u8]);

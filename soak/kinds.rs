@@ -138,6 +138,7 @@ pub static KINDS: &[Kind] = &[
     kind("JSON characters", json_values::characters),
     long("edits", 4, edits::string),
     long("edits of inline strings", 4, edits::small),
+    long("edits of both strings", 4, edits::both),
     long("capacities", 2, edits::capacities),
     long("capacities of inline strings", 4, edits::small_capacities),
     kind("lines of a reader", lines::reader),

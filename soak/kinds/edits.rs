@@ -48,9 +48,23 @@ fn edits(is_small: bool, random: &mut Random, asked: &mut Asked) {
     ask_edits(is_small, source, count, random, asked);
 }
 
+pub fn both(random: &mut Random, asked: &mut Asked) {
+    let source = random.text();
+    let (commands, want) = commands_over(&source, random.count(24), random);
+    calls::ask_both_edits(asked, &source, &commands.texts, &commands.steps);
+    (0..2).for_each(|_| asked.want.bytes.extend(&want.bytes));
+}
+
 /// Asks for a number of commands over a text.
 pub fn ask_edits(is_small: bool, source: Vec<u8>, count: usize, random: &mut Random, asked: &mut Asked) {
-    let (mut text, mut commands, mut want) = (source.clone(), Commands::default(), Answer::default());
+    let (commands, want) = commands_over(&source, count, random);
+    calls::ask_edits(asked, is_small, &source, &commands.texts, &commands.steps);
+    asked.want = want;
+}
+
+/// A number of commands over a text, and their replies with the text after them.
+fn commands_over(source: &[u8], count: usize, random: &mut Random) -> (Commands, Answer) {
+    let (mut text, mut commands, mut want) = (source.to_vec(), Commands::default(), Answer::default());
     for _ in 0..count {
         match random.below(4) {
             0 => grow(random, &mut text, &mut commands, &mut want),
@@ -59,9 +73,8 @@ pub fn ask_edits(is_small: bool, source: Vec<u8>, count: usize, random: &mut Ran
             _ => ask(random, &mut text, &mut commands, &mut want),
         }
     }
-    calls::ask_edits(asked, is_small, &source, &commands.texts, &commands.steps);
     want.text(text);
-    asked.want = want;
+    (commands, want)
 }
 
 /// What a reservation of `n` more bytes is answered.

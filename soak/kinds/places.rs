@@ -1,4 +1,4 @@
-//! Parts of a text that know where they start, and lines and columns, by plain loops.
+//! Parts of a text with their starts, and lines and columns, by plain loops.
 
 use super::characters::is_white;
 use super::numbers::{number_of, put_fault, TYPES};

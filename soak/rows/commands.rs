@@ -126,7 +126,8 @@ fn put_reply(reply: Reply, want: &mut Answer) {
     }
 }
 
-/// Asks both types of string for the replies to commands, and for the text after them.
+/// Asks both types of string for the replies to commands, and for the text after them: each by itself, and both by one
+/// call.
 fn ask(rows: &mut Rows, source: &str, cmds: &[Cmd], replies: &[Reply], text: &str) {
     let all = commands_of(cmds);
     for is_small in [false, true] {
@@ -136,6 +137,13 @@ fn ask(rows: &mut Rows, source: &str, cmds: &[Cmd], replies: &[Reply], text: &st
             asked.want.text(text);
         });
     }
+    rows.ask(|asked| {
+        calls::ask_both_edits(asked, source.as_bytes(), &all.texts, &all.steps);
+        for _ in 0..2 {
+            replies.iter().for_each(|reply| put_reply(*reply, &mut asked.want));
+            asked.want.text(text);
+        }
+    });
 }
 
 /// The commands that take a position or a number.

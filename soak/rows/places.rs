@@ -1,4 +1,4 @@
-//! Parts of a text that know where they start, and lines and columns.
+//! Parts of a text with their starts, and lines and columns.
 
 use super::{Row, Rows};
 use crate::asked::Answer;
@@ -8,7 +8,7 @@ use crate::kinds::numbers::{put_fault, Fault};
 use crate::kinds::places::ask_place;
 
 pub static ROWS: &[Row] = &[
-    ("parts_of_a_part_know_their_start", parts),
+    ("parts_of_a_part_keep_their_start", parts),
     ("a_number_that_is_too_large_has_its_position", too_large),
     ("every_position_has_its_line_and_column", places),
 ];

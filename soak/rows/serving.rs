@@ -11,6 +11,7 @@ pub static ROWS: &[Row] = &[
     ("replies_that_come_together_are_one_write", one_write),
     ("a_device_is_not_read_after_its_end", not_read_after_its_end),
     ("each_start_of_a_session_is_answered", each_start),
+    ("a_greeting_comes_first", greetings),
 ];
 
 /// Endings by their numbers.
@@ -100,6 +101,35 @@ fn replies(rows: &mut Rows) {
         for most in [1, 100] {
             let expected = Expected { why, count: None, reads: None, writes: None, written };
             ask(rows, input, endings, 8, (WHOLE, Device { most, ..WHOLE }), &expected);
+        }
+    }
+}
+
+/// A greeting, the position of its first line break, an input, the position after the conversation, and what is
+/// written.
+static GREETINGS: [(&str, Option<usize>, &str, usize, &str); 6] = [
+    ("hi", None, "two\nquit\nz\n", 9, "hi\r\none\r\ntwo\r\nbye\r\n"),
+    ("", None, "", 0, "\r\n"),
+    ("a greeting longer than the buffer", None, "a\nb", 3, "a greeting longer than the buffer\r\nok\r\nok\r\n"),
+    ("a\nb", Some(1), "a\n", 0, ""),
+    ("\r", Some(0), "quit\r\n", 0, ""),
+    ("hi\r\n", Some(2), "", 0, ""),
+];
+
+/// A greeting with a line break is an error, and nothing of it is written.
+fn greetings(rows: &mut Rows) {
+    for (greeting, line_break, input, end, written) in GREETINGS {
+        for (size, most) in [(8, 1), (8, 100), (100, 1), (100, 100)] {
+            rows.ask(|asked| {
+                let device = Device { most, ..WHOLE };
+                calls::ask_greeted(asked, size, greeting.as_bytes(), input.as_bytes(), &device, &device);
+                match line_break {
+                    Some(at) => asked.want.fault("break", at),
+                    None => asked.want.number(0),
+                }
+                asked.want.number(end);
+                asked.want.text(written);
+            });
         }
     }
 }

@@ -6,7 +6,7 @@ use crate::answer::Answer;
 use crate::slices::range_of;
 use crate::steps::Step;
 use ascii::{AsciiChar, AsciiStr, AsciiString, bytes};
-use ascii_run::{AsciiBuf, Cmd, Reply, SmallAsciiString, run};
+use ascii_run::{AsciiBuf, Cmd, Reply, SmallAsciiString, run, run_both};
 use std::alloc::{AllocError, Global};
 
 /// The replies to commands, and the text after them, of a string or an inline string. The kind of a step is the
@@ -35,6 +35,37 @@ pub fn ask_edits(
     answer.finish()
 }
 
+/// The replies to commands, and the text after them, of a string and of an inline string, by one call.
+pub fn ask_both_edits(
+    alloc: Global,
+    source: &[u8],
+    texts: &[u8],
+    steps: &[Step],
+    room: &mut [u8],
+) -> usize
+    requires source { IsAscii source.now }
+    requires texts { IsAscii texts.now }
+{
+    let view = bytes::as_ascii_str_unchecked(source);
+    let texts = bytes::as_ascii_str_unchecked(texts);
+    let mut answer = Answer::new(room);
+    if let Ok(cmds) = commands(alloc, texts, steps) {
+        if let Ok(both) = run_both(alloc, view, &cmds) {
+            put_replies(&both.replies, &mut answer);
+            answer.text(both.string.as_ascii_str());
+            put_replies(&both.small_replies, &mut answer);
+            answer.text(both.small.as_ascii_str());
+        }
+    }
+    answer.finish()
+}
+
+fn put_replies(replies: &[Reply], answer: &mut Answer<'_>) {
+    for reply in replies {
+        put_reply(reply, answer);
+    }
+}
+
 fn put_run<B: AsciiBuf>(
     alloc: Global,
     buf: &mut B,
@@ -44,9 +75,7 @@ fn put_run<B: AsciiBuf>(
 ) {
     if let Ok(cmds) = commands(alloc, texts, steps) {
         if let Ok(replies) = run(alloc, buf, &cmds) {
-            for reply in &replies {
-                put_reply(reply, answer);
-            }
+            put_replies(&replies, answer);
         }
     }
     answer.text(buf.as_ascii_str());
@@ -148,9 +177,7 @@ fn follow<B: AsciiBuf>(
     answer: &mut Answer<'_>,
 ) {
     if let Ok(replies) = run(alloc, buf, &[command(step, texts)]) {
-        for reply in &replies {
-            put_reply(reply, answer);
-        }
+        put_replies(&replies, answer);
     }
 }
 

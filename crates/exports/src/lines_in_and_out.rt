@@ -232,7 +232,7 @@ fn write(
     }
 }
 
-fn put_write_error(error: WriteError, answer: &mut Answer<'_>) {
+pub(crate) fn put_write_error(error: WriteError, answer: &mut Answer<'_>) {
     match error {
         WriteError::LineBreak(position) => answer.fault("break", position),
         WriteError::Write => answer.name("write"),

@@ -10,8 +10,8 @@ use std::alloc::{AllocError, Global};
 use std::collections::{BTreeMap, HashMap};
 
 /// What steps over a map return, each with the length of the map: 0 inserts the number at the step's text, 1 gets, 2 removes,
-/// and any other kind looks whether the key is there. First of a map that knows the case of its keys, and then of one that
-/// ignores it.
+/// and any other kind looks whether the key is there. First of a map in which keys differ by case, and then of one that
+/// ignores case.
 pub fn ask_maps(alloc: Global, texts: &[u8], steps: &[Step], room: &mut [u8]) -> usize
     requires { IsAscii texts.now }
 {

@@ -1,4 +1,4 @@
-//! Parts of a text that know where they start, and lines and columns of positions.
+//! Parts of a text with their starts, and lines and columns of positions.
 
 ghost use Rattle.std.specs.Str.{IsAscii};
 

@@ -1,11 +1,12 @@
 //! A conversation with a handler of a few words.
 
 ghost use Rattle.ascii_lines.specs.Serve.{IsRequest};
+ghost use Rattle.std.specs.Str.{IsAscii};
 
 use crate::answer::Answer;
 use crate::devices::{Device, Given, Taken};
-use crate::lines_in_and_out::put_error;
-use ascii::{AsciiStr, text};
+use crate::lines_in_and_out::{put_error, put_write_error};
+use ascii::{AsciiStr, bytes, text};
 use ascii_lines::{
     Duplex, Ending, Endings, Handler, LineChannel, LineError, Next, Replies, Sink, Stop, serve,
 };
@@ -49,6 +50,40 @@ pub fn ask_served(
     answer.finish()
 }
 
+/// What a greeting returns, and after one that is written a conversation; the position in the input after the greeting and
+/// after the conversation, and what the writer took.
+pub fn ask_greeted(
+    alloc: Global,
+    size: usize,
+    greeting: &[u8],
+    source: &[u8],
+    reads: &Device,
+    writes: &Device,
+    room: &mut [u8],
+) -> usize
+    requires { IsAscii greeting.now }
+{
+    let mut answer = Answer::new(room);
+    let greeting = bytes::as_ascii_str_unchecked(greeting);
+    let device = Duplex::new(Given::new(source, *reads), Taken::new(alloc, *writes));
+    if let Ok(mut lines) = LineChannel::new(alloc, device, size, Endings::Any, Ending::CrLf) {
+        match lines.greet(greeting) {
+            Ok(()) => {
+                answer.long(lines.position());
+                let mut words = Words { count: 0 };
+                let _ = serve(&mut lines, &mut words);
+            }
+            Err(error) => put_write_error(error, &mut answer),
+        }
+        answer.long(lines.position());
+        let (_, output) = lines.into_device().into_parts();
+        answer.bytes(&output.into_inner().bytes);
+    } else {
+        answer.failed();
+    }
+    answer.finish()
+}
+
 /// The view of a text, which is empty if the text is not ASCII.
 fn ascii(source: &str) -> AsciiStr<'_> {
     text::as_ascii_str(source).unwrap_or_default()
@@ -66,7 +101,6 @@ impl Words {
         ensures { IsRequest result.1 }
     {
         match text.as_str() {
-            "quit" => ("bye\r\n", Next::Close),
             "part" => ("", Next::Part(4)),
             "two" => ("one\r\ntwo\r\n", Next::Line),
             _ if count > 9 => ("many\r\n", Next::Line),
@@ -89,6 +123,10 @@ impl Handler for Words {
         replies: &mut Replies<K, A>,
     ) -> Next {
         self.count = self.count.saturating_add(1);
+        if text.as_str() == "quit" {
+            replies.fixed_line(AsciiStr::literal("bye"));
+            return Next::Close;
+        }
         if ending == Ending::Absent && text.as_str() == "cut" {
             replies.part(ascii("cut off"));
             return Next::Close;
