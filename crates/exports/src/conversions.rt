@@ -16,20 +16,34 @@ use std::fmt::{self, Write as _};
 pub fn ask_conversions(alloc: Global, source: &[u8], room: &mut [u8]) -> usize {
     let mut answer = Answer::new(room);
     put_copy(bytes::to_ascii_string(alloc, source), &mut answer);
-    if let Ok(list) = Vec::from_slice(alloc, source) {
-        if let Some(list) = put(vec::into_ascii_string(list), &mut answer) {
-            answer.bytes(&list);
-        }
-    }
+    put_vec(Vec::from_slice(alloc, source), &mut answer);
     if let Ok(source) = str::from_utf8(source) {
         put_copy(text::to_ascii_string(alloc, source), &mut answer);
-        if let Ok(owned) = String::from_str(alloc, source) {
-            if let Some(owned) = put(string::into_ascii_string(owned), &mut answer) {
+        put_string(String::from_str(alloc, source), &mut answer);
+    }
+    answer.finish()
+}
+
+fn put_vec(source: Result<Vec<u8>, AllocError>, answer: &mut Answer<'_>) {
+    match source {
+        Ok(list) => {
+            if let Some(list) = put(vec::into_ascii_string(list), answer) {
+                answer.bytes(&list);
+            }
+        }
+        Err(_) => answer.failed(),
+    }
+}
+
+fn put_string(source: Result<String, AllocError>, answer: &mut Answer<'_>) {
+    match source {
+        Ok(owned) => {
+            if let Some(owned) = put(string::into_ascii_string(owned), answer) {
                 answer.name(owned.as_str());
             }
         }
+        Err(_) => answer.failed(),
     }
-    answer.finish()
 }
 
 fn put_copy<O: Drop>(copy: Result<AsciiString, CopyError<O>>, answer: &mut Answer<'_>) {
@@ -67,9 +81,12 @@ pub fn ask_round_trips(alloc: Global, source: &[u8], room: &mut [u8]) -> usize
     answer.owned(through_chars(alloc, view));
     answer.owned(through_boxes(alloc, view));
     answer.owned(through_inline(alloc, view));
-    if let Ok(string) = view.to_ascii_string(alloc) {
-        answer.owned(string.clone());
-        answer.name(String::from(string).as_str());
+    match view.to_ascii_string(alloc) {
+        Ok(string) => {
+            answer.owned(string.clone());
+            answer.name(String::from(string).as_str());
+        }
+        Err(_) => answer.failed(),
     }
     answer.finish()
 }
@@ -118,10 +135,12 @@ fn write<B: AsciiBuf + fmt::Write + Drop>(
     piece: &str,
     answer: &mut Answer<'_>,
 ) {
-    if let Ok(buf) = made {
-        let mut buf = buf;
-        answer.flag(buf.write_str(piece).is_ok());
-        answer.text(buf.as_ascii_str());
+    match made {
+        Ok(mut buf) => {
+            answer.flag(buf.write_str(piece).is_ok());
+            answer.text(buf.as_ascii_str());
+        }
+        Err(_) => answer.failed(),
     }
 }
 
@@ -131,9 +150,13 @@ pub fn ask_character_written(alloc: Global, number: u32, source: &[u8], room: &m
 {
     let view = bytes::as_ascii_str_unchecked(source);
     let mut answer = Answer::new(room);
-    if let (Some(ch), Ok(mut string)) = (char::from_u32(number), view.to_ascii_string(alloc)) {
-        answer.flag(string.write_char(ch).is_ok());
-        answer.text(string.as_ascii_str());
+    match (view.to_ascii_string(alloc), char::from_u32(number)) {
+        (Ok(mut string), Some(ch)) => {
+            answer.flag(string.write_char(ch).is_ok());
+            answer.text(string.as_ascii_str());
+        }
+        (Ok(_), None) => answer.none(),
+        (Err(_), _) => answer.failed(),
     }
     answer.finish()
 }
@@ -145,10 +168,13 @@ pub fn ask_collected(alloc: Global, code: u8, source: &[u8], room: &mut [u8]) ->
     let view = bytes::as_ascii_str_unchecked(source);
     let mut answer = Answer::new(room);
     if let Ok(on) = AsciiChar::from_ascii(code) {
-        if let Ok(mut string) = AsciiString::collect_strs(alloc, view.split(on)) {
-            answer.text(string.as_ascii_str());
-            answer.flag(string.extend_strs(view.lines()).is_ok());
-            answer.text(string.as_ascii_str());
+        match AsciiString::collect_strs(alloc, view.split(on)) {
+            Ok(mut string) => {
+                answer.text(string.as_ascii_str());
+                answer.flag(string.extend_strs(view.lines()).is_ok());
+                answer.text(string.as_ascii_str());
+            }
+            Err(_) => answer.failed(),
         }
     }
     answer.finish()
@@ -160,11 +186,14 @@ pub fn ask_split_off(alloc: Global, at: usize, source: &[u8], room: &mut [u8]) -
 {
     let view = bytes::as_ascii_str_unchecked(source);
     let mut answer = Answer::new(room);
-    if let Ok(mut string) = view.to_ascii_string(alloc) {
-        if at <= string.len() {
-            answer.owned(string.split_off(at));
-            answer.text(string.as_ascii_str());
+    match view.to_ascii_string(alloc) {
+        Ok(mut string) => {
+            if at <= string.len() {
+                answer.owned(string.split_off(at));
+                answer.text(string.as_ascii_str());
+            }
         }
+        Err(_) => answer.failed(),
     }
     answer.finish()
 }

@@ -10,8 +10,8 @@ use crate::walks::ending_name;
 use ascii::iter::Ending;
 use ascii::{AsciiChar, AsciiStr, bytes};
 use ascii_lines::{
-    Duplex, Endings, Handler, Input, LineChannel, LineError, LineReader, LineWriter, Next, Output,
-    Replies, Sink, SkippedLine, Stop, WriteError, collect_lines, serve,
+    CollectedLines, Duplex, Endings, Handler, Input, LineChannel, LineError, LineReader,
+    LineWriter, Next, Output, Replies, Sink, SkippedLine, Stop, WriteError, collect_lines, serve,
 };
 use std::alloc::{Allocator, Global};
 
@@ -121,7 +121,7 @@ fn put_error_at(name: &str, position: u64, answer: &mut Answer<'_>) {
     answer.long(position);
 }
 
-/// The lines that are collected, and the error or none.
+/// The lines that are collected, and the error or none; or the position of the reader after an allocation that failed.
 pub fn ask_collected_lines(
     alloc: Global,
     source: &[u8],
@@ -132,22 +132,27 @@ pub fn ask_collected_lines(
     let mut answer = Answer::new(room);
     let source = Input::new(Given::new(source, *device));
     if let Ok(mut reader) = LineReader::new(alloc, source, size, Endings::Any) {
-        if let Ok(kept) = collect_lines(alloc, &mut reader) {
-            for line in &kept.lines {
-                put_line(
-                    line.start,
-                    line.text.as_ascii_str(),
-                    line.ending,
-                    &mut answer,
-                );
-            }
-            match kept.error {
-                Some(error) => put_error(error, &mut answer),
-                None => answer.none(),
+        match collect_lines(alloc, &mut reader) {
+            Ok(kept) => put_collected(&kept, &mut answer),
+            Err(_) => {
+                answer.failed();
+                answer.long(reader.position());
             }
         }
+    } else {
+        answer.failed();
     }
     answer.finish()
+}
+
+fn put_collected(kept: &CollectedLines, answer: &mut Answer<'_>) {
+    for line in &kept.lines {
+        put_line(line.start, line.text.as_ascii_str(), line.ending, answer);
+    }
+    match kept.error {
+        Some(error) => put_error(error, answer),
+        None => answer.none(),
+    }
 }
 
 /// What a writer with a buffer of `size` bytes returns to each step, the number of calls of its sink, and what that
@@ -165,7 +170,8 @@ pub fn ask_writer(
 {
     let texts = bytes::as_ascii_str_unchecked(texts);
     let mut answer = Answer::new(room);
-    if let Ok(mut writer) = LineWriter::new(alloc, Output::new(Taken::new(alloc, *device)), size) {
+    let sink = Output::new(Taken::new(alloc, *device));
+    if let Ok(mut writer) = LineWriter::new(alloc, sink, size) {
         for step in steps {
             match write(&mut writer, *step, texts) {
                 Ok(()) => answer.name("done"),
@@ -229,6 +235,8 @@ pub fn ask_conversation(
         }
         let (_, output) = lines.into_device().into_parts();
         answer.bytes(&output.into_inner().bytes);
+    } else {
+        answer.failed();
     }
     answer.finish()
 }

@@ -3,6 +3,7 @@
 ghost use Rattle.std.specs.Str.{IsAscii};
 
 use crate::answer::Answer;
+use crate::copies::put_text_of;
 use ascii::{AsciiChar, bytes, json};
 use ascii_run::SmallAsciiString;
 use std::alloc::{AllocError, Global};
@@ -30,12 +31,9 @@ pub fn ask_printed(alloc: Global, form: u8, source: &[u8], room: &mut [u8]) -> u
 pub fn ask_printed_characters(alloc: Global, form: u8, codes: &[u8], room: &mut [u8]) -> usize {
     let mut answer = Answer::new(room);
     for code in codes {
-        put(
-            alloc,
-            form,
-            AsciiChar::from_ascii(*code).map_err(|_| AllocError),
-            &mut answer,
-        );
+        if let Ok(ch) = AsciiChar::from_ascii(*code) {
+            put(alloc, form, Ok(ch), &mut answer);
+        }
     }
     answer.finish()
 }
@@ -46,10 +44,9 @@ fn put<T: fmt::Display + fmt::Debug + Drop>(
     value: Result<T, AllocError>,
     answer: &mut Answer<'_>,
 ) {
-    if let Ok(value) = value {
-        if let Ok(text) = print(alloc, form, &value) {
-            answer.name(text.as_str());
-        }
+    match value {
+        Ok(value) => answer.std_string(print(alloc, form, &value)),
+        Err(_) => answer.failed(),
     }
 }
 
@@ -79,13 +76,12 @@ pub fn ask_json(alloc: Global, source: &[u8], room: &mut [u8]) -> usize
     requires { IsAscii source.now }
 {
     let mut answer = Answer::new(room);
-    if let Ok(value) = bytes::as_ascii_str_unchecked(source).to_json(alloc) {
-        if let Ok(text) = format!(in alloc; "{value}") {
-            answer.name(text.as_str());
+    match bytes::as_ascii_str_unchecked(source).to_json(alloc) {
+        Ok(value) => {
+            answer.std_string(format!(in alloc; "{value}"));
+            put_text_of(json::string_from_json(alloc, &value), &mut answer);
         }
-        if let Ok(string) = json::string_from_json(alloc, &value) {
-            answer.text(string.as_ascii_str());
-        }
+        Err(_) => answer.failed(),
     }
     answer.finish()
 }

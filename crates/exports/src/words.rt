@@ -113,9 +113,7 @@ fn read_number<N: Number + std::string::ToString + Drop>(
 }
 
 fn put_number<N: std::string::ToString + Drop>(alloc: Global, n: N, answer: &mut Answer<'_>) {
-    if let Ok(digits) = n.to_string(alloc) {
-        answer.name(digits.as_str());
-    }
+    answer.std_string(n.to_string(alloc));
 }
 
 fn put_error(error: NumberError, answer: &mut Answer<'_>) {
@@ -156,9 +154,15 @@ fn push_digits<I: Integer>(
     view: AsciiStr<'_>,
     answer: &mut Answer<'_>,
 ) {
-    if let (Some(number), Ok(mut string)) = (number, view.to_ascii_string(alloc)) {
-        answer.flag(string.push_decimal(number).is_ok());
-        answer.text(string.as_ascii_str());
+    let Some(number) = number else {
+        return;
+    };
+    match view.to_ascii_string(alloc) {
+        Ok(mut string) => {
+            answer.flag(string.push_decimal(number).is_ok());
+            answer.text(string.as_ascii_str());
+        }
+        Err(_) => answer.failed(),
     }
 }
 
@@ -168,12 +172,13 @@ pub fn ask_retain(alloc: Global, code: u8, source: &[u8], room: &mut [u8]) -> us
 {
     let view = bytes::as_ascii_str_unchecked(source);
     let mut answer = Answer::new(room);
-    if let (Ok(other), Ok(mut string)) = (
-        AsciiChar::from_ascii(code),
-        view.to_ascii_string(alloc),
-    ) {
-        string.retain(|ch| ch != other);
-        answer.text(string.as_ascii_str());
+    match (AsciiChar::from_ascii(code), view.to_ascii_string(alloc)) {
+        (Ok(other), Ok(mut string)) => {
+            string.retain(|ch| ch != other);
+            answer.text(string.as_ascii_str());
+        }
+        (_, Err(_)) => answer.failed(),
+        _ => (),
     }
     answer.finish()
 }
