@@ -2,18 +2,19 @@
 
 mod characters;
 pub mod conversions;
+pub mod copies;
 pub mod edits;
 pub mod engines;
 pub mod lines;
 pub mod prints;
 mod recipes;
-mod searches;
+pub mod searches;
 pub mod slices;
 pub mod texts;
 #[cfg(upstream)]
 mod upstream;
 pub mod walks;
-mod words;
+pub mod words;
 
 use crate::asked::Asked;
 use crate::random::Random;
@@ -30,18 +31,38 @@ pub struct Kind {
     pub turns: u32,
     /// The most small cases that are asked for each length.
     pub small: u64,
+    /// Whether its calls may allocate.
+    pub allocates: Allocates,
+}
+
+/// What is known of a kind whose calls allocate.
+#[derive(Clone, Copy, PartialEq)]
+pub enum Allocates {
+    /// They do not.
+    Never,
+    /// What they answer if an allocation fails.
+    Declared,
+    /// Nothing: another kind asks the same calls, or capacities after a failure are not known.
+    Undeclared,
+}
+
+impl Kind {
+    /// A kind whose calls allocate.
+    const fn allocating(self) -> Kind {
+        Kind { allocates: Allocates::Declared, ..self }
+    }
 }
 
 /// The most small cases of most kinds.
 const SMALL: u64 = 20_000;
 
 const fn kind(name: &'static str, ask: Ask) -> Kind {
-    Kind { name, ask: Some(ask), turns: 1, small: SMALL }
+    Kind { name, ask: Some(ask), turns: 1, small: SMALL, allocates: Allocates::Never }
 }
 
 /// A kind whose questions take long.
 const fn long(name: &'static str, turns: u32, ask: Ask) -> Kind {
-    Kind { name, ask: Some(ask), turns, small: if turns < 1000 { SMALL } else { 500 } }
+    Kind { turns, small: if turns < 1000 { SMALL } else { 500 }, ..kind(name, ask) }
 }
 
 /// A kind whose answers come from the upstream crate.
@@ -55,6 +76,7 @@ macro_rules! upstream {
             ask: None,
             turns: $turns,
             small: SMALL,
+            allocates: Allocates::Undeclared,
         }
     };
 }
@@ -73,17 +95,17 @@ pub static KINDS: &[Kind] = &[
     kind("kernels that change case", texts::case_in_place),
     kind("kernels that compare", texts::equal_bytes),
     // Every length up to 300, and every position in it.
-    Kind { name: "kernels at the end of a page", ask: Some(texts::at_page_end), turns: 64, small: 301 * 302 / 2 },
+    Kind { small: 301 * 302 / 2, ..long("kernels at the end of a page", 64, texts::at_page_end) },
     kind("trimmed texts", texts::trims),
-    kind("upper and lower case", texts::cases),
+    kind("upper and lower case", texts::cases).allocating(),
     kind("compared texts", texts::comparisons),
-    kind("compared strings", texts::owned_comparisons),
-    kind("hashes", texts::hashes),
+    kind("compared strings", texts::owned_comparisons).allocating(),
+    kind("hashes", texts::hashes).allocating(),
     kind("texts found", searches::text),
     long("texts found, ignoring case", 2, searches::folded),
     kind("characters found", searches::character),
     kind("at most n pieces", searches::splitn),
-    kind("replaced texts", searches::replace),
+    kind("replaced texts", searches::replace).allocating(),
     kind("pieces", walks::split),
     kind("pieces with starts", walks::split_spans),
     kind("pieces in other forms", walks::pieces_by_form),
@@ -95,42 +117,49 @@ pub static KINDS: &[Kind] = &[
     kind("characters of a view", walks::chars_of_view),
     kind("words", walks::words),
     kind("chunks", walks::chunks),
-    kind("numbers read", words::numbers),
-    kind("numbers appended", words::decimals),
-    kind("characters kept", words::retain),
-    kind("conversions", conversions::all),
-    kind("round trips", conversions::round_trips),
-    kind("pieces written", conversions::written),
-    kind("characters written", conversions::character_written),
-    kind("collected texts", conversions::collected),
-    kind("strings cut in two", conversions::split_off),
-    kind("printed texts", prints::texts),
-    kind("printed characters", prints::characters),
-    kind("JSON texts", prints::json),
-    long("edits", 4, edits::string),
-    long("edits of inline strings", 4, edits::small),
-    long("capacities", 2, edits::capacities),
-    long("capacities of inline strings", 4, edits::small_capacities),
-    kind("lines of a reader", lines::reader),
-    kind("steps of a reader", lines::steps),
-    kind("a reader that fails", lines::failing_reader),
-    kind("collected lines", lines::collected),
-    kind("written lines", lines::written),
-    kind("a writer that fails", lines::failing_writer),
-    kind("conversations", lines::conversations),
-    long("lines of long inputs", 8192, lines::long_inputs),
-    kind("modes of the engine", engines::engine),
-    long("modes of the bounded engine", 8, engines::bounded),
-    long("engines that fail", 8, engines::failing),
-    long("the engine over long inputs", 16_384, engines::long_inputs),
-    long("the bounded engine over long inputs", 65_536, engines::long_bounded),
+    kind("numbers read", words::numbers).allocating(),
+    kind("numbers appended", words::decimals).allocating(),
+    kind("characters kept", words::retain).allocating(),
+    kind("conversions", conversions::all).allocating(),
+    kind("round trips", conversions::round_trips).allocating(),
+    kind("pieces written", conversions::written).allocating(),
+    kind("characters written", conversions::character_written).allocating(),
+    kind("collected texts", conversions::collected).allocating(),
+    kind("strings cut in two", conversions::split_off).allocating(),
+    kind("copies", copies::copies).allocating(),
+    kind("conversions that return the source", copies::turned).allocating(),
+    kind("JSON values", copies::json_values).allocating(),
+    kind("walks", copies::walks).allocating(),
+    kind("strings extended by characters", copies::extended).allocating(),
+    kind("texts formatted into a string", copies::formatted).allocating(),
+    kind("runs over both strings", copies::both_runs).allocating(),
+    kind("printed texts", prints::texts).allocating(),
+    kind("printed characters", prints::characters).allocating(),
+    kind("JSON texts", prints::json).allocating(),
+    long("edits", 4, edits::string).allocating(),
+    long("edits of inline strings", 4, edits::small).allocating(),
+    long("capacities", 2, edits::capacities).allocating(),
+    Kind { allocates: Allocates::Undeclared, ..long("capacities of inline strings", 4, edits::small_capacities) },
+    kind("lines of a reader", lines::reader).allocating(),
+    kind("steps of a reader", lines::steps).allocating(),
+    kind("a reader that fails", lines::failing_reader).allocating(),
+    kind("collected lines", lines::collected).allocating(),
+    kind("written lines", lines::written).allocating(),
+    kind("a writer that fails", lines::failing_writer).allocating(),
+    kind("conversations", lines::conversations).allocating(),
+    long("lines of long inputs", 8192, lines::long_inputs).allocating(),
+    kind("modes of the engine", engines::engine).allocating(),
+    long("modes of the bounded engine", 8, engines::bounded).allocating(),
+    long("engines that fail", 8, engines::failing).allocating(),
+    long("the engine over long inputs", 16_384, engines::long_inputs).allocating(),
+    long("the bounded engine over long inputs", 65_536, engines::long_bounded).allocating(),
     kind("headers", recipes::header),
-    long("blocks of headers", 8, recipes::block),
-    kind("host names", recipes::hosts),
+    long("blocks of headers", 8, recipes::block).allocating(),
+    kind("host names", recipes::hosts).allocating(),
     kind("settings", recipes::setting),
-    kind("rows", recipes::row),
-    long("texts on a screen", 4, recipes::screen),
-    kind("texts with marks", recipes::lossy),
+    kind("rows", recipes::row).allocating(),
+    long("texts on a screen", 4, recipes::screen).allocating(),
+    kind("texts with marks", recipes::lossy).allocating(),
     kind("last lines", recipes::last_lines),
     upstream!("upstream: slices", 1, upstream::slices),
     upstream!("upstream: mutable slices", 1, upstream::slice_mut),

@@ -1,8 +1,9 @@
 //! Printed texts and characters, by std, and JSON by a plain loop.
 
 use super::characters::codes;
+use super::edits::INLINE;
 use super::string;
-use crate::asked::Asked;
+use crate::asked::{Answer, Asked, Needs};
 use crate::calls;
 use crate::random::Random;
 use std::fmt::{Debug, Display};
@@ -36,13 +37,17 @@ pub fn texts(random: &mut Random, asked: &mut Asked) {
 pub fn ask_printed(form: usize, text: &str, asked: &mut Asked) {
     calls::ask_printed(asked, form as u8, text.as_bytes());
     let printed = printed(form, text);
-    (0..4).for_each(|_| asked.want.text(&printed));
+    let is_printed = !printed.is_empty();
+    // Two views, a string and an inline one.
+    for makes in [false, false, !text.is_empty(), text.len() > INLINE] {
+        asked.want.allocated(Needs::memory_if(makes || is_printed), |want| want.text(&printed));
+    }
 }
 
 pub fn characters(random: &mut Random, asked: &mut Asked) {
     let (form, codes) = (random.below(FORMS), codes(random, 128));
     calls::ask_printed_characters(asked, form as u8, &codes);
-    codes.iter().for_each(|code| asked.want.text(printed(form, &(*code as char))));
+    codes.iter().for_each(|code| asked.want.copy(printed(form, &(*code as char))));
 }
 
 /// The codes of a JSON string, without its quotes.
@@ -74,6 +79,16 @@ pub fn json(random: &mut Random, asked: &mut Asked) {
 
 pub fn ask_json(text: &[u8], asked: &mut Asked) {
     calls::ask_json(asked, text);
-    asked.want.text(quoted(text));
-    asked.want.text(text);
+    let want = &mut asked.want;
+    let start = want.bytes.len();
+    want.text(quoted(text));
+    let after = want.bytes.len();
+    want.text(text);
+    let some = Needs::memory_if(!text.is_empty());
+    want.fails(some, start, Answer::failed);
+    want.fails(Needs::Memory, start, |want| {
+        want.failed();
+        want.text(text);
+    });
+    want.fails(some, after, Answer::failed);
 }

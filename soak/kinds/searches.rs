@@ -6,7 +6,7 @@ use crate::calls;
 use crate::random::Random;
 
 /// Asks for a needle in a text.
-fn find(text: String, needle: String, asked: &mut Asked) {
+pub fn ask_find(text: String, needle: String, asked: &mut Asked) {
     calls::ask_find(asked, text.as_bytes(), needle.as_bytes());
     let (text, needle, want) = (text.as_str(), needle.as_str(), &mut asked.want);
     let (low, lower) = (text.to_ascii_lowercase(), needle.to_ascii_lowercase());
@@ -29,7 +29,7 @@ fn find(text: String, needle: String, asked: &mut Asked) {
 pub fn text(random: &mut Random, asked: &mut Asked) {
     let text = random.text();
     let needle = random.needle(&text);
-    find(string(text), string(needle), asked);
+    ask_find(string(text), string(needle), asked);
 }
 
 /// A needle that mostly is a prefix or a suffix of the text in another case.
@@ -38,12 +38,15 @@ pub fn folded(random: &mut Random, asked: &mut Asked) {
     let at = random.count(text.len());
     let part = if random.below(2) == 0 { &text[at..] } else { &text[..at] };
     let needle = random.other(part);
-    find(string(text), string(needle), asked);
+    ask_find(string(text), string(needle), asked);
 }
 
 pub fn character(random: &mut Random, asked: &mut Asked) {
     let text = random.text();
-    let code = random.code_of(&text);
+    ask_find_character(random.code_of(&text), text, asked);
+}
+
+pub fn ask_find_character(code: u8, text: Vec<u8>, asked: &mut Asked) {
     calls::ask_find_character(asked, code, &text);
     let (text, on, want) = (string(text), code as char, &mut asked.want);
     want.position(text.find(on));
@@ -62,10 +65,13 @@ pub fn splitn(random: &mut Random, asked: &mut Asked) {
 
 pub fn replace(random: &mut Random, asked: &mut Asked) {
     let text = random.text();
-    let (needle, text) = (string(random.needle(&text)), string(text));
-    let to = string(random.short_text());
+    let needle = random.needle(&text);
+    ask_replace(string(text), &string(needle), &string(random.short_text()), asked);
+}
+
+pub fn ask_replace(text: String, needle: &str, to: &str, asked: &mut Asked) {
     calls::ask_replace(asked, text.as_bytes(), needle.as_bytes(), to.as_bytes());
     if !needle.is_empty() {
-        asked.want.text(text.replace(&needle, &to));
+        asked.want.copy(text.replace(needle, to));
     }
 }

@@ -2,7 +2,7 @@
 
 use super::characters::is_white;
 use super::walks::{pieces_by, span, take, words_and_rests, words_of};
-use crate::asked::{Answer, Asked};
+use crate::asked::{Answer, Asked, Needs};
 use crate::calls;
 use crate::random::Random;
 
@@ -53,6 +53,9 @@ pub fn class(random: &mut Random, asked: &mut Asked) {
     calls::ask_class(asked, class, &source, &script);
     class_answers(class, &source, &script, &mut asked.want);
 }
+
+/// The number of the class of digits.
+pub const DIGIT: u8 = 5;
 
 pub fn class_answers(class: u8, source: &[u8], script: &[u8], want: &mut Answer) {
     let is_in = CLASSES[usize::from(class)];
@@ -124,8 +127,11 @@ fn digits(random: &mut Random) -> Vec<u8> {
 }
 
 pub fn numbers(random: &mut Random, asked: &mut Asked) {
-    let text = digits(random);
-    calls::ask_numbers(asked, &text);
+    ask_numbers(&digits(random), asked);
+}
+
+pub fn ask_numbers(text: &[u8], asked: &mut Asked) {
+    calls::ask_numbers(asked, text);
     let end = text.iter().position(|byte| !byte.is_ascii_digit()).unwrap_or(text.len());
     for most in MOST {
         let (read, want) = (number_of(&text[..end], most), &mut asked.want);
@@ -133,14 +139,14 @@ pub fn numbers(random: &mut Random, asked: &mut Asked) {
             _ if text.is_empty() => want.text("empty"),
             Err(at) => want.fault("large", at),
             Ok(_) if end < text.len() => want.fault("digit", end),
-            Ok(n) => want.text(n.to_string()),
+            Ok(n) => want.copy(n.to_string()),
         }
         match read {
             _ if text.is_empty() => want.text("empty"),
             Err(at) => want.fault("large", at),
             Ok(_) if end == 0 => want.fault("digit", 0),
             Ok(n) => {
-                want.text(n.to_string());
+                want.copy(n.to_string());
                 want.text(&text[end..]);
             }
         }
@@ -160,9 +166,16 @@ pub fn decimals(random: &mut Random, asked: &mut Asked) {
         u16::try_from(low).ok().map(|number| number.to_string()),
         i8::try_from(signed).ok().map(|number| number.to_string()),
     ];
+    let (want, some) = (&mut asked.want, Needs::memory_if(!text.is_empty()));
     for digits in digits.into_iter().flatten() {
-        asked.want.flag(true);
-        asked.want.text([&text, digits.as_bytes()].concat());
+        let start = want.bytes.len();
+        want.flag(true);
+        want.text([&text, digits.as_bytes()].concat());
+        want.fails(some, start, Answer::failed);
+        want.fails(Needs::Memory, start, |want| {
+            want.flag(false);
+            want.text(&text);
+        });
     }
 }
 
@@ -170,5 +183,6 @@ pub fn retain(random: &mut Random, asked: &mut Asked) {
     let text = random.text();
     let code = random.code_of(&text);
     calls::ask_retain(asked, code, &text);
-    asked.want.text(text.iter().copied().filter(|other| *other != code).collect::<Vec<u8>>());
+    let kept: Vec<u8> = text.iter().copied().filter(|other| *other != code).collect();
+    asked.want.allocated(Needs::memory_if(!text.is_empty()), |want| want.text(kept));
 }

@@ -60,6 +60,8 @@ fn in_an_allocation(rows: &mut Rows) {
         asked.want.text("done");
         asked.want.text("done");
         asked.want.text("content");
+        // The capacities after a failure are not known.
+        asked.want.has_other_failures = true;
     });
 }
 
@@ -83,11 +85,11 @@ fn rising(rows: &mut Rows) {
 fn printed(rows: &mut Rows) {
     rows.ask(|asked| {
         calls::ask_printed(asked, 10, b"abc");
-        (0..4).for_each(|_| asked.want.text("  abc"));
+        (0..4).for_each(|_| asked.want.copy("  abc"));
     });
     rows.ask(|asked| {
         calls::ask_printed(asked, 1, b"\0\t'\\\x7f");
-        (0..4).for_each(|_| asked.want.text("\"\\0\\t'\\\\\\u{7f}\""));
+        (0..4).for_each(|_| asked.want.copy("\"\\0\\t'\\\\\\u{7f}\""));
     });
     for form in 0..crate::kinds::prints::FORMS {
         rows.ask(|asked| ask_printed(form, "\0\t'\\\x7f", asked));

@@ -1,0 +1,305 @@
+//! Copies, conversions and growths, by std and by plain loops.
+
+use super::edits::{random_commands, Commands, Edited, INLINE};
+use super::walks::{ending, lines_of, pieces, span, take, Item};
+use crate::asked::{Answer, Asked, Needs};
+use crate::calls;
+use crate::heap::{Fails, ONE};
+use crate::random::Random;
+
+/// A text in which many characters are escaped, with commas.
+fn escaped(random: &mut Random) -> Vec<u8> {
+    if random.below(2) == 0 {
+        return random.text();
+    }
+    random.joined(&[b"a", b"\\t", b",", b"\\x4A", b"\\\\", b"\\", b"\\xc4", b"n"])
+}
+
+/// The text that escapes represent, or why they do not, with a position.
+fn unescaped(text: &[u8]) -> Result<Vec<u8>, (&'static str, usize)> {
+    let (mut out, mut at) = (Vec::new(), 0);
+    while let Some(byte) = text.get(at) {
+        let digits = |text: &[u8]| -> Option<u8> {
+            let digits = text.get(at + 2..at + 4).filter(|digits| digits.iter().all(u8::is_ascii_hexdigit))?;
+            u8::from_str_radix(std::str::from_utf8(digits).ok()?, 16).ok()
+        };
+        let (code, size) = match (byte, text.get(at + 1)) {
+            (b'\\', Some(b't')) => (b'\t', 2),
+            (b'\\', Some(b'r')) => (b'\r', 2),
+            (b'\\', Some(b'n')) => (b'\n', 2),
+            (b'\\', Some(quote @ (b'\'' | b'"' | b'\\'))) => (*quote, 2),
+            (b'\\', Some(b'x')) => (digits(text).ok_or(("invalid", at))?, 4),
+            (b'\\', _) => return Err(("invalid", at)),
+            (byte, _) => (*byte, 1),
+        };
+        if !code.is_ascii() {
+            return Err(("ascii", at));
+        }
+        out.push(code);
+        at += size;
+    }
+    Ok(out)
+}
+
+pub fn copies(random: &mut Random, asked: &mut Asked) {
+    ask_copies(&escaped(random), asked);
+}
+
+pub fn ask_copies(text: &[u8], asked: &mut Asked) {
+    calls::ask_copies(asked, text);
+    let (want, some) = (&mut asked.want, Needs::memory_if(!text.is_empty()));
+    want.copy(text.repeat(2));
+    want.allocated(some, |want| match unescaped(text) {
+        Ok(text) => want.text(text),
+        Err((name, position)) => want.fault(name, position),
+    });
+    let fields: Vec<&[u8]> = text.split(|byte| *byte == b',').collect();
+    want.copy(fields.join(&b"--"[..]));
+    // Characters are appended one by one if there is no memory for all that were gathered.
+    want.text(text);
+    want.absorbs(some);
+    want.copy(text);
+    text.first().iter().for_each(|code| want.copy([**code]));
+    want.copy(text);
+    // A shared text is in an allocation also if it is empty.
+    want.allocated(Needs::Memory, |want| want.text(text));
+    expect_small(text, want);
+}
+
+/// The copy of an inline string, and the string.
+fn expect_small(text: &[u8], want: &mut Answer) {
+    let (long, start) = (Needs::memory_if(text.len() > INLINE), want.bytes.len());
+    want.text(text);
+    want.text(text);
+    want.fails(long, start, Answer::failed);
+    want.fails(long, start, |want| returned(text, want));
+}
+
+/// The source of a conversion for which there was no memory.
+fn returned(text: &[u8], want: &mut Answer) {
+    want.failed();
+    want.text(text);
+}
+
+pub fn turned(random: &mut Random, asked: &mut Asked) {
+    ask_turned(&random.text(), asked);
+}
+
+/// A conversion of an owned text: if there is no memory for the text, it is not asked for, and otherwise the text is
+/// returned.
+fn expect_turned(text: &[u8], copy: Needs, conversion: Needs, want: &mut Answer, put: impl FnOnce(&mut Answer)) {
+    let start = want.bytes.len();
+    put(want);
+    want.fails(copy, start, Answer::failed);
+    want.fails(conversion, start, |want| returned(text, want));
+}
+
+pub fn ask_turned(text: &[u8], asked: &mut Asked) {
+    calls::ask_turned(asked, text);
+    let want = &mut asked.want;
+    let (some, none) = (Needs::memory_if(!text.is_empty()), Needs::Nothing);
+    let put = |want: &mut Answer| want.text(text);
+    expect_turned(text, some, some, want, |want| text.iter().for_each(|code| want.number((*code).into())));
+    expect_turned(text, some, Needs::Memory, want, put);
+    expect_turned(text, none, some, want, put);
+    expect_turned(text, some, none, want, put);
+    expect_turned(text, some, none, want, put);
+    // An inline text that is not in an allocation has to be copied.
+    let (long, short) = (text.len() > INLINE, (1..=INLINE).contains(&text.len()));
+    expect_turned(text, Needs::memory_if(long), Needs::memory_if(short), want, put);
+}
+
+pub fn json_values(random: &mut Random, asked: &mut Asked) {
+    ask_json_values(&random.text(), asked);
+}
+
+/// The value of a number is not a text.
+pub fn ask_json_values(text: &[u8], asked: &mut Asked) {
+    calls::ask_json_values(asked, text);
+    let want = &mut asked.want;
+    want.copy(text);
+    want.copy(text);
+    text.first().iter().for_each(|code| want.copy([**code]));
+    want.copy(text);
+    want.none();
+}
+
+pub fn walks(random: &mut Random, asked: &mut Asked) {
+    let (text, script) = (random.text(), random.script(2));
+    let code = random.code_of(&text);
+    ask_walks(code, &text, &script, asked);
+}
+
+pub fn ask_walks(code: u8, text: &[u8], script: &[u8], asked: &mut Asked) {
+    calls::ask_walks(asked, code, text, script);
+    let (want, some) = (&mut asked.want, Needs::memory_if(!script.is_empty()));
+    let (mut lines, mut items) = (lines_of(text), pieces(text, code));
+    let lines: Vec<Option<Item>> = script.iter().map(|number| take(&mut lines, *number)).collect();
+    let items: Vec<Option<Item>> = script.iter().map(|number| take(&mut items, *number)).collect();
+    let mut ends = vec![0];
+    for (parts, with_starts) in [(&lines, false), (&lines, true), (&items, false), (&items, true)] {
+        for part in parts {
+            let body = part.map(|part| (part.start, &text[part.start..part.end]));
+            match (body, with_starts) {
+                (Some((start, _)), true) if std::ptr::eq(parts, &lines) => {
+                    want.fault(ending(part.expect("a line")), start);
+                    want.part(body.map(|body| body.1));
+                }
+                (_, true) => span(0, body, want),
+                _ => want.part(body.map(|body| body.1)),
+            }
+        }
+        ends.push(want.bytes.len());
+    }
+    // The script, and each of the lists.
+    want.fails(some, 0, Answer::failed);
+    ends.windows(2).for_each(|ends| want.fails_in(some, ends[0]..ends[1], Answer::failed));
+}
+
+/// Allocations that are counted, and of which some fail.
+struct Memory {
+    count: u64,
+    fails: Fails,
+    first: u64,
+}
+
+/// A string that is extended by characters.
+struct Extended {
+    bytes: Vec<u8>,
+    memory: Memory,
+}
+
+/// How many characters are gathered before they are appended at once.
+const GATHERED: usize = 64;
+
+impl Extended {
+    /// Makes room for some more bytes, or returns `false`.
+    fn reserve(&mut self, additional: usize, reserve: fn(&mut Vec<u8>, usize)) -> bool {
+        if self.bytes.capacity() - self.bytes.len() >= additional {
+            return true;
+        }
+        let memory = &mut self.memory;
+        memory.count += 1;
+        let is_there = !memory.fails.has(memory.first, memory.count - 1);
+        if is_there {
+            reserve(&mut self.bytes, additional);
+        }
+        is_there
+    }
+
+    fn push(&mut self, byte: u8) -> bool {
+        let is_first = self.bytes.capacity() == 0;
+        let is_there = if is_first { self.reserve(24, Vec::reserve_exact) } else { self.reserve(1, Vec::reserve) };
+        if is_there {
+            self.bytes.push(byte);
+        }
+        is_there
+    }
+
+    /// Appends the characters of a text. Those that were gathered are appended one by one if there is no memory for
+    /// all.
+    fn extend(&mut self, text: &[u8]) -> bool {
+        text.chunks(GATHERED).all(|codes| {
+            if self.reserve(codes.len(), Vec::reserve) {
+                self.bytes.extend(codes);
+                return true;
+            }
+            codes.iter().all(|code| self.push(*code))
+        })
+    }
+}
+
+pub fn extended(random: &mut Random, asked: &mut Asked) {
+    let (capacity, text) = (random.room(), random.text());
+    ask_extended(ONE, capacity, &text, asked);
+}
+
+/// Asks for a string with a capacity that is extended by a text, while some allocations fail.
+pub fn ask_extended(fails: Fails, capacity: usize, text: &[u8], asked: &mut Asked) {
+    calls::ask_extended(asked, capacity, text);
+    let run = |first: u64, want: &mut Answer| put_extended(capacity, text, Memory { count: 0, fails, first }, want);
+    let want = &mut asked.want;
+    for first in 0..run(u64::MAX, want) {
+        want.fails(Needs::Memory, 0, |want| {
+            run(first, want);
+        });
+    }
+}
+
+/// Writes what a string with a capacity and one without are extended to, and returns the number of allocations.
+fn put_extended(capacity: usize, text: &[u8], memory: Memory, want: &mut Answer) -> u64 {
+    let mut string = Extended { bytes: Vec::new(), memory };
+    if string.reserve(capacity, Vec::reserve_exact) {
+        want.flag(string.extend(text));
+        want.text(&string.bytes);
+        want.flag(string.bytes.len() == string.bytes.capacity());
+    } else {
+        want.failed();
+    }
+    string.bytes = Vec::new();
+    match string.extend(text) {
+        true => want.text(&string.bytes),
+        false => want.failed(),
+    }
+    string.memory.count
+}
+
+pub fn formatted(random: &mut Random, asked: &mut Asked) {
+    let (text, first, second) = (random.text(), random.short_text(), random.short_text());
+    ask_formatted(&text, &first, &second, asked);
+}
+
+/// The pieces before the one that there is no memory for have been written.
+pub fn ask_formatted(text: &[u8], first: &[u8], second: &[u8], asked: &mut Asked) {
+    calls::ask_formatted(asked, text, first, second);
+    let (mut string, mut growths) = (text.to_vec(), Vec::new());
+    for piece in [first, b"-", second] {
+        if string.capacity() - string.len() < piece.len() {
+            growths.push(string.len());
+        }
+        string.extend(piece);
+    }
+    let want = &mut asked.want;
+    want.flag(true);
+    want.text(&string);
+    want.fails(Needs::memory_if(!text.is_empty()), 0, Answer::failed);
+    for length in growths {
+        want.fails(Needs::Memory, 0, |want| {
+            want.flag(false);
+            want.text(&string[..length]);
+        });
+    }
+}
+
+pub fn both_runs(random: &mut Random, asked: &mut Asked) {
+    let source = random.text();
+    let count = random.count(12);
+    let commands = random_commands(&source, count, random);
+    ask_both_runs(&source, &commands, asked);
+}
+
+/// Asks for a run over a string and over an inline one. If there is no memory for a string or for a list of replies,
+/// nothing else is answered.
+pub fn ask_both_runs(source: &[u8], commands: &Commands, asked: &mut Asked) {
+    calls::ask_both_runs(asked, source, &commands.texts, &commands.steps);
+    let (string, small) = (Edited::new(source, false), Edited::new(source, true));
+    let (lets_fail, want) = (asked.lets_fail, &mut asked.want);
+    let run = |number: usize, of_small: usize, want: &mut Answer| {
+        (string.clone().run(commands, number, want), small.clone().run(commands, of_small, want))
+    };
+    let (needs, of_small) = run(usize::MAX, usize::MAX, want);
+    let list = Needs::memory_if(!commands.steps.is_empty());
+    let long = Needs::memory_if(source.len() > INLINE);
+    for needs in [list, Needs::memory_if(!source.is_empty()), long, list] {
+        want.fails(needs, 0, Answer::failed);
+    }
+    if lets_fail {
+        for (number, needs) in needs.iter().enumerate() {
+            want.fails(*needs, 0, |want| drop(run(number, usize::MAX, want)));
+        }
+        want.fails(list, 0, Answer::failed);
+        for (number, needs) in of_small.iter().enumerate() {
+            want.fails(*needs, 0, |want| drop(run(usize::MAX, number, want)));
+        }
+    }
+}
