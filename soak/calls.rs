@@ -138,6 +138,7 @@ calls! {
     fn ask_json_values(source: &[u8]);
     fn ask_walks(code: u8, source: &[u8], script: &[u8]);
     fn ask_extended(capacity: usize, source: &[u8]);
+    fn ask_growths(is_small: bool, source: &[u8]);
     fn ask_formatted(source: &[u8], first: &[u8], second: &[u8]);
     fn ask_both_runs(source: &[u8], texts: &[u8], steps: &[Step]);
     fn ask_printed(form: u8, source: &[u8]);

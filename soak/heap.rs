@@ -3,7 +3,7 @@
 
 use std::cell::Cell;
 
-/// Which allocations fail after the first one that does: so many in all, each `step` after the last one.
+/// Which allocations fail from a first one on: `length` of them, each `step` after the last one.
 #[derive(Clone, Copy)]
 pub struct Fails {
     length: u64,

@@ -131,6 +131,7 @@ pub static KINDS: &[Kind] = &[
     kind("JSON values", copies::json_values).allocating(),
     kind("walks", copies::walks).allocating(),
     kind("strings extended by characters", copies::extended).allocating(),
+    kind("edits by which a string grows", copies::growths).allocating(),
     kind("texts formatted into a string", copies::formatted).allocating(),
     kind("runs over both strings", copies::both_runs).allocating(),
     kind("printed texts", prints::texts).allocating(),

@@ -244,6 +244,64 @@ fn put_extended(capacity: usize, text: &[u8], memory: Memory, want: &mut Answer)
     string.memory.count
 }
 
+/// The edits by which a string grows: what each puts before a text and after it, and the room that it asks for.
+static GROWTHS: [(&str, &str, usize); 13] = [
+    ("", "y", 0),
+    ("", "ww", 0),
+    ("", "42", 0),
+    ("", "xy", 0),
+    ("", "0a", 0),
+    ("w", "", 0),
+    ("ww", "", 0),
+    ("ww", "", 0),
+    ("", "ww", 0),
+    ("", "yy", 0),
+    ("", "y", 0),
+    ("", "", 100),
+    ("", "", 100),
+];
+
+pub fn growths(random: &mut Random, asked: &mut Asked) {
+    let (is_small, text) = (random.below(2) == 0, random.text());
+    ask_growths(is_small, &text, asked);
+}
+
+/// Asks for each edit of a text of at most 100 characters, and for a character that is then appended.
+pub fn ask_growths(is_small: bool, text: &[u8], asked: &mut Asked) {
+    let text = &text[..text.len().min(100)];
+    calls::ask_growths(asked, is_small, text);
+    for (before, after, room) in GROWTHS {
+        let edited = [before.as_bytes(), text, after.as_bytes()].concat();
+        let want = &mut asked.want;
+        let start = want.bytes.len();
+        put_growth(&edited, true, want);
+        want.fails(Needs::memory_if(text.len() > if is_small { INLINE } else { 0 }), start, Answer::failed);
+        let (needed, is_full) = (edited.len() + room, edited.len() >= INLINE);
+        // The capacity of a string that has grown is not known.
+        let (growth, last) = match is_small {
+            false => (Needs::Memory, Needs::Perhaps),
+            true if needed <= INLINE => (Needs::Nothing, Needs::memory_if(is_full)),
+            true if text.len() <= INLINE => (Needs::Memory, Needs::Perhaps),
+            true => (Needs::Perhaps, Needs::Perhaps),
+        };
+        want.fails(growth, start, |want| {
+            want.flag(false);
+            want.text(text);
+            want.flag(true);
+            want.text([text, b"z"].concat());
+        });
+        want.fails(last, start, |want| put_growth(&edited, false, want));
+    }
+}
+
+/// A string that was edited, and whether a character is appended.
+fn put_growth(edited: &[u8], is_appended: bool, want: &mut Answer) {
+    want.flag(true);
+    want.text(edited);
+    want.flag(is_appended);
+    want.text([edited, if is_appended { &b"z"[..] } else { b"" }].concat());
+}
+
 pub fn formatted(random: &mut Random, asked: &mut Asked) {
     let (text, first, second) = (random.text(), random.short_text(), random.short_text());
     ask_formatted(&text, &first, &second, asked);

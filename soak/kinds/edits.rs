@@ -120,7 +120,7 @@ pub struct Edited {
     pub text: Vec<u8>,
     is_small: bool,
     /// The capacity of a string, and the least that an inline string has.
-    pub room: usize,
+    room: usize,
 }
 
 /// The capacity of a copy is the same.

@@ -6,7 +6,7 @@ use crate::calls;
 use crate::heap::{Fails, ALL, EVERY_SECOND, ONE, TWO};
 use crate::kinds::conversions::{ask_all, ask_character_written, ask_collected, ask_split_off, ask_written};
 use crate::kinds::copies::{
-    ask_both_runs, ask_copies, ask_extended, ask_formatted, ask_json_values, ask_turned, ask_walks,
+    ask_both_runs, ask_copies, ask_extended, ask_formatted, ask_growths, ask_json_values, ask_turned, ask_walks,
 };
 use crate::kinds::edits::{ask_capacities, expect, Commands};
 use crate::kinds::searches::ask_replace;
@@ -18,6 +18,7 @@ pub static ROWS: &[Row] = &[
     ("sources_are_returned_if_a_conversion_fails", conversions),
     ("pieces_before_a_failure_stay", pieces),
     ("characters_before_two_failures_stay", characters),
+    ("edits_without_memory_leave_the_text", growths),
     ("commands_go_on_after_a_failure", commands_go_on),
     ("commands_go_on_after_several_failures", after_several_failures),
     ("runs_over_both_strings_go_on", both_runs),
@@ -93,6 +94,13 @@ fn characters(rows: &mut Rows) {
         for (capacity, text) in [(10, text.as_str()), (0, &text), (0, "aB,c"), (4, "aB,c")] {
             rows.ask_failing(fails, |asked| ask_extended(fails, capacity, text.as_bytes(), asked));
         }
+    }
+}
+
+/// Each edit of texts that have room for it inline, that just fit there, and that are in an allocation.
+fn growths(rows: &mut Rows) {
+    for (length, is_small) in (0..=60).flat_map(|length| [(length, false), (length, true)]) {
+        rows.ask(|asked| ask_growths(is_small, &LONG.repeat(2).as_bytes()[..length], asked));
     }
 }
 

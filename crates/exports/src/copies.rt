@@ -10,11 +10,14 @@ use crate::walks::ending_name;
 use ascii::iter::{End, LineSpan, walk_line_spans, walk_lines, walk_split, walk_split_spans};
 use ascii::json::{JsonError, char_to_json, string_from_json};
 use ascii::unescape::UnescapeError;
-use ascii::{AsciiChar, AsciiStr, AsciiString, BoxedAsciiStr, CowAsciiStr, RcAsciiStr, bytes};
+use ascii::{
+    AsciiChar, AsciiRange, AsciiStr, AsciiString, BoxedAsciiStr, Buffer, CowAsciiStr, RcAsciiStr,
+    Text, bytes,
+};
 use ascii_run::{BothRuns, SmallAsciiString, run_both};
 use serde_json::Value;
 use std::alloc::{AllocError, Global};
-use std::fmt::Write as _;
+use std::fmt::{Alignment, Write as _};
 
 /// Copies of a text: twice its characters, the text unescaped, its fields at commas joined by `--`, its characters
 /// collected, those of a list of them, its first character, a box, a shared text and its clone, and an inline string
@@ -286,6 +289,59 @@ pub fn ask_extended(alloc: Global, capacity: usize, source: &[u8], room: &mut [u
     }
     answer.owned(AsciiString::collect_chars(alloc, view.chars()));
     answer.finish()
+}
+
+/// For each edit by which a string grows: whether a copy of a text is edited, the text after that, whether a character is
+/// then appended, and the text after that.
+pub fn ask_growths(alloc: Global, is_small: bool, source: &[u8], room: &mut [u8]) -> usize
+    requires { IsAscii source.now }
+{
+    let view = bytes::as_ascii_str_unchecked(source);
+    let mut answer = Answer::new(room);
+    for number in 0..13 {
+        if is_small {
+            let small = SmallAsciiString::from_ascii_str(alloc, view);
+            put_growth(small, number, &mut answer);
+        } else {
+            put_growth(view.to_ascii_string(alloc), number, &mut answer);
+        }
+    }
+    answer.finish()
+}
+
+fn put_growth<B: Buffer>(made: Result<Text<B>, AllocError>, number: u8, answer: &mut Answer<'_>) {
+    match made {
+        Ok(mut string) => {
+            answer.flag(grow(&mut string, number));
+            answer.text(string.as_ascii_str());
+            answer.flag(string.push(AsciiChar::z).is_ok());
+            answer.text(string.as_ascii_str());
+        }
+        Err(_) => answer.failed(),
+    }
+}
+
+/// Edits a string, and returns whether there was memory for that.
+fn grow<B: Buffer>(string: &mut Text<B>, number: u8) -> bool {
+    let two = AsciiStr::literal("ww");
+    match number {
+        0 => string.push(AsciiChar::y).is_ok(),
+        1 => string.push_str(two).is_ok(),
+        2 => string.push_decimal(42u64).is_ok(),
+        3 => string
+            .push_padded(AsciiStr::literal("y"), 2, AsciiChar::x, Alignment::Right)
+            .is_ok(),
+        4 => string.push_hex(10, 2).is_ok(),
+        5 => string.insert(0, AsciiChar::w).is_ok(),
+        6 => string.insert_str(0, two).is_ok(),
+        7 => string.replace_range(AsciiRange::To(0), two).is_ok(),
+        8 => string.extend_strs(two.split(AsciiChar::Comma)).is_ok(),
+        9 => string.write_str("yy").is_ok(),
+        10 => string.write_char('y').is_ok(),
+        11 if string.len() <= 100 => string.reserve(100).is_ok(),
+        12 if string.len() <= 100 => string.reserve_exact(100).is_ok(),
+        _ => true,
+    }
 }
 
 /// Whether two texts with `-` between them are written to a third one, and the text after that.
