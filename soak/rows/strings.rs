@@ -67,6 +67,8 @@ fn in_an_allocation(rows: &mut Rows) {
         asked.want.text("done");
         asked.want.text("done");
         asked.want.text("content");
+        // The capacities after a failure are not known.
+        asked.want.has_other_failures = true;
     });
 }
 
@@ -90,11 +92,11 @@ fn rising(rows: &mut Rows) {
 fn printed(rows: &mut Rows) {
     rows.ask(|asked| {
         calls::ask_printed(asked, 10, b"abc");
-        (0..4).for_each(|_| asked.want.text("  abc"));
+        (0..4).for_each(|_| asked.want.copy("  abc"));
     });
     rows.ask(|asked| {
         calls::ask_printed(asked, 1, b"\0\t'\\\x7f");
-        (0..4).for_each(|_| asked.want.text("\"\\0\\t'\\\\\\u{7f}\""));
+        (0..4).for_each(|_| asked.want.copy("\"\\0\\t'\\\\\\u{7f}\""));
     });
     for (form, text) in (0..FORMS).flat_map(|form| ["\0\t'\\\x7f", "a\"b", "abc"].map(|text| (form, text))) {
         rows.ask(|asked| ask_printed(form, text, asked));

@@ -25,31 +25,45 @@ pub fn ask_edits(
     let view = bytes::as_ascii_str_unchecked(source);
     let texts = bytes::as_ascii_str_unchecked(texts);
     let mut answer = Answer::new(room);
-    if is_small {
-        if let Ok(mut small) = SmallAsciiString::from_ascii_str(alloc, view) {
-            put_run(alloc, &mut small, texts, steps, &mut answer);
+    if let Ok(cmds) = commands(alloc, texts, steps) {
+        if is_small {
+            let small = SmallAsciiString::from_ascii_str(alloc, view);
+            put_run(alloc, small, &cmds, &mut answer);
+        } else {
+            put_run(alloc, view.to_ascii_string(alloc), &cmds, &mut answer);
         }
-    } else if let Ok(mut string) = view.to_ascii_string(alloc) {
-        put_run(alloc, &mut string, texts, steps, &mut answer);
+    } else {
+        answer.failed();
     }
     answer.finish()
 }
 
-fn put_run<B: AsciiBuf>(
+fn put_run<B: AsciiBuf + Drop>(
     alloc: Global,
-    buf: &mut B,
-    texts: AsciiStr<'_>,
-    steps: &[Step],
+    made: Result<B, AllocError>,
+    cmds: &[Cmd<'_>],
     answer: &mut Answer<'_>,
 ) {
-    if let Ok(cmds) = commands(alloc, texts, steps) {
-        if let Ok(replies) = run(alloc, buf, &cmds) {
-            for reply in &replies {
-                put_reply(reply, answer);
-            }
+    match made {
+        Ok(mut buf) => {
+            put_outcome(run(alloc, &mut buf, cmds), answer);
+            answer.text(buf.as_ascii_str());
         }
+        Err(_) => answer.failed(),
     }
-    answer.text(buf.as_ascii_str());
+}
+
+fn put_outcome(replies: Result<Vec<Reply>, AllocError>, answer: &mut Answer<'_>) {
+    match replies {
+        Ok(replies) => put_replies(&replies, answer),
+        Err(_) => answer.failed(),
+    }
+}
+
+pub(crate) fn put_replies(replies: &[Reply], answer: &mut Answer<'_>) {
+    for reply in replies {
+        put_reply(reply, answer);
+    }
 }
 
 pub(crate) fn commands<'a>(
@@ -57,7 +71,7 @@ pub(crate) fn commands<'a>(
     texts: AsciiStr<'a>,
     steps: &[Step],
 ) -> Result<Vec<Cmd<'a>>, AllocError> {
-    let mut cmds = Vec::new(alloc);
+    let mut cmds = Vec::with_capacity(alloc, steps.len())?;
     for step in steps {
         cmds.push(command(*step, texts))?;
     }
@@ -116,16 +130,19 @@ pub fn ask_capacities(
 {
     let texts = bytes::as_ascii_str_unchecked(texts);
     let mut answer = Answer::new(room);
-    if let Ok(mut string) = AsciiString::with_capacity(alloc, capacity) {
-        answer.number(string.capacity());
-        for step in steps {
-            if step.kind == 19 {
-                reserve_exactly(&mut string, step.at, &mut answer);
-            } else {
-                follow(alloc, &mut string, *step, texts, &mut answer);
-            }
+    match AsciiString::with_capacity(alloc, capacity) {
+        Ok(mut string) => {
             answer.number(string.capacity());
+            for step in steps {
+                if step.kind == 19 {
+                    reserve_exactly(&mut string, step.at, &mut answer);
+                } else {
+                    follow(alloc, &mut string, *step, texts, &mut answer);
+                }
+                answer.number(string.capacity());
+            }
         }
+        Err(_) => answer.failed(),
     }
     answer.finish()
 }
@@ -147,11 +164,7 @@ fn follow<B: AsciiBuf>(
     texts: AsciiStr<'_>,
     answer: &mut Answer<'_>,
 ) {
-    if let Ok(replies) = run(alloc, buf, &[command(step, texts)]) {
-        for reply in &replies {
-            put_reply(reply, answer);
-        }
-    }
+    put_outcome(run(alloc, buf, &[command(step, texts)]), answer);
 }
 
 /// Whether an inline string is inline and its capacity; then for each command its reply, and those again.
@@ -168,14 +181,17 @@ pub fn ask_small_capacities(
     let texts = bytes::as_ascii_str_unchecked(texts);
     let view = bytes::as_ascii_str_unchecked(source);
     let mut answer = Answer::new(room);
-    if let Ok(mut small) = SmallAsciiString::from_ascii_str(alloc, view) {
-        answer.flag(small.is_inline());
-        answer.number(small.capacity());
-        for step in steps {
-            follow(alloc, &mut small, *step, texts, &mut answer);
+    match SmallAsciiString::from_ascii_str(alloc, view) {
+        Ok(mut small) => {
             answer.flag(small.is_inline());
             answer.number(small.capacity());
+            for step in steps {
+                follow(alloc, &mut small, *step, texts, &mut answer);
+                answer.flag(small.is_inline());
+                answer.number(small.capacity());
+            }
         }
+        Err(_) => answer.failed(),
     }
     answer.finish()
 }

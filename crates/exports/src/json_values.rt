@@ -4,7 +4,7 @@ ghost use Rattle.std.specs.Str.{IsAscii};
 
 use crate::answer::Answer;
 use ascii::json::JsonError;
-use ascii::{AsciiChar, bytes, json};
+use ascii::{AsciiChar, AsciiString, bytes, json};
 use serde_json::Value;
 use std::alloc::Global;
 
@@ -13,13 +13,12 @@ pub fn ask_json(alloc: Global, source: &[u8], room: &mut [u8]) -> usize
     requires { IsAscii source.now }
 {
     let mut answer = Answer::new(room);
-    if let Ok(value) = bytes::as_ascii_str_unchecked(source).to_json(alloc) {
-        if let Ok(text) = format!(in alloc; "{value}") {
-            answer.name(text.as_str());
+    match bytes::as_ascii_str_unchecked(source).to_json(alloc) {
+        Ok(value) => {
+            answer.std_string(format!(in alloc; "{value}"));
+            put_string(json::string_from_json(alloc, &value), &mut answer);
         }
-        if let Ok(string) = json::string_from_json(alloc, &value) {
-            answer.text(string.as_ascii_str());
-        }
+        Err(_) => answer.failed(),
     }
     answer.finish()
 }
@@ -28,8 +27,9 @@ pub fn ask_json(alloc: Global, source: &[u8], room: &mut [u8]) -> usize
 pub fn ask_json_value(alloc: Global, source: &[u8], room: &mut [u8]) -> usize {
     let mut answer = Answer::new(room);
     if let Ok(source) = str::from_utf8(source) {
-        if let Ok(value) = Value::from_str(alloc, source) {
-            put_value(alloc, &value, &mut answer);
+        match Value::from_str(alloc, source) {
+            Ok(value) => put_value(alloc, &value, &mut answer),
+            Err(_) => answer.failed(),
         }
     }
     answer.finish()
@@ -40,12 +40,16 @@ fn put_value(alloc: Global, value: &Value, answer: &mut Answer<'_>) {
         Ok(text) => answer.text(text),
         Err(error) => put_error(error, answer),
     }
-    match json::string_from_json(alloc, value) {
-        Ok(string) => answer.text(string.as_ascii_str()),
-        Err(error) => put_error(error, answer),
-    }
+    put_string(json::string_from_json(alloc, value), answer);
     match json::char_from_json(value) {
         Ok(ch) => answer.character(Some(ch)),
+        Err(error) => put_error(error, answer),
+    }
+}
+
+fn put_string(made: Result<AsciiString, JsonError>, answer: &mut Answer<'_>) {
+    match made {
+        Ok(string) => answer.text(string.as_ascii_str()),
         Err(error) => put_error(error, answer),
     }
 }
@@ -71,10 +75,11 @@ pub fn ask_json_characters(alloc: Global, codes: &[u8], room: &mut [u8]) -> usiz
 }
 
 fn put_character(alloc: Global, ch: AsciiChar, answer: &mut Answer<'_>) {
-    if let Ok(value) = json::char_to_json(alloc, ch) {
-        if let Ok(text) = format!(in alloc; "{value}") {
-            answer.name(text.as_str());
+    match json::char_to_json(alloc, ch) {
+        Ok(value) => {
+            answer.std_string(format!(in alloc; "{value}"));
+            answer.character(json::char_from_json(&value).ok());
         }
-        answer.character(json::char_from_json(&value).ok());
+        Err(_) => answer.failed(),
     }
 }
