@@ -5,6 +5,7 @@ use super::{Row, Rows};
 use crate::asked::{items_of, Item};
 use crate::calls::{self, Step};
 use crate::kinds::conversions::{ask_all, ask_character_written, ask_collected, ask_round_trips, ask_written};
+use crate::kinds::edits::expect_failures;
 use crate::kinds::json_values::ask_json;
 use crate::kinds::prints::{ask_printed, FORMS};
 use crate::kinds::texts::{ask_cases, ask_hashes, ask_owned_comparisons};
@@ -139,6 +140,7 @@ fn single_edits(rows: &mut Rows) {
                     None => asked.want.text("done"),
                 }
                 asked.want.text(after);
+                expect_failures(is_small, text.as_bytes(), &commands, asked);
             });
         }
     }
