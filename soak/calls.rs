@@ -147,7 +147,6 @@ calls! {
     fn ask_split_off(at: usize, source: &[u8]);
     fn ask_copies(source: &[u8]);
     fn ask_turned(source: &[u8]);
-    fn ask_json_values(source: &[u8]);
     fn ask_extended(capacity: usize, source: &[u8]);
     fn ask_growths(is_small: bool, source: &[u8]);
     fn ask_formatted(source: &[u8], first: &[u8], second: &[u8]);

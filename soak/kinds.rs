@@ -155,7 +155,6 @@ pub static KINDS: &[Kind] = &[
     kind("strings cut in two", conversions::split_off).allocating(),
     kind("copies", copies::copies).allocating(),
     kind("conversions that return the source", copies::turned).allocating(),
-    kind("texts as JSON values", copies::json_values).allocating(),
     kind("strings extended by characters", copies::extended).allocating(),
     kind("edits by which a string grows", copies::growths).allocating(),
     kind("texts formatted into a string", copies::formatted).allocating(),

@@ -167,9 +167,10 @@ pub fn ask_set(codes: &[u8], asked: &mut Asked) {
 fn put_set(codes: &[u8], failing: usize, want: &mut Answer) {
     let mut seen = HashSet::new();
     for (at, code) in codes.iter().enumerate() {
-        match at == failing {
-            true => want.failed(),
-            false => want.flag(seen.insert(code)),
+        if at == failing {
+            want.failed();
+        } else {
+            want.flag(seen.insert(code));
         }
     }
     want.number(seen.len());

@@ -65,21 +65,6 @@ pub fn ask_turned(text: &[u8], asked: &mut Asked) {
     expect_turned(text, Needs::memory_if(long), Needs::memory_if(short), want, put);
 }
 
-pub fn json_values(random: &mut Random, asked: &mut Asked) {
-    ask_json_values(&random.text(), asked);
-}
-
-/// The value of a number is not a text.
-pub fn ask_json_values(text: &[u8], asked: &mut Asked) {
-    calls::ask_json_values(asked, text);
-    let want = &mut asked.want;
-    want.copy(text);
-    want.copy(text);
-    text.first().iter().for_each(|code| want.copy([**code]));
-    want.copy(text);
-    want.none();
-}
-
 /// Allocations that are counted, and of which some fail.
 struct Memory {
     count: u64,

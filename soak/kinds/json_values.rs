@@ -32,6 +32,7 @@ pub fn texts(random: &mut Random, asked: &mut Asked) {
     ask_json(&random.text(), asked);
 }
 
+/// The JSON text of a view and the string read back, and the text of a string's value.
 pub fn ask_json(text: &[u8], asked: &mut Asked) {
     calls::ask_json(asked, text);
     let (want, some) = (&mut asked.want, Needs::memory_if(!text.is_empty()));
@@ -41,6 +42,7 @@ pub fn ask_json(text: &[u8], asked: &mut Asked) {
     want.fails(some, 0, Answer::failed);
     want.fails_in(Needs::Memory, 0..after, Answer::failed);
     want.fails(some, after, Answer::failed);
+    want.copy(text);
 }
 
 /// A value that is a string, written as JSON, whose text may have a code above 127.

@@ -5,10 +5,9 @@ use crate::asked::{Answer, Needs};
 use crate::calls;
 use crate::heap::{Fails, ALL, EVERY_SECOND, ONE, TWO};
 use crate::kinds::conversions::{ask_all, ask_character_written, ask_collected, ask_split_off, ask_written};
-use crate::kinds::copies::{
-    ask_both_runs, ask_copies, ask_extended, ask_formatted, ask_growths, ask_json_values, ask_turned,
-};
+use crate::kinds::copies::{ask_both_runs, ask_copies, ask_extended, ask_formatted, ask_growths, ask_turned};
 use crate::kinds::edits::{ask_capacities, expect, Commands};
+use crate::kinds::json_values::ask_json;
 use crate::kinds::rewrites::{ask_joined, ask_repeated, ask_unescaped};
 use crate::kinds::searches::ask_replace;
 use crate::kinds::texts::ask_cases;
@@ -42,7 +41,6 @@ fn nothing(rows: &mut Rows) {
     rows.ask(|asked| ask_unescaped(b"", Ok(""), asked));
     rows.ask(|asked| ask_joined(b',', "", "--", asked));
     rows.ask(|asked| ask_turned(b"", asked));
-    rows.ask(|asked| ask_json_values(b"", asked));
     rows.ask(|asked| ask_walks(b'a', b"", &[], asked));
     rows.ask(|asked| ask_extended(ONE, 0, b"", asked));
     rows.ask(|asked| ask_formatted(b"", b"", b"", asked));
@@ -78,7 +76,7 @@ fn conversions(rows: &mut Rows) {
     for text in ["abc", FULL, LONG] {
         rows.ask(|asked| ask_turned(text.as_bytes(), asked));
         rows.ask(|asked| ask_all(text.as_bytes(), asked));
-        rows.ask(|asked| ask_json_values(text.as_bytes(), asked));
+        rows.ask(|asked| ask_json(text.as_bytes(), asked));
         (0..=text.len()).for_each(|at| rows.ask(|asked| ask_split_off(at, text.as_bytes(), asked)));
     }
 }

@@ -5,14 +5,12 @@ ghost use Rattle.std.specs.Str.{IsAscii};
 use crate::answer::Answer;
 use crate::edits::{commands, put_replies};
 use crate::steps::Step;
-use ascii::json::{JsonError, char_to_json, string_from_json};
 use ascii::{
     AsciiChar, AsciiRange, AsciiStr, AsciiString, BoxedAsciiStr, Buffer, CowAsciiStr, RcAsciiStr,
     Text, bytes,
 };
 use ascii_formats::AsciiStringExt;
 use ascii_run::{BothRuns, SmallAsciiString, run_both};
-use serde_json::Value;
 use std::alloc::{AllocError, Global};
 use std::fmt::{Alignment, Write as _};
 
@@ -137,47 +135,6 @@ fn put_string_of_small(made: Result<AsciiString, SmallAsciiString>, answer: &mut
     match made {
         Ok(string) => answer.text(string.as_ascii_str()),
         Err(small) => put_returned(small.as_ascii_str(), answer),
-    }
-}
-
-/// The JSON values of a view, of a string and of the view's first character; the text of the first of them, and what a
-/// number is as a text.
-pub fn ask_json_values(alloc: Global, source: &[u8], room: &mut [u8]) -> usize
-    requires { IsAscii source.now }
-{
-    let view = bytes::as_ascii_str_unchecked(source);
-    let mut answer = Answer::new(room);
-    put_value(view.to_json(alloc), &mut answer);
-    match view.to_ascii_string(alloc) {
-        Ok(string) => put_value(string.to_json(alloc), &mut answer),
-        Err(_) => answer.failed(),
-    }
-    if let Some(ch) = view.first() {
-        put_value(char_to_json(alloc, ch), &mut answer);
-    }
-    match view.to_json(alloc) {
-        Ok(value) => put_text_of(string_from_json(alloc, &value), &mut answer),
-        Err(_) => answer.failed(),
-    }
-    put_text_of(string_from_json(alloc, &Value::from(7u64)), &mut answer);
-    answer.finish()
-}
-
-fn put_value(value: Result<Value, AllocError>, answer: &mut Answer<'_>) {
-    match value {
-        Ok(value) => match value.as_str() {
-            Some(text) => answer.name(text),
-            None => answer.none(),
-        },
-        Err(_) => answer.failed(),
-    }
-}
-
-fn put_text_of(made: Result<AsciiString, JsonError>, answer: &mut Answer<'_>) {
-    match made {
-        Ok(string) => answer.text(string.as_ascii_str()),
-        Err(JsonError::Memory) => answer.failed(),
-        Err(_) => answer.none(),
     }
 }
 

@@ -6,21 +6,36 @@ use crate::answer::Answer;
 use ascii::json::JsonError;
 use ascii::{AsciiChar, AsciiString, bytes, json};
 use serde_json::Value;
-use std::alloc::Global;
+use std::alloc::{AllocError, Global};
 
-/// The JSON text of a view, and the string read back from its value.
+/// The JSON text of a view, the string read back from its value, and the text that the value of a string has.
 pub fn ask_json(alloc: Global, source: &[u8], room: &mut [u8]) -> usize
     requires { IsAscii source.now }
 {
+    let view = bytes::as_ascii_str_unchecked(source);
     let mut answer = Answer::new(room);
-    match bytes::as_ascii_str_unchecked(source).to_json(alloc) {
+    match view.to_json(alloc) {
         Ok(value) => {
             answer.std_string(format!(in alloc; "{value}"));
             put_string(json::string_from_json(alloc, &value), &mut answer);
         }
         Err(_) => answer.failed(),
     }
+    match view.to_ascii_string(alloc) {
+        Ok(string) => put_text(string.to_json(alloc), &mut answer),
+        Err(_) => answer.failed(),
+    }
     answer.finish()
+}
+
+fn put_text(value: Result<Value, AllocError>, answer: &mut Answer<'_>) {
+    match value {
+        Ok(value) => match value.as_str() {
+            Some(text) => answer.name(text),
+            None => answer.none(),
+        },
+        Err(_) => answer.failed(),
+    }
 }
 
 /// The text, its copy and the character that a JSON value has, of a source that is JSON.
