@@ -57,6 +57,7 @@ pub fn ask_json_value(source: &[u8], text: Option<&str>, asked: &mut Asked) {
     let want = &mut asked.want;
     let Some(text) = text else {
         (0..3).for_each(|_| want.text("text"));
+        // A list is in an allocation, and a number is not.
         return want.fails(Needs::Perhaps, 0, Answer::failed);
     };
     let (non_ascii, mut ends) = (text.bytes().position(|byte| !byte.is_ascii()), [0; 2]);

@@ -41,8 +41,8 @@ pub fn ask_maps(texts: &[u8], steps: &[Step], asked: &mut Asked) {
     }
 }
 
-/// What the steps over both maps return if there is no memory for the insertion of a number. Returns what each insertion
-/// needs.
+/// What the steps over both maps return if there is no memory for the insertion numbered `failing`. Returns what each
+/// insertion needs.
 fn put_steps(texts: &[u8], steps: &[Step], failing: usize, want: &mut Answer) -> Vec<Needs> {
     let (mut map, mut folded, mut needs) = (Map::new(), Map::new(), Vec::new());
     for step in steps {

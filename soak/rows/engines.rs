@@ -60,8 +60,8 @@ fn ask_runs(rows: &mut Rows, mode: &Mode<'_>, source: &[u8], devices: (&Device, 
     rows.ask(|asked| engines::ask_runs(mode, source, devices, runs, asked));
 }
 
-/// Asks for the output of a mode over devices that do not fail. The second run is over the end of the text. The number of
-/// calls of the writer is expected if the row says it.
+/// Asks for the output of a mode over devices that do not fail. The second run is over the end of the text. The number
+/// of calls of the writer is expected if the row says it.
 fn ask_output(rows: &mut Rows, mode: &Mode<'_>, source: &[u8], (output, at_end): (&[u8], &[u8]), calls: Option<usize>) {
     rows.ask(|asked| {
         let Commands { texts, steps } = mode.commands;
