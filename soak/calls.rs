@@ -145,6 +145,12 @@ calls! {
     fn ask_character_written(number: u32, source: &[u8]);
     fn ask_collected(code: u8, source: &[u8]);
     fn ask_split_off(at: usize, source: &[u8]);
+    fn ask_copies(source: &[u8]);
+    fn ask_turned(source: &[u8]);
+    fn ask_extended(capacity: usize, source: &[u8]);
+    fn ask_growths(is_small: bool, source: &[u8]);
+    fn ask_formatted(source: &[u8], first: &[u8], second: &[u8]);
+    fn ask_both_runs(source: &[u8], texts: &[u8], steps: &[Step]);
     fn ask_printed(form: u8, source: &[u8]);
     fn ask_printed_characters(form: u8, codes: &[u8]);
     fn ask_json(source: &[u8]);
@@ -162,7 +168,6 @@ calls! {
     fn ask_maps(texts: &[u8], steps: &[Step]);
     fn ask_std_maps(source: &[u8], texts: &[u8], steps: &[Step]);
     fn ask_edits(is_small: bool, source: &[u8], texts: &[u8], steps: &[Step]);
-    fn ask_both_edits(source: &[u8], texts: &[u8], steps: &[Step]);
     fn ask_capacities(capacity: usize, texts: &[u8], steps: &[Step]);
     fn ask_small_capacities(source: &[u8], texts: &[u8], steps: &[Step]);
     fn ask_reader(source: &[u8], size: usize, device: &Device, steps: &[Step]);

@@ -6,22 +6,27 @@
 //!
 //! It first asks the rows: calls whose answers are known from a table, from std or from a plain loop. Then it asks
 //! small cases of each kind of question: all of them up to the length at which there are not too many, and the first
-//! ones of longer texts. Then it asks at random for that time; the seed decides those questions. With `row` it asks the
-//! row of that name alone. With `planted` it asks each row and each kind while the library is passed wrong arguments,
-//! until an answer differs. `bin/soak` says what is printed. The status is 1 if an answer differs or this program
-//! panics, or if a planted answer is not seen, and 2 for bad arguments.
+//! ones of longer texts. Then it asks at random for that time; the seed decides those questions. Many of the questions
+//! whose calls allocate are asked again with each of their allocations failing in turn.
+//! With `row` it asks the row of that name alone. With `planted` it asks each row and each kind while the library is
+//! passed wrong arguments, until an answer differs; and each kind that allocates while the library gets the memory that
+//! it is not to have. `bin/soak` says what is printed. The status is 1 if an answer differs or this program panics, or
+//! if a planted answer is not seen, and 2 for bad arguments.
 
 mod asked;
 mod calls;
+mod failing;
+mod heap;
 mod kinds;
 mod line_model;
 mod random;
 mod rows;
 
 use asked::Asked;
-use kinds::{Ask, Kind, KINDS};
+use kinds::{Allocates, Ask, Kind, KINDS};
 use random::Random;
 use std::any::Any;
+use std::collections::HashSet;
 use std::panic::{catch_unwind, AssertUnwindSafe};
 use std::process::ExitCode;
 use std::sync::atomic::{AtomicU64, Ordering};
@@ -29,6 +34,10 @@ use std::time::{Duration, Instant};
 
 /// Questions of each kind between two looks at the clock.
 const TURNS: u32 = 64;
+
+/// A small case is asked with failing allocations if it allocates in sizes that were not seen before; and once in this
+/// number of questions also if it does not.
+const FAILING: u64 = 8;
 
 /// Differences that are printed whole.
 const SHOWN: u64 = 20;
@@ -67,6 +76,7 @@ fn panic_text(panic: &(dyn Any + Send)) -> String {
 /// Asks a question of a kind. If its answer differs, asks it again to show it.
 fn ask(kind: &Kind, ask: Ask, random: &mut Random, asked: &mut Asked) {
     let mark = random.mark();
+    heap::begin();
     match asks(ask, random, asked) {
         Ok(false) => return,
         outcome if DIFFER.load(Ordering::Relaxed) < SHOWN => {
@@ -81,14 +91,59 @@ fn ask(kind: &Kind, ask: Ask, random: &mut Random, asked: &mut Asked) {
     }
 }
 
+/// Asks the last question of a kind again, with each of its allocations failing in turn. Returns the number of these
+/// questions, or when an answer differs.
+fn ask_failing(make: Ask, mark: u64, random: &mut Random, asked: &mut Asked) -> Result<u64, String> {
+    let question = |asked: &mut Asked| {
+        random.back(mark);
+        make(random, asked);
+    };
+    match catch_unwind(AssertUnwindSafe(|| failing::each(asked, heap::ONE, question))) {
+        Ok(outcome) => outcome.map_err(|number| format!("with the allocation {number} failing")),
+        Err(panic) => Err(format!("the driver panicked: {}", panic_text(&*panic))),
+    }
+}
+
+/// If the last question of a kind has allocated, asks it again with each of its allocations failing in turn. Returns
+/// how many questions these are.
+fn ask_each_allocation(kind: &Kind, make: Ask, mark: u64, random: &mut Random, asked: &mut Asked) -> u64 {
+    match kind.allocates {
+        _ if heap::count() == 0 => return 0,
+        Allocates::Undeclared => return 0,
+        Allocates::Never => {
+            differ(&format!("{}: a call allocates", kind.name));
+            return 0;
+        }
+        Allocates::Declared => (),
+    }
+    match ask_failing(make, mark, random, asked) {
+        Ok(count) => count,
+        Err(when) if DIFFER.load(Ordering::Relaxed) < SHOWN => {
+            asked.calls = Some(Vec::new());
+            let _ = ask_failing(make, mark, random, asked);
+            differ(&format!("{}: {when}: {}", kind.name, asked.report()));
+            asked.calls = None;
+            0
+        }
+        Err(_) => {
+            differ("");
+            0
+        }
+    }
+}
+
 /// The first small cases of a kind with texts up to 6, 5 .. codes, until all of a length were asked. Returns how many.
 fn small_cases(kind: &Kind, make: Ask, asked: &mut Asked) -> u64 {
-    let mut count = 0;
+    let (mut count, mut sizes) = (0, HashSet::new());
     for longest in (0..=6).rev() {
         let mut random = Random::small(longest);
         for _ in 0..kind.small {
+            let mark = random.mark();
             ask(kind, make, &mut random, asked);
             count += 1;
+            if sizes.insert((heap::count(), heap::sizes())) || count % FAILING == 0 {
+                count += ask_each_allocation(kind, make, mark, &mut random, asked);
+            }
             if !random.advance() {
                 return count;
             }
@@ -114,7 +169,13 @@ fn random_share(seed: u64, time: Duration) -> Vec<u64> {
         for (at, kind, make) in kinds() {
             let turns =
                 TURNS / kind.turns + u32::from(random.below(kind.turns as usize) < (TURNS % kind.turns) as usize);
-            (0..turns).for_each(|_| ask(kind, make, &mut random, &mut asked));
+            for turn in 0..turns {
+                let mark = random.mark();
+                ask(kind, make, &mut random, &mut asked);
+                if turn == 0 {
+                    counts[at] += ask_each_allocation(kind, make, mark, &mut random, &mut asked);
+                }
+            }
             counts[at] += u64::from(turns);
         }
     }
@@ -178,6 +239,17 @@ fn planted(seed: u64) -> bool {
         let mut random = Random::new(seed);
         tell((1..=PLANTED).find(|_| asks(make, &mut random, &mut asked) != Ok(false)), kind.name);
     }
+    asked.is_planted = false;
+    heap::plant(true);
+    for (_, kind, make) in kinds().filter(|(_, kind, _)| kind.allocates == Allocates::Declared) {
+        let mut random = Random::new(seed);
+        let mut differs = |_: &u64| {
+            let mark = random.mark();
+            ask_failing(make, mark, &mut random, &mut asked).is_err()
+        };
+        tell((1..=PLANTED).find(|number| differs(number)), &format!("{}, an allocation failing", kind.name));
+    }
+    heap::plant(false);
     println!("{seen} of {all} planted answers seen");
     seen == all
 }

@@ -7,7 +7,9 @@ mod edit_lists;
 mod engines;
 mod json_values;
 mod kernels;
+mod long_searches;
 mod maps;
+mod memory;
 mod numbers;
 mod places;
 mod readers;
@@ -22,6 +24,9 @@ mod walks;
 mod writers;
 
 use crate::asked::Asked;
+use crate::failing;
+use crate::heap::{self, Fails};
+use std::collections::HashSet;
 use std::panic::{catch_unwind, AssertUnwindSafe};
 
 /// A row: its name, and what it asks.
@@ -47,6 +52,8 @@ pub fn all() -> impl Iterator<Item = &'static Row> {
         edit_lists::ROWS,
         devices::ROWS,
         engines::ROWS,
+        memory::ROWS,
+        long_searches::ROWS,
         readers::ROWS,
         writers::ROWS,
         serving::ROWS,
@@ -64,6 +71,8 @@ pub struct Rows {
     name: &'static str,
     count: u64,
     differ: u64,
+    /// The sizes of the allocations of the questions so far.
+    sizes: HashSet<(u64, u64)>,
 }
 
 impl Rows {
@@ -75,16 +84,34 @@ impl Rows {
         }
         self.asked.clear();
         self.count += 1;
+        heap::begin();
         question(&mut self.asked);
-        if !self.asked.differs() {
-            return;
+        let sizes = (heap::count(), heap::sizes());
+        if self.asked.differs() {
+            self.differ("", question);
+        } else if sizes.0 > 0 && !self.asked.is_planted && self.sizes.insert(sizes) {
+            self.ask_failing(heap::ONE, question);
         }
+    }
+
+    /// Asks a question again and again, with each of its allocations failing in turn, and with it others.
+    pub fn ask_failing(&mut self, fails: Fails, question: impl Fn(&mut Asked)) {
+        match failing::each(&mut self.asked, fails, &question) {
+            Ok(count) => self.count += count,
+            Err(number) => self.differ(&format!("with the allocation {number} failing: "), |asked| {
+                let _ = failing::each(asked, fails, question);
+            }),
+        }
+    }
+
+    /// Counts a difference. Asks the question again to show it, in the way `again`.
+    fn differ(&mut self, when: &str, again: impl FnOnce(&mut Asked)) {
         self.differ += 1;
         if !self.asked.is_planted && self.differ <= SHOWN {
             self.asked.clear();
             self.asked.calls = Some(Vec::new());
-            question(&mut self.asked);
-            self.show(&self.asked.report());
+            again(&mut self.asked);
+            self.show(&format!("{when}{}", self.asked.report()));
             self.asked.calls = None;
         }
     }
@@ -99,7 +126,7 @@ impl Rows {
 /// Runs a row, and returns the number of its questions and of the answers that differ. With `is_planted` the library is
 /// passed wrong arguments, and the first answer that differs ends the row. A panic of the driver is a difference.
 pub fn run(row: &Row, is_planted: bool) -> (u64, u64) {
-    let mut rows = Rows { asked: Asked::new(), name: row.0, count: 0, differ: 0 };
+    let mut rows = Rows { asked: Asked::new(), name: row.0, count: 0, differ: 0, sizes: HashSet::new() };
     rows.asked.is_planted = is_planted;
     if let Err(panic) = catch_unwind(AssertUnwindSafe(|| row.1(&mut rows))) {
         rows.differ += 1;

@@ -1,6 +1,6 @@
 //! Characters, by std's `u8`.
 
-use crate::asked::{Answer, Asked};
+use crate::asked::{Answer, Asked, Needs};
 use crate::calls;
 use crate::random::Random;
 use std::collections::HashSet;
@@ -136,7 +136,7 @@ pub fn ask_conversions(codes: &[u8], asked: &mut Asked) {
         let want = &mut asked.want;
         if !code.is_ascii() {
             want.text("not an ASCII character");
-            want.text("not an ASCII character not an ASCII character");
+            want.copy("not an ASCII character not an ASCII character");
             continue;
         }
         (0..9).for_each(|_| want.number(usize::from(*code)));
@@ -153,7 +153,25 @@ pub fn set(random: &mut Random, asked: &mut Asked) {
 /// Whether each code is new in a set, and how many are in it.
 pub fn ask_set(codes: &[u8], asked: &mut Asked) {
     calls::ask_character_set(asked, codes);
+    put_set(codes, usize::MAX, &mut asked.want);
+    if asked.lets_fail {
+        for at in 0..codes.len() {
+            // There may be room for all but the first one.
+            let needs = if at == 0 { Needs::Memory } else { Needs::Perhaps };
+            asked.want.fails(needs, 0, |want| put_set(codes, at, want));
+        }
+    }
+}
+
+/// Whether each code is new, if there is no memory for the one at a position.
+fn put_set(codes: &[u8], failing: usize, want: &mut Answer) {
     let mut seen = HashSet::new();
-    codes.iter().for_each(|code| asked.want.flag(seen.insert(code)));
-    asked.want.number(seen.len());
+    for (at, code) in codes.iter().enumerate() {
+        if at == failing {
+            want.failed();
+        } else {
+            want.flag(seen.insert(code));
+        }
+    }
+    want.number(seen.len());
 }

@@ -1,7 +1,8 @@
 //! Texts made out of other values and turned into them, by std.
 
+use super::edits::INLINE;
 use super::slices::{non_ascii, source};
-use crate::asked::{Answer, Asked};
+use crate::asked::{Answer, Asked, Needs};
 use crate::calls;
 use crate::random::Random;
 
@@ -16,12 +17,14 @@ pub fn ask_all(source: &[u8], asked: &mut Asked) {
     for _ in 0..times {
         match non_ascii(source) {
             Some(at) => {
-                for _ in 0..2 {
-                    asked.want.number(at);
-                    asked.want.text(source);
+                for number in 0..2 {
+                    asked.want.allocated(Needs::memory_if(number > 0), |want| {
+                        want.number(at);
+                        want.text(source);
+                    });
                 }
             }
-            None => (0..2).for_each(|_| asked.want.text(source)),
+            None => (0..2).for_each(|_| asked.want.copy(source)),
         }
     }
 }
@@ -33,20 +36,39 @@ pub fn round_trips(random: &mut Random, asked: &mut Asked) {
 
 pub fn ask_round_trips(text: &[u8], asked: &mut Asked) {
     calls::ask_round_trips(asked, text);
-    (0..9).for_each(|_| asked.want.text(text));
-    text.iter().take(1).for_each(|code| asked.want.text([*code]));
+    let (want, some) = (&mut asked.want, Needs::memory_if(!text.is_empty()));
+    want.copy(text);
+    // Characters are appended one by one if there is no memory for all.
+    want.absorbs(some);
+    (0..2).for_each(|_| want.copy(text));
+    // A shared text is in an allocation also if it is empty.
+    (0..2).for_each(|_| want.allocated(Needs::Memory, |want| want.text(text)));
+    (0..2).for_each(|_| want.copy(text));
+    let start = want.bytes.len();
+    want.text(text);
+    want.text(text);
+    want.fails(some, start, Answer::failed);
+    // The copy of the string fails, and the string is printed.
+    want.fails(some, start, |want| {
+        want.failed();
+        want.text(text);
+    });
+    text.iter().take(1).for_each(|code| want.copy([*code]));
 }
 
-/// Whether a piece is appended, and the text after that, some times.
-fn appended(mut text: Vec<u8>, piece: &[u8], times: usize, want: &mut Answer) {
-    let is_ascii = piece.is_ascii();
-    if is_ascii {
-        text.extend(piece);
-    }
-    for _ in 0..times {
-        want.flag(is_ascii);
-        want.text(&text);
-    }
+/// Whether a piece is appended to a text, and the text after that. What the text and the piece need of memory depends
+/// on the type of the string.
+fn appended(text: &[u8], piece: &[u8], copy: Needs, growth: Needs, want: &mut Answer) {
+    let start = want.bytes.len();
+    let (is_ascii, piece) = (piece.is_ascii(), if piece.is_ascii() { piece } else { b"" });
+    want.flag(is_ascii);
+    want.text([text, piece].concat());
+    want.fails(copy, start, Answer::failed);
+    let growth = if piece.is_empty() { Needs::Nothing } else { growth };
+    want.fails(growth, start, |want| {
+        want.flag(false);
+        want.text(text);
+    });
 }
 
 pub fn written(random: &mut Random, asked: &mut Asked) {
@@ -55,7 +77,15 @@ pub fn written(random: &mut Random, asked: &mut Asked) {
 
 pub fn ask_written(text: &[u8], piece: &[u8], asked: &mut Asked) {
     calls::ask_written(asked, text, piece);
-    appended(text.to_vec(), piece, 2, &mut asked.want);
+    let (some, long) = (Needs::memory_if(!text.is_empty()), Needs::memory_if(text.len() > INLINE));
+    appended(text, piece, some, Needs::Memory, &mut asked.want);
+    // The capacity of an inline string that is in an allocation is not known.
+    let growth = match text.len() + piece.len() {
+        ..=INLINE => Needs::Nothing,
+        _ if text.len() > INLINE => Needs::Perhaps,
+        _ => Needs::Memory,
+    };
+    appended(text, piece, long, growth, &mut asked.want);
 }
 
 /// A character of ASCII or of a length of 1 to 4 bytes.
@@ -73,7 +103,8 @@ pub fn character_written(random: &mut Random, asked: &mut Asked) {
 
 pub fn ask_character_written(ch: char, text: &[u8], asked: &mut Asked) {
     calls::ask_character_written(asked, ch as u32, text);
-    appended(text.to_vec(), ch.to_string().as_bytes(), 1, &mut asked.want);
+    let some = Needs::memory_if(!text.is_empty());
+    appended(text, ch.to_string().as_bytes(), some, Needs::Memory, &mut asked.want);
 }
 
 pub fn collected(random: &mut Random, asked: &mut Asked) {
@@ -87,11 +118,36 @@ pub fn ask_collected(code: u8, text: &[u8], asked: &mut Asked) {
     asked.want.text(text);
     asked.want.flag(true);
     asked.want.text(text.repeat(2));
-    let mut string: Vec<u8> = text.iter().copied().filter(|other| *other != code).collect();
-    asked.want.text(&string);
-    asked.want.flag(true);
-    string.extend(super::walks::lines_of(text).iter().flat_map(|line| &text[line.start..line.end]));
-    asked.want.text(string);
+    // Characters are appended one by one if there is no memory for all.
+    asked.want.absorbs(Needs::memory_if(!text.is_empty()));
+    put_collected(code, text, &mut asked.want);
+}
+
+/// The pieces at a character collected, and then the lines appended.
+fn put_collected(code: u8, text: &[u8], want: &mut Answer) {
+    let whole = want.bytes.len();
+    // Grows as a string does.
+    let mut string = Vec::new();
+    text.split(|other| *other == code).for_each(|piece| string.extend_from_slice(piece));
+    want.text(&string);
+    let (is_some, start, mut growths) = (!string.is_empty(), want.bytes.len(), Vec::new());
+    for line in super::walks::lines_of(text) {
+        let body = &text[line.start..line.end];
+        if string.capacity() - string.len() < body.len() {
+            growths.push(string.len());
+        }
+        string.extend_from_slice(body);
+    }
+    want.flag(true);
+    want.text(&string);
+    want.fails(Needs::memory_if(is_some), whole, Answer::failed);
+    // The lines before the one that does not fit have been appended.
+    for length in growths {
+        want.fails(Needs::Memory, start, |want| {
+            want.flag(false);
+            want.text(&string[..length]);
+        });
+    }
 }
 
 pub fn split_off(random: &mut Random, asked: &mut Asked) {
@@ -101,8 +157,16 @@ pub fn split_off(random: &mut Random, asked: &mut Asked) {
 
 pub fn ask_split_off(at: usize, text: &[u8], asked: &mut Asked) {
     calls::ask_split_off(asked, at, text);
+    let (want, some) = (&mut asked.want, Needs::memory_if(!text.is_empty()));
+    let (before, after) = text.split_at(at.min(text.len()));
     if at <= text.len() {
-        let (before, after) = text.split_at(at);
-        [after, before, before, after].iter().for_each(|part| asked.want.text(part));
+        [after, before, before, after].iter().for_each(|part| want.text(part));
+    }
+    want.fails(some, 0, Answer::failed);
+    if at < text.len() {
+        want.fails(Needs::Memory, 0, |want| {
+            want.failed();
+            [text, before, after].iter().for_each(|part| want.text(part));
+        });
     }
 }

@@ -1,7 +1,7 @@
 //! Runs of commands and capacities, by std's `Vec`.
 
 use super::slices::{bounds, non_ascii};
-use crate::asked::{items_of, Answer, Asked, Item};
+use crate::asked::{items_of, Answer, Asked, Item, Needs};
 use crate::calls::{self, Step};
 use crate::random::Random;
 
@@ -22,6 +22,11 @@ impl Commands {
 
     pub fn add(&mut self, kind: u8, at: usize, code: u8) {
         self.steps.push(Step { kind, at, code, ..Step::default() });
+    }
+
+    /// Adds a copy of the characters before a position.
+    pub fn copy_to(&mut self, end: usize) {
+        self.steps.push(Step { kind: 17, code: 2, end, ..Step::default() });
     }
 }
 
@@ -48,238 +53,361 @@ fn edits(is_small: bool, random: &mut Random, asked: &mut Asked) {
     ask_edits(is_small, source, count, random, asked);
 }
 
-pub fn both(random: &mut Random, asked: &mut Asked) {
-    let source = random.text();
-    let (commands, want) = commands_over(&source, random.count(24), random);
-    calls::ask_both_edits(asked, &source, &commands.texts, &commands.steps);
-    (0..2).for_each(|_| asked.want.bytes.extend(&want.bytes));
-}
-
 /// Asks for a number of commands over a text.
 pub fn ask_edits(is_small: bool, source: Vec<u8>, count: usize, random: &mut Random, asked: &mut Asked) {
-    let (commands, want) = commands_over(&source, count, random);
+    let commands = random_commands(&source, count, random);
     calls::ask_edits(asked, is_small, &source, &commands.texts, &commands.steps);
-    asked.want = want;
+    expect(is_small, &source, &commands, asked);
 }
 
-/// A number of commands over a text, and their replies with the text after them.
-fn commands_over(source: &[u8], count: usize, random: &mut Random) -> (Commands, Answer) {
-    let (mut text, mut commands, mut want) = (source.to_vec(), Commands::default(), Answer::default());
+/// A number of commands over a text.
+pub fn random_commands(source: &[u8], count: usize, random: &mut Random) -> Commands {
+    let (mut edited, mut commands) = (Edited::new(source, false), Commands::default());
     for _ in 0..count {
         match random.below(4) {
-            0 => grow(random, &mut text, &mut commands, &mut want),
-            1 => insert(random, &mut text, &mut commands, &mut want),
-            2 => place(random, &mut text, &mut commands, &mut want),
-            _ => ask(random, &mut text, &mut commands, &mut want),
+            0 => grow(random, &mut commands),
+            1 => insert(random, &edited.text, &mut commands),
+            2 => place(random, &edited.text, &mut commands),
+            _ => ask(random, &edited.text, &mut commands),
+        }
+        let step = commands.steps.last().expect("a command");
+        edited.answer(step, &commands.texts, false, &mut Answer::default());
+    }
+    commands
+}
+
+/// Writes what commands over a text are answered, also if an allocation fails.
+pub fn expect(is_small: bool, source: &[u8], commands: &Commands, asked: &mut Asked) {
+    let (new, start) = (Edited::new(source, is_small), asked.want.bytes.len());
+    let needs = new.clone().run(commands, usize::MAX, &mut asked.want);
+    if asked.lets_fail {
+        edits_fail(&new, start, commands, &needs, &mut asked.want);
+    }
+}
+
+/// Writes what is answered if an allocation fails, to a question whose other answer is from a table.
+pub fn expect_failures(is_small: bool, source: &[u8], commands: &Commands, asked: &mut Asked) {
+    if asked.lets_fail {
+        let (new, mut modelled) = (Edited::new(source, is_small), Answer::default());
+        let needs = new.clone().run(commands, usize::MAX, &mut modelled);
+        assert!(modelled.bytes == asked.want.bytes, "the model differs from the row");
+        edits_fail(&new, 0, commands, &needs, &mut asked.want);
+    }
+}
+
+/// The allocations are that for the list of commands, for the string, for the replies, and for each of the commands.
+fn edits_fail(new: &Edited, start: usize, commands: &Commands, needs: &[Needs], want: &mut Answer) {
+    let list = Needs::memory_if(!commands.steps.is_empty());
+    want.fails(list, start, Answer::failed);
+    let is_allocated = new.text.len() > if new.is_small { INLINE } else { 0 };
+    want.fails(Needs::memory_if(is_allocated), start, Answer::failed);
+    want.fails(list, start, |want| {
+        want.failed();
+        want.text(&new.text);
+    });
+    for (number, needs) in needs.iter().enumerate() {
+        want.fails(*needs, start, |want| {
+            new.clone().run(commands, number, want);
+        });
+    }
+}
+
+/// How many bytes an inline string has room for in itself.
+pub const INLINE: usize = 24;
+
+/// A string by std's `Vec`. It grows only if it has to, and an allocation that fails leaves it as it was.
+pub struct Edited {
+    pub text: Vec<u8>,
+    is_small: bool,
+    /// The capacity of a string, and the least that an inline string has.
+    room: usize,
+}
+
+/// The capacity of a copy is the same.
+impl Clone for Edited {
+    fn clone(&self) -> Edited {
+        let mut text = Vec::with_capacity(if self.is_small { 0 } else { self.room });
+        text.extend(&self.text);
+        Edited { text, ..*self }
+    }
+}
+
+impl Edited {
+    pub fn new(source: &[u8], is_small: bool) -> Edited {
+        let room = if is_small { source.len().max(INLINE) } else { source.len() };
+        Edited { text: source.to_vec(), is_small, room }
+    }
+
+    /// An empty string that is not inline, with a capacity.
+    fn with_capacity(room: usize) -> Edited {
+        Edited { text: Vec::with_capacity(room), is_small: false, room }
+    }
+
+    /// Carries out commands, of which the one with the number `fails` has no memory, and writes the replies and the
+    /// text after them. Returns what each command needs.
+    pub fn run(mut self, commands: &Commands, fails: usize, want: &mut Answer) -> Vec<Needs> {
+        let answer = |(number, step): (usize, &Step)| self.answer(step, &commands.texts, number == fails, want);
+        let needs = commands.steps.iter().enumerate().map(answer).collect();
+        want.text(self.text);
+        needs
+    }
+
+    /// Carries out a command, which may have no memory, and writes its reply.
+    pub fn answer(&mut self, step: &Step, texts: &[u8], fails: bool, want: &mut Answer) -> Needs {
+        let (at, length) = (step.at, self.text.len());
+        let piece = texts.get(step.start..step.end).unwrap_or_default();
+        match step.kind {
+            2 | 3 if at > length => want.text("position"),
+            0 => return self.insert(length, &[step.code], true, fails, want),
+            1 => return self.insert(length, piece, false, fails, want),
+            2 => return self.insert(at, &[step.code], false, fails, want),
+            3 => return self.insert(at, piece, false, fails, want),
+            11 | 19 => return self.reserve(at, step.kind == 19, fails, want),
+            12 => return self.shrink(fails, want),
+            17 => return self.copy(step, fails, want),
+            _ => self.answer_in_place(step, piece, want),
+        }
+        Needs::Nothing
+    }
+
+    /// Carries out a command that never needs memory.
+    fn answer_in_place(&mut self, step: &Step, piece: &[u8], want: &mut Answer) {
+        let (at, text) = (step.at, &mut self.text);
+        let code = |byte: Option<u8>| byte.map(usize::from);
+        match step.kind {
+            4 if at < text.len() => want.number(text.remove(at).into()),
+            8 if at < text.len() => text[at] = step.code,
+            4 | 8 => return want.text("position"),
+            5 => want.position(code(text.pop())),
+            6 => text.truncate(at),
+            7 => text.clear(),
+            9 => text.make_ascii_uppercase(),
+            10 => text.make_ascii_lowercase(),
+            13 => want.number(text.len()),
+            14 => want.position(code(text.first().copied())),
+            15 => want.position(code(text.last().copied())),
+            16 => want.position(code(text.get(at).copied())),
+            _ => want.flag(text.eq_ignore_ascii_case(piece)),
+        }
+        if matches!(step.kind, 6..=10) {
+            want.text("done");
         }
     }
-    want.text(text);
-    (commands, want)
-}
 
-/// What a reservation of `n` more bytes is answered.
-fn reservation(length: usize, n: usize) -> &'static str {
-    match n.checked_add(length) {
-        None => "many",
-        // More than an allocation can have.
-        Some(all) if all > isize::MAX as usize => "memory",
-        Some(_) => "done",
+    /// What room for some more bytes needs.
+    fn needs_for(&self, additional: usize) -> Needs {
+        match self.text.len().checked_add(additional) {
+            Some(all) if all <= self.room => Needs::Nothing,
+            // No allocation is asked for.
+            Some(all) if all > isize::MAX as usize => Needs::Nothing,
+            // An inline string may have more room than is known.
+            Some(_) if self.is_small && self.room > INLINE => Needs::Perhaps,
+            Some(_) => Needs::Memory,
+            None => Needs::Nothing,
+        }
+    }
+
+    fn insert(&mut self, at: usize, piece: &[u8], is_pushed: bool, fails: bool, want: &mut Answer) -> Needs {
+        let needs = self.needs_for(piece.len());
+        if fails {
+            want.text("memory");
+            return needs;
+        }
+        // A string that has no capacity asks for this one at its first character.
+        if is_pushed && self.room == 0 {
+            self.text.reserve_exact(24);
+        }
+        self.text.reserve(piece.len());
+        self.text.splice(at..at, piece.iter().copied());
+        self.keep_room(0);
+        want.text("done");
+        needs
+    }
+
+    /// Notes the capacity after a command that needs room for some more bytes.
+    fn keep_room(&mut self, additional: usize) {
+        let least = self.text.len() + additional;
+        self.room = if self.is_small { self.room.max(least) } else { self.text.capacity() };
+    }
+
+    fn reserve(&mut self, additional: usize, is_exact: bool, fails: bool, want: &mut Answer) -> Needs {
+        if self.text.len().checked_add(additional).is_none() {
+            want.text("many");
+            return Needs::Nothing;
+        }
+        let (needs, text) = (self.needs_for(additional), &mut self.text);
+        let reserve = if is_exact { Vec::try_reserve_exact } else { Vec::try_reserve };
+        let is_done = !fails && reserve(text, additional).is_ok();
+        if is_done {
+            self.keep_room(additional);
+        }
+        want.text(if is_done { "done" } else { "memory" });
+        needs
+    }
+
+    fn shrink(&mut self, fails: bool, want: &mut Answer) -> Needs {
+        // An inline string is not shrunk.
+        let needs = Needs::memory_if(!self.is_small && !self.text.is_empty() && self.text.len() < self.room);
+        want.text(if fails { "memory" } else { "done" });
+        if !fails && !self.is_small {
+            self.text.shrink_to_fit();
+            self.keep_room(0);
+        }
+        needs
+    }
+
+    fn copy(&self, step: &Step, fails: bool, want: &mut Answer) -> Needs {
+        let part =
+            bounds(step.code.into(), step.start, step.end, self.text.len()).map(|(start, end)| &self.text[start..end]);
+        match part {
+            Some(part) if non_ascii(part).is_none() => {
+                want.text(if fails { b"memory" } else { part });
+                Needs::memory_if(!part.is_empty())
+            }
+            _ => {
+                want.fault("ascii", self.text.len());
+                Needs::Nothing
+            }
+        }
     }
 }
 
-fn grow(random: &mut Random, text: &mut Vec<u8>, commands: &mut Commands, want: &mut Answer) {
+fn grow(random: &mut Random, commands: &mut Commands) {
     match random.below(4) {
         0 => {
             let code = random.code_of(b"");
-            text.push(code);
             commands.add(0, 0, code);
-            want.text("done");
         }
         1 => {
             let piece = piece(random);
-            text.extend(&piece);
             commands.add_text(1, 0, &piece);
-            want.text("done");
         }
-        2 => {
-            commands.add(12, 0, 0);
-            want.text("done");
-        }
+        2 => commands.add(12, 0, 0),
         _ => {
             let n = if random.below(8) == 0 { usize::MAX - random.below(40) } else { random.count(300) };
             commands.add(11, n, 0);
-            want.text(reservation(text.len(), n));
         }
     }
 }
 
-fn insert(random: &mut Random, text: &mut Vec<u8>, commands: &mut Commands, want: &mut Answer) {
+fn insert(random: &mut Random, text: &[u8], commands: &mut Commands) {
     let at = random.place(text.len());
-    let piece = if random.below(2) == 0 {
+    if random.below(2) == 0 {
         let code = random.code_of(b"");
         commands.add(2, at, code);
-        vec![code]
     } else {
         let piece = piece(random);
         commands.add_text(3, at, &piece);
-        piece
-    };
-    if at <= text.len() {
-        text.splice(at..at, piece);
-        want.text("done");
-    } else {
-        want.text("position");
     }
 }
 
-fn place(random: &mut Random, text: &mut Vec<u8>, commands: &mut Commands, want: &mut Answer) {
+fn place(random: &mut Random, text: &[u8], commands: &mut Commands) {
     let at = random.place(text.len());
-    let is_in = at < text.len();
     match random.below(4) {
-        0 => {
-            commands.add(4, at, 0);
-            if is_in {
-                want.number(text.remove(at).into())
-            } else {
-                want.text("position")
-            }
-        }
+        0 => commands.add(4, at, 0),
         1 => {
             let code = random.code_of(b"");
             commands.add(8, at, code);
-            match text.get_mut(at) {
-                Some(byte) => *byte = code,
-                None => return want.text("position"),
-            }
-            want.text("done");
         }
-        2 => {
-            commands.add(6, at, 0);
-            text.truncate(at);
-            want.text("done");
-        }
-        _ => {
-            commands.add(16, at, 0);
-            want.position(text.get(at).map(|byte| usize::from(*byte)));
-        }
+        2 => commands.add(6, at, 0),
+        _ => commands.add(16, at, 0),
     }
 }
 
-fn ask(random: &mut Random, text: &mut Vec<u8>, commands: &mut Commands, want: &mut Answer) {
-    let code = |byte: Option<u8>| byte.map(usize::from);
-    let kind = *random.pick(&[5, 5, 7, 9, 10, 13, 14, 15, 17, 17, 18, 18]);
-    match kind {
-        5 => want.position(code(text.pop())),
-        7 => text.clear(),
-        9 => text.make_ascii_uppercase(),
-        10 => text.make_ascii_lowercase(),
-        13 => want.number(text.len()),
-        14 => want.position(code(text.first().copied())),
-        15 => want.position(code(text.last().copied())),
-        17 => return copy(random, text, commands, want),
-        _ => {
+fn ask(random: &mut Random, text: &[u8], commands: &mut Commands) {
+    match *random.pick(&[5, 5, 7, 9, 10, 13, 14, 15, 17, 17, 18, 18]) {
+        17 => {
+            let form = random.below(6);
+            let (start, end) = random.places(text.len());
+            commands.steps.push(Step { kind: 17, code: form as u8, start, end, at: 0 });
+        }
+        18 => {
             let other = random.other(text);
             commands.add_text(18, 0, &other);
-            return want.flag(text.eq_ignore_ascii_case(&other));
         }
-    }
-    if matches!(kind, 7 | 9 | 10) {
-        want.text("done");
-    }
-    commands.add(kind, 0, 0);
-}
-
-fn copy(random: &mut Random, text: &[u8], commands: &mut Commands, want: &mut Answer) {
-    let form = random.below(6);
-    let (start, end) = random.places(text.len());
-    commands.steps.push(Step { kind: 17, code: form as u8, start, end, at: 0 });
-    match bounds(form, start, end, text.len()) {
-        Some((start, end)) if non_ascii(&text[start..end]).is_none() => want.text(&text[start..end]),
-        _ => want.fault("ascii", text.len()),
+        kind => commands.add(kind, 0, 0),
     }
 }
 
 /// A command that changes a capacity, of a list of their numbers; 20 and 21 stand for reserving more than there can be.
-/// Returns how many bytes are reserved.
-fn resize(random: &mut Random, kinds: &[u8], bytes: &mut Vec<u8>, commands: &mut Commands, want: &mut Answer) -> usize {
+fn resize(random: &mut Random, kinds: &[u8], commands: &mut Commands) {
     let kind = *random.pick(kinds);
     let room = random.room();
     match kind {
-        0 => {
-            // A string that has no capacity asks for this one at its first character.
-            if bytes.capacity() == 0 {
-                bytes.reserve_exact(24);
-            }
-            bytes.push(b'x');
-            commands.add(0, 0, b'x');
-        }
-        1 => {
-            let piece = vec![b'x'; room];
-            bytes.extend_from_slice(&piece);
-            commands.add_text(1, 0, &piece);
-        }
-        5 => {
-            commands.add(5, 0, 0);
-            want.position(bytes.pop().map(usize::from));
-            return 0;
-        }
-        6 => {
-            bytes.truncate(room);
-            commands.add(6, room, 0);
-        }
-        7 => {
-            bytes.clear();
-            commands.add(7, 0, 0);
-        }
-        12 => {
-            bytes.shrink_to_fit();
-            commands.add(12, 0, 0);
-        }
+        0 => commands.add(0, 0, b'x'),
+        1 => commands.add_text(1, 0, &vec![b'x'; room]),
+        5 | 7 | 12 => commands.add(kind, 0, 0),
+        6 => commands.add(6, room, 0),
         _ => {
             let n = if kind >= 20 { usize::MAX - 20 * random.below(3) } else { room };
-            let is_exact = kind == 19 || kind == 21;
-            let result = if is_exact { bytes.try_reserve_exact(n) } else { bytes.try_reserve(n) };
-            commands.add(if is_exact { 19 } else { 11 }, n, 0);
-            want.text(reservation(bytes.len(), n));
-            return if result.is_ok() { n } else { 0 };
+            commands.add(if kind == 19 || kind == 21 { 19 } else { 11 }, n, 0);
         }
     }
-    want.text("done");
-    0
 }
 
 pub fn capacities(random: &mut Random, asked: &mut Asked) {
-    let mut bytes = Vec::with_capacity(random.room());
-    let capacity = bytes.capacity();
-    let (mut commands, mut want) = (Commands::default(), Answer::default());
-    want.number(capacity);
+    let capacity = Vec::<u8>::with_capacity(random.room()).capacity();
+    let mut commands = Commands::default();
     for _ in 0..random.count(20) {
-        resize(random, &[0, 1, 5, 6, 7, 11, 12, 19, 20, 21], &mut bytes, &mut commands, &mut want);
-        want.number(bytes.capacity());
+        resize(random, &[0, 1, 5, 6, 7, 11, 12, 19, 20, 21], &mut commands);
     }
-    calls::ask_capacities(asked, capacity, &commands.texts, &commands.steps);
-    asked.want = want;
+    ask_capacities(capacity, &commands, asked);
 }
 
-/// How many bytes an inline string has room for in itself.
-const INLINE: usize = 24;
+/// Asks for the capacity of an empty string, and for that after each command.
+pub fn ask_capacities(capacity: usize, commands: &Commands, asked: &mut Asked) {
+    calls::ask_capacities(asked, capacity, &commands.texts, &commands.steps);
+    let lets_fail = asked.lets_fail;
+    let want = &mut asked.want;
+    let start = want.bytes.len();
+    let needs = put_capacities(capacity, commands, None, want);
+    want.fails(Needs::memory_if(capacity > 0), start, Answer::failed);
+    if lets_fail {
+        for (number, (step, needs)) in commands.steps.iter().zip(needs).enumerate() {
+            // The reply is in a list, but not the result of an exact reservation.
+            let list = Needs::memory_if(step.kind != 19);
+            for (needs, is_list) in [(list, true), (needs, false)] {
+                want.fails(needs, start, |want| {
+                    put_capacities(capacity, commands, Some((number, is_list)), want);
+                });
+            }
+        }
+    }
+}
+
+/// Writes the capacities and the replies. Of the command number `fails` there is no memory for the reply, if it is for
+/// the list, or for the string.
+fn put_capacities(capacity: usize, commands: &Commands, fails: Option<(usize, bool)>, want: &mut Answer) -> Vec<Needs> {
+    let mut string = Edited::with_capacity(capacity);
+    want.number(string.text.capacity());
+    let mut needs = Vec::new();
+    for (number, step) in commands.steps.iter().enumerate() {
+        if fails == Some((number, true)) {
+            want.failed();
+        } else {
+            needs.push(string.answer(step, &commands.texts, fails == Some((number, false)), want));
+        }
+        want.number(string.text.capacity());
+    }
+    needs
+}
 
 /// A string is inline until it needs room for more than `INLINE` bytes, and then never again. Its capacity is unchanged
 /// by a command that fits in it, and is otherwise enough for the command; a shrunk one is enough for the text.
 pub fn small_capacities(random: &mut Random, asked: &mut Asked) {
     let source = vec![b'x'; random.room() % (INLINE + 3)];
-    let (mut bytes, mut commands, mut want) = (source.clone(), Commands::default(), Answer::default());
-    let mut most = bytes.len();
-    want.flag(most <= INLINE);
+    let (mut string, mut commands, mut want) = (Edited::new(&source, true), Commands::default(), Answer::default());
+    want.flag(source.len() <= INLINE);
     // The room that each command needs, or `None` for a shrunk string.
-    let mut needs = vec![Some(bytes.len())];
+    let mut needs = vec![Some(source.len())];
     for _ in 0..random.count(20) {
         want.number(0);
-        let reserved = resize(random, &[0, 1, 5, 6, 7, 11, 12, 20], &mut bytes, &mut commands, &mut want);
-        let need = bytes.len() + reserved;
-        most = most.max(need);
-        needs.push((commands.steps.last().map(|step| step.kind) != Some(12)).then_some(need));
-        want.flag(most <= INLINE);
+        resize(random, &[0, 1, 5, 6, 7, 11, 12, 20], &mut commands);
+        let step = commands.steps.last().expect("a command");
+        string.answer(step, &commands.texts, false, &mut want);
+        let reserved = if step.kind == 11 && step.at <= isize::MAX as usize { step.at } else { 0 };
+        needs.push((step.kind != 12).then_some(string.text.len() + reserved));
+        want.flag(string.room <= INLINE);
     }
     want.number(0);
     calls::ask_small_capacities(asked, &source, &commands.texts, &commands.steps);

@@ -1,10 +1,11 @@
 //! The modes of both engines, by plain loops.
 
+use super::edits::Commands;
 use super::json_values::{json_codes, quoted};
 use super::lines::{long_source, slow};
 use super::slices::non_ascii;
 use super::walks::{ending, lines_of, take};
-use crate::asked::{items_of, Answer, Asked, Item};
+use crate::asked::{items_of, Answer, Asked, Item, Needs};
 use crate::calls::{self, Device, WHOLE};
 use crate::random::Random;
 
@@ -119,6 +120,89 @@ pub fn expect_bounded(mode: usize, source: &[u8], want: &mut Answer) {
 pub fn put_failures(reads: usize, writes: usize, want: &mut Answer) {
     want.number(reads);
     want.number(writes);
+}
+
+/// A run of the engine: what it writes, or why it stops and what was written before.
+#[derive(Clone, Copy)]
+pub enum Run<'a> {
+    Writes(&'a [u8]),
+    /// An error of the text or of a command, and its position.
+    Rejects(&'static str, usize),
+    Memory,
+    FailsToRead,
+    FailsToWrite(&'a [u8]),
+}
+
+/// What two runs over the same devices are answered. Each write moves `most` bytes, or all that are left.
+fn put_runs(runs: [Run<'_>; 2], most: usize, want: &mut Answer) {
+    let (mut failures, mut calls, mut written) = ((0, 0), 0, Vec::new());
+    for run in runs {
+        // The writes, and after them the flush or the call that fails.
+        let mut write = |part: &[u8]| {
+            calls += part.len().div_ceil(most) + 1;
+            written.extend(part);
+        };
+        match run {
+            Run::Writes(part) => write(part),
+            Run::FailsToWrite(part) => {
+                write(part);
+                failures.1 += 1;
+            }
+            Run::FailsToRead => failures.0 += 1,
+            Run::Rejects(..) | Run::Memory => (),
+        }
+        match run {
+            Run::Writes(_) => want.text("done"),
+            Run::FailsToWrite(_) => want.text("write"),
+            Run::FailsToRead => want.text("read"),
+            Run::Rejects(name, position) => want.fault(name, position),
+            Run::Memory => want.failed(),
+        }
+        put_failures(failures.0, failures.1, want);
+    }
+    want.number(calls);
+    want.text(written);
+}
+
+/// The number of lists that a question about runs passes, a script or commands, if it is not empty.
+pub fn lists_of(script: &[u8], commands: &Commands) -> usize {
+    usize::from(!script.is_empty()) + usize::from(!commands.steps.is_empty())
+}
+
+/// Asks for two runs over the same devices. With the mode 7 it carries out commands.
+pub fn ask_runs(
+    (mode, script, commands): (u8, &[u8], &Commands),
+    source: &[u8],
+    (reads, writes): (&Device, &Device),
+    runs: [Run<'_>; 2],
+    asked: &mut Asked,
+) {
+    calls::ask_engine_runs(asked, mode, script, &commands.texts, &commands.steps, source, reads, writes);
+    put_runs(runs, writes.most, &mut asked.want);
+    runs_fail(lists_of(script, commands), source, (reads, writes), runs, &mut asked.want);
+}
+
+/// How much the engine reads at once.
+const CHUNK: usize = 32_768;
+
+/// If an allocation fails, that run writes nothing. The other one is over all of the text if nothing was read, and
+/// otherwise over its end, if one read moves the text.
+pub fn runs_fail(
+    lists: usize,
+    source: &[u8],
+    (reads, writes): (&Device, &Device),
+    [first, second]: [Run<'_>; 2],
+    want: &mut Answer,
+) {
+    let moves_all = |device: &Device| device.fails == u64::MAX && device.empty == u64::MAX;
+    if source.len() > CHUNK || reads.most < usize::MAX || !moves_all(reads) || !moves_all(writes) {
+        want.has_other_failures = true;
+        return;
+    }
+    want.fails(Needs::memory_if(lists > 0), 0, Answer::failed);
+    want.fails(Needs::Memory, 0, |want| put_runs([Run::Memory, first], writes.most, want));
+    want.fails(Needs::Perhaps, 0, |want| put_runs([Run::Memory, second], writes.most, want));
+    want.fails(Needs::Memory, 0, |want| put_runs([first, Run::Memory], writes.most, want));
 }
 
 pub fn bounded(random: &mut Random, asked: &mut Asked) {

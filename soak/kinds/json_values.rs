@@ -1,7 +1,7 @@
 //! Texts and characters as JSON values, by plain loops.
 
 use super::characters::codes;
-use crate::asked::Asked;
+use crate::asked::{Answer, Asked, Needs};
 use crate::calls;
 use crate::random::Random;
 
@@ -32,10 +32,17 @@ pub fn texts(random: &mut Random, asked: &mut Asked) {
     ask_json(&random.text(), asked);
 }
 
+/// The JSON text of a view and the string read back, and the text of a string's value.
 pub fn ask_json(text: &[u8], asked: &mut Asked) {
     calls::ask_json(asked, text);
-    asked.want.text(quoted(text));
-    asked.want.text(text);
+    let (want, some) = (&mut asked.want, Needs::memory_if(!text.is_empty()));
+    want.text(quoted(text));
+    let after = want.bytes.len();
+    want.text(text);
+    want.fails(some, 0, Answer::failed);
+    want.fails_in(Needs::Memory, 0..after, Answer::failed);
+    want.fails(some, after, Answer::failed);
+    want.copy(text);
 }
 
 /// A value that is a string, written as JSON, whose text may have a code above 127.
@@ -48,17 +55,27 @@ pub fn values(random: &mut Random, asked: &mut Asked) {
 pub fn ask_json_value(source: &[u8], text: Option<&str>, asked: &mut Asked) {
     calls::ask_json_value(asked, source);
     let want = &mut asked.want;
-    let Some(text) = text else { return (0..3).for_each(|_| want.text("text")) };
-    for _ in 0..2 {
-        match text.bytes().position(|byte| !byte.is_ascii()) {
+    let Some(text) = text else {
+        (0..3).for_each(|_| want.text("text"));
+        // A list is in an allocation, and a number is not.
+        return want.fails(Needs::Perhaps, 0, Answer::failed);
+    };
+    let (non_ascii, mut ends) = (text.bytes().position(|byte| !byte.is_ascii()), [0; 2]);
+    for end in &mut ends {
+        match non_ascii {
             Some(at) => want.fault("ascii", at),
             None => want.text(text),
         }
+        *end = want.bytes.len();
     }
     match text.as_bytes() {
         [code] => want.number(usize::from(*code)),
         _ => want.text("byte"),
     }
+    // The value, and the copy of its text.
+    let some = Needs::memory_if(!text.is_empty());
+    want.fails(some, 0, Answer::failed);
+    want.fails_in(if non_ascii.is_none() { some } else { Needs::Nothing }, ends[0]..ends[1], Answer::failed);
 }
 
 pub fn characters(random: &mut Random, asked: &mut Asked) {
@@ -67,8 +84,13 @@ pub fn characters(random: &mut Random, asked: &mut Asked) {
 
 pub fn ask_json_characters(codes: &[u8], asked: &mut Asked) {
     calls::ask_json_characters(asked, codes);
+    let want = &mut asked.want;
     for code in codes {
-        asked.want.text(quoted(&[*code]));
-        asked.want.number(usize::from(*code));
+        let start = want.bytes.len();
+        want.text(quoted(&[*code]));
+        let printed = want.bytes.len();
+        want.number(usize::from(*code));
+        want.fails(Needs::Memory, start, Answer::failed);
+        want.fails_in(Needs::Memory, start..printed, Answer::failed);
     }
 }

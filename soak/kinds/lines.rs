@@ -1,6 +1,6 @@
 //! Lines that are read and written, by plain loops.
 
-use crate::asked::{items_of, Answer, Asked, Item};
+use crate::asked::{items_of, Answer, Asked, Item, Needs};
 use crate::calls::{self, Device, Step, WHOLE};
 use crate::line_model::{put_line, put_stop, Model};
 use crate::random::Random;
@@ -103,12 +103,24 @@ pub fn collected(random: &mut Random, asked: &mut Asked) {
 /// Asks for the lines up to the end or the first error.
 pub fn ask_collected(model: &mut Model<'_>, source: &[u8], size: usize, device: Device, asked: &mut Asked) {
     calls::ask_collected_lines(asked, source, size, &device);
+    let want = &mut asked.want;
+    let start = want.bytes.len();
+    let mut positions = Vec::new();
     loop {
         let line = model.next_line();
-        put_line(line, &mut asked.want);
+        put_line(line, want);
         if line.is_err() {
-            return;
+            break;
         }
+        positions.push(model.start);
+    }
+    want.fails(Needs::Memory, start, Answer::failed);
+    // The line that there is no memory for is lost. Its body may be empty, and there may be room for it in the list.
+    for position in positions {
+        want.fails(Needs::Perhaps, start, |want| {
+            want.failed();
+            want.number(position);
+        });
     }
 }
 
@@ -121,22 +133,36 @@ pub fn blocks(random: &mut Random, asked: &mut Asked) {
 /// Asks for the lines up to an empty one, at most `most`.
 pub fn ask_block(model: &mut Model<'_>, source: &[u8], size: usize, device: Device, most: usize, asked: &mut Asked) {
     calls::ask_block(asked, source, size, &device, most);
-    put_block(model, most, &mut asked.want);
-    asked.want.number(model.start);
+    let want = &mut asked.want;
+    let positions = put_block(model, most, want);
+    want.number(model.start);
+    want.fails(Needs::Memory, 0, Answer::failed);
+    // The line that there is no memory for is lost.
+    for position in positions {
+        want.fails(Needs::Memory, 0, |want| {
+            want.failed();
+            want.number(position);
+        });
+    }
 }
 
-fn put_block(model: &mut Model<'_>, most: usize, want: &mut Answer) {
+/// Returns the position after each of the lines.
+fn put_block(model: &mut Model<'_>, most: usize, want: &mut Answer) -> Vec<usize> {
+    let mut positions = Vec::new();
     for _ in 0..most {
         let line = model.next_line();
         if line.is_ok_and(|(_, body, _)| body.is_empty()) {
-            return want.text("empty");
+            want.text("empty");
+            return positions;
         }
         put_line(line, want);
         if line.is_err() {
-            return;
+            return positions;
         }
+        positions.push(model.start);
     }
     want.text("full");
+    positions
 }
 
 fn break_in(text: &[u8]) -> Option<usize> {
@@ -222,7 +248,9 @@ pub fn failing_writer(random: &mut Random, asked: &mut Asked) {
     }
 }
 
-fn send(sent: &mut Vec<u8>, reply: &[u8]) -> Result<(), (&'static str, usize)> {
+/// Sends a reply, and notes how much was sent before, and whether the reply is empty.
+fn send(sent: &mut Vec<u8>, before: &mut Vec<(usize, bool)>, reply: &[u8]) -> Result<(), (&'static str, usize)> {
+    before.push((sent.len(), reply.is_empty()));
     if let Some(at) = break_in(reply) {
         return Err(("break", at));
     }
@@ -231,12 +259,17 @@ fn send(sent: &mut Vec<u8>, reply: &[u8]) -> Result<(), (&'static str, usize)> {
 }
 
 /// Sends the replies of a conversation until it is closed, or says why it stops before.
-fn converse(model: &mut Model<'_>, sent: &mut Vec<u8>, want: &mut Answer) -> Result<(), (&'static str, usize)> {
+fn converse(
+    model: &mut Model<'_>,
+    sent: &mut Vec<u8>,
+    before: &mut Vec<(usize, bool)>,
+    want: &mut Answer,
+) -> Result<(), (&'static str, usize)> {
     let mut is_part = false;
     loop {
         if is_part {
             match model.part(3) {
-                Ok((_, part)) => send(sent, &part.to_ascii_uppercase())?,
+                Ok((_, part)) => send(sent, before, &part.to_ascii_uppercase())?,
                 Err(stop) => {
                     put_stop(stop, want);
                     return Ok(());
@@ -252,7 +285,7 @@ fn converse(model: &mut Model<'_>, sent: &mut Vec<u8>, want: &mut Answer) -> Res
                 return Ok(());
             }
         };
-        send(sent, &body.to_ascii_uppercase())?;
+        send(sent, before, &body.to_ascii_uppercase())?;
         if body == b"q" {
             want.text("closed");
             return Ok(());
@@ -266,11 +299,19 @@ pub fn conversations(random: &mut Random, asked: &mut Asked) {
     let size = random.size(8);
     let (reads, writes) = (slow(random), slow(random));
     calls::ask_conversation(asked, &source, size, &reads, &writes);
-    let mut sent = Vec::new();
-    if let Err((name, at)) = converse(&mut Model::new(&source, size), &mut sent, &mut asked.want) {
-        asked.want.fault(name, at);
+    let (mut sent, mut before, want) = (Vec::new(), Vec::new(), &mut asked.want);
+    if let Err((name, at)) = converse(&mut Model::new(&source, size), &mut sent, &mut before, want) {
+        want.fault(name, at);
     }
-    asked.want.text(sent);
+    want.text(&sent);
+    want.fails(Needs::Memory, 0, Answer::failed);
+    // A reply that there is no memory for ends the conversation. An empty one needs none.
+    for (length, is_empty) in before {
+        want.fails(Needs::memory_if(!is_empty), 0, |want| {
+            want.text("write");
+            want.text(&sent[..length]);
+        });
+    }
 }
 
 /// Bytes past 64 KiB or 128 KiB, with CR, LF and non-ASCII bytes at the borders of buffers.

@@ -1,6 +1,6 @@
 //! Maps whose keys are texts, by std's `BTreeMap`.
 
-use crate::asked::{Answer, Asked};
+use crate::asked::{Answer, Asked, Needs};
 use crate::calls::{self, Step};
 use crate::random::Random;
 use std::collections::BTreeMap;
@@ -33,16 +33,37 @@ pub fn maps(random: &mut Random, asked: &mut Asked) {
 /// A map with keys as they are, and one with keys in lower case.
 pub fn ask_maps(texts: &[u8], steps: &[Step], asked: &mut Asked) {
     calls::ask_maps(asked, texts, steps);
-    let (mut map, mut folded) = (Map::new(), Map::new());
-    for step in steps {
-        let key = &texts[step.start..step.end];
-        put_step(&mut map, *step, key.to_vec(), &mut asked.want);
-        put_step(&mut folded, *step, key.to_ascii_lowercase(), &mut asked.want);
+    let needs = put_steps(texts, steps, usize::MAX, &mut asked.want);
+    if asked.lets_fail {
+        for (number, needs) in needs.into_iter().enumerate() {
+            asked.want.fails(needs, 0, |want| drop(put_steps(texts, steps, number, want)));
+        }
     }
 }
 
-fn put_step(map: &mut Map, step: Step, key: Vec<u8>, want: &mut Answer) {
+/// What the steps over both maps return if there is no memory for the insertion numbered `failing`. Returns what each
+/// insertion needs.
+fn put_steps(texts: &[u8], steps: &[Step], failing: usize, want: &mut Answer) -> Vec<Needs> {
+    let (mut map, mut folded, mut needs) = (Map::new(), Map::new(), Vec::new());
+    for step in steps {
+        let key = &texts[step.start..step.end];
+        let lower = key.to_ascii_lowercase();
+        // A map that knows the case copies each key, and one that ignores it only a new key. There may be room for a
+        // key that is empty.
+        let copy = if key.is_empty() { Needs::Perhaps } else { Needs::Memory };
+        let folded_copy = if folded.contains_key(&lower) { Needs::Nothing } else { copy };
+        put_step(&mut map, *step, key.to_vec(), needs.len() == failing, want);
+        put_step(&mut folded, *step, lower, needs.len() + 1 == failing, want);
+        if step.kind == 0 {
+            needs.extend([copy, folded_copy]);
+        }
+    }
+    needs
+}
+
+fn put_step(map: &mut Map, step: Step, key: Vec<u8>, fails: bool, want: &mut Answer) {
     match step.kind {
+        0 if fails => want.failed(),
         0 => want.position(map.insert(key, step.at)),
         1 => want.position(map.get(&key).copied()),
         2 => want.position(map.remove(&key)),
@@ -64,6 +85,7 @@ pub fn ask_std_maps(key: &[u8], texts: &[u8], steps: &[Step], asked: &mut Asked)
     let keys = steps.iter().map(|step| (texts[step.start..step.end].to_ascii_lowercase(), step.at));
     let map: Map = keys.collect();
     for is_owned in [false, true] {
+        let start = asked.want.bytes.len();
         (0..2).for_each(|_| asked.want.position(map.get(&key.to_ascii_lowercase()).copied()));
         (0..2).for_each(|_| asked.want.number(map.len()));
         if is_owned {
@@ -71,5 +93,7 @@ pub fn ask_std_maps(key: &[u8], texts: &[u8], steps: &[Step], asked: &mut Asked)
             asked.want.text(key);
         }
         asked.want.text(key);
+        let is_some = !steps.is_empty() || is_owned && !key.is_empty();
+        asked.want.fails(Needs::memory_if(is_some), start, Answer::failed);
     }
 }

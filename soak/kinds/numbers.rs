@@ -1,6 +1,6 @@
 //! Numbers that are read and appended, by std or by plain loops.
 
-use crate::asked::{Answer, Asked};
+use crate::asked::{Answer, Asked, Needs};
 use crate::calls::{self, Step};
 use crate::random::Random;
 
@@ -105,7 +105,7 @@ pub fn put_fault(fault: Fault, want: &mut Answer) {
 
 fn put_number(number: Result<String, Fault>, want: &mut Answer) {
     match number {
-        Ok(n) => want.text(n),
+        Ok(n) => want.copy(n),
         Err(fault) => put_fault(fault, want),
     }
 }
@@ -146,7 +146,7 @@ pub fn ask_numbers(text: &[u8], asked: &mut Asked) {
         put_number(number_of(text, 10, kind), &mut asked.want);
         match taken_of(text, kind) {
             Ok((n, rest)) => {
-                asked.want.text(n);
+                asked.want.copy(n);
                 asked.want.text(rest);
             }
             Err(fault) => put_fault(fault, &mut asked.want),
@@ -189,10 +189,25 @@ pub fn ask_decimals(number: u128, text: &[u8], asked: &mut Asked) {
         u16::try_from(low).ok().map(|number| number.to_string()),
         i8::try_from(signed).ok().map(|number| number.to_string()),
     ];
+    let (want, some) = (&mut asked.want, Needs::memory_if(!text.is_empty()));
     for digits in digits.into_iter().flatten() {
-        asked.want.flag(true);
-        asked.want.text([text, digits.as_bytes()].concat());
+        let start = want.bytes.len();
+        put_appended(text, digits.as_bytes(), want);
+        want.fails(some, start, Answer::failed);
+        want.fails(Needs::Memory, start, |want| put_unchanged(text, want));
     }
+}
+
+/// A text with a piece appended.
+fn put_appended(text: &[u8], piece: &[u8], want: &mut Answer) {
+    want.flag(true);
+    want.text([text, piece].concat());
+}
+
+/// A text that there is no memory for to grow.
+pub fn put_unchanged(text: &[u8], want: &mut Answer) {
+    want.flag(false);
+    want.text(text);
 }
 
 /// A decimal number: whether it is negative, its digits, and how many of them are after the point.
@@ -265,7 +280,7 @@ pub fn decimal_written(random: &mut Random, asked: &mut Asked) {
 pub fn ask_decimal_written((is_negative, digits, places): Decimal, text: &str, asked: &mut Asked) {
     let step = Step { kind: is_negative.into(), at: digits as usize, start: places, ..Step::default() };
     calls::ask_decimals_written(asked, &[step]);
-    asked.want.text(text);
+    asked.want.copy(text);
 }
 
 pub fn hex(random: &mut Random, asked: &mut Asked) {
@@ -275,6 +290,12 @@ pub fn hex(random: &mut Random, asked: &mut Asked) {
 
 pub fn ask_hex(number: u64, width: usize, text: &[u8], asked: &mut Asked) {
     calls::ask_hex(asked, number, width, text);
-    asked.want.flag(true);
-    asked.want.text([text, format!("{number:0width$x}").as_bytes()].concat());
+    let (want, digits) = (&mut asked.want, format!("{number:0width$x}"));
+    put_appended(text, digits.as_bytes(), want);
+    // Grows as a string does.
+    let mut string = Vec::new();
+    string.extend_from_slice(text);
+    want.fails(Needs::memory_if(!text.is_empty()), 0, Answer::failed);
+    let is_full = string.capacity() - text.len() < digits.len();
+    want.fails(Needs::memory_if(is_full), 0, |want| put_unchanged(text, want));
 }

@@ -89,6 +89,6 @@ pub fn ask_place(at: usize, text: &[u8], asked: &mut Asked) {
         let column = 1 + before.iter().rev().take_while(|byte| **byte != b'\n').count();
         asked.want.number(line);
         asked.want.number(column);
-        asked.want.text(format!("{line}:{column}: no '='"));
+        asked.want.copy(format!("{line}:{column}: no '='"));
     }
 }

@@ -1,8 +1,9 @@
 //! Printed texts and characters, by std.
 
 use super::characters::codes;
+use super::edits::INLINE;
 use super::string;
-use crate::asked::Asked;
+use crate::asked::{Asked, Needs};
 use crate::calls;
 use crate::random::Random;
 use std::fmt::{Debug, Display};
@@ -36,11 +37,15 @@ pub fn texts(random: &mut Random, asked: &mut Asked) {
 pub fn ask_printed(form: usize, text: &str, asked: &mut Asked) {
     calls::ask_printed(asked, form as u8, text.as_bytes());
     let printed = printed(form, text);
-    (0..4).for_each(|_| asked.want.text(&printed));
+    let is_printed = !printed.is_empty();
+    // Two views, a string and an inline one.
+    for makes in [false, false, !text.is_empty(), text.len() > INLINE] {
+        asked.want.allocated(Needs::memory_if(makes || is_printed), |want| want.text(&printed));
+    }
 }
 
 pub fn characters(random: &mut Random, asked: &mut Asked) {
     let (form, codes) = (random.below(FORMS), codes(random, 128));
     calls::ask_printed_characters(asked, form as u8, &codes);
-    codes.iter().for_each(|code| asked.want.text(printed(form, &(*code as char))));
+    codes.iter().for_each(|code| asked.want.copy(printed(form, &(*code as char))));
 }

@@ -1,10 +1,11 @@
 //! What the cookbook reads and shows, by plain loops.
 
 use super::characters::is_white;
+use super::edits::INLINE;
 use super::string;
 use super::walks::lines_of;
 use super::words::is_token;
-use crate::asked::{Answer, Asked};
+use crate::asked::{Answer, Asked, Needs};
 use crate::calls;
 use crate::random::Random;
 
@@ -65,6 +66,8 @@ fn headers_of<'a>(block: &'a [u8], want: &mut Answer) -> Option<Vec<(&'a [u8], &
                 want.fault("line", headers.len());
                 want.number(line.start);
                 put_error(error, want);
+                // The headers before it are in a list.
+                want.fails(Needs::memory_if(!headers.is_empty()), 0, Answer::failed);
                 return None;
             }
         }
@@ -82,8 +85,14 @@ pub fn block(random: &mut Random, asked: &mut Asked) {
             asked.want.text(name);
             asked.want.text(value);
         }
-        asked.want.part(headers.iter().rev().find(is_named).map(|header| header.1));
-        asked.want.part(headers.iter().find(is_named).map(|header| header.1));
+        let want = &mut asked.want;
+        let start = want.bytes.len();
+        want.part(headers.iter().rev().find(is_named).map(|header| header.1));
+        let in_map = start..want.bytes.len();
+        want.part(headers.iter().find(is_named).map(|header| header.1));
+        let needs = Needs::memory_if(!headers.is_empty());
+        want.fails(needs, 0, Answer::failed);
+        want.fails_in(needs, in_map, Answer::failed);
     }
 }
 
@@ -137,17 +146,17 @@ pub fn hosts(random: &mut Random, asked: &mut Asked) {
     let (low, lower) = (first.to_ascii_lowercase(), second.to_ascii_lowercase());
     match host_fault(&first) {
         Some(error) => put_error(error, want),
-        None => want.text(&low),
+        None => want.allocated(Needs::memory_if(low.len() > INLINE), |want| want.text(&low)),
     }
-    let error = host_fault(&first).or_else(|| host_fault(&second));
-    match error {
-        Some(error) => {
-            put_error(error, want);
-            put_error(error, want);
-        }
+    let (fault, other_fault) = (host_fault(&first), host_fault(&second));
+    // The first name is copied before the second one is looked at.
+    let needs =
+        Needs::memory_if(fault.is_none() && (first.len() > INLINE || other_fault.is_none() && second.len() > INLINE));
+    match fault.or(other_fault) {
+        Some(error) => (0..2).for_each(|_| want.allocated(needs, |want| put_error(error, want))),
         None => {
-            want.flag(low == lower);
-            want.order(low.cmp(&lower));
+            want.allocated(needs, |want| want.flag(low == lower));
+            want.allocated(needs, |want| want.order(low.cmp(&lower)));
         }
     }
 }
@@ -185,6 +194,7 @@ pub fn row(random: &mut Random, asked: &mut Asked) {
         _ if fields.len() > columns => asked.want.fault("many", start(columns)),
         _ => fields.iter().for_each(|field| asked.want.text(field)),
     }
+    asked.want.fails(Needs::Perhaps, 0, Answer::failed);
 }
 
 /// What a screen shows of a character other than LF at a column.
@@ -214,8 +224,11 @@ pub fn screen(random: &mut Random, asked: &mut Asked) {
     }
     let column = line.len();
     lines.push(line);
-    asked.want.text(lines.join(&b'\n'));
-    asked.want.number(column);
+    let shown = lines.join(&b'\n');
+    asked.want.allocated(Needs::memory_if(!shown.is_empty()), |want| {
+        want.text(shown);
+        want.number(column);
+    });
 }
 
 pub fn lossy(random: &mut Random, asked: &mut Asked) {
@@ -223,7 +236,7 @@ pub fn lossy(random: &mut Random, asked: &mut Asked) {
     calls::ask_lossy(asked, &source);
     let runs = source.chunk_by(|a, b| a.is_ascii() == b.is_ascii());
     let marked: Vec<&[u8]> = runs.map(|run| if run.is_ascii() { run } else { b"?" }).collect();
-    asked.want.text(marked.concat());
+    asked.want.copy(marked.concat());
 }
 
 pub fn last_lines(random: &mut Random, asked: &mut Asked) {

@@ -1,9 +1,10 @@
 //! Texts in another form, joined, repeated and filled-up texts, and edits of a range, by std or by plain loops.
 
+use super::numbers::put_unchanged;
 use super::slices::bounds;
 use super::string;
 use super::walks::take;
-use crate::asked::{Answer, Asked};
+use crate::asked::{Answer, Asked, Needs};
 use crate::calls;
 use crate::random::Random;
 use std::collections::VecDeque;
@@ -29,8 +30,11 @@ pub fn ask_notation(form: u8, text: &[u8], mut codes: VecDeque<u8>, script: &[u8
     for number in script {
         asked.want.position(take(&mut codes, *number).map(usize::from));
     }
-    asked.want.text(codes.iter().copied().collect::<Vec<u8>>());
+    let some = Needs::memory_if(!codes.is_empty());
+    asked.want.copy(codes.iter().copied().collect::<Vec<u8>>());
     asked.want.text(codes.into_iter().rev().collect::<Vec<u8>>());
+    // Characters are appended one by one if there is no memory for all.
+    asked.want.absorbs(some);
 }
 
 /// Why a text with escapes represents none.
@@ -85,11 +89,11 @@ pub fn unescaped(random: &mut Random, asked: &mut Asked) {
 
 pub fn ask_unescaped(text: &[u8], expected: Result<impl AsRef<[u8]>, Escaped>, asked: &mut Asked) {
     calls::ask_unescaped(asked, text);
-    match expected {
-        Ok(text) => asked.want.text(text),
-        Err(Escaped::Invalid(at)) => asked.want.fault("invalid", at),
-        Err(Escaped::NotAscii(at)) => asked.want.fault("ascii", at),
-    }
+    asked.want.allocated(Needs::memory_if(!text.is_empty()), |want| match expected {
+        Ok(text) => want.text(text),
+        Err(Escaped::Invalid(at)) => want.fault("invalid", at),
+        Err(Escaped::NotAscii(at)) => want.fault("ascii", at),
+    });
 }
 
 /// Why no quoted text is at the start of a text.
@@ -152,7 +156,7 @@ pub fn joined(random: &mut Random, asked: &mut Asked) {
 
 pub fn ask_joined(code: u8, text: &str, separator: &str, asked: &mut Asked) {
     calls::ask_joined(asked, code, text.as_bytes(), separator.as_bytes());
-    asked.want.text(text.split(code as char).collect::<Vec<&str>>().join(separator));
+    asked.want.copy(text.split(code as char).collect::<Vec<&str>>().join(separator));
 }
 
 pub fn repeated(random: &mut Random, asked: &mut Asked) {
@@ -162,7 +166,7 @@ pub fn repeated(random: &mut Random, asked: &mut Asked) {
 
 pub fn ask_repeated(times: usize, text: &[u8], asked: &mut Asked) {
     calls::ask_repeated(asked, times, text);
-    asked.want.text(text.repeat(times));
+    asked.want.copy(text.repeat(times));
 }
 
 pub fn padded(random: &mut Random, asked: &mut Asked) {
@@ -176,8 +180,11 @@ pub fn padded(random: &mut Random, asked: &mut Asked) {
 
 pub fn ask_padded(form: u8, code: u8, width: usize, text: &[u8], piece: &[u8], filled: &[u8], asked: &mut Asked) {
     calls::ask_padded(asked, form, code, width, text, piece);
-    asked.want.flag(true);
-    asked.want.text([text, filled].concat());
+    let want = &mut asked.want;
+    want.flag(true);
+    want.text([text, filled].concat());
+    want.fails(Needs::memory_if(!text.is_empty()), 0, Answer::failed);
+    want.fails(Needs::memory_if(!filled.is_empty()), 0, |want| put_unchanged(text, want));
 }
 
 pub fn range_edits(random: &mut Random, asked: &mut Asked) {
@@ -189,12 +196,13 @@ pub fn range_edits(random: &mut Random, asked: &mut Asked) {
 /// A text without the part in a range, and with another text in its place; nothing if the range does not fit.
 pub fn ask_range_edits(form: usize, start: usize, end: usize, text: &[u8], piece: &[u8], asked: &mut Asked) {
     calls::ask_range_edits(asked, form as u8, start, end, text, piece);
-    if let Some((start, end)) = bounds(form, start, end, text.len()) {
-        put_edits(&text[..start], piece, &text[end..], &mut asked.want);
+    let (want, bounds) = (&mut asked.want, bounds(form, start, end, text.len()));
+    if let Some((start, end)) = bounds {
+        want.flag(true);
+        want.text([&text[..start], piece, &text[end..]].concat());
     }
-}
-
-fn put_edits(before: &[u8], piece: &[u8], after: &[u8], want: &mut Answer) {
-    want.flag(true);
-    want.text([before, piece, after].concat());
+    want.fails(Needs::memory_if(!text.is_empty()), 0, Answer::failed);
+    if let Some((start, end)) = bounds {
+        want.fails(Needs::memory_if(piece.len() > end - start), 0, |want| put_unchanged(text, want));
+    }
 }

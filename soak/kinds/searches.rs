@@ -46,7 +46,10 @@ pub fn folded(random: &mut Random, asked: &mut Asked) {
 
 pub fn character(random: &mut Random, asked: &mut Asked) {
     let text = random.text();
-    let code = random.code_of(&text);
+    ask_find_character(random.code_of(&text), text, asked);
+}
+
+pub fn ask_find_character(code: u8, text: Vec<u8>, asked: &mut Asked) {
     calls::ask_find_character(asked, code, &text);
     let (text, on, want) = (string(text), code as char, &mut asked.want);
     want.position(text.find(on));
@@ -87,6 +90,6 @@ pub fn replace(random: &mut Random, asked: &mut Asked) {
 pub fn ask_replace(text: &str, needle: &str, to: &str, asked: &mut Asked) {
     calls::ask_replace(asked, text.as_bytes(), needle.as_bytes(), to.as_bytes());
     if !needle.is_empty() {
-        asked.want.text(text.replace(needle, to));
+        asked.want.copy(text.replace(needle, to));
     }
 }

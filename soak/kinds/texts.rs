@@ -1,8 +1,9 @@
 //! The kernels, and texts that are changed, compared and hashed, by std.
 
 use super::characters::is_white;
+use super::edits::INLINE;
 use super::slices::non_ascii;
-use crate::asked::{Answer, Asked};
+use crate::asked::{Answer, Asked, Needs};
 use crate::calls;
 use crate::random::Random;
 use std::cell::OnceCell;
@@ -129,10 +130,13 @@ pub fn cases(random: &mut Random, asked: &mut Asked) {
 
 pub fn ask_cases(text: &[u8], asked: &mut Asked) {
     calls::ask_cases(asked, text);
-    for _ in 0..2 {
-        asked.want.text(text.to_ascii_uppercase());
-        asked.want.text(text.to_ascii_lowercase());
-    }
+    let (upper, lower) = (text.to_ascii_uppercase(), text.to_ascii_lowercase());
+    asked.want.copy(&upper);
+    asked.want.copy(&lower);
+    asked.want.allocated(Needs::memory_if(!text.is_empty()), |want| {
+        want.text(&upper);
+        want.text(&lower);
+    });
 }
 
 /// Two texts, of which the second is often like the first.
@@ -165,10 +169,13 @@ pub fn owned_comparisons(random: &mut Random, asked: &mut Asked) {
 
 pub fn ask_owned_comparisons(first: &[u8], second: &[u8], order: Ordering, asked: &mut Asked) {
     calls::ask_owned_comparisons(asked, first, second);
-    for _ in 0..2 {
-        asked.want.flag(order == Ordering::Equal);
-        asked.want.order(order);
-        asked.want.flag(true);
+    let longest = first.len().max(second.len());
+    for needs in [longest > 0, longest > INLINE].map(Needs::memory_if) {
+        asked.want.allocated(needs, |want| {
+            want.flag(order == Ordering::Equal);
+            want.order(order);
+            want.flag(true);
+        });
     }
 }
 
@@ -189,6 +196,12 @@ pub fn ask_hashes(text: &[u8], hash: usize, asked: &mut Asked) {
     calls::ask_hashes(asked, text);
     asked.want.number(hash);
     asked.want.number(hash_of(text.to_ascii_lowercase()));
-    (0..if text.len() <= 32 { 7 } else { 6 }).for_each(|_| asked.want.number(hash));
+    let (is_some, is_long) = (Needs::memory_if(!text.is_empty()), Needs::memory_if(text.len() > INLINE));
+    // A string, an inline one, a box, a shared text, a borrowed and an owned text.
+    for needs in [is_some, is_long, is_some, Needs::Memory, Needs::Nothing, is_some] {
+        asked.want.allocated(needs, |want| want.number(hash));
+    }
+    // The array.
+    (0..usize::from(text.len() <= 32)).for_each(|_| asked.want.number(hash));
     text.first().iter().for_each(|code| asked.want.number(hash_of(code)));
 }

@@ -1,7 +1,7 @@
 //! Iterators by scripts, by plain loops.
 
 use super::characters::is_white;
-use crate::asked::{Answer, Asked};
+use crate::asked::{Answer, Asked, Needs};
 use crate::calls;
 use crate::random::Random;
 use std::collections::VecDeque;
@@ -198,11 +198,20 @@ pub fn ask_walks(code: u8, text: &[u8], script: &[u8], asked: &mut Asked) {
         |mut items: VecDeque<Item>| -> Vec<Option<Item>> { script.iter().map(|end| take(&mut items, *end)).collect() };
     let (pieces, lines) = (yielded(pieces(text, code)), yielded(lines_of(text)));
     let want = &mut asked.want;
+    let mut ends = vec![0];
     pieces.iter().for_each(|piece| want.part(text_of(text, *piece)));
+    ends.push(want.bytes.len());
     pieces.iter().for_each(|piece| span(0, piece.map(|piece| (piece.start, &text[piece.start..piece.end])), want));
+    ends.push(want.bytes.len());
     lines.iter().for_each(|line| want.part(text_of(text, *line)));
+    ends.push(want.bytes.len());
     lines.iter().for_each(|line| put_line(0, text, *line, want));
+    ends.push(want.bytes.len());
     pieces.iter().for_each(|piece| want.part(text_of(text, *piece)));
+    // The script, and each of the lists.
+    let some = Needs::memory_if(!script.is_empty());
+    want.fails(some, 0, Answer::failed);
+    ends.windows(2).for_each(|ends| want.fails_in(some, ends[0]..ends[1], Answer::failed));
 }
 
 pub fn counts(random: &mut Random, asked: &mut Asked) {

@@ -2,7 +2,7 @@
 
 use super::characters::is_white;
 use super::walks::{pieces_by, put_items, put_words, words_of};
-use crate::asked::{Answer, Asked};
+use crate::asked::{Answer, Asked, Needs};
 use crate::calls;
 use crate::random::Random;
 
@@ -57,6 +57,9 @@ pub fn ask_class(class: u8, source: &[u8], script: &[u8], asked: &mut Asked) {
     calls::ask_class(asked, class, source, script);
     class_answers(class, source, script, &mut asked.want);
 }
+
+/// The number of the class of digits.
+pub const DIGIT: u8 = 5;
 
 pub fn class_answers(class: u8, source: &[u8], script: &[u8], want: &mut Answer) {
     let is_in = CLASSES[usize::from(class)];
@@ -119,6 +122,8 @@ pub fn retain(random: &mut Random, asked: &mut Asked) {
 pub fn ask_retain(code: u8, text: &[u8], asked: &mut Asked) {
     calls::ask_retain(asked, code, text);
     let kept: Vec<u8> = text.iter().copied().filter(|other| *other != code).collect();
-    asked.want.flag(kept.is_empty());
-    asked.want.text(kept);
+    asked.want.allocated(Needs::memory_if(!text.is_empty()), |want| {
+        want.flag(kept.is_empty());
+        want.text(kept);
+    });
 }

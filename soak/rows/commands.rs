@@ -3,8 +3,8 @@
 use super::{Row, Rows};
 use crate::asked::Answer;
 use crate::calls::{self, Step, WHOLE};
-use crate::kinds::edits::{ask_edits, Commands};
-use crate::kinds::engines::put_failures;
+use crate::kinds::edits::{ask_capacities, ask_edits, expect_failures, Commands};
+use crate::kinds::engines::{ask_runs, Run};
 use crate::random::Random;
 
 pub static ROWS: &[Row] = &[
@@ -126,8 +126,7 @@ fn put_reply(reply: Reply, want: &mut Answer) {
     }
 }
 
-/// Asks both types of string for the replies to commands, and for the text after them: each by itself, and both by one
-/// call.
+/// Asks both types of string for the replies to commands, and for the text after them.
 fn ask(rows: &mut Rows, source: &str, cmds: &[Cmd], replies: &[Reply], text: &str) {
     let all = commands_of(cmds);
     for is_small in [false, true] {
@@ -135,15 +134,9 @@ fn ask(rows: &mut Rows, source: &str, cmds: &[Cmd], replies: &[Reply], text: &st
             calls::ask_edits(asked, is_small, source.as_bytes(), &all.texts, &all.steps);
             replies.iter().for_each(|reply| put_reply(*reply, &mut asked.want));
             asked.want.text(text);
+            expect_failures(is_small, source.as_bytes(), &all, asked);
         });
     }
-    rows.ask(|asked| {
-        calls::ask_both_edits(asked, source.as_bytes(), &all.texts, &all.steps);
-        for _ in 0..2 {
-            replies.iter().for_each(|reply| put_reply(*reply, &mut asked.want));
-            asked.want.text(text);
-        }
-    });
 }
 
 /// The commands that take a position or a number.
@@ -332,6 +325,7 @@ fn many_commands(rows: &mut Rows) {
         calls::ask_edits(asked, false, b"", &cmds.texts, &cmds.steps);
         (0..5_000).for_each(|_| asked.want.text("done"));
         asked.want.text(&long);
+        expect_failures(false, b"", &cmds, asked);
     });
     let mut cmds = Commands::default();
     cmds.add_text(3, 1, long.as_bytes());
@@ -340,57 +334,41 @@ fn many_commands(rows: &mut Rows) {
         calls::ask_edits(asked, false, long.as_bytes(), &cmds.texts, &cmds.steps);
         asked.want.text("done");
         (0..2).for_each(|_| asked.want.text(long.repeat(2)));
+        expect_failures(false, long.as_bytes(), &cmds, asked);
     });
 }
 
 fn reserved_and_shrunk(rows: &mut Rows) {
     let cmds = commands_of(&[Push(b'x'), Reserve(10_000), Shrink]);
     rows.ask(|asked| {
-        calls::ask_capacities(asked, 1, &cmds.texts, &cmds.steps);
+        ask_capacities(1, &cmds, asked);
+        let modelled = std::mem::take(&mut asked.want.bytes);
         asked.want.number(1);
         for capacity in [1, 10_001, 1] {
             asked.want.text("done");
             asked.want.number(capacity);
         }
+        assert!(asked.want.bytes == modelled, "the model differs from the row");
     });
 }
 
-/// What the mode `Edit` answers over a text and over the end of it: `Ok` and what it writes, or an error.
-fn ask_mode(rows: &mut Rows, source: &str, cmds: &Commands, runs: [Result<&str, (&str, usize)>; 2]) {
-    rows.ask(|asked| {
-        calls::ask_engine_runs(asked, 7, &[], &cmds.texts, &cmds.steps, source.as_bytes(), &WHOLE, &WHOLE);
-        let (mut calls, mut output) = (0, String::new());
-        for run in runs {
-            match run {
-                Ok(text) => {
-                    asked.want.text("done");
-                    output.push_str(text);
-                    // A write, unless there is nothing to write, and a flush.
-                    calls += 1 + usize::from(!text.is_empty());
-                }
-                Err(("memory", _)) => asked.want.bytes.push(b'!'),
-                Err((name, position)) => asked.want.fault(name, position),
-            }
-            put_failures(0, 0, &mut asked.want);
-        }
-        asked.want.number(calls);
-        asked.want.text(output);
-    });
+/// What the mode `Edit` answers over a text and over the end of it.
+fn ask_mode(rows: &mut Rows, source: &str, cmds: &Commands, runs: [Run<'_>; 2]) {
+    rows.ask(|asked| ask_runs((7, &[], cmds), source.as_bytes(), (&WHOLE, &WHOLE), runs, asked));
 }
 
 fn edits_of_the_engine(rows: &mut Rows) {
-    let stops = Err(("position", 1));
+    let (stops, writes) = (Run::Rejects("position", 1), |text: &'static str| Run::Writes(text.as_bytes()));
     ask_mode(rows, "abc", &commands_of(&[Pop, Remove(2), Set(9, b'x')]), [stops, stops]);
-    let memory = Err(("memory", 0));
-    ask_mode(rows, "ab", &commands_of(&[Reserve(usize::MAX - 2), Remove(2)]), [memory, memory]);
-    ask_mode(rows, "ab", &commands_of(&[Push(b'x'), Truncate(9), Upper]), [Ok("ABX"), Ok("X")]);
-    ask_mode(rows, "ab", &Commands::default(), [Ok("ab"), Ok("")]);
+    ask_mode(rows, "ab", &commands_of(&[Reserve(usize::MAX - 2), Remove(2)]), [Run::Memory, Run::Memory]);
+    ask_mode(rows, "ab", &commands_of(&[Push(b'x'), Truncate(9), Upper]), [writes("ABX"), writes("X")]);
+    ask_mode(rows, "ab", &Commands::default(), [writes("ab"), writes("")]);
     for count in [1_000, 100_000] {
         let mut cmds = commands_of(&vec![Push(b'b'); count]);
         let text = "b".repeat(count);
-        ask_mode(rows, "", &cmds, [Ok(&text), Ok(&text)]);
+        ask_mode(rows, "", &cmds, [Run::Writes(text.as_bytes()); 2]);
         cmds.add(4, count, 0);
-        let stops = Err(("position", count));
+        let stops = Run::Rejects("position", count);
         ask_mode(rows, "", &cmds, [stops, stops]);
     }
 }

@@ -1,7 +1,7 @@
 //! Devices that follow a plan, and a buffer before one. Each call of a device takes the next step of its plan.
 
 use super::{Row, Rows};
-use crate::asked::Answer;
+use crate::asked::{Answer, Needs};
 use crate::calls::{self, Step};
 
 pub static ROWS: &[Row] = &[
@@ -45,11 +45,13 @@ fn pieces(kind: u8, pieces: &[&str]) -> (Vec<u8>, Vec<Step>) {
 /// What a buffer of a size answers: its zeros, whether a write has failed before the end, whether the end succeeds, how
 /// many calls have failed, and the calls of the writer.
 fn put(size: usize, is_broken: bool, succeeds: bool, failures: usize, calls: &str, want: &mut Answer) {
-    want.text(vec![0; size]);
-    want.flag(is_broken);
-    want.flag(succeeds);
-    want.number(failures);
-    want.text(calls);
+    want.copy(vec![0; size]);
+    want.allocated(Needs::memory_if(size > 0), |want| {
+        want.flag(is_broken);
+        want.flag(succeeds);
+        want.number(failures);
+        want.text(calls);
+    });
 }
 
 /// The pieces that most rows append.

@@ -2,7 +2,7 @@
 
 use super::{Row, Rows};
 use crate::calls;
-use crate::kinds::edits::Commands;
+use crate::kinds::edits::{expect_failures, Commands};
 
 pub static ROWS: &[Row] = &[("edits_as_the_upstream_crate", as_upstream)];
 
@@ -83,6 +83,7 @@ fn as_upstream(rows: &mut Rows) {
                 }
                 assert_eq!(taken.next(), None, "the table has as many characters");
                 asked.want.text(text);
+                expect_failures(is_small, b"", &cmds, asked);
             });
         }
     }

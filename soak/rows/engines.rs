@@ -5,7 +5,9 @@ use super::{Row, Rows};
 use crate::asked::Answer;
 use crate::calls::{self, Device, ERRORS, WHOLE};
 use crate::kinds::edits::Commands;
-use crate::kinds::engines::{bounded_output, expect, expect_bounded, output, put_failures, BOUNDED};
+use crate::kinds::engines::{
+    self, bounded_output, expect, expect_bounded, lists_of, output, put_failures, runs_fail, Run, BOUNDED,
+};
 use crate::kinds::json_values::{ask_json, quoted};
 
 pub static ROWS: &[Row] = &[
@@ -15,6 +17,7 @@ pub static ROWS: &[Row] = &[
     ("each_mode_over_many_lines", many_lines),
     ("a_control_and_an_escape_at_each_position", at_each_position),
     ("outputs_about_the_size_of_the_buffer", about_the_buffer),
+    ("nothing_is_written_without_memory", without_memory),
     ("each_call_of_the_devices_fails", each_call_fails),
     ("a_failed_call_far_from_the_first", far_calls),
     ("each_error_of_the_devices", each_error),
@@ -43,35 +46,22 @@ struct Mode<'a> {
     commands: &'a Commands,
 }
 
-/// What a run writes, or why it stops: the error and what was written before.
-type Run<'a> = Result<&'a [u8], (&'static str, &'a [u8])>;
+/// What a run writes, or why it stops: the device that fails and what was written before.
+type Outcome<'a> = Result<&'a [u8], (&'static str, &'a [u8])>;
 
 /// Asks for two runs over the same devices. Each call of `writes` moves one byte or all.
-fn ask_runs(rows: &mut Rows, mode: &Mode<'_>, source: &[u8], (reads, writes): (&Device, &Device), runs: [Run<'_>; 2]) {
-    rows.ask(|asked| {
-        let Commands { texts, steps } = mode.commands;
-        calls::ask_engine_runs(asked, mode.number, mode.script, texts, steps, source, reads, writes);
-        let (mut failures, mut calls, mut written) = ((0, 0), 0, Vec::new());
-        for run in runs {
-            let (name, part) = match run {
-                Ok(part) => ("done", part),
-                Err((name, part)) => (name, part),
-            };
-            failures.0 += usize::from(name == "read");
-            failures.1 += usize::from(name == "write");
-            asked.want.text(name);
-            put_failures(failures.0, failures.1, &mut asked.want);
-            // The writes of the part, and after them the flush or the call that fails; none after a read that fails.
-            calls += if name == "read" { 0 } else { part.len().div_ceil(writes.most) + 1 };
-            written.extend(part);
-        }
-        asked.want.number(calls);
-        asked.want.text(written);
+fn ask_runs(rows: &mut Rows, mode: &Mode<'_>, source: &[u8], devices: (&Device, &Device), outcomes: [Outcome<'_>; 2]) {
+    let runs = outcomes.map(|outcome| match outcome {
+        Ok(part) => Run::Writes(part),
+        Err(("read", _)) => Run::FailsToRead,
+        Err((_, part)) => Run::FailsToWrite(part),
     });
+    let mode = (mode.number, mode.script, mode.commands);
+    rows.ask(|asked| engines::ask_runs(mode, source, devices, runs, asked));
 }
 
-/// Asks for the output of a mode over devices that do not fail. The second run is over the end of the text. The number of
-/// calls of the writer is expected if the row says it.
+/// Asks for the output of a mode over devices that do not fail. The second run is over the end of the text. The number
+/// of calls of the writer is expected if the row says it.
 fn ask_output(rows: &mut Rows, mode: &Mode<'_>, source: &[u8], (output, at_end): (&[u8], &[u8]), calls: Option<usize>) {
     rows.ask(|asked| {
         let Commands { texts, steps } = mode.commands;
@@ -83,6 +73,13 @@ fn ask_output(rows: &mut Rows, mode: &Mode<'_>, source: &[u8], (output, at_end):
         let got = calls_of_runs(asked.got(), output.len() + at_end.len());
         asked.want.number(calls.unwrap_or(got));
         asked.want.text([output, at_end].concat());
+        if output.len().max(at_end.len()) <= BUFFER {
+            let (lists, runs) = (lists_of(mode.script, mode.commands), [Run::Writes(output), Run::Writes(at_end)]);
+            runs_fail(lists, source, (&WHOLE, &WHOLE), runs, &mut asked.want);
+        } else {
+            // The number of the writes of a run is not known.
+            asked.want.has_other_failures = true;
+        }
     });
 }
 
@@ -235,6 +232,7 @@ fn about_the_buffer(rows: &mut Rows) {
             // The calls up to the one that fails, and the flush of the second run.
             asked.want.number(fails as usize + 2);
             asked.want.text(&lines[..BUFFER * fails as usize]);
+            asked.want.has_other_failures = true;
         });
     }
 }
@@ -261,6 +259,34 @@ fn output_of(mode: u8, text: &[u8]) -> Vec<u8> {
     match mode {
         EDIT => [b"XY", &text.to_ascii_uppercase()[..]].concat(),
         _ => output(mode.into(), text, SCRIPT),
+    }
+}
+
+/// Each mode over `INPUT`, over bytes that are not all ASCII, and over 20,000 bytes.
+fn without_memory(rows: &mut Rows) {
+    let commands = commands_of(&[Cmd::InsertStr(0, "xy"), Cmd::Upper]);
+    let much = b"ab\tc\n".repeat(4_000);
+    for (number, all) in OUTPUTS {
+        let (mode, at_end) = ((number, SCRIPT, &commands), output_of(number, b""));
+        let (at_end, much_output) = (Run::Writes(&at_end), output_of(number, &much));
+        let inputs: [(&[u8], Run<'_>); 3] = [
+            (INPUT, Run::Writes(all.as_bytes())),
+            (&[97, 98, 200, 201], Run::Rejects("ascii", 2)),
+            (&much, Run::Writes(&much_output)),
+        ];
+        for (input, run) in inputs {
+            rows.ask(|asked| engines::ask_runs(mode, input, (&WHOLE, &WHOLE), [run, at_end], asked));
+        }
+    }
+    let text = "0123456789".repeat(4);
+    let mut edits = Commands::default();
+    edits.add_text(3, 0, text.as_bytes());
+    edits.copy_to(40);
+    edits.add(12, 0, 0);
+    edits.add(6, 3, 0);
+    let far = commands_of(&[Cmd::Push(b'a'), Cmd::Insert(99, b'a')]);
+    for (edits, run) in [(&edits, Run::Writes(b"012")), (&far, Run::Rejects("position", 1))] {
+        rows.ask(|asked| engines::ask_runs((EDIT, &[], edits), INPUT, (&WHOLE, &WHOLE), [run, run], asked));
     }
 }
 

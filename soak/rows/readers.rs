@@ -91,11 +91,13 @@ fn ask_expected(
     error: Stop,
 ) {
     rows.ask(|asked| {
-        calls::ask_collected_lines(asked, text, size, &giving(most));
+        ask_collected(&mut Model::new(text, size), text, size, giving(most), asked);
+        let modelled = std::mem::take(&mut asked.want.bytes);
         for (start, body, ending) in lines {
             put_line(Ok((*start, body.as_bytes(), *ending)), &mut asked.want);
         }
         put_stop(error, &mut asked.want);
+        assert!(asked.want.bytes == modelled, "the model differs from the row");
     });
 }
 

@@ -110,9 +110,7 @@ pub fn ask_character_conversions(alloc: Global, codes: &[u8], room: &mut [u8]) -
 
 fn put_error(alloc: Global, error: ToAsciiCharError, answer: &mut Answer<'_>) {
     answer.name(error.description());
-    if let Ok(text) = format!(in alloc; "{error} {error:?}") {
-        answer.name(text.as_str());
-    }
+    answer.std_string(format!(in alloc; "{error} {error:?}"));
 }
 
 /// For each ASCII code, whether a set of std lacks the characters before it; and how many are in the set then.
@@ -121,7 +119,10 @@ pub fn ask_character_set(alloc: Global, codes: &[u8], room: &mut [u8]) -> usize 
     let mut seen = HashSet::new(alloc);
     for code in codes {
         if let Ok(ch) = AsciiChar::from_ascii(*code) {
-            answer.flag(seen.insert(ch).ok().unwrap_or_default());
+            match seen.insert(ch) {
+                Ok(is_new) => answer.flag(is_new),
+                Err(_) => answer.failed(),
+            }
         }
     }
     answer.number(seen.len());

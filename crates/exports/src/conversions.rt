@@ -18,22 +18,36 @@ pub fn ask_conversions(alloc: Global, source: &[u8], room: &mut [u8]) -> usize {
     if let Some(source) = put_copy(bytes::to_ascii_string(alloc, source), &mut answer) {
         answer.bytes(source);
     }
-    if let Ok(list) = Vec::from_slice(alloc, source) {
-        if let Some(list) = put(vec::into_ascii_string(list), &mut answer) {
-            answer.bytes(&list);
-        }
-    }
+    put_vec(Vec::from_slice(alloc, source), &mut answer);
     if let Ok(source) = str::from_utf8(source) {
         if let Some(source) = put_copy(text::to_ascii_string(alloc, source), &mut answer) {
             answer.name(source);
         }
-        if let Ok(owned) = String::from_str(alloc, source) {
-            if let Some(owned) = put(string::into_ascii_string(owned), &mut answer) {
+        put_string(String::from_str(alloc, source), &mut answer);
+    }
+    answer.finish()
+}
+
+fn put_vec(source: Result<Vec<u8>, AllocError>, answer: &mut Answer<'_>) {
+    match source {
+        Ok(list) => {
+            if let Some(list) = put(vec::into_ascii_string(list), answer) {
+                answer.bytes(&list);
+            }
+        }
+        Err(_) => answer.failed(),
+    }
+}
+
+fn put_string(source: Result<String, AllocError>, answer: &mut Answer<'_>) {
+    match source {
+        Ok(owned) => {
+            if let Some(owned) = put(string::into_ascii_string(owned), answer) {
                 answer.name(owned.as_str());
             }
         }
+        Err(_) => answer.failed(),
     }
-    answer.finish()
 }
 
 /// Returns the source of a copy that was not made.
@@ -77,16 +91,20 @@ pub fn ask_round_trips(alloc: Global, source: &[u8], room: &mut [u8]) -> usize
     let mut answer = Answer::new(room);
     answer.owned(through_chars(alloc, view));
     answer.owned(through_lists(alloc, view));
-    if let Ok(list) = Vec::from_slice(alloc, source) {
-        answer.text(AsciiString::from_ascii_unchecked(list).as_ascii_str());
+    match Vec::from_slice(alloc, source) {
+        Ok(list) => answer.text(AsciiString::from_ascii_unchecked(list).as_ascii_str()),
+        Err(_) => answer.failed(),
     }
     answer.owned(through_boxes(alloc, view));
     answer.owned(through_copied_boxes(alloc, view));
     answer.owned(through_cow(alloc, view));
     answer.owned(through_inline(alloc, view));
-    if let Ok(string) = view.to_ascii_string(alloc) {
-        answer.owned(string.clone());
-        answer.name(String::from(string).as_str());
+    match view.to_ascii_string(alloc) {
+        Ok(string) => {
+            answer.owned(string.clone());
+            answer.name(String::from(string).as_str());
+        }
+        Err(_) => answer.failed(),
     }
     if let Some(first) = view.first() {
         answer.owned(AsciiString::from_char(alloc, first));
@@ -165,10 +183,12 @@ fn write<B: AsciiBuf + fmt::Write + Drop>(
     piece: &str,
     answer: &mut Answer<'_>,
 ) {
-    if let Ok(buf) = made {
-        let mut buf = buf;
-        answer.flag(buf.write_str(piece).is_ok());
-        answer.text(buf.as_ascii_str());
+    match made {
+        Ok(mut buf) => {
+            answer.flag(buf.write_str(piece).is_ok());
+            answer.text(buf.as_ascii_str());
+        }
+        Err(_) => answer.failed(),
     }
 }
 
@@ -178,9 +198,13 @@ pub fn ask_character_written(alloc: Global, number: u32, source: &[u8], room: &m
 {
     let view = bytes::as_ascii_str_unchecked(source);
     let mut answer = Answer::new(room);
-    if let (Some(ch), Ok(mut string)) = (char::from_u32(number), view.to_ascii_string(alloc)) {
-        answer.flag(string.write_char(ch).is_ok());
-        answer.text(string.as_ascii_str());
+    match (view.to_ascii_string(alloc), char::from_u32(number)) {
+        (Ok(mut string), Some(ch)) => {
+            answer.flag(string.write_char(ch).is_ok());
+            answer.text(string.as_ascii_str());
+        }
+        (Ok(_), None) => answer.none(),
+        (Err(_), _) => answer.failed(),
     }
     answer.finish()
 }
@@ -192,16 +216,22 @@ pub fn ask_collected(alloc: Global, code: u8, source: &[u8], room: &mut [u8]) ->
 {
     let view = bytes::as_ascii_str_unchecked(source);
     let mut answer = Answer::new(room);
-    if let Ok(mut string) = AsciiString::collect_chars(alloc, view.chars()) {
-        answer.text(string.as_ascii_str());
-        answer.flag(string.extend_chars(view.into_iter()).is_ok());
-        answer.text(string.as_ascii_str());
+    match AsciiString::collect_chars(alloc, view.chars()) {
+        Ok(mut string) => {
+            answer.text(string.as_ascii_str());
+            answer.flag(string.extend_chars(view.into_iter()).is_ok());
+            answer.text(string.as_ascii_str());
+        }
+        Err(_) => answer.failed(),
     }
     if let Ok(on) = AsciiChar::from_ascii(code) {
-        if let Ok(mut string) = AsciiString::collect_strs(alloc, view.split(on)) {
-            answer.text(string.as_ascii_str());
-            answer.flag(string.extend_strs(view.lines()).is_ok());
-            answer.text(string.as_ascii_str());
+        match AsciiString::collect_strs(alloc, view.split(on)) {
+            Ok(mut string) => {
+                answer.text(string.as_ascii_str());
+                answer.flag(string.extend_strs(view.lines()).is_ok());
+                answer.text(string.as_ascii_str());
+            }
+            Err(_) => answer.failed(),
         }
     }
     answer.finish()
@@ -213,12 +243,15 @@ pub fn ask_split_off(alloc: Global, at: usize, source: &[u8], room: &mut [u8]) -
 {
     let view = bytes::as_ascii_str_unchecked(source);
     let mut answer = Answer::new(room);
-    if let Ok(mut string) = view.to_ascii_string(alloc) {
-        if at <= string.len() {
-            answer.owned(string.split_off(at));
-            answer.text(string.as_ascii_str());
-            answer.cut(Some(view.split_at(at)));
+    match view.to_ascii_string(alloc) {
+        Ok(mut string) => {
+            if at <= string.len() {
+                answer.owned(string.split_off(at));
+                answer.text(string.as_ascii_str());
+                answer.cut(Some(view.split_at(at)));
+            }
         }
+        Err(_) => answer.failed(),
     }
     answer.finish()
 }

@@ -117,6 +117,18 @@ impl io::Read for Given<'_> {
     }
 }
 
+/// The most bytes that a writer keeps without growing. The driver knows an allocation for a writer by this size, so that
+/// it lets only those of the libraries fail.
+const KEPT: usize = 4 << 20;
+
+/// An empty list for what a writer takes.
+pub(crate) fn kept(alloc: Global) -> Vec<u8> {
+    match Vec::with_capacity(alloc, KEPT) {
+        Ok(list) => list,
+        Err(_) => Vec::new(alloc),
+    }
+}
+
 /// A writer that keeps what it takes. A flush counts as a call too.
 #[derive(Drop)]
 pub(crate) struct Taken {
@@ -128,7 +140,7 @@ pub(crate) struct Taken {
 impl Taken {
     pub(crate) fn new(alloc: Global, device: Device) -> Taken {
         Taken {
-            bytes: Vec::new(alloc),
+            bytes: kept(alloc),
             device,
             calls: 0,
         }

@@ -6,7 +6,7 @@ use crate::answer::Answer;
 use crate::slices::range_of;
 use crate::steps::Step;
 use ascii::{AsciiChar, AsciiStr, AsciiString, bytes};
-use ascii_run::{AsciiBuf, Cmd, Reply, SmallAsciiString, run, run_both};
+use ascii_run::{AsciiBuf, Cmd, Reply, SmallAsciiString, run};
 use std::alloc::{AllocError, Global};
 
 /// The replies to commands, and the text after them, of a string or an inline string. The kind of a step is the
@@ -25,60 +25,45 @@ pub fn ask_edits(
     let view = bytes::as_ascii_str_unchecked(source);
     let texts = bytes::as_ascii_str_unchecked(texts);
     let mut answer = Answer::new(room);
-    if is_small {
-        if let Ok(mut small) = SmallAsciiString::from_ascii_str(alloc, view) {
-            put_run(alloc, &mut small, texts, steps, &mut answer);
-        }
-    } else if let Ok(mut string) = view.to_ascii_string(alloc) {
-        put_run(alloc, &mut string, texts, steps, &mut answer);
-    }
-    answer.finish()
-}
-
-/// The replies to commands, and the text after them, of a string and of an inline string, by one call.
-pub fn ask_both_edits(
-    alloc: Global,
-    source: &[u8],
-    texts: &[u8],
-    steps: &[Step],
-    room: &mut [u8],
-) -> usize
-    requires source { IsAscii source.now }
-    requires texts { IsAscii texts.now }
-{
-    let view = bytes::as_ascii_str_unchecked(source);
-    let texts = bytes::as_ascii_str_unchecked(texts);
-    let mut answer = Answer::new(room);
     if let Ok(cmds) = commands(alloc, texts, steps) {
-        if let Ok(both) = run_both(alloc, view, &cmds) {
-            put_replies(&both.replies, &mut answer);
-            answer.text(both.string.as_ascii_str());
-            put_replies(&both.small_replies, &mut answer);
-            answer.text(both.small.as_ascii_str());
+        if is_small {
+            let small = SmallAsciiString::from_ascii_str(alloc, view);
+            put_run(alloc, small, &cmds, &mut answer);
+        } else {
+            put_run(alloc, view.to_ascii_string(alloc), &cmds, &mut answer);
         }
+    } else {
+        answer.failed();
     }
     answer.finish()
 }
 
-fn put_replies(replies: &[Reply], answer: &mut Answer<'_>) {
+fn put_run<B: AsciiBuf + Drop>(
+    alloc: Global,
+    made: Result<B, AllocError>,
+    cmds: &[Cmd<'_>],
+    answer: &mut Answer<'_>,
+) {
+    match made {
+        Ok(mut buf) => {
+            put_outcome(run(alloc, &mut buf, cmds), answer);
+            answer.text(buf.as_ascii_str());
+        }
+        Err(_) => answer.failed(),
+    }
+}
+
+fn put_outcome(replies: Result<Vec<Reply>, AllocError>, answer: &mut Answer<'_>) {
+    match replies {
+        Ok(replies) => put_replies(&replies, answer),
+        Err(_) => answer.failed(),
+    }
+}
+
+pub(crate) fn put_replies(replies: &[Reply], answer: &mut Answer<'_>) {
     for reply in replies {
         put_reply(reply, answer);
     }
-}
-
-fn put_run<B: AsciiBuf>(
-    alloc: Global,
-    buf: &mut B,
-    texts: AsciiStr<'_>,
-    steps: &[Step],
-    answer: &mut Answer<'_>,
-) {
-    if let Ok(cmds) = commands(alloc, texts, steps) {
-        if let Ok(replies) = run(alloc, buf, &cmds) {
-            put_replies(&replies, answer);
-        }
-    }
-    answer.text(buf.as_ascii_str());
 }
 
 pub(crate) fn commands<'a>(
@@ -86,7 +71,7 @@ pub(crate) fn commands<'a>(
     texts: AsciiStr<'a>,
     steps: &[Step],
 ) -> Result<Vec<Cmd<'a>>, AllocError> {
-    let mut cmds = Vec::new(alloc);
+    let mut cmds = Vec::with_capacity(alloc, steps.len())?;
     for step in steps {
         cmds.push(command(*step, texts))?;
     }
@@ -145,16 +130,19 @@ pub fn ask_capacities(
 {
     let texts = bytes::as_ascii_str_unchecked(texts);
     let mut answer = Answer::new(room);
-    if let Ok(mut string) = AsciiString::with_capacity(alloc, capacity) {
-        answer.number(string.capacity());
-        for step in steps {
-            if step.kind == 19 {
-                reserve_exactly(&mut string, step.at, &mut answer);
-            } else {
-                follow(alloc, &mut string, *step, texts, &mut answer);
-            }
+    match AsciiString::with_capacity(alloc, capacity) {
+        Ok(mut string) => {
             answer.number(string.capacity());
+            for step in steps {
+                if step.kind == 19 {
+                    reserve_exactly(&mut string, step.at, &mut answer);
+                } else {
+                    follow(alloc, &mut string, *step, texts, &mut answer);
+                }
+                answer.number(string.capacity());
+            }
         }
+        Err(_) => answer.failed(),
     }
     answer.finish()
 }
@@ -176,9 +164,7 @@ fn follow<B: AsciiBuf>(
     texts: AsciiStr<'_>,
     answer: &mut Answer<'_>,
 ) {
-    if let Ok(replies) = run(alloc, buf, &[command(step, texts)]) {
-        put_replies(&replies, answer);
-    }
+    put_outcome(run(alloc, buf, &[command(step, texts)]), answer);
 }
 
 /// Whether an inline string is inline and its capacity; then for each command its reply, and those again.
@@ -195,14 +181,17 @@ pub fn ask_small_capacities(
     let texts = bytes::as_ascii_str_unchecked(texts);
     let view = bytes::as_ascii_str_unchecked(source);
     let mut answer = Answer::new(room);
-    if let Ok(mut small) = SmallAsciiString::from_ascii_str(alloc, view) {
-        answer.flag(small.is_inline());
-        answer.number(small.capacity());
-        for step in steps {
-            follow(alloc, &mut small, *step, texts, &mut answer);
+    match SmallAsciiString::from_ascii_str(alloc, view) {
+        Ok(mut small) => {
             answer.flag(small.is_inline());
             answer.number(small.capacity());
+            for step in steps {
+                follow(alloc, &mut small, *step, texts, &mut answer);
+                answer.flag(small.is_inline());
+                answer.number(small.capacity());
+            }
         }
+        Err(_) => answer.failed(),
     }
     answer.finish()
 }

@@ -9,8 +9,8 @@ use ascii_run::{
 };
 use std::alloc::{AllocError, Global};
 
-/// What `engine` returns, and what it wrote. The number of a mode is its index in the list of `Mode`, without
-/// `Edit`; the script is that of the two modes that have one.
+/// What `engine` returns, and what it wrote, unless an allocation failed and it wrote nothing. The number of a mode is
+/// its index in the list of `Mode`, without `Edit`; the script is that of the two modes that have one.
 pub fn ask_engine(
     alloc: Global,
     mode: u8,
@@ -26,7 +26,12 @@ pub fn ask_engine(
         let mut output = Output::new(Taken::new(alloc, *writes));
         let run = engine(alloc, mode_of(mode, &script), &mut input, &mut output);
         put_run(run, &mut answer);
-        answer.bytes(&output.into_inner().bytes);
+        let taken = output.into_inner();
+        if run != Err(EngineFault::Memory) || !taken.bytes.is_empty() {
+            answer.bytes(&taken.bytes);
+        }
+    } else {
+        answer.failed();
     }
     answer.finish()
 }
@@ -43,7 +48,7 @@ pub(crate) fn put_run(run: Result<(), EngineFault>, answer: &mut Answer<'_>) {
 }
 
 pub(crate) fn ends_of(alloc: Global, script: &[u8]) -> Result<Vec<End>, AllocError> {
-    let mut ends = Vec::new(alloc);
+    let mut ends = Vec::with_capacity(alloc, script.len())?;
     for number in script {
         ends.push(if *number == 0 { End::Front } else { End::Back })?;
     }
@@ -62,8 +67,8 @@ pub(crate) fn mode_of<'a>(mode: u8, script: &'a [End]) -> Mode<'a> {
     }
 }
 
-/// What `bounded_engine` returns, how many reads and writes have failed, and what it wrote. The number of a mode is
-/// its index in the list of `BoundedMode`.
+/// What `bounded_engine` returns, how many reads and writes have failed, and what it wrote, unless an allocation failed
+/// and it called no device. The number of a mode is its index in the list of `BoundedMode`.
 pub fn ask_bounded_engine(
     alloc: Global,
     mode: u8,
@@ -76,7 +81,20 @@ pub fn ask_bounded_engine(
     let mut answer = Answer::new(room);
     let mut input = Input::new(Given::new(source, *reads));
     let mut output = Output::new(Taken::new(alloc, *writes));
-    match bounded_engine(alloc, mode, &mut input, &mut output) {
+    let run = bounded_engine(alloc, mode, &mut input, &mut output);
+    put_bounded_run(run, &mut answer);
+    let failures = (input.failures(), output.failures());
+    let (given, taken) = (input.into_inner(), output.into_inner());
+    if run != Err(BoundedFault::Memory) || given.calls > 0 || taken.calls > 0 {
+        answer.long(failures.0);
+        answer.long(failures.1);
+        answer.bytes(&taken.bytes);
+    }
+    answer.finish()
+}
+
+fn put_bounded_run(run: Result<(), BoundedFault>, answer: &mut Answer<'_>) {
+    match run {
         Ok(()) => answer.name("done"),
         Err(BoundedFault::NotAscii(position)) => {
             answer.name("ascii");
@@ -87,10 +105,6 @@ pub fn ask_bounded_engine(
         Err(BoundedFault::Read) => answer.name("read"),
         Err(BoundedFault::Write) => answer.name("write"),
     }
-    answer.long(input.failures());
-    answer.long(output.failures());
-    answer.bytes(&output.into_inner().bytes);
-    answer.finish()
 }
 
 pub(crate) fn bounded_mode_of(mode: u8) -> BoundedMode {

@@ -9,6 +9,7 @@
 mod answer;
 pub mod characters;
 pub mod conversions;
+pub mod copies;
 pub mod devices;
 pub mod edits;
 pub mod engine_runs;

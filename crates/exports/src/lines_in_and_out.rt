@@ -10,8 +10,9 @@ use crate::walks::ending_name;
 use ascii::iter::Ending;
 use ascii::{AsciiChar, AsciiStr, bytes};
 use ascii_lines::{
-    BlockEnd, Duplex, Endings, Handler, Input, LineChannel, LineError, LineReader, LineWriter,
-    Next, Output, Replies, Sink, SkippedLine, Stop, WriteError, collect_lines, read_block, serve,
+    Block, BlockEnd, CollectedLines, Duplex, Endings, Handler, Input, LineChannel, LineError,
+    LineReader, LineWriter, Next, Output, Replies, Sink, SkippedLine, Stop, WriteError,
+    collect_lines, read_block, serve,
 };
 use std::alloc::{Allocator, Global};
 
@@ -119,7 +120,7 @@ fn put_error_at(name: &str, position: u64, answer: &mut Answer<'_>) {
     answer.long(position);
 }
 
-/// The lines that are collected, and the error or none.
+/// The lines that are collected, and the error or none; or the position of the reader after an allocation that failed.
 pub fn ask_collected_lines(
     alloc: Global,
     source: &[u8],
@@ -130,22 +131,27 @@ pub fn ask_collected_lines(
     let mut answer = Answer::new(room);
     let source = Input::new(Given::new(source, *device));
     if let Ok(mut reader) = LineReader::new(alloc, source, size, Endings::Any) {
-        if let Ok(kept) = collect_lines(alloc, &mut reader) {
-            for line in &kept.lines {
-                put_line(
-                    line.start,
-                    line.text.as_ascii_str(),
-                    line.ending,
-                    &mut answer,
-                );
-            }
-            match kept.error {
-                Some(error) => put_error(error, &mut answer),
-                None => answer.none(),
+        match collect_lines(alloc, &mut reader) {
+            Ok(kept) => put_collected(&kept, &mut answer),
+            Err(_) => {
+                answer.failed();
+                answer.long(reader.position());
             }
         }
+    } else {
+        answer.failed();
     }
     answer.finish()
+}
+
+fn put_collected(kept: &CollectedLines, answer: &mut Answer<'_>) {
+    for line in &kept.lines {
+        put_line(line.start, line.text.as_ascii_str(), line.ending, answer);
+    }
+    match kept.error {
+        Some(error) => put_error(error, answer),
+        None => answer.none(),
+    }
 }
 
 /// The lines up to an empty one, at most `most`, that a reader with a buffer of `size` bytes returns, why there are no more,
@@ -161,24 +167,22 @@ pub fn ask_block(
     let mut answer = Answer::new(room);
     let source = Input::new(Given::new(source, *device));
     if let Ok(mut reader) = LineReader::new(alloc, source, size, Endings::Any) {
-        if let Ok(block) = read_block(alloc, &mut reader, most) {
-            for line in &block.lines {
-                put_line(
-                    line.start,
-                    line.text.as_ascii_str(),
-                    line.ending,
-                    &mut answer,
-                );
-            }
-            put_block_end(block.end, &mut answer);
+        match read_block(alloc, &mut reader, most) {
+            Ok(block) => put_block(&block, &mut answer),
+            Err(_) => answer.failed(),
         }
         answer.long(reader.position());
+    } else {
+        answer.failed();
     }
     answer.finish()
 }
 
-fn put_block_end(end: BlockEnd, answer: &mut Answer<'_>) {
-    match end {
+fn put_block(block: &Block, answer: &mut Answer<'_>) {
+    for line in &block.lines {
+        put_line(line.start, line.text.as_ascii_str(), line.ending, answer);
+    }
+    match block.end {
         BlockEnd::EmptyLine => answer.name("empty"),
         BlockEnd::EndOfInput => answer.none(),
         BlockEnd::Full => answer.name("full"),
@@ -201,7 +205,8 @@ pub fn ask_writer(
 {
     let texts = bytes::as_ascii_str_unchecked(texts);
     let mut answer = Answer::new(room);
-    if let Ok(mut writer) = LineWriter::new(alloc, Output::new(Taken::new(alloc, *device)), size) {
+    let sink = Output::new(Taken::new(alloc, *device));
+    if let Ok(mut writer) = LineWriter::new(alloc, sink, size) {
         for step in steps {
             match write(&mut writer, *step, texts) {
                 Ok(()) => answer.name("done"),
@@ -265,6 +270,8 @@ pub fn ask_conversation(
         }
         let (_, output) = lines.into_device().into_parts();
         answer.bytes(&output.into_inner().bytes);
+    } else {
+        answer.failed();
     }
     answer.finish()
 }

@@ -76,9 +76,7 @@ fn put_result<N: ToString + Drop>(
 }
 
 fn put_number<N: ToString + Drop>(alloc: Global, n: N, answer: &mut Answer<'_>) {
-    if let Ok(digits) = n.to_string(alloc) {
-        answer.name(digits.as_str());
-    }
+    answer.std_string(n.to_string(alloc));
 }
 
 pub(crate) fn put_error(error: NumberError, answer: &mut Answer<'_>) {
@@ -119,9 +117,15 @@ fn push_digits<I: Integer>(
     view: AsciiStr<'_>,
     answer: &mut Answer<'_>,
 ) {
-    if let (Some(number), Ok(mut string)) = (number, view.to_ascii_string(alloc)) {
-        answer.flag(string.push_decimal(number).is_ok());
-        answer.text(string.as_ascii_str());
+    let Some(number) = number else {
+        return;
+    };
+    match view.to_ascii_string(alloc) {
+        Ok(mut string) => {
+            answer.flag(string.push_decimal(number).is_ok());
+            answer.text(string.as_ascii_str());
+        }
+        Err(_) => answer.failed(),
     }
 }
 
@@ -166,6 +170,8 @@ pub fn ask_hex(alloc: Global, n: u64, width: usize, source: &[u8], room: &mut [u
     if string.push_str(view).is_ok() {
         answer.flag(string.push_hex(n, width).is_ok());
         answer.text(string.as_ascii_str());
+    } else {
+        answer.failed();
     }
     answer.finish()
 }

@@ -77,9 +77,7 @@ pub fn ask_place(alloc: Global, at: usize, source: &[u8], room: &mut [u8]) -> us
         answer.long(place.line);
         answer.long(place.column);
         let fault = view.fault_at(at, "no '='");
-        if let Ok(text) = format!(in alloc; "{fault}") {
-            answer.name(text.as_str());
-        }
+        answer.std_string(format!(in alloc; "{fault}"));
     }
     answer.finish()
 }

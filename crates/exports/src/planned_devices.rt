@@ -4,7 +4,7 @@
 //! of another kind fails with the error number `code`. After the last step all bytes move.
 
 use crate::answer::Answer;
-use crate::devices::{error_of, number_of};
+use crate::devices::{error_of, kept, number_of};
 use crate::steps::Step;
 use ascii_devices::{BufferedSink, DeviceFault, Duplex, Output, Sink, Source, zeros};
 use std::alloc::Global;
@@ -84,7 +84,7 @@ pub fn ask_device_calls(
     };
     let writer = Recording {
         plan: writes,
-        calls: Vec::new(alloc),
+        calls: kept(alloc),
     };
     let mut duplex = Duplex::new(reader, writer);
     for step in steps {
@@ -163,7 +163,7 @@ pub fn ask_buffered(
     }
     let mut output = Output::new(Recording {
         plan,
-        calls: Vec::new(alloc),
+        calls: kept(alloc),
     });
     if let Ok(mut buffer) = BufferedSink::new(alloc, size) {
         for step in steps {

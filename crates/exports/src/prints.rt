@@ -31,12 +31,9 @@ pub fn ask_printed(alloc: Global, form: u8, source: &[u8], room: &mut [u8]) -> u
 pub fn ask_printed_characters(alloc: Global, form: u8, codes: &[u8], room: &mut [u8]) -> usize {
     let mut answer = Answer::new(room);
     for code in codes {
-        put(
-            alloc,
-            form,
-            AsciiChar::from_ascii(*code).map_err(|_| AllocError),
-            &mut answer,
-        );
+        if let Ok(ch) = AsciiChar::from_ascii(*code) {
+            put(alloc, form, Ok(ch), &mut answer);
+        }
     }
     answer.finish()
 }
@@ -47,10 +44,9 @@ fn put<T: fmt::Display + fmt::Debug + Drop>(
     value: Result<T, AllocError>,
     answer: &mut Answer<'_>,
 ) {
-    if let Ok(value) = value {
-        if let Ok(text) = print(alloc, form, &value) {
-            answer.name(text.as_str());
-        }
+    match value {
+        Ok(value) => answer.std_string(print(alloc, form, &value)),
+        Err(_) => answer.failed(),
     }
 }
 

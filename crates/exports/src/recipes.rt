@@ -54,8 +54,9 @@ pub fn ask_headers(alloc: Global, name: &[u8], block: &[u8], room: &mut [u8]) ->
             for header in &headers {
                 put_header(*header, &mut answer);
             }
-            if let Ok(map) = HeaderMap::from_headers(alloc, &headers) {
-                answer.part(map.get(name));
+            match HeaderMap::from_headers(alloc, &headers) {
+                Ok(map) => answer.part(map.get(name)),
+                Err(_) => answer.failed(),
             }
             let first = find_header(&headers, name);
             answer.part(first.map(|header| header.value));
@@ -155,9 +156,12 @@ pub fn ask_screen(alloc: Global, width: usize, source: &[u8], room: &mut [u8]) -
     requires ascii { IsAscii source.now }
 {
     let mut answer = Answer::new(room);
-    if let Ok(shown) = wrap_for_screen(alloc, bytes::as_ascii_str_unchecked(source), width) {
-        answer.text(shown.text.as_ascii_str());
-        answer.number(shown.column);
+    match wrap_for_screen(alloc, bytes::as_ascii_str_unchecked(source), width) {
+        Ok(shown) => {
+            answer.text(shown.text.as_ascii_str());
+            answer.number(shown.column);
+        }
+        Err(_) => answer.failed(),
     }
     answer.finish()
 }

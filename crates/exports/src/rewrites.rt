@@ -37,9 +37,7 @@ fn put_written<N: Notation>(
     for number in script {
         answer.character(step(&mut written, *number));
     }
-    if let Ok(text) = format!(in alloc; "{written:>6}") {
-        answer.name(text.as_str());
-    }
+    answer.std_string(format!(in alloc; "{written:>6}"));
     answer.owned(AsciiString::collect_chars(alloc, written.rev()));
 }
 
@@ -128,9 +126,13 @@ pub fn ask_padded(
     let mut answer = Answer::new(room);
     let view = bytes::as_ascii_str_unchecked(source);
     let piece = bytes::as_ascii_str_unchecked(piece);
-    if let (Ok(fill), Ok(mut string)) = (AsciiChar::from_ascii(code), view.to_ascii_string(alloc)) {
-        answer.flag(string.push_padded(piece, width, fill, align).is_ok());
-        answer.text(string.as_ascii_str());
+    match (AsciiChar::from_ascii(code), view.to_ascii_string(alloc)) {
+        (Ok(fill), Ok(mut string)) => {
+            answer.flag(string.push_padded(piece, width, fill, align).is_ok());
+            answer.text(string.as_ascii_str());
+        }
+        (_, Err(_)) => answer.failed(),
+        _ => (),
     }
     answer.finish()
 }
@@ -153,11 +155,14 @@ pub fn ask_range_edits(
     let range = range_of(form, start, end);
     let view = bytes::as_ascii_str_unchecked(source);
     let piece = bytes::as_ascii_str_unchecked(piece);
-    if let Ok(mut replaced) = view.to_ascii_string(alloc) {
-        if range.fits(replaced.len()) {
-            answer.flag(replaced.replace_range(range, piece).is_ok());
-            answer.text(replaced.as_ascii_str());
+    match view.to_ascii_string(alloc) {
+        Ok(mut replaced) => {
+            if range.fits(replaced.len()) {
+                answer.flag(replaced.replace_range(range, piece).is_ok());
+                answer.text(replaced.as_ascii_str());
+            }
         }
+        Err(_) => answer.failed(),
     }
     answer.finish()
 }

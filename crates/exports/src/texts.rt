@@ -57,11 +57,14 @@ pub fn ask_cases(alloc: Global, source: &[u8], room: &mut [u8]) -> usize
     let mut answer = Answer::new(room);
     answer.owned(view.to_ascii_uppercase(alloc));
     answer.owned(view.to_ascii_lowercase(alloc));
-    if let Ok(mut string) = view.to_ascii_string(alloc) {
-        string.make_ascii_uppercase();
-        answer.text(string.as_ascii_str());
-        string.make_ascii_lowercase();
-        answer.text(string.as_ascii_str());
+    match view.to_ascii_string(alloc) {
+        Ok(mut string) => {
+            string.make_ascii_uppercase();
+            answer.text(string.as_ascii_str());
+            string.make_ascii_lowercase();
+            answer.text(string.as_ascii_str());
+        }
+        Err(_) => answer.failed(),
     }
     answer.finish()
 }
@@ -121,6 +124,8 @@ fn compare<T: Ord + Drop>(
         answer.flag(first == second);
         answer.order(first.cmp(&second));
         answer.flag(first.partial_cmp(&second) == Some(first.cmp(&second)));
+    } else {
+        answer.failed();
     }
 }
 
@@ -138,20 +143,26 @@ pub fn ask_hashes(alloc: Global, source: &[u8], room: &mut [u8]) -> usize
     hash(BoxedAsciiStr::from_ascii_str(alloc, view), &mut answer);
     hash(RcAsciiStr::from_ascii_str(alloc, view), &mut answer);
     hash(Ok(CowAsciiStr::<Global>::from(view)), &mut answer);
-    if let Ok(string) = view.to_ascii_string(alloc) {
-        hash(Ok(CowAsciiStr::<Global>::from(string)), &mut answer);
+    match view.to_ascii_string(alloc) {
+        Ok(string) => hash(Ok(CowAsciiStr::<Global>::from(string)), &mut answer),
+        Err(_) => answer.failed(),
     }
     if let Ok(array) = ArrayAsciiString::<32>::from_ascii_str((), view) {
         hash(Ok(array), &mut answer);
     }
-    hash(view.first().ok_or(AllocError), &mut answer);
+    if let Some(first) = view.first() {
+        hash(Ok(first), &mut answer);
+    }
     answer.finish()
 }
 
 fn hash<T: Hash + Drop>(value: Result<T, AllocError>, answer: &mut Answer<'_>) {
-    if let Ok(value) = value {
-        let mut hasher = DefaultHasher::new();
-        value.hash(&mut hasher);
-        answer.long(hasher.finish());
+    match value {
+        Ok(value) => {
+            let mut hasher = DefaultHasher::new();
+            value.hash(&mut hasher);
+            answer.long(hasher.finish());
+        }
+        Err(_) => answer.failed(),
     }
 }

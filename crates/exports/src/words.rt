@@ -107,13 +107,14 @@ pub fn ask_retain(alloc: Global, code: u8, source: &[u8], room: &mut [u8]) -> us
 {
     let view = bytes::as_ascii_str_unchecked(source);
     let mut answer = Answer::new(room);
-    if let (Ok(other), Ok(mut string)) = (
-        AsciiChar::from_ascii(code),
-        view.to_ascii_string(alloc),
-    ) {
-        string.retain(|ch| ch != other);
-        answer.flag(string.is_empty());
-        answer.text(string.as_ascii_str());
+    match (AsciiChar::from_ascii(code), view.to_ascii_string(alloc)) {
+        (Ok(other), Ok(mut string)) => {
+            string.retain(|ch| ch != other);
+            answer.flag(string.is_empty());
+            answer.text(string.as_ascii_str());
+        }
+        (_, Err(_)) => answer.failed(),
+        _ => (),
     }
     answer.finish()
 }

@@ -1,25 +1,16 @@
-//! Each allocation of a call fails in turn, and what the call then returns and leaves is compared. If none fails, no
-//! call gives up past a length: `enough_memory` and the modules `long_..` have inputs that nobody would call short, and
-//! what a call has to return is counted or written out by a plain loop.
+//! Each allocation of an edit fails in turn, over an allocator of the tests, and what the edit then returns and leaves is
+//! compared. If none fails, no call gives up past a length: `enough_memory` and the modules `long_..` have inputs that
+//! nobody would call short, and what a call has to return is counted or written out by a plain loop.
 
-mod asks_no_memory;
-mod copies_leave_the_source;
 mod each_allocation;
-mod each_free_block;
 mod enough_memory;
 mod every_buffer;
 mod fail_nth;
-mod json_values;
 mod long_callers;
 mod long_lines;
 mod long_maps;
 mod long_recipes;
-mod long_searches;
 mod long_strings;
-mod returns_the_value;
-mod runs_and_modes;
-mod small_string_memory;
-mod string_edits;
 
 ghost use Rattle.std.specs.Prelude.{IsTrue};
 

@@ -6,8 +6,8 @@ use std::fmt;
 use std::process::Abort;
 use testing::FailNth;
 
-/// An allocator of which one allocation fails, or two in a row.
-pub type Heap = FailNth<FailNth<Global>>;
+/// An allocator of which one allocation fails.
+pub type Heap = FailNth<Global>;
 
 /// More growths than any call of these tests makes.
 const MANY: u64 = 400;
@@ -30,34 +30,10 @@ where
     F: Fn(&Heap) -> Result<String, AllocError>,
     requires { F.IsAlwaysCallable run }
 {
-    each_failure(rt, call, wanted, false, run)
-}
-
-/// Like `with_each_allocation_failing`, but the next allocation after the one that fails also fails.
-pub fn with_each_two_allocations_failing<R: Abort + AllocGlobal, F>(
-    rt: &R,
-    call: &str,
-    wanted: &[&str],
-    run: F,
-)
-where
-    F: Fn(&Heap) -> Result<String, AllocError>,
-    requires { F.IsAlwaysCallable run }
-{
-    each_failure(rt, call, wanted, true, run)
-}
-
-/// Like `with_each_two_allocations_failing` if `twice`, and like `with_each_allocation_failing` otherwise.
-fn each_failure<R: Abort + AllocGlobal, F>(rt: &R, call: &str, wanted: &[&str], twice: bool, run: F)
-where
-    F: Fn(&Heap) -> Result<String, AllocError>,
-    requires { F.IsAlwaysCallable run }
-{
     let mut wanted = wanted;
     let mut answered = false;
     for left in 0..MANY {
-        let next = if twice { left } else { u64::MAX };
-        let heap = FailNth::new(FailNth::new(rt.alloc(), next), left);
+        let heap = FailNth::new(rt.alloc(), left);
         match run(&heap) {
             Ok(answer) => {
                 if answered {
@@ -89,19 +65,6 @@ fn from_answer<'a, 'b>(wanted: &'a [&'b str], answer: &str) -> &'a [&'b str] {
         [first, rest @ ..] if *first != answer => rest,
         _ => wanted,
     }
-}
-
-/// What a call answered.
-pub fn shown<T: fmt::Debug + Drop>(alloc: Global, answer: T) -> Result<String, AllocError> {
-    format!(in alloc; "{answer:?}")
-}
-
-/// What a call that makes a string answered.
-pub fn shown_string<E: fmt::Debug + Drop>(
-    alloc: Global,
-    answer: Result<AsciiString<&Heap>, E>,
-) -> Result<String, AllocError> {
-    shown(alloc, answer)
 }
 
 /// What a call returned, the text after it, and that text again after one more allocation.

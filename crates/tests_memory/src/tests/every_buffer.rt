@@ -1,10 +1,10 @@
-//! The edits of a string for which there is no room, over every buffer, from one table.
+//! The edits of a string for which there is no room, over a buffer of an allocator that is not the global one and over a
+//! fixed capacity, from one table.
 
 use super::each_allocation::{Heap, told, view, with_each_allocation_failing};
-use super::each_free_block::{Scarce, with_each_free_block};
 use ascii::{AsciiChar, AsciiRange, AsciiString, Buffer, Text};
 use ascii_formats::AsciiStringExt;
-use ascii_run::{ArrayAsciiString, SmallAsciiString};
+use ascii_run::ArrayAsciiString;
 use std::alloc::{AllocError, Global};
 use std::fmt::{Alignment, Write};
 use testing::assert_row;
@@ -56,13 +56,10 @@ static EDITS: [(&str, &str, &str, &str); 13] = [
     ("reserve_exact", "Refused", "", ""),
 ];
 
-/// A text that just fits in the value of a small string, one that leaves room for two characters, and one that is in an
-/// allocation.
+/// A text of 24 characters, and one of 22.
 const FULL: &str = "abcdefghijklmnopqrstuvwx";
 
 const SHORT: &str = "abcdefghijklmnopqrstuv";
-
-const LONG: &str = "abcdefghijklmnopqrstuvwxabcdefghijklmnopqrstuvwx";
 
 /// An edit of the string `x`, which has no room left.
 fn in_a_vec(alloc: Global, heap: &Heap, call: &str) -> Result<String, AllocError> {
@@ -80,44 +77,6 @@ fn of_a_vec(rt: HostRuntime) {
         );
         let wanted = [refused.as_str(), ample.as_str()];
         with_each_allocation_failing(&rt, call, &wanted, |heap| in_a_vec(alloc, heap, call));
-    }
-}
-
-#[test]
-fn of_an_inline_buffer(rt: HostRuntime) {
-    let alloc = rt.alloc();
-    for &(call, reason, before, behind) in &EDITS {
-        for start in [FULL, LONG] {
-            let refused = format!(in alloc; "Err({reason}) {start} {start}z").expect(
-                &rt, "refused",
-            );
-            let ample = format!(in alloc;
-                "Ok(()) {before}{start}{behind} {before}{start}{behind}z"
-            ).expect(&rt, "refused");
-            let wanted = [refused.as_str(), ample.as_str()];
-            with_each_free_block(&rt, call, &wanted, |left| {
-                let mut string = SmallAsciiString::from_ascii_str(alloc, view(start))?;
-                let scarce = Scarce::but(alloc, left)?;
-                scarce.told(edited(&mut string, call), &mut string)
-            });
-        }
-    }
-}
-
-#[test]
-fn of_an_inline_buffer_with_room(rt: HostRuntime) {
-    let alloc = rt.alloc();
-    // All but those that ask for more room than there is inline.
-    for &(call, _, before, behind) in &EDITS[..10] {
-        let ample = format!(in alloc;
-            "Ok(()) {before}{SHORT}{behind} {before}{SHORT}{behind}z"
-        ).expect(&rt, "refused");
-        let wanted = [ample.as_str()];
-        with_each_free_block(&rt, call, &wanted, |left| {
-            let mut string = SmallAsciiString::from_ascii_str(alloc, view(SHORT))?;
-            let scarce = Scarce::but(alloc, left)?;
-            scarce.told(edited(&mut string, call), &mut string)
-        });
     }
 }
 
