@@ -7,8 +7,8 @@ ghost use Rattle.cookbook.specs.Settings.{IsWithoutComment, ReadsSetting, ReadsS
 ghost use Rattle.cookbook.specs.Settings.{position_of, what_of};
 
 use ascii::{AsciiChar, AsciiStr};
-use ascii_formats::places::Fault;
 use ascii_formats::AsciiStrExt;
+use ascii_formats::places::Fault;
 use std::alloc::{AllocFailed, Global};
 
 /// A setting, without whitespace around its key and its value.

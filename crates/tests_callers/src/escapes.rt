@@ -5,9 +5,9 @@ ghost use Rattle.ascii_formats.specs.declared.unescape.UnescapeError.TheVariants
 ghost use Rattle.ascii.specs.View.{text_of};
 
 use ascii::{AsciiStr, AsciiString};
+use ascii_formats::AsciiStrExt;
 use ascii_formats::notations::EscapeAscii;
 use ascii_formats::unescape::UnescapeError;
-use ascii_formats::AsciiStrExt;
 use std::alloc::Global;
 
 /// Escapes a text and reads it back, which gives the text.

@@ -5,8 +5,8 @@ ghost use Rattle.ascii_formats.specs.Quotes.{StartsQuoted};
 ghost use Rattle.ascii.specs.View.{text_of};
 
 use ascii::{AsciiChar, AsciiStr};
-use ascii_formats::quotes::QuoteError;
 use ascii_formats::AsciiStrExt;
+use ascii_formats::quotes::QuoteError;
 
 /// Returns `true` if a quoted string is at the start of the view.
 pub fn starts_quoted(view: AsciiStr<'_>) -> bool

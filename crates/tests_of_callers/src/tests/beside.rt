@@ -5,8 +5,8 @@ use ascii::{AsAsciiStrError, AsciiChar, AsciiRange, AsciiStr, AsciiString, bytes
 use ascii_keys::FoldedStr;
 use base64::engine::general_purpose::STANDARD;
 use bstr::ByteSlice;
-use httparse::spans::{EMPTY_HEADER_SPAN, parse_headers};
 use httparse::Status;
+use httparse::spans::{EMPTY_HEADER_SPAN, parse_headers};
 use indexmap::IndexMap;
 use itertools::Itertools;
 use percent_encoding::{NON_ALPHANUMERIC, percent_decode, percent_encode};
