@@ -10,8 +10,8 @@ ghost use Rattle.example_nmea.specs.Sentence.{HasDecimal, IsSentence, ReportsFix
 
 use ascii::classes::{ByRanges, Ranges};
 use ascii::{AsciiChar, AsciiStr};
-use ascii_formats::decimals::Decimal;
 use ascii_formats::AsciiStrExt;
+use ascii_formats::decimals::Decimal;
 use thiserror::Error;
 
 /// Why a line has no position. A field is named by its index, counted from 0.
