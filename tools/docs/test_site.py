@@ -28,7 +28,7 @@ QUESTIONS = {
     "which calls of AsciiString can fail": (["ascii.AsciiString.html"], "Calls that can fail:"),
     "what does lines do with a last CR": (["ascii.AsciiStr.html", "#lines"], "last CR"),
     "how is a class of one's own written": (["ascii.classes.module.html"], "A class of your own"),
-    "which test sees a wrong retain": (["ascii.AsciiString.html", "#retain"], "retain::kept_characters"),
+    "which test sees a wrong retain": (["ascii.AsciiString.html", "#retain"], "strings_in_the_value::changed_over"),
 }
 VOID = {"meta", "link", "input", "img", "br", "hr", "col"}
 # Runs the search of the site over the rows of the standard input, and prints the addresses of the first three answers of each.
