@@ -38,7 +38,7 @@ pub fn ask_round_trips(text: &[u8], asked: &mut Asked) {
     calls::ask_round_trips(asked, text);
     let (want, some) = (&mut asked.want, Needs::memory_if(!text.is_empty()));
     want.copy(text);
-    // Characters are appended one by one if there is no memory for all.
+    // Characters are appended one by one if the allocation for all fails.
     want.absorbs(some);
     (0..2).for_each(|_| want.copy(text));
     // A shared text is in an allocation also if it is empty.
@@ -118,7 +118,7 @@ pub fn ask_collected(code: u8, text: &[u8], asked: &mut Asked) {
     asked.want.text(text);
     asked.want.flag(true);
     asked.want.text(text.repeat(2));
-    // Characters are appended one by one if there is no memory for all.
+    // Characters are appended one by one if the allocation for all fails.
     asked.want.absorbs(Needs::memory_if(!text.is_empty()));
     put_collected(code, text, &mut asked.want);
 }

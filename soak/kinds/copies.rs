@@ -14,7 +14,7 @@ pub fn ask_copies(text: &[u8], asked: &mut Asked) {
     calls::ask_copies(asked, text);
     let want = &mut asked.want;
     want.text(text);
-    // Characters are appended one by one if there is no memory for all that were gathered.
+    // Characters are appended one by one if the allocation for all that were gathered fails.
     want.absorbs(Needs::memory_if(!text.is_empty()));
     (0..2).for_each(|_| want.copy(text));
     // A shared text is in an allocation also if it is empty.

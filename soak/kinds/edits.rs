@@ -329,7 +329,7 @@ fn ask(random: &mut Random, text: &[u8], commands: &mut Commands) {
     }
 }
 
-/// A command that changes a capacity, of a list of their numbers; 20 and 21 stand for reserving more than there can be.
+/// A command that changes a capacity, of a list of their numbers; 20 and 21 reserve more than there can be.
 fn resize(random: &mut Random, kinds: &[u8], commands: &mut Commands) {
     let kind = *random.pick(kinds);
     let room = random.room();

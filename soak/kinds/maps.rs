@@ -41,7 +41,7 @@ pub fn ask_maps(texts: &[u8], steps: &[Step], asked: &mut Asked) {
     }
 }
 
-/// What the steps over both maps return if there is no memory for the insertion numbered `failing`. Returns what each
+/// What the steps over both maps return if the allocation for the insertion numbered `failing` fails. Returns what each
 /// insertion needs.
 fn put_steps(texts: &[u8], steps: &[Step], failing: usize, want: &mut Answer) -> Vec<Needs> {
     let (mut map, mut folded, mut needs) = (Map::new(), Map::new(), Vec::new());

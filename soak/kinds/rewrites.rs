@@ -33,7 +33,7 @@ pub fn ask_notation(form: u8, text: &[u8], mut codes: VecDeque<u8>, script: &[u8
     let some = Needs::memory_if(!codes.is_empty());
     asked.want.copy(codes.iter().copied().collect::<Vec<u8>>());
     asked.want.text(codes.into_iter().rev().collect::<Vec<u8>>());
-    // Characters are appended one by one if there is no memory for all.
+    // Characters are appended one by one if the allocation for all fails.
     asked.want.absorbs(some);
 }
 
