@@ -2,14 +2,17 @@
 use Rattle.std.proofs.Common.{◌≡◌, ℕ, ◌+◌, ◌-◌, ◌<◌, ◌≤◌, List, ◌++◌, length, get_or, None, Some}
 use Rattle.std.proofs.Common.{ap, arith, subst, sym, ◌∙◌, inl, inr, eq-eqb, eqb-true}
 use Rattle.std.specs.List.{slice_range}
+use Rattle.std.specs.Prelude.{MatchOption}
 use Rattle.std.proofs.Math.ListN.{get_or-append}
-use Rattle.std.proofs.Common.{◌≢◌, ◌⊎◌, Bool, true, eqb}
+use Rattle.std.proofs.Common.{◌≢◌, All, Bool, Option, true, eqb}
 use Rattle.std.proofs.lemmas.Bool.{cases_lt, or_cases, or_left, or_right}
+use Rattle.std.proofs.lemmas.List.Elements.{All-get_or}
 use Rattle.ascii_base.proofs.ListLemmas.{length-slice_range, slice_range-at}
-use Rattle.memchr.specs.Find.{IsFirst, IsFirstByte, NoneBefore, Nowhere, Passes, is_byte2}
+use Rattle.ascii_base.specs.Bytes.{IsFirstOf}
+use Rattle.memchr.specs.Find.{IsFirst, IsFirstByte, NoneBefore, Nowhere, Passes}
 use Rattle.ascii.specs.declared.iter.spans.Endings.{Endings}
 use Rattle.ascii.specs.declared.iter.spans.Endings.TheVariants.{Any, CrLf, CrLfStrict}
-use Rattle.ascii.specs.Endings.{StopsAt, IsFirstStop, FreeUpTo}
+use Rattle.ascii.specs.Endings.{FreeUpTo, IsFirstStop, IsLineBreak, StopsAt, is_line_break}
 
 -- the first `n` bytes of two texts are the same
 abbrev pub AgreeUpTo : List ℕ → List ℕ → ℕ → Type 0
@@ -82,19 +85,36 @@ module _ (text : List ℕ) (from : ℕ) (within : from ≤ length text) where
             ∙ ap (λ j. get_or part j 0) back) ∙ found.1,
       )
 
--- ---- a search for CR LF
-
 -- ---- a search for CR and LF
 
-pub is_break : (x : ℕ) → (x ≡ 13) ⊎ (x ≡ 10) → is_byte2 13 10 x ≡ true
+is_break : (x : ℕ) → IsLineBreak x → is_line_break x ≡ true
 is_break x (inl cr) = or_left (eqb x 13) (eqb x 10) (eq-eqb _ _ cr)
 is_break x (inr feed) = or_right (eqb x 13) (eqb x 10) (eq-eqb _ _ feed)
 
-pub break_is : (x : ℕ) → is_byte2 13 10 x ≡ true → x ≢ 10 → x ≡ 13
-break_is x is other = elim (or_cases (eqb x 13) (eqb x 10) is) [
-  | inl cr ↦ eqb-true _ _ cr
-  | inr feed ↦ absurd (other (eqb-true _ _ feed))
+break_is : (x : ℕ) → is_line_break x ≡ true → IsLineBreak x
+break_is x is = elim (or_cases (eqb x 13) (eqb x 10) is) [
+  | inl cr ↦ inl (eqb-true _ _ cr)
+  | inr feed ↦ inr (eqb-true _ _ feed)
 ]
+
+-- a break that is not LF is CR
+pub break_is_cr : (x : ℕ) → is_line_break x ≡ true → x ≢ 10 → x ≡ 13
+break_is_cr x is other = elim (break_is x is) [ inl cr ↦ cr | inr feed ↦ absurd (other feed) ]
+
+pub finds_break : (bytes : List ℕ) (found : Option ℕ)
+    → MatchOption found (All (λ byte. ¬ (IsLineBreak byte)) bytes)
+    (IsFirstOf IsLineBreak bytes 0 (length bytes))
+    → IsFirstByte is_line_break bytes found
+finds_break bytes None free = λ k low high is.
+    All-get_or (λ byte. ¬ (IsLineBreak byte)) bytes k 0 high free (break_is _ is)
+finds_break bytes (Some place) first = (
+  record {
+    low = first.at_least;
+    high = first.inside;
+    before = λ k low less is. first.least k low less (break_is _ is);
+  },
+  is_break _ first.one,
+)
 
 module _ (text : List ℕ) (from : ℕ) (free : FreeUpTo CrLfStrict text from)
     (not_open : ¬ ((0 < from) × (from < length text) × (get_or text (from - 1) 0 ≡ 13))) where
@@ -121,7 +141,7 @@ module _ (text : List ℕ) (from : ℕ) (free : FreeUpTo CrLfStrict text from)
 
   -- up to the first CR or LF
   pub before_break : (place : ℕ)
-      → NoneBefore (Passes (is_byte2 13 10) text) from (length text) place
+      → NoneBefore (Passes (is_line_break) text) from (length text) place
       → FreeUpTo CrLfStrict text place
   before_break place first = free_until place (omega (arith, first.high))
       (λ k low high is. first.before k low high (is_break _ (inr is)))
@@ -129,7 +149,7 @@ module _ (text : List ℕ) (from : ℕ) (free : FreeUpTo CrLfStrict text from)
 
   -- and one byte further, if it is not LF
   pub at_break : (place : ℕ)
-      → NoneBefore (Passes (is_byte2 13 10) text) from (length text) place
+      → NoneBefore (Passes (is_line_break) text) from (length text) place
       → get_or text place 0 ≢ 10 → FreeUpTo CrLfStrict text (place + 1)
   at_break place first other = free_until (place + 1) (omega (arith, first.high))
       (λ k low high is. elim (cases_lt k place) [

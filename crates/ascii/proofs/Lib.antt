@@ -10,7 +10,6 @@ pub mod EndingsLemmas
 pub mod EndsLemmas
 mod Examples
 pub mod ExtendLemmas
-pub mod FoldFindLemmas
 pub mod FoldLemmas
 pub mod JsonLemmas
 pub mod LeftLemmas

@@ -1,10 +1,19 @@
 -- The bytes of a line, and where it ends.
 use Rattle.std.specs.Prelude.{◌≡◌, ◌≢◌, ◌⊎◌, ℕ, ◌+◌, ◌-◌, ◌<◌, List, length, slice_index}
-use Rattle.std.specs.Prelude.{None, Some, ⊤}
+use Rattle.std.specs.Prelude.{Bool, None, Some, ⊤}
 use Rattle.std.specs.declared.option.Option.{Option}
+use Rattle.memchr.specs.Find.{is_byte2}
 use Rattle.ascii.specs.Lines.{IsCrLfAt}
 use Rattle.ascii.specs.declared.iter.spans.Endings.{Endings}
 use Rattle.ascii.specs.declared.iter.spans.Endings.TheVariants.{Any, CrLf, CrLfStrict}
+
+-- the code is CR or LF
+abbrev pub IsLineBreak : ℕ → Type 0
+IsLineBreak code = (code ≡ 13) ⊎ (code ≡ 10)
+
+-- whether it is
+abbrev pub is_line_break : ℕ → Bool
+is_line_break = is_byte2 13 10
 
 -- the byte at `k` ends a line, or shows a lone CR or LF. With `Any` it is LF, with `CrLf` it is LF
 -- after a CR, with `CrLfStrict` it is LF or comes after a CR

@@ -8,20 +8,58 @@
 //! | the end of a line in bytes of which the first are searched | `find_end` |
 //! | a lone CR or LF in the bytes up to there | `lone_break` |
 //! | the body and the ending of a line | `split_ending` |
+//! | the first CR or LF | `first_break` |
 //!
-//! None of them allocates. The searches for CR and LF are those of the crate `memchr`. If a view has the whole text,
-//! `lines` of the view has its lines that end in LF or CR LF.
+//! None of them allocates. The search for LF is that of the crate `memchr`. If a view has the whole text, `lines` of the
+//! view has its lines that end in LF or CR LF.
 
 ghost use Rattle.std.specs.Prelude.{◌≡◌, ◌≢◌, ◌+◌, ◌-◌, ◌<◌, ◌≤◌, ◌↔◌, ◌∷◌, [], IsTrue};
 ghost use Rattle.std.specs.Prelude.{MatchOption, length, slice_index};
-ghost use Rattle.ascii.specs.Endings.{FindsLoneBreak, FreeUpTo, IsFirstStop};
-ghost use Rattle.ascii.specs.Endings.{IsOneLine};
+ghost use Rattle.std.proofs.Common.{rules};
+ghost use Rattle.ascii.specs.Endings.{FindsLoneBreak, FreeUpTo, IsFirstStop, IsLineBreak};
+ghost use Rattle.ascii.specs.Endings.{IsOneLine, is_line_break};
 ghost use Rattle.ascii.specs.Lines.{IsCrLfAt, LinesEndedBy};
 ghost use Rattle.ascii.specs.declared.iter.spans.Endings.TheVariants.{CrLf, CrLfStrict};
-ghost use Rattle.memchr.specs.Find.{IsFirst, Passes, is_byte, is_byte2};
+ghost use Rattle.memchr.specs.Find.{IsFirst, IsFirstByte, Passes, is_byte};
 
 use crate::iter::{Ending, Endings};
-use memchr::{memchr, memchr2};
+use ascii_base::classes::{ByRanges, Ranges};
+use ascii_base::kernels::first_of;
+use memchr::memchr;
+
+/// The ranges of `LineBreak`.
+struct LineBreakRanges;
+
+const LINE_BREAK: [(u8, u8); 2] = [(b'\n', b'\n'), (b'\r', b'\r')];
+
+impl Ranges for LineBreakRanges {
+    ghost use Rattle.ascii.specs.declared.endings.TheConstants.{LINE_BREAK};
+
+    ghost set = { IsLineBreak };
+
+    ghost list = { LINE_BREAK };
+
+    ghost matches = { λ n. Prim.search rules };
+
+    fn ranges() -> &'static [(u8, u8)] {
+        &LINE_BREAK
+    }
+}
+
+/// CR and LF.
+type LineBreak = ByRanges<LineBreakRanges>;
+
+/// Returns the position of the first CR or LF of some bytes, counted from 0, or `None` if there is none.
+///
+///     first_break(b"ab\r\n") // Some(2)
+///     first_break(b"ab") // None
+#[inline]
+#[tactic(auto, using(crate::proofs::EndingsLemmas::finds_break))]
+pub fn first_break(bytes: &[u8]) -> Option<usize>
+    ensures { IsFirstByte is_line_break bytes.now result }
+{
+    first_of::<LineBreak>(bytes)
+}
 
 /// Returns how many bytes of `text` there are up to the first byte that ends a line or shows a lone
 /// CR or LF, that byte included, or `None` if no byte does. With `CrLfStrict`, a CR is shown to be
@@ -61,7 +99,7 @@ fn find_break(text: &[u8], searched: usize) -> Option<usize>
     if follows_cr(text, searched) {
         return Some(searched + 1);
     }
-    let Some(place) = first_break(text, searched) else {
+    let Some(place) = first_break_from(text, searched) else {
         return None;
     };
     if text[place] == b'\n' {
@@ -82,11 +120,11 @@ fn follows_cr(text: &[u8], place: usize) -> bool
 }
 
 /// The position of the first CR or LF of a text from `from` on.
-fn first_break(text: &[u8], from: usize) -> Option<usize>
+fn first_break_from(text: &[u8], from: usize) -> Option<usize>
     requires { from ≤ length text.now }
-    ensures { IsFirst (Passes (is_byte2 13 10) text.now) from (length text.now) result }
+    ensures { IsFirst (Passes is_line_break text.now) from (length text.now) result }
 {
-    match memchr2(b'\r', b'\n', &text[from..]) {
+    match first_break(&text[from..]) {
         Some(place) => Some(from + place),
         None => None,
     }

@@ -9,7 +9,8 @@ use Rattle.std.proofs.lemmas.List.Folds.{list_all_at}
 use Rattle.ascii.specs.Lines.{ending_text}
 use Rattle.ascii_devices.specs.Buffered.{OutputState}
 use Rattle.ascii_lines.specs.Failures.{one_more}
-use Rattle.ascii_lines.specs.LineWriter.{FailsToWrite, WritesBytes, is_line_break}
+use Rattle.ascii.specs.Endings.{is_line_break}
+use Rattle.ascii_lines.specs.LineWriter.{FailsToWrite, WritesBytes}
 use Rattle.ascii_lines.specs.Serve.{Reply, IsLineOutcome, Says, SaysBytes, Saying}
 use Rattle.ascii_lines.specs.Serve.{is_unbroken, line_given, line_reply, part_reply, reply_bytes}
 use Rattle.ascii_lines.specs.Serve.{reply_text}

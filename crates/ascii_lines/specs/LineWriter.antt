@@ -7,7 +7,8 @@ use Rattle.ascii.specs.declared.ascii_str.AsciiStr.{AsciiStr}
 use Rattle.ascii.specs.declared.iter.spans.Ending.{Ending}
 use Rattle.ascii.specs.Lines.{Line, line_text}
 use Rattle.ascii.specs.View.{text_of}
-use Rattle.memchr.specs.Find.{IsFirstByte, is_byte2}
+use Rattle.memchr.specs.Find.{IsFirstByte}
+use Rattle.ascii.specs.Endings.{is_line_break}
 use Rattle.ascii_devices.specs.Buffered.{OutputState, output_state}
 use Rattle.ascii_devices.specs.Devices.{Grows, write_of}
 use Rattle.ascii_devices.specs.declared.Sink.{Ghosts}
@@ -42,10 +43,6 @@ IsReady writer = writer.state.buffer.is_broken ≡ false
 -- a body and an ending as a line
 abbrev pub line_with : AsciiStr → Ending → Line
 line_with body ending = record { body = text_of body; ending = ending }
-
--- the code is CR or LF
-abbrev pub is_line_break : ℕ → Bool
-is_line_break = is_byte2 13 10
 
 -- from the state `old` to the state `new` the bytes were written, and no call of the sink failed:
 -- of the bytes held before and then `bytes`, the sink took a prefix, and the writer holds the

@@ -4,7 +4,7 @@ use Rattle.std.specs.Prelude.{Err, None, Ok, OnOk, Some, false, length, not, tru
 use Rattle.std.specs.Io.KnownBytes.{Appends}
 use Rattle.std.specs.List.{flat_map, list_all}
 use Rattle.std.specs.declared.result.Result.{Result}
-use Rattle.ascii.specs.Endings.{IsFirstStop, any_text}
+use Rattle.ascii.specs.Endings.{IsFirstStop, any_text, is_line_break}
 use Rattle.ascii.specs.Lines.{Line, LinesEndedBy, ending_text, line_text}
 use Rattle.ascii.specs.declared.iter.spans.Ending.{Ending}
 use Rattle.ascii.specs.declared.iter.spans.Ending.TheVariants.{Absent}
@@ -20,7 +20,7 @@ use Rattle.ascii_lines.specs.Failures.{one_more}
 use Rattle.ascii_lines.specs.History.{AreWrites, EndsInEmptyRead}
 use Rattle.ascii_lines.specs.LineReader.{CursorState, IsDone, ReaderState, fresh_cursor, state_at}
 use Rattle.ascii_lines.specs.LineWriter.{FailsToWrite, Flushes, FlushesOutcome, WritesBytes}
-use Rattle.ascii_lines.specs.LineWriter.{WritesLine, Writing, fresh_writer, is_line_break}
+use Rattle.ascii_lines.specs.LineWriter.{WritesLine, Writing, fresh_writer}
 use Rattle.ascii_lines.specs.Skipping.{HasNoEnd, IsFinal, WhyNotSkipped}
 use Rattle.ascii_lines.specs.Wanted.{Asks, EndsAt, IsOne, KnowsEnd, MayHave, MustRead}
 use Rattle.ascii_lines.specs.Wanted.{ReachesEnd, Rejects, all_of}

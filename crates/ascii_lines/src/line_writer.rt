@@ -13,9 +13,9 @@ use crate::line_reader::LineError;
 use crate::skipping::SkippedLine;
 use crate::wanted::Wanted;
 use ascii::AsciiStr;
+use ascii::endings::first_break;
 use ascii::iter::Ending;
 use ascii_devices::{BufferedSink, Channel, DeviceFault, Sink};
-use memchr::memchr2;
 use std::alloc::{AllocError, Allocator, Global};
 use std::marker::Model;
 
@@ -103,7 +103,7 @@ impl<K: Sink, A: Allocator> LineWriter<K, A> {
             return Err(WriteError::Write);
         }
         let body = body.as_bytes();
-        if let Some(place) = memchr2(b'\r', b'\n', body) {
+        if let Some(place) = first_break(body) {
             return Err(WriteError::LineBreak(place));
         }
         put_line(&mut self.buffer, &mut self.sink, body, ending);

@@ -23,10 +23,10 @@ use crate::line_reader::{LineError, ReadLine, line_at};
 use crate::line_writer::{LineWriter, WriteError};
 use crate::skipping::{SkippedLine, is_final};
 use crate::wanted::Wanted;
+use ascii::endings::first_break;
 use ascii::iter::{Ending, Endings};
 use ascii::{AsciiStr, bytes};
 use ascii_devices::{Channel, Sink};
-use memchr::memchr2;
 use std::alloc::{AllocError, Allocator, Global};
 use std::marker::Model;
 
@@ -138,7 +138,7 @@ impl<K: Sink, A: Allocator> Replies<K, A> {
         match self.writer.write_line(body, self.ending) {
             Ok(()) => Ok(()),
             Err(WriteError::LineBreak(place)) => Err(place),
-            Err(WriteError::Write) => match memchr2(b'\r', b'\n', body.as_bytes()) {
+            Err(WriteError::Write) => match first_break(body.as_bytes()) {
                 Some(place) => Err(place),
                 None => Ok(()),
             },

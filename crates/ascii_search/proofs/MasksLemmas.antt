@@ -2,7 +2,7 @@
 use Rattle.std.proofs.Common.{◌≡◌, ◌≢◌, ℕ, ◌+◌, ◌-◌, ◌*◌, ◌/◌, ◌%◌, ◌^◌, ◌<◌, ◌≤◌, Bool, false}
 use Rattle.std.proofs.Common.{cond, List, map, length, get_or, take, drop, bit_and, bit_or, sym, ap}
 use Rattle.std.proofs.Common.{◌∙◌, refl, subst, arith, inl, inr, pow_pos, shr-shr, Option, None}
-use Rattle.std.proofs.Common.{Some, true, ◌&&◌, eqb}
+use Rattle.std.proofs.Common.{Some, true, ◌&&◌, ◌||◌, eqb}
 use Rattle.std.specs.Int.{bit_at}
 use Rattle.std.proofs.lemmas.Bool.{cases_lt, cases_eq, eq-eqb, eqb-true}
 use Rattle.std.proofs.lemmas.List.{length-map, get_or-map, get_or_past, get_or-drop, length-drop}
@@ -17,11 +17,19 @@ use Rattle.std.proofs.Common.{◌↔◌, not, w8, w64}
 use Rattle.std.proofs.lemmas.Bool.{false≢true}
 use Rattle.std.proofs.lemmas.Nat.Bits.{bit_at-trailing_zeros}
 use Rattle.std.proofs.lemmas.Simd.{tops_compared}
+use Rattle.std.specs.List.{slice_range}
+use Rattle.std.proofs.lemmas.Bool as Bool
+use Rattle.std.proofs.lemmas.Bool.{or_cases}
+use Rattle.std.proofs.lemmas.Bool.Decides.{nat_tests}
+use Rattle.std.proofs.lemmas.List.{drop-map, take-map}
 use Rattle.memchr.specs.Find.{FindsNeedle, IsFirst, IsFirstByte}
-use Rattle.memchr.specs.Find.{Nowhere, OccursAt, Passes, is_byte}
+use Rattle.memchr.specs.Find.{Nowhere, OccursAt, Passes, is_byte, is_byte2}
 use Rattle.memchr.proofs.lemmas.FindLemmas.{IsFirst-agree, IsFirst-wider}
 use Rattle.memchr.proofs.lemmas.FindLemmas.{OccursAt-byte, byte-OccursAt}
-use Rattle.ascii_search.specs.Masks.{HasBit, HasByte, HasPart, IsCandidate, MarksCandidates}
+use Rattle.memchr.proofs.lemmas.MatchLemmas.{OccursAt-from_part, OccursAt-part}
+use Rattle.ascii_base.specs.Case.{lower_image, upper_image}
+use Rattle.ascii_search.specs.Masks.{FindsBy, HasBit, HasByte, HasPart, IsCandidate}
+use Rattle.ascii_search.specs.Masks.{MarksCandidates, OccursBy, itself}
 
 -- the bits of a mask that is shifted up in a word
 module _ (m s k : ℕ) where
@@ -76,8 +84,8 @@ or_one : (a b k : ℕ) → HasBit (bit_or a b) k → bit_at a k ≢ 1 → HasBit
 or_one a b k is apart = omega (arith, is, bit_at_or a b k, bit_at-lt a k, apart)
 
 -- the masks of the first and of the last n positions, of at most 64, in one
-module _ (hay needle : List ℕ) (n last first second : ℕ) (near : last ≤ n) (few : last + n ≤ 64)
-    (low : MarksCandidates hay needle 0 n first) (high : MarksCandidates hay needle last n second)
+module _ (image : ℕ → ℕ) (hay needle : List ℕ) (n last first second : ℕ) (near : last ≤ n) (few : last + n ≤ 64)
+    (low : MarksCandidates image hay needle 0 n first) (high : MarksCandidates image hay needle last n second)
   where
     abbrev up : ℕ
     up = second * 2 ^ last % 2 ^ 64
@@ -85,7 +93,7 @@ module _ (hay needle : List ℕ) (n last first second : ℕ) (near : last ≤ n)
     here : (k : ℕ) → last ≤ k → last + (k - last) ≡ 0 + k
     here k from = omega arith
 
-    pub joined : MarksCandidates hay needle 0 (last + n)
+    pub joined : MarksCandidates image hay needle 0 (last + n)
         (bit_or first (second * 2 ^ last % 2 ^ 64))
     joined = record {
       each = λ k l is. elim (cases_lt k n) [
@@ -94,7 +102,7 @@ module _ (hay needle : List ℕ) (n last first second : ℕ) (near : last ≤ n)
             let from : last ≤ k = omega arith in
             or_right first up k (shifted_here second last k (omega arith) from
             ∙ high.each (k - last) (omega arith)
-            (subst (OccursAt hay needle) (sym (here k from)) is))
+            (subst (OccursBy image hay needle) (sym (here k from)) is))
       ];
       set = λ k is. elim (cases_eq (bit_at first k) 1) [
         | inl one ↦ let h = low.set k one in let short : k < n = h.0 in (omega arith, h.1)
@@ -103,25 +111,25 @@ module _ (hay needle : List ℕ) (n last first second : ℕ) (near : last ≤ n)
             let h = high.set (k - last) up_one.2 in
             let short : k - last < n = h.0 in
             let from : last ≤ k = up_one.0 in
-            (omega arith, subst (IsCandidate hay needle) (here k from) h.1)
+            (omega arith, subst (IsCandidate image hay needle) (here k from) h.1)
       ];
     }
 
 -- no position between two bits of a mask that has none between them
-pub nowhere_marked : (hay needle : List ℕ) (start n mask i j : ℕ)
-    → MarksCandidates hay needle start n mask → j ≤ n
-    → Nowhere (HasBit mask) i j → Nowhere (OccursAt hay needle) (start + i) (start + j)
-nowhere_marked hay needle start n mask i j marks inside none k from to here =
+pub nowhere_marked : (image : ℕ → ℕ) (hay needle : List ℕ) (start n mask i j : ℕ)
+    → MarksCandidates image hay needle start n mask → j ≤ n
+    → Nowhere (HasBit mask) i j → Nowhere (OccursBy image hay needle) (start + i) (start + j)
+nowhere_marked image hay needle start n mask i j marks inside none k from to here =
     let same : k ≡ start + (k - start) = omega arith in
     none (k - start) (omega arith) (omega arith)
-    (marks.each (k - start) (omega arith) (subst (OccursAt hay needle) same here))
+    (marks.each (k - start) (omega arith) (subst (OccursBy image hay needle) same here))
 
 -- no position of a block without a mark
-pub nowhere_in_block : (hay needle : List ℕ) (start mask : ℕ)
-    → MarksCandidates hay needle start 64 mask → mask ≡ 0
-    → Nowhere (OccursAt hay needle) start (start + 64)
-nowhere_in_block hay needle start mask marks none k from to =
-    nowhere_marked hay needle start 64 mask 0 64 marks (omega arith) (no_bit mask 0 64 none) k
+pub nowhere_in_block : (image : ℕ → ℕ) (hay needle : List ℕ) (start mask : ℕ)
+    → MarksCandidates image hay needle start 64 mask → mask ≡ 0
+    → Nowhere (OccursBy image hay needle) start (start + 64)
+nowhere_in_block image hay needle start mask marks none k from to =
+    nowhere_marked image hay needle start 64 mask 0 64 marks (omega arith) (no_bit mask 0 64 none) k
     (omega (arith, from)) to
 
 -- nowhere up to a position and nowhere from it on
@@ -144,6 +152,12 @@ both_lanes true false = refl
 both_lanes false true = refl
 both_lanes false false = refl
 
+either_lane : (a b : Bool) → bit_or (lane_of a) (lane_of b) ≡ lane_of (a || b)
+either_lane true true = refl
+either_lane true false = refl
+either_lane false true = refl
+either_lane false false = refl
+
 top_lane : (b : Bool) → top 7 (lane_of b) ≡ b
 top_lane true = refl
 top_lane false = refl
@@ -156,72 +170,101 @@ clear_lane : (b : Bool) → ◌≡◌ {A = ℕ} (cond (not b) 1 0) 0 → b ≡ t
 clear_lane true clear = refl
 clear_lane false clear = absurd (omega (arith, clear))
 
+-- `lower` and `upper` are the bytes that count as byte `at` of the needle
+abbrev pub AreCases : (ℕ → ℕ) → List ℕ → ℕ → ℕ → ℕ → Type 0
+AreCases image needle at lower upper =
+    (x : ℕ) → (is_byte2 lower upper x ≡ true) ↔ (image x ≡ image (get_or needle at 0))
+
 -- where a needle occurs, the text has each of its bytes
-pub reads_byte : (hay needle : List ℕ) (start k at from : ℕ) → OccursAt hay needle (start + k)
+pub reads_byte : (image : ℕ → ℕ) (hay needle : List ℕ) (start k at from lower upper : ℕ)
+    → AreCases image needle at lower upper → OccursBy image hay needle (start + k)
     → at < length needle → from ≡ start + at
-    → is_byte (get_or needle at 0) (get_or hay (from + k) 0) ≡ true
-reads_byte hay needle start k at from occurs inside same =
+    → is_byte2 lower upper (get_or hay (from + k) 0) ≡ true
+reads_byte image hay needle start k at from lower upper cases occurs inside same =
     let there : from + k ≡ start + k + at = omega (arith, same) in
-    eq-eqb _ _ (ap (λ j. get_or hay j 0) there ∙ occurs.reads at inside)
+    (cases _).1 (ap (λ j. image (get_or hay j 0)) there ∙ occurs.reads at inside)
 
 -- a byte that passes the test is that of the needle
-pub has_byte : (hay needle : List ℕ) (start k at from : ℕ) → from ≡ start + at
-    → is_byte (get_or needle at 0) (get_or hay (from + k) 0) ≡ true
-    → HasByte hay needle (start + k) at
-has_byte hay needle start k at from same is =
+pub has_byte : (image : ℕ → ℕ) (hay needle : List ℕ) (start k at from lower upper : ℕ)
+    → AreCases image needle at lower upper → from ≡ start + at
+    → is_byte2 lower upper (get_or hay (from + k) 0) ≡ true
+    → HasByte image hay needle (start + k) at
+has_byte image hay needle start k at from lower upper cases same is =
     let there : start + k + at ≡ from + k = omega (arith, same) in
-    ap (λ j. get_or hay j 0) there ∙ eqb-true _ _ is
+    ap (λ j. image (get_or hay j 0)) there ∙ (cases _).0 is
 
 -- the candidates of a needle among positions at which it fits: three of its bytes are there
-module _ (hay needle : List ℕ) (start n : ℕ) (few : n ≤ 64)
+module _ (image : ℕ → ℕ) (hay needle : List ℕ) (start n : ℕ) (few : n ≤ 64)
     (room : start + n + length needle ≤ length hay + 1) where
-  abbrev lanes : ℕ → ℕ → List ℕ
-  lanes from on = zip2 (λ a b. cond (eqb a b) 255 0) (chunk from n hay) (replicate n on)
+  abbrev lanes_of : ℕ → ℕ → List ℕ
+  lanes_of from on = zip2 (λ a b. cond (eqb a b) 255 0) (chunk from n hay) (replicate n on)
 
-  length_lanes : (from on : ℕ) → from + n ≤ length hay → length (lanes from on) ≡ n
-  length_lanes from on inside =
+  length_of : (from on : ℕ) → from + n ≤ length hay → length (lanes_of from on) ≡ n
+  length_of from on inside =
       let long = length-chunk from n hay inside in
       length-zip2 _ (chunk from n hay) (replicate n on) (long ∙ sym (length-replicate n on)) ∙ long
 
-  lane : (from on k : ℕ) → from + n ≤ length hay → k < n
-      → get_or (lanes from on) k 0 ≡ lane_of (is_byte on (get_or hay (from + k) 0))
-  lane from on k inside l =
+  lane_is : (from on k : ℕ) → from + n ≤ length hay → k < n
+      → get_or (lanes_of from on) k 0 ≡ lane_of (is_byte on (get_or hay (from + k) 0))
+  lane_is from on k inside l =
       let long = length-chunk from n hay inside in
       get_or-zip2 _ (chunk from n hay) (replicate n on) k 0 0 0 (omega (arith, long))
       (omega (arith, length-replicate n on))
       ∙ (λ i. cond (eqb (get_or-chunk from n hay k 0 l i) (get_or-replicate n k on 0 l i)) 255 0)
 
-  module _ (first middle last : ℕ) (a b c : ℕ) (in_a : first + n ≤ length hay)
+  -- the lanes that are one of two bytes
+  abbrev lanes : ℕ → ℕ → ℕ → List ℕ
+  lanes from lower upper = zip2 bit_or (lanes_of from lower) (lanes_of from upper)
+
+  length_lanes : (from lower upper : ℕ) → from + n ≤ length hay
+      → length (lanes from lower upper) ≡ n
+  length_lanes from lower upper inside =
+      length-zip2 bit_or (lanes_of from lower) (lanes_of from upper)
+      (length_of from lower inside ∙ sym (length_of from upper inside))
+      ∙ length_of from lower inside
+
+  lane : (from lower upper k : ℕ) → from + n ≤ length hay → k < n
+      → get_or (lanes from lower upper) k 0
+      ≡ lane_of (is_byte2 lower upper (get_or hay (from + k) 0))
+  lane from lower upper k inside l =
+      get_or-zip2 bit_or (lanes_of from lower) (lanes_of from upper) k 0 0 0
+      (omega (arith, length_of from lower inside)) (omega (arith, length_of from upper inside))
+      ∙ (λ i. bit_or (lane_is from lower k inside l i) (lane_is from upper k inside l i))
+      ∙ either_lane _ _
+
+  module _ (first middle last a0 a1 b0 b1 c0 c1 : ℕ) (in_a : first + n ≤ length hay)
       (in_b : middle + n ≤ length hay) (in_c : last + n ≤ length hay) where
     abbrev two : List ℕ
-    two = zip2 bit_and (lanes first a) (lanes middle b)
+    two = zip2 bit_and (lanes first a0 a1) (lanes middle b0 b1)
 
     abbrev three : List ℕ
-    three = zip2 bit_and two (lanes last c)
+    three = zip2 bit_and two (lanes last c0 c1)
 
     length_two : length two ≡ n
-    length_two = length-zip2 bit_and (lanes first a) (lanes middle b)
-        (length_lanes first a in_a ∙ sym (length_lanes middle b in_b)) ∙ length_lanes first a in_a
+    length_two = length-zip2 bit_and (lanes first a0 a1) (lanes middle b0 b1)
+        (length_lanes first a0 a1 in_a ∙ sym (length_lanes middle b0 b1 in_b))
+        ∙ length_lanes first a0 a1 in_a
 
     length_three : length three ≡ n
-    length_three = length-zip2 bit_and two (lanes last c)
-        (length_two ∙ sym (length_lanes last c in_c)) ∙ length_two
+    length_three = length-zip2 bit_and two (lanes last c0 c1)
+        (length_two ∙ sym (length_lanes last c0 c1 in_c)) ∙ length_two
 
     abbrev has : ℕ → Bool
-    has k = is_byte a (get_or hay (first + k) 0) && is_byte b (get_or hay (middle + k) 0)
-        && is_byte c (get_or hay (last + k) 0)
+    has k = is_byte2 a0 a1 (get_or hay (first + k) 0) && is_byte2 b0 b1 (get_or hay (middle + k) 0)
+        && is_byte2 c0 c1 (get_or hay (last + k) 0)
 
     bit : (k : ℕ) → k < n → bit_at (mask_l (map (top 7) three) % 2 ^ 64) k ≡ cond (has k) 1 0
     bit k l = ap (λ m. bit_at m k) (mask_l-mod (map (top 7) three) 64
         (omega (arith, length-map three (top 7), length_three)))
         ∙ bit_mask_l (map (top 7) three) k
         ∙ ap (λ b. cond b 1 0) (get_or-map (top 7) three k 0 false (omega (arith, length_three))
-        ∙ ap (top 7) (get_or-zip2 bit_and two (lanes last c) k 0 0 0 (omega (arith, length_two))
-        (omega (arith, length_lanes last c in_c))
-        ∙ (λ i. bit_and ((get_or-zip2 bit_and (lanes first a) (lanes middle b) k 0 0 0
-        (omega (arith, length_lanes first a in_a)) (omega (arith, length_lanes middle b in_b))
-        ∙ (λ j. bit_and (lane first a k in_a l j) (lane middle b k in_b l j)) ∙ both_lanes _ _) i)
-        (lane last c k in_c l i)) ∙ both_lanes _ _) ∙ top_lane _)
+        ∙ ap (top 7) (get_or-zip2 bit_and two (lanes last c0 c1) k 0 0 0
+        (omega (arith, length_two)) (omega (arith, length_lanes last c0 c1 in_c))
+        ∙ (λ i. bit_and ((get_or-zip2 bit_and (lanes first a0 a1) (lanes middle b0 b1) k 0 0 0
+        (omega (arith, length_lanes first a0 a1 in_a))
+        (omega (arith, length_lanes middle b0 b1 in_b))
+        ∙ (λ j. bit_and (lane first a0 a1 k in_a l j) (lane middle b0 b1 k in_b l j))
+        ∙ both_lanes _ _) i) (lane last c0 c1 k in_c l i)) ∙ both_lanes _ _) ∙ top_lane _)
 
     past : (k : ℕ) → n ≤ k → bit_at (mask_l (map (top 7) three) % 2 ^ 64) k ≡ 0
     past k g = ap (λ m. bit_at m k) (mask_l-mod (map (top 7) three) 64
@@ -230,9 +273,9 @@ module _ (hay needle : List ℕ) (start n : ℕ) (few : n ≤ 64)
         ∙ ap (λ b. cond b 1 0) (get_or_past (map (top 7) three) k false
         (omega (arith, length-map three (top 7), length_three)))
 
-    pub marks_of_three : ((k : ℕ) → k < n → OccursAt hay needle (start + k) → has k ≡ true)
-        → ((k : ℕ) → k < n → has k ≡ true → IsCandidate hay needle (start + k))
-        → MarksCandidates hay needle start n (mask_l (map (top 7) three) % 2 ^ 64)
+    pub marks_of_three : ((k : ℕ) → k < n → OccursBy image hay needle (start + k) → has k ≡ true)
+        → ((k : ℕ) → k < n → has k ≡ true → IsCandidate image hay needle (start + k))
+        → MarksCandidates image hay needle start n (mask_l (map (top 7) three) % 2 ^ 64)
     marks_of_three there found = record {
       each = λ k l occurs. bit k l ∙ ap (λ b. cond b 1 0) (there k l occurs);
       set = λ k is. elim (cases_lt k n) [
@@ -316,10 +359,10 @@ module _ (hay needle : List ℕ) (k from n : ℕ) (few : n ≤ 64)
     λ part. eq-eqb _ _ (mask ∙ all_same part),
   )
 
-module _ (hay needle : List ℕ) where
+module _ (image : ℕ → ℕ) (hay needle : List ℕ) where
   -- a needle is nowhere that it does not fit
   pub all_positions : (n mask : ℕ) → n ≤ 64 → length hay + 1 ≤ n + length needle
-      → MarksCandidates hay needle 0 n mask → MarksCandidates hay needle 0 64 mask
+      → MarksCandidates image hay needle 0 n mask → MarksCandidates image hay needle 0 64 mask
   all_positions n mask few most marks = record {
     each = λ k l occurs. let fits = occurs.fits in
         marks.each k (omega (arith, fits)) occurs;
@@ -327,24 +370,24 @@ module _ (hay needle : List ℕ) where
   }
 
   -- a needle of at most three bytes is at each candidate
-  pub exact : (k : ℕ) → 0 < length needle → length needle ≤ 3 → IsCandidate hay needle k
-      → OccursAt hay needle k
+  pub exact : (k : ℕ) → 0 < length needle → length needle ≤ 3 → IsCandidate image hay needle k
+      → OccursBy image hay needle k
   exact k some few candidate = record {
     fits = candidate.fits;
     reads = λ j l. elim (cases_eq j 0) [
-      | inl first ↦ subst (HasByte hay needle k) (sym first) candidate.first
+      | inl first ↦ subst (HasByte image hay needle k) (sym first) candidate.first
       | inr after ↦ elim (cases_eq j (length needle - 1)) [
-        | inl last ↦ subst (HasByte hay needle k) (sym last) candidate.last
+        | inl last ↦ subst (HasByte image hay needle k) (sym last) candidate.last
         | inr before ↦
             let middle : j ≡ length needle / 2 = omega (arith, after, before) in
-            subst (HasByte hay needle k) (sym middle) candidate.middle
+            subst (HasByte image hay needle k) (sym middle) candidate.middle
       ]
     ];
   }
 
   -- a needle is at a candidate only
-  pub candidate_at : (k : ℕ) → 0 < length needle → OccursAt hay needle k
-      → IsCandidate hay needle k
+  pub candidate_at : (k : ℕ) → 0 < length needle → OccursBy image hay needle k
+      → IsCandidate image hay needle k
   candidate_at k some occurs = record {
     fits = occurs.fits;
     first = occurs.reads 0 some;
@@ -352,9 +395,30 @@ module _ (hay needle : List ℕ) where
     last = occurs.reads (length needle - 1) (omega (arith, some));
   }
 
+  -- the first of all positions, of which none is before `start`, and none from `end` on fits
+  pub found_first : (start end : ℕ) (found : Option ℕ)
+      → (found ≡ None → length hay + 1 ≤ end + length needle)
+      → Nowhere (OccursBy image hay needle) 0 start → IsFirst (OccursBy image hay needle) start end found
+      → FindsBy image hay needle found
+  found_first start end None all before none =
+      nowhere_in_both _ 0 start _ before (λ k from to occurs. let fits = occurs.fits in
+      none k from (omega (arith, fits, all refl)) occurs)
+  found_first start end (Some p) all before found =
+      let fits = found.1.fits in (
+        record {
+          low = omega arith;
+          high = omega (arith, fits);
+          before = nowhere_in_both _ 0 start p before found.0.before;
+        },
+        found.1,
+      )
+
+-- ---- when only the same bytes count as the same
+
+module _ (hay needle : List ℕ) where
   -- a needle of at most two parts is where both are
   pub ends_occur : (k n last : ℕ) → k + length needle ≤ length hay → last + n ≡ length needle
-      → last ≤ n → HasPart hay needle k 0 n → HasPart hay needle k last n → OccursAt hay needle k
+      → last ≤ n → HasPart hay needle k 0 n → HasPart hay needle k last n → OccursBy itself hay needle k
   ends_occur k n last fits whole near front back = record {
     fits = fits;
     reads = λ j l. elim (cases_lt j n) [
@@ -363,7 +427,7 @@ module _ (hay needle : List ℕ) where
     ];
   }
 
-  pub part_of : (k from n : ℕ) → from + n ≤ length needle → OccursAt hay needle k
+  pub part_of : (k from n : ℕ) → from + n ≤ length needle → OccursBy itself hay needle k
       → HasPart hay needle k from n
   part_of k from n inside occurs j low high = occurs.reads j (omega (arith, inside))
 
@@ -372,8 +436,8 @@ module _ (hay needle : List ℕ) where
 
   -- a needle at the start of what follows a position is at the position
   pub occurs_on : (p : ℕ) → p ≤ length hay
-      → (OccursAt (take (length hay - p) (drop p hay)) needle 0 → OccursAt hay needle p)
-      × (OccursAt hay needle p → OccursAt (take (length hay - p) (drop p hay)) needle 0)
+      → (OccursAt (take (length hay - p) (drop p hay)) needle 0 → OccursBy itself hay needle p)
+      × (OccursBy itself hay needle p → OccursAt (take (length hay - p) (drop p hay)) needle 0)
   occurs_on p inside =
       let whole : take (length hay - p) (drop p hay) ≡ drop p hay =
       take_all (length hay - p) (drop p hay) (omega (arith, length-drop p hay)) in (
@@ -394,23 +458,17 @@ module _ (hay needle : List ℕ) where
             }),
       )
 
-  -- the first of all positions, of which none is before `start`, and none from `end` on fits
-  pub found_first : (start end : ℕ) (found : Option ℕ)
-      → (found ≡ None → length hay + 1 ≤ end + length needle)
-      → Nowhere (OccursAt hay needle) 0 start → IsFirst (OccursAt hay needle) start end found
+  pub finds_same : (found : Option ℕ) → FindsNeedle hay needle 0 found
+      → FindsBy itself hay needle found
+  finds_same = IsFirst-agree (OccursAt hay needle) (OccursBy itself hay needle) 0 (length hay + 1)
+      (λ k _ is. record { fits = is.fits; reads = is.reads })
+      (λ k _ is. record { fits = is.fits; reads = is.reads })
+
+  pub same_finds : (found : Option ℕ) → FindsBy itself hay needle found
       → FindsNeedle hay needle 0 found
-  found_first start end None all before none =
-      nowhere_in_both _ 0 start _ before (λ k from to occurs. let fits = occurs.fits in
-      none k from (omega (arith, fits, all refl)) occurs)
-  found_first start end (Some p) all before found =
-      let fits = found.1.fits in (
-        record {
-          low = omega arith;
-          high = omega (arith, fits);
-          before = nowhere_in_both _ 0 start p before found.0.before;
-        },
-        found.1,
-      )
+  same_finds = IsFirst-agree (OccursBy itself hay needle) (OccursAt hay needle) 0 (length hay + 1)
+      (λ k _ is. record { fits = is.fits; reads = is.reads })
+      (λ k _ is. record { fits = is.fits; reads = is.reads })
 
 -- a search for the byte of a needle of one byte is one for the needle
 module _ (hay needle : List ℕ) (one : length needle ≡ 1) where
@@ -420,7 +478,75 @@ module _ (hay needle : List ℕ) (one : length needle ≡ 1) where
   inside : (k : ℕ) → OccursAt hay needle k → k < length hay
   inside k occurs = let fits = occurs.fits in omega (arith, fits)
 
-  pub finds_byte : (found : Option ℕ) → IsFirstByte on hay found → FindsNeedle hay needle 0 found
-  finds_byte found is = IsFirst-wider (OccursAt hay needle) 0 (length hay) _ (omega arith) inside
+  pub finds_byte : (found : Option ℕ) → IsFirstByte on hay found
+      → FindsBy itself hay needle found
+  finds_byte found is = finds_same hay needle found
+      (IsFirst-wider (OccursAt hay needle) 0 (length hay) _ (omega arith) inside
       found (IsFirst-agree (Passes on hay) (OccursAt hay needle) 0 (length hay)
-      (OccursAt-byte hay needle one) (λ k _. byte-OccursAt hay needle one k) found is)
+      (OccursAt-byte hay needle one) (λ k _. byte-OccursAt hay needle one k) found is))
+
+-- ---- a needle among the images of the bytes
+
+module _ (image : ℕ → ℕ) (hay needle : List ℕ) where
+  occurs_images : (k : ℕ) → OccursBy image hay needle k
+      → OccursAt (map image hay) (map image needle) k
+  occurs_images k occurs = let fits = occurs.fits in record {
+    fits = omega (arith, fits, length-map hay image, length-map needle image);
+    reads = λ j l.
+        let inside : j < length needle = omega (arith, l, length-map needle image) in
+        get_or-map image hay (k + j) 0 0 (omega (arith, inside, fits))
+        ∙ occurs.reads j inside ∙ sym (get_or-map image needle j 0 0 inside);
+  }
+
+  images_occur : (k : ℕ) → OccursAt (map image hay) (map image needle) k
+      → OccursBy image hay needle k
+  images_occur k occurs = let fits = occurs.fits in
+      let room : k + length needle ≤ length hay =
+      omega (arith, fits, length-map hay image, length-map needle image) in record {
+        fits = room;
+        reads = λ j inside. sym (get_or-map image hay (k + j) 0 0 (omega (arith, inside, room)))
+            ∙ occurs.reads j (omega (arith, inside, length-map needle image))
+            ∙ get_or-map image needle j 0 0 inside;
+      }
+
+  pub finds_images : (found : Option ℕ) → FindsBy image hay needle found
+      → FindsNeedle (map image hay) (map image needle) 0 found
+  finds_images found is = subst
+      (λ n. IsFirst (OccursAt (map image hay) (map image needle)) 0 (n + 1) found)
+      (sym (length-map hay image))
+      (IsFirst-agree (OccursBy image hay needle) (OccursAt (map image hay) (map image needle)) 0
+      (length hay + 1) (λ k _. occurs_images k) (λ k _. images_occur k) found is)
+
+  -- the part at a position has the images of the needle exactly if the needle is there
+  pub part_is : (k : ℕ) → k + length needle ≤ length hay
+      → (map image (slice_range hay k (k + length needle)) ≡ map image needle)
+      ↔ OccursBy image hay needle k
+  part_is k fits =
+      let size : k + length needle - k ≡ length (map image needle) =
+      omega (arith, length-map needle image) in
+      let part : map image (slice_range hay k (k + length needle))
+      ≡ take (length (map image needle)) (drop k (map image hay)) =
+      ap (λ n. map image (take n (drop k hay))) size
+      ∙ sym (take-map image (length (map image needle)) (drop k hay))
+      ∙ ap (take (length (map image needle))) (sym (drop-map image k hay)) in (
+        λ same. images_occur k (OccursAt-from_part (map image hay) (map image needle) k
+            (omega (arith, fits, length-map hay image, length-map needle image))
+            (sym part ∙ same)),
+        λ occurs. part ∙ OccursAt-part (map image hay) (map image needle) k
+            (occurs_images k occurs),
+      )
+
+-- a byte is a letter in one of its cases exactly if its image in lower case is that of the letter
+pub either_case : (code lower upper : ℕ) → lower ≡ lower_image code → upper ≡ upper_image code
+    → (x : ℕ) → (is_byte2 lower upper x ≡ true) ↔ (lower_image x ≡ lower_image code)
+either_case code lower upper low up x =
+    rw (low, up) (λ either. grind (arith, nat_tests), λ same. grind (arith, nat_tests))
+
+pub one_case : (code x : ℕ) → (is_byte2 code code x ≡ true) ↔ (itself x ≡ itself code)
+one_case code x = (
+  λ is. elim (or_cases (eqb x code) (eqb x code) is) [
+    | inl same ↦ eqb-true _ _ same
+    | inr same ↦ eqb-true _ _ same
+  ],
+  λ same. Bool.or_left (eqb x code) (eqb x code) (eq-eqb _ _ same),
+)

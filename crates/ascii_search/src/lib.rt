@@ -1,4 +1,4 @@
-//! Searches over bytes by masks of many positions at once, for the views of `ascii`: a text in a short one, and the
+//! Searches over bytes by masks of many positions at once, for the views of `ascii`: a text in another, and the
 //! runs of a class from both ends. Users of text call `ascii`.
 #![tactic(auto)]
 

@@ -1,15 +1,18 @@
-//! The first and the last occurrence of a text, the needle, in a short one.
+//! The first occurrence of a text, the needle: in a short text, and in any if the case of letters is ignored.
 //!
 //! Up to 64 positions are tested at once: a mask has a bit for each position, which is set if a needle
 //! there would have its first, its middle and its last byte. Such a position is a candidate, and a
 //! needle of more than three bytes is compared at the candidates only. Fewer than four positions are
-//! tested one by one. The crate `memchr` searches texts of more than 256 bytes and texts with too many
-//! candidates.
+//! tested one by one. If case matters, the crate `memchr` searches texts of more than 256 bytes and texts with too
+//! many candidates.
 
-ghost use Rattle.std.specs.Prelude.{◌≡◌, ◌↔◌, ◌+◌, ◌<◌, ◌≤◌, IsTrue, length};
-ghost use Rattle.memchr.specs.Find.{FindsNeedle, IsFirst, OccursAt};
-ghost use Rattle.ascii_search.specs.Masks.{HasBit, HasPart, IsCandidate, MarksCandidates};
+ghost use Rattle.std.specs.Prelude.{◌≡◌, ◌↔◌, ◌+◌, ◌<◌, ◌≤◌, IfSome, IsTrue, length, map, true};
+ghost use Rattle.memchr.specs.Find.{FindsNeedle, IsFirst, is_byte2};
+ghost use Rattle.ascii_base.specs.Case.{lower_image};
+ghost use Rattle.ascii_search.specs.Masks.{FindsBy, HasBit, HasPart, IsCandidate};
+ghost use Rattle.ascii_search.specs.Masks.{MarksCandidates, OccursBy, itself};
 
+use ascii_base::kernels::eq_ignore_case;
 use memchr::arch::all::is_prefix;
 use memchr::memmem;
 use std::simd::prelude::*;
@@ -17,7 +20,7 @@ use std::simd::prelude::*;
 /// The number of positions that one mask is for.
 const BLOCK: usize = 64;
 
-/// The largest number of bytes that are searched here.
+/// The largest number of bytes that are searched here if case matters.
 const SHORT: usize = 256;
 
 /// Fewer positions than this are tested one by one.
@@ -29,16 +32,121 @@ const EXACT: usize = 3;
 /// A needle of at most this many bytes is compared without a call.
 const SMALL: usize = 16;
 
-/// The largest number of candidates that are compared here, of 32 positions or more.
+/// The largest number of candidates that are compared here, of 32 positions or more, if there is another search.
 const FEW: u32 = 8;
 
+/// Which bytes count as the same.
+trait Comparison {
+    ghost use Rattle.std.specs.Prelude.{ℕ};
+
+    // Bytes with the same image do.
+    ghost image: { ℕ → ℕ };
+
+    /// Returns the two bytes that count as a byte. They may be the same.
+    fn cases(byte: u8) -> (u8, u8)
+        ensures { (x : ℕ) → (is_byte2 result.0 result.1 x ≡ true) ↔ (image x ≡ image byte) };
+
+    /// Whether the needle is at a candidate.
+    fn is_there(hay: &[u8], needle: &[u8], position: usize) -> bool
+        requires some { 0 < length needle.now }
+        requires candidate { IsCandidate image hay.now needle.now position }
+        ensures { IsTrue result ↔ OccursBy image hay.now needle.now position };
+
+    /// Finds the first `needle` in another way, if there is one and the needle has too many candidates among some
+    /// positions to be compared at each.
+    fn find_otherwise(hay: &[u8], needle: &[u8], marked: u64) -> Option<Option<usize>>
+        ensures { IfSome result (λ found. FindsBy image hay.now needle.now found) };
+}
+
+/// A byte counts as itself only.
+struct Exact;
+
+impl Comparison for Exact {
+    ghost image = { itself };
+
+    #[inline(always)]
+    #[tactic(auto, using(crate::proofs::MasksLemmas::one_case))]
+    fn cases(byte: u8) -> (u8, u8) {
+        (byte, byte)
+    }
+
+    #[inline(always)]
+    #[tactic(auto, using(crate::proofs::MasksLemmas::occurs_on))]
+    fn is_there(hay: &[u8], needle: &[u8], position: usize) -> bool {
+        if needle.len() <= SMALL {
+            is_small_there(hay, needle, position)
+        } else {
+            is_prefix(&hay[position..], needle)
+        }
+    }
+
+    #[inline(always)]
+    #[tactic(auto, using(crate::proofs::MasksLemmas::finds_same))]
+    fn find_otherwise(hay: &[u8], needle: &[u8], marked: u64) -> Option<Option<usize>> {
+        if needle.len() > EXACT && marked.count_ones() > FEW {
+            return Some(memmem::find(hay, needle));
+        }
+        None
+    }
+}
+
+/// A letter counts as itself in either case.
+struct IgnoringCase;
+
+impl Comparison for IgnoringCase {
+    ghost image = { lower_image };
+
+    #[inline(always)]
+    #[tactic(auto, using(crate::proofs::MasksLemmas::either_case))]
+    fn cases(byte: u8) -> (u8, u8) {
+        (byte.to_ascii_lowercase(), byte.to_ascii_uppercase())
+    }
+
+    #[inline(always)]
+    #[tactic(auto, using(crate::proofs::MasksLemmas::part_is))]
+    fn is_there(hay: &[u8], needle: &[u8], position: usize) -> bool {
+        if needle.len() <= EXACT {
+            true
+        } else {
+            eq_ignore_case(&hay[position..position + needle.len()], needle)
+        }
+    }
+
+    #[inline(always)]
+    fn find_otherwise(_hay: &[u8], _needle: &[u8], _marked: u64) -> Option<Option<usize>> {
+        None
+    }
+}
+
 /// Returns the position of the first `needle` in `hay`, or `None` if there is none.
+#[tactic(auto, using(crate::proofs::MasksLemmas::same_finds))]
 pub fn first_needle(hay: &[u8], needle: &[u8]) -> Option<usize>
     ensures { FindsNeedle hay.now needle.now 0 result }
 {
     if hay.len() > SHORT {
         return memmem::find(hay, needle);
     }
+    if needle.len() == 1 && hay.len() > BLOCK {
+        return first_byte(hay, needle);
+    }
+    first_by_masks::<Exact>(hay, needle)
+}
+
+/// Returns the position of the first `needle` in `hay`, ignoring ASCII case, or `None` if there is none.
+///
+/// At worst the needle is compared at each position.
+#[tactic(auto, using(crate::proofs::MasksLemmas::finds_images))]
+pub fn first_needle_ignoring_case(hay: &[u8], needle: &[u8]) -> Option<usize>
+    ensures { FindsNeedle (map lower_image hay.now) (map lower_image needle.now) 0 result }
+{
+    first_by_masks::<IgnoringCase>(hay, needle)
+}
+
+/// Returns the position of the first `needle` in `hay`, or `None` if there is none.
+#[inline(always)]
+fn first_by_masks<M: Comparison>(hay: &[u8], needle: &[u8]) -> Option<usize>
+    ensures { FindsBy M.image hay.now needle.now result }
+{
     if needle.is_empty() {
         return Some(0);
     }
@@ -47,81 +155,70 @@ pub fn first_needle(hay: &[u8], needle: &[u8]) -> Option<usize>
     }
     let positions = hay.len() - needle.len() + 1;
     if positions > BLOCK {
-        return first_far(hay, needle);
+        return first_by_blocks::<M>(hay, needle);
     }
     if positions < LEAST {
-        return first_one_by_one(hay, needle);
+        return first_one_by_one::<M>(hay, needle);
     }
-    let marked = all_candidates(hay, needle);
+    let marked = all_candidates::<M>(hay, needle);
     if marked == 0 {
         return None;
     }
     if needle.len() <= EXACT {
-        return first_marked(hay, needle, 0, marked);
+        return first_marked::<M>(hay, needle, 0, marked);
     }
-    first_compared(hay, needle, marked)
+    first_compared::<M>(hay, needle, marked)
 }
 
 /// Returns the position of the first `needle`, compared at the candidates among all positions, of which
 /// there are at most 64, or `None` if there is none. Not inlined, so that a search without a
 /// candidate does not save registers for the comparison.
 #[inline(never)]
-fn first_compared(hay: &[u8], needle: &[u8], marked: u64) -> Option<usize>
+fn first_compared<M: Comparison>(hay: &[u8], needle: &[u8], marked: u64) -> Option<usize>
     requires some { 0 < length needle.now }
     requires fits { length needle.now ≤ length hay.now }
     requires short { length hay.now + 1 ≤ 64 + length needle.now }
-    requires marks { MarksCandidates hay.now needle.now 0 64 marked }
-    ensures { FindsNeedle hay.now needle.now 0 result }
+    requires marks { MarksCandidates M.image hay.now needle.now 0 64 marked }
+    ensures { FindsBy M.image hay.now needle.now result }
 {
     let positions = hay.len() - needle.len() + 1;
-    if positions >= 32 && is_crowded(needle, marked) {
-        return memmem::find(hay, needle);
+    if positions >= 32
+        && let Some(found) = M::find_otherwise(hay, needle, marked)
+    {
+        return found;
     }
-    first_marked(hay, needle, 0, marked)
-}
-
-/// Returns the position of the first `needle` among at least 64, or `None` if there is none.
-#[inline(always)]
-fn first_far(hay: &[u8], needle: &[u8]) -> Option<usize>
-    requires some { 0 < length needle.now }
-    requires long { 64 + length needle.now ≤ length hay.now + 1 }
-    ensures { FindsNeedle hay.now needle.now 0 result }
-{
-    if needle.len() == 1 {
-        return first_byte(hay, needle);
-    }
-    first_by_blocks(hay, needle)
+    first_marked::<M>(hay, needle, 0, marked)
 }
 
 /// Returns the position of the first `needle`, which has one byte, or `None` if there is none.
 #[inline(never)]
 fn first_byte(hay: &[u8], needle: &[u8]) -> Option<usize>
     requires { length needle.now ≡ 1 }
-    ensures { FindsNeedle hay.now needle.now 0 result }
+    ensures { FindsBy itself hay.now needle.now result }
 {
     memchr::memchr(needle[0], hay)
 }
 
 /// Returns the position of the first `needle` among at least 64, or `None` if there is none.
 #[inline(never)]
-fn first_by_blocks(hay: &[u8], needle: &[u8]) -> Option<usize>
+fn first_by_blocks<M: Comparison>(hay: &[u8], needle: &[u8]) -> Option<usize>
     requires some { 0 < length needle.now }
     requires long { 64 + length needle.now ≤ length hay.now + 1 }
-    ensures { FindsNeedle hay.now needle.now 0 result }
+    ensures { FindsBy M.image hay.now needle.now result }
 {
     let positions = hay.len() - needle.len() + 1;
     let mut tested = 0;
     while tested < positions {
         let start = tested.min(positions - BLOCK);
-        let marked = candidates::<BLOCK>(hay, needle, start);
+        let marked = candidates::<M, BLOCK>(hay, needle, start);
         if marked == 0 {
             tested = start + BLOCK;
             continue;
         }
-        if is_crowded(needle, marked) {
-            return memmem::find(hay, needle);
+        if let Some(found) = M::find_otherwise(hay, needle, marked) {
+            return found;
         }
-        match first_marked(hay, needle, start, marked) {
+        match first_marked::<M>(hay, needle, start, marked) {
             None => tested = start + BLOCK,
             found => return found,
         }
@@ -129,70 +226,54 @@ fn first_by_blocks(hay: &[u8], needle: &[u8]) -> Option<usize>
     None
 }
 
-/// Returns the position of the first `needle`, tested at one position after the other if it is small, or
-/// `None` if there is none.
+/// Returns the position of the first `needle`, tested at one position after the other, or `None` if there is
+/// none.
 #[inline(always)]
-fn first_one_by_one(hay: &[u8], needle: &[u8]) -> Option<usize>
+fn first_one_by_one<M: Comparison>(hay: &[u8], needle: &[u8]) -> Option<usize>
     requires some { 0 < length needle.now }
     requires fits { length needle.now ≤ length hay.now }
-    ensures { FindsNeedle hay.now needle.now 0 result }
+    ensures { FindsBy M.image hay.now needle.now result }
 {
-    if needle.len() > SMALL {
-        return memmem::find(hay, needle);
-    }
     for position in 0..hay.len() - needle.len() + 1 {
-        if is_at(hay, needle, position) {
+        if is_at::<M>(hay, needle, position) {
             return Some(position);
         }
     }
     None
 }
 
-/// Whether a needle of more than three bytes has too many candidates to be compared at each.
-#[inline(always)]
-fn is_crowded(needle: &[u8], marked: u64) -> bool {
-    needle.len() > EXACT && marked.count_ones() > FEW
-}
-
-/// Whether a small needle is at a position.
+/// Whether a needle is at a position.
 #[inline(always)]
 #[tactic(auto, using(crate::proofs::MasksLemmas::candidate_at))]
-fn is_at(hay: &[u8], needle: &[u8], position: usize) -> bool
+fn is_at<M: Comparison>(hay: &[u8], needle: &[u8], position: usize) -> bool
     requires some { 0 < length needle.now }
-    requires small { length needle.now ≤ SMALL }
     requires fits { position + length needle.now ≤ length hay.now }
-    ensures { IsTrue result ↔ OccursAt hay.now needle.now position }
+    ensures { IsTrue result ↔ OccursBy M.image hay.now needle.now position }
 {
-    is_candidate(hay, needle, position) && is_small_there(hay, needle, position)
+    is_candidate::<M>(hay, needle, position) && M::is_there(hay, needle, position)
 }
 
 /// Whether a position is a candidate.
 #[inline(always)]
-fn is_candidate(hay: &[u8], needle: &[u8], position: usize) -> bool
+fn is_candidate<M: Comparison>(hay: &[u8], needle: &[u8], position: usize) -> bool
     requires some { 0 < length needle.now }
     requires fits { position + length needle.now ≤ length hay.now }
-    ensures { IsTrue result ↔ IsCandidate hay.now needle.now position }
+    ensures { IsTrue result ↔ IsCandidate M.image hay.now needle.now position }
 {
     let middle = needle.len() / 2;
     let end = needle.len() - 1;
-    hay[position] == needle[0]
-        && hay[position + middle] == needle[middle]
-        && hay[position + end] == needle[end]
+    has_byte::<M>(hay[position], needle[0])
+        && has_byte::<M>(hay[position + middle], needle[middle])
+        && has_byte::<M>(hay[position + end], needle[end])
 }
 
-/// Whether the needle is at a candidate.
+/// Whether a byte counts as another.
 #[inline(always)]
-#[tactic(auto, using(crate::proofs::MasksLemmas::occurs_on))]
-fn is_there(hay: &[u8], needle: &[u8], position: usize) -> bool
-    requires some { 0 < length needle.now }
-    requires candidate { IsCandidate hay.now needle.now position }
-    ensures { IsTrue result ↔ OccursAt hay.now needle.now position }
+fn has_byte<M: Comparison>(byte: u8, wanted: u8) -> bool
+    ensures { IsTrue result ↔ (M.image byte ≡ M.image wanted) }
 {
-    if needle.len() <= SMALL {
-        is_small_there(hay, needle, position)
-    } else {
-        is_prefix(&hay[position..], needle)
-    }
+    let (lower, upper) = M::cases(wanted);
+    byte == lower || byte == upper
 }
 
 /// Whether a small needle is at a candidate.
@@ -201,8 +282,8 @@ fn is_there(hay: &[u8], needle: &[u8], position: usize) -> bool
 fn is_small_there(hay: &[u8], needle: &[u8], position: usize) -> bool
     requires some { 0 < length needle.now }
     requires small { length needle.now ≤ SMALL }
-    requires candidate { IsCandidate hay.now needle.now position }
-    ensures { IsTrue result ↔ OccursAt hay.now needle.now position }
+    requires candidate { IsCandidate itself hay.now needle.now position }
+    ensures { IsTrue result ↔ OccursBy itself hay.now needle.now position }
 {
     if needle.len() <= EXACT {
         true
@@ -222,7 +303,7 @@ fn has_both_ends<const N: usize>(hay: &[u8], needle: &[u8], position: usize) -> 
     requires fits { position + length needle.now ≤ length hay.now }
     requires room { N ≤ length needle.now }
     requires short { length needle.now ≤ N + N }
-    ensures { IsTrue result ↔ OccursAt hay.now needle.now position }
+    ensures { IsTrue result ↔ OccursBy itself hay.now needle.now position }
 {
     has_part::<N>(hay, needle, position, 0)
         && has_part::<N>(hay, needle, position, needle.len() - N)
@@ -242,66 +323,79 @@ fn has_part<const N: usize>(hay: &[u8], needle: &[u8], position: usize, from: us
 
 /// Returns the mask of the candidates among the `N` positions from `start` on.
 #[inline(always)]
-fn candidates<const N: usize>(hay: &[u8], needle: &[u8], start: usize) -> u64
+fn candidates<M: Comparison, const N: usize>(hay: &[u8], needle: &[u8], start: usize) -> u64
     requires lanes { N ≤ 64 }
     requires some { 0 < length needle.now }
     requires room { start + N + length needle.now ≤ length hay.now + 1 }
-    ensures { MarksCandidates hay.now needle.now start N result }
+    ensures { MarksCandidates M.image hay.now needle.now start N result }
 {
     let middle = needle.len() / 2;
     let end = needle.len() - 1;
-    let starts = Simd::<u8, N>::from_slice(&hay[start..]).simd_eq(Simd::splat(needle[0]));
+    let (first_lower, first_upper) = M::cases(needle[0]);
+    let (middle_lower, middle_upper) = M::cases(needle[middle]);
+    let (end_lower, end_upper) = M::cases(needle[end]);
+    let starts = Simd::<u8, N>::from_slice(&hay[start..]);
+    let starts = starts.simd_eq(Simd::splat(first_lower))
+        | starts.simd_eq(Simd::splat(first_upper));
     let middles = Simd::<u8, N>::from_slice(&hay[start + middle..]);
-    let ends = Simd::<u8, N>::from_slice(&hay[start + end..]).simd_eq(Simd::splat(needle[end]));
-    (starts & middles.simd_eq(Simd::splat(needle[middle])) & ends).to_bitmask()
+    let middles = middles.simd_eq(Simd::splat(middle_lower))
+        | middles.simd_eq(Simd::splat(middle_upper));
+    let ends = Simd::<u8, N>::from_slice(&hay[start + end..]);
+    let ends = ends.simd_eq(Simd::splat(end_lower)) | ends.simd_eq(Simd::splat(end_upper));
+    (starts & middles & ends).to_bitmask()
 }
 
 /// Returns the mask of the candidates among all positions, of which there are at least `N` and at most
 /// twice as many. Tests the first `N` and the last `N`, so it may test some positions twice.
 #[inline(always)]
-fn candidates_at_ends<const N: usize>(hay: &[u8], needle: &[u8]) -> u64
+fn candidates_at_ends<M: Comparison, const N: usize>(hay: &[u8], needle: &[u8]) -> u64
     requires lanes { N ≤ 32 }
     requires some { 0 < length needle.now }
     requires fits { length needle.now ≤ length hay.now }
     requires room { N + length needle.now ≤ length hay.now + 1 }
     requires short { length hay.now + 1 ≤ N + N + length needle.now }
-    ensures { MarksCandidates hay.now needle.now 0 64 result }
+    ensures { MarksCandidates M.image hay.now needle.now 0 64 result }
 {
     let last = hay.len() - needle.len() + 1 - N;
-    candidates::<N>(hay, needle, 0) | (candidates::<N>(hay, needle, last) << last)
+    candidates::<M, N>(hay, needle, 0) | (candidates::<M, N>(hay, needle, last) << last)
 }
 
 /// Returns the mask of the candidates among all positions, of which there are 4 to 64.
 #[inline(always)]
-fn all_candidates(hay: &[u8], needle: &[u8]) -> u64
+fn all_candidates<M: Comparison>(hay: &[u8], needle: &[u8]) -> u64
     requires some { 0 < length needle.now }
     requires least { LEAST + length needle.now ≤ length hay.now + 1 }
     requires short { length hay.now + 1 ≤ 64 + length needle.now }
-    ensures { MarksCandidates hay.now needle.now 0 64 result }
+    ensures { MarksCandidates M.image hay.now needle.now 0 64 result }
 {
     let positions = hay.len() - needle.len() + 1;
     if positions >= 32 {
-        candidates_at_ends::<32>(hay, needle)
+        candidates_at_ends::<M, 32>(hay, needle)
     } else if positions >= 16 {
-        candidates_at_ends::<16>(hay, needle)
+        candidates_at_ends::<M, 16>(hay, needle)
     } else if positions >= 8 {
-        candidates_at_ends::<8>(hay, needle)
+        candidates_at_ends::<M, 8>(hay, needle)
     } else {
-        candidates_at_ends::<LEAST>(hay, needle)
+        candidates_at_ends::<M, LEAST>(hay, needle)
     }
 }
 
 /// Returns the first of the 64 positions from `start` on where the needle is, or `None` if it is at none
 /// of them. It is compared at the marked ones.
 #[inline(always)]
-fn first_marked(hay: &[u8], needle: &[u8], start: usize, marked: u64) -> Option<usize>
+fn first_marked<M: Comparison>(
+    hay: &[u8],
+    needle: &[u8],
+    start: usize,
+    marked: u64,
+) -> Option<usize>
     requires some { 0 < length needle.now }
-    requires marks { MarksCandidates hay.now needle.now start 64 marked }
-    ensures { IsFirst (OccursAt hay.now needle.now) start (start + 64) result }
+    requires marks { MarksCandidates M.image hay.now needle.now start 64 marked }
+    ensures { IsFirst (OccursBy M.image hay.now needle.now) start (start + 64) result }
 {
     let mut tested = 0;
     while let Some(bit) = first_bit(marked, tested) {
-        if is_there(hay, needle, start + bit) {
+        if M::is_there(hay, needle, start + bit) {
             return Some(start + bit);
         }
         tested = bit + 1;

@@ -2,7 +2,7 @@ use Rattle.std.proofs.Common.{◌≡◌, ◌+◌, ◌-◌, length, get_or, arith
 use Rattle.std.proofs.lemmas.Bool.{false≢true}
 use Rattle.ascii.specs.declared.iter.spans.Endings.TheVariants.{CrLfStrict}
 use Rattle.ascii.specs.Endings.{FreeUpTo, IsFirstStop}
-use Rattle.ascii.proofs.EndingsLemmas.{at_break, before_break, break_is, stop_after_cr}
+use Rattle.ascii.proofs.EndingsLemmas.{at_break, before_break, break_is_cr, stop_after_cr}
 use Rattle.ascii.proofs.EndingsLemmas.{stop_at_lf}
 use Rattle.ascii.proofs.endings.find_break.Goals as goal
 
@@ -27,7 +27,7 @@ returns-then-place-text c =
       subst (IsFirstStop CrLfStrict text) (sym next)
           (stop_after_cr text (place + 1) (omega arith)
           (subst (λ j. get_or text j 0 ≡ 13) (sym back)
-          (break_is _ first.1 c.if-text-place-eq10.false))
+          (break_is_cr _ first.1 c.if-text-place-eq10.false))
           (at_break text c.args.searched c.requires.free
           (λ is. false≢true (sym c.if-follows_cr.false ∙ c.follows_cr.ensures.1 is)) place first.0
           c.if-text-place-eq10.false)),

@@ -5,6 +5,6 @@ use Rattle.ascii_search.proofs.short_search.candidates_at_ends.Goals as goal
 pub returns : goal.returns
 returns g c =
     let last = length c.args.hay.now - length c.args.needle.now + 1 - g.row.N in
-    all_positions c.args.hay.now c.args.needle.now (last + g.row.N) _ (omega arith) (omega arith)
-    (joined _ _ g.row.N last _ _ (omega arith) (omega arith) c.candidates.ensures
+    all_positions g.M.Comparison.image c.args.hay.now c.args.needle.now (last + g.row.N) _ (omega arith) (omega arith)
+    (joined _ _ _ g.row.N last _ _ (omega arith) (omega arith) c.candidates.ensures
     c.candidates-2.ensures)
