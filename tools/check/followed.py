@@ -13,8 +13,9 @@ from pathlib import Path
 from typing import NamedTuple
 
 TOP = Path(__file__).resolve().parents[2]
-sys.path.insert(0, str(TOP / "bin" / "lib"))
+sys.path[:0] = [str(TOP / "bin" / "lib"), str(TOP / "tools" / "docs"), str(TOP / "tools" / "reader")]
 import libraries  # noqa: E402
+from samples import in_own_crate  # noqa: E402
 
 BLOCK = re.compile(r"^```(\w+)\n(.*?)^```$", re.MULTILINE | re.DOTALL)
 NAMED = re.compile(r"(?://|#|--) (\S+)\n")
@@ -35,7 +36,7 @@ class Wrong(NamedTuple):
 
 
 WRONG = [
-    Wrong("example_keys", "src/keys.rt", "split(AsciiChar::Equal)", "split(AsciiChar::Colon)", "key_of", ["README.md", "docs/START.md"]),
+    Wrong("examples", "src/keys.rt", "split(AsciiChar::Equal)", "split(AsciiChar::Colon)", "key_of", ["README.md", "docs/START.md"]),
 ]
 
 
@@ -123,7 +124,7 @@ def follow(page, proves=False, visits=True):
 
 
 def quoted(page, crate):
-    """The lines that a page quotes of the check's answer about a crate."""
+    """The lines that a page quotes of the check's answer about a crate of a reader."""
     lines = re.findall(r"^    ((?:note: src/|fn \w+::).*)$", (TOP / page).read_text(encoding="utf-8"), re.MULTILINE)
     return [line for line in lines if line.startswith("note: ") or line.startswith(f"fn {crate}::")]
 
@@ -149,10 +150,11 @@ def rejected(wrong):
             return [f"{wrong.file} of {wrong.crate}: {wrong.old} is not there exactly once"]
         file.write_text(text.replace(wrong.old, wrong.new), encoding="utf-8")
         status, printed, said = run([*checking(wrong.crate), "--only", wrong.function], file.parents[1])
-    lines = {line.strip() for line in (printed + said).splitlines()}
+    lines, name = {line.strip() for line in (printed + said).splitlines()}, Path(wrong.file).stem
+    lines |= {in_own_crate(name, line) for line in lines}
     if status != 1:
         return [f"{wrong.function} of {wrong.crate} with {wrong.new}: status {status}\n{(printed + said)[-1500:]}"]
-    quotes = [(page, line) for page in wrong.pages for line in quoted(page, wrong.crate)]
+    quotes = [(page, line) for page in wrong.pages for line in quoted(page, name)]
     faults = [f"{page}: the check does not print: {line}" for page, line in quotes if line not in lines]
     silent = [page for page in wrong.pages if page not in {it for it, _ in quotes}]
     return faults + [f"{page}: no line of the check's answer is quoted" for page in silent]

@@ -142,4 +142,4 @@ STACKS = {
 
 
 def tests(crate):
-    return [Limits(crate, call) for call in CALLS[crate]] + [Stacks(crate, words) for words in STACKS[crate]]
+    return [Limits(crate, call) for call in CALLS.get(crate, [])] + [Stacks(crate, words) for words in STACKS.get(crate, [])]

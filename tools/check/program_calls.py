@@ -159,7 +159,42 @@ FILTER = [
     Call("check of its own output without a line", ["check", "--quiet", "own"], b"", 0, OWN, b"", "own"),
     Call("an output that is full", ["copy", "text", "none"], b"", 3, b"", FULL, "full"),
 ]
-CALLS = {"ascii_show": SHOW, "ascii_filter": FILTER}
+
+OF_EXAMPLES = b"usage: examples head|host|ini|keys|lines|nmea|pager|register\n"
+HEAD = b"GET /a?b HTTP/1.1\r\nHost: a.example\r\nACCEPT:  */* \r\n\r\nbody"
+SETTINGS = b"; a comment\n[net]\nport = 80\n host=  a.example \n[disk]\npath =\n"
+SENTENCE = b"$GPGGA,123519,4807.038,N,01131.000,E,1,08,0.9,545.4,M,46.9,M,,*"
+SENTENCES = [SENTENCE + b"47", SENTENCE.replace(b"545.4", b"-545.4") + b"6A", SENTENCE + b"46",
+             SENTENCE.replace(b"7.038", b"7.0.8") + b"5A", b"$GPRMC,123519,A*07", b"0abc~", b""]
+FIXES = b"""4807.038N 1131E at 545.4 m, quality 1
+4807.038N 1131E at -545.4 m, quality 1
+the checksum is 47
+field 2 is at fault
+not a GGA sentence
+payload 0abc
+"""
+TEXT = b"TWO\none\nTwo and three\nthe two lines that are longer than one row\nend\n"
+STORED = [(TOP / "crates/examples" / name).read_bytes() for name in ("stdin", "stdout")]
+EXAMPLES = [
+    Call("head", ["head"], HEAD, 0, b"GET /a?b 1.1\nhost a.example\n"),
+    Call("head of no request", ["head"], b"GET  / HTTP/1.1\r\n\r\n", 0, b"not a request line: GET  / HTTP/1.1\n"),
+    Call("host", ["host"], b"Accept: */*\nHOST:  a.example\nx\303\244: 1\n", 0, b"a.example\nthe byte at index 1 is not ASCII\n"),
+    Call("ini", ["ini"], SETTINGS, 0, b"3:8: [net] port = 80\n4:9: [net] host = a.example\n6:7: [disk] path = \n"),
+    Call("ini of a line without a sign", ["ini"], b"[net]\n port\n", 0, b"2:2: no '='\n"),
+    Call("keys", ["keys"], b"host=a\nport\nz\303\244=1\n", 0, b"host\nport\nthe byte at index 1 is not ASCII\n"),
+    Call("lines", ["lines"], STORED[0], 0, STORED[1]),
+    Call("nmea", ["nmea"], b"\n".join(SENTENCES), 0, FIXES),
+    Call("pager", ["pager"], TEXT, 0, b"the two lines that are l\nonger than one row\nend\n"),
+    Call("pager of a byte above 127", ["pager"], b"two\n\303\244\n", 0, b"the byte at index 4 is not ASCII\n"),
+    Call("pager of a word that is not there", ["pager"], b"four\none\n", 0, b"'four' not found\n"),
+    Call("register", ["register"], b"GET\nhello\r\nGET\nno\377ascii\nGET\nQUIT\nGET\n", 0, b"\nOK\nhello\nBAD\nhello\nBYE\n",
+         b"Closed\n"),
+    Call("an input that is not valid UTF-8", ["host"], b"\377\n", 1, b"", ANY),
+    Call("no name", [], b"", 64, b"", OF_EXAMPLES),
+    Call("an unknown name", ["key"], b"", 64, b"", OF_EXAMPLES),
+    Call("a name that is longer than any", ["register" * 4], b"", 64, b"", OF_EXAMPLES),
+]
+CALLS = {"ascii_show": SHOW, "ascii_filter": FILTER, "examples": EXAMPLES}
 
 
 def answer_of(program, call, folder):

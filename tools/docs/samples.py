@@ -3,9 +3,9 @@
 Each block of Rust or antt of README.md, docs/CONTRACTS.md, docs/MODEL.md, docs/LINES.md, docs/PORTING.md,
 docs/START.md, docs/PROTOCOLS.md and
 the front page of the site is in a source of a crate word for word. A block that begins with `// FILE`, `-- FILE` or `# FILE` is
-in that file, which may be the `stdout` of a stored run; one of docs/START.md or docs/PROTOCOLS.md, from which a reader
-makes the file, is the whole file. A line of crates.txt that a page quotes is in crates.txt, and the tests that
-docs/BESIDE.md names exist."""
+in that file, which may be the `stdout` of a stored run. From docs/START.md and docs/PROTOCOLS.md a reader makes a crate NAME:
+a block is a whole file of it, without its tests, as it is in the crate `examples`, whose module NAME is the reader's main.rt.
+A line of crates.txt that a page quotes is in crates.txt, and the tests that docs/BESIDE.md names exist."""
 import re
 
 from made import TOP
@@ -32,14 +32,29 @@ def bare(text):
     return "\n".join(re.sub(r"^\s*(///)?\s*", "", line).rstrip() for line in text.splitlines())
 
 
+def in_own_crate(name, text):
+    """A text about a module of the crate `examples`, as it is about a crate of that name that has the module as its main.rt."""
+    for old, new in ((f"src/{name}.rt", "src/main.rt"), (f"proofs/{name}/", "proofs/"), (f"examples::{name}::", f"{name}::"),
+                     (f"Rattle.examples.specs.declared.{name}.", f"Rattle.{name}.specs.declared."), ("Rattle.examples.", f"Rattle.{name}.")):
+        text = text.replace(old, new)
+    return text
+
+
+def is_whole(file, code, sources):
+    """Whether a block that a reader writes to a file has all of it; `quoted_uses` compares the lines of crates.txt."""
+    name, _, rest = file.removeprefix("crates/").partition("/")
+    place = f"crates/examples/{rest.replace('src/main', f'src/{name}')}" if rest else file
+    whole = in_own_crate(name, sources.get(place, ""))
+    is_part = file.endswith("/Lib.antt") and code in whole
+    return file == "crates.txt" or is_part or code.partition("\n#[cfg(test)]\n")[0] == whole
+
+
 def is_sample(page, file, code, sources):
     """Whether a block of a page is in the file that it names, or in any source if it names none."""
+    if page in FOLLOWED and file:
+        return is_whole(file, code, sources)
     if file and file not in sources:
         return False
-    if page in FOLLOWED and file in ("crates.txt", "HANDLES"):
-        return {*code.splitlines()} <= {*sources[file].splitlines()}
-    if page in FOLLOWED and file:
-        return code == sources[file]
     return any(bare(code) in bare(sources[place]) for place in ([file] if file else sources))
 
 

@@ -1,0 +1,105 @@
+//! Prints the request line of an HTTP/1.1 request and its header Host, or why it has none.
+#![tactic(auto)]
+
+ghost use Rattle.std.specs.Prelude.{◌≡◌, IfOk, IfSome, length};
+ghost use Rattle.ascii.specs.View.{text_of};
+ghost use Rattle.examples.specs.Head.{IsRequestLine};
+
+use ascii::classes::{Blank, Graphic, Token};
+use ascii_formats::AsciiStrExt;
+use ascii_keys::FoldedMap;
+use ascii_lines::{
+    AsciiChar, AsciiStr, BlockEnd, Endings, Input, LineReader, OwnedLine, read_block,
+};
+use std::alloc::Global;
+use std::io;
+
+/// The parts of a request line. For `GET / HTTP/1.1` the minor version is 1.
+#[derive(Clone, Copy)]
+pub struct RequestLine<'a> {
+    pub method: AsciiStr<'a>,
+    pub target: AsciiStr<'a>,
+    pub minor: u8,
+}
+
+/// Why lines are not headers. A line is named by its index, counted from 0.
+#[derive(Clone, Copy)]
+pub enum HeaderError {
+    NotHeader(usize),
+    Twice(usize),
+    Memory,
+}
+
+/// Returns the parts of a request line, or `None` if the line is none.
+pub fn read_request_line<'a>(line: AsciiStr<'a>) -> Option<RequestLine<'a>>
+    ensures { IfSome result (IsRequestLine (text_of line.entry)) }
+{
+    let (method, rest) = line.split_once(AsciiChar::Space)?;
+    let (target, version) = rest.split_once(AsciiChar::Space)?;
+    let digits = version.strip_prefix(AsciiStr::literal("HTTP/1."))?;
+    let minor = digits.to_number::<u8>().ok()?;
+    if method.is_empty() || !method.is_all::<Token>() {
+        return None;
+    }
+    if target.is_empty() || !target.is_all::<Graphic>() {
+        return None;
+    }
+    Some(RequestLine {
+        method,
+        target,
+        minor,
+    })
+}
+
+/// Returns the values of the headers by their names, ignoring ASCII case. There is one for each line.
+pub fn read_headers<'a>(
+    alloc: Global,
+    lines: &'a [OwnedLine],
+) -> Result<FoldedMap<AsciiStr<'a>>, HeaderError>
+    ensures { IfOk result (λ headers. length headers ≡ length lines.now) }
+{
+    let mut headers = FoldedMap::new(alloc);
+    for (index, line) in lines.iter().enumerate() {
+        let Some((name, value)) = line.text.as_ascii_str().split_once(AsciiChar::Colon) else {
+            return Err(HeaderError::NotHeader(index));
+        };
+        if name.is_empty() || !name.is_all::<Token>() {
+            return Err(HeaderError::NotHeader(index));
+        }
+        match headers.insert(name, value.trim_matches::<Blank>()) {
+            Ok(None) => {}
+            Ok(Some(_)) => return Err(HeaderError::Twice(index)),
+            Err(_) => return Err(HeaderError::Memory),
+        }
+    }
+    Ok(headers)
+}
+
+pub fn main(rt: HostRuntime) -> io::Result<()> {
+    let alloc = rt.alloc();
+    let input = Input::new(rt.stdin());
+    let mut reader = LineReader::new(alloc, input, 8_192, Endings::CrLfStrict)?;
+    let block = read_block(alloc, &mut reader, 100)?;
+    let Some((first, others)) = block.lines.split_first() else {
+        return println!(rt; "no request line");
+    };
+    let Some(request) = read_request_line(first.text.as_ascii_str()) else {
+        return println!(rt; "not a request line: {}", first.text);
+    };
+    println!(rt; "{} {} 1.{}", request.method, request.target, request.minor)?;
+    match block.end {
+        BlockEnd::EmptyLine => {}
+        BlockEnd::EndOfInput => return println!(rt; "the input ends in the head"),
+        BlockEnd::Full => return println!(rt; "more than 100 lines"),
+        BlockEnd::Reader(error) => return println!(rt; "{error}"),
+    }
+    match read_headers(alloc, others) {
+        Ok(found) => match found.get(AsciiStr::literal("host")) {
+            Some(host) => println!(rt; "host {host}"),
+            None => println!(rt; "no host"),
+        },
+        Err(HeaderError::NotHeader(index)) => println!(rt; "header {index} is not one"),
+        Err(HeaderError::Twice(index)) => println!(rt; "header {index} comes twice"),
+        Err(HeaderError::Memory) => println!(rt; "no memory"),
+    }
+}

@@ -1,0 +1,36 @@
+//! `examples NAME`: runs the example NAME over the standard streams. Each other file of this folder is a whole program.
+#![tactic(auto)]
+
+mod head;
+mod host;
+mod ini;
+mod keys;
+mod lines;
+mod nmea;
+mod pager;
+mod register;
+
+use std::env::Env;
+use std::io;
+use std::process::ExitCode;
+
+/// Runs the example that the first argument names. If it names none, prints the usage and returns the status 64.
+fn main(rt: HostRuntime) -> io::Result<ExitCode> {
+    let mut name = [0; 16];
+    let length = rt.arg(1, &mut name).unwrap_or(0);
+    match &name[..length] {
+        b"head" => head::main(rt)?,
+        b"host" => host::main(rt)?,
+        b"ini" => ini::main(rt)?,
+        b"keys" => keys::main(rt)?,
+        b"lines" => lines::main(rt)?,
+        b"nmea" => nmea::main(rt)?,
+        b"pager" => pager::main(rt)?,
+        b"register" => register::main(rt)?,
+        _ => {
+            eprintln!(rt; "usage: examples head|host|ini|keys|lines|nmea|pager|register")?;
+            return Ok(ExitCode::from(64));
+        }
+    }
+    Ok(ExitCode::SUCCESS)
+}
