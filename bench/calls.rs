@@ -199,6 +199,12 @@ fn walks(clock: &Clock, size: usize) {
                 size,
                 sides![text: "ours" ours::read_lines, "std" by_std::read_lines],
             );
+            let strict = &texts::with_cr(text)[..];
+            clock.compare(
+                &format!("strict reader, lines of {mean}"),
+                strict.len(),
+                sides![strict: "ours" ours::read_strict_lines, "std" by_std::read_lines],
+            );
             clock.compare(
                 &format!("echo, lines of {mean}"),
                 size,

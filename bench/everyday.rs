@@ -64,6 +64,7 @@ mod ours {
 
     exported! {
         grep as bench_grep(source, needle),
+        grep_ignoring_case as bench_grep_ignoring_case(source, needle),
         lookup as bench_lookup(source, name),
         find as bench_find(source, needle)
     }
@@ -134,6 +135,15 @@ mod by_std {
             return 0;
         };
         let lines = text.lines().filter(|line| line.contains(needle));
+        lines.fold(0, |sum, line| mixed(sum, line.len()))
+    }
+
+    pub fn grep_ignoring_case(source: &[u8], needle: &[u8]) -> usize {
+        let (Some(text), Some(needle)) = (text(source), text(needle)) else {
+            return 0;
+        };
+        let needle = needle.to_ascii_lowercase();
+        let lines = text.lines().filter(|line| line.to_ascii_lowercase().contains(&needle));
         lines.fold(0, |sum, line| mixed(sum, line.len()))
     }
 
@@ -274,7 +284,7 @@ mod by_memchr {
     //! Bare loops over the Rust crate `memchr`.
 
     use super::mixed;
-    use memchr::{Memchr, memchr, memchr_iter, memmem, memrchr};
+    use memchr::{Memchr, memchr, memchr2_iter, memchr_iter, memmem, memrchr};
 
     /// The lines of a text, as a careful user of the crate writes them: one iterator over the whole text.
     struct Lines<'a> {
@@ -382,6 +392,17 @@ mod by_memchr {
         let finder = memmem::Finder::new(needle);
         let lines = lines(source).filter(|line| finder.find(line).is_some());
         lines.fold(0, |sum, line| mixed(sum, line.len()))
+    }
+
+    pub fn grep_ignoring_case(source: &[u8], needle: &[u8]) -> usize {
+        let first = needle[0];
+        let (lower, upper) = (first.to_ascii_lowercase(), first.to_ascii_uppercase());
+        let is_at = |line: &[u8], at: usize| {
+            let part = line.get(at..at + needle.len());
+            part.is_some_and(|part| part.eq_ignore_ascii_case(needle))
+        };
+        let is_in = |line: &&[u8]| memchr2_iter(lower, upper, line).any(|at| is_at(line, at));
+        lines(source).filter(is_in).fold(0, |sum, line| mixed(sum, line.len()))
     }
 
     pub fn lookup(source: &[u8], wanted: &[u8]) -> usize {
@@ -626,6 +647,14 @@ pub fn rows() -> Vec<Row> {
         ),
         row!("lines with `error`", grep, log.as_str(), b"error", ["std" by_std, "memchr" by_memchr]),
         row!("lines with `closed by`", grep, log.as_str(), b"closed by", ["std" by_std, "memchr" by_memchr]),
+        row!(
+            "lines with `error` in any case", grep_ignoring_case, log.as_str(), b"Error",
+            ["std" by_std, "memchr" by_memchr]
+        ),
+        row!(
+            "line of 100 KB, any case", grep_ignoring_case, log.replace('\n', " "), b"Closed By",
+            ["std" by_std, "memchr" by_memchr]
+        ),
         row!("header, the last", lookup, HEADERS, b"ORIGIN", ["std" by_std, "memchr" by_memchr]),
         row!("header, none", lookup, HEADERS, b"x-none", ["std" by_std, "memchr" by_memchr]),
         row!("replies", replies, HEADERS, none, ["std" by_std]),

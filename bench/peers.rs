@@ -100,7 +100,7 @@ pub mod ours {
             ) -> bool;
             pub fn bench_trim(source: *const u8, length: usize) -> usize;
             pub fn bench_lines(source: *const u8, length: usize, from_back: bool) -> usize;
-            pub fn bench_read_lines(source: *const u8, length: usize) -> usize;
+            pub fn bench_read_lines(source: *const u8, length: usize, is_strict: bool) -> usize;
             pub fn bench_echo_lines(source: *const u8, length: usize) -> usize;
             pub fn bench_split(source: *const u8, length: usize) -> usize;
             pub fn bench_find(
@@ -163,7 +163,12 @@ pub mod ours {
 
     #[inline(always)]
     pub fn read_lines(source: &[u8]) -> usize {
-        unsafe { bench_read_lines(source.as_ptr(), source.len()) }
+        unsafe { bench_read_lines(source.as_ptr(), source.len(), false) }
+    }
+
+    #[inline(always)]
+    pub fn read_strict_lines(source: &[u8]) -> usize {
+        unsafe { bench_read_lines(source.as_ptr(), source.len(), true) }
     }
 
     #[inline(always)]

@@ -41,6 +41,12 @@ pub fn marked(length: usize, mean: u64, mark: u8) -> Vec<u8> {
     text
 }
 
+/// A text with CR LF in place of each LF.
+pub fn with_cr(text: &[u8]) -> Vec<u8> {
+    let lines: Vec<&[u8]> = text.split(|byte| *byte == b'\n').collect();
+    lines.join(&b"\r\n"[..])
+}
+
 /// `length` digits, of which the first is not zero.
 pub fn digits(length: usize) -> Vec<u8> {
     let mut numbers = Numbers::new(length as u64 + 1);

@@ -14,6 +14,38 @@ pub struct Step {
     pub end: usize,
 }
 
+/// Steps, and the texts that they take.
+#[derive(Default)]
+pub struct Steps {
+    pub texts: Vec<u8>,
+    pub steps: Vec<Step>,
+}
+
+impl Steps {
+    /// Steps of some kinds, at positions, with texts.
+    pub fn of<'a>(all: impl IntoIterator<Item = (u8, usize, &'a str)>) -> Steps {
+        let mut steps = Steps::default();
+        all.into_iter().for_each(|(kind, at, text)| steps.add_text(kind, at, text.as_bytes()));
+        steps
+    }
+
+    /// Adds a step that takes a text.
+    pub fn add_text(&mut self, kind: u8, at: usize, text: &[u8]) {
+        let start = self.texts.len();
+        self.texts.extend(text);
+        self.steps.push(Step { kind, at, start, end: self.texts.len(), ..Step::default() });
+    }
+
+    pub fn add(&mut self, kind: u8, at: usize, code: u8) {
+        self.steps.push(Step { kind, at, code, ..Step::default() });
+    }
+
+    /// Adds a copy of the characters before a position.
+    pub fn copy_to(&mut self, end: usize) {
+        self.steps.push(Step { kind: 17, code: 2, end, ..Step::default() });
+    }
+}
+
 /// How a reader or a writer behaves: the most bytes that a call moves, the call that fails, the call that moves no
 /// byte, and the number of the error.
 #[repr(C)]

@@ -1,16 +1,16 @@
 //! A line reader by a plain loop over the bytes of its source.
 
-use crate::asked::Answer;
+use crate::asked::{Answer, Fault};
 use crate::calls::Step;
 use crate::kinds::slices::non_ascii;
 
 /// Why a reader returns no line: `None` at the end, or an error and its position.
-pub type Stop = Option<(&'static str, Option<usize>)>;
+pub type Stop = Option<Fault>;
 
 /// A line: its start, its body and the name of its ending.
 pub type Line<'a> = (usize, &'a [u8], &'static str);
 
-const READ: Stop = Some(("read", None));
+const READ: Stop = Some(Fault("read", None));
 
 /// A reader. Its source gives one byte a call and fails at the call number `fails`.
 #[derive(Clone, Copy)]
@@ -94,18 +94,18 @@ impl<'a> Model<'a> {
         let line = loop {
             let byte = match self.at(place) {
                 Err(error) => break Err(error),
-                Ok(None) if is_strict && self.follows_cr(place) => break Err(Some(("lone", Some(place - 1)))),
+                Ok(None) if is_strict && self.follows_cr(place) => break Err(Some(Fault("lone", Some(place - 1)))),
                 Ok(None) if place == start => break Err(None),
                 Ok(None) => break Ok((&self.source[start..], "none", place)),
                 Ok(Some(byte)) => byte,
             };
             match byte {
-                _ if place - start == self.size => break Err(Some(("long", Some(start)))),
-                128.. if is_ascii => break Err(Some(("ascii", Some(place)))),
+                _ if place - start == self.size => break Err(Some(Fault("long", Some(start)))),
+                128.. if is_ascii => break Err(Some(Fault("ascii", Some(place)))),
                 b'\n' if self.follows_cr(place) => break Ok((&self.source[start..place - 1], "crlf", place + 1)),
                 b'\n' if self.endings == 0 => break Ok((&self.source[start..place], "lf", place + 1)),
-                b'\n' if is_strict => break Err(Some(("lone", Some(place)))),
-                _ if is_strict && self.follows_cr(place) => break Err(Some(("lone", Some(place - 1)))),
+                b'\n' if is_strict => break Err(Some(Fault("lone", Some(place)))),
+                _ if is_strict && self.follows_cr(place) => break Err(Some(Fault("lone", Some(place - 1)))),
                 _ => place += 1,
             }
         };
@@ -118,7 +118,7 @@ impl<'a> Model<'a> {
             return Err(error);
         }
         if self.has_ended {
-            return Err(Some(("incomplete", Some(0))));
+            return Err(Some(Fault("incomplete", Some(0))));
         }
         let start = self.start;
         let (fault, calls) = self.fault_in_part(n);
@@ -138,14 +138,14 @@ impl<'a> Model<'a> {
     /// The error of a part, and how many calls of the source it takes.
     fn fault_in_part(&self, n: usize) -> (Option<Stop>, usize) {
         if n > self.size {
-            return (Some(Some(("long", Some(self.start)))), self.calls);
+            return (Some(Some(Fault("long", Some(self.start)))), self.calls);
         }
         for at in 0..n {
             let place = self.start + at;
             let error = match self.at(place) {
                 Err(error) => error,
-                Ok(None) => Some(("incomplete", Some(at))),
-                Ok(Some(128..)) => Some(("ascii", Some(place))),
+                Ok(None) => Some(Fault("incomplete", Some(at))),
+                Ok(Some(128..)) => Some(Fault("ascii", Some(place))),
                 Ok(Some(_)) => continue,
             };
             return (Some(error), place + 1);
@@ -157,7 +157,7 @@ impl<'a> Model<'a> {
     /// of its first non-ASCII byte.
     pub fn skip(&mut self, most: usize) -> Result<(usize, usize, Option<usize>), Stop> {
         match self.error {
-            Some(Some(("ascii" | "lone" | "long", _))) | None => (),
+            Some(Some(Fault("ascii" | "lone" | "long", _))) | None => (),
             Some(error) => return Err(error),
         }
         let start = self.start;
@@ -171,7 +171,7 @@ impl<'a> Model<'a> {
             let error = match self.at(place) {
                 Err(error) => error,
                 Ok(None) => break place,
-                Ok(Some(_)) if place - start == most => Some(("long", Some(start))),
+                Ok(Some(_)) if place - start == most => Some(Fault("long", Some(start))),
                 Ok(Some(_)) if self.ends(place) => break place + 1,
                 Ok(Some(_)) => {
                     place += 1;
@@ -192,61 +192,16 @@ impl<'a> Model<'a> {
     pub fn run(&mut self, steps: &[Step], want: &mut Answer) {
         for step in steps {
             match step.kind {
-                0 => put_line(self.next_line(), want),
-                4 => match self.part(step.at) {
-                    Ok((start, part)) => {
-                        want.number(start);
-                        want.text(part);
-                    }
-                    Err(stop) => put_stop(stop, want),
-                },
-                5 => put_line_of_bytes(self.next(false), want),
-                6 => match self.skip(step.at) {
-                    Ok((start, length, other)) => {
-                        want.number(start);
-                        want.number(length);
-                        want.position(other);
-                    }
-                    Err(stop) => put_stop(stop, want),
-                },
+                0 => want.put(self.next_line()),
+                4 => want.put(self.part(step.at)),
+                5 => want.put(self.next(false).map(|(start, body, ending)| {
+                    let text = non_ascii(body).map_or(Ok(body), |at| Err(("ascii", start + at)));
+                    (start, body, text, ending)
+                })),
+                6 => want.put(self.skip(step.at)),
                 kind => self.endings = kind - 1,
             }
-            want.number(self.start);
+            want.put(self.start);
         }
-    }
-}
-
-pub fn put_stop(stop: Stop, want: &mut Answer) {
-    match stop {
-        None => want.none(),
-        Some((name, None)) => want.text(name),
-        Some((name, Some(position))) => want.fault(name, position),
-    }
-}
-
-pub fn put_line(line: Result<Line<'_>, Stop>, want: &mut Answer) {
-    match line {
-        Ok((start, body, ending)) => {
-            want.number(start);
-            want.text(body);
-            want.text(ending);
-        }
-        Err(stop) => put_stop(stop, want),
-    }
-}
-
-/// A line with its body as text, or the position of its first non-ASCII byte.
-fn put_line_of_bytes(line: Result<Line<'_>, Stop>, want: &mut Answer) {
-    match line {
-        Ok((start, body, ending)) => {
-            want.number(start);
-            want.text(body);
-            match non_ascii(body) {
-                Some(at) => want.fault("ascii", start + at),
-                None => want.text(body),
-            }
-            want.text(ending);
-        }
-        Err(stop) => put_stop(stop, want),
     }
 }

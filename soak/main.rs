@@ -23,7 +23,7 @@ mod random;
 mod rows;
 
 use asked::Asked;
-use kinds::{Allocates, Ask, Kind, KINDS};
+use kinds::{Allocates, Ask, Kind};
 use random::Random;
 use std::any::Any;
 use std::collections::HashSet;
@@ -50,7 +50,7 @@ static DIFFER: AtomicU64 = AtomicU64::new(0);
 
 /// The kinds that are asked.
 fn kinds() -> impl Iterator<Item = (usize, &'static Kind, Ask)> {
-    KINDS.iter().enumerate().filter_map(|(at, kind)| kind.ask.map(|ask| (at, kind, ask)))
+    kinds::all().enumerate().filter_map(|(at, kind)| kind.ask.map(|ask| (at, kind, ask)))
 }
 
 /// Counts a difference, and prints the first ones.
@@ -154,7 +154,7 @@ fn small_cases(kind: &Kind, make: Ask, asked: &mut Asked) -> u64 {
 
 /// The small cases of the kinds that are a thread's.
 fn small_share(share: usize, threads: usize) -> Vec<u64> {
-    let (mut asked, mut counts) = (Asked::new(), vec![0; KINDS.len()]);
+    let (mut asked, mut counts) = (Asked::new(), vec![0; kinds::all().count()]);
     for (at, kind, make) in kinds().skip(share).step_by(threads) {
         counts[at] = small_cases(kind, make, &mut asked);
     }
@@ -163,12 +163,11 @@ fn small_share(share: usize, threads: usize) -> Vec<u64> {
 
 /// Questions at random until the time is over.
 fn random_share(seed: u64, time: Duration) -> Vec<u64> {
-    let (mut asked, mut counts) = (Asked::new(), vec![0; KINDS.len()]);
+    let (mut asked, mut counts) = (Asked::new(), vec![0; kinds::all().count()]);
     let (begin, mut random) = (Instant::now(), Random::new(seed));
     while begin.elapsed() < time {
         for (at, kind, make) in kinds() {
-            let turns =
-                TURNS / kind.turns + u32::from(random.below(kind.turns as usize) < (TURNS % kind.turns) as usize);
+            let turns = TURNS / kind.turns + u32::from(random.below(kind.turns as usize) < (TURNS % kind.turns) as usize);
             for turn in 0..turns {
                 let mark = random.mark();
                 ask(kind, make, &mut random, &mut asked);
@@ -266,7 +265,7 @@ fn print_counts(rows: &[u64], small: &[u64], random: &[u64]) {
 
 /// Prints how many kinds have no question.
 fn print_left_out() {
-    let left_out = KINDS.len() - kinds().count();
+    let left_out = kinds::all().count() - kinds().count();
     if left_out > 0 {
         println!("{left_out} kinds left out for want of the upstream crate");
     }
@@ -298,8 +297,8 @@ fn main() -> ExitCode {
     let (threads, time) = (threads.max(1) as usize, Duration::from_secs(seconds));
     let rows = on_threads(threads, rows::all().count(), |share| row_share(share, threads));
     let begin = Instant::now();
-    let small = on_threads(threads, KINDS.len(), |share| small_share(share, threads));
-    let random = on_threads(threads, KINDS.len(), |share| random_share(seed.wrapping_add(share as u64), time));
+    let small = on_threads(threads, kinds::all().count(), |share| small_share(share, threads));
+    let random = on_threads(threads, kinds::all().count(), |share| random_share(seed.wrapping_add(share as u64), time));
     let took = begin.elapsed().as_secs_f64();
     // The differences are to be the last lines but a few.
     if DIFFER.load(Ordering::Relaxed) == 0 {

@@ -23,7 +23,7 @@ mod views;
 mod walks;
 mod writers;
 
-use crate::asked::Asked;
+use crate::asked::{Asked, Put};
 use crate::failing;
 use crate::heap::{self, Fails};
 use std::collections::HashSet;
@@ -92,6 +92,19 @@ impl Rows {
         } else if sizes.0 > 0 && !self.asked.is_planted && self.sizes.insert(sizes) {
             self.ask_failing(heap::ONE, question);
         }
+    }
+
+    /// Asks a call whose answer is a value.
+    pub fn expect(&mut self, value: impl Put, call: impl Fn(&mut Asked)) {
+        self.ask(|asked| {
+            call(asked);
+            asked.want.put(&value);
+        });
+    }
+
+    /// Asks a question for each of some items.
+    pub fn each<T: Clone>(&mut self, items: impl IntoIterator<Item = T>, question: impl Fn(T, &mut Asked)) {
+        items.into_iter().for_each(|item| self.ask(|asked| question(item.clone(), asked)));
     }
 
     /// Asks a question again and again, with each of its allocations failing in turn, and with it others.

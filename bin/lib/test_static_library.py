@@ -33,10 +33,24 @@ class AnExport(unittest.TestCase):
     def test_it_calls_the_function_under_its_requires(self):
         (found,) = static_library.EXPORTED.finditer(SOURCE)
         made = static_library.exported(found, "a::b").strip().splitlines()
-        self.assertEqual(made[:2], ["#[unsafe(no_mangle)]", 'pub extern "C" fn ask_part('])
-        self.assertEqual([line.strip() for line in made[5:8]], [
+        self.assertEqual(made[:2], [
+            "#[unsafe(no_mangle)]", 'pub extern "C" fn ask_part(source: &[u8], steps: &[Step]) -> usize'])
+        self.assertEqual([line.strip() for line in made[2:5]], [
             "requires at { at < length source.now", "× IsAscii source.now }", "requires { IsAscii steps.now }"])
-        self.assertEqual(made[8:], ["{", "    a::b::ask_part(source, steps)", "}"])
+        self.assertEqual(made[5:], ["{", "    a::b::ask_part(source, steps)", "}"])
+
+    def test_it_takes_bytes_for_a_view_and_room_for_an_answer(self):
+        source = "pub fn ask_text(text: AsciiStr, answer: &mut Answer)\n{\n}\n"
+        (found,) = static_library.EXPORTED.finditer(source)
+        made = static_library.exported(found, "a::b").strip().splitlines()
+        self.assertEqual(made[1:], [
+            'pub extern "C" fn ask_text(text: &[u8], room: &mut [u8]) -> usize',
+            "    requires text { IsAscii text.now }",
+            "{",
+            "    let mut answer = Answer::new(room);",
+            "    a::b::ask_text(bytes::as_ascii_str_unchecked(text), &mut answer);",
+            "    answer.finish()",
+            "}"])
 
     def test_the_processor_is_named_only_if_it_is_given(self):
         for cpu, want in (None, []), ("x86-64-v3", ["--cpu", "x86-64-v3"]):

@@ -1,9 +1,19 @@
 //! Characters, by std's `u8`.
 
-use crate::asked::{Answer, Asked, Needs};
+use super::{allocating, kind, long, Kind};
+use crate::asked::{Answer, Asked, Failed, Needs};
 use crate::calls;
 use crate::random::Random;
 use std::collections::HashSet;
+
+pub static KINDS: &[Kind] = &[
+    kind("characters of numbers", |random, asked| ask_characters_of(&numbers(random), asked)),
+    long("characters", 4, |random, asked| ask_characters(&codes(random, 128), random.below(37) as u32, asked)),
+    kind("pairs of characters", pairs),
+    kind("caret notation", |random, asked| ask_carets(&codes(random, 256), asked)),
+    allocating("conversions of characters", |random, asked| ask_conversions(&codes(random, 256), asked)),
+    allocating("sets of characters", |random, asked| ask_set(&codes(random, 128), asked)),
+];
 
 /// Numbers next to the borders of ASCII, bytes and the types.
 const NUMBERS: [i64; 12] = [-129, -128, -1, 0, 126, 127, 128, 255, 256, 0xd800, 0x10_ffff, 0x1_0000_0000];
@@ -18,16 +28,11 @@ pub fn numbers(random: &mut Random) -> Vec<i64> {
     (0..1 + random.count(7)).map(|_| number(random)).collect()
 }
 
-pub fn of_numbers(random: &mut Random, asked: &mut Asked) {
-    let numbers = numbers(random);
-    ask_characters_of(&numbers, asked);
-}
-
 pub fn ask_characters_of(numbers: &[i64], asked: &mut Asked) {
     calls::ask_characters_of(asked, numbers);
     for number in numbers {
         let code = (0..128).contains(number).then_some(*number as usize);
-        (0..5).for_each(|_| asked.want.position(code));
+        asked.want.times(5, code);
     }
 }
 
@@ -52,45 +57,23 @@ pub fn is_white(byte: u8) -> bool {
     matches!(byte, 9..=13 | 32)
 }
 
-fn letters(code: u8, want: &mut Answer) {
-    want.flag(code.is_ascii_alphabetic());
-    want.flag(code.is_ascii_alphabetic());
-    want.flag(code.is_ascii_digit());
-    want.flag(code.is_ascii_alphanumeric());
-    want.flag(code.is_ascii_alphanumeric());
-    want.flag(code.is_ascii_lowercase());
-    want.flag(code.is_ascii_lowercase());
-    want.flag(code.is_ascii_uppercase());
-    want.flag(code.is_ascii_uppercase());
-}
-
-pub fn tests(random: &mut Random, asked: &mut Asked) {
-    let (codes, radix) = (codes(random, 128), random.below(37) as u32);
-    ask_characters(&codes, radix, asked);
-}
-
 pub fn ask_characters(codes: &[u8], radix: u32, asked: &mut Asked) {
     calls::ask_characters(asked, codes, radix);
     for code in codes.iter().copied() {
         let want = &mut asked.want;
-        letters(code, want);
-        want.flag(matches!(code, 9 | 32));
-        want.flag(is_white(code));
-        want.flag(code.is_ascii_whitespace());
-        want.flag(code.is_ascii_control());
-        want.flag(code.is_ascii_graphic());
-        want.flag(matches!(code, 32..=126));
-        want.flag(code.is_ascii_punctuation());
-        want.flag(code.is_ascii_hexdigit());
-        want.number(code.to_ascii_uppercase().into());
-        want.number(code.to_ascii_lowercase().into());
-        want.number(match code {
+        want.put((code.is_ascii_alphabetic(), code.is_ascii_alphabetic(), code.is_ascii_digit()));
+        want.put((code.is_ascii_alphanumeric(), code.is_ascii_alphanumeric(), code.is_ascii_lowercase()));
+        want.put((code.is_ascii_lowercase(), code.is_ascii_uppercase(), code.is_ascii_uppercase()));
+        want.put((matches!(code, 9 | 32), is_white(code), code.is_ascii_whitespace()));
+        want.put((code.is_ascii_control(), code.is_ascii_graphic(), matches!(code, 32..=126)));
+        want.put((code.is_ascii_punctuation(), code.is_ascii_hexdigit(), code.to_ascii_uppercase()));
+        want.put(code.to_ascii_lowercase());
+        want.put(match code {
             0..=31 => 0x2400 + usize::from(code),
             127 => 0x2421,
             _ => code.into(),
         });
-        want.flag(digit(code, radix).is_some());
-        want.number(digit(code, radix).unwrap_or(radix as usize));
+        want.put((digit(code, radix).is_some(), digit(code, radix).unwrap_or(radix as usize)));
     }
 }
 
@@ -107,26 +90,16 @@ pub fn pairs(random: &mut Random, asked: &mut Asked) {
 pub fn ask_pairs(codes: &[u8], asked: &mut Asked) {
     calls::ask_character_pairs(asked, codes);
     for pair in codes.chunks_exact(2) {
-        asked.want.flag(pair[0].eq_ignore_ascii_case(&pair[1]));
-        asked.want.order(pair[0].cmp(&pair[1]));
-        asked.want.flag(true);
+        asked.want.put((pair[0].eq_ignore_ascii_case(&pair[1]), pair[0].cmp(&pair[1]), true));
     }
-}
-
-pub fn carets(random: &mut Random, asked: &mut Asked) {
-    ask_carets(&codes(random, 256), asked);
 }
 
 pub fn ask_carets(codes: &[u8], asked: &mut Asked) {
     calls::ask_carets(asked, codes);
     for code in codes.iter().copied() {
-        asked.want.position(matches!(code, 0..=31 | 127).then_some(usize::from(code ^ 64)));
-        asked.want.position(matches!(code, 63..=95).then_some(usize::from(code ^ 64)));
+        asked.want.put(matches!(code, 0..=31 | 127).then_some(usize::from(code ^ 64)));
+        asked.want.put(matches!(code, 63..=95).then_some(usize::from(code ^ 64)));
     }
-}
-
-pub fn conversions(random: &mut Random, asked: &mut Asked) {
-    ask_conversions(&codes(random, 256), asked);
 }
 
 /// The character of a code by nine calls, in upper and in lower case, and its code three times.
@@ -135,19 +108,14 @@ pub fn ask_conversions(codes: &[u8], asked: &mut Asked) {
     for code in codes {
         let want = &mut asked.want;
         if !code.is_ascii() {
-            want.text("not an ASCII character");
+            want.put("not an ASCII character");
             want.copy("not an ASCII character not an ASCII character");
             continue;
         }
-        (0..9).for_each(|_| want.number(usize::from(*code)));
-        want.number(usize::from(code.to_ascii_uppercase()));
-        want.number(usize::from(code.to_ascii_lowercase()));
-        (0..3).for_each(|_| want.number(usize::from(*code)));
+        want.times(9, *code);
+        want.put((code.to_ascii_uppercase(), code.to_ascii_lowercase()));
+        want.times(3, *code);
     }
-}
-
-pub fn set(random: &mut Random, asked: &mut Asked) {
-    ask_set(&codes(random, 128), asked);
 }
 
 /// Whether each code is new in a set, and how many are in it.
@@ -158,7 +126,7 @@ pub fn ask_set(codes: &[u8], asked: &mut Asked) {
         for at in 0..codes.len() {
             // There may be room for all but the first one.
             let needs = if at == 0 { Needs::Memory } else { Needs::Perhaps };
-            asked.want.fails(needs, 0, |want| put_set(codes, at, want));
+            asked.want.fails_by(needs, 0, |want| put_set(codes, at, want));
         }
     }
 }
@@ -168,10 +136,10 @@ fn put_set(codes: &[u8], failing: usize, want: &mut Answer) {
     let mut seen = HashSet::new();
     for (at, code) in codes.iter().enumerate() {
         if at == failing {
-            want.failed();
+            want.put(Failed);
         } else {
-            want.flag(seen.insert(code));
+            want.put(seen.insert(code));
         }
     }
-    want.number(seen.len());
+    want.put(seen.len());
 }

@@ -2,36 +2,40 @@
 
 use super::edits::INLINE;
 use super::slices::{non_ascii, source};
-use crate::asked::{Answer, Asked, Needs};
+use super::{allocating, Kind};
+use crate::asked::{Answer, Asked, Failed, Needs};
 use crate::calls;
 use crate::random::Random;
 
-pub fn all(random: &mut Random, asked: &mut Asked) {
-    ask_all(&source(random), asked);
-}
+pub static KINDS: &[Kind] = &[
+    allocating("conversions", |random, asked| ask_all(&source(random), asked)),
+    allocating("round trips", |random, asked| ask_round_trips(&random.text(), asked)),
+    allocating("pieces written", |random, asked| ask_written(&random.text(), &random.unicode(), asked)),
+    allocating("characters written", |random, asked| {
+        let (text, ch) = (random.text(), any_character(random));
+        ask_character_written(ch, &text, asked);
+    }),
+    allocating("collected texts", |random, asked| {
+        let text = random.text();
+        ask_collected(random.code_of(&text), &text, asked);
+    }),
+    allocating("strings cut in two", |random, asked| {
+        let text = random.text();
+        ask_split_off(random.place(text.len()), &text, asked);
+    }),
+];
 
 /// A copy and an owned source are each the text, or the position of the error and the source that is returned.
 pub fn ask_all(source: &[u8], asked: &mut Asked) {
     calls::ask_conversions(asked, source);
     let times = if std::str::from_utf8(source).is_ok() { 2 } else { 1 };
+    let text = non_ascii(source).map_or(Ok(source), |at| Err((at, source)));
+    let is_copied = text.is_ok() && !source.is_empty();
     for _ in 0..times {
-        match non_ascii(source) {
-            Some(at) => {
-                for number in 0..2 {
-                    asked.want.allocated(Needs::memory_if(number > 0), |want| {
-                        want.number(at);
-                        want.text(source);
-                    });
-                }
-            }
-            None => (0..2).for_each(|_| asked.want.copy(source)),
-        }
+        // A source is tested before it is copied.
+        asked.want.allocated(Needs::memory_if(is_copied), text);
+        asked.want.allocated(Needs::memory_if(!source.is_empty()), text);
     }
-}
-
-pub fn round_trips(random: &mut Random, asked: &mut Asked) {
-    let text = random.text();
-    ask_round_trips(&text, asked);
 }
 
 pub fn ask_round_trips(text: &[u8], asked: &mut Asked) {
@@ -42,17 +46,13 @@ pub fn ask_round_trips(text: &[u8], asked: &mut Asked) {
     want.absorbs(some);
     (0..2).for_each(|_| want.copy(text));
     // A shared text is in an allocation also if it is empty.
-    (0..2).for_each(|_| want.allocated(Needs::Memory, |want| want.text(text)));
+    (0..2).for_each(|_| want.allocated(Needs::Memory, text));
     (0..2).for_each(|_| want.copy(text));
     let start = want.bytes.len();
-    want.text(text);
-    want.text(text);
-    want.fails(some, start, Answer::failed);
+    want.put((text, text));
+    want.fails(some, start, Failed);
     // The copy of the string fails, and the string is printed.
-    want.fails(some, start, |want| {
-        want.failed();
-        want.text(text);
-    });
+    want.fails(some, start, (Failed, text));
     text.iter().take(1).for_each(|code| want.copy([*code]));
 }
 
@@ -61,18 +61,10 @@ pub fn ask_round_trips(text: &[u8], asked: &mut Asked) {
 fn appended(text: &[u8], piece: &[u8], copy: Needs, growth: Needs, want: &mut Answer) {
     let start = want.bytes.len();
     let (is_ascii, piece) = (piece.is_ascii(), if piece.is_ascii() { piece } else { b"" });
-    want.flag(is_ascii);
-    want.text([text, piece].concat());
-    want.fails(copy, start, Answer::failed);
+    want.put((is_ascii, [text, piece].concat()));
+    want.fails(copy, start, Failed);
     let growth = if piece.is_empty() { Needs::Nothing } else { growth };
-    want.fails(growth, start, |want| {
-        want.flag(false);
-        want.text(text);
-    });
-}
-
-pub fn written(random: &mut Random, asked: &mut Asked) {
-    ask_written(&random.text(), &random.unicode(), asked);
+    want.fails(growth, start, (false, text));
 }
 
 pub fn ask_written(text: &[u8], piece: &[u8], asked: &mut Asked) {
@@ -96,28 +88,16 @@ pub fn any_character(random: &mut Random) -> char {
     char::from_u32(number).unwrap_or('x')
 }
 
-pub fn character_written(random: &mut Random, asked: &mut Asked) {
-    let (text, ch) = (random.text(), any_character(random));
-    ask_character_written(ch, &text, asked);
-}
-
 pub fn ask_character_written(ch: char, text: &[u8], asked: &mut Asked) {
     calls::ask_character_written(asked, ch as u32, text);
     let some = Needs::memory_if(!text.is_empty());
     appended(text, ch.to_string().as_bytes(), some, Needs::Memory, &mut asked.want);
 }
 
-pub fn collected(random: &mut Random, asked: &mut Asked) {
-    let text = random.text();
-    ask_collected(random.code_of(&text), &text, asked);
-}
-
 /// The characters collected, and then appended; the pieces at a character collected, and then the lines appended.
 pub fn ask_collected(code: u8, text: &[u8], asked: &mut Asked) {
     calls::ask_collected(asked, code, text);
-    asked.want.text(text);
-    asked.want.flag(true);
-    asked.want.text(text.repeat(2));
+    asked.want.put((text, true, text.repeat(2)));
     // Characters are appended one by one if the allocation for all fails.
     asked.want.absorbs(Needs::memory_if(!text.is_empty()));
     put_collected(code, text, &mut asked.want);
@@ -129,30 +109,20 @@ fn put_collected(code: u8, text: &[u8], want: &mut Answer) {
     // Grows as a string does.
     let mut string = Vec::new();
     text.split(|other| *other == code).for_each(|piece| string.extend_from_slice(piece));
-    want.text(&string);
+    want.put(&string);
     let (is_some, start, mut growths) = (!string.is_empty(), want.bytes.len(), Vec::new());
     for line in super::walks::lines_of(text) {
-        let body = &text[line.start..line.end];
-        if string.capacity() - string.len() < body.len() {
+        if string.capacity() - string.len() < line.text.len() {
             growths.push(string.len());
         }
-        string.extend_from_slice(body);
+        string.extend_from_slice(line.text);
     }
-    want.flag(true);
-    want.text(&string);
-    want.fails(Needs::memory_if(is_some), whole, Answer::failed);
+    want.put((true, &string));
+    want.fails(Needs::memory_if(is_some), whole, Failed);
     // The lines before the one that does not fit have been appended.
     for length in growths {
-        want.fails(Needs::Memory, start, |want| {
-            want.flag(false);
-            want.text(&string[..length]);
-        });
+        want.fails(Needs::Memory, start, (false, &string[..length]));
     }
-}
-
-pub fn split_off(random: &mut Random, asked: &mut Asked) {
-    let text = random.text();
-    ask_split_off(random.place(text.len()), &text, asked);
 }
 
 pub fn ask_split_off(at: usize, text: &[u8], asked: &mut Asked) {
@@ -160,13 +130,10 @@ pub fn ask_split_off(at: usize, text: &[u8], asked: &mut Asked) {
     let (want, some) = (&mut asked.want, Needs::memory_if(!text.is_empty()));
     let (before, after) = text.split_at(at.min(text.len()));
     if at <= text.len() {
-        [after, before, before, after].iter().for_each(|part| want.text(part));
+        want.all([after, before, before, after]);
     }
-    want.fails(some, 0, Answer::failed);
+    want.fails(some, 0, Failed);
     if at < text.len() {
-        want.fails(Needs::Memory, 0, |want| {
-            want.failed();
-            [text, before, after].iter().for_each(|part| want.text(part));
-        });
+        want.fails(Needs::Memory, 0, (Failed, text, before, after));
     }
 }

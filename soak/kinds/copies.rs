@@ -1,44 +1,41 @@
 //! Copies, conversions and growths, by std and by plain loops.
 
-use super::edits::{random_commands, Commands, Edited, INLINE};
-use crate::asked::{Answer, Asked, Needs};
-use crate::calls;
+use super::edits::{random_commands, Edited, INLINE};
+use super::{allocating, Kind};
+use crate::asked::{Answer, Asked, Failed, Needs};
+use crate::calls::{self, Steps};
 use crate::heap::{Fails, ONE};
-use crate::random::Random;
 
-pub fn copies(random: &mut Random, asked: &mut Asked) {
-    ask_copies(&random.text(), asked);
-}
+pub static KINDS: &[Kind] = &[
+    allocating("copies", |random, asked| ask_copies(&random.text(), asked)),
+    allocating("conversions that return the source", |random, asked| ask_turned(&random.text(), asked)),
+    allocating("strings extended by characters", |random, asked| ask_extended(ONE, random.room(), &random.text(), asked)),
+    allocating("edits by which a string grows", |random, asked| ask_growths(random.below(2) == 0, &random.text(), asked)),
+    allocating("texts formatted into a string", |random, asked| {
+        ask_formatted(&random.text(), &random.short_text(), &random.short_text(), asked)
+    }),
+    allocating("runs over both strings", |random, asked| {
+        let source = random.text();
+        let count = random.count(12);
+        let commands = random_commands(&source, count, random);
+        ask_both_runs(&source, &commands, asked);
+    }),
+];
 
 pub fn ask_copies(text: &[u8], asked: &mut Asked) {
     calls::ask_copies(asked, text);
     let want = &mut asked.want;
-    want.text(text);
+    want.put(text);
     // Characters are appended one by one if the allocation for all that were gathered fails.
     want.absorbs(Needs::memory_if(!text.is_empty()));
     (0..2).for_each(|_| want.copy(text));
     // A shared text is in an allocation also if it is empty.
-    want.allocated(Needs::Memory, |want| want.text(text));
-    expect_small(text, want);
-}
-
-/// The copy of an inline string, and the string.
-fn expect_small(text: &[u8], want: &mut Answer) {
+    want.allocated(Needs::Memory, text);
+    // The copy of an inline string, and the string.
     let (long, start) = (Needs::memory_if(text.len() > INLINE), want.bytes.len());
-    want.text(text);
-    want.text(text);
-    want.fails(long, start, Answer::failed);
-    want.fails(long, start, |want| returned(text, want));
-}
-
-/// The source of a conversion for which there was no memory.
-fn returned(text: &[u8], want: &mut Answer) {
-    want.failed();
-    want.text(text);
-}
-
-pub fn turned(random: &mut Random, asked: &mut Asked) {
-    ask_turned(&random.text(), asked);
+    want.put((text, text));
+    want.fails(long, start, Failed);
+    want.fails(long, start, (Failed, text));
 }
 
 /// A conversion of an owned text: if there is no memory for the text, it is not asked for, and otherwise the text is
@@ -46,16 +43,16 @@ pub fn turned(random: &mut Random, asked: &mut Asked) {
 fn expect_turned(text: &[u8], copy: Needs, conversion: Needs, want: &mut Answer, put: impl FnOnce(&mut Answer)) {
     let start = want.bytes.len();
     put(want);
-    want.fails(copy, start, Answer::failed);
-    want.fails(conversion, start, |want| returned(text, want));
+    want.fails(copy, start, Failed);
+    want.fails(conversion, start, (Failed, text));
 }
 
 pub fn ask_turned(text: &[u8], asked: &mut Asked) {
     calls::ask_turned(asked, text);
     let want = &mut asked.want;
     let (some, none) = (Needs::memory_if(!text.is_empty()), Needs::Nothing);
-    let put = |want: &mut Answer| want.text(text);
-    expect_turned(text, some, some, want, |want| text.iter().for_each(|code| want.number((*code).into())));
+    let put = |want: &mut Answer| want.put(text);
+    expect_turned(text, some, some, want, |want| want.all(text));
     expect_turned(text, some, Needs::Memory, want, put);
     expect_turned(text, none, some, want, put);
     expect_turned(text, some, none, want, put);
@@ -118,18 +115,13 @@ impl Extended {
     }
 }
 
-pub fn extended(random: &mut Random, asked: &mut Asked) {
-    let (capacity, text) = (random.room(), random.text());
-    ask_extended(ONE, capacity, &text, asked);
-}
-
 /// Asks for a string with a capacity that is extended by a text, while some allocations fail.
 pub fn ask_extended(fails: Fails, capacity: usize, text: &[u8], asked: &mut Asked) {
     calls::ask_extended(asked, capacity, text);
     let run = |first: u64, want: &mut Answer| put_extended(capacity, text, Memory { count: 0, fails, first }, want);
     let want = &mut asked.want;
     for first in 0..run(u64::MAX, want) {
-        want.fails(Needs::Memory, 0, |want| {
+        want.fails_by(Needs::Memory, 0, |want| {
             run(first, want);
         });
     }
@@ -139,16 +131,14 @@ pub fn ask_extended(fails: Fails, capacity: usize, text: &[u8], asked: &mut Aske
 fn put_extended(capacity: usize, text: &[u8], memory: Memory, want: &mut Answer) -> u64 {
     let mut string = Extended { bytes: Vec::new(), memory };
     if string.reserve(capacity, Vec::reserve_exact) {
-        want.flag(string.extend(text));
-        want.text(&string.bytes);
-        want.flag(string.bytes.len() == string.bytes.capacity());
+        want.put((string.extend(text), &string.bytes, string.bytes.len() == string.bytes.capacity()));
     } else {
-        want.failed();
+        want.put(Failed);
     }
     string.bytes = Vec::new();
     match string.extend(text) {
-        true => want.text(&string.bytes),
-        false => want.failed(),
+        true => want.put(&string.bytes),
+        false => want.put(Failed),
     }
     string.memory.count
 }
@@ -170,11 +160,6 @@ static GROWTHS: [(&str, &str, usize); 13] = [
     ("", "", 100),
 ];
 
-pub fn growths(random: &mut Random, asked: &mut Asked) {
-    let (is_small, text) = (random.below(2) == 0, random.text());
-    ask_growths(is_small, &text, asked);
-}
-
 /// Asks for each edit of a text of at most 100 characters, and for a character that is then appended.
 pub fn ask_growths(is_small: bool, text: &[u8], asked: &mut Asked) {
     let text = &text[..text.len().min(100)];
@@ -184,7 +169,7 @@ pub fn ask_growths(is_small: bool, text: &[u8], asked: &mut Asked) {
         let want = &mut asked.want;
         let start = want.bytes.len();
         put_growth(&edited, true, want);
-        want.fails(Needs::memory_if(text.len() > if is_small { INLINE } else { 0 }), start, Answer::failed);
+        want.fails(Needs::memory_if(text.len() > if is_small { INLINE } else { 0 }), start, Failed);
         let (needed, is_full) = (edited.len() + room, edited.len() >= INLINE);
         // The capacity of a string that has grown is not known.
         let (growth, last) = match is_small {
@@ -193,27 +178,14 @@ pub fn ask_growths(is_small: bool, text: &[u8], asked: &mut Asked) {
             true if text.len() <= INLINE => (Needs::Memory, Needs::Perhaps),
             true => (Needs::Perhaps, Needs::Perhaps),
         };
-        want.fails(growth, start, |want| {
-            want.flag(false);
-            want.text(text);
-            want.flag(true);
-            want.text([text, b"z"].concat());
-        });
-        want.fails(last, start, |want| put_growth(&edited, false, want));
+        want.fails(growth, start, (false, text, true, [text, b"z"].concat()));
+        want.fails_by(last, start, |want| put_growth(&edited, false, want));
     }
 }
 
 /// A string that was edited, and whether a character is appended.
 fn put_growth(edited: &[u8], is_appended: bool, want: &mut Answer) {
-    want.flag(true);
-    want.text(edited);
-    want.flag(is_appended);
-    want.text([edited, if is_appended { &b"z"[..] } else { b"" }].concat());
-}
-
-pub fn formatted(random: &mut Random, asked: &mut Asked) {
-    let (text, first, second) = (random.text(), random.short_text(), random.short_text());
-    ask_formatted(&text, &first, &second, asked);
+    want.put((true, edited, is_appended, [edited, if is_appended { &b"z"[..] } else { b"" }].concat()));
 }
 
 /// The pieces before the one that there is no memory for have been written.
@@ -227,27 +199,16 @@ pub fn ask_formatted(text: &[u8], first: &[u8], second: &[u8], asked: &mut Asked
         string.extend(piece);
     }
     let want = &mut asked.want;
-    want.flag(true);
-    want.text(&string);
-    want.fails(Needs::memory_if(!text.is_empty()), 0, Answer::failed);
+    want.put((true, &string));
+    want.fails(Needs::memory_if(!text.is_empty()), 0, Failed);
     for length in growths {
-        want.fails(Needs::Memory, 0, |want| {
-            want.flag(false);
-            want.text(&string[..length]);
-        });
+        want.fails(Needs::Memory, 0, (false, &string[..length]));
     }
-}
-
-pub fn both_runs(random: &mut Random, asked: &mut Asked) {
-    let source = random.text();
-    let count = random.count(12);
-    let commands = random_commands(&source, count, random);
-    ask_both_runs(&source, &commands, asked);
 }
 
 /// Asks for a run over a string and over an inline one. If there is no memory for a string or for a list of replies,
 /// nothing else is answered.
-pub fn ask_both_runs(source: &[u8], commands: &Commands, asked: &mut Asked) {
+pub fn ask_both_runs(source: &[u8], commands: &Steps, asked: &mut Asked) {
     calls::ask_both_runs(asked, source, &commands.texts, &commands.steps);
     let (string, small) = (Edited::new(source, false), Edited::new(source, true));
     let (lets_fail, want) = (asked.lets_fail, &mut asked.want);
@@ -258,15 +219,15 @@ pub fn ask_both_runs(source: &[u8], commands: &Commands, asked: &mut Asked) {
     let list = Needs::memory_if(!commands.steps.is_empty());
     let long = Needs::memory_if(source.len() > INLINE);
     for needs in [list, Needs::memory_if(!source.is_empty()), long, list] {
-        want.fails(needs, 0, Answer::failed);
+        want.fails(needs, 0, Failed);
     }
     if lets_fail {
         for (number, needs) in needs.iter().enumerate() {
-            want.fails(*needs, 0, |want| drop(run(number, usize::MAX, want)));
+            want.fails_by(*needs, 0, |want| drop(run(number, usize::MAX, want)));
         }
-        want.fails(list, 0, Answer::failed);
+        want.fails(list, 0, Failed);
         for (number, needs) in of_small.iter().enumerate() {
-            want.fails(*needs, 0, |want| drop(run(usize::MAX, number, want)));
+            want.fails_by(*needs, 0, |want| drop(run(usize::MAX, number, want)));
         }
     }
 }

@@ -1,34 +1,17 @@
 //! Runs of commands and capacities, by std's `Vec`.
 
 use super::slices::{bounds, non_ascii};
-use crate::asked::{items_of, Answer, Asked, Item, Needs};
-use crate::calls::{self, Step};
+use super::{long, Allocates, Kind};
+use crate::asked::{items_of, Answer, Asked, Failed, Item, Needs, NOTHING};
+use crate::calls::{self, Step, Steps};
 use crate::random::Random;
 
-/// Commands, in the order of `Cmd`, and the texts that they take.
-#[derive(Default)]
-pub struct Commands {
-    pub texts: Vec<u8>,
-    pub steps: Vec<Step>,
-}
-
-impl Commands {
-    /// Adds a command that takes a text.
-    pub fn add_text(&mut self, kind: u8, at: usize, text: &[u8]) {
-        let start = self.texts.len();
-        self.texts.extend(text);
-        self.steps.push(Step { kind, at, start, end: self.texts.len(), ..Step::default() });
-    }
-
-    pub fn add(&mut self, kind: u8, at: usize, code: u8) {
-        self.steps.push(Step { kind, at, code, ..Step::default() });
-    }
-
-    /// Adds a copy of the characters before a position.
-    pub fn copy_to(&mut self, end: usize) {
-        self.steps.push(Step { kind: 17, code: 2, end, ..Step::default() });
-    }
-}
+pub static KINDS: &[Kind] = &[
+    long("edits", 4, |random, asked| edits(false, random, asked)).allocating(),
+    long("edits of inline strings", 4, |random, asked| edits(true, random, asked)).allocating(),
+    long("capacities", 2, capacities).allocating(),
+    Kind { allocates: Allocates::Undeclared, ..long("capacities of inline strings", 4, small_capacities) },
+];
 
 /// A text to put in, mostly short.
 pub fn piece(random: &mut Random) -> Vec<u8> {
@@ -37,14 +20,6 @@ pub fn piece(random: &mut Random) -> Vec<u8> {
         piece.truncate(8);
     }
     piece
-}
-
-pub fn string(random: &mut Random, asked: &mut Asked) {
-    edits(false, random, asked);
-}
-
-pub fn small(random: &mut Random, asked: &mut Asked) {
-    edits(true, random, asked);
 }
 
 fn edits(is_small: bool, random: &mut Random, asked: &mut Asked) {
@@ -61,8 +36,8 @@ pub fn ask_edits(is_small: bool, source: Vec<u8>, count: usize, random: &mut Ran
 }
 
 /// A number of commands over a text.
-pub fn random_commands(source: &[u8], count: usize, random: &mut Random) -> Commands {
-    let (mut edited, mut commands) = (Edited::new(source, false), Commands::default());
+pub fn random_commands(source: &[u8], count: usize, random: &mut Random) -> Steps {
+    let (mut edited, mut commands) = (Edited::new(source, false), Steps::default());
     for _ in 0..count {
         match random.below(4) {
             0 => grow(random, &mut commands),
@@ -77,7 +52,7 @@ pub fn random_commands(source: &[u8], count: usize, random: &mut Random) -> Comm
 }
 
 /// Writes what commands over a text are answered, also if an allocation fails.
-pub fn expect(is_small: bool, source: &[u8], commands: &Commands, asked: &mut Asked) {
+pub fn expect(is_small: bool, source: &[u8], commands: &Steps, asked: &mut Asked) {
     let (new, start) = (Edited::new(source, is_small), asked.want.bytes.len());
     let needs = new.clone().run(commands, usize::MAX, &mut asked.want);
     if asked.lets_fail {
@@ -86,7 +61,7 @@ pub fn expect(is_small: bool, source: &[u8], commands: &Commands, asked: &mut As
 }
 
 /// Writes what is answered if an allocation fails, to a question whose other answer is from a table.
-pub fn expect_failures(is_small: bool, source: &[u8], commands: &Commands, asked: &mut Asked) {
+pub fn expect_failures(is_small: bool, source: &[u8], commands: &Steps, asked: &mut Asked) {
     if asked.lets_fail {
         let (new, mut modelled) = (Edited::new(source, is_small), Answer::default());
         let needs = new.clone().run(commands, usize::MAX, &mut modelled);
@@ -96,17 +71,14 @@ pub fn expect_failures(is_small: bool, source: &[u8], commands: &Commands, asked
 }
 
 /// The allocations are that for the list of commands, for the string, for the replies, and for each of the commands.
-fn edits_fail(new: &Edited, start: usize, commands: &Commands, needs: &[Needs], want: &mut Answer) {
+fn edits_fail(new: &Edited, start: usize, commands: &Steps, needs: &[Needs], want: &mut Answer) {
     let list = Needs::memory_if(!commands.steps.is_empty());
-    want.fails(list, start, Answer::failed);
+    want.fails(list, start, Failed);
     let is_allocated = new.text.len() > if new.is_small { INLINE } else { 0 };
-    want.fails(Needs::memory_if(is_allocated), start, Answer::failed);
-    want.fails(list, start, |want| {
-        want.failed();
-        want.text(&new.text);
-    });
+    want.fails(Needs::memory_if(is_allocated), start, Failed);
+    want.fails(list, start, (Failed, &new.text));
     for (number, needs) in needs.iter().enumerate() {
-        want.fails(*needs, start, |want| {
+        want.fails_by(*needs, start, |want| {
             new.clone().run(commands, number, want);
         });
     }
@@ -145,10 +117,10 @@ impl Edited {
 
     /// Carries out commands, of which the one with the number `fails` has no memory, and writes the replies and the
     /// text after them. Returns what each command needs.
-    pub fn run(mut self, commands: &Commands, fails: usize, want: &mut Answer) -> Vec<Needs> {
+    pub fn run(mut self, commands: &Steps, fails: usize, want: &mut Answer) -> Vec<Needs> {
         let answer = |(number, step): (usize, &Step)| self.answer(step, &commands.texts, number == fails, want);
         let needs = commands.steps.iter().enumerate().map(answer).collect();
-        want.text(self.text);
+        want.put(self.text);
         needs
     }
 
@@ -157,7 +129,7 @@ impl Edited {
         let (at, length) = (step.at, self.text.len());
         let piece = texts.get(step.start..step.end).unwrap_or_default();
         match step.kind {
-            2 | 3 if at > length => want.text("position"),
+            2 | 3 if at > length => want.put("position"),
             0 => return self.insert(length, &[step.code], true, fails, want),
             1 => return self.insert(length, piece, false, fails, want),
             2 => return self.insert(at, &[step.code], false, fails, want),
@@ -175,22 +147,22 @@ impl Edited {
         let (at, text) = (step.at, &mut self.text);
         let code = |byte: Option<u8>| byte.map(usize::from);
         match step.kind {
-            4 if at < text.len() => want.number(text.remove(at).into()),
+            4 if at < text.len() => want.put(text.remove(at)),
             8 if at < text.len() => text[at] = step.code,
-            4 | 8 => return want.text("position"),
-            5 => want.position(code(text.pop())),
+            4 | 8 => return want.put("position"),
+            5 => want.put(code(text.pop())),
             6 => text.truncate(at),
             7 => text.clear(),
             9 => text.make_ascii_uppercase(),
             10 => text.make_ascii_lowercase(),
-            13 => want.number(text.len()),
-            14 => want.position(code(text.first().copied())),
-            15 => want.position(code(text.last().copied())),
-            16 => want.position(code(text.get(at).copied())),
-            _ => want.flag(text.eq_ignore_ascii_case(piece)),
+            13 => want.put(text.len()),
+            14 => want.put(code(text.first().copied())),
+            15 => want.put(code(text.last().copied())),
+            16 => want.put(code(text.get(at).copied())),
+            _ => want.put(text.eq_ignore_ascii_case(piece)),
         }
         if matches!(step.kind, 6..=10) {
-            want.text("done");
+            want.put("done");
         }
     }
 
@@ -210,7 +182,7 @@ impl Edited {
     fn insert(&mut self, at: usize, piece: &[u8], is_pushed: bool, fails: bool, want: &mut Answer) -> Needs {
         let needs = self.needs_for(piece.len());
         if fails {
-            want.text("memory");
+            want.put("memory");
             return needs;
         }
         // A string that has no capacity asks for this one at its first character.
@@ -220,7 +192,7 @@ impl Edited {
         self.text.reserve(piece.len());
         self.text.splice(at..at, piece.iter().copied());
         self.keep_room(0);
-        want.text("done");
+        want.put("done");
         needs
     }
 
@@ -232,7 +204,7 @@ impl Edited {
 
     fn reserve(&mut self, additional: usize, is_exact: bool, fails: bool, want: &mut Answer) -> Needs {
         if self.text.len().checked_add(additional).is_none() {
-            want.text("many");
+            want.put("many");
             return Needs::Nothing;
         }
         let (needs, text) = (self.needs_for(additional), &mut self.text);
@@ -241,14 +213,14 @@ impl Edited {
         if is_done {
             self.keep_room(additional);
         }
-        want.text(if is_done { "done" } else { "memory" });
+        want.put(if is_done { "done" } else { "memory" });
         needs
     }
 
     fn shrink(&mut self, fails: bool, want: &mut Answer) -> Needs {
         // An inline string is not shrunk.
         let needs = Needs::memory_if(!self.is_small && !self.text.is_empty() && self.text.len() < self.room);
-        want.text(if fails { "memory" } else { "done" });
+        want.put(if fails { "memory" } else { "done" });
         if !fails && !self.is_small {
             self.text.shrink_to_fit();
             self.keep_room(0);
@@ -257,80 +229,63 @@ impl Edited {
     }
 
     fn copy(&self, step: &Step, fails: bool, want: &mut Answer) -> Needs {
-        let part =
-            bounds(step.code.into(), step.start, step.end, self.text.len()).map(|(start, end)| &self.text[start..end]);
+        let part = bounds(step.code.into(), step.start, step.end, self.text.len()).map(|(start, end)| &self.text[start..end]);
         match part {
             Some(part) if non_ascii(part).is_none() => {
-                want.text(if fails { b"memory" } else { part });
+                want.put(if fails { b"memory" } else { part });
                 Needs::memory_if(!part.is_empty())
             }
             _ => {
-                want.fault("ascii", self.text.len());
+                want.put(("ascii", self.text.len()));
                 Needs::Nothing
             }
         }
     }
 }
 
-fn grow(random: &mut Random, commands: &mut Commands) {
+fn grow(random: &mut Random, commands: &mut Steps) {
     match random.below(4) {
-        0 => {
-            let code = random.code_of(b"");
-            commands.add(0, 0, code);
-        }
-        1 => {
-            let piece = piece(random);
-            commands.add_text(1, 0, &piece);
-        }
+        0 => commands.add(0, 0, random.code_of(b"")),
+        1 => commands.add_text(1, 0, &piece(random)),
         2 => commands.add(12, 0, 0),
-        _ => {
-            let n = if random.below(8) == 0 { usize::MAX - random.below(40) } else { random.count(300) };
-            commands.add(11, n, 0);
-        }
+        _ if random.below(8) == 0 => commands.add(11, usize::MAX - random.below(40), 0),
+        _ => commands.add(11, random.count(300), 0),
     }
 }
 
-fn insert(random: &mut Random, text: &[u8], commands: &mut Commands) {
+fn insert(random: &mut Random, text: &[u8], commands: &mut Steps) {
     let at = random.place(text.len());
     if random.below(2) == 0 {
-        let code = random.code_of(b"");
-        commands.add(2, at, code);
+        commands.add(2, at, random.code_of(b""));
     } else {
-        let piece = piece(random);
-        commands.add_text(3, at, &piece);
+        commands.add_text(3, at, &piece(random));
     }
 }
 
-fn place(random: &mut Random, text: &[u8], commands: &mut Commands) {
+fn place(random: &mut Random, text: &[u8], commands: &mut Steps) {
     let at = random.place(text.len());
     match random.below(4) {
         0 => commands.add(4, at, 0),
-        1 => {
-            let code = random.code_of(b"");
-            commands.add(8, at, code);
-        }
+        1 => commands.add(8, at, random.code_of(b"")),
         2 => commands.add(6, at, 0),
         _ => commands.add(16, at, 0),
     }
 }
 
-fn ask(random: &mut Random, text: &[u8], commands: &mut Commands) {
+fn ask(random: &mut Random, text: &[u8], commands: &mut Steps) {
     match *random.pick(&[5, 5, 7, 9, 10, 13, 14, 15, 17, 17, 18, 18]) {
         17 => {
             let form = random.below(6);
             let (start, end) = random.places(text.len());
             commands.steps.push(Step { kind: 17, code: form as u8, start, end, at: 0 });
         }
-        18 => {
-            let other = random.other(text);
-            commands.add_text(18, 0, &other);
-        }
+        18 => commands.add_text(18, 0, &random.other(text)),
         kind => commands.add(kind, 0, 0),
     }
 }
 
 /// A command that changes a capacity, of a list of their numbers; 20 and 21 reserve more than there can be.
-fn resize(random: &mut Random, kinds: &[u8], commands: &mut Commands) {
+fn resize(random: &mut Random, kinds: &[u8], commands: &mut Steps) {
     let kind = *random.pick(kinds);
     let room = random.room();
     match kind {
@@ -338,16 +293,15 @@ fn resize(random: &mut Random, kinds: &[u8], commands: &mut Commands) {
         1 => commands.add_text(1, 0, &vec![b'x'; room]),
         5 | 7 | 12 => commands.add(kind, 0, 0),
         6 => commands.add(6, room, 0),
-        _ => {
-            let n = if kind >= 20 { usize::MAX - 20 * random.below(3) } else { room };
-            commands.add(if kind == 19 || kind == 21 { 19 } else { 11 }, n, 0);
-        }
+        11 | 19 => commands.add(kind, room, 0),
+        20 => commands.add(11, usize::MAX - 20 * random.below(3), 0),
+        _ => commands.add(19, usize::MAX - 20 * random.below(3), 0),
     }
 }
 
 pub fn capacities(random: &mut Random, asked: &mut Asked) {
     let capacity = Vec::<u8>::with_capacity(random.room()).capacity();
-    let mut commands = Commands::default();
+    let mut commands = Steps::default();
     for _ in 0..random.count(20) {
         resize(random, &[0, 1, 5, 6, 7, 11, 12, 19, 20, 21], &mut commands);
     }
@@ -355,19 +309,19 @@ pub fn capacities(random: &mut Random, asked: &mut Asked) {
 }
 
 /// Asks for the capacity of an empty string, and for that after each command.
-pub fn ask_capacities(capacity: usize, commands: &Commands, asked: &mut Asked) {
+pub fn ask_capacities(capacity: usize, commands: &Steps, asked: &mut Asked) {
     calls::ask_capacities(asked, capacity, &commands.texts, &commands.steps);
     let lets_fail = asked.lets_fail;
     let want = &mut asked.want;
     let start = want.bytes.len();
     let needs = put_capacities(capacity, commands, None, want);
-    want.fails(Needs::memory_if(capacity > 0), start, Answer::failed);
+    want.fails(Needs::memory_if(capacity > 0), start, Failed);
     if lets_fail {
         for (number, (step, needs)) in commands.steps.iter().zip(needs).enumerate() {
             // The reply is in a list, but not the result of an exact reservation.
             let list = Needs::memory_if(step.kind != 19);
             for (needs, is_list) in [(list, true), (needs, false)] {
-                want.fails(needs, start, |want| {
+                want.fails_by(needs, start, |want| {
                     put_capacities(capacity, commands, Some((number, is_list)), want);
                 });
             }
@@ -377,17 +331,17 @@ pub fn ask_capacities(capacity: usize, commands: &Commands, asked: &mut Asked) {
 
 /// Writes the capacities and the replies. Of the command number `fails` there is no memory for the reply, if it is for
 /// the list, or for the string.
-fn put_capacities(capacity: usize, commands: &Commands, fails: Option<(usize, bool)>, want: &mut Answer) -> Vec<Needs> {
+fn put_capacities(capacity: usize, commands: &Steps, fails: Option<(usize, bool)>, want: &mut Answer) -> Vec<Needs> {
     let mut string = Edited::with_capacity(capacity);
-    want.number(string.text.capacity());
+    want.put(string.text.capacity());
     let mut needs = Vec::new();
     for (number, step) in commands.steps.iter().enumerate() {
         if fails == Some((number, true)) {
-            want.failed();
+            want.put(Failed);
         } else {
             needs.push(string.answer(step, &commands.texts, fails == Some((number, false)), want));
         }
-        want.number(string.text.capacity());
+        want.put(string.text.capacity());
     }
     needs
 }
@@ -396,20 +350,20 @@ fn put_capacities(capacity: usize, commands: &Commands, fails: Option<(usize, bo
 /// by a command that fits in it, and is otherwise enough for the command; a shrunk one is enough for the text.
 pub fn small_capacities(random: &mut Random, asked: &mut Asked) {
     let source = vec![b'x'; random.room() % (INLINE + 3)];
-    let (mut string, mut commands, mut want) = (Edited::new(&source, true), Commands::default(), Answer::default());
-    want.flag(source.len() <= INLINE);
+    let (mut string, mut commands, mut want) = (Edited::new(&source, true), Steps::default(), Answer::default());
+    want.put(source.len() <= INLINE);
     // The room that each command needs, or `None` for a shrunk string.
     let mut needs = vec![Some(source.len())];
     for _ in 0..random.count(20) {
-        want.number(0);
+        want.put(0);
         resize(random, &[0, 1, 5, 6, 7, 11, 12, 20], &mut commands);
         let step = commands.steps.last().expect("a command");
         string.answer(step, &commands.texts, false, &mut want);
         let reserved = if step.kind == 11 && step.at <= isize::MAX as usize { step.at } else { 0 };
         needs.push((step.kind != 12).then_some(string.text.len() + reserved));
-        want.flag(string.room <= INLINE);
+        want.put(string.room <= INLINE);
     }
-    want.number(0);
+    want.put(0);
     calls::ask_small_capacities(asked, &source, &commands.texts, &commands.steps);
     asked.want = want;
     expect_promised(asked, &needs);
@@ -429,13 +383,13 @@ fn expect_promised(asked: &mut Asked, needs: &[Option<usize>]) {
                     Some(Some(need)) => new >= *need,
                     _ => new <= old.unwrap_or(0).max(INLINE),
                 };
-                answer.number(if is_promised { new } else { usize::MAX });
+                answer.put(if is_promised { new } else { usize::MAX });
                 old = Some(new);
             }
-            (Item::Number(number), _) => answer.number(number as usize),
-            (Item::Text(text), _) => answer.text(text),
-            (Item::Flag(holds), _) => answer.flag(holds),
-            _ => answer.none(),
+            (Item::Number(number), _) => answer.put(number as usize),
+            (Item::Text(text), _) => answer.put(text),
+            (Item::Flag(holds), _) => answer.put(holds),
+            _ => answer.put(NOTHING),
         }
     }
     asked.want = answer;

@@ -1,13 +1,44 @@
 //! The modes of both engines, by plain loops.
 
-use super::edits::Commands;
 use super::json_values::{json_codes, quoted};
 use super::lines::{long_source, slow};
 use super::slices::non_ascii;
-use super::walks::{ending, lines_of, take};
-use crate::asked::{items_of, Answer, Asked, Item, Needs};
-use crate::calls::{self, Device, WHOLE};
+use super::walks::{lines_of, take};
+use super::{allocating, long, Kind};
+use crate::asked::{items_of, Answer, Asked, Failed, Fault, Item, Needs};
+use crate::calls::{self, Device, Steps, WHOLE};
 use crate::random::Random;
+
+pub static KINDS: &[Kind] = &[
+    allocating("modes of the engine", |random, asked| {
+        let (mode, source, script) = (random.below(7), random.bytes(), random.script(2));
+        let (reads, writes) = (slow(random), slow(random));
+        calls::ask_engine(asked, mode as u8, &script, &source, &reads, &writes);
+        asked.want.put(expected(mode, &source, &script));
+    }),
+    long("modes of the bounded engine", 8, |random, asked| {
+        let (mode, source) = (random.below(BOUNDED), random.bytes());
+        let (reads, writes) = (slow(random), slow(random));
+        calls::ask_bounded_engine(asked, mode as u8, &source, &reads, &writes);
+        asked.want.put(expected_bounded(mode, &source));
+    })
+    .allocating(),
+    long("engines that fail", 8, failing).allocating(),
+    long("the engine over long inputs", 16_384, |random, asked| {
+        let (mode, source, script) = (random.below(7), long_source(random), random.script(2));
+        let (reads, writes) = long_devices(random);
+        calls::ask_engine(asked, mode as u8, &script, &source, &reads, &writes);
+        asked.want.put(expected(mode, &source, &script));
+    })
+    .allocating(),
+    long("the bounded engine over long inputs", 65_536, |random, asked| {
+        let (mode, source) = (random.below(BOUNDED), long_source(random));
+        let (reads, writes) = long_devices(random);
+        calls::ask_bounded_engine(asked, mode as u8, &source, &reads, &writes);
+        asked.want.put(expected_bounded(mode, &source));
+    })
+    .allocating(),
+];
 
 fn caret(bytes: &[u8]) -> Vec<u8> {
     let mut out = Vec::new();
@@ -27,7 +58,7 @@ fn bodies(text: &[u8], is_backward: bool) -> Vec<u8> {
     if is_backward {
         lines.reverse();
     }
-    lines.iter().flat_map(|line| [&text[line.start..line.end], b"\n"].concat()).collect()
+    lines.iter().flat_map(|line| [line.text, b"\n"].concat()).collect()
 }
 
 fn ends(text: &[u8], script: &[u8], with_starts: bool) -> Vec<u8> {
@@ -38,9 +69,9 @@ fn ends(text: &[u8], script: &[u8], with_starts: bool) -> Vec<u8> {
             Some(line) => {
                 out.push(b'+');
                 if with_starts {
-                    out.extend(format!("{} {} ", line.start, ending(line)).bytes());
+                    out.extend(format!("{} {} ", line.start, line.ending()).bytes());
                 }
-                out.extend(&text[line.start..line.end]);
+                out.extend(line.text);
             }
             None => out.push(b'-'),
         }
@@ -63,24 +94,11 @@ pub fn output(mode: usize, text: &[u8], script: &[u8]) -> Vec<u8> {
 }
 
 /// What the engine is expected to return, and to write.
-pub fn expect(mode: usize, source: &[u8], script: &[u8], want: &mut Answer) {
+pub fn expected(mode: usize, source: &[u8], script: &[u8]) -> (Fault, Vec<u8>) {
     match non_ascii(source) {
-        Some(at) => {
-            want.fault("ascii", at);
-            want.text("");
-        }
-        None => {
-            want.text("done");
-            want.text(output(mode, source, script));
-        }
+        Some(at) => (Fault("ascii", Some(at)), Vec::new()),
+        None => (Fault("done", None), output(mode, source, script)),
     }
-}
-
-pub fn engine(random: &mut Random, asked: &mut Asked) {
-    let (mode, source, script) = (random.below(7), random.bytes(), random.script(2));
-    let (reads, writes) = (slow(random), slow(random));
-    calls::ask_engine(asked, mode as u8, &script, &source, &reads, &writes);
-    expect(mode, &source, &script, &mut asked.want);
 }
 
 /// The number of modes of the bounded engine. The last two take all bytes.
@@ -106,20 +124,11 @@ pub fn bounded_output(mode: usize, text: &[u8], is_whole: bool) -> Vec<u8> {
     }
 }
 
-pub fn expect_bounded(mode: usize, source: &[u8], want: &mut Answer) {
+/// What the bounded engine is expected to return, how many reads and writes have failed, and what it writes.
+pub fn expected_bounded(mode: usize, source: &[u8]) -> (Fault, usize, usize, Vec<u8>) {
     let at = non_ascii(source).filter(|_| !takes_all(mode));
-    match at {
-        Some(at) => want.fault("ascii", at),
-        None => want.text("done"),
-    }
-    put_failures(0, 0, want);
-    want.text(bounded_output(mode, &source[..at.unwrap_or(source.len())], at.is_none()));
-}
-
-/// How many reads and writes have failed.
-pub fn put_failures(reads: usize, writes: usize, want: &mut Answer) {
-    want.number(reads);
-    want.number(writes);
+    let result = at.map_or(Fault("done", None), |at| Fault("ascii", Some(at)));
+    (result, 0, 0, bounded_output(mode, &source[..at.unwrap_or(source.len())], at.is_none()))
 }
 
 /// A run of the engine: what it writes, or why it stops and what was written before.
@@ -143,43 +152,41 @@ fn put_runs(runs: [Run<'_>; 2], most: usize, want: &mut Answer) {
             written.extend(part);
         };
         match run {
-            Run::Writes(part) => write(part),
+            Run::Writes(part) => {
+                write(part);
+                want.put("done");
+            }
             Run::FailsToWrite(part) => {
                 write(part);
+                want.put("write");
                 failures.1 += 1;
             }
-            Run::FailsToRead => failures.0 += 1,
-            Run::Rejects(..) | Run::Memory => (),
+            Run::FailsToRead => {
+                want.put("read");
+                failures.0 += 1;
+            }
+            Run::Rejects(name, position) => want.put((name, position)),
+            Run::Memory => want.put(Failed),
         }
-        match run {
-            Run::Writes(_) => want.text("done"),
-            Run::FailsToWrite(_) => want.text("write"),
-            Run::FailsToRead => want.text("read"),
-            Run::Rejects(name, position) => want.fault(name, position),
-            Run::Memory => want.failed(),
-        }
-        put_failures(failures.0, failures.1, want);
+        want.put(failures);
     }
-    want.number(calls);
-    want.text(written);
+    want.put((calls, written));
 }
 
-/// The number of lists that a question about runs passes, a script or commands, if it is not empty.
-pub fn lists_of(script: &[u8], commands: &Commands) -> usize {
-    usize::from(!script.is_empty()) + usize::from(!commands.steps.is_empty())
-}
+/// A mode by its number, and the script or the commands that it takes.
+pub type Mode<'a> = (u8, &'a [u8], &'a Steps);
 
 /// Asks for two runs over the same devices. With the mode 7 it carries out commands.
 pub fn ask_runs(
-    (mode, script, commands): (u8, &[u8], &Commands),
+    mode @ (number, script, commands): Mode<'_>,
     source: &[u8],
     (reads, writes): (&Device, &Device),
     runs: [Run<'_>; 2],
     asked: &mut Asked,
 ) {
-    calls::ask_engine_runs(asked, mode, script, &commands.texts, &commands.steps, source, reads, writes);
+    calls::ask_engine_runs(asked, number, script, &commands.texts, &commands.steps, source, reads, writes);
     put_runs(runs, writes.most, &mut asked.want);
-    runs_fail(lists_of(script, commands), source, (reads, writes), runs, &mut asked.want);
+    runs_fail(mode, source, (reads, writes), runs, &mut asked.want);
 }
 
 /// How much the engine reads at once.
@@ -188,7 +195,7 @@ const CHUNK: usize = 32_768;
 /// If an allocation fails, that run writes nothing. The other one is over all of the text if nothing was read, and
 /// otherwise over its end, if one read moves the text.
 pub fn runs_fail(
-    lists: usize,
+    (_, script, commands): Mode<'_>,
     source: &[u8],
     (reads, writes): (&Device, &Device),
     [first, second]: [Run<'_>; 2],
@@ -199,17 +206,10 @@ pub fn runs_fail(
         want.has_other_failures = true;
         return;
     }
-    want.fails(Needs::memory_if(lists > 0), 0, Answer::failed);
-    want.fails(Needs::Memory, 0, |want| put_runs([Run::Memory, first], writes.most, want));
-    want.fails(Needs::Perhaps, 0, |want| put_runs([Run::Memory, second], writes.most, want));
-    want.fails(Needs::Memory, 0, |want| put_runs([first, Run::Memory], writes.most, want));
-}
-
-pub fn bounded(random: &mut Random, asked: &mut Asked) {
-    let (mode, source) = (random.below(BOUNDED), random.bytes());
-    let (reads, writes) = (slow(random), slow(random));
-    calls::ask_bounded_engine(asked, mode as u8, &source, &reads, &writes);
-    expect_bounded(mode, &source, &mut asked.want);
+    want.fails(Needs::memory_if(!script.is_empty() || !commands.steps.is_empty()), 0, Failed);
+    want.fails_by(Needs::Memory, 0, |want| put_runs([Run::Memory, first], writes.most, want));
+    want.fails_by(Needs::Perhaps, 0, |want| put_runs([Run::Memory, second], writes.most, want));
+    want.fails_by(Needs::Memory, 0, |want| put_runs([first, Run::Memory], writes.most, want));
 }
 
 /// Devices of which one fails: the answer is its error and a prefix of the output, which is empty if `engine` could
@@ -224,10 +224,10 @@ pub fn failing(random: &mut Random, asked: &mut Asked) {
     let (reads, writes) = if is_read { (device, WHOLE) } else { (WHOLE, device) };
     if is_bounded {
         calls::ask_bounded_engine(asked, mode as u8, &source, &reads, &writes);
-        expect_bounded(mode, &source, &mut asked.want);
+        asked.want.put(expected_bounded(mode, &source));
     } else {
         calls::ask_engine(asked, mode as u8, &[0, 1, 1], &source, &reads, &writes);
-        expect(mode, &source, &[0, 1, 1], &mut asked.want);
+        asked.want.put(expected(mode, &source, &[0, 1, 1]));
     }
     let whole = items_of(&asked.want.bytes);
     let (Some(Item::Text(all)), Some(Item::Text(out))) = (whole.last(), items_of(asked.got()).pop()) else { return };
@@ -238,31 +238,17 @@ pub fn failing(random: &mut Random, asked: &mut Asked) {
         return;
     }
     asked.want = Answer::default();
-    asked.want.text(if is_read { "read" } else { "write" });
+    asked.want.put(if is_read { "read" } else { "write" });
     if is_bounded {
-        put_failures(usize::from(is_read), usize::from(!is_read), &mut asked.want);
+        asked.want.put((usize::from(is_read), usize::from(!is_read)));
     }
     if is_read && is_bounded {
         let given = source.len().min(device.most.saturating_mul(device.fails as usize));
-        asked.want.text(bounded_output(mode, &source[..given], false));
+        asked.want.put(bounded_output(mode, &source[..given], false));
         return;
     }
     let may_write = if is_read { out.is_empty() } else { all.starts_with(&out) };
-    asked.want.text(if may_write { &out } else { &b"another prefix"[..] });
-}
-
-pub fn long_inputs(random: &mut Random, asked: &mut Asked) {
-    let (mode, source, script) = (random.below(7), long_source(random), random.script(2));
-    let (reads, writes) = long_devices(random);
-    calls::ask_engine(asked, mode as u8, &script, &source, &reads, &writes);
-    expect(mode, &source, &script, &mut asked.want);
-}
-
-pub fn long_bounded(random: &mut Random, asked: &mut Asked) {
-    let (mode, source) = (random.below(BOUNDED), long_source(random));
-    let (reads, writes) = long_devices(random);
-    calls::ask_bounded_engine(asked, mode as u8, &source, &reads, &writes);
-    expect_bounded(mode, &source, &mut asked.want);
+    asked.want.put(if may_write { &out } else { &b"another prefix"[..] });
 }
 
 fn long_devices(random: &mut Random) -> (Device, Device) {

@@ -1,9 +1,19 @@
 //! Texts and characters as JSON values, by plain loops.
 
 use super::characters::codes;
-use crate::asked::{Answer, Asked, Needs};
+use super::{allocating, Kind};
+use crate::asked::{Asked, Failed, Needs};
 use crate::calls;
-use crate::random::Random;
+
+pub static KINDS: &[Kind] = &[
+    allocating("JSON texts", |random, asked| ask_json(&random.text(), asked)),
+    // A value that is a string, written as JSON, whose text may have a code above 127.
+    allocating("JSON values", |random, asked| {
+        let text = String::from_utf8(random.unicode()).expect("UTF-8");
+        ask_json_value(&quoted(text.as_bytes()), Some(&text), asked);
+    }),
+    allocating("JSON characters", |random, asked| ask_json_characters(&codes(random, 128), asked)),
+];
 
 /// The codes of a JSON string, without its quotes.
 pub fn json_codes(bytes: &[u8]) -> Vec<u8> {
@@ -28,27 +38,17 @@ pub fn quoted(bytes: &[u8]) -> Vec<u8> {
     [b"\"".as_slice(), &json_codes(bytes), b"\""].concat()
 }
 
-pub fn texts(random: &mut Random, asked: &mut Asked) {
-    ask_json(&random.text(), asked);
-}
-
 /// The JSON text of a view and the string read back, and the text of a string's value.
 pub fn ask_json(text: &[u8], asked: &mut Asked) {
     calls::ask_json(asked, text);
     let (want, some) = (&mut asked.want, Needs::memory_if(!text.is_empty()));
-    want.text(quoted(text));
+    want.put(quoted(text));
     let after = want.bytes.len();
-    want.text(text);
-    want.fails(some, 0, Answer::failed);
-    want.fails_in(Needs::Memory, 0..after, Answer::failed);
-    want.fails(some, after, Answer::failed);
+    want.put(text);
+    want.fails(some, 0, Failed);
+    want.fails_in(Needs::Memory, 0..after, |want| want.put(Failed));
+    want.fails(some, after, Failed);
     want.copy(text);
-}
-
-/// A value that is a string, written as JSON, whose text may have a code above 127.
-pub fn values(random: &mut Random, asked: &mut Asked) {
-    let text = String::from_utf8(random.unicode()).expect("UTF-8");
-    ask_json_value(&quoted(text.as_bytes()), Some(&text), asked);
 }
 
 /// The text, its copy and the character that a JSON value has: of a string its text, and otherwise `None`.
@@ -56,30 +56,26 @@ pub fn ask_json_value(source: &[u8], text: Option<&str>, asked: &mut Asked) {
     calls::ask_json_value(asked, source);
     let want = &mut asked.want;
     let Some(text) = text else {
-        (0..3).for_each(|_| want.text("text"));
+        want.times(3, "text");
         // A list is in an allocation, and a number is not.
-        return want.fails(Needs::Perhaps, 0, Answer::failed);
+        return want.fails(Needs::Perhaps, 0, Failed);
     };
     let (non_ascii, mut ends) = (text.bytes().position(|byte| !byte.is_ascii()), [0; 2]);
     for end in &mut ends {
         match non_ascii {
-            Some(at) => want.fault("ascii", at),
-            None => want.text(text),
+            Some(at) => want.put(("ascii", at)),
+            None => want.put(text),
         }
         *end = want.bytes.len();
     }
     match text.as_bytes() {
-        [code] => want.number(usize::from(*code)),
-        _ => want.text("byte"),
+        [code] => want.put(*code),
+        _ => want.put("byte"),
     }
     // The value, and the copy of its text.
     let some = Needs::memory_if(!text.is_empty());
-    want.fails(some, 0, Answer::failed);
-    want.fails_in(if non_ascii.is_none() { some } else { Needs::Nothing }, ends[0]..ends[1], Answer::failed);
-}
-
-pub fn characters(random: &mut Random, asked: &mut Asked) {
-    ask_json_characters(&codes(random, 128), asked);
+    want.fails(some, 0, Failed);
+    want.fails_in(if non_ascii.is_none() { some } else { Needs::Nothing }, ends[0]..ends[1], |want| want.put(Failed));
 }
 
 pub fn ask_json_characters(codes: &[u8], asked: &mut Asked) {
@@ -87,10 +83,10 @@ pub fn ask_json_characters(codes: &[u8], asked: &mut Asked) {
     let want = &mut asked.want;
     for code in codes {
         let start = want.bytes.len();
-        want.text(quoted(&[*code]));
+        want.put(quoted(&[*code]));
         let printed = want.bytes.len();
-        want.number(usize::from(*code));
-        want.fails(Needs::Memory, start, Answer::failed);
-        want.fails_in(Needs::Memory, start..printed, Answer::failed);
+        want.put(*code);
+        want.fails(Needs::Memory, start, Failed);
+        want.fails_in(Needs::Memory, start..printed, |want| want.put(Failed));
     }
 }

@@ -1,9 +1,52 @@
 //! Lines that are read and written, by plain loops.
 
-use crate::asked::{items_of, Answer, Asked, Item, Needs};
+use super::{allocating, long, Kind};
+use crate::asked::{items_of, Answer, Asked, Failed, Fault, Item, Needs};
 use crate::calls::{self, Device, Step, WHOLE};
-use crate::line_model::{put_line, put_stop, Model};
+use crate::line_model::{Model, Stop};
 use crate::random::Random;
+
+pub static KINDS: &[Kind] = &[
+    allocating("lines of a reader", |random, asked| {
+        let (source, size) = source_and_size(random);
+        let (endings, device, is_ascii) = (random.below(3) as u8, slow(random), random.below(2) == 0);
+        ask_lines(&source, size, endings, device, is_ascii, asked);
+    }),
+    allocating("steps of a reader", |random, asked| {
+        let (source, size) = source_and_size(random);
+        let device = slow(random);
+        let steps = mixed_steps(random, size);
+        ask_steps(&mut Model::new(&source, size), &source, size, device, &steps, asked);
+    }),
+    // A source that gives one byte a call fails before the byte whose number the call has.
+    allocating("a reader that fails", |random, asked| {
+        let (source, size) = source_and_size(random);
+        let (steps, fails) = (mixed_steps(random, size), random.place(source.len()));
+        let device = Device { most: 1, fails: fails as u64, ..WHOLE };
+        ask_steps(&mut Model::failing(&source, size, fails), &source, size, device, &steps, asked);
+    }),
+    allocating("collected lines", |random, asked| {
+        let (source, size) = source_and_size(random);
+        let device = slow(random);
+        ask_collected(&mut Model::new(&source, size), &source, size, device, asked);
+    }),
+    allocating("blocks of lines", |random, asked| {
+        let (source, size) = source_and_size(random);
+        let (device, most) = (slow(random), random.count(6));
+        ask_block(&mut Model::new(&source, size), &source, size, device, most, asked);
+    }),
+    allocating("written lines", written),
+    allocating("a writer that fails", failing_writer),
+    allocating("conversations", conversations),
+    long("lines of long inputs", 8192, |random, asked| {
+        let source = long_source(random);
+        let size = *random.pick(&[32_768, 65_535, 65_536, 65_537, 131_072, 131_073, 1 << 20]);
+        let (endings, device) =
+            (random.below(3) as u8, if random.below(2) == 0 { WHOLE } else { Device { most: 4093, ..WHOLE } });
+        ask_lines(&source, size, endings, device, true, asked);
+    })
+    .allocating(),
+];
 
 /// A source of lines whose bodies are up to 300 codes, and a buffer.
 fn source_and_size(random: &mut Random) -> (Vec<u8>, usize) {
@@ -38,22 +81,15 @@ pub fn ask_steps(model: &mut Model<'_>, source: &[u8], size: usize, device: Devi
     calls::ask_reader(asked, source, size, &device, steps);
     model.run(steps, &mut asked.want);
     let calls = asked.got().last_chunk().map_or(0, |calls| u64::from_le_bytes(*calls) as usize);
-    asked.want.number(if device.most == 1 { model.calls } else { calls });
+    asked.want.put(if device.most == 1 { model.calls } else { calls });
 }
 
 /// Asks for lines to the end and beyond, as text or as bytes.
 pub fn ask_lines(source: &[u8], size: usize, endings: u8, device: Device, is_ascii: bool, asked: &mut Asked) {
     let lines = source.iter().filter(|byte| **byte == b'\n').count() + 4;
     let next = Step { kind: if is_ascii { 0 } else { 5 }, ..Step::default() };
-    let steps: Vec<Step> =
-        [Step { kind: 1 + endings, ..next }].into_iter().chain(std::iter::repeat_n(next, lines)).collect();
+    let steps: Vec<Step> = [Step { kind: 1 + endings, ..next }].into_iter().chain(std::iter::repeat_n(next, lines)).collect();
     ask_steps(&mut Model::new(source, size), source, size, device, &steps, asked);
-}
-
-pub fn reader(random: &mut Random, asked: &mut Asked) {
-    let (source, size) = source_and_size(random);
-    let (endings, device, is_ascii) = (random.below(3) as u8, slow(random), random.below(2) == 0);
-    ask_lines(&source, size, endings, device, is_ascii, asked);
 }
 
 /// Lines, parts, endings and skipped lines, in any order, also after an error.
@@ -79,27 +115,6 @@ impl Random {
     }
 }
 
-pub fn steps(random: &mut Random, asked: &mut Asked) {
-    let (source, size) = source_and_size(random);
-    let device = slow(random);
-    let steps = mixed_steps(random, size);
-    ask_steps(&mut Model::new(&source, size), &source, size, device, &steps, asked);
-}
-
-/// A source that gives one byte a call fails before the byte whose number the call has.
-pub fn failing_reader(random: &mut Random, asked: &mut Asked) {
-    let (source, size) = source_and_size(random);
-    let (steps, fails) = (mixed_steps(random, size), random.place(source.len()));
-    let device = Device { most: 1, fails: fails as u64, ..WHOLE };
-    ask_steps(&mut Model::failing(&source, size, fails), &source, size, device, &steps, asked);
-}
-
-pub fn collected(random: &mut Random, asked: &mut Asked) {
-    let (source, size) = source_and_size(random);
-    let device = slow(random);
-    ask_collected(&mut Model::new(&source, size), &source, size, device, asked);
-}
-
 /// Asks for the lines up to the end or the first error.
 pub fn ask_collected(model: &mut Model<'_>, source: &[u8], size: usize, device: Device, asked: &mut Asked) {
     calls::ask_collected_lines(asked, source, size, &device);
@@ -108,26 +123,17 @@ pub fn ask_collected(model: &mut Model<'_>, source: &[u8], size: usize, device: 
     let mut positions = Vec::new();
     loop {
         let line = model.next_line();
-        put_line(line, want);
+        want.put(line);
         if line.is_err() {
             break;
         }
         positions.push(model.start);
     }
-    want.fails(Needs::Memory, start, Answer::failed);
+    want.fails(Needs::Memory, start, Failed);
     // The line that there is no memory for is lost. Its body may be empty, and there may be room for it in the list.
     for position in positions {
-        want.fails(Needs::Perhaps, start, |want| {
-            want.failed();
-            want.number(position);
-        });
+        want.fails(Needs::Perhaps, start, (Failed, position));
     }
-}
-
-pub fn blocks(random: &mut Random, asked: &mut Asked) {
-    let (source, size) = source_and_size(random);
-    let (device, most) = (slow(random), random.count(6));
-    ask_block(&mut Model::new(&source, size), &source, size, device, most, asked);
 }
 
 /// Asks for the lines up to an empty one, at most `most`.
@@ -135,14 +141,11 @@ pub fn ask_block(model: &mut Model<'_>, source: &[u8], size: usize, device: Devi
     calls::ask_block(asked, source, size, &device, most);
     let want = &mut asked.want;
     let positions = put_block(model, most, want);
-    want.number(model.start);
-    want.fails(Needs::Memory, 0, Answer::failed);
+    want.put(model.start);
+    want.fails(Needs::Memory, 0, Failed);
     // The line that there is no memory for is lost.
     for position in positions {
-        want.fails(Needs::Memory, 0, |want| {
-            want.failed();
-            want.number(position);
-        });
+        want.fails(Needs::Memory, 0, (Failed, position));
     }
 }
 
@@ -152,16 +155,16 @@ fn put_block(model: &mut Model<'_>, most: usize, want: &mut Answer) -> Vec<usize
     for _ in 0..most {
         let line = model.next_line();
         if line.is_ok_and(|(_, body, _)| body.is_empty()) {
-            want.text("empty");
+            want.put("empty");
             return positions;
         }
-        put_line(line, want);
+        want.put(line);
         if line.is_err() {
             return positions;
         }
         positions.push(model.start);
     }
-    want.text("full");
+    want.put("full");
     positions
 }
 
@@ -170,7 +173,7 @@ fn break_in(text: &[u8]) -> Option<usize> {
 }
 
 /// The lines of a writer: their texts, the steps, what each is answered if no call fails, and what goes out.
-fn lines_to_write(random: &mut Random) -> (Vec<u8>, Vec<Step>, Vec<Answer>, Vec<u8>) {
+fn lines_to_write(random: &mut Random) -> (Vec<u8>, Vec<Step>, Vec<Fault>, Vec<u8>) {
     let (mut texts, mut steps, mut answers, mut sent) = (Vec::new(), Vec::new(), Vec::new(), Vec::new());
     for _ in 0..random.count(6) {
         let mut text = random.line(b"aB \r\n");
@@ -180,21 +183,14 @@ fn lines_to_write(random: &mut Random) -> (Vec<u8>, Vec<Step>, Vec<Answer>, Vec<
         let (kind, start) = (random.below(5) as u8, texts.len());
         texts.extend(&text);
         steps.push(Step { kind, start, end: texts.len(), ..Step::default() });
-        let mut answer = Answer::default();
-        match (kind, break_in(&text)) {
-            (0..=2, Some(at)) => answer.fault("break", at),
-            (3, _) => answer.text("done"),
-            _ => {
-                sent.extend([&text, ["\n", "\r\n", "", "", ""][usize::from(kind)].as_bytes()].concat());
-                answer.text("done");
-            }
+        let at = break_in(&text).filter(|_| kind < 3);
+        if at.is_none() && kind != 3 {
+            sent.extend([&text, ["\n", "\r\n", "", "", ""][usize::from(kind)].as_bytes()].concat());
         }
-        answers.push(answer);
+        answers.push(Fault(if at.is_some() { "break" } else { "done" }, at));
     }
     steps.push(Step { kind: 3, ..Step::default() });
-    let mut flushed = Answer::default();
-    flushed.text("done");
-    answers.push(flushed);
+    answers.push(Fault("done", None));
     (texts, steps, answers, sent)
 }
 
@@ -202,12 +198,11 @@ pub fn written(random: &mut Random, asked: &mut Asked) {
     let (texts, steps, answers, sent) = lines_to_write(random);
     let (size, device) = (random.size(texts.len()), slow(random));
     calls::ask_writer(asked, &texts, size, &device, &steps);
-    answers.iter().for_each(|answer| asked.want.bytes.extend(&answer.bytes));
+    asked.want.all(answers);
     // A sink that takes one byte a call has a call for each byte, and for each flush.
     let flushes = steps.iter().filter(|step| step.kind == 3).count();
     let calls = if device.most == 1 { sent.len() + flushes } else { calls_of_sink(asked) };
-    asked.want.number(calls);
-    asked.want.text(sent);
+    asked.want.put((calls, sent));
 }
 
 /// The number of calls that `ask_writer` has answered.
@@ -227,12 +222,10 @@ pub fn failing_writer(random: &mut Random, asked: &mut Asked) {
     calls::ask_writer(asked, &texts, size, &Device { most, fails: fails as u64, ..WHOLE }, &steps);
     let Some(Item::Text(taken)) = items_of(asked.got()).pop() else { return };
     let calls = calls_of_sink(asked);
-    let mut write = Answer::default();
-    write.text("write");
     for failed in 0..=answers.len() {
         asked.want.bytes.clear();
-        answers[..failed].iter().for_each(|answer| asked.want.bytes.extend(&answer.bytes));
-        answers[failed..].iter().for_each(|_| asked.want.bytes.extend(&write.bytes));
+        asked.want.all(&answers[..failed]);
+        asked.want.times(answers.len() - failed, "write");
         // The flush at the end is a call too, so a writer of all lines fails if it is the call that fails.
         let may_take = if failed < answers.len() {
             sent.starts_with(&taken) && taken.len() <= most * fails
@@ -240,8 +233,8 @@ pub fn failing_writer(random: &mut Random, asked: &mut Asked) {
             sent == taken && sent.len().div_ceil(most) < fails && calls <= fails
         };
         // After the call that fails there is none.
-        asked.want.number(if failed < answers.len() { fails + 1 } else { calls });
-        asked.want.text(if may_take { &taken } else { &b"another prefix"[..] });
+        asked.want.put(if failed < answers.len() { fails + 1 } else { calls });
+        asked.want.put(if may_take { &taken } else { &b"another prefix"[..] });
         if !asked.differs() {
             return;
         }
@@ -249,68 +242,40 @@ pub fn failing_writer(random: &mut Random, asked: &mut Asked) {
 }
 
 /// Sends a reply, and notes how much was sent before, and whether the reply is empty.
-fn send(sent: &mut Vec<u8>, before: &mut Vec<(usize, bool)>, reply: &[u8]) -> Result<(), (&'static str, usize)> {
+fn send(sent: &mut Vec<u8>, before: &mut Vec<(usize, bool)>, reply: &[u8]) -> Result<(), Fault> {
     before.push((sent.len(), reply.is_empty()));
     if let Some(at) = break_in(reply) {
-        return Err(("break", at));
+        return Err(Fault("break", Some(at)));
     }
     sent.extend([reply, b"\r\n"].concat());
     Ok(())
 }
 
-/// Sends the replies of a conversation until it is closed, or says why it stops before.
-fn converse(
-    model: &mut Model<'_>,
-    sent: &mut Vec<u8>,
-    before: &mut Vec<(usize, bool)>,
-    want: &mut Answer,
-) -> Result<(), (&'static str, usize)> {
+/// Sends the replies of a conversation until it stops, and says why.
+fn converse(model: &mut Model<'_>, sent: &mut Vec<u8>, before: &mut Vec<(usize, bool)>) -> Result<Fault, Stop> {
     let mut is_part = false;
     loop {
-        if is_part {
-            match model.part(3) {
-                Ok((_, part)) => send(sent, before, &part.to_ascii_uppercase())?,
-                Err(stop) => {
-                    put_stop(stop, want);
-                    return Ok(());
-                }
-            }
-            is_part = false;
-            continue;
+        let text = if is_part { model.part(3)?.1 } else { model.next_line()?.1 };
+        send(sent, before, &text.to_ascii_uppercase()).map_err(Some)?;
+        if !is_part && text == b"q" {
+            return Ok(Fault("closed", None));
         }
-        let body = match model.next_line() {
-            Ok((_, body, _)) => body,
-            Err(stop) => {
-                put_stop(stop, want);
-                return Ok(());
-            }
-        };
-        send(sent, before, &body.to_ascii_uppercase())?;
-        if body == b"q" {
-            want.text("closed");
-            return Ok(());
-        }
-        is_part = body.starts_with(b"p");
+        is_part = !is_part && text.starts_with(b"p");
     }
 }
 
-pub fn conversations(random: &mut Random, asked: &mut Asked) {
+fn conversations(random: &mut Random, asked: &mut Asked) {
     let source = random.joined(&[b"\n", b"aB", b"\r\n", b"\np", b"Cd", b"q", b"\r", b"\nq\n", b"p\n", b"\xe9"]);
     let size = random.size(8);
     let (reads, writes) = (slow(random), slow(random));
     calls::ask_conversation(asked, &source, size, &reads, &writes);
     let (mut sent, mut before, want) = (Vec::new(), Vec::new(), &mut asked.want);
-    if let Err((name, at)) = converse(&mut Model::new(&source, size), &mut sent, &mut before, want) {
-        want.fault(name, at);
-    }
-    want.text(&sent);
-    want.fails(Needs::Memory, 0, Answer::failed);
+    want.put(converse(&mut Model::new(&source, size), &mut sent, &mut before));
+    want.put(&sent);
+    want.fails(Needs::Memory, 0, Failed);
     // A reply that there is no memory for ends the conversation. An empty one needs none.
     for (length, is_empty) in before {
-        want.fails(Needs::memory_if(!is_empty), 0, |want| {
-            want.text("write");
-            want.text(&sent[..length]);
-        });
+        want.fails(Needs::memory_if(!is_empty), 0, ("write", &sent[..length]));
     }
 }
 
@@ -332,12 +297,4 @@ pub fn long_source(random: &mut Random) -> Vec<u8> {
         }
     }
     source
-}
-
-pub fn long_inputs(random: &mut Random, asked: &mut Asked) {
-    let source = long_source(random);
-    let size = *random.pick(&[32_768, 65_535, 65_536, 65_537, 131_072, 131_073, 1 << 20]);
-    let (endings, device) =
-        (random.below(3) as u8, if random.below(2) == 0 { WHOLE } else { Device { most: 4093, ..WHOLE } });
-    ask_lines(&source, size, endings, device, true, asked);
 }

@@ -1,16 +1,29 @@
 //! Maps whose keys are texts, by std's `BTreeMap`.
 
-use crate::asked::{Answer, Asked, Needs};
-use crate::calls::{self, Step};
+use super::{allocating, Kind};
+use crate::asked::{Answer, Asked, Failed, Needs};
+use crate::calls::{self, Step, Steps};
 use crate::random::Random;
 use std::collections::BTreeMap;
+
+pub static KINDS: &[Kind] = &[
+    allocating("maps of texts", |random, asked| {
+        let Steps { texts, steps } = steps(random);
+        ask_maps(&texts, &steps, asked);
+    }),
+    allocating("maps of std", |random, asked| {
+        let Steps { texts, steps } = steps(random);
+        let key = random.other(&texts);
+        ask_std_maps(&key, &texts, &steps, asked);
+    }),
+];
 
 /// A map of std with texts as keys.
 type Map = BTreeMap<Vec<u8>, usize>;
 
 /// Steps with keys that often are those of other steps, in another case.
-fn steps(random: &mut Random) -> (Vec<u8>, Vec<Step>) {
-    let (mut texts, mut steps) = (Vec::new(), Vec::new());
+fn steps(random: &mut Random) -> Steps {
+    let mut steps = Steps::default();
     let mut key = random.short_text();
     for (at, kind) in random.script(4).into_iter().enumerate() {
         match random.below(3) {
@@ -18,16 +31,9 @@ fn steps(random: &mut Random) -> (Vec<u8>, Vec<Step>) {
             1 => key = random.short_text(),
             _ => (),
         }
-        let start = texts.len();
-        texts.extend(&key);
-        steps.push(Step { kind, code: 0, at, start, end: texts.len() });
+        steps.add_text(kind, at, &key);
     }
-    (texts, steps)
-}
-
-pub fn maps(random: &mut Random, asked: &mut Asked) {
-    let (texts, steps) = steps(random);
-    ask_maps(&texts, &steps, asked);
+    steps
 }
 
 /// A map with keys as they are, and one with keys in lower case.
@@ -36,7 +42,7 @@ pub fn ask_maps(texts: &[u8], steps: &[Step], asked: &mut Asked) {
     let needs = put_steps(texts, steps, usize::MAX, &mut asked.want);
     if asked.lets_fail {
         for (number, needs) in needs.into_iter().enumerate() {
-            asked.want.fails(needs, 0, |want| drop(put_steps(texts, steps, number, want)));
+            asked.want.fails_by(needs, 0, |want| drop(put_steps(texts, steps, number, want)));
         }
     }
 }
@@ -63,20 +69,13 @@ fn put_steps(texts: &[u8], steps: &[Step], failing: usize, want: &mut Answer) ->
 
 fn put_step(map: &mut Map, step: Step, key: Vec<u8>, fails: bool, want: &mut Answer) {
     match step.kind {
-        0 if fails => want.failed(),
-        0 => want.position(map.insert(key, step.at)),
-        1 => want.position(map.get(&key).copied()),
-        2 => want.position(map.remove(&key)),
-        _ => want.flag(map.contains_key(&key)),
+        0 if fails => want.put(Failed),
+        0 => want.put(map.insert(key, step.at)),
+        1 => want.put(map.get(&key).copied()),
+        2 => want.put(map.remove(&key)),
+        _ => want.put(map.contains_key(&key)),
     }
-    want.number(map.len());
-    want.flag(map.is_empty());
-}
-
-pub fn std_maps(random: &mut Random, asked: &mut Asked) {
-    let (texts, steps) = steps(random);
-    let key = random.other(&texts);
-    ask_std_maps(&key, &texts, &steps, asked);
+    want.put((map.len(), map.is_empty()));
 }
 
 /// What maps with folded keys have at a key after the numbers of all steps were inserted at their keys.
@@ -86,14 +85,13 @@ pub fn ask_std_maps(key: &[u8], texts: &[u8], steps: &[Step], asked: &mut Asked)
     let map: Map = keys.collect();
     for is_owned in [false, true] {
         let start = asked.want.bytes.len();
-        (0..2).for_each(|_| asked.want.position(map.get(&key.to_ascii_lowercase()).copied()));
-        (0..2).for_each(|_| asked.want.number(map.len()));
+        asked.want.times(2, map.get(&key.to_ascii_lowercase()).copied());
+        asked.want.times(2, map.len());
         if is_owned {
-            asked.want.flag(true);
-            asked.want.text(key);
+            asked.want.put((true, key));
         }
-        asked.want.text(key);
+        asked.want.put(key);
         let is_some = !steps.is_empty() || is_owned && !key.is_empty();
-        asked.want.fails(Needs::memory_if(is_some), start, Answer::failed);
+        asked.want.fails(Needs::memory_if(is_some), start, Failed);
     }
 }

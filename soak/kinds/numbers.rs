@@ -1,8 +1,20 @@
 //! Numbers that are read and appended, by std or by plain loops.
 
-use crate::asked::{Answer, Asked, Needs};
+use super::{allocating, kind, long, Kind};
+use crate::asked::{Answer, Asked, Failed, Needs, Put};
 use crate::calls::{self, Step};
 use crate::random::Random;
+
+pub static KINDS: &[Kind] = &[
+    long("numbers read", 2, |random, asked| ask_numbers(&digits(random), asked)).allocating(),
+    allocating("numbers of a radix read", of_radix),
+    allocating("numbers appended", |random, asked| ask_decimals(random.number(), &random.text(), asked)),
+    kind("decimal numbers read", decimal),
+    allocating("decimal numbers written", decimal_written),
+    allocating("hexadecimal digits appended", |random, asked| {
+        ask_hex(random.number() as u64, random.count(40), &random.text(), asked)
+    }),
+];
 
 /// A type of number: its largest number, and how far its least one is below zero, if it has a sign.
 #[derive(Clone, Copy)]
@@ -95,18 +107,20 @@ pub fn taken_of(text: &[u8], kind: Type) -> Result<(String, &[u8]), Fault> {
     number_at(text, 10, kind).map(|(n, end)| (n, &text[end..]))
 }
 
-pub fn put_fault(fault: Fault, want: &mut Answer) {
-    match fault {
-        Fault::Empty => want.text("empty"),
-        Fault::NotDigit(at) => want.fault("digit", at),
-        Fault::TooLarge(at) => want.fault("large", at),
+impl Put for Fault {
+    fn put(&self, answer: &mut Answer) {
+        match self {
+            Fault::Empty => answer.put("empty"),
+            Fault::NotDigit(at) => answer.put(("digit", at)),
+            Fault::TooLarge(at) => answer.put(("large", at)),
+        }
     }
 }
 
 fn put_number(number: Result<String, Fault>, want: &mut Answer) {
     match number {
         Ok(n) => want.copy(n),
-        Err(fault) => put_fault(fault, want),
+        Err(fault) => want.put(fault),
     }
 }
 
@@ -136,10 +150,6 @@ fn digits(random: &mut Random) -> Vec<u8> {
     text
 }
 
-pub fn numbers(random: &mut Random, asked: &mut Asked) {
-    ask_numbers(&digits(random), asked);
-}
-
 pub fn ask_numbers(text: &[u8], asked: &mut Asked) {
     calls::ask_numbers(asked, text);
     for kind in TYPES {
@@ -147,9 +157,9 @@ pub fn ask_numbers(text: &[u8], asked: &mut Asked) {
         match taken_of(text, kind) {
             Ok((n, rest)) => {
                 asked.want.copy(n);
-                asked.want.text(rest);
+                asked.want.put(rest);
             }
-            Err(fault) => put_fault(fault, &mut asked.want),
+            Err(fault) => asked.want.put(fault),
         }
     }
 }
@@ -171,11 +181,6 @@ pub fn ask_numbers_of_radix(radix: u32, text: &[u8], asked: &mut Asked) {
     }
 }
 
-pub fn decimals(random: &mut Random, asked: &mut Asked) {
-    let (number, text) = (random.number(), random.text());
-    ask_decimals(number, &text, asked);
-}
-
 /// A text with the digits of a number appended, as each of the types of `ask_decimals` that it fits.
 pub fn ask_decimals(number: u128, text: &[u8], asked: &mut Asked) {
     let (low, signed) = (number as u64, number as i64);
@@ -193,21 +198,19 @@ pub fn ask_decimals(number: u128, text: &[u8], asked: &mut Asked) {
     for digits in digits.into_iter().flatten() {
         let start = want.bytes.len();
         put_appended(text, digits.as_bytes(), want);
-        want.fails(some, start, Answer::failed);
-        want.fails(Needs::Memory, start, |want| put_unchanged(text, want));
+        want.fails(some, start, Failed);
+        want.fails_by(Needs::Memory, start, |want| put_unchanged(text, want));
     }
 }
 
 /// A text with a piece appended.
 fn put_appended(text: &[u8], piece: &[u8], want: &mut Answer) {
-    want.flag(true);
-    want.text([text, piece].concat());
+    want.put((true, [text, piece].concat()));
 }
 
 /// A text that there is no memory for to grow.
 pub fn put_unchanged(text: &[u8], want: &mut Answer) {
-    want.flag(false);
-    want.text(text);
+    want.put((false, text));
 }
 
 /// A decimal number: whether it is negative, its digits, and how many of them are after the point.
@@ -257,14 +260,7 @@ pub fn decimal(random: &mut Random, asked: &mut Asked) {
 
 pub fn ask_decimal(text: &[u8], decimal: Result<Decimal, Fault>, asked: &mut Asked) {
     calls::ask_decimal(asked, text);
-    match decimal {
-        Ok((is_negative, digits, places)) => {
-            asked.want.flag(is_negative);
-            asked.want.number(digits as usize);
-            asked.want.number(places);
-        }
-        Err(fault) => put_fault(fault, &mut asked.want),
-    }
+    asked.want.put(decimal);
 }
 
 pub fn decimal_written(random: &mut Random, asked: &mut Asked) {
@@ -283,11 +279,6 @@ pub fn ask_decimal_written((is_negative, digits, places): Decimal, text: &str, a
     asked.want.copy(text);
 }
 
-pub fn hex(random: &mut Random, asked: &mut Asked) {
-    let (number, width, text) = (random.number() as u64, random.count(40), random.text());
-    ask_hex(number, width, &text, asked);
-}
-
 pub fn ask_hex(number: u64, width: usize, text: &[u8], asked: &mut Asked) {
     calls::ask_hex(asked, number, width, text);
     let (want, digits) = (&mut asked.want, format!("{number:0width$x}"));
@@ -295,7 +286,7 @@ pub fn ask_hex(number: u64, width: usize, text: &[u8], asked: &mut Asked) {
     // Grows as a string does.
     let mut string = Vec::new();
     string.extend_from_slice(text);
-    want.fails(Needs::memory_if(!text.is_empty()), 0, Answer::failed);
+    want.fails(Needs::memory_if(!text.is_empty()), 0, Failed);
     let is_full = string.capacity() - text.len() < digits.len();
-    want.fails(Needs::memory_if(is_full), 0, |want| put_unchanged(text, want));
+    want.fails_by(Needs::memory_if(is_full), 0, |want| put_unchanged(text, want));
 }

@@ -1,10 +1,19 @@
 //! Parts of a text with their starts, and lines and columns, by plain loops.
 
 use super::characters::is_white;
-use super::numbers::{number_of, put_fault, TYPES};
-use crate::asked::{Answer, Asked};
+use super::numbers::{number_of, TYPES};
+use super::{allocating, kind, Kind};
+use crate::asked::{Answer, Asked, NOTHING};
 use crate::calls::{self, Step};
 use crate::random::Random;
+
+pub static KINDS: &[Kind] = &[
+    kind("parts with starts", spanned),
+    allocating("lines and columns", |random, asked| {
+        let text = random.text();
+        ask_place(random.place(text.len()), &text, asked);
+    }),
+];
 
 /// A part of a text: where it starts and where it ends.
 type Part = (usize, usize);
@@ -60,25 +69,16 @@ pub fn ask_spanned(text: &[u8], texts: &[u8], steps: &[Step], asked: &mut Asked)
                 part = next;
                 put_part(text, part, &mut asked.want);
             }
-            None => asked.want.none(),
+            None => asked.want.put(NOTHING),
         }
     }
 }
 
 /// A part with its start, its end, and the number that it writes as a `u8`. The position of an error is in the text.
 fn put_part(text: &[u8], (start, end): Part, want: &mut Answer) {
-    want.number(start);
-    want.text(&text[start..end]);
-    want.number(end);
-    match number_of(&text[start..end], 10, TYPES[0]) {
-        Ok(n) => want.number(n.parse().expect("a number")),
-        Err(fault) => put_fault(fault.after(start), want),
-    }
-}
-
-pub fn place(random: &mut Random, asked: &mut Asked) {
-    let text = random.text();
-    ask_place(random.place(text.len()), &text, asked);
+    want.put((start, &text[start..end], end));
+    let number = number_of(&text[start..end], 10, TYPES[0]);
+    want.put(number.map(|n| n.parse::<u8>().expect("a number")).map_err(|fault| fault.after(start)));
 }
 
 /// The line and the column of a position, which both count from 1.
@@ -87,8 +87,7 @@ pub fn ask_place(at: usize, text: &[u8], asked: &mut Asked) {
     if let Some(before) = text.get(..at) {
         let line = 1 + before.iter().filter(|byte| **byte == b'\n').count();
         let column = 1 + before.iter().rev().take_while(|byte| **byte != b'\n').count();
-        asked.want.number(line);
-        asked.want.number(column);
+        asked.want.put((line, column));
         asked.want.copy(format!("{line}:{column}: no '='"));
     }
 }

@@ -3,10 +3,22 @@
 use super::characters::codes;
 use super::edits::INLINE;
 use super::string;
+use super::{allocating, Kind};
 use crate::asked::{Asked, Needs};
 use crate::calls;
-use crate::random::Random;
 use std::fmt::{Debug, Display};
+
+pub static KINDS: &[Kind] = &[
+    allocating("printed texts", |random, asked| {
+        let (form, text) = (random.below(FORMS), random.text());
+        ask_printed(form, &string(text), asked);
+    }),
+    allocating("printed characters", |random, asked| {
+        let (form, codes) = (random.below(FORMS), codes(random, 128));
+        calls::ask_printed_characters(asked, form as u8, &codes);
+        codes.iter().for_each(|code| asked.want.copy(printed(form, &(*code as char))));
+    }),
+];
 
 /// The number of forms.
 pub const FORMS: usize = 12;
@@ -29,23 +41,12 @@ pub fn printed<T: Display + Debug + ?Sized>(form: usize, value: &T) -> String {
     }
 }
 
-pub fn texts(random: &mut Random, asked: &mut Asked) {
-    let (form, text) = (random.below(FORMS), random.text());
-    ask_printed(form, &string(text), asked);
-}
-
 pub fn ask_printed(form: usize, text: &str, asked: &mut Asked) {
     calls::ask_printed(asked, form as u8, text.as_bytes());
     let printed = printed(form, text);
     let is_printed = !printed.is_empty();
     // Two views, a string and an inline one.
     for makes in [false, false, !text.is_empty(), text.len() > INLINE] {
-        asked.want.allocated(Needs::memory_if(makes || is_printed), |want| want.text(&printed));
+        asked.want.allocated(Needs::memory_if(makes || is_printed), &printed);
     }
-}
-
-pub fn characters(random: &mut Random, asked: &mut Asked) {
-    let (form, codes) = (random.below(FORMS), codes(random, 128));
-    calls::ask_printed_characters(asked, form as u8, &codes);
-    codes.iter().for_each(|code| asked.want.copy(printed(form, &(*code as char))));
 }

@@ -3,45 +3,41 @@
 use super::characters::is_white;
 use super::edits::INLINE;
 use super::string;
-use super::walks::lines_of;
+use super::walks::{lines_of, pieces};
 use super::words::is_token;
-use crate::asked::{Answer, Asked, Needs};
+use super::{allocating, kind, long, Kind};
+use crate::asked::{Answer, Asked, Failed, Fault, Needs, NOTHING};
 use crate::calls;
 use crate::random::Random;
 
-/// Why a line is not a header, with a position.
-type HeaderError = (&'static str, Option<usize>);
+pub static KINDS: &[Kind] = &[
+    kind("headers", header),
+    long("blocks of headers", 8, block).allocating(),
+    allocating("host names", hosts),
+    kind("settings", setting),
+    allocating("rows", row),
+    long("texts on a screen", 4, screen).allocating(),
+    allocating("texts with marks", lossy),
+    kind("last lines", last_lines),
+];
 
 /// The name and the value of a line.
-fn header_of(line: &[u8]) -> Result<(&[u8], &[u8]), HeaderError> {
-    let at = line.iter().position(|byte| *byte == b':').ok_or(("colon", None))?;
+fn header_of(line: &[u8]) -> Result<(&[u8], &[u8]), Fault> {
+    let at = line.iter().position(|byte| *byte == b':').ok_or(Fault("colon", None))?;
     if at == 0 {
-        return Err(("name", None));
+        return Err(Fault("name", None));
     }
     if let Some(bad) = line[..at].iter().position(|byte| !is_token(*byte)) {
-        return Err(("token", Some(bad)));
+        return Err(Fault("token", Some(bad)));
     }
     let value = std::str::from_utf8(&line[at + 1..]).expect("codes under 128");
     Ok((&line[..at], value.trim_matches([' ', '\t']).as_bytes()))
 }
 
-fn put_error((name, at): HeaderError, want: &mut Answer) {
-    want.text(name);
-    if let Some(at) = at {
-        want.number(at);
-    }
-}
-
 pub fn header(random: &mut Random, asked: &mut Asked) {
     let line = random.line(b"Ho-st: \t.x(");
     calls::ask_header(asked, &line);
-    match header_of(&line) {
-        Ok((name, value)) => {
-            asked.want.text(name);
-            asked.want.text(value);
-        }
-        Err(error) => put_error(error, &mut asked.want),
-    }
+    asked.want.put(header_of(&line));
 }
 
 /// A block of lines, of which most are headers.
@@ -60,14 +56,12 @@ fn headers(random: &mut Random) -> Vec<u8> {
 fn headers_of<'a>(block: &'a [u8], want: &mut Answer) -> Option<Vec<(&'a [u8], &'a [u8])>> {
     let mut headers = Vec::new();
     for line in lines_of(block) {
-        match header_of(&block[line.start..line.end]) {
+        match header_of(line.text) {
             Ok(header) => headers.push(header),
             Err(error) => {
-                want.fault("line", headers.len());
-                want.number(line.start);
-                put_error(error, want);
+                want.put(("line", headers.len(), line.start, error));
                 // The headers before it are in a list.
-                want.fails(Needs::memory_if(!headers.is_empty()), 0, Answer::failed);
+                want.fails(Needs::memory_if(!headers.is_empty()), 0, Failed);
                 return None;
             }
         }
@@ -81,47 +75,38 @@ pub fn block(random: &mut Random, asked: &mut Asked) {
     calls::ask_headers(asked, name, &block);
     if let Some(headers) = headers_of(&block, &mut asked.want) {
         let is_named = |header: &&(&[u8], &[u8])| header.0.eq_ignore_ascii_case(name);
-        for (name, value) in &headers {
-            asked.want.text(name);
-            asked.want.text(value);
-        }
         let want = &mut asked.want;
+        want.all(&headers);
         let start = want.bytes.len();
-        want.part(headers.iter().rev().find(is_named).map(|header| header.1));
+        want.put(headers.iter().rev().find(is_named).map(|header| header.1));
         let in_map = start..want.bytes.len();
-        want.part(headers.iter().find(is_named).map(|header| header.1));
+        want.put(headers.iter().find(is_named).map(|header| header.1));
         let needs = Needs::memory_if(!headers.is_empty());
-        want.fails(needs, 0, Answer::failed);
-        want.fails_in(needs, in_map, Answer::failed);
+        want.fails(needs, 0, Failed);
+        want.fails_in(needs, in_map, |want| want.put(Failed));
     }
 }
 
-/// Why a label is not valid, with the position.
-fn label_fault(start: usize, label: &[u8]) -> Option<(&'static str, usize)> {
+/// Why a label is not valid.
+fn label_fault(start: usize, label: &[u8]) -> Option<Fault> {
     let other = label.iter().position(|byte| !byte.is_ascii_alphanumeric() && *byte != b'-');
-    match (label, other) {
-        ([], _) => Some(("empty", start)),
-        _ if label.len() > 63 => Some(("label", start)),
-        (_, Some(bad)) => Some(("character", start + bad)),
-        ([b'-', ..], _) => Some(("hyphen", start)),
-        ([.., b'-'], _) => Some(("hyphen", start + label.len() - 1)),
-        _ => None,
-    }
+    let (name, at) = match (label, other) {
+        ([], _) => ("empty", 0),
+        _ if label.len() > 63 => ("label", 0),
+        (_, Some(bad)) => ("character", bad),
+        ([b'-', ..], _) => ("hyphen", 0),
+        ([.., b'-'], _) => ("hyphen", label.len() - 1),
+        _ => return None,
+    };
+    Some(Fault(name, Some(start + at)))
 }
 
 /// Why a name is not that of a host.
-fn host_fault(name: &[u8]) -> Option<(&'static str, Option<usize>)> {
+fn host_fault(name: &[u8]) -> Option<Fault> {
     if name.len() > 253 {
-        return Some(("long", None));
+        return Some(Fault("long", None));
     }
-    let mut start = 0;
-    for label in name.split(|byte| *byte == b'.') {
-        if let Some((fault, at)) = label_fault(start, label) {
-            return Some((fault, Some(at)));
-        }
-        start += label.len() + 1;
-    }
-    None
+    pieces(name, b'.').iter().find_map(|label| label_fault(label.start, label.text))
 }
 
 fn host(random: &mut Random) -> Vec<u8> {
@@ -145,18 +130,17 @@ pub fn hosts(random: &mut Random, asked: &mut Asked) {
     let want = &mut asked.want;
     let (low, lower) = (first.to_ascii_lowercase(), second.to_ascii_lowercase());
     match host_fault(&first) {
-        Some(error) => put_error(error, want),
-        None => want.allocated(Needs::memory_if(low.len() > INLINE), |want| want.text(&low)),
+        Some(error) => want.put(error),
+        None => want.allocated(Needs::memory_if(low.len() > INLINE), &low),
     }
     let (fault, other_fault) = (host_fault(&first), host_fault(&second));
     // The first name is copied before the second one is looked at.
-    let needs =
-        Needs::memory_if(fault.is_none() && (first.len() > INLINE || other_fault.is_none() && second.len() > INLINE));
+    let needs = Needs::memory_if(fault.is_none() && (first.len() > INLINE || other_fault.is_none() && second.len() > INLINE));
     match fault.or(other_fault) {
-        Some(error) => (0..2).for_each(|_| want.allocated(needs, |want| put_error(error, want))),
+        Some(error) => (0..2).for_each(|_| want.allocated(needs, error)),
         None => {
-            want.allocated(needs, |want| want.flag(low == lower));
-            want.allocated(needs, |want| want.order(low.cmp(&lower)));
+            want.allocated(needs, low == lower);
+            want.allocated(needs, low.cmp(&lower));
         }
     }
 }
@@ -168,12 +152,11 @@ pub fn setting(random: &mut Random, asked: &mut Asked) {
     let body = line.split('#').next().unwrap_or("");
     let start = body.len() - body.trim_start_matches(white).len();
     match body.split_once('=') {
-        _ if start == body.len() => want.none(),
-        None => want.fault("equals", start),
-        Some((key, _)) if key.trim_matches(white).is_empty() => want.fault("key", key.len()),
+        _ if start == body.len() => want.put(NOTHING),
+        None => want.put(("equals", start)),
+        Some((key, _)) if key.trim_matches(white).is_empty() => want.put(("key", key.len())),
         Some((key, value)) => {
-            want.text(key.trim_matches(white));
-            want.text(value.trim_matches(white));
+            want.put((key.trim_matches(white), value.trim_matches(white)));
         }
     }
 }
@@ -187,14 +170,13 @@ pub fn row(random: &mut Random, asked: &mut Asked) {
     let start = |index: usize| fields[..index].iter().map(|field| field.len() + 1).sum::<usize>();
     match fields.iter().position(|field| field.is_empty()) {
         Some(index) if index < columns => {
-            asked.want.fault("empty", index);
-            asked.want.number(start(index));
+            asked.want.put(("empty", index, start(index)));
         }
-        _ if fields.len() < columns => asked.want.fault("few", fields.len()),
-        _ if fields.len() > columns => asked.want.fault("many", start(columns)),
-        _ => fields.iter().for_each(|field| asked.want.text(field)),
+        _ if fields.len() < columns => asked.want.put(("few", fields.len())),
+        _ if fields.len() > columns => asked.want.put(("many", start(columns))),
+        _ => asked.want.all(fields),
     }
-    asked.want.fails(Needs::Perhaps, 0, Answer::failed);
+    asked.want.fails(Needs::Perhaps, 0, Failed);
 }
 
 /// What a screen shows of a character other than LF at a column.
@@ -225,10 +207,7 @@ pub fn screen(random: &mut Random, asked: &mut Asked) {
     let column = line.len();
     lines.push(line);
     let shown = lines.join(&b'\n');
-    asked.want.allocated(Needs::memory_if(!shown.is_empty()), |want| {
-        want.text(shown);
-        want.number(column);
-    });
+    asked.want.allocated(Needs::memory_if(!shown.is_empty()), (shown, column));
 }
 
 pub fn lossy(random: &mut Random, asked: &mut Asked) {
@@ -246,8 +225,6 @@ pub fn last_lines(random: &mut Random, asked: &mut Asked) {
     let lines = lines_of(&text);
     let at = lines.len().saturating_sub(n);
     let start = lines.get(at).map_or(text.len(), |line| line.start);
-    asked.want.text(&text[start..]);
-    asked.want.text(&text[..start]);
-    asked.want.position(lines.back().map(|line| line.end));
-    asked.want.flag(text.last().is_some_and(|last| *last != b'\n'));
+    asked.want.put((&text[start..], &text[..start], lines.back().map(|line| line.start + line.text.len())));
+    asked.want.put(text.last().is_some_and(|last| *last != b'\n'));
 }

@@ -4,10 +4,35 @@ use super::numbers::put_unchanged;
 use super::slices::bounds;
 use super::string;
 use super::walks::take;
-use crate::asked::{Answer, Asked, Needs};
+use super::{allocating, kind, Kind};
+use crate::asked::{Answer, Asked, Failed, Needs, Put};
 use crate::calls;
 use crate::random::Random;
 use std::collections::VecDeque;
+
+pub static KINDS: &[Kind] = &[
+    allocating("texts in another notation", |random, asked| {
+        let (form, text, script) = (random.below(2) as u8, random.text(), random.script(4));
+        let codes = text.iter().flat_map(|code| written(form, *code)).collect();
+        ask_notation(form, &text, codes, &script, asked);
+    }),
+    allocating("texts with escapes", unescaped),
+    kind("quoted texts", quoted),
+    allocating("joined pieces", |random, asked| {
+        let (text, separator) = (random.text(), random.short_text());
+        ask_joined(random.code_of(&text), &string(text), &string(separator), asked);
+    }),
+    allocating("repeated texts", |random, asked| {
+        let (text, times) = (random.text(), random.count(9));
+        ask_repeated(times, &text, asked);
+    }),
+    allocating("texts filled up to a width", padded),
+    allocating("edits of a range", |random, asked| {
+        let (form, text, piece) = (random.below(6), random.text(), random.short_text());
+        let (start, end) = random.places(text.len());
+        ask_range_edits(form, start, end, &text, &piece, asked);
+    }),
+];
 
 /// What represents a code in a notation: for form 0 as std's `escape_ascii` writes it, otherwise in caret notation.
 fn written(form: u8, code: u8) -> Vec<u8> {
@@ -18,21 +43,15 @@ fn written(form: u8, code: u8) -> Vec<u8> {
     }
 }
 
-pub fn notation(random: &mut Random, asked: &mut Asked) {
-    let (form, text, script) = (random.below(2) as u8, random.text(), random.script(4));
-    let codes = text.iter().flat_map(|code| written(form, *code)).collect();
-    ask_notation(form, &text, codes, &script, asked);
-}
-
 /// The codes that represent a text by a script, and then the others: printed, and in reverse.
 pub fn ask_notation(form: u8, text: &[u8], mut codes: VecDeque<u8>, script: &[u8], asked: &mut Asked) {
     calls::ask_notation(asked, form, text, script);
     for number in script {
-        asked.want.position(take(&mut codes, *number).map(usize::from));
+        asked.want.put(take(&mut codes, *number));
     }
     let some = Needs::memory_if(!codes.is_empty());
     asked.want.copy(codes.iter().copied().collect::<Vec<u8>>());
-    asked.want.text(codes.into_iter().rev().collect::<Vec<u8>>());
+    asked.want.put(codes.into_iter().rev().collect::<Vec<u8>>());
     // Characters are appended one by one if the allocation for all fails.
     asked.want.absorbs(some);
 }
@@ -42,6 +61,15 @@ pub fn ask_notation(form: u8, text: &[u8], mut codes: VecDeque<u8>, script: &[u8
 pub enum Escaped {
     Invalid(usize),
     NotAscii(usize),
+}
+
+impl Put for Escaped {
+    fn put(&self, answer: &mut Answer) {
+        match self {
+            Escaped::Invalid(at) => answer.put(("invalid", at)),
+            Escaped::NotAscii(at) => answer.put(("ascii", at)),
+        }
+    }
 }
 
 /// The code that an escape represents, and the length of the escape.
@@ -87,26 +115,18 @@ pub fn unescaped(random: &mut Random, asked: &mut Asked) {
     ask_unescaped(&text, expected, asked);
 }
 
-pub fn ask_unescaped(text: &[u8], expected: Result<impl AsRef<[u8]>, Escaped>, asked: &mut Asked) {
+pub fn ask_unescaped(text: &[u8], expected: Result<impl Put, Escaped>, asked: &mut Asked) {
     calls::ask_unescaped(asked, text);
-    asked.want.allocated(Needs::memory_if(!text.is_empty()), |want| match expected {
-        Ok(text) => want.text(text),
-        Err(Escaped::Invalid(at)) => want.fault("invalid", at),
-        Err(Escaped::NotAscii(at)) => want.fault("ascii", at),
-    });
+    asked.want.allocated(Needs::memory_if(!text.is_empty()), expected);
 }
 
-/// Why no quoted text is at the start of a text.
-#[derive(Clone, Copy)]
-pub enum Unquoted {
-    NoQuote,
-    NotClosed(usize),
-}
+/// Where a text ends whose quote is not closed, or `None` if there is no quote at its start.
+pub type Unquoted = Option<usize>;
 
 /// The text between the quotes at the start of a text, and what comes after it.
 fn quoted_in(text: &[u8], quote: u8, escape: u8) -> Result<(&[u8], &[u8]), Unquoted> {
     if text.first() != Some(&quote) {
-        return Err(Unquoted::NoQuote);
+        return Err(None);
     }
     let mut at = 1;
     while at < text.len() {
@@ -119,7 +139,7 @@ fn quoted_in(text: &[u8], quote: u8, escape: u8) -> Result<(&[u8], &[u8]), Unquo
             at += 1;
         }
     }
-    Err(Unquoted::NotClosed(text.len()))
+    Err(Some(text.len()))
 }
 
 pub fn quoted(random: &mut Random, asked: &mut Asked) {
@@ -131,37 +151,14 @@ pub fn quoted(random: &mut Random, asked: &mut Asked) {
     ask_quoted(quote, escape, &text, quoted_in(&text, quote, escape), asked);
 }
 
-pub fn ask_quoted<T: AsRef<[u8]>>(
-    quote: u8,
-    escape: u8,
-    text: &[u8],
-    expected: Result<(T, T), Unquoted>,
-    asked: &mut Asked,
-) {
+pub fn ask_quoted(quote: u8, escape: u8, text: &[u8], expected: Result<impl Put, Unquoted>, asked: &mut Asked) {
     calls::ask_quoted(asked, quote, escape, text);
-    match expected {
-        Ok((inside, rest)) => {
-            asked.want.text(inside);
-            asked.want.text(rest);
-        }
-        Err(Unquoted::NoQuote) => asked.want.none(),
-        Err(Unquoted::NotClosed(at)) => asked.want.number(at),
-    }
-}
-
-pub fn joined(random: &mut Random, asked: &mut Asked) {
-    let (text, separator) = (random.text(), random.short_text());
-    ask_joined(random.code_of(&text), &string(text), &string(separator), asked);
+    asked.want.put(expected);
 }
 
 pub fn ask_joined(code: u8, text: &str, separator: &str, asked: &mut Asked) {
     calls::ask_joined(asked, code, text.as_bytes(), separator.as_bytes());
     asked.want.copy(text.split(code as char).collect::<Vec<&str>>().join(separator));
-}
-
-pub fn repeated(random: &mut Random, asked: &mut Asked) {
-    let (text, times) = (random.text(), random.count(9));
-    ask_repeated(times, &text, asked);
 }
 
 pub fn ask_repeated(times: usize, text: &[u8], asked: &mut Asked) {
@@ -181,16 +178,9 @@ pub fn padded(random: &mut Random, asked: &mut Asked) {
 pub fn ask_padded(form: u8, code: u8, width: usize, text: &[u8], piece: &[u8], filled: &[u8], asked: &mut Asked) {
     calls::ask_padded(asked, form, code, width, text, piece);
     let want = &mut asked.want;
-    want.flag(true);
-    want.text([text, filled].concat());
-    want.fails(Needs::memory_if(!text.is_empty()), 0, Answer::failed);
-    want.fails(Needs::memory_if(!filled.is_empty()), 0, |want| put_unchanged(text, want));
-}
-
-pub fn range_edits(random: &mut Random, asked: &mut Asked) {
-    let (form, text, piece) = (random.below(6), random.text(), random.short_text());
-    let (start, end) = random.places(text.len());
-    ask_range_edits(form, start, end, &text, &piece, asked);
+    want.put((true, [text, filled].concat()));
+    want.fails(Needs::memory_if(!text.is_empty()), 0, Failed);
+    want.fails_by(Needs::memory_if(!filled.is_empty()), 0, |want| put_unchanged(text, want));
 }
 
 /// A text without the part in a range, and with another text in its place; nothing if the range does not fit.
@@ -198,11 +188,10 @@ pub fn ask_range_edits(form: usize, start: usize, end: usize, text: &[u8], piece
     calls::ask_range_edits(asked, form as u8, start, end, text, piece);
     let (want, bounds) = (&mut asked.want, bounds(form, start, end, text.len()));
     if let Some((start, end)) = bounds {
-        want.flag(true);
-        want.text([&text[..start], piece, &text[end..]].concat());
+        want.put((true, [&text[..start], piece, &text[end..]].concat()));
     }
-    want.fails(Needs::memory_if(!text.is_empty()), 0, Answer::failed);
+    want.fails(Needs::memory_if(!text.is_empty()), 0, Failed);
     if let Some((start, end)) = bounds {
-        want.fails(Needs::memory_if(piece.len() > end - start), 0, |want| put_unchanged(text, want));
+        want.fails_by(Needs::memory_if(piece.len() > end - start), 0, |want| put_unchanged(text, want));
     }
 }

@@ -2,10 +2,36 @@
 
 use super::string;
 use super::walks::take_forward;
+use super::{allocating, kind, long, Kind};
 use crate::asked::Asked;
 use crate::calls;
 use crate::random::Random;
 use std::collections::VecDeque;
+
+pub static KINDS: &[Kind] = &[
+    kind("texts found", |random, asked| {
+        let text = random.text();
+        let needle = random.needle(&text);
+        ask_find(&string(text), &string(needle), asked);
+    }),
+    long("texts found, ignoring case", 2, folded),
+    kind("characters found", |random, asked| {
+        let text = random.text();
+        ask_find_character(random.code_of(&text), text, asked);
+    }),
+    kind("at most n pieces", |random, asked| {
+        let (text, script) = (random.text(), random.script(3));
+        let code = random.code_of(&text);
+        let n = if random.once_in(8) { random.place(text.len()) } else { random.below(6) };
+        ask_splitn(n, code, &string(text), &script, asked);
+    }),
+    allocating("replaced texts", |random, asked| {
+        let text = random.text();
+        let (needle, text) = (string(random.needle(&text)), string(text));
+        let to = string(random.short_text());
+        ask_replace(&text, &needle, &to, asked);
+    }),
+];
 
 /// Asks for a needle in a text.
 pub fn ask_find(text: &str, needle: &str, asked: &mut Asked) {
@@ -13,26 +39,12 @@ pub fn ask_find(text: &str, needle: &str, asked: &mut Asked) {
     let want = &mut asked.want;
     let (low, lower) = (text.to_ascii_lowercase(), needle.to_ascii_lowercase());
     let starts = low.starts_with(&lower);
-    want.position(text.find(needle));
-    want.position(text.rfind(needle));
-    want.cut(text.split_once(needle));
-    want.cut(text.rsplit_once(needle));
-    want.flag(text.contains(needle));
-    want.flag(text.starts_with(needle));
-    want.flag(text.ends_with(needle));
-    want.part(text.strip_prefix(needle));
-    want.part(text.strip_suffix(needle));
-    want.part(starts.then(|| &text[needle.len()..]));
-    want.position(low.find(&lower));
-    want.flag(low.contains(&lower));
+    want.put((text.find(needle), text.rfind(needle), text.split_once(needle), text.rsplit_once(needle)));
+    want.put((text.contains(needle), text.starts_with(needle), text.ends_with(needle)));
+    want.put((text.strip_prefix(needle), text.strip_suffix(needle), starts.then(|| &text[needle.len()..])));
+    want.put((low.find(&lower), low.contains(&lower)));
     // An empty text occurs nowhere.
-    want.number(if needle.is_empty() { 0 } else { text.matches(needle).count() });
-}
-
-pub fn text(random: &mut Random, asked: &mut Asked) {
-    let text = random.text();
-    let needle = random.needle(&text);
-    ask_find(&string(text), &string(needle), asked);
+    want.put(if needle.is_empty() { 0 } else { text.matches(needle).count() });
 }
 
 /// A needle that mostly is a prefix or a suffix of the text in another case.
@@ -44,25 +56,10 @@ pub fn folded(random: &mut Random, asked: &mut Asked) {
     ask_find(&string(text), &string(needle), asked);
 }
 
-pub fn character(random: &mut Random, asked: &mut Asked) {
-    let text = random.text();
-    ask_find_character(random.code_of(&text), text, asked);
-}
-
 pub fn ask_find_character(code: u8, text: Vec<u8>, asked: &mut Asked) {
     calls::ask_find_character(asked, code, &text);
     let (text, on, want) = (string(text), code as char, &mut asked.want);
-    want.position(text.find(on));
-    want.position(text.rfind(on));
-    want.cut(text.split_once(on));
-    want.cut(text.rsplit_once(on));
-}
-
-pub fn splitn(random: &mut Random, asked: &mut Asked) {
-    let (text, script) = (random.text(), random.script(3));
-    let code = random.code_of(&text);
-    let n = if random.once_in(8) { random.place(text.len()) } else { random.below(6) };
-    ask_splitn(n, code, &string(text), &script, asked);
+    want.put((text.find(on), text.rfind(on), text.split_once(on), text.rsplit_once(on)));
 }
 
 /// The first pieces by a script from the front, each with what remains, which begins where the next piece does.
@@ -73,18 +70,10 @@ pub fn ask_splitn(n: usize, code: u8, text: &str, script: &[u8], asked: &mut Ask
         let left = pieces.iter().map(|piece| piece.len() + 1).sum::<usize>().checked_sub(1);
         left.map(|left| &text[text.len() - left..])
     };
-    asked.want.part(rest(&pieces));
+    asked.want.put(rest(&pieces));
     for number in script {
-        asked.want.part(take_forward(&mut pieces, *number));
-        asked.want.part(rest(&pieces));
+        asked.want.put((take_forward(&mut pieces, *number), rest(&pieces)));
     }
-}
-
-pub fn replace(random: &mut Random, asked: &mut Asked) {
-    let text = random.text();
-    let (needle, text) = (string(random.needle(&text)), string(text));
-    let to = string(random.short_text());
-    ask_replace(&text, &needle, &to, asked);
 }
 
 pub fn ask_replace(text: &str, needle: &str, to: &str, asked: &mut Asked) {

@@ -3,6 +3,7 @@
 use super::characters::is_white;
 use super::edits::INLINE;
 use super::slices::non_ascii;
+use super::{allocating, kind, long, Kind};
 use crate::asked::{Answer, Asked, Needs};
 use crate::calls;
 use crate::random::Random;
@@ -10,6 +11,35 @@ use std::cell::OnceCell;
 use std::cmp::Ordering;
 use std::hash::{DefaultHasher, Hash, Hasher};
 use std::ptr::null_mut;
+
+pub static KINDS: &[Kind] = &[
+    kind("kernels", |random, asked| ask_kernels(&blanks(random), asked)),
+    kind("kernels that change case", |random, asked| {
+        let to_upper = random.below(2) == 0;
+        ask_case_in_place(to_upper, &mut random.bytes(), asked);
+    }),
+    kind("kernels that compare", |random, asked| {
+        let first = random.bytes();
+        let second = random.other(&first);
+        ask_equal_bytes(&first, &second, asked);
+    }),
+    // Every length up to 300, and every position in it.
+    Kind { small: 301 * 302 / 2, ..long("kernels at the end of a page", 64, at_page_end) },
+    kind("trimmed texts", trims),
+    allocating("upper and lower case", |random, asked| ask_cases(&random.text(), asked)),
+    kind("compared texts", |random, asked| {
+        let (first, second) = pair(random);
+        ask_comparisons(&first, &second, asked);
+    }),
+    allocating("compared strings", |random, asked| {
+        let (first, second) = pair(random);
+        ask_owned_comparisons(&first, &second, first.cmp(&second), asked);
+    }),
+    allocating("hashes", |random, asked| {
+        let text = random.text();
+        ask_hashes(&text, hash_of(&text), asked);
+    }),
+];
 
 extern "C" {
     fn mmap(at: *mut u8, length: usize, protection: i32, flags: i32, file: i32, offset: i64) -> *mut u8;
@@ -19,9 +49,8 @@ extern "C" {
 const PAGE: usize = 4096;
 
 fn kernel_answers(source: &[u8], want: &mut Answer) {
-    want.position(non_ascii(source));
-    want.position(source.iter().position(|byte| !is_white(*byte)));
-    want.position(source.iter().rposition(|byte| !is_white(*byte)));
+    want.put((non_ascii(source), source.iter().position(|byte| !is_white(*byte))));
+    want.put(source.iter().rposition(|byte| !is_white(*byte)));
 }
 
 /// Bytes, of which many are whitespace.
@@ -34,36 +63,21 @@ fn blanks(random: &mut Random) -> Vec<u8> {
     source
 }
 
-pub fn kernels(random: &mut Random, asked: &mut Asked) {
-    ask_kernels(&blanks(random), asked);
-}
-
 pub fn ask_kernels(source: &[u8], asked: &mut Asked) {
     calls::ask_kernels(asked, source);
     kernel_answers(source, &mut asked.want);
 }
 
-pub fn case_in_place(random: &mut Random, asked: &mut Asked) {
-    let to_upper = random.below(2) == 0;
-    ask_case_in_place(to_upper, &mut random.bytes(), asked);
-}
-
 pub fn ask_case_in_place(to_upper: bool, source: &mut [u8], asked: &mut Asked) {
     let want = if to_upper { source.to_ascii_uppercase() } else { source.to_ascii_lowercase() };
     calls::ask_case_in_place(asked, to_upper, source);
-    asked.want.text(&want);
+    asked.want.put(&want);
     asked.compare(source, &want);
-}
-
-pub fn equal_bytes(random: &mut Random, asked: &mut Asked) {
-    let first = random.bytes();
-    let second = random.other(&first);
-    ask_equal_bytes(&first, &second, asked);
 }
 
 pub fn ask_equal_bytes(first: &[u8], second: &[u8], asked: &mut Asked) {
     calls::ask_equal_bytes(asked, first, second);
-    asked.want.flag(first.eq_ignore_ascii_case(second));
+    asked.want.put(first.eq_ignore_ascii_case(second));
 }
 
 /// The end of a page after which memory may not be read or written.
@@ -98,13 +112,13 @@ pub fn at_page_end(random: &mut Random, asked: &mut Asked) {
         super::words::class_answers(class, &want, &[0, 1], &mut asked.want);
     }
     calls::ask_equal_bytes(asked, bytes, &want);
-    asked.want.flag(true);
+    asked.want.put(true);
     calls::ask_case_in_place(asked, true, bytes);
     want.make_ascii_uppercase();
-    asked.want.text(&want);
+    asked.want.put(&want);
     calls::ask_case_in_place(asked, false, bytes);
     want.make_ascii_lowercase();
-    asked.want.text(&want);
+    asked.want.put(&want);
 }
 
 pub fn trims(random: &mut Random, asked: &mut Asked) {
@@ -119,13 +133,7 @@ pub fn trims(random: &mut Random, asked: &mut Asked) {
 pub fn ask_trims(text: &str, asked: &mut Asked) {
     calls::ask_trims(asked, text.as_bytes());
     let white = |c: char| is_white(c as u8);
-    asked.want.text(text.trim_matches(white));
-    asked.want.text(text.trim_start_matches(white));
-    asked.want.text(text.trim_end_matches(white));
-}
-
-pub fn cases(random: &mut Random, asked: &mut Asked) {
-    ask_cases(&random.text(), asked);
+    asked.want.put((text.trim_matches(white), text.trim_start_matches(white), text.trim_end_matches(white)));
 }
 
 pub fn ask_cases(text: &[u8], asked: &mut Asked) {
@@ -133,10 +141,7 @@ pub fn ask_cases(text: &[u8], asked: &mut Asked) {
     let (upper, lower) = (text.to_ascii_uppercase(), text.to_ascii_lowercase());
     asked.want.copy(&upper);
     asked.want.copy(&lower);
-    asked.want.allocated(Needs::memory_if(!text.is_empty()), |want| {
-        want.text(&upper);
-        want.text(&lower);
-    });
+    asked.want.allocated(Needs::memory_if(!text.is_empty()), (&upper, &lower));
 }
 
 /// Two texts, of which the second is often like the first.
@@ -146,36 +151,19 @@ pub fn pair(random: &mut Random) -> (Vec<u8>, Vec<u8>) {
     (first, second)
 }
 
-pub fn comparisons(random: &mut Random, asked: &mut Asked) {
-    let (first, second) = pair(random);
-    ask_comparisons(&first, &second, asked);
-}
-
 pub fn ask_comparisons(first: &[u8], second: &[u8], asked: &mut Asked) {
     calls::ask_comparisons(asked, first, second);
     let (low, lower) = (first.to_ascii_lowercase(), second.to_ascii_lowercase());
-    (0..3).for_each(|_| asked.want.flag(first == second));
-    (0..2).for_each(|_| asked.want.flag(low == lower));
-    asked.want.order(first.cmp(second));
-    asked.want.order(low.cmp(&lower));
-    asked.want.flag(true);
-    asked.want.flag(low < lower);
-}
-
-pub fn owned_comparisons(random: &mut Random, asked: &mut Asked) {
-    let (first, second) = pair(random);
-    ask_owned_comparisons(&first, &second, first.cmp(&second), asked);
+    asked.want.times(3, first == second);
+    asked.want.times(2, low == lower);
+    asked.want.put((first.cmp(second), low.cmp(&lower), true, low < lower));
 }
 
 pub fn ask_owned_comparisons(first: &[u8], second: &[u8], order: Ordering, asked: &mut Asked) {
     calls::ask_owned_comparisons(asked, first, second);
     let longest = first.len().max(second.len());
     for needs in [longest > 0, longest > INLINE].map(Needs::memory_if) {
-        asked.want.allocated(needs, |want| {
-            want.flag(order == Ordering::Equal);
-            want.order(order);
-            want.flag(true);
-        });
+        asked.want.allocated(needs, (order == Ordering::Equal, order, true));
     }
 }
 
@@ -185,23 +173,17 @@ fn hash_of(value: impl Hash) -> usize {
     hasher.finish() as usize
 }
 
-pub fn hashes(random: &mut Random, asked: &mut Asked) {
-    let text = random.text();
-    ask_hashes(&text, hash_of(&text), asked);
-}
-
 /// A view and each type of owned text is hashed as its list of codes, a folded view as that list in lower case, and a
 /// character as its code.
 pub fn ask_hashes(text: &[u8], hash: usize, asked: &mut Asked) {
     calls::ask_hashes(asked, text);
-    asked.want.number(hash);
-    asked.want.number(hash_of(text.to_ascii_lowercase()));
+    asked.want.put((hash, hash_of(text.to_ascii_lowercase())));
     let (is_some, is_long) = (Needs::memory_if(!text.is_empty()), Needs::memory_if(text.len() > INLINE));
     // A string, an inline one, a box, a shared text, a borrowed and an owned text.
     for needs in [is_some, is_long, is_some, Needs::Memory, Needs::Nothing, is_some] {
-        asked.want.allocated(needs, |want| want.number(hash));
+        asked.want.allocated(needs, hash);
     }
     // The array.
-    (0..usize::from(text.len() <= 32)).for_each(|_| asked.want.number(hash));
-    text.first().iter().for_each(|code| asked.want.number(hash_of(code)));
+    (0..usize::from(text.len() <= 32)).for_each(|_| asked.want.put(hash));
+    text.first().iter().for_each(|code| asked.want.put(hash_of(code)));
 }

@@ -2,40 +2,47 @@
 
 use super::characters::{codes, numbers};
 use super::conversions::any_character;
-use super::edits::{piece, Commands};
+use super::edits::piece;
 use super::prints::{printed as print, FORMS};
 use super::slices::source;
 use super::texts::pair;
-use crate::asked::{items_of, Answer, Asked, Item};
-use crate::calls::{self, Step};
+use crate::asked::{items_of, Answer, Asked, Item, Put};
+use crate::calls::{self, Step, Steps};
 use crate::random::Random;
 use ascii::{
-    caret_decode, caret_encode, AsAsciiStr, AsAsciiStrError, AsMutAsciiStr, AsciiChar, AsciiStr, AsciiString,
-    FromAsciiError, IntoAsciiString, ToAsciiChar,
+    caret_decode, caret_encode, AsAsciiStr, AsAsciiStrError, AsMutAsciiStr, AsciiChar, AsciiStr, AsciiString, FromAsciiError,
+    IntoAsciiString, ToAsciiChar,
 };
 use std::fmt::Write;
 
-impl Answer {
-    fn character(&mut self, ch: Option<AsciiChar>) {
-        self.position(ch.map(|ch| ch as usize));
+impl Put for AsciiChar {
+    fn put(&self, answer: &mut Answer) {
+        answer.put(self.as_byte());
     }
+}
 
-    fn slice(&mut self, slice: Result<&AsciiStr, AsAsciiStrError>) {
-        match slice {
-            Ok(text) => self.text(text.as_bytes()),
-            Err(error) => self.number(error.valid_up_to()),
-        }
+impl Put for AsciiStr {
+    fn put(&self, answer: &mut Answer) {
+        answer.put(self.as_bytes());
     }
+}
 
-    /// A conversion of a source, which is returned if it is not ASCII.
-    fn conversion<O: AsRef<[u8]>>(&mut self, made: Result<AsciiString, FromAsciiError<O>>) {
-        match made {
-            Ok(string) => self.text(string.as_bytes()),
-            Err(error) => {
-                self.number(error.ascii_error().valid_up_to());
-                self.text(error.into_source());
-            }
-        }
+impl Put for AsciiString {
+    fn put(&self, answer: &mut Answer) {
+        answer.put(self.as_bytes());
+    }
+}
+
+impl Put for AsAsciiStrError {
+    fn put(&self, answer: &mut Answer) {
+        answer.put(self.valid_up_to());
+    }
+}
+
+/// A source that is not ASCII is returned.
+impl<O: Put + Clone> Put for FromAsciiError<O> {
+    fn put(&self, answer: &mut Answer) {
+        answer.put((self.ascii_error(), self.clone().into_source()));
     }
 }
 
@@ -61,21 +68,26 @@ fn char_of(code: u8) -> AsciiChar {
     code.to_ascii_char().expect("a code under 128")
 }
 
+/// The character of a number, if it is one.
+fn char_from(number: impl ToAsciiChar) -> Option<AsciiChar> {
+    number.to_ascii_char().ok()
+}
+
 pub fn slices(random: &mut Random, asked: &mut Asked) {
     let (form, source) = (random.below(6), source(random));
     let (a, b) = random.places(source.len());
     calls::ask_slices(asked, form as u8, a, b, &source);
     let want = &mut asked.want;
-    want.slice(sliced!(source[..], slice_ascii, form, a, b));
+    want.put(sliced!(source[..], slice_ascii, form, a, b));
     if let Ok(text) = std::str::from_utf8(&source) {
         // The crate slices the bytes of a `str`, so a position may be inside a character.
-        want.slice(sliced!(text, slice_ascii, form, a, b));
+        want.put(sliced!(text, slice_ascii, form, a, b));
     }
     if let Ok(view) = source.as_ascii_str() {
         let slice = sliced!(view, slice_ascii, form, a, b);
-        want.slice(slice);
+        want.put(slice);
         if slice.is_ok() {
-            want.slice(slice);
+            want.put(slice);
         }
     }
 }
@@ -92,9 +104,9 @@ pub fn slice_mut(random: &mut Random, asked: &mut Asked) {
             if !part.is_empty() {
                 part[0] = char_of(code);
             }
-            asked.want.text(part.as_bytes());
+            asked.want.put(&*part);
         }
-        Err(error) => asked.want.number(error.valid_up_to()),
+        Err(error) => asked.want.put(error),
     }
     asked.compare(&source, &want);
 }
@@ -104,16 +116,14 @@ pub fn position(random: &mut Random, asked: &mut Asked) {
     let at = random.place(source.len());
     calls::ask_position(asked, at, &source);
     let want = &mut asked.want;
-    want.character(source[..].get_ascii(at));
+    want.put(source[..].get_ascii(at));
     if let Ok(text) = std::str::from_utf8(&source) {
-        want.character(text.get_ascii(at));
+        want.put(text.get_ascii(at));
     }
     if let Ok(view) = source.as_ascii_str() {
-        want.character(view.get_ascii(at));
-        want.character(view.first());
-        want.character(view.last());
+        want.put((view.get_ascii(at), view.first(), view.last()));
         if at < view.len() {
-            want.character(Some(view[at]));
+            want.put(view[at]);
         }
     }
 }
@@ -122,13 +132,11 @@ pub fn of_numbers(random: &mut Random, asked: &mut Asked) {
     let numbers = numbers(random);
     calls::ask_characters_of(asked, &numbers);
     for number in numbers {
-        let want = &mut asked.want;
-        want.character(u8::try_from(number).ok().and_then(|number| number.to_ascii_char().ok()));
-        want.character(i8::try_from(number).ok().and_then(|number| number.to_ascii_char().ok()));
-        want.character(u16::try_from(number).ok().and_then(|number| number.to_ascii_char().ok()));
-        let number = u32::try_from(number).ok();
-        want.character(number.and_then(|number| number.to_ascii_char().ok()));
-        want.character(number.and_then(char::from_u32).and_then(|ch| ch.to_ascii_char().ok()));
+        let (word, want) = (u32::try_from(number).ok(), &mut asked.want);
+        want.put(u8::try_from(number).ok().and_then(char_from));
+        want.put(i8::try_from(number).ok().and_then(char_from));
+        want.put(u16::try_from(number).ok().and_then(char_from));
+        want.put((word.and_then(char_from), word.and_then(char::from_u32).and_then(char_from)));
     }
 }
 
@@ -157,12 +165,9 @@ pub fn characters(random: &mut Random, asked: &mut Asked) {
             ch.is_ascii_punctuation(),
             ch.is_ascii_hexdigit(),
         ];
-        tests.iter().for_each(|holds| want.flag(*holds));
-        want.character(Some(ch.to_ascii_uppercase()));
-        want.character(Some(ch.to_ascii_lowercase()));
-        want.number(ch.as_printable_char() as usize);
-        want.flag(ch.is_digit(radix));
-        want.number(ch.as_char().to_digit(radix).unwrap_or(radix) as usize);
+        want.all(tests);
+        want.put((ch.to_ascii_uppercase(), ch.to_ascii_lowercase(), ch.as_printable_char() as u32));
+        want.put((ch.is_digit(radix), ch.as_char().to_digit(radix).unwrap_or(radix)));
     }
 }
 
@@ -170,8 +175,7 @@ pub fn carets(random: &mut Random, asked: &mut Asked) {
     let codes = codes(random, 256);
     calls::ask_carets(asked, &codes);
     for code in codes {
-        asked.want.character(caret_encode(code));
-        asked.want.character(caret_decode(code));
+        asked.want.put((caret_encode(code), caret_decode(code)));
     }
 }
 
@@ -180,31 +184,23 @@ pub fn texts(random: &mut Random, asked: &mut Asked) {
     calls::ask_trims(asked, &text);
     calls::ask_cases(asked, &text);
     let (text, want) = (view(&text), &mut asked.want);
-    want.text(text.trim().as_bytes());
-    want.text(text.trim_start().as_bytes());
-    want.text(text.trim_end().as_bytes());
-    want.text(text.to_ascii_uppercase().as_bytes());
-    want.text(text.to_ascii_lowercase().as_bytes());
+    want.put((text.trim(), text.trim_start(), text.trim_end()));
+    want.put((text.to_ascii_uppercase(), text.to_ascii_lowercase()));
     let mut string = text.to_ascii_string();
     string.make_ascii_uppercase();
-    want.text(string.as_bytes());
+    want.put(&string);
     string.make_ascii_lowercase();
-    want.text(string.as_bytes());
+    want.put(string);
 }
 
 pub fn comparisons(random: &mut Random, asked: &mut Asked) {
     let (first, second) = pair(random);
     calls::ask_comparisons(asked, &first, &second);
     let (first, second, want) = (view(&first), view(&second), &mut asked.want);
-    want.flag(first == second);
-    want.flag(first == second.as_str());
-    want.flag(first.as_bytes() == second.as_bytes());
-    want.flag(first.eq_ignore_ascii_case(second));
-    want.flag(first.eq_ignore_ascii_case(second));
-    want.order(first.cmp(second));
-    want.order(first.to_ascii_lowercase().cmp(&second.to_ascii_lowercase()));
-    want.flag(true);
-    want.flag(first.to_ascii_lowercase() < second.to_ascii_lowercase());
+    want.put((first == second, first == second.as_str(), first.as_bytes() == second.as_bytes()));
+    want.put((first.eq_ignore_ascii_case(second), first.eq_ignore_ascii_case(second), first.cmp(second)));
+    want.put((first.to_ascii_lowercase().cmp(&second.to_ascii_lowercase()), true));
+    want.put(first.to_ascii_lowercase() < second.to_ascii_lowercase());
 }
 
 /// The items of an iterator of the crate by `next`, `next_back` and `nth(1)`, each with the remainder after it, as the
@@ -221,12 +217,9 @@ fn put_items<'a>(
             1 => items.next_back(),
             _ => items.nth(1),
         };
-        want.part(item.map(AsciiStr::as_bytes));
         // The crate's iterators have no remainder.
-        match remainder {
-            [_, Item::Text(text)] => want.text(text),
-            _ => want.none(),
-        }
+        let rest = if let [_, Item::Text(text)] = remainder { Some(text) } else { None };
+        want.put((item, rest));
     }
 }
 
@@ -251,11 +244,7 @@ pub fn chars(random: &mut Random, asked: &mut Asked) {
     let mut chars = view(&text).chars();
     for number in &script {
         let ch = if *number == 0 { chars.next() } else { chars.next_back() };
-        asked.want.character(ch);
-        asked.want.text(chars.as_str().as_bytes());
-        let (least, most) = chars.size_hint();
-        asked.want.number(least);
-        asked.want.position(most);
+        asked.want.put((ch, chars.as_str(), chars.size_hint()));
     }
 }
 
@@ -263,11 +252,9 @@ pub fn conversions(random: &mut Random, asked: &mut Asked) {
     let source = source(random);
     calls::ask_conversions(asked, &source);
     let want = &mut asked.want;
-    want.conversion(source[..].into_ascii_string());
-    want.conversion(source.clone().into_ascii_string());
+    want.put((source[..].into_ascii_string(), source.clone().into_ascii_string()));
     if let Ok(text) = std::str::from_utf8(&source) {
-        want.conversion(text.into_ascii_string());
-        want.conversion(text.to_string().into_ascii_string());
+        want.put((text.into_ascii_string(), text.to_string().into_ascii_string()));
     }
 }
 
@@ -278,36 +265,29 @@ pub fn written(random: &mut Random, asked: &mut Asked) {
     let piece = std::str::from_utf8(&piece).expect("UTF-8");
     let mut string = view(&text).to_ascii_string();
     let is_ok = string.write_str(piece).is_ok();
-    for _ in 0..2 {
-        asked.want.flag(is_ok);
-        asked.want.text(string.as_bytes());
-    }
+    asked.want.times(2, (is_ok, string));
     let mut string = view(&text).to_ascii_string();
-    asked.want.flag(string.write_char(ch).is_ok());
-    asked.want.text(string.as_bytes());
+    asked.want.put((string.write_char(ch).is_ok(), string));
 }
 
 pub fn printed(random: &mut Random, asked: &mut Asked) {
     let (form, text) = (random.below(FORMS), random.text());
     calls::ask_printed(asked, form as u8, &text);
     let (view, want) = (view(&text), &mut asked.want);
-    want.text(print(form, view));
-    want.text(print(form, view));
-    want.text(print(form, &view.to_ascii_string()));
-    want.text(print(form, view));
+    want.put((print(form, view), print(form, view), print(form, &view.to_ascii_string()), print(form, view)));
 }
 
 pub fn printed_characters(random: &mut Random, asked: &mut Asked) {
     let (form, codes) = (random.below(FORMS), codes(random, 128));
     calls::ask_printed_characters(asked, form as u8, &codes);
-    codes.iter().for_each(|code| asked.want.text(print(form, &char_of(*code))));
+    asked.want.all(codes.iter().map(|code| print(form, &char_of(*code))));
 }
 
-/// Commands whose positions fit, done by the crate's string.
+/// Steps whose positions fit, done by the crate's string.
 pub fn edits(random: &mut Random, asked: &mut Asked) {
     let source = random.text();
     let (is_small, mut string) = (random.below(2) == 0, view(&source).to_ascii_string());
-    let (mut commands, mut want) = (Commands::default(), Answer::default());
+    let (mut commands, mut want) = (Steps::default(), Answer::default());
     for _ in 0..random.count(24) {
         let (length, code) = (string.len(), random.code_of(b""));
         let kind = random.below(11) as u8;
@@ -319,8 +299,8 @@ pub fn edits(random: &mut Random, asked: &mut Asked) {
             2 => string.insert(at, char_of(code)),
             3 => string.insert_str(at, view(&text)),
             4 | 8 if length == 0 => continue,
-            4 => want.character(Some(string.remove(at))),
-            5 => want.character(string.pop()),
+            4 => want.put(Some(string.remove(at))),
+            5 => want.put(string.pop()),
             6 => string.truncate(at),
             7 => string.clear(),
             8 => string[at] = char_of(code),
@@ -328,12 +308,12 @@ pub fn edits(random: &mut Random, asked: &mut Asked) {
             _ => string.make_ascii_lowercase(),
         }
         if !matches!(kind, 4 | 5) {
-            want.text("done");
+            want.put("done");
         }
         commands.texts.extend(&text);
         commands.steps.push(Step { kind, code, at, start, end: commands.texts.len() });
     }
     calls::ask_edits(asked, is_small, &source, &commands.texts, &commands.steps);
-    want.text(string.as_bytes());
+    want.put(string.as_bytes());
     asked.want = want;
 }

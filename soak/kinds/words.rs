@@ -1,10 +1,20 @@
 //! Classes, and characters that are kept, by std or by plain loops.
 
 use super::characters::is_white;
-use super::walks::{pieces_by, put_items, put_words, words_of};
+use super::walks::{pieces_by, put_both, walk, walk_words, words_of};
+use super::{allocating, kind, long, Kind};
 use crate::asked::{Answer, Asked, Needs};
 use crate::calls;
 use crate::random::Random;
+
+pub static KINDS: &[Kind] = &[
+    long("classes, their runs and words", 2, class),
+    kind("marks of several bytes", |random, asked| ask_marks(&random.bytes(), asked)),
+    allocating("characters kept", |random, asked| {
+        let text = random.text();
+        ask_retain(random.code_of(&text), &text, asked);
+    }),
+];
 
 /// The classes, in the order of `ask_class`.
 pub const CLASSES: [fn(u8) -> bool; 20] = [
@@ -63,17 +73,13 @@ pub const DIGIT: u8 = 5;
 
 pub fn class_answers(class: u8, source: &[u8], script: &[u8], want: &mut Answer) {
     let is_in = CLASSES[usize::from(class)];
-    source.iter().for_each(|byte| want.flag(is_in(*byte)));
+    source.iter().for_each(|byte| want.put(is_in(*byte)));
     let first = source.iter().position(|byte| !is_in(*byte));
     let last = source.iter().rposition(|byte| !is_in(*byte));
-    want.position(first);
-    want.position(last);
+    want.put((first, last));
     let member = source.iter().position(|byte| is_in(*byte));
     let last_member = source.iter().rposition(|byte| is_in(*byte));
-    want.position(member);
-    want.position(last_member);
-    want.number(member.unwrap_or(source.len()));
-    want.number(last_member.map_or(0, |at| at + 1));
+    want.put((member, last_member, member.unwrap_or(source.len()), last_member.map_or(0, |at| at + 1)));
     if source.is_ascii() {
         text_answers(is_in, source, script, want);
     }
@@ -82,22 +88,14 @@ pub fn class_answers(class: u8, source: &[u8], script: &[u8], want: &mut Answer)
 /// What a text of ASCII codes has of a class.
 fn text_answers(is_in: fn(u8) -> bool, text: &[u8], script: &[u8], want: &mut Answer) {
     let first = text.iter().position(|byte| !is_in(*byte));
-    want.position(first);
-    want.flag(first.is_none());
+    want.put((first, first.is_none()));
     let start = first.unwrap_or(text.len());
     let end = text.iter().rposition(|byte| !is_in(*byte)).map_or(0, |last| last + 1);
-    want.text(&text[..start]);
-    want.text(&text[start..]);
-    want.text(&text[start.min(end)..end]);
-    want.text(&text[start..]);
-    want.text(&text[..end]);
-    put_words(text, words_of(text, is_in), script, want);
-    put_words(text, words_of(text, |byte| !is_in(byte)), script, want);
-    put_items(text, pieces_by(text, is_in), script, want);
-}
-
-pub fn marks(random: &mut Random, asked: &mut Asked) {
-    ask_marks(&random.bytes(), asked);
+    want.put((&text[..start], &text[start..], &text[start.min(end)..end], &text[start..]));
+    want.put(&text[..end]);
+    put_both(walk_words(text, words_of(text, is_in), script), want);
+    put_both(walk_words(text, words_of(text, |byte| !is_in(byte)), script), want);
+    put_both(walk(text, pieces_by(text, is_in), script), want);
 }
 
 /// For each position, the marks of digits, of the codes of a token and of whitespace: a bit for each byte that is none.
@@ -108,22 +106,14 @@ pub fn ask_marks(source: &[u8], asked: &mut Asked) {
         for width in [4, 8] {
             if let Some(bytes) = source.get(at..at + width) {
                 let marked = |mark: usize, lane: usize| mark | usize::from(!is_in(bytes[lane])) << lane;
-                asked.want.number((0..width).fold(0, marked));
+                asked.want.put((0..width).fold(0, marked));
             }
         }
     }
 }
 
-pub fn retain(random: &mut Random, asked: &mut Asked) {
-    let text = random.text();
-    ask_retain(random.code_of(&text), &text, asked);
-}
-
 pub fn ask_retain(code: u8, text: &[u8], asked: &mut Asked) {
     calls::ask_retain(asked, code, text);
     let kept: Vec<u8> = text.iter().copied().filter(|other| *other != code).collect();
-    asked.want.allocated(Needs::memory_if(!text.is_empty()), |want| {
-        want.flag(kept.is_empty());
-        want.text(kept);
-    });
+    asked.want.allocated(Needs::memory_if(!text.is_empty()), (kept.is_empty(), kept));
 }

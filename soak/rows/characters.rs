@@ -7,12 +7,32 @@ use crate::kinds::characters::{ask_carets, ask_characters, ask_characters_of, as
 
 pub static ROWS: &[Row] = &[
     ("characters_as_in_the_upstream_crate", as_upstream),
-    ("how_many_characters_are_in_each_class", counts),
-    ("numbers_that_are_characters", numbers),
-    ("characters_by_unchecked_calls", conversions),
-    ("digits_of_each_radix", digits),
-    ("pairs_of_characters", pairs),
-    ("a_set_of_characters", set),
+    // The table has as many codes of each class as the class has, and the library has those of the table.
+    ("how_many_characters_are_in_each_class", |rows| {
+        for (bits, count) in COUNTS {
+            assert_eq!(KNOWN.iter().filter(|known| known.0 & bits == bits).count(), count);
+        }
+        let codes: Vec<u8> = (0..128).collect();
+        rows.ask(|asked| ask_characters(&codes, 10, asked));
+    }),
+    ("numbers_that_are_characters", |rows| {
+        let mut all: Vec<i64> = (-129..300).collect();
+        all.extend([0x120, 0x3bb, 0xffff, 0xffff_ff20, 0xffff_ffff]);
+        for number in all {
+            rows.ask(|asked| ask_characters_of(&[number], asked));
+        }
+    }),
+    ("characters_by_unchecked_calls", |rows| rows.each(0..=255, |code, asked| ask_conversions(&[code], asked))),
+    // Of a radix under 2 only 0 can be a digit, and of none no code.
+    ("digits_of_each_radix", |rows| rows.each(0..37, |radix, asked| ask_characters(b"05z/AZ9", radix, asked))),
+    ("pairs_of_characters", |rows| {
+        for first in 0..128 {
+            for second in 0..128 {
+                rows.ask(|asked| ask_pairs(&[first, second], asked));
+            }
+        }
+    }),
+    ("a_set_of_characters", |rows| rows.ask(|asked| ask_set(b"AAa", asked))),
     ("caret_notation_of_each_byte", carets),
 ];
 
@@ -158,12 +178,9 @@ const TESTS: [u32; 17] = [0, 1, 2, 3, 4, 11, 12, 13, 14, 5, 6, 7, 8, 9, 10, 15, 
 /// The tests, cases and digits of a code.
 fn put_known(code: u8, radix: u32, want: &mut Answer) {
     let (bits, least, upper, lower, shown, ..) = KNOWN[usize::from(code)];
-    TESTS.iter().for_each(|test| want.flag(bits >> test & 1 == 1));
-    want.number(upper.into());
-    want.number(lower.into());
-    want.number(shown as usize);
-    want.flag(radix >= least);
-    want.number((code as char).to_digit(radix).unwrap_or(radix) as usize);
+    TESTS.iter().for_each(|test| want.put(bits >> test & 1 == 1));
+    want.put((upper, lower, shown as usize, radix >= least));
+    want.put((code as char).to_digit(radix).unwrap_or(radix) as usize);
 }
 
 fn as_upstream(rows: &mut Rows) {
@@ -177,19 +194,17 @@ fn as_upstream(rows: &mut Rows) {
         let (_, _, _, _, _, written, read, debug) = KNOWN[usize::from(code)];
         rows.ask(|asked| {
             calls::ask_carets(asked, &[code]);
-            asked.want.position(written.map(usize::from));
-            asked.want.position(read.map(usize::from));
+            asked.want.put((written, read));
             calls::ask_printed_characters(asked, 1, &[code]);
-            asked.want.text(debug);
+            asked.want.put(debug);
             calls::ask_printed_characters(asked, 0, &[code]);
-            asked.want.text([code]);
+            asked.want.put([code]);
         });
     }
     for form in 0..crate::kinds::prints::FORMS {
         for ch in ['t', '\n'] {
-            rows.ask(|asked| {
-                calls::ask_printed_characters(asked, form as u8, &[ch as u8]);
-                asked.want.text(crate::kinds::prints::printed(form, &ch));
+            rows.expect(crate::kinds::prints::printed(form, &ch), |asked| {
+                calls::ask_printed_characters(asked, form as u8, &[ch as u8])
             });
         }
     }
@@ -211,48 +226,6 @@ static COUNTS: [(u32, usize); 13] = [
     (0x08000, 32),
     (0x10000, 22),
 ];
-
-/// The table has as many codes of each class as the class has, and the library has those of the table.
-fn counts(rows: &mut Rows) {
-    for (bits, count) in COUNTS {
-        assert_eq!(KNOWN.iter().filter(|known| known.0 & bits == bits).count(), count);
-    }
-    let codes: Vec<u8> = (0..128).collect();
-    rows.ask(|asked| ask_characters(&codes, 10, asked));
-}
-
-fn numbers(rows: &mut Rows) {
-    let mut all: Vec<i64> = (-129..300).collect();
-    all.extend([0x120, 0x3bb, 0xffff, 0xffff_ff20, 0xffff_ffff]);
-    for number in all {
-        rows.ask(|asked| ask_characters_of(&[number], asked));
-    }
-}
-
-fn conversions(rows: &mut Rows) {
-    for code in 0..=255 {
-        rows.ask(|asked| ask_conversions(&[code], asked));
-    }
-}
-
-/// Of a radix under 2 only 0 can be a digit, and of none no code.
-fn digits(rows: &mut Rows) {
-    for radix in 0..37 {
-        rows.ask(|asked| ask_characters(b"05z/AZ9", radix, asked));
-    }
-}
-
-fn pairs(rows: &mut Rows) {
-    for first in 0..128 {
-        for second in 0..128 {
-            rows.ask(|asked| ask_pairs(&[first, second], asked));
-        }
-    }
-}
-
-fn set(rows: &mut Rows) {
-    rows.ask(|asked| ask_set(b"AAa", asked));
-}
 
 fn carets(rows: &mut Rows) {
     let all: Vec<u8> = (0..=255).collect();

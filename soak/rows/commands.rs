@@ -1,17 +1,39 @@
-//! Commands over a string and an inline string: their replies, and the text after them.
+//! Steps over a string and an inline string: their replies, and the text after them.
 
 use super::{Row, Rows};
-use crate::asked::Answer;
-use crate::calls::{self, Step, WHOLE};
-use crate::kinds::edits::{ask_capacities, ask_edits, expect_failures, Commands};
+use crate::asked::{Answer, Put};
+use crate::calls::{self, Step, Steps, WHOLE};
+use crate::kinds::edits::{ask_capacities, ask_edits, expect_failures};
 use crate::kinds::engines::{ask_runs, Run};
 use crate::random::Random;
 
 pub static ROWS: &[Row] = &[
-    ("commands_by_position", by_position),
-    ("commands_by_position_over_no_text", by_position_over_no_text),
-    ("other_commands", other_commands),
-    ("copies_of_a_range", copies),
+    ("commands_by_position", |rows| {
+        for (cmd, expected) in BY_POSITION.iter().zip(OVER_ABC) {
+            for (n, (reply, text)) in POSITIONS.into_iter().zip(expected) {
+                ask(rows, "abc", &[cmd(n)], &[reply], text);
+            }
+        }
+    }),
+    ("commands_by_position_over_no_text", |rows| {
+        for (cmd, expected) in BY_POSITION.iter().zip(OVER_NOTHING) {
+            for (n, (reply, text)) in [0, 1, usize::MAX].into_iter().zip(expected) {
+                ask(rows, "", &[cmd(n)], &[reply], text);
+            }
+        }
+    }),
+    ("other_commands", |rows| {
+        ask(rows, "abc", &[], &[], "abc");
+        for (cmd, (reply, text), (reply_over_nothing, nothing)) in OTHER_COMMANDS {
+            ask(rows, "aBc", &[cmd], &[reply], text);
+            ask(rows, "", &[cmd], &[reply_over_nothing], nothing);
+        }
+    }),
+    ("copies_of_a_range", |rows| {
+        for (range, reply) in COPIES {
+            ask(rows, "abc", &[Copy(range)], &[reply], "abc");
+        }
+    }),
     ("lists_of_commands", lists),
     ("long_lists_of_commands_of_every_kind", of_every_kind),
     ("many_commands", many_commands),
@@ -72,8 +94,8 @@ use Cmd::*;
 use Reply::{BadPosition, Char, Done, NoMemory, Number, Refused, Text, TooMany, Truth};
 
 /// The commands as they are passed.
-pub fn commands_of(cmds: &[Cmd]) -> Commands {
-    let mut all = Commands::default();
+pub fn commands_of(cmds: &[Cmd]) -> Steps {
+    let mut all = Steps::default();
     for cmd in cmds {
         match *cmd {
             Push(code) => all.add(0, 0, code),
@@ -112,17 +134,19 @@ fn copy_of(range: Range) -> Step {
     Step { kind: 17, code, start, end, ..Step::default() }
 }
 
-fn put_reply(reply: Reply, want: &mut Answer) {
-    match reply {
-        Done => want.text("done"),
-        Char(ch) => want.position(ch.map(usize::from)),
-        Number(number) => want.number(number),
-        Truth(holds) => want.flag(holds),
-        Text(text) => want.text(text),
-        BadPosition => want.text("position"),
-        Refused(position) => want.fault("ascii", position),
-        NoMemory => want.text("memory"),
-        TooMany => want.text("many"),
+impl Put for Reply {
+    fn put(&self, answer: &mut Answer) {
+        match self {
+            Done => answer.put("done"),
+            Char(ch) => answer.put(ch),
+            Number(number) => answer.put(number),
+            Truth(holds) => answer.put(holds),
+            Text(text) => answer.put(text),
+            BadPosition => answer.put("position"),
+            Refused(position) => answer.put(("ascii", position)),
+            NoMemory => answer.put("memory"),
+            TooMany => answer.put("many"),
+        }
     }
 }
 
@@ -132,8 +156,8 @@ fn ask(rows: &mut Rows, source: &str, cmds: &[Cmd], replies: &[Reply], text: &st
     for is_small in [false, true] {
         rows.ask(|asked| {
             calls::ask_edits(asked, is_small, source.as_bytes(), &all.texts, &all.steps);
-            replies.iter().for_each(|reply| put_reply(*reply, &mut asked.want));
-            asked.want.text(text);
+            asked.want.all(replies);
+            asked.want.put(text);
             expect_failures(is_small, source.as_bytes(), &all, asked);
         });
     }
@@ -148,32 +172,12 @@ static POSITIONS: [usize; 5] = [0, 2, 3, 4, usize::MAX];
 static OVER_ABC: [[(Reply, &str); 5]; 7] = [
     [(Done, "xabc"), (Done, "abxc"), (Done, "abcx"), (BadPosition, "abc"), (BadPosition, "abc")],
     [(Done, "deabc"), (Done, "abdec"), (Done, "abcde"), (BadPosition, "abc"), (BadPosition, "abc")],
-    [
-        (Char(Some(b'a')), "bc"),
-        (Char(Some(b'c')), "ab"),
-        (BadPosition, "abc"),
-        (BadPosition, "abc"),
-        (BadPosition, "abc"),
-    ],
+    [(Char(Some(b'a')), "bc"), (Char(Some(b'c')), "ab"), (BadPosition, "abc"), (BadPosition, "abc"), (BadPosition, "abc")],
     [(Done, "xbc"), (Done, "abx"), (BadPosition, "abc"), (BadPosition, "abc"), (BadPosition, "abc")],
     [(Done, ""), (Done, "ab"), (Done, "abc"), (Done, "abc"), (Done, "abc")],
-    [
-        (Char(Some(b'a')), "abc"),
-        (Char(Some(b'c')), "abc"),
-        (Char(None), "abc"),
-        (Char(None), "abc"),
-        (Char(None), "abc"),
-    ],
+    [(Char(Some(b'a')), "abc"), (Char(Some(b'c')), "abc"), (Char(None), "abc"), (Char(None), "abc"), (Char(None), "abc")],
     [(Done, "abc"), (Done, "abc"), (Done, "abc"), (Done, "abc"), (TooMany, "abc")],
 ];
-
-fn by_position(rows: &mut Rows) {
-    for (cmd, expected) in BY_POSITION.iter().zip(OVER_ABC) {
-        for (n, (reply, text)) in POSITIONS.into_iter().zip(expected) {
-            ask(rows, "abc", &[cmd(n)], &[reply], text);
-        }
-    }
-}
 
 /// The reply to each command by position over the empty text, and the text after it, at 0, 1 and the largest position.
 static OVER_NOTHING: [[(Reply, &str); 3]; 7] = [
@@ -185,14 +189,6 @@ static OVER_NOTHING: [[(Reply, &str); 3]; 7] = [
     [(Char(None), ""), (Char(None), ""), (Char(None), "")],
     [(Done, ""), (Done, ""), (NoMemory, "")],
 ];
-
-fn by_position_over_no_text(rows: &mut Rows) {
-    for (cmd, expected) in BY_POSITION.iter().zip(OVER_NOTHING) {
-        for (n, (reply, text)) in [0, 1, usize::MAX].into_iter().zip(expected) {
-            ask(rows, "", &[cmd(n)], &[reply], text);
-        }
-    }
-}
 
 /// A command, and its reply and the text after it: over `aBc`, and over the empty text.
 type OtherCommand = (Cmd, (Reply, &'static str), (Reply, &'static str));
@@ -216,14 +212,6 @@ static OTHER_COMMANDS: [OtherCommand; 17] = [
     (EqIgnoreCase("abd"), (Truth(false), "aBc"), (Truth(false), "")),
     (EqIgnoreCase(""), (Truth(false), "aBc"), (Truth(true), "")),
 ];
-
-fn other_commands(rows: &mut Rows) {
-    ask(rows, "abc", &[], &[], "abc");
-    for (cmd, (reply, text), (reply_over_nothing, nothing)) in OTHER_COMMANDS {
-        ask(rows, "aBc", &[cmd], &[reply], text);
-        ask(rows, "", &[cmd], &[reply_over_nothing], nothing);
-    }
-}
 
 /// A range, and the copy of it from `abc`.
 static COPIES: [(Range, Reply); 21] = [
@@ -249,12 +237,6 @@ static COPIES: [(Range, Reply); 21] = [
     (Range::ToInclusive(3), Refused(3)),
     (Range::ToInclusive(usize::MAX), Refused(3)),
 ];
-
-fn copies(rows: &mut Rows) {
-    for (range, reply) in COPIES {
-        ask(rows, "abc", &[Copy(range)], &[reply], "abc");
-    }
-}
 
 /// A text that is just short enough to be inline.
 const FULL: &str = "aaaaaaaaaaaaaaaaaaaaaaaa";
@@ -323,17 +305,17 @@ fn many_commands(rows: &mut Rows) {
     let (long, cmds) = ("a".repeat(5_000), commands_of(&[Push(b'a'); 5_000]));
     rows.ask(|asked| {
         calls::ask_edits(asked, false, b"", &cmds.texts, &cmds.steps);
-        (0..5_000).for_each(|_| asked.want.text("done"));
-        asked.want.text(&long);
+        asked.want.times(5_000, "done");
+        asked.want.put(&long);
         expect_failures(false, b"", &cmds, asked);
     });
-    let mut cmds = Commands::default();
+    let mut cmds = Steps::default();
     cmds.add_text(3, 1, long.as_bytes());
     cmds.steps.push(copy_of(Range::Full));
     rows.ask(|asked| {
         calls::ask_edits(asked, false, long.as_bytes(), &cmds.texts, &cmds.steps);
-        asked.want.text("done");
-        (0..2).for_each(|_| asked.want.text(long.repeat(2)));
+        asked.want.put("done");
+        asked.want.times(2, long.repeat(2));
         expect_failures(false, long.as_bytes(), &cmds, asked);
     });
 }
@@ -343,17 +325,14 @@ fn reserved_and_shrunk(rows: &mut Rows) {
     rows.ask(|asked| {
         ask_capacities(1, &cmds, asked);
         let modelled = std::mem::take(&mut asked.want.bytes);
-        asked.want.number(1);
-        for capacity in [1, 10_001, 1] {
-            asked.want.text("done");
-            asked.want.number(capacity);
-        }
+        asked.want.put(1);
+        asked.want.all([1, 10_001, 1].map(|capacity| ("done", capacity)));
         assert!(asked.want.bytes == modelled, "the model differs from the row");
     });
 }
 
 /// What the mode `Edit` answers over a text and over the end of it.
-fn ask_mode(rows: &mut Rows, source: &str, cmds: &Commands, runs: [Run<'_>; 2]) {
+fn ask_mode(rows: &mut Rows, source: &str, cmds: &Steps, runs: [Run<'_>; 2]) {
     rows.ask(|asked| ask_runs((7, &[], cmds), source.as_bytes(), (&WHOLE, &WHOLE), runs, asked));
 }
 
@@ -362,7 +341,7 @@ fn edits_of_the_engine(rows: &mut Rows) {
     ask_mode(rows, "abc", &commands_of(&[Pop, Remove(2), Set(9, b'x')]), [stops, stops]);
     ask_mode(rows, "ab", &commands_of(&[Reserve(usize::MAX - 2), Remove(2)]), [Run::Memory, Run::Memory]);
     ask_mode(rows, "ab", &commands_of(&[Push(b'x'), Truncate(9), Upper]), [writes("ABX"), writes("X")]);
-    ask_mode(rows, "ab", &Commands::default(), [writes("ab"), writes("")]);
+    ask_mode(rows, "ab", &Steps::default(), [writes("ab"), writes("")]);
     for count in [1_000, 100_000] {
         let mut cmds = commands_of(&vec![Push(b'b'); count]);
         let text = "b".repeat(count);

@@ -1,14 +1,19 @@
 //! Devices that follow a plan, and a buffer before one. Each call of a device takes the next step of its plan.
 
 use super::{Row, Rows};
-use crate::asked::{Answer, Needs};
-use crate::calls::{self, Step};
+use crate::asked::Needs;
+use crate::calls::{self, Step, Steps};
 
 pub static ROWS: &[Row] = &[
     ("a_full_buffer_is_written_first", full_buffer),
     ("a_buffer_writes_nothing_after_a_failure", after_a_failure),
     ("a_buffer_takes_a_prefix", prefixes),
-    ("a_buffer_takes_a_line", lines),
+    ("a_buffer_takes_a_line", |rows| {
+        let steps = pieces(2, &["ab"]);
+        for (size, calls) in [(0, "ab|\n|!"), (2, "ab|\n|!"), (3, "ab\n|!"), (9, "ab\n|!")] {
+            ask_buffer(rows, size, &steps, &[], (false, true, 0, calls));
+        }
+    }),
     ("a_buffer_that_gave_up_writes_nothing", gave_up),
     ("a_device_keeps_its_last_error", last_errors),
     ("both_directions_of_a_device", both_directions),
@@ -32,25 +37,20 @@ fn fails(code: u8) -> Step {
 }
 
 /// Steps of a kind, each with the next piece of the texts.
-fn pieces(kind: u8, pieces: &[&str]) -> (Vec<u8>, Vec<Step>) {
-    let (mut texts, mut steps) = (Vec::new(), Vec::new());
-    for piece in pieces {
-        let start = texts.len();
-        texts.extend(piece.bytes());
-        steps.push(Step { kind, start, end: texts.len(), ..Step::default() });
-    }
-    (texts, steps)
+fn pieces(kind: u8, pieces: &[&'static str]) -> Steps {
+    Steps::of(pieces.iter().map(|piece| (kind, 0, *piece)))
 }
 
-/// What a buffer of a size answers: its zeros, whether a write has failed before the end, whether the end succeeds, how
-/// many calls have failed, and the calls of the writer.
-fn put(size: usize, is_broken: bool, succeeds: bool, failures: usize, calls: &str, want: &mut Answer) {
-    want.copy(vec![0; size]);
-    want.allocated(Needs::memory_if(size > 0), |want| {
-        want.flag(is_broken);
-        want.flag(succeeds);
-        want.number(failures);
-        want.text(calls);
+/// What a buffer answers besides its zeros: whether a write has failed before the end, whether the end succeeds, how many
+/// calls have failed, and the calls of the writer.
+type Buffered<'a> = (bool, bool, usize, &'a str);
+
+/// Asks for steps over a buffer of a size before a writer that follows a plan.
+fn ask_buffer(rows: &mut Rows, size: usize, steps: &Steps, plan: &[Step], expected: Buffered<'_>) {
+    rows.ask(|asked| {
+        calls::ask_buffered(asked, size, &steps.texts, &steps.steps, plan);
+        asked.want.copy(vec![0; size]);
+        asked.want.allocated(Needs::memory_if(size > 0), expected);
     });
 }
 
@@ -58,7 +58,7 @@ fn put(size: usize, is_broken: bool, succeeds: bool, failures: usize, calls: &st
 const PIECES: [&str; 5] = ["ab", "c", "de", "fghijk", "l"];
 
 fn full_buffer(rows: &mut Rows) {
-    let (texts, steps) = pieces(0, &PIECES);
+    let steps = pieces(0, &PIECES);
     let expected = [
         (0, "ab|c|de|fghijk|l|!"),
         (1, "ab|c|de|fghijk|l|!"),
@@ -71,19 +71,13 @@ fn full_buffer(rows: &mut Rows) {
         (3_000, "abcdefghijkl|!"),
     ];
     for (size, calls) in expected {
-        rows.ask(|asked| {
-            calls::ask_buffered(asked, size, &texts, &steps, &[]);
-            put(size, false, true, 0, calls, &mut asked.want);
-        });
+        ask_buffer(rows, size, &steps, &[], (false, true, 0, calls));
     }
-    rows.ask(|asked| {
-        calls::ask_buffered(asked, 6, &texts, &steps, &[moves(2); 7]);
-        put(6, false, true, 0, "ab|cd|e|fg|hi|jk|l|!", &mut asked.want);
-    });
+    ask_buffer(rows, 6, &steps, &[moves(2); 7], (false, true, 0, "ab|cd|e|fg|hi|jk|l|!"));
 }
 
 fn after_a_failure(rows: &mut Rows) {
-    let (texts, steps) = pieces(0, &PIECES);
+    let steps = pieces(0, &PIECES);
     let (all, fails) = (moves(usize::MAX), fails(INTERRUPTED));
     let expected: [(&[Step], &str, bool); 6] = [
         (&[fails], "", true),
@@ -94,10 +88,7 @@ fn after_a_failure(rows: &mut Rows) {
         (&[all, all, all, all, fails], "abc|de|fghijk|l|", false),
     ];
     for (plan, calls, is_broken) in expected {
-        rows.ask(|asked| {
-            calls::ask_buffered(asked, 4, &texts, &steps, plan);
-            put(4, is_broken, false, 1, calls, &mut asked.want);
-        });
+        ask_buffer(rows, 4, &steps, plan, (is_broken, false, 1, calls));
     }
 }
 
@@ -105,37 +96,18 @@ fn prefixes(rows: &mut Rows) {
     let text = "0123456789abcdefghijklmnopqrstuvwxyzABCD".repeat(2);
     for size in [0, 31, 32, 33, 64, 65, 128] {
         for most in 0..=text.len() {
-            let step = Step { kind: 1, at: most, end: text.len(), ..Step::default() };
-            rows.ask(|asked| {
-                calls::ask_buffered(asked, size, text.as_bytes(), &[step], &[]);
-                let calls = if most == 0 { "!".to_string() } else { format!("{}|!", &text[..most]) };
-                put(size, false, true, 0, &calls, &mut asked.want);
-            });
+            let steps = Steps::of([(1, most, text.as_str())]);
+            let calls = if most == 0 { "!".to_string() } else { format!("{}|!", &text[..most]) };
+            ask_buffer(rows, size, &steps, &[], (false, true, 0, &calls));
         }
     }
 }
 
-fn lines(rows: &mut Rows) {
-    let (texts, steps) = pieces(2, &["ab"]);
-    for (size, calls) in [(0, "ab|\n|!"), (2, "ab|\n|!"), (3, "ab\n|!"), (9, "ab\n|!")] {
-        rows.ask(|asked| {
-            calls::ask_buffered(asked, size, &texts, &steps, &[]);
-            put(size, false, true, 0, calls, &mut asked.want);
-        });
-    }
-}
-
 fn gave_up(rows: &mut Rows) {
-    let (texts, mut steps) = pieces(0, &["ab", "cd"]);
-    rows.ask(|asked| {
-        calls::ask_buffered(asked, 2, &texts, &steps, &[]);
-        put(2, false, true, 0, "ab|cd|!", &mut asked.want);
-    });
-    steps.insert(1, Step { kind: 3, ..Step::default() });
-    rows.ask(|asked| {
-        calls::ask_buffered(asked, 2, &texts, &steps, &[]);
-        put(2, true, false, 0, "", &mut asked.want);
-    });
+    let mut steps = pieces(0, &["ab", "cd"]);
+    ask_buffer(rows, 2, &steps, &[], (false, true, 0, "ab|cd|!"));
+    steps.steps.insert(1, Step { kind: 3, ..Step::default() });
+    ask_buffer(rows, 2, &steps, &[], (true, false, 0, ""));
 }
 
 /// A call of a device: a read of at most a number of bytes, a write of a text, or a flush.
@@ -146,7 +118,7 @@ enum Call {
     Flush,
 }
 
-/// What a call replan: the bytes of a read, the number of bytes of a write, or an error.
+/// What a call returns: the bytes of a read, the number of bytes of a write, or an error.
 #[derive(Clone, Copy)]
 enum Got {
     Bytes(&'static str),
@@ -166,36 +138,28 @@ fn ask(
     errors: (Option<u8>, Option<u8>),
     written: &str,
 ) {
-    let (mut texts, mut steps) = (Vec::new(), Vec::new());
-    for (call, _, _) in calls {
-        let (kind, at, text) = match *call {
-            Read(most) => (0, most, ""),
-            Write(text) => (1, 0, text),
-            Flush => (2, 0, ""),
-        };
-        let start = texts.len();
-        texts.extend(text.bytes());
-        steps.push(Step { kind, at, start, end: texts.len(), ..Step::default() });
-    }
+    let Steps { texts, steps } = Steps::of(calls.iter().map(|(call, _, _)| match *call {
+        Read(most) => (0, most, ""),
+        Write(text) => (1, 0, text),
+        Flush => (2, 0, ""),
+    }));
     for tells_errors in [true, false] {
         rows.ask(|asked| {
             calls::ask_device_calls(asked, tells_errors, source.as_bytes(), &texts, &steps, reads, writes);
             let want = &mut asked.want;
             for (call, got, (reads, writes)) in calls {
                 match (call, got) {
-                    (_, Bytes(bytes)) => want.text(bytes),
-                    (_, Count(count)) => want.number(*count),
-                    (Read(_), Fails) => want.text("read"),
-                    (_, Fails) => want.text("write"),
+                    (_, Bytes(bytes)) => want.put(bytes),
+                    (_, Count(count)) => want.put(*count),
+                    (Read(_), Fails) => want.put("read"),
+                    (_, Fails) => want.put("write"),
                 }
-                want.number(*reads);
-                want.number(*writes);
+                want.put((*reads, *writes));
             }
             if tells_errors {
-                want.position(errors.0.map(usize::from));
-                want.position(errors.1.map(usize::from));
+                want.put((errors.0, errors.1));
             } else {
-                want.text(written);
+                want.put(written);
             }
         });
     }

@@ -1,8 +1,8 @@
 //! Lists of edits, against a table that `soak/vectors/edit_lists.rs` made with the upstream crate.
 
 use super::{Row, Rows};
-use crate::calls;
-use crate::kinds::edits::{expect_failures, Commands};
+use crate::calls::{self, Steps};
+use crate::kinds::edits::expect_failures;
 
 pub static ROWS: &[Row] = &[("edits_as_the_upstream_crate", as_upstream)];
 
@@ -32,8 +32,8 @@ impl Picks {
 }
 
 /// As many edits as the list has. Each position is in the text.
-fn edits(number: usize) -> Commands {
-    let (mut picks, mut all, mut length) = (Picks { state: number as u64 }, Commands::default(), 0_usize);
+fn edits(number: usize) -> Steps {
+    let (mut picks, mut all, mut length) = (Picks { state: number as u64 }, Steps::default(), 0_usize);
     for _ in 0..number {
         match picks.below(10) {
             0..=3 => {
@@ -77,12 +77,12 @@ fn as_upstream(rows: &mut Rows) {
                 let mut taken = taken.bytes();
                 for step in &cmds.steps {
                     match step.kind {
-                        4 | 5 => asked.want.position(taken.next().filter(|ch| *ch != b'.').map(usize::from)),
-                        _ => asked.want.text("done"),
+                        4 | 5 => asked.want.put(taken.next().filter(|ch| *ch != b'.')),
+                        _ => asked.want.put("done"),
                     }
                 }
                 assert_eq!(taken.next(), None, "the table has as many characters");
-                asked.want.text(text);
+                asked.want.put(text);
                 expect_failures(is_small, b"", &cmds, asked);
             });
         }

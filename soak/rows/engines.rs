@@ -2,12 +2,10 @@
 
 use super::commands::{commands_of, Cmd};
 use super::{Row, Rows};
-use crate::asked::Answer;
-use crate::calls::{self, Device, ERRORS, WHOLE};
-use crate::kinds::edits::Commands;
-use crate::kinds::engines::{
-    self, bounded_output, expect, expect_bounded, lists_of, output, put_failures, runs_fail, Run, BOUNDED,
-};
+use crate::asked::{Fault, Put};
+use crate::calls::{self, Device, Steps, ERRORS, WHOLE};
+use crate::kinds::engines::Run::{FailsToRead, FailsToWrite, Rejects, Writes};
+use crate::kinds::engines::{self, bounded_output, expected, expected_bounded, output, runs_fail, Mode, Run, BOUNDED};
 use crate::kinds::json_values::{ask_json, quoted};
 
 pub static ROWS: &[Row] = &[
@@ -39,43 +37,22 @@ const ENDS_SPANS: u8 = 5;
 const JSON: u8 = 6;
 const EDIT: u8 = 7;
 
-/// What a mode takes besides the text.
-struct Mode<'a> {
-    number: u8,
-    script: &'a [u8],
-    commands: &'a Commands,
-}
-
-/// What a run writes, or why it stops: the device that fails and what was written before.
-type Outcome<'a> = Result<&'a [u8], (&'static str, &'a [u8])>;
-
 /// Asks for two runs over the same devices. Each call of `writes` moves one byte or all.
-fn ask_runs(rows: &mut Rows, mode: &Mode<'_>, source: &[u8], devices: (&Device, &Device), outcomes: [Outcome<'_>; 2]) {
-    let runs = outcomes.map(|outcome| match outcome {
-        Ok(part) => Run::Writes(part),
-        Err(("read", _)) => Run::FailsToRead,
-        Err((_, part)) => Run::FailsToWrite(part),
-    });
-    let mode = (mode.number, mode.script, mode.commands);
+fn ask_runs(rows: &mut Rows, mode: Mode<'_>, source: &[u8], devices: (&Device, &Device), runs: [Run<'_>; 2]) {
     rows.ask(|asked| engines::ask_runs(mode, source, devices, runs, asked));
 }
 
 /// Asks for the output of a mode over devices that do not fail. The second run is over the end of the text. The number
 /// of calls of the writer is expected if the row says it.
-fn ask_output(rows: &mut Rows, mode: &Mode<'_>, source: &[u8], (output, at_end): (&[u8], &[u8]), calls: Option<usize>) {
+fn ask_output(rows: &mut Rows, mode: Mode<'_>, source: &[u8], (output, at_end): (&[u8], &[u8]), calls: Option<usize>) {
     rows.ask(|asked| {
-        let Commands { texts, steps } = mode.commands;
-        calls::ask_engine_runs(asked, mode.number, mode.script, texts, steps, source, &WHOLE, &WHOLE);
-        for _ in 0..2 {
-            asked.want.text("done");
-            put_failures(0, 0, &mut asked.want);
-        }
+        let (number, script, Steps { texts, steps }) = mode;
+        calls::ask_engine_runs(asked, number, script, texts, steps, source, &WHOLE, &WHOLE);
+        asked.want.times(2, ("done", 0, 0));
         let got = calls_of_runs(asked.got(), output.len() + at_end.len());
-        asked.want.number(calls.unwrap_or(got));
-        asked.want.text([output, at_end].concat());
+        asked.want.put((calls.unwrap_or(got), [output, at_end].concat()));
         if output.len().max(at_end.len()) <= BUFFER {
-            let (lists, runs) = (lists_of(mode.script, mode.commands), [Run::Writes(output), Run::Writes(at_end)]);
-            runs_fail(lists, source, (&WHOLE, &WHOLE), runs, &mut asked.want);
+            runs_fail(mode, source, (&WHOLE, &WHOLE), [Writes(output), Writes(at_end)], &mut asked.want);
         } else {
             // The number of the writes of a run is not known.
             asked.want.has_other_failures = true;
@@ -105,16 +82,8 @@ fn over_memory(rows: &mut Rows) {
         (JSON, "", "\"\""),
     ];
     for (mode, input, output) in expected {
-        rows.ask(|asked| {
-            calls::ask_engine(asked, mode, &[0, 1, 1], input.as_bytes(), &WHOLE, &WHOLE);
-            asked.want.text("done");
-            asked.want.text(output);
-        });
-        rows.ask(|asked| {
-            calls::ask_engine(asked, mode, &[0, 1, 1], &[97, 98, 200, 201], &WHOLE, &WHOLE);
-            asked.want.fault("ascii", 2);
-            asked.want.text("");
-        });
+        rows.expect(("done", output), |asked| calls::ask_engine(asked, mode, &[0, 1, 1], input.as_bytes(), &WHOLE, &WHOLE));
+        rows.expect(("ascii", 2, ""), |asked| calls::ask_engine(asked, mode, &[0, 1, 1], &[97, 98, 200, 201], &WHOLE, &WHOLE));
     }
 }
 
@@ -122,11 +91,7 @@ fn json_of_every_code(rows: &mut Rows) {
     for code in 0..128 {
         rows.ask(|asked| ask_json(&[code], asked));
         for source in [vec![code], [vec![b'a'; 5_000], vec![code]].concat()] {
-            rows.ask(|asked| {
-                calls::ask_engine(asked, JSON, &[], &source, &WHOLE, &WHOLE);
-                asked.want.text("done");
-                asked.want.text(quoted(&source));
-            });
+            rows.expect(("done", quoted(&source)), |asked| calls::ask_engine(asked, JSON, &[], &source, &WHOLE, &WHOLE));
         }
     }
 }
@@ -146,14 +111,14 @@ fn long_inputs(rows: &mut Rows) {
             (JSON, "\"", "\"", "\"\""),
         ];
         for (number, before, after, at_end) in expected {
-            let mode = Mode { number, script: &[1], commands: &commands_of(&[Cmd::Len]) };
+            let mode: Mode<'_> = (number, &[1], &commands_of(&[Cmd::Len]));
             let output = [before.as_bytes(), &input, after.as_bytes()].concat();
-            ask_output(rows, &mode, &input, (&output, at_end.as_bytes()), None);
+            ask_output(rows, mode, &input, (&output, at_end.as_bytes()), None);
         }
         // The call that fails is the flush after the write.
-        let (mode, none) = (Mode { number: COPY, script: &[], commands: &Commands::default() }, Ok("".as_bytes()));
+        let mode: Mode<'_> = (COPY, &[], &Steps::default());
         let writes = Device { fails: u64::from(length > 0), ..WHOLE };
-        ask_runs(rows, &mode, &input, (&WHOLE, &writes), [Err(("write", &input)), none]);
+        ask_runs(rows, mode, &input, (&WHOLE, &writes), [FailsToWrite(&input), Writes(b"")]);
     }
 }
 
@@ -185,8 +150,8 @@ fn many_lines(rows: &mut Rows) {
         (JSON, &[], json, "\"\""),
     ];
     for (number, script, output, at_end) in expected {
-        let mode = Mode { number, script, commands: &commands_of(&[Cmd::Upper]) };
-        ask_output(rows, &mode, &input, (&output, at_end.as_bytes()), None);
+        let mode = (number, script, &commands_of(&[Cmd::Upper]));
+        ask_output(rows, mode, &input, (&output, at_end.as_bytes()), None);
     }
 }
 
@@ -198,10 +163,8 @@ fn at_each_position(rows: &mut Rows) {
             for (code, form) in shown {
                 let (before, after) = ("a".repeat(place), "a".repeat(after));
                 let input = [before.as_bytes(), &[code], after.as_bytes()].concat();
-                rows.ask(|asked| {
-                    calls::ask_engine(asked, mode, &[], &input, &WHOLE, &WHOLE);
-                    asked.want.text("done");
-                    asked.want.text([quote, &before, form, &after, quote].concat());
+                rows.expect(("done", [quote, &before, form, &after, quote].concat()), |asked| {
+                    calls::ask_engine(asked, mode, &[], &input, &WHOLE, &WHOLE)
                 });
             }
         }
@@ -209,29 +172,24 @@ fn at_each_position(rows: &mut Rows) {
 }
 
 fn about_the_buffer(rows: &mut Rows) {
-    let commands = Commands::default();
+    let commands = Steps::default();
     for (number, ending) in [(LINES, "abcdefg\r\n"), (TAC, "abcdefg\n")] {
         for lines in [8_191, 8_192, 8_193, 25_000] {
-            let mode = Mode { number, script: &[], commands: &commands };
+            let mode: Mode<'_> = (number, &[], &commands);
             let output = "abcdefg\n".repeat(lines);
             // A write for each buffer of the output, and a flush of each run.
             let calls = Some(output.len().div_ceil(BUFFER) + 2);
-            ask_output(rows, &mode, ending.repeat(lines).as_bytes(), (output.as_bytes(), b""), calls);
+            ask_output(rows, mode, ending.repeat(lines).as_bytes(), (output.as_bytes(), b""), calls);
         }
     }
     let lines = "abcdefg\n".repeat(25_000);
     for fails in 0..4 {
-        let (mode, writes) = (Mode { number: TAC, script: &[], commands: &commands }, Device { fails, ..WHOLE });
+        let writes = Device { fails, ..WHOLE };
         rows.ask(|asked| {
-            let Commands { texts, steps } = mode.commands;
-            calls::ask_engine_runs(asked, mode.number, &[], texts, steps, lines.as_bytes(), &WHOLE, &writes);
-            asked.want.text("write");
-            put_failures(0, 1, &mut asked.want);
-            asked.want.text("done");
-            put_failures(0, 1, &mut asked.want);
+            calls::ask_engine_runs(asked, TAC, &[], &[], &[], lines.as_bytes(), &WHOLE, &writes);
+            asked.want.put((("write", 0, 1), ("done", 0, 1)));
             // The calls up to the one that fails, and the flush of the second run.
-            asked.want.number(fails as usize + 2);
-            asked.want.text(&lines[..BUFFER * fails as usize]);
+            asked.want.put((fails as usize + 2, &lines[..BUFFER * fails as usize]));
             asked.want.has_other_failures = true;
         });
     }
@@ -268,25 +226,22 @@ fn without_memory(rows: &mut Rows) {
     let much = b"ab\tc\n".repeat(4_000);
     for (number, all) in OUTPUTS {
         let (mode, at_end) = ((number, SCRIPT, &commands), output_of(number, b""));
-        let (at_end, much_output) = (Run::Writes(&at_end), output_of(number, &much));
-        let inputs: [(&[u8], Run<'_>); 3] = [
-            (INPUT, Run::Writes(all.as_bytes())),
-            (&[97, 98, 200, 201], Run::Rejects("ascii", 2)),
-            (&much, Run::Writes(&much_output)),
-        ];
+        let (at_end, much_output) = (Writes(&at_end), output_of(number, &much));
+        let inputs: [(&[u8], Run<'_>); 3] =
+            [(INPUT, Writes(all.as_bytes())), (&[97, 98, 200, 201], Rejects("ascii", 2)), (&much, Writes(&much_output))];
         for (input, run) in inputs {
-            rows.ask(|asked| engines::ask_runs(mode, input, (&WHOLE, &WHOLE), [run, at_end], asked));
+            ask_runs(rows, mode, input, (&WHOLE, &WHOLE), [run, at_end]);
         }
     }
     let text = "0123456789".repeat(4);
-    let mut edits = Commands::default();
+    let mut edits = Steps::default();
     edits.add_text(3, 0, text.as_bytes());
     edits.copy_to(40);
     edits.add(12, 0, 0);
     edits.add(6, 3, 0);
     let far = commands_of(&[Cmd::Push(b'a'), Cmd::Insert(99, b'a')]);
-    for (edits, run) in [(&edits, Run::Writes(b"012")), (&far, Run::Rejects("position", 1))] {
-        rows.ask(|asked| engines::ask_runs((EDIT, &[], edits), INPUT, (&WHOLE, &WHOLE), [run, run], asked));
+    for (edits, run) in [(&edits, Writes(b"012")), (&far, Rejects("position", 1))] {
+        ask_runs(rows, (EDIT, &[], edits), INPUT, (&WHOLE, &WHOLE), [run, run]);
     }
 }
 
@@ -296,33 +251,33 @@ fn each_call_fails(rows: &mut Rows) {
     let commands = commands_of(&[Cmd::InsertStr(0, "xy"), Cmd::Upper]);
     let slow = Device { most: 1, ..WHOLE };
     for (number, all) in OUTPUTS {
-        let (mode, all) = (Mode { number, script: SCRIPT, commands: &commands }, all.as_bytes());
+        let (mode, all) = ((number, SCRIPT, &commands), all.as_bytes());
         assert_eq!(output_of(number, INPUT), all, "the mode {number}");
         let at_end = output_of(number, b"");
         for reads in [&WHOLE, &slow] {
-            ask_runs(rows, &mode, INPUT, (reads, &slow), [Ok(all), Ok(&at_end)]);
+            ask_runs(rows, mode, INPUT, (reads, &slow), [Writes(all), Writes(&at_end)]);
         }
-        ask_runs(rows, &mode, INPUT, (&slow, &WHOLE), [Ok(all), Ok(&at_end)]);
+        ask_runs(rows, mode, INPUT, (&slow, &WHOLE), [Writes(all), Writes(&at_end)]);
         for error in 0..ERRORS {
             for fails in 0..=INPUT.len() {
                 let (reads, rest) = (Device { fails: fails as u64, error, ..slow }, output_of(number, &INPUT[fails..]));
-                ask_runs(rows, &mode, INPUT, (&reads, &WHOLE), [Err(("read", b"")), Ok(&rest)]);
+                ask_runs(rows, mode, INPUT, (&reads, &WHOLE), [FailsToRead, Writes(&rest)]);
             }
             for fails in 0..=all.len() {
                 let writes = Device { fails: fails as u64, error, ..slow };
-                ask_runs(rows, &mode, INPUT, (&WHOLE, &writes), [Err(("write", &all[..fails])), Ok(&at_end)]);
+                ask_runs(rows, mode, INPUT, (&WHOLE, &writes), [FailsToWrite(&all[..fails]), Writes(&at_end)]);
             }
         }
         for empty in 0..all.len() {
             let writes = Device { empty: empty as u64, ..slow };
-            ask_runs(rows, &mode, INPUT, (&WHOLE, &writes), [Err(("write", &all[..empty])), Ok(&at_end)]);
+            ask_runs(rows, mode, INPUT, (&WHOLE, &writes), [FailsToWrite(&all[..empty]), Writes(&at_end)]);
         }
         // A read of no byte is the end.
         for empty in 0..=INPUT.len() {
             let (now, later) = INPUT.split_at(empty);
             let (now, later) = (output_of(number, now), output_of(number, later));
             let reads = Device { empty: empty as u64, ..slow };
-            ask_runs(rows, &mode, INPUT, (&reads, &WHOLE), [Ok(&now), Ok(&later)]);
+            ask_runs(rows, mode, INPUT, (&reads, &WHOLE), [Writes(&now), Writes(&later)]);
         }
     }
 }
@@ -336,34 +291,33 @@ fn far_calls(rows: &mut Rows) {
         let device = Device { most: 3_000, fails: u64::from(fails), error, ..WHOLE };
         let (now, later) = input.split_at(3_000 * usize::from(fails));
         for number in [COPY, CARET] {
-            let mode = Mode { number, script: &[], commands: &Commands::default() };
-            ask_runs(rows, &mode, &input, (&device, &WHOLE), [Err(("read", b"")), Ok(later)]);
-            ask_runs(rows, &mode, &input, (&WHOLE, &device), [Err(("write", now)), Ok(b"")]);
+            let mode: Mode<'_> = (number, &[], &Steps::default());
+            ask_runs(rows, mode, &input, (&device, &WHOLE), [FailsToRead, Writes(later)]);
+            ask_runs(rows, mode, &input, (&WHOLE, &device), [FailsToWrite(now), Writes(b"")]);
         }
     }
 }
 
 fn each_error(rows: &mut Rows) {
-    let (commands, none) = (Commands::default(), Ok("".as_bytes()));
-    let mode = Mode { number: COPY, script: &[], commands: &commands };
+    let mode: Mode<'_> = (COPY, &[], &Steps::default());
     let slow = Device { most: 1, ..WHOLE };
-    ask_runs(rows, &mode, b"abcdef", (&slow, &WHOLE), [Ok(b"abcdef"), none]);
-    ask_runs(rows, &mode, b"abcdef", (&WHOLE, &slow), [Ok(b"abcdef"), none]);
+    ask_runs(rows, mode, b"abcdef", (&slow, &WHOLE), [Writes(b"abcdef"), Writes(b"")]);
+    ask_runs(rows, mode, b"abcdef", (&WHOLE, &slow), [Writes(b"abcdef"), Writes(b"")]);
     for (most, empty, written) in [(usize::MAX, 0, ""), (5, 1, "abcde")] {
         let writes = Device { most, empty, ..WHOLE };
-        ask_runs(rows, &mode, b"abcdef", (&WHOLE, &writes), [Err(("write", written.as_bytes())), none]);
+        ask_runs(rows, mode, b"abcdef", (&WHOLE, &writes), [FailsToWrite(written.as_bytes()), Writes(b"")]);
     }
     for error in 0..ERRORS {
         for (fails, later) in [(0, "abcdef"), (1, "def")] {
             let reads = Device { most: 3, fails, error, ..WHOLE };
-            ask_runs(rows, &mode, b"abcdef", (&reads, &WHOLE), [Err(("read", b"")), Ok(later.as_bytes())]);
+            ask_runs(rows, mode, b"abcdef", (&reads, &WHOLE), [FailsToRead, Writes(later.as_bytes())]);
         }
         for (most, fails, written) in [(usize::MAX, 0, ""), (2, 1, "ab"), (usize::MAX, 1, "abcdef")] {
             let writes = Device { most, fails, error, ..WHOLE };
-            ask_runs(rows, &mode, b"abcdef", (&WHOLE, &writes), [Err(("write", written.as_bytes())), none]);
+            ask_runs(rows, mode, b"abcdef", (&WHOLE, &writes), [FailsToWrite(written.as_bytes()), Writes(b"")]);
         }
         let writes = Device { fails: 0, error, ..WHOLE };
-        ask_runs(rows, &mode, b"", (&WHOLE, &writes), [Err(("write", b"")), none]);
+        ask_runs(rows, mode, b"", (&WHOLE, &writes), [FailsToWrite(b""), Writes(b"")]);
     }
 }
 
@@ -381,11 +335,9 @@ static BOUNDED_OUTPUTS: [(&str, &str); BOUNDED] = [
     ("a\t\r\nB\r\r\n\n\"c\r", "a\t\r\nB"),
 ];
 
-/// The result of a bounded mode, how many reads and writes have failed, and what it wrote.
-fn put_bounded(name: &str, written: &str, want: &mut Answer) {
-    want.text(name);
-    put_failures(usize::from(name == "read"), usize::from(name == "write"), want);
-    want.text(written);
+/// Asks a bounded mode. The expected answer is its result, how many reads and writes have failed, and what it wrote.
+fn ask_bounded(rows: &mut Rows, mode: usize, input: &[u8], (reads, writes): (&Device, &Device), expected: impl Put) {
+    rows.expect(expected, |asked| calls::ask_bounded_engine(asked, mode as u8, input, reads, writes));
 }
 
 fn bounded(rows: &mut Rows) {
@@ -393,22 +345,16 @@ fn bounded(rows: &mut Rows) {
         assert_eq!(bounded_output(mode, BOUNDED_INPUT, true), output.as_bytes());
         assert_eq!(bounded_output(mode, &BOUNDED_INPUT[..5], false), cut.as_bytes());
         for most in 1..8 {
-            let reads = Device { most, ..WHOLE };
-            rows.ask(|asked| {
-                calls::ask_bounded_engine(asked, mode as u8, BOUNDED_INPUT, &reads, &WHOLE);
-                put_bounded("done", output, &mut asked.want);
-            });
+            ask_bounded(rows, mode, BOUNDED_INPUT, (&Device { most, ..WHOLE }, &WHOLE), ("done", 0, 0, output));
         }
         // A failed write leaves a prefix: the calls before it are a flush and writes of a byte.
         rows.ask(|asked| {
             let writes = Device { most: 1, fails: 2, ..WHOLE };
             calls::ask_bounded_engine(asked, mode as u8, BOUNDED_INPUT, &WHOLE, &writes);
-            let written = (0..=2).map(|length| &output[..length]);
-            let got = asked.got().to_vec();
-            for written in written {
-                asked.want = Answer::default();
-                put_bounded("write", written, &mut asked.want);
-                if asked.want.bytes == got {
+            for length in 0..=2 {
+                asked.want.clear();
+                asked.want.put(("write", 0, 1, &output[..length]));
+                if !asked.differs() {
                     return;
                 }
             }
@@ -420,68 +366,38 @@ fn bounded_before_a_fault(rows: &mut Rows) {
     for (mode, (_, cut)) in BOUNDED_OUTPUTS.into_iter().enumerate() {
         for most in 1..8 {
             let reads = Device { most, ..WHOLE };
-            rows.ask(|asked| {
-                calls::ask_bounded_engine(asked, mode as u8, b"a\t\r\nB\x80\xff", &reads, &WHOLE);
-                match mode {
-                    6 => put_bounded("done", "a\\t\\r\\nB\\x80\\xff", &mut asked.want),
-                    7 => put_bounded("done", "a\t\r\nB??", &mut asked.want),
-                    _ => {
-                        asked.want.fault("ascii", 5);
-                        put_failures(0, 0, &mut asked.want);
-                        asked.want.text(cut);
-                    }
-                }
-            });
+            let (result, written) = match mode {
+                6 => (Fault("done", None), "a\\t\\r\\nB\\x80\\xff"),
+                7 => (Fault("done", None), "a\t\r\nB??"),
+                _ => (Fault("ascii", Some(5)), cut),
+            };
+            ask_bounded(rows, mode, b"a\t\r\nB\x80\xff", (&reads, &WHOLE), (result, 0, 0, written));
         }
-        rows.ask(|asked| {
-            let reads = Device { most: 1, fails: 5, ..WHOLE };
-            calls::ask_bounded_engine(asked, mode as u8, BOUNDED_INPUT, &reads, &WHOLE);
-            put_bounded("read", cut, &mut asked.want);
-        });
+        let reads = Device { most: 1, fails: 5, ..WHOLE };
+        ask_bounded(rows, mode, BOUNDED_INPUT, (&reads, &WHOLE), ("read", 1, 0, cut));
     }
 }
 
 /// A last line is closed at an error only if it is open.
 fn ended_lines(rows: &mut Rows) {
-    let expected: [(&[u8], usize, &str); 5] = [
-        (b"\x80", 0, ""),
-        (b"a\x80b\n", 1, "a\n"),
-        (b"a\n\x80", 2, "a\n"),
-        (b"a\r\n\x80", 3, "a\n"),
-        (b"a\r\x80", 2, "a\r\n"),
-    ];
+    let expected: [(&[u8], usize, &str); 5] =
+        [(b"\x80", 0, ""), (b"a\x80b\n", 1, "a\n"), (b"a\n\x80", 2, "a\n"), (b"a\r\n\x80", 3, "a\n"), (b"a\r\x80", 2, "a\r\n")];
     for (input, position, output) in expected {
-        rows.ask(|asked| {
-            calls::ask_bounded_engine(asked, LINES, input, &WHOLE, &WHOLE);
-            asked.want.fault("ascii", position);
-            put_failures(0, 0, &mut asked.want);
-            asked.want.text(output);
-        });
+        ask_bounded(rows, LINES.into(), input, (&WHOLE, &WHOLE), (("ascii", position), 0, 0, output));
     }
     // A flush, the write of the line and a flush come before the write that closes the line.
     let writes = Device { most: 1, fails: 3, ..WHOLE };
-    rows.ask(|asked| {
-        calls::ask_bounded_engine(asked, LINES, b"a\x80", &WHOLE, &writes);
-        put_bounded("write", "a", &mut asked.want);
-    });
+    ask_bounded(rows, LINES.into(), b"a\x80", (&WHOLE, &writes), ("write", 0, 1, "a"));
     // After a failed read both devices have failed.
-    rows.ask(|asked| {
-        let reads = Device { most: 1, fails: 1, ..WHOLE };
-        calls::ask_bounded_engine(asked, LINES, b"ab", &reads, &writes);
-        asked.want.text("write");
-        put_failures(1, 1, &mut asked.want);
-        asked.want.text("a");
-    });
+    let reads = Device { most: 1, fails: 1, ..WHOLE };
+    ask_bounded(rows, LINES.into(), b"ab", (&reads, &writes), ("write", 1, 1, "a"));
 }
 
 fn every_byte(rows: &mut Rows) {
     for byte in 0..=255 {
         for mode in [6, 7] {
-            rows.ask(|asked| {
-                let input = [b'a', byte, b'b'];
-                calls::ask_bounded_engine(asked, mode, &input, &WHOLE, &WHOLE);
-                expect_bounded(mode.into(), &input, &mut asked.want);
-            });
+            let input = [b'a', byte, b'b'];
+            ask_bounded(rows, mode, &input, (&WHOLE, &WHOLE), expected_bounded(mode, &input));
         }
     }
 }
@@ -491,11 +407,8 @@ fn about_the_chunk(rows: &mut Rows) {
         let input = "a".repeat(length);
         let expected = [("a", ""), ("a", "\n"), ("a", ""), ("a", "\""), ("A", ""), ("a", ""), ("a", ""), ("a", "")];
         for (mode, (code, after)) in expected.into_iter().enumerate() {
-            rows.ask(|asked| {
-                calls::ask_bounded_engine(asked, mode as u8, input.as_bytes(), &WHOLE, &WHOLE);
-                let before = if after == "\"" { after } else { "" };
-                put_bounded("done", &[before, &code.repeat(length), after].concat(), &mut asked.want);
-            });
+            let output = [if after == "\"" { after } else { "" }, &code.repeat(length), after].concat();
+            ask_bounded(rows, mode, input.as_bytes(), (&WHOLE, &WHOLE), ("done", 0, 0, output));
         }
     }
 }
@@ -509,19 +422,15 @@ fn names(rows: &mut Rows) {
     for word in BOUNDED_NAMES.into_iter().chain(NAMES).chain(others) {
         rows.ask(|asked| {
             calls::ask_mode_names(asked, word.as_bytes());
-            for name in BOUNDED_NAMES.iter().chain(&BOUNDED_NAMES).chain(&NAMES) {
-                asked.want.text(name);
-            }
-            asked.want.part(BOUNDED_NAMES.contains(&word).then_some(word));
+            asked.want.all(BOUNDED_NAMES.iter().chain(&BOUNDED_NAMES).chain(&NAMES));
+            asked.want.put(BOUNDED_NAMES.contains(&word).then_some(word));
             // A mode that takes a script or commands has no value of its own.
-            asked.want.part(["copy", "lines", "tac", "caret", "json"].contains(&word).then_some(word));
+            asked.want.put(["copy", "lines", "tac", "caret", "json"].contains(&word).then_some(word));
         });
     }
-    // So that `expect` and the modes have the same numbers.
+    // So that `expected` and the modes have the same numbers.
     for mode in 0..7 {
-        rows.ask(|asked| {
-            calls::ask_engine(asked, mode, SCRIPT, INPUT, &WHOLE, &WHOLE);
-            expect(mode.into(), INPUT, SCRIPT, &mut asked.want);
-        });
+        let expected = expected(mode.into(), INPUT, SCRIPT);
+        rows.expect(expected, |asked| calls::ask_engine(asked, mode, SCRIPT, INPUT, &WHOLE, &WHOLE));
     }
 }

@@ -6,22 +6,44 @@ use crate::kinds::texts::{ask_case_in_place, ask_equal_bytes, ask_kernels};
 use crate::kinds::words::{ask_class, ask_marks, CLASSES};
 
 pub static ROWS: &[Row] = &[
-    ("each_class_has_its_bytes", classes),
+    ("each_class_has_its_bytes", |rows| {
+        let all: Vec<u8> = (0..=255).collect();
+        for class in 0..CLASSES.len() {
+            rows.ask(|asked| ask_class(class as u8, &all, &[], asked));
+        }
+    }),
     ("kernels_over_few_bytes", few_bytes),
-    ("marks_of_several_bytes", marks),
-    ("searches_at_each_length_and_alignment", searches),
-    ("searches_for_a_class_at_each_length_and_alignment", searches_for_a_class),
-    ("comparisons_at_each_length_and_alignment", comparisons),
+    ("marks_of_several_bytes", |rows| {
+        let all: Vec<u8> = (0..=255).collect();
+        for text in [b"42px", b"Host: a.example".as_slice(), b"a\xc4b\xff", b"a \t\x85", &all] {
+            rows.ask(|asked| ask_marks(text, asked));
+        }
+    }),
+    ("searches_at_each_length_and_alignment", |rows| {
+        for (start, length) in each_length() {
+            let marked = Marked::new(start, length, [b' ', 0x85]);
+            rows.ask(|asked| ask_kernels(marked.text(), asked));
+            rows.ask(|asked| ask_class(BLANK, marked.text(), &[], asked));
+        }
+    }),
+    ("searches_for_a_class_at_each_length_and_alignment", |rows| {
+        for (start, length) in each_length() {
+            let marked = Marked::new(start, length, [b'x', b' ']);
+            rows.ask(|asked| ask_class(BLANK, marked.text(), &[], asked));
+        }
+    }),
+    ("comparisons_at_each_length_and_alignment", |rows| {
+        for (start, length) in each_length() {
+            let upper = Marked::new(start, length, [b'Z', 0xda]);
+            let lower = Marked::new(start, length, [b'z', 0xda]);
+            let other = Marked::new(start, length, [b'z', 0xfa]);
+            rows.ask(|asked| ask_equal_bytes(upper.text(), lower.text(), asked));
+            rows.ask(|asked| ask_equal_bytes(upper.text(), other.text(), asked));
+        }
+    }),
     ("changes_at_each_length_and_alignment", changes),
     ("each_byte_above_127_at_each_position", above_127),
 ];
-
-fn classes(rows: &mut Rows) {
-    let all: Vec<u8> = (0..=255).collect();
-    for class in 0..CLASSES.len() {
-        rows.ask(|asked| ask_class(class as u8, &all, &[], asked));
-    }
-}
 
 /// The numbers of classes in `ask_class`.
 const DIGIT: u8 = 5;
@@ -29,8 +51,7 @@ const BLANK: u8 = 8;
 const TOKEN: u8 = 14;
 
 fn few_bytes(rows: &mut Rows) {
-    let texts: [&[u8]; 6] =
-        [&[0x20, 0x0b, 0xa0], &[0x85, 0x20], &[0x20, 0x09], &[], b"  \twhite \tspace  \t", b"\x0ba\x0b"];
+    let texts: [&[u8]; 6] = [&[0x20, 0x0b, 0xa0], &[0x85, 0x20], &[0x20, 0x09], &[], b"  \twhite \tspace  \t", b"\x0ba\x0b"];
     for text in texts {
         rows.ask(|asked| ask_kernels(text, asked));
     }
@@ -53,13 +74,6 @@ fn few_bytes(rows: &mut Rows) {
     ];
     for (first, second) in pairs {
         rows.ask(|asked| ask_equal_bytes(first, second, asked));
-    }
-}
-
-fn marks(rows: &mut Rows) {
-    let all: Vec<u8> = (0..=255).collect();
-    for text in [b"42px", b"Host: a.example".as_slice(), b"a\xc4b\xff", b"a \t\x85", &all] {
-        rows.ask(|asked| ask_marks(text, asked));
     }
 }
 
@@ -96,31 +110,6 @@ fn each_length() -> impl Iterator<Item = (usize, usize)> {
     (0..OFFSETS).flat_map(|start| (0..=LONGEST).map(move |length| (start, length)))
 }
 
-fn searches(rows: &mut Rows) {
-    for (start, length) in each_length() {
-        let marked = Marked::new(start, length, [b' ', 0x85]);
-        rows.ask(|asked| ask_kernels(marked.text(), asked));
-        rows.ask(|asked| ask_class(BLANK, marked.text(), &[], asked));
-    }
-}
-
-fn searches_for_a_class(rows: &mut Rows) {
-    for (start, length) in each_length() {
-        let marked = Marked::new(start, length, [b'x', b' ']);
-        rows.ask(|asked| ask_class(BLANK, marked.text(), &[], asked));
-    }
-}
-
-fn comparisons(rows: &mut Rows) {
-    for (start, length) in each_length() {
-        let upper = Marked::new(start, length, [b'Z', 0xda]);
-        let lower = Marked::new(start, length, [b'z', 0xda]);
-        let other = Marked::new(start, length, [b'z', 0xfa]);
-        rows.ask(|asked| ask_equal_bytes(upper.text(), lower.text(), asked));
-        rows.ask(|asked| ask_equal_bytes(upper.text(), other.text(), asked));
-    }
-}
-
 /// A text is changed to the other case, and the bytes before it and after it are not changed.
 fn changes(rows: &mut Rows) {
     for (start, length) in each_length() {
@@ -130,7 +119,7 @@ fn changes(rows: &mut Rows) {
             rows.ask(|asked| {
                 let mut buffer = from.buffer;
                 calls::ask_case_in_place(asked, to_upper, &mut buffer[start..start + length]);
-                asked.want.text(to.text());
+                asked.want.put(to.text());
                 asked.compare(&buffer, &to.buffer);
             });
         }

@@ -2,26 +2,51 @@
 
 use super::small_texts::texts_of;
 use super::{Row, Rows};
-use crate::calls;
 use crate::kinds::numbers::Fault::{Empty, NotDigit, TooLarge};
 use crate::kinds::numbers::{
-    ask_decimal, ask_decimal_written, ask_decimals, ask_hex, ask_numbers, ask_numbers_of_radix, number_of, put_fault,
-    taken_of, Decimal, Fault, TYPES,
+    ask_decimal, ask_decimal_written, ask_decimals, ask_hex, ask_numbers, ask_numbers_of_radix, number_of, taken_of, Decimal,
+    Fault, TYPES,
 };
 
 pub static ROWS: &[Row] = &[
-    ("numbers_are_those_of_parse", parsed),
-    ("every_number_of_one_byte", every_byte),
-    ("small_texts_in_each_radix", small_texts),
-    ("every_radix_has_its_digits", every_radix),
+    ("numbers_are_those_of_parse", |rows| TEXTS.iter().for_each(|text| ask_as_parse(text, rows))),
+    ("every_number_of_one_byte", |rows| (-129..257).for_each(|number: i16| ask_as_parse(&number.to_string(), rows))),
+    ("small_texts_in_each_radix", |rows| {
+        for text in texts_of(b"-+019aFz ", 3) {
+            let text = String::from_utf8(text).expect("ASCII");
+            [2, 8, 10, 16, 35, 36].into_iter().for_each(|radix| ask_radix(radix, &text, rows));
+        }
+    }),
+    ("every_radix_has_its_digits", |rows| {
+        for radix in 2..37 {
+            ["1z", "-10", "Zz", "7", "110", "ff", "-80"].into_iter().for_each(|text| ask_radix(radix, text, rows));
+        }
+    }),
     ("the_first_fault_of_a_number", faults),
     ("the_digits_at_the_start", starts),
-    ("digits_are_appended", appended),
-    ("decimal_numbers_are_read", decimals_read),
-    ("decimal_numbers_are_written", decimals_written),
-    ("the_first_fault_of_a_decimal_number", decimal_faults),
+    ("digits_are_appended", |rows| {
+        let numbers = [0, u64::MAX.into(), -128_i128 as u128, u128::MAX];
+        for text in ["", "0", "018446744073709551615", "018446744073709551615-128"] {
+            numbers.into_iter().for_each(|number| rows.ask(|asked| ask_decimals(number, text.as_bytes(), asked)));
+        }
+    }),
+    ("decimal_numbers_are_read", |rows| {
+        rows.each(DECIMALS, |(text, decimal), asked| ask_decimal(text.as_bytes(), Ok(decimal), asked))
+    }),
+    ("decimal_numbers_are_written", |rows| {
+        rows.each(WRITTEN, |(decimal, text), asked| ask_decimal_written(decimal, text, asked))
+    }),
+    ("the_first_fault_of_a_decimal_number", |rows| {
+        rows.each(FAULTS, |(text, fault), asked| ask_decimal(text.as_bytes(), Err(fault), asked))
+    }),
     ("parts_that_std_writes", parts),
-    ("hexadecimal_digits_are_those_of_format", hex),
+    ("hexadecimal_digits_are_those_of_format", |rows| {
+        for number in [0, 1, 9, 10, 15, 16, 255, 256, 0xdead_beef, 1 << 60, u64::MAX - 1, u64::MAX] {
+            for width in [0, 1, 2, 15, 16, 17, 20] {
+                rows.ask(|asked| ask_hex(number, width, b"-", asked));
+            }
+        }
+    }),
 ];
 
 /// The largest and the least number of each type and one beyond it, among others.
@@ -83,14 +108,6 @@ fn ask_as_parse(text: &str, rows: &mut Rows) {
     rows.ask(|asked| ask_numbers(text.as_bytes(), asked));
 }
 
-fn parsed(rows: &mut Rows) {
-    TEXTS.iter().for_each(|text| ask_as_parse(text, rows));
-}
-
-fn every_byte(rows: &mut Rows) {
-    (-129..257).for_each(|number: i16| ask_as_parse(&number.to_string(), rows));
-}
-
 /// Asks for the numbers of a radix. For `from_str_radix` a text that begins with `+` is a number, and not here.
 fn ask_radix(radix: u32, text: &str, rows: &mut Rows) {
     let signed = i8::from_str_radix(text, radix).ok().filter(|_| !text.starts_with('+'));
@@ -99,19 +116,6 @@ fn ask_radix(radix: u32, text: &str, rows: &mut Rows) {
     assert_eq!(read(6), signed.map(|number| number.to_string()), "{text}");
     assert_eq!(read(0), unsigned.map(|number| number.to_string()), "{text}");
     rows.ask(|asked| ask_numbers_of_radix(radix, text.as_bytes(), asked));
-}
-
-fn small_texts(rows: &mut Rows) {
-    for text in texts_of(b"-+019aFz ", 3) {
-        let text = String::from_utf8(text).expect("ASCII");
-        [2, 8, 10, 16, 35, 36].into_iter().for_each(|radix| ask_radix(radix, &text, rows));
-    }
-}
-
-fn every_radix(rows: &mut Rows) {
-    for radix in 2..37 {
-        ["1z", "-10", "Zz", "7", "110", "ff", "-80"].into_iter().for_each(|text| ask_radix(radix, text, rows));
-    }
 }
 
 /// A text, and what it writes as an `i8`.
@@ -192,13 +196,6 @@ fn starts(rows: &mut Rows) {
     }
 }
 
-fn appended(rows: &mut Rows) {
-    let numbers = [0, u64::MAX.into(), -128_i128 as u128, u128::MAX];
-    for text in ["", "0", "018446744073709551615", "018446744073709551615-128"] {
-        numbers.into_iter().for_each(|number| rows.ask(|asked| ask_decimals(number, text.as_bytes(), asked)));
-    }
-}
-
 /// A text, and the decimal number that it writes.
 static DECIMALS: [(&str, Decimal); 19] = [
     ("-12.50", (true, 125, 1)),
@@ -222,12 +219,6 @@ static DECIMALS: [(&str, Decimal); 19] = [
     ("0.0000000000000000000000000000000000000000", (false, 0, 0)),
 ];
 
-fn decimals_read(rows: &mut Rows) {
-    for (text, decimal) in DECIMALS {
-        rows.ask(|asked| ask_decimal(text.as_bytes(), Ok(decimal), asked));
-    }
-}
-
 /// A decimal number, and its text.
 static WRITTEN: [(Decimal, &str); 10] = [
     ((true, 125, 1), "-12.5"),
@@ -241,12 +232,6 @@ static WRITTEN: [(Decimal, &str); 10] = [
     ((false, u64::MAX, 20), "0.18446744073709551615"),
     ((false, u64::MAX, 22), "0.0018446744073709551615"),
 ];
-
-fn decimals_written(rows: &mut Rows) {
-    for (decimal, text) in WRITTEN {
-        rows.ask(|asked| ask_decimal_written(decimal, text, asked));
-    }
-}
 
 /// A text, and why it does not write a decimal number.
 static FAULTS: [(&str, Fault); 28] = [
@@ -280,15 +265,6 @@ static FAULTS: [(&str, Fault); 28] = [
     ("-0.0000000000000000000018446744073709551616", TooLarge(42)),
 ];
 
-fn decimal_faults(rows: &mut Rows) {
-    for (text, fault) in FAULTS {
-        rows.ask(|asked| {
-            calls::ask_decimal(asked, text.as_bytes());
-            put_fault(fault, &mut asked.want);
-        });
-    }
-}
-
 /// A number with one to three places, as `format!` writes it, is read without the zeros at its end.
 fn parts(rows: &mut Rows) {
     for digits in 0..2001_u64 {
@@ -299,14 +275,6 @@ fn parts(rows: &mut Rows) {
                 (left, kept) = (left / 10, kept - 1);
             }
             rows.ask(|asked| ask_decimal(text.as_bytes(), Ok((false, left, kept)), asked));
-        }
-    }
-}
-
-fn hex(rows: &mut Rows) {
-    for number in [0, 1, 9, 10, 15, 16, 255, 256, 0xdead_beef, 1 << 60, u64::MAX - 1, u64::MAX] {
-        for width in [0, 1, 2, 15, 16, 17, 20] {
-            rows.ask(|asked| ask_hex(number, width, b"-", asked));
         }
     }
 }

@@ -1,31 +1,27 @@
 //! Parts of a text with their starts, and lines and columns.
 
 use super::{Row, Rows};
-use crate::asked::Answer;
 use crate::calls::{self, Step};
+use crate::kinds::numbers::Fault;
 use crate::kinds::numbers::Fault::{Empty, NotDigit, TooLarge};
-use crate::kinds::numbers::{put_fault, Fault};
 use crate::kinds::places::ask_place;
 
 pub static ROWS: &[Row] = &[
     ("parts_of_a_part_keep_their_start", parts),
-    ("a_number_that_is_too_large_has_its_position", too_large),
-    ("every_position_has_its_line_and_column", places),
+    ("a_number_that_is_too_large_has_its_position", |rows| {
+        ask(rows, "x=2560", "", &[(FROM, 0, 2, Some((2, "2560", Err(TooLarge(4)))))])
+    }),
+    ("every_position_has_its_line_and_column", |rows| {
+        for text in ["", "a", "\n", "ab\ncd", "\n\n", "a\r\n\nb\n", "abc\nd"] {
+            for at in 0..=text.len() + 1 {
+                rows.ask(|asked| ask_place(at, text.as_bytes(), asked));
+            }
+        }
+    }),
 ];
 
 /// A part: its start and its text, and what it writes as a `u8`.
 type Part = (usize, &'static str, Result<usize, Fault>);
-
-fn put_part(part: Option<Part>, want: &mut Answer) {
-    let Some((start, text, number)) = part else { return want.none() };
-    want.number(start);
-    want.text(text);
-    want.number(start + text.len());
-    match number {
-        Ok(number) => want.number(number),
-        Err(fault) => put_fault(fault, want),
-    }
-}
 
 /// A step of a kind, with its code or its position, and the part that it takes.
 type Taken = (u8, u8, usize, Option<Part>);
@@ -47,7 +43,8 @@ fn ask(rows: &mut Rows, text: &str, prefix: &str, taken: &[Taken]) {
     let steps: Vec<Step> = taken.iter().map(step).collect();
     rows.ask(|asked| {
         calls::ask_spanned(asked, text.as_bytes(), prefix.as_bytes(), &steps);
-        taken.iter().for_each(|taken| put_part(taken.3, &mut asked.want));
+        let put = |(start, text, number): Part| (start, text, start + text.len(), number);
+        asked.want.all(taken.iter().map(|taken| taken.3.map(put)));
     });
 }
 
@@ -80,16 +77,4 @@ fn parts(rows: &mut Rows) {
     }
     ask(rows, LINE, "8", &[SETTING, VALUE, DIGITS, (WITHOUT_PREFIX, 0, 0, None)]);
     ask(rows, LINE, "", &[SETTING, VALUE, (AFTER_DIGITS, 0, 0, Some((7, " 080 ", Err(NotDigit(7)))))]);
-}
-
-fn too_large(rows: &mut Rows) {
-    ask(rows, "x=2560", "", &[(FROM, 0, 2, Some((2, "2560", Err(TooLarge(4)))))]);
-}
-
-fn places(rows: &mut Rows) {
-    for text in ["", "a", "\n", "ab\ncd", "\n\n", "a\r\n\nb\n", "abc\nd"] {
-        for at in 0..=text.len() + 1 {
-            rows.ask(|asked| ask_place(at, text.as_bytes(), asked));
-        }
-    }
 }

@@ -2,24 +2,57 @@
 
 use super::small_texts::texts_of;
 use super::{Row, Rows};
-use crate::asked::Asked;
+use crate::asked::{Answer, Asked, Failed, Fault, NOTHING};
 use crate::calls::{self, Device, Step, WHOLE};
 use crate::kinds::lines::{ask_block, ask_collected, ask_lines, ask_steps};
-use crate::line_model::{put_line, put_stop, Model, Stop};
+use crate::line_model::{Model, Stop};
 
 pub static ROWS: &[Row] = &[
-    ("lines_of_every_short_text", every_short_text),
-    ("lines_of_every_short_text_by_endings", by_endings),
+    ("lines_of_every_short_text", |rows| {
+        for text in texts_of(b"\n\ra", 6) {
+            for (size, most) in (0..8).flat_map(|size| [(size, 1), (size, 100)]) {
+                rows.ask(|asked| ask_collected(&mut Model::new(&text, size), &text, size, giving(most), asked));
+            }
+        }
+    }),
+    ("lines_of_every_short_text_by_endings", |rows| {
+        for text in texts_of(b"\n\ra", 6) {
+            for (endings, size) in (0..3).flat_map(|endings| (0..8).map(move |size| (endings, size))) {
+                for (most, is_ascii) in [(1, true), (100, true), (1, false), (100, false)] {
+                    rows.ask(|asked| ask_lines(&text, size, endings, giving(most), is_ascii, asked));
+                }
+            }
+        }
+    }),
     ("calls_over_every_short_text", calls_over_texts),
     ("collected_lines", collected),
-    ("blocks_of_every_short_text", blocks),
+    ("blocks_of_every_short_text", |rows| {
+        for text in texts_of(b"\r\na\x80", 5) {
+            for (size, most) in (0..5).flat_map(|size| (0..5).map(move |most| (size, most))) {
+                rows.ask(|asked| ask_block(&mut Model::new(&text, size), &text, size, giving(1), most, asked));
+            }
+        }
+    }),
     ("lines_that_just_fit", just_fit),
     ("a_byte_above_127_at_each_position_of_lines", other_bytes),
-    ("a_read_fails_at_each_call", failed_reads),
+    ("a_read_fails_at_each_call", |rows| {
+        rows.each(ENDED.into_iter().chain([4]).enumerate(), |(fails, lines), asked| {
+            let model = Model::failing(LINES, 4, fails);
+            let device = Device { fails: fails as u64, ..giving(1) };
+            ask_until(asked, model, LINES, 4, device, lines, Some(Fault("read", None)));
+        })
+    }),
     ("an_answer_for_good", for_good),
     ("lines_parts_and_faults", lines_parts_and_faults),
     ("a_source_is_not_read_after_its_end", not_read_after_its_end),
-    ("no_memory_for_the_buffer_of_a_reader", no_memory),
+    ("no_memory_for_the_buffer_of_a_reader", |rows| {
+        rows.ask(|asked| {
+            calls::ask_reader(asked, b"abc", usize::MAX, &WHOLE, &[]);
+            asked.want.put(Failed);
+            // Of a size that there is memory for, a line.
+            ask_lines(b"abc", 3, ANY, WHOLE, true, asked);
+        });
+    }),
 ];
 
 /// Endings by their numbers.
@@ -30,32 +63,6 @@ const STRICT: u8 = 2;
 /// A source that gives at most `most` bytes a call.
 fn giving(most: usize) -> Device {
     Device { most, ..WHOLE }
-}
-
-fn every_short_text(rows: &mut Rows) {
-    for text in texts_of(b"\n\ra", 6) {
-        for (size, most) in (0..8).flat_map(|size| [(size, 1), (size, 100)]) {
-            rows.ask(|asked| ask_collected(&mut Model::new(&text, size), &text, size, giving(most), asked));
-        }
-    }
-}
-
-fn blocks(rows: &mut Rows) {
-    for text in texts_of(b"\r\na\x80", 5) {
-        for (size, most) in (0..5).flat_map(|size| (0..5).map(move |most| (size, most))) {
-            rows.ask(|asked| ask_block(&mut Model::new(&text, size), &text, size, giving(1), most, asked));
-        }
-    }
-}
-
-fn by_endings(rows: &mut Rows) {
-    for text in texts_of(b"\n\ra", 6) {
-        for (endings, size) in (0..3).flat_map(|endings| (0..8).map(move |size| (endings, size))) {
-            for (most, is_ascii) in [(1, true), (100, true), (1, false), (100, false)] {
-                rows.ask(|asked| ask_lines(&text, size, endings, giving(most), is_ascii, asked));
-            }
-        }
-    }
 }
 
 /// The calls of a run, by its number: a line, a line as bytes, a part, or a line that is skipped.
@@ -83,20 +90,12 @@ fn calls_over_texts(rows: &mut Rows) {
 }
 
 /// Lines with the start and the ending of each, and the error after them or none.
-fn ask_expected(
-    rows: &mut Rows,
-    text: &[u8],
-    (size, most): (usize, usize),
-    lines: &[(usize, &str, &'static str)],
-    error: Stop,
-) {
+fn ask_expected(rows: &mut Rows, text: &[u8], (size, most): (usize, usize), lines: &[(usize, &str, &'static str)], error: Stop) {
     rows.ask(|asked| {
         ask_collected(&mut Model::new(text, size), text, size, giving(most), asked);
         let modelled = std::mem::take(&mut asked.want.bytes);
-        for (start, body, ending) in lines {
-            put_line(Ok((*start, body.as_bytes(), *ending)), &mut asked.want);
-        }
-        put_stop(error, &mut asked.want);
+        asked.want.all(lines);
+        asked.want.put(error);
         assert!(asked.want.bytes == modelled, "the model differs from the row");
     });
 }
@@ -109,7 +108,7 @@ fn collected(rows: &mut Rows) {
 }
 
 fn just_fit(rows: &mut Rows) {
-    let long = |start| Some(("long", Some(start)));
+    let long = |start| Some(Fault("long", Some(start)));
     let expected = [("abc\r\n", (0, "abc", "crlf")), ("abcd\n", (0, "abcd", "lf")), ("abcde", (0, "abcde", "none"))];
     for (text, line) in expected {
         for most in [1, 5] {
@@ -142,21 +141,11 @@ fn other_bytes(rows: &mut Rows) {
             text[place] = other;
             for (size, most) in [(4, 1), (4, 100), (5, 2), (64, 100)] {
                 rows.ask(|asked| {
-                    let (model, error) = (Model::new(&text, size), Some(("ascii", Some(place))));
+                    let (model, error) = (Model::new(&text, size), Some(Fault("ascii", Some(place))));
                     ask_until(asked, model, &text, size, giving(most), lines, error);
                 });
             }
         }
-    }
-}
-
-fn failed_reads(rows: &mut Rows) {
-    for (fails, lines) in ENDED.into_iter().chain([4]).enumerate() {
-        rows.ask(|asked| {
-            let model = Model::failing(LINES, 4, fails);
-            let device = Device { fails: fails as u64, ..giving(1) };
-            ask_until(asked, model, LINES, 4, device, lines, Some(("read", None)));
-        });
     }
 }
 
@@ -166,10 +155,10 @@ fn for_good(rows: &mut Rows) {
     let expected: [(&[u8], usize, (usize, usize), Stop); 6] = [
         (b"a\nb", fails, (4, 3), None),
         (b"a\n", fails, (3, 2), None),
-        (b"a\nb\xffc", fails, (4, 2), Some(("ascii", Some(3)))),
-        (b"a\nbcdef", fails, (6, 2), Some(("long", Some(2)))),
-        (b"a\nb", 2, (3, 2), Some(("read", None))),
-        (b"abcdef", 3, (4, 0), Some(("read", None))),
+        (b"a\nb\xffc", fails, (4, 2), Some(Fault("ascii", Some(3)))),
+        (b"a\nbcdef", fails, (6, 2), Some(Fault("long", Some(2)))),
+        (b"a\nb", 2, (3, 2), Some(Fault("read", None))),
+        (b"abcdef", 3, (4, 0), Some(Fault("read", None))),
     ];
     for (text, fails, (calls, position), error) in expected {
         let steps = [0, 0, 0, 0, 5, 4, 0, 5, 4, 0, 5, 4].map(|kind| Step { kind, at: 1, ..Step::default() });
@@ -209,49 +198,33 @@ enum Got {
 use Call::{By, Bytes, Line, Part};
 use Got::{Ends, Fails, FailsToRead, Nothing, Of, Other, Text};
 
-/// A text, the size of the buffer, and the calls with what they return.
-type Session = (&'static [u8], usize, &'static [(Call, Got)]);
+/// A text, the sizes of the buffer, and the calls with what they return.
+type Session = (&'static [u8], &'static [usize], &'static [(Call, Got)]);
 
-static SESSIONS: [Session; 30] = [
+static SESSIONS: [Session; 24] = [
     // An LF that comes with the next read.
+    (b"ab\r\nc\nd", &[64, 4], &[(By(CR_LF), Nothing), (Line, Of(0, "ab", "crlf")), (Line, Of(4, "c\nd", "none")), (Line, Ends)]),
     (
         b"ab\r\nc\nd",
-        64,
-        &[(By(CR_LF), Nothing), (Line, Of(0, "ab", "crlf")), (Line, Of(4, "c\nd", "none")), (Line, Ends)],
-    ),
-    (
-        b"ab\r\nc\nd",
-        4,
-        &[(By(CR_LF), Nothing), (Line, Of(0, "ab", "crlf")), (Line, Of(4, "c\nd", "none")), (Line, Ends)],
-    ),
-    (
-        b"ab\r\nc\nd",
-        64,
-        &[(By(STRICT), Nothing), (Line, Of(0, "ab", "crlf")), (Line, Fails("lone", 5)), (Line, Fails("lone", 5))],
-    ),
-    (
-        b"ab\r\nc\nd",
-        4,
+        &[64, 4],
         &[(By(STRICT), Nothing), (Line, Of(0, "ab", "crlf")), (Line, Fails("lone", 5)), (Line, Fails("lone", 5))],
     ),
     // A CR at the end.
-    (b"a\r", 64, &[(By(STRICT), Nothing), (Line, Fails("lone", 1)), (Line, Fails("lone", 1))]),
-    (b"a\r", 2, &[(By(STRICT), Nothing), (Line, Fails("lone", 1)), (Line, Fails("lone", 1))]),
-    (b"a\r", 64, &[(By(CR_LF), Nothing), (Line, Of(0, "a\r", "none")), (Line, Ends)]),
-    (b"a\r", 2, &[(By(CR_LF), Nothing), (Line, Of(0, "a\r", "none")), (Line, Ends)]),
+    (b"a\r", &[64, 2], &[(By(STRICT), Nothing), (Line, Fails("lone", 1)), (Line, Fails("lone", 1))]),
+    (b"a\r", &[64, 2], &[(By(CR_LF), Nothing), (Line, Of(0, "a\r", "none")), (Line, Ends)]),
     // The first fault by its byte.
-    (b"a\nb\xff", 9, &[(By(STRICT), Nothing), (Line, Fails("lone", 1)), (Line, Fails("lone", 1))]),
-    (b"a\xff\n", 9, &[(By(STRICT), Nothing), (Line, Fails("ascii", 1)), (Line, Fails("ascii", 1))]),
-    (b"a\rb\xff", 9, &[(By(STRICT), Nothing), (Line, Fails("lone", 1)), (Line, Fails("lone", 1))]),
-    (b"a\r\xff", 9, &[(By(STRICT), Nothing), (Line, Fails("ascii", 2)), (Line, Fails("ascii", 2))]),
-    (b"a\rbc", 3, &[(By(STRICT), Nothing), (Line, Fails("lone", 1)), (Line, Fails("lone", 1))]),
-    (b"a\rbc", 2, &[(By(STRICT), Nothing), (Line, Fails("long", 0)), (Line, Fails("long", 0))]),
-    (b"a\r\n", 2, &[(By(STRICT), Nothing), (Line, Fails("long", 0)), (Line, Fails("long", 0))]),
-    (b"a\r\r\n", 9, &[(By(STRICT), Nothing), (Line, Fails("lone", 1)), (Line, Fails("lone", 1))]),
+    (b"a\nb\xff", &[9], &[(By(STRICT), Nothing), (Line, Fails("lone", 1)), (Line, Fails("lone", 1))]),
+    (b"a\xff\n", &[9], &[(By(STRICT), Nothing), (Line, Fails("ascii", 1)), (Line, Fails("ascii", 1))]),
+    (b"a\rb\xff", &[9], &[(By(STRICT), Nothing), (Line, Fails("lone", 1)), (Line, Fails("lone", 1))]),
+    (b"a\r\xff", &[9], &[(By(STRICT), Nothing), (Line, Fails("ascii", 2)), (Line, Fails("ascii", 2))]),
+    (b"a\rbc", &[3], &[(By(STRICT), Nothing), (Line, Fails("lone", 1)), (Line, Fails("lone", 1))]),
+    (b"a\rbc", &[2], &[(By(STRICT), Nothing), (Line, Fails("long", 0)), (Line, Fails("long", 0))]),
+    (b"a\r\n", &[2], &[(By(STRICT), Nothing), (Line, Fails("long", 0)), (Line, Fails("long", 0))]),
+    (b"a\r\r\n", &[9], &[(By(STRICT), Nothing), (Line, Fails("lone", 1)), (Line, Fails("lone", 1))]),
     // Parts, and a change of endings.
     (
         b"3\r\n\r\nx\r\ny\nz\r",
-        9,
+        &[9],
         &[
             (By(STRICT), Nothing),
             (Line, Of(0, "3", "crlf")),
@@ -265,16 +238,14 @@ static SESSIONS: [Session; 30] = [
             (Line, Fails("lone", 11)),
         ],
     ),
-    (b"$5\r\na\nb\rc\r\nxyz", 5, &PARTS),
-    (b"$5\r\na\nb\rc\r\nxyz", 6, &PARTS),
-    (b"$5\r\na\nb\rc\r\nxyz", 64, &PARTS),
-    (b"a\nbc\xffd", 4, &[(Part(4), Text(0, "a\nbc")), (Part(2), Fails("ascii", 4))]),
-    (b"abcdef", 4, &[(Part(1), Text(0, "a")), (Part(5), Fails("long", 1))]),
-    (b"ab", 4, &[(Line, Of(0, "ab", "none")), (Part(1), Fails("incomplete", 0)), (Line, Ends)]),
+    (b"$5\r\na\nb\rc\r\nxyz", &[5, 6, 64], &PARTS),
+    (b"a\nbc\xffd", &[4], &[(Part(4), Text(0, "a\nbc")), (Part(2), Fails("ascii", 4))]),
+    (b"abcdef", &[4], &[(Part(1), Text(0, "a")), (Part(5), Fails("long", 1))]),
+    (b"ab", &[4], &[(Line, Of(0, "ab", "none")), (Part(1), Fails("incomplete", 0)), (Line, Ends)]),
     // Lines of bytes.
     (
         b"a\xff\r\n\x80\nz",
-        4,
+        &[4],
         &[
             (Bytes, Other(0, b"a\xff", 1, "crlf")),
             (Bytes, Other(4, b"\x80", 4, "lf")),
@@ -282,24 +253,19 @@ static SESSIONS: [Session; 30] = [
             (Bytes, Ends),
         ],
     ),
-    (b"a\xff\r\n", 3, &[(Bytes, Fails("long", 0)), (Bytes, Fails("long", 0))]),
-    (b"\xff\n\x80\r\n", 9, &[(By(CR_LF), Nothing), (Bytes, Other(0, b"\xff\n\x80", 0, "crlf")), (Bytes, Ends)]),
+    (b"a\xff\r\n", &[3], &[(Bytes, Fails("long", 0)), (Bytes, Fails("long", 0))]),
+    (b"\xff\n\x80\r\n", &[9], &[(By(CR_LF), Nothing), (Bytes, Other(0, b"\xff\n\x80", 0, "crlf")), (Bytes, Ends)]),
     (
         b"\r\na\xff\nb",
-        9,
+        &[9],
         &[(By(STRICT), Nothing), (Bytes, Of(0, "", "crlf")), (Bytes, Fails("lone", 4)), (Bytes, Fails("lone", 4))],
     ),
-    (b"\xff\r\x80", 3, &[(By(STRICT), Nothing), (Bytes, Fails("lone", 1))]),
-    (b"\xff\r", 2, &[(By(STRICT), Nothing), (Bytes, Fails("lone", 1))]),
+    (b"\xff\r\x80", &[3], &[(By(STRICT), Nothing), (Bytes, Fails("lone", 1))]),
+    (b"\xff\r", &[2], &[(By(STRICT), Nothing), (Bytes, Fails("lone", 1))]),
     (
         b"\xff\nab\xffc\xff\n",
-        9,
-        &[
-            (Bytes, Other(0, b"\xff", 0, "lf")),
-            (Part(2), Text(2, "ab")),
-            (Line, Fails("ascii", 4)),
-            (Bytes, Fails("ascii", 4)),
-        ],
+        &[9],
+        &[(Bytes, Other(0, b"\xff", 0, "lf")), (Part(2), Text(2, "ab")), (Line, Fails("ascii", 4)), (Bytes, Fails("ascii", 4))],
     ),
 ];
 
@@ -317,54 +283,50 @@ static PARTS: [(Call, Got); 8] = [
 
 /// Sessions over a source that fails at a call, and gives one byte at each.
 static FAILING: [(Session, usize); 3] = [
-    ((b"abc", 4, &[(Part(3), FailsToRead), (Part(1), FailsToRead)]), 2),
-    ((b"a\rb", 9, &[(By(STRICT), Nothing), (Line, FailsToRead), (Line, FailsToRead)]), 2),
-    ((b"\xff\n\xff\xff", 9, &[(Bytes, Other(0, b"\xff", 0, "lf")), (Bytes, FailsToRead), (Bytes, FailsToRead)]), 3),
+    ((b"abc", &[4], &[(Part(3), FailsToRead), (Part(1), FailsToRead)]), 2),
+    ((b"a\rb", &[9], &[(By(STRICT), Nothing), (Line, FailsToRead), (Line, FailsToRead)]), 2),
+    ((b"\xff\n\xff\xff", &[9], &[(Bytes, Other(0, b"\xff", 0, "lf")), (Bytes, FailsToRead), (Bytes, FailsToRead)]), 3),
 ];
 
 /// Writes what a reader returns, and its position after it.
-fn put_got(call: Call, got: Got, position: &mut usize, asked: &mut Asked) {
-    let want = &mut asked.want;
+fn put_got(call: Call, got: Got, position: &mut usize, want: &mut Answer) {
+    let end = |start: usize, body: &[u8], ending: &str| match ending {
+        "none" => start + body.len(),
+        "lf" => start + body.len() + 1,
+        _ => start + body.len() + 2,
+    };
     match got {
         Of(start, body, ending) => {
-            want.number(start);
-            want.text(body);
-            if matches!(call, Bytes) {
-                want.text(body);
-            }
-            want.text(ending);
-            *position = start + body.len() + ["none", "lf", "crlf"].iter().position(|name| *name == ending).unwrap();
+            want.put((start, body));
+            want.all(matches!(call, Bytes).then_some(body));
+            want.put(ending);
+            *position = end(start, body.as_bytes(), ending);
         }
         Other(start, body, place, ending) => {
-            want.number(start);
-            want.text(body);
-            want.fault("ascii", place);
-            want.text(ending);
-            *position = start + body.len() + ["none", "lf", "crlf"].iter().position(|name| *name == ending).unwrap();
+            want.put(((start, body), ("ascii", place), ending));
+            *position = end(start, body, ending);
         }
         Text(start, part) => {
-            want.number(start);
-            want.text(part);
+            want.put((start, part));
             *position = start + part.len();
         }
-        Fails(name, place) => want.fault(name, place),
-        FailsToRead => want.text("read"),
-        Ends => want.none(),
+        Fails(name, place) => want.put((name, place)),
+        FailsToRead => want.put("read"),
+        Ends => want.put(NOTHING),
         Nothing => (),
     }
-    want.number(*position);
+    want.put(*position);
 }
 
-fn ask_session(rows: &mut Rows, (text, size, calls): Session, device: Device) {
-    let steps: Vec<Step> = calls
-        .iter()
-        .map(|(call, _)| match *call {
-            Line => Step::default(),
-            Bytes => Step { kind: 5, ..Step::default() },
-            Part(at) => Step { kind: 4, at, ..Step::default() },
-            By(endings) => Step { kind: 1 + endings, ..Step::default() },
-        })
-        .collect();
+/// Asks for a session through a buffer of a size.
+fn ask_session(rows: &mut Rows, (text, _, calls): Session, size: usize, device: Device) {
+    let steps = calls.iter().map(|(call, _)| match *call {
+        Line => Step::default(),
+        Bytes => Step { kind: 5, ..Step::default() },
+        Part(at) => Step { kind: 4, at, ..Step::default() },
+        By(endings) => Step { kind: 1 + endings, ..Step::default() },
+    });
+    let steps: Vec<Step> = steps.collect();
     let fails = usize::try_from(device.fails).unwrap_or(usize::MAX);
     rows.ask(|asked| {
         let mut model = Model::failing(text, size, fails);
@@ -374,25 +336,19 @@ fn ask_session(rows: &mut Rows, (text, size, calls): Session, device: Device) {
         let modelled = std::mem::take(&mut asked.want.bytes);
         let mut position = 0;
         for (call, got) in calls {
-            put_got(*call, *got, &mut position, asked);
+            put_got(*call, *got, &mut position, &mut asked.want);
         }
-        assert!(
-            asked.is_planted || modelled == asked.want.bytes,
-            "the model differs from the row {}",
-            text.escape_ascii()
-        );
+        assert!(asked.is_planted || modelled == asked.want.bytes, "the model differs from the row {}", text.escape_ascii());
         asked.want.bytes.extend(calls_of_source);
     });
 }
 
 fn lines_parts_and_faults(rows: &mut Rows) {
-    for session in SESSIONS {
-        for most in [1, 2, 3, 100] {
-            ask_session(rows, session, giving(most));
-        }
+    for (session, size) in SESSIONS.iter().flat_map(|session| session.1.iter().map(move |size| (*session, *size))) {
+        [1, 2, 3, 100].into_iter().for_each(|most| ask_session(rows, session, size, giving(most)));
     }
     for (session, fails) in FAILING {
-        ask_session(rows, session, Device { fails: fails as u64, ..giving(1) });
+        ask_session(rows, session, session.1[0], Device { fails: fails as u64, ..giving(1) });
     }
 }
 
@@ -402,27 +358,10 @@ fn not_read_after_its_end(rows: &mut Rows) {
     rows.ask(|asked| {
         calls::ask_reader(asked, b"ab\r\ncd\r\n", 16, &Device { most: 3, empty: 1, ..WHOLE }, &steps);
         let want = &mut asked.want;
-        want.number(0);
-        want.fault("lone", 2);
-        want.number(0);
+        want.put((0, "lone", 2, 0));
         // The CR may belong to the ending, so it is not skipped.
-        want.fault("long", 0);
-        want.number(2);
-        want.number(2);
-        want.number(1);
-        want.none();
-        want.number(3);
-        want.none();
-        want.number(3);
-        want.number(2);
-    });
-}
-
-fn no_memory(rows: &mut Rows) {
-    rows.ask(|asked| {
-        calls::ask_reader(asked, b"abc", usize::MAX, &WHOLE, &[]);
-        asked.want.bytes.push(b'!');
-        // Of a size that there is memory for, a line.
-        ask_lines(b"abc", 3, ANY, WHOLE, true, asked);
+        want.put(("long", 0, 2, 2));
+        want.put((1, NOTHING, 3, NOTHING));
+        want.put((3, 2));
     });
 }

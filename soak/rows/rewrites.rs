@@ -3,23 +3,64 @@
 use super::{Row, Rows};
 use crate::kinds::conversions::ask_split_off;
 use crate::kinds::rewrites::Escaped::{Invalid, NotAscii};
-use crate::kinds::rewrites::Unquoted::{NoQuote, NotClosed};
 use crate::kinds::rewrites::{
     ask_joined, ask_notation, ask_padded, ask_quoted, ask_range_edits, ask_repeated, ask_unescaped, Escaped, Unquoted,
 };
 
 pub static ROWS: &[Row] = &[
-    ("escapes_are_those_of_std", escapes),
-    ("control_characters_in_caret_notation", carets),
+    ("escapes_are_those_of_std", |rows| {
+        for text in ["", "a", "a b~", "\t\r\n", "'\"\\", "\0\x01\x1f\x7f", "a\tb\\n", "\\x41", "a\n\x1b"] {
+            ask_scripts(ESCAPES, text.as_bytes(), text.as_bytes().escape_ascii().to_string().as_bytes(), rows);
+        }
+        for code in 0..128_u8 {
+            ask_scripts(ESCAPES, &[code], code.escape_ascii().to_string().as_bytes(), rows);
+        }
+    }),
+    ("control_characters_in_caret_notation", |rows| {
+        for (text, carets) in IN_CARETS {
+            ask_scripts(CARETS, text.as_bytes(), carets.as_bytes(), rows);
+        }
+    }),
     ("what_std_escapes_comes_back", escaped_by_std),
     ("escapes_that_are_read_back", unescaped),
-    ("quoted_texts_with_a_backslash", by_backslash),
-    ("quoted_texts_with_doubled_quotes", doubled),
-    ("joined_pieces", joined),
-    ("repeated_texts", repeated),
-    ("texts_are_filled_up_as_format_does", padded),
-    ("each_range_is_replaced", ranges),
-    ("strings_cut_in_two", cut_in_two),
+    ("quoted_texts_with_a_backslash", |rows| {
+        rows.each(BY_BACKSLASH, |(text, expected), asked| ask_quoted(b'"', b'\\', text.as_bytes(), expected, asked))
+    }),
+    ("quoted_texts_with_doubled_quotes", |rows| {
+        rows.each(DOUBLED, |(text, expected), asked| ask_quoted(b'"', b'"', text.as_bytes(), expected, asked))
+    }),
+    ("joined_pieces", |rows| {
+        rows.each(
+            SOURCES.iter().flat_map(|text| ["", ";", ", "].map(|separator| (text, separator))),
+            |(text, separator), asked| ask_joined(b',', text, separator, asked),
+        )
+    }),
+    ("repeated_texts", |rows| {
+        rows.each(SOURCES.iter().flat_map(|text| (0..4).map(move |times| (text, times))), |(text, times), asked| {
+            ask_repeated(times, text.as_bytes(), asked)
+        })
+    }),
+    ("texts_are_filled_up_as_format_does", |rows| {
+        for (text, width) in ["", "a", "ab", "abc"].iter().flat_map(|text| (0..9).map(move |width| (text, width))) {
+            let filled = [format!("{text:.<width$}"), format!("{text:.>width$}"), format!("{text:.^width$}")];
+            for (form, filled) in filled.iter().enumerate() {
+                let (text, filled) = (text.as_bytes(), filled.as_bytes());
+                rows.ask(|asked| ask_padded(form as u8, b'.', width, b"-", text, filled, asked));
+            }
+        }
+    }),
+    ("each_range_is_replaced", |rows| {
+        for (text, end) in ["", "a", "abcde"].iter().flat_map(|text| (0..6).map(move |end| (text, end))) {
+            for start in 0..6 {
+                for piece in ["", "x", "xy", "xyz", "a longer text than the source"] {
+                    rows.ask(|asked| ask_range_edits(RANGE, start, end, text.as_bytes(), piece.as_bytes(), asked));
+                }
+            }
+        }
+    }),
+    ("strings_cut_in_two", |rows| {
+        rows.each([("", 0), ("abc", 0), ("abc", 2), ("abc", 3)], |(text, at), asked| ask_split_off(at, text.as_bytes(), asked))
+    }),
 ];
 
 /// The numbers of the notations.
@@ -33,15 +74,6 @@ const SCRIPTS: [&[u8]; 5] = [&[], &[0; 9], &[1; 9], &[0, 1, 3, 0, 1, 1, 0, 1], &
 fn ask_scripts(form: u8, text: &[u8], codes: &[u8], rows: &mut Rows) {
     for script in SCRIPTS {
         rows.ask(|asked| ask_notation(form, text, codes.iter().copied().collect(), script, asked));
-    }
-}
-
-fn escapes(rows: &mut Rows) {
-    for text in ["", "a", "a b~", "\t\r\n", "'\"\\", "\0\x01\x1f\x7f", "a\tb\\n", "\\x41", "a\n\x1b"] {
-        ask_scripts(ESCAPES, text.as_bytes(), text.as_bytes().escape_ascii().to_string().as_bytes(), rows);
-    }
-    for code in 0..128_u8 {
-        ask_scripts(ESCAPES, &[code], code.escape_ascii().to_string().as_bytes(), rows);
     }
 }
 
@@ -59,12 +91,6 @@ static IN_CARETS: [(&str, &str); 11] = [
     ("a\tb", "a^Ib"),
     ("a\tb\x7f", "a^Ib^?"),
 ];
-
-fn carets(rows: &mut Rows) {
-    for (text, carets) in IN_CARETS {
-        ask_scripts(CARETS, text.as_bytes(), carets.as_bytes(), rows);
-    }
-}
 
 fn escaped_by_std(rows: &mut Rows) {
     for code in 0..=255_u8 {
@@ -117,19 +143,13 @@ static BY_BACKSLASH: [Quoted; 12] = [
     (r#""\\"\"""#, Ok((r"\\", r#"\"""#))),
     (r#""a""b""#, Ok(("a", r#""b""#))),
     (r#""a'b'""#, Ok(("a'b'", ""))),
-    ("", Err(NoQuote)),
-    (r#"a"b""#, Err(NoQuote)),
-    (r#"\"b""#, Err(NoQuote)),
-    (r#"""#, Err(NotClosed(1))),
-    (r#""a\"#, Err(NotClosed(3))),
-    (r#""a\""#, Err(NotClosed(4))),
+    ("", Err(None)),
+    (r#"a"b""#, Err(None)),
+    (r#"\"b""#, Err(None)),
+    (r#"""#, Err(Some(1))),
+    (r#""a\"#, Err(Some(3))),
+    (r#""a\""#, Err(Some(4))),
 ];
-
-fn by_backslash(rows: &mut Rows) {
-    for (text, expected) in BY_BACKSLASH {
-        rows.ask(|asked| ask_quoted(b'"', b'\\', text.as_bytes(), expected, asked));
-    }
-}
 
 /// With `"` as the quote, doubled inside, as in the fields of RFC 4180.
 static DOUBLED: [Quoted; 9] = [
@@ -138,58 +158,14 @@ static DOUBLED: [Quoted; 9] = [
     (r#""""""#, Ok((r#""""#, ""))),
     (r#""""#, Ok(("", ""))),
     (r#""a\"b"#, Ok((r"a\", "b"))),
-    (r#"aaa"#, Err(NoQuote)),
-    (r#"""#, Err(NotClosed(1))),
-    (r#"""""#, Err(NotClosed(3))),
-    (r#""a"""#, Err(NotClosed(4))),
+    (r#"aaa"#, Err(None)),
+    (r#"""#, Err(Some(1))),
+    (r#"""""#, Err(Some(3))),
+    (r#""a"""#, Err(Some(4))),
 ];
-
-fn doubled(rows: &mut Rows) {
-    for (text, expected) in DOUBLED {
-        rows.ask(|asked| ask_quoted(b'"', b'"', text.as_bytes(), expected, asked));
-    }
-}
 
 /// Texts whose pieces at a comma are joined, and which are repeated.
 static SOURCES: [&str; 6] = ["", "a", ",", "a,b", "a,,b,", "one,two,three"];
 
-fn joined(rows: &mut Rows) {
-    for (text, separator) in SOURCES.iter().flat_map(|text| ["", ";", ", "].map(|separator| (text, separator))) {
-        rows.ask(|asked| ask_joined(b',', text, separator, asked));
-    }
-}
-
-fn repeated(rows: &mut Rows) {
-    for (text, times) in SOURCES.iter().flat_map(|text| (0..4).map(move |times| (text, times))) {
-        rows.ask(|asked| ask_repeated(times, text.as_bytes(), asked));
-    }
-}
-
-fn padded(rows: &mut Rows) {
-    for (text, width) in ["", "a", "ab", "abc"].iter().flat_map(|text| (0..9).map(move |width| (text, width))) {
-        let filled = [format!("{text:.<width$}"), format!("{text:.>width$}"), format!("{text:.^width$}")];
-        for (form, filled) in filled.iter().enumerate() {
-            let (text, filled) = (text.as_bytes(), filled.as_bytes());
-            rows.ask(|asked| ask_padded(form as u8, b'.', width, b"-", text, filled, asked));
-        }
-    }
-}
-
 /// The number of the form of a range with a start and an end.
 const RANGE: usize = 3;
-
-fn ranges(rows: &mut Rows) {
-    for (text, end) in ["", "a", "abcde"].iter().flat_map(|text| (0..6).map(move |end| (text, end))) {
-        for start in 0..6 {
-            for piece in ["", "x", "xy", "xyz", "a longer text than the source"] {
-                rows.ask(|asked| ask_range_edits(RANGE, start, end, text.as_bytes(), piece.as_bytes(), asked));
-            }
-        }
-    }
-}
-
-fn cut_in_two(rows: &mut Rows) {
-    for (text, at) in [("", 0), ("abc", 0), ("abc", 2), ("abc", 3)] {
-        rows.ask(|asked| ask_split_off(at, text.as_bytes(), asked));
-    }
-}

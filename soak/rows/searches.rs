@@ -7,16 +7,37 @@ use crate::kinds::searches::{ask_find, ask_replace, ask_splitn};
 use crate::kinds::words::ask_retain;
 
 pub static ROWS: &[Row] = &[
-    ("texts_that_are_found", found),
-    ("every_small_needle_in_every_small_text", small_needles),
+    ("texts_that_are_found", |rows| rows.each(PAIRS, |(text, needle), asked| ask_find(text, needle, asked))),
+    ("every_small_needle_in_every_small_text", |rows| {
+        for needle in (1..5).flat_map(|length| parts(FOURS, length)) {
+            for text in (1..9).flat_map(|length| parts(EIGHTS, length)) {
+                rows.ask(|asked| ask_find(text, needle, asked));
+            }
+        }
+    }),
     ("a_needle_at_each_position", each_position),
     ("a_character_is_found_and_cut_at", cuts),
-    ("prefixes_and_suffixes_ignore_the_case_of_letters_alone", prefixes_and_suffixes),
+    ("prefixes_and_suffixes_ignore_the_case_of_letters_alone", |rows| {
+        for (text, needle, starts, ends) in FOLDED {
+            let (low, lower) = (text.to_ascii_lowercase(), needle.to_ascii_lowercase());
+            assert_eq!((low.starts_with(&lower), low.ends_with(&lower)), (starts, ends), "{text} {needle}");
+            rows.ask(|asked| ask_find(text, needle, asked));
+        }
+    }),
     ("a_text_is_found_as_in_lower_case", folded),
-    ("the_first_pieces_of_every_small_text", first_pieces),
+    ("the_first_pieces_of_every_small_text", |rows| {
+        for text in texts_of(b" \x0ba,", 5) {
+            let text = String::from_utf8(text).expect("ASCII");
+            for n in 0..4 {
+                rows.ask(|asked| ask_splitn(n, b',', &text, &[0; 6], asked));
+            }
+        }
+    }),
     ("remainder_of_the_first_pieces", first_pieces_left),
-    ("replaced_texts", replaced),
-    ("kept_characters", kept),
+    ("replaced_texts", |rows| rows.each(REPLACED, |(text, needle, to), asked| ask_replace(text, needle, to, asked))),
+    ("kept_characters", |rows| {
+        rows.each(["", "-", "abc", "a-b--c", "--a", "a--"], |text, asked| ask_retain(b'-', text.as_bytes(), asked))
+    }),
 ];
 
 /// A text, and a needle.
@@ -33,12 +54,6 @@ static PAIRS: [(&str, &str); 10] = [
     ("abcabd", "bd"),
 ];
 
-fn found(rows: &mut Rows) {
-    for (text, needle) in PAIRS {
-        rows.ask(|asked| ask_find(text, needle, asked));
-    }
-}
-
 /// Every text of `a` and `b` with 4 characters is a part of it, and so is every shorter one.
 static FOURS: &str = "aaaabaabbababbbbaaa";
 
@@ -50,14 +65,6 @@ static EIGHTS: &str = "aaaaaaaabaaaaaabbaaaaababaaaaabbbaaaabaabaaaababbaaaabbab
 /// The parts of a text that have a length.
 fn parts(text: &str, length: usize) -> impl Iterator<Item = &str> {
     (0..=text.len() - length).map(move |start| &text[start..start + length])
-}
-
-fn small_needles(rows: &mut Rows) {
-    for needle in (1..5).flat_map(|length| parts(FOURS, length)) {
-        for text in (1..9).flat_map(|length| parts(EIGHTS, length)) {
-            rows.ask(|asked| ask_find(text, needle, asked));
-        }
-    }
 }
 
 /// A needle, a filler that is before and after it in a longer text, and the number of fillers on each side. The fillers
@@ -103,13 +110,7 @@ static CUTS: [(&str, Option<usize>, Option<usize>, Cut, Cut); 5] = [
 
 fn cuts(rows: &mut Rows) {
     for (text, first, last, once, at_last) in CUTS {
-        rows.ask(|asked| {
-            calls::ask_find_character(asked, b'=', text.as_bytes());
-            asked.want.position(first);
-            asked.want.position(last);
-            asked.want.cut(once);
-            asked.want.cut(at_last);
-        });
+        rows.expect((first, last, once, at_last), |asked| calls::ask_find_character(asked, b'=', text.as_bytes()));
     }
 }
 
@@ -127,14 +128,6 @@ static FOLDED: [(&str, &str, bool, bool); 11] = [
     ("a[", "{", false, false),
     ("a@", "`", false, false),
 ];
-
-fn prefixes_and_suffixes(rows: &mut Rows) {
-    for (text, needle, starts, ends) in FOLDED {
-        let (low, lower) = (text.to_ascii_lowercase(), needle.to_ascii_lowercase());
-        assert_eq!((low.starts_with(&lower), low.ends_with(&lower)), (starts, ends), "{text} {needle}");
-        rows.ask(|asked| ask_find(text, needle, asked));
-    }
-}
 
 /// Letters in both cases, the marks beside them, and a digit. Each two of the first are neighbors.
 static MIXED: &str = "aAbBaBAbb@`[{A@a{B1bAaA1BbAaBA";
@@ -154,15 +147,6 @@ fn folded(rows: &mut Rows) {
     }
 }
 
-fn first_pieces(rows: &mut Rows) {
-    for text in texts_of(b" \x0ba,", 5) {
-        let text = String::from_utf8(text).expect("ASCII");
-        for n in 0..4 {
-            rows.ask(|asked| ask_splitn(n, b',', &text, &[0; 6], asked));
-        }
-    }
-}
-
 /// A text, a number of pieces, and what remains before each step and after the last one.
 static FIRST_PIECES: [(&str, usize, &[Option<&str>]); 5] = [
     ("a,b,c", 2, &[Some("a,b,c"), Some("b,c"), None]),
@@ -176,11 +160,10 @@ fn first_pieces_left(rows: &mut Rows) {
     for (text, n, rests) in FIRST_PIECES {
         rows.ask(|asked| {
             calls::ask_splitn(asked, n, b',', text.as_bytes(), &vec![0; rests.len() - 1]);
-            asked.want.part(rests[0]);
+            asked.want.put(rests[0]);
             let mut pieces = text.splitn(n, ',');
             for rest in &rests[1..] {
-                asked.want.part(pieces.next());
-                asked.want.part(*rest);
+                asked.want.put((pieces.next(), *rest));
             }
         });
     }
@@ -197,15 +180,3 @@ static REPLACED: [(&str, &str, &str); 8] = [
     ("abab", "abab", "ab"),
     ("ab", "abc", "x"),
 ];
-
-fn replaced(rows: &mut Rows) {
-    for (text, needle, to) in REPLACED {
-        rows.ask(|asked| ask_replace(text, needle, to, asked));
-    }
-}
-
-fn kept(rows: &mut Rows) {
-    for text in ["", "-", "abc", "a-b--c", "--a", "a--"] {
-        rows.ask(|asked| ask_retain(b'-', text.as_bytes(), asked));
-    }
-}

@@ -2,14 +2,41 @@
 //! `crates/exports/src/serving.rt` says what it replies.
 
 use super::{Row, Rows};
+use crate::asked::Fault;
 use crate::calls::{self, Device, WHOLE};
-use crate::line_model::{put_stop, Stop};
+use crate::line_model::Stop;
 
 pub static ROWS: &[Row] = &[
-    ("replies_to_all_inputs_are_sent", replies),
-    ("a_server_whose_sink_fails", failing_sinks),
-    ("replies_that_come_together_are_one_write", one_write),
-    ("a_device_is_not_read_after_its_end", not_read_after_its_end),
+    ("replies_to_all_inputs_are_sent", |rows| {
+        for (input, endings, why, written) in SESSIONS {
+            for most in [1, 100] {
+                let expected = Expected { why, count: None, reads: None, writes: None, written };
+                ask(rows, input, endings, 8, (WHOLE, Device { most, ..WHOLE }), &expected);
+            }
+        }
+    }),
+    // A sink that fails has taken nothing, or what went out of the buffer before; then the handler is not asked again.
+    ("a_server_whose_sink_fails", |rows| {
+        for (size, fails, count, written) in [(8, 0, 0, ""), (8, 1, 2, ""), (100, 0, 0, ""), (100, 1, 3, "")] {
+            let expected = Expected { why: Writer, count: Some(count), reads: None, writes: Some(fails + 1), written };
+            ask(rows, TOGETHER, ANY, size, (WHOLE, Device { most: 100, fails: fails as u64, ..WHOLE }), &expected);
+        }
+    }),
+    ("replies_that_come_together_are_one_write", |rows| {
+        // A flush before the only read, and then a write with its flush.
+        let written = "ok\r\none\r\ntwo\r\nbye\r\n";
+        let expected = Expected { why: Closed, count: Some(3), reads: Some(1), writes: Some(3), written };
+        ask(rows, TOGETHER, ANY, 100, (WHOLE, WHOLE), &expected);
+    }),
+    ("a_device_is_not_read_after_its_end", |rows| {
+        // A line that ends in a CR at the end of the input, after which the source would give more.
+        let reads = Device { most: 3, empty: 1, ..WHOLE };
+        let expected = Expected { why: END, count: Some(0), reads: Some(2), writes: None, written: "bad break\n" };
+        ask(rows, b"ab\r\ncd\r\n", STRICT, 16, (reads, WHOLE), &expected);
+        // From a source without such an end these are two lines.
+        let expected = Expected { why: END, count: Some(2), reads: Some(2), writes: None, written: "ok\r\nok\r\n" };
+        ask(rows, b"ab\r\ncd\r\n", STRICT, 16, (WHOLE, WHOLE), &expected);
+    }),
     ("each_start_of_a_session_is_answered", each_start),
     ("a_greeting_comes_first", greetings),
 ];
@@ -32,7 +59,7 @@ use Why::{Closed, Stops, Writer};
 const END: Why = Stops(None);
 
 const fn fault(name: &'static str, position: usize) -> Why {
-    Stops(Some((name, Some(position))))
+    Stops(Some(Fault(name, Some(position))))
 }
 
 /// An input, which endings end its lines, why the conversation stops, and what is written.
@@ -72,37 +99,21 @@ struct Expected<'a> {
 
 /// Serves an input through buffers of a size. The calls of the devices and the texts that the handler was handed are
 /// expected if the row says how many they are.
-fn ask(
-    rows: &mut Rows,
-    input: &[u8],
-    endings: u8,
-    size: usize,
-    (reads, writes): (Device, Device),
-    expected: &Expected<'_>,
-) {
+fn ask(rows: &mut Rows, input: &[u8], endings: u8, size: usize, (reads, writes): (Device, Device), expected: &Expected<'_>) {
     rows.ask(|asked| {
         calls::ask_served(asked, endings, size, input, &reads, &writes);
         match expected.why {
-            Closed => asked.want.text("closed"),
-            Writer => asked.want.text("write"),
-            Stops(stop) => put_stop(stop, &mut asked.want),
+            Closed => asked.want.put("closed"),
+            Writer => asked.want.put("write"),
+            Stops(stop) => asked.want.put(stop),
         }
         for number in [expected.count, expected.reads, expected.writes] {
             let got = asked.got().get(asked.want.bytes.len() + 1..).and_then(|rest| rest.first_chunk());
             let got = got.map_or(0, |number| u64::from_le_bytes(*number) as usize);
-            asked.want.number(number.unwrap_or(got));
+            asked.want.put(number.unwrap_or(got));
         }
-        asked.want.text(expected.written);
+        asked.want.put(expected.written);
     });
-}
-
-fn replies(rows: &mut Rows) {
-    for (input, endings, why, written) in SESSIONS {
-        for most in [1, 100] {
-            let expected = Expected { why, count: None, reads: None, writes: None, written };
-            ask(rows, input, endings, 8, (WHOLE, Device { most, ..WHOLE }), &expected);
-        }
-    }
 }
 
 /// A greeting, the position of its first line break, an input, the position after the conversation, and what is
@@ -124,11 +135,10 @@ fn greetings(rows: &mut Rows) {
                 let device = Device { most, ..WHOLE };
                 calls::ask_greeted(asked, size, greeting.as_bytes(), input.as_bytes(), &device, &device);
                 match line_break {
-                    Some(at) => asked.want.fault("break", at),
-                    None => asked.want.number(0),
+                    Some(at) => asked.want.put(("break", at)),
+                    None => asked.want.put(0),
                 }
-                asked.want.number(end);
-                asked.want.text(written);
+                asked.want.put((end, written));
             });
         }
     }
@@ -136,31 +146,6 @@ fn greetings(rows: &mut Rows) {
 
 /// A session of which all lines come in one read, whose replies are 19 bytes.
 const TOGETHER: &[u8] = b"a\ntwo\nquit\n";
-
-/// A sink that fails has taken nothing, or what went out of the buffer before; then the handler is not asked again.
-fn failing_sinks(rows: &mut Rows) {
-    for (size, fails, count, written) in [(8, 0, 0, ""), (8, 1, 2, ""), (100, 0, 0, ""), (100, 1, 3, "")] {
-        let expected = Expected { why: Writer, count: Some(count), reads: None, writes: Some(fails + 1), written };
-        ask(rows, TOGETHER, ANY, size, (WHOLE, Device { most: 100, fails: fails as u64, ..WHOLE }), &expected);
-    }
-}
-
-fn one_write(rows: &mut Rows) {
-    // A flush before the only read, and then a write with its flush.
-    let written = "ok\r\none\r\ntwo\r\nbye\r\n";
-    let expected = Expected { why: Closed, count: Some(3), reads: Some(1), writes: Some(3), written };
-    ask(rows, TOGETHER, ANY, 100, (WHOLE, WHOLE), &expected);
-}
-
-fn not_read_after_its_end(rows: &mut Rows) {
-    // A line that ends in a CR at the end of the input, after which the source would give more.
-    let reads = Device { most: 3, empty: 1, ..WHOLE };
-    let expected = Expected { why: END, count: Some(0), reads: Some(2), writes: None, written: "bad break\n" };
-    ask(rows, b"ab\r\ncd\r\n", STRICT, 16, (reads, WHOLE), &expected);
-    // From a source without such an end these are two lines.
-    let expected = Expected { why: END, count: Some(2), reads: Some(2), writes: None, written: "ok\r\nok\r\n" };
-    ask(rows, b"ab\r\ncd\r\n", STRICT, 16, (WHOLE, WHOLE), &expected);
-}
 
 /// Each start of a session of 200 bytes.
 fn each_start(rows: &mut Rows) {
@@ -175,8 +160,7 @@ fn each_start(rows: &mut Rows) {
                 _ => "ok\r\n",
             });
         }
-        let expected =
-            Expected { why: END, count: Some(text.lines().count()), reads: None, writes: None, written: &written };
+        let expected = Expected { why: END, count: Some(text.lines().count()), reads: None, writes: None, written: &written };
         ask(rows, text.as_bytes(), ANY, 8, (WHOLE, WHOLE), &expected);
     }
 }

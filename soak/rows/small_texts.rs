@@ -4,21 +4,54 @@ use super::{Row, Rows};
 use crate::asked::Asked;
 use crate::calls;
 use crate::kinds::walks::{
-    ask_line_spans, ask_lines, ask_pieces, ask_pieces_at, ask_split, ask_split_spans, ask_walks, ask_words, lines_of,
-    pieces, put_line_spans, put_spans, put_texts, remainder, take, Item,
+    ask_line_spans, ask_lines, ask_pieces, ask_pieces_at, ask_split, ask_split_spans, ask_walks, ask_words, lines_of, pieces,
+    put_lines, put_spans, put_texts, remainder, take, walk, Item,
 };
 use crate::kinds::words::ask_class;
 use std::collections::VecDeque;
 
 pub static ROWS: &[Row] = &[
     ("pieces_of_every_small_text_by_every_script", pieces_by_scripts),
-    ("lines_of_every_small_text_by_every_script", lines_by_scripts),
+    ("lines_of_every_small_text_by_every_script", |rows| {
+        let scripts = scripts();
+        for text in texts_of(b"\r\na", 6) {
+            for script in &scripts {
+                rows.ask(|asked| ask_lines(&text, script, asked));
+                rows.ask(|asked| ask_line_spans(0, &text, script, asked));
+            }
+        }
+    }),
     ("pieces_of_a_remainder", pieces_of_a_remainder),
     ("lines_of_a_remainder", lines_of_a_remainder),
-    ("pieces_of_every_small_text_in_each_form", pieces_in_each_form),
-    ("pieces_of_every_small_text_at_a_text", pieces_at_a_text),
-    ("words_and_trims_of_every_small_text", words_and_trims),
-    ("words_of_longer_texts", words_of_longer_texts),
+    ("pieces_of_every_small_text_in_each_form", |rows| {
+        for text in texts_of(b" \x0ba,", 5) {
+            for (form, script) in (0..3).flat_map(|form| SCRIPTS.map(|script| (form, script))) {
+                rows.ask(|asked| ask_pieces(form, b',', &text, &script, asked));
+            }
+        }
+    }),
+    ("pieces_of_every_small_text_at_a_text", |rows| {
+        for text in texts_of(b" \x0ba,", 5) {
+            for needle in ["a", "aa", ",a", " ,"] {
+                rows.ask(|asked| ask_pieces_at(&text, needle.as_bytes(), &[0; 7], asked));
+            }
+        }
+    }),
+    ("words_and_trims_of_every_small_text", |rows| {
+        for text in texts_of(b" \x0ba,", 5) {
+            for script in SCRIPTS {
+                rows.ask(|asked| ask_words_of(&text, &script, asked));
+            }
+        }
+    }),
+    ("words_of_longer_texts", |rows| {
+        for length in [63, 64, 65, 130] {
+            let text: Vec<u8> = (0..length).map(|at| b"ab c,,d  ef,g h"[at % 15]).collect();
+            for end in [0, 1] {
+                rows.ask(|asked| ask_words_of(&text, &vec![end; 132], asked));
+            }
+        }
+    }),
 ];
 
 /// Every text of these codes up to a length.
@@ -49,23 +82,13 @@ fn pieces_by_scripts(rows: &mut Rows) {
     }
 }
 
-fn lines_by_scripts(rows: &mut Rows) {
-    let scripts = scripts();
-    for text in texts_of(b"\r\na", 6) {
-        for script in &scripts {
-            rows.ask(|asked| ask_lines(&text, script, asked));
-            rows.ask(|asked| ask_line_spans(0, &text, script, asked));
-        }
-    }
-}
-
 /// Each script with each number of steps after which a walk stops.
 fn stops(scripts: &[Vec<u8>]) -> impl Iterator<Item = (&[u8], &[u8])> {
     scripts.iter().flat_map(|script| (0..=script.len()).map(|stop| script.split_at(stop)))
 }
 
 /// The items that remain after a script.
-fn after(mut items: VecDeque<Item>, script: &[u8]) -> VecDeque<Item> {
+fn after<'a>(mut items: VecDeque<Item<'a>>, script: &[u8]) -> VecDeque<Item<'a>> {
     for end in script {
         take(&mut items, *end);
     }
@@ -82,9 +105,9 @@ fn pieces_of_a_remainder(rows: &mut Rows) {
             let Some((start, rest)) = remainder(text, &items) else { continue };
             rows.ask(|asked| {
                 calls::ask_split(asked, code, rest, script);
-                put_texts(text, items.clone(), script, &mut asked.want);
+                put_texts(walk(text, items.clone(), script), &mut asked.want);
                 calls::ask_split_spans(asked, start, code, rest, script);
-                put_spans(0, text, items.clone(), script, &mut asked.want);
+                put_spans(0, walk(text, items.clone(), script), &mut asked.want);
             });
         }
     }
@@ -93,16 +116,15 @@ fn pieces_of_a_remainder(rows: &mut Rows) {
 /// The lines of what remains after each number of steps are the other lines of an unbroken walk.
 fn lines_of_a_remainder(rows: &mut Rows) {
     let scripts = scripts();
-    for text in ["foo\r\nbar\n\nbaz\n", "\r\r\n", "a\r", "\n\r\n\n\r\n", ""] {
-        let text = text.as_bytes();
+    for text in ["foo\r\nbar\n\nbaz\n", "\r\r\n", "a\r", "\n\r\n\n\r\n", ""].map(str::as_bytes) {
         for (before, script) in stops(&scripts) {
             let items = after(lines_of(text), before);
             let Some((start, rest)) = remainder(text, &items) else { continue };
             rows.ask(|asked| {
                 calls::ask_lines(asked, rest, script);
-                put_texts(text, items.clone(), script, &mut asked.want);
+                put_texts(walk(text, items.clone(), script), &mut asked.want);
                 calls::ask_line_spans(asked, start, rest, script);
-                put_line_spans(0, text, items.clone(), script, &mut asked.want);
+                put_lines(0, walk(text, items.clone(), script), &mut asked.want);
             });
         }
     }
@@ -110,22 +132,6 @@ fn lines_of_a_remainder(rows: &mut Rows) {
 
 /// Scripts that take all items of a small text and ask once more: from the front, from the back, and from both ends.
 const SCRIPTS: [[u8; 7]; 3] = [[0; 7], [1; 7], [0, 1, 0, 1, 0, 1, 0]];
-
-fn pieces_in_each_form(rows: &mut Rows) {
-    for text in texts_of(b" \x0ba,", 5) {
-        for (form, script) in (0..3).flat_map(|form| SCRIPTS.map(|script| (form, script))) {
-            rows.ask(|asked| ask_pieces(form, b',', &text, &script, asked));
-        }
-    }
-}
-
-fn pieces_at_a_text(rows: &mut Rows) {
-    for text in texts_of(b" \x0ba,", 5) {
-        for needle in ["a", "aa", ",a", " ,"] {
-            rows.ask(|asked| ask_pieces_at(&text, needle.as_bytes(), &[0; 7], asked));
-        }
-    }
-}
 
 /// The numbers of the classes of whitespace and of punctuation in `ask_class`.
 const WHITESPACE: u8 = 1;
@@ -136,21 +142,4 @@ fn ask_words_of(text: &[u8], script: &[u8], asked: &mut Asked) {
     ask_words(text, script, asked);
     ask_class(WHITESPACE, text, script, asked);
     ask_class(PUNCTUATION, text, script, asked);
-}
-
-fn words_and_trims(rows: &mut Rows) {
-    for text in texts_of(b" \x0ba,", 5) {
-        for script in SCRIPTS {
-            rows.ask(|asked| ask_words_of(&text, &script, asked));
-        }
-    }
-}
-
-fn words_of_longer_texts(rows: &mut Rows) {
-    for length in [63, 64, 65, 130] {
-        let text: Vec<u8> = (0..length).map(|at| b"ab c,,d  ef,g h"[at % 15]).collect();
-        for end in [0, 1] {
-            rows.ask(|asked| ask_words_of(&text, &vec![end; 132], asked));
-        }
-    }
 }

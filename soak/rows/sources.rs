@@ -3,7 +3,7 @@
 use super::{Row, Rows};
 use crate::calls::{self, WHOLE};
 use crate::kinds::conversions::ask_all;
-use crate::kinds::engines::expect;
+use crate::kinds::engines::expected;
 use crate::kinds::slices::{ask_parts, ask_position, ask_views};
 
 pub static ROWS: &[Row] = &[
@@ -26,10 +26,7 @@ fn ask_all_ways(rows: &mut Rows, source: &[u8], place: usize) {
     rows.ask(|asked| ask_views(&mut source.to_vec(), asked));
     rows.ask(|asked| ask_position(place, source, asked));
     rows.ask(|asked| ask_all(source, asked));
-    rows.ask(|asked| {
-        calls::ask_engine(asked, 0, &[], source, &WHOLE, &WHOLE);
-        expect(0, source, &[], &mut asked.want);
-    });
+    rows.expect(expected(0, source, &[]), |asked| calls::ask_engine(asked, 0, &[], source, &WHOLE, &WHOLE));
     for before in 0..place {
         rows.ask(|asked| ask_parts(TO_INCLUSIVE, 0, before, source, asked));
     }

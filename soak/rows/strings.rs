@@ -12,41 +12,40 @@ use crate::kinds::texts::{ask_cases, ask_hashes, ask_owned_comparisons};
 use crate::kinds::walks::{ask_lines, ask_split};
 
 pub static ROWS: &[Row] = &[
-    ("every_text_type_has_one_hash", hashes),
-    ("an_inline_string_has_up_to_24_characters", inline),
+    ("every_text_type_has_one_hash", |rows| rows.each(HASHES, |(text, hash), asked| ask_hashes(text.as_bytes(), hash, asked))),
+    ("an_inline_string_has_up_to_24_characters", |rows| {
+        rows.each(["", "content-security-policy-"], |text, asked| {
+            calls::ask_small_capacities(asked, text.as_bytes(), &[], &[]);
+            asked.want.put((true, 24));
+        })
+    }),
     ("a_string_in_an_allocation_stays_there", in_an_allocation),
-    ("strings_are_copied_and_converted", conversions),
-    ("strings_in_rising_order", rising),
+    ("strings_are_copied_and_converted", |rows| {
+        rows.each(["", "A", "( ;", "abc", "abcdefghijklmnopqrstuvwxyz"], |text, asked| ask_round_trips(text.as_bytes(), asked))
+    }),
+    ("strings_in_rising_order", |rows| {
+        for (i, first) in RISING.iter().enumerate() {
+            for (j, second) in RISING.iter().enumerate() {
+                rows.ask(|asked| ask_owned_comparisons(first.as_bytes(), second.as_bytes(), i.cmp(&j), asked));
+            }
+        }
+    }),
     ("printed_strings", printed),
     ("only_ascii_is_written", written),
     ("single_edits_of_a_string", single_edits),
-    ("sources_that_are_taken_over", taken_over),
+    ("sources_that_are_taken_over", |rows| {
+        let sources: [&[u8]; 5] = ["bø!".as_bytes(), "zoä华".as_bytes(), &[127, 128, 255], &[40, 32, 59], b""];
+        for source in sources {
+            rows.ask(|asked| ask_all(source, asked));
+        }
+    }),
     ("collected_characters_and_texts", collected),
     ("calls_that_allocate_over_long_texts", long_texts),
 ];
 
 /// Texts, and the hash of their bytes by Rust's `DefaultHasher`, as `rustc` 1.95 prints it.
-static HASHES: [(&str, usize); 3] = [
-    ("", 0xbd60_acb6_58c7_9e45),
-    ("foo", 0x703e_f007_929e_9d64),
-    ("abcdefghijklmnopqrstuvwxyz", 0x9bfb_0217_afe8_b463),
-];
-
-fn hashes(rows: &mut Rows) {
-    for (text, hash) in HASHES {
-        rows.ask(|asked| ask_hashes(text.as_bytes(), hash, asked));
-    }
-}
-
-fn inline(rows: &mut Rows) {
-    for text in ["", "content-security-policy-"] {
-        rows.ask(|asked| {
-            calls::ask_small_capacities(asked, text.as_bytes(), &[], &[]);
-            asked.want.flag(true);
-            asked.want.number(24);
-        });
-    }
-}
+static HASHES: [(&str, usize); 3] =
+    [("", 0xbd60_acb6_58c7_9e45), ("foo", 0x703e_f007_929e_9d64), ("abcdefghijklmnopqrstuvwxyz", 0x9bfb_0217_afe8_b463)];
 
 /// The capacities of a string in an allocation are as promised: enough for the text that it was made of.
 fn in_an_allocation(rows: &mut Rows) {
@@ -59,36 +58,19 @@ fn in_an_allocation(rows: &mut Rows) {
         });
         for (at, capacity) in capacities.enumerate() {
             if at > 0 {
-                asked.want.text("done");
+                asked.want.put("done");
             }
-            asked.want.flag(false);
-            asked.want.number(capacity.max(if at == 0 { text.len() } else { 7 }));
+            asked.want.put((false, capacity.max(if at == 0 { text.len() } else { 7 })));
         }
         calls::ask_edits(asked, true, text, &[], &steps);
-        asked.want.text("done");
-        asked.want.text("done");
-        asked.want.text("content");
+        asked.want.put(("done", "done", "content"));
         // The capacities after a failure are not known.
         asked.want.has_other_failures = true;
     });
 }
 
-fn conversions(rows: &mut Rows) {
-    for text in ["", "A", "( ;", "abc", "abcdefghijklmnopqrstuvwxyz"] {
-        rows.ask(|asked| ask_round_trips(text.as_bytes(), asked));
-    }
-}
-
 /// Texts in rising order.
 static RISING: [&str; 7] = ["", "Z", "a", "ab", "abc", "abcdefghijklmnopqrstuvwxyz", "b"];
-
-fn rising(rows: &mut Rows) {
-    for (i, first) in RISING.iter().enumerate() {
-        for (j, second) in RISING.iter().enumerate() {
-            rows.ask(|asked| ask_owned_comparisons(first.as_bytes(), second.as_bytes(), i.cmp(&j), asked));
-        }
-    }
-}
 
 fn printed(rows: &mut Rows) {
     rows.ask(|asked| {
@@ -105,9 +87,7 @@ fn printed(rows: &mut Rows) {
 }
 
 fn written(rows: &mut Rows) {
-    for (text, piece) in
-        [("", "ab"), ("ab", "cé"), ("ab", "λ"), ("ab", "-"), ("ab-", "1 of  20"), ("Hello ", "World 9")]
-    {
+    for (text, piece) in [("", "ab"), ("ab", "cé"), ("ab", "λ"), ("ab", "-"), ("ab-", "1 of  20"), ("Hello ", "World 9")] {
         rows.ask(|asked| ask_written(text.as_bytes(), piece.as_bytes(), asked));
     }
     for (text, ch) in [("ab", 'é'), ("ab", 'c'), ("", '\u{80}'), ("", '\x7f')] {
@@ -136,27 +116,18 @@ fn single_edits(rows: &mut Rows) {
             rows.ask(|asked| {
                 calls::ask_edits(asked, is_small, text.as_bytes(), &commands.texts, &commands.steps);
                 match answer {
-                    Some(code) => asked.want.number(usize::from(code)),
-                    None => asked.want.text("done"),
+                    Some(code) => asked.want.put(code),
+                    None => asked.want.put("done"),
                 }
-                asked.want.text(after);
+                asked.want.put(after);
                 expect_failures(is_small, text.as_bytes(), &commands, asked);
             });
         }
     }
 }
 
-fn taken_over(rows: &mut Rows) {
-    let sources: [&[u8]; 5] = ["bø!".as_bytes(), "zoä华".as_bytes(), &[127, 128, 255], &[40, 32, 59], b""];
-    for source in sources {
-        rows.ask(|asked| ask_all(source, asked));
-    }
-}
-
 fn collected(rows: &mut Rows) {
-    for (text, code) in
-        [("abc", b','), ("a,b,,c", b','), ("one\ntwo\nthree", b' '), ("ASCII Ascii ascii", b' '), ("", b',')]
-    {
+    for (text, code) in [("abc", b','), ("a,b,,c", b','), ("one\ntwo\nthree", b' '), ("ASCII Ascii ascii", b' '), ("", b',')] {
         rows.ask(|asked| ask_collected(code, text.as_bytes(), asked));
     }
 }

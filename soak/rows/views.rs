@@ -7,14 +7,47 @@ use crate::kinds::texts::{ask_comparisons, ask_trims};
 
 pub static ROWS: &[Row] = &[
     ("parts_of_sources", parts),
-    ("views_of_sources", views),
-    ("characters_at_positions", characters),
-    ("ranges_that_fit", ranges),
-    ("views_that_are_not_checked", unchecked),
-    ("trimmed_texts", trims),
-    ("texts_that_are_equal_ignoring_case", equal_ignoring_case),
+    ("views_of_sources", |rows| {
+        let sources: [&[u8]; 7] = ["abčd".as_bytes(), b"A", b"( ;", b"", &[127, 128, 255], &[0xc4, 0x8d], "zoä华".as_bytes()];
+        for source in sources {
+            rows.ask(|asked| ask_views(&mut source.to_vec(), asked));
+        }
+    }),
+    ("characters_at_positions", |rows| {
+        for source in ["abčd", "", "ab", "abc", "ABCD"] {
+            for at in (0..6).chain([usize::MAX]) {
+                rows.ask(|asked| ask_position(at, source.as_bytes(), asked));
+            }
+        }
+    }),
+    ("ranges_that_fit", |rows| {
+        rows.each(RANGES, |((form, start, end), length, bounds), asked| ask_range(form, start, end, length, bounds, asked))
+    }),
+    ("views_that_are_not_checked", |rows| {
+        rows.each(["", "ABCD", "`aBz{", "`ABZ{"], |text, asked| ask_unchecked(text.into(), asked))
+    }),
+    ("trimmed_texts", |rows| {
+        for (text, trimmed) in TRIMS {
+            rows.ask(|asked| {
+                calls::ask_trims(asked, text.as_bytes());
+                asked.want.all(trimmed);
+            });
+            rows.ask(|asked| ask_trims(text, asked));
+        }
+    }),
+    ("texts_that_are_equal_ignoring_case", |rows| {
+        for (one, other, are_equal) in PAIRS {
+            assert_eq!(one.eq_ignore_ascii_case(other), are_equal);
+            rows.ask(|asked| ask_comparisons(one.as_bytes(), other.as_bytes(), asked));
+            rows.ask(|asked| ask_comparisons(other.as_bytes(), one.as_bytes(), asked));
+        }
+    }),
     ("texts_in_rising_order", rising),
-    ("folded_texts_have_the_order_of_texts_in_lower_case", folded),
+    ("folded_texts_have_the_order_of_texts_in_lower_case", |rows| {
+        rows.each(NAMES.iter().flat_map(|one| NAMES.map(|other| (one, other))), |(one, other), asked| {
+            ask_comparisons(one.as_bytes(), other.as_bytes(), asked)
+        })
+    }),
     ("a_view_edits_its_part_alone", part_mut),
     ("a_rejected_source_is_unchanged", rejected_mut),
 ];
@@ -76,27 +109,11 @@ fn parts(rows: &mut Rows) {
             let times = if source.is_ascii() { 3 + usize::from(part.is_ok()) } else { 2 };
             for _ in 0..times {
                 match part {
-                    Ok(part) => asked.want.text(part),
-                    Err(position) => asked.want.number(position),
+                    Ok(part) => asked.want.put(part),
+                    Err(position) => asked.want.put(position),
                 }
             }
         });
-    }
-}
-
-fn views(rows: &mut Rows) {
-    let sources: [&[u8]; 7] =
-        ["abčd".as_bytes(), b"A", b"( ;", b"", &[127, 128, 255], &[0xc4, 0x8d], "zoä华".as_bytes()];
-    for source in sources {
-        rows.ask(|asked| ask_views(&mut source.to_vec(), asked));
-    }
-}
-
-fn characters(rows: &mut Rows) {
-    for source in ["abčd", "", "ab", "abc", "ABCD"] {
-        for at in (0..6).chain([usize::MAX]) {
-            rows.ask(|asked| ask_position(at, source.as_bytes(), asked));
-        }
     }
 }
 
@@ -120,18 +137,6 @@ static RANGES: [(Range, usize, Option<(usize, usize)>); 16] = [
     ((TO_INCLUSIVE, 0, usize::MAX), usize::MAX, None),
 ];
 
-fn ranges(rows: &mut Rows) {
-    for ((form, start, end), length, bounds) in RANGES {
-        rows.ask(|asked| ask_range(form, start, end, length, bounds, asked));
-    }
-}
-
-fn unchecked(rows: &mut Rows) {
-    for text in ["", "ABCD", "`aBz{", "`ABZ{"] {
-        rows.ask(|asked| ask_unchecked(text.into(), asked));
-    }
-}
-
 /// A text, and it without the whitespace at both ends, at its start and at its end.
 static TRIMS: [(&str, [&str; 3]); 6] = [
     ("  \twhite \tspace  \t", ["white \tspace", "white \tspace  \t", "  \twhite \tspace"]),
@@ -141,16 +146,6 @@ static TRIMS: [(&str, [&str; 3]); 6] = [
     ("\r\n a\x0c", ["a", "a\x0c", "\r\n a"]),
     ("\x1fa\x00", ["\x1fa\x00", "\x1fa\x00", "\x1fa\x00"]),
 ];
-
-fn trims(rows: &mut Rows) {
-    for (text, trimmed) in TRIMS {
-        rows.ask(|asked| {
-            calls::ask_trims(asked, text.as_bytes());
-            trimmed.iter().for_each(|text| asked.want.text(text));
-        });
-        rows.ask(|asked| ask_trims(text, asked));
-    }
-}
 
 /// Two texts, and whether they are equal, ignoring case.
 static PAIRS: [(&str, &str, bool); 7] = [
@@ -162,14 +157,6 @@ static PAIRS: [(&str, &str, bool); 7] = [
     ("a", "ab", false),
     ("", "", true),
 ];
-
-fn equal_ignoring_case(rows: &mut Rows) {
-    for (one, other, are_equal) in PAIRS {
-        assert_eq!(one.eq_ignore_ascii_case(other), are_equal);
-        rows.ask(|asked| ask_comparisons(one.as_bytes(), other.as_bytes(), asked));
-        rows.ask(|asked| ask_comparisons(other.as_bytes(), one.as_bytes(), asked));
-    }
-}
 
 fn rising(rows: &mut Rows) {
     let texts = ["", "Z", "a", "ab", "abc", "abd", "b"];
@@ -187,12 +174,6 @@ fn rising(rows: &mut Rows) {
 /// Texts that differ in case, in one code, in length, and in codes next to the letters.
 static NAMES: [&str; 10] = ["", "host", "HOST", "Host", "hose", "HOSTS", "a@", "A`", "a[", "A{"];
 
-fn folded(rows: &mut Rows) {
-    for (one, other) in NAMES.iter().flat_map(|one| NAMES.map(|other| (one, other))) {
-        rows.ask(|asked| ask_comparisons(one.as_bytes(), other.as_bytes(), asked));
-    }
-}
-
 /// Two letters, a character that is not ASCII, and two letters.
 const SOURCE: [u8; 5] = [0x61, 0xc4, 0x8d, 0x42, 0x62];
 
@@ -200,7 +181,7 @@ fn part_mut(rows: &mut Rows) {
     rows.ask(|asked| {
         let mut source = SOURCE;
         calls::ask_slice_mut(asked, FROM as u8, 3, 0, b'Z', &mut source);
-        asked.want.text("ZB");
+        asked.want.put("ZB");
         asked.compare(&source, &[0x61, 0xc4, 0x8d, 0x5a, 0x42]);
     });
     for (form, start, end) in [(TO, 0, 1), (RANGE, 3, 4), (RANGE, 4, 4), (INCLUSIVE, 3, 4), (FROM, 5, 0)] {
@@ -214,14 +195,14 @@ fn rejected_mut(rows: &mut Rows) {
         rows.ask(|asked| {
             let mut source = SOURCE;
             calls::ask_slice_mut(asked, form as u8, start, end, b'Z', &mut source);
-            asked.want.number(position);
+            asked.want.put(position);
             asked.compare(&source, &SOURCE);
         });
     }
     rows.ask(|asked| {
         let mut source = SOURCE;
         calls::ask_view_mut(asked, &mut source);
-        asked.want.number(1);
+        asked.want.put(1);
         asked.compare(&source, &SOURCE);
     });
 }

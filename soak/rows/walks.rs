@@ -1,20 +1,40 @@
 //! Walks from both ends: tables by hand, lengths about those that are searched at once, and chunks of sources.
 
 use super::{Row, Rows};
-use crate::asked::Answer;
+use crate::asked::{Answer, NOTHING};
 use crate::calls;
 use crate::kinds::walks::{
-    ask_chars, ask_chars_of_view, ask_chunks, ask_counts, ask_pieces, ask_pieces_at, ask_split, lines_of, pieces,
-    remainder, span, take, Item,
+    ask_chars, ask_chars_of_view, ask_chunks, ask_counts, ask_pieces, ask_pieces_at, ask_split, lines_of, pieces, walk, Walk,
 };
 use crate::kinds::words::ask_class;
-use std::collections::VecDeque;
 
 pub static ROWS: &[Row] = &[
-    ("walked_pieces", walked_pieces),
-    ("walked_lines", walked_lines),
+    ("walked_pieces", |rows| {
+        for (text, code, letters, answers) in PIECES {
+            let script = script_of(letters);
+            rows.ask(|asked| {
+                calls::ask_split(asked, code, text.as_bytes(), &script);
+                put_walk(walk(text.as_bytes(), pieces(text.as_bytes(), code), &script), answers, &mut asked.want);
+            });
+        }
+    }),
+    ("walked_lines", |rows| {
+        for (text, letters, answers) in LINES {
+            let script = script_of(letters);
+            rows.ask(|asked| {
+                calls::ask_lines(asked, text.as_bytes(), &script);
+                put_walk(walk(text.as_bytes(), lines_of(text.as_bytes()), &script), answers, &mut asked.want);
+            });
+        }
+    }),
     ("walked_characters", walked_characters),
-    ("pieces_and_lines_that_remain_are_counted", counted),
+    ("pieces_and_lines_that_remain_are_counted", |rows| {
+        for (text, code) in [("a-b-c", b'-'), ("a\nb\r\nc", b'\n'), ("", b','), (",", b',')] {
+            for letters in ["", "F", "B", "FB", "BB", "FBF", "FFFF"] {
+                rows.ask(|asked| ask_counts(code, text.as_bytes(), &script_of(letters), asked));
+            }
+        }
+    }),
     ("pieces_with_starts_and_what_remains", piece_spans),
     ("lines_with_starts_and_what_remains", line_spans),
     ("starts_up_to_the_largest_position", largest_positions),
@@ -35,14 +55,9 @@ fn answers_of(joined: &str) -> impl Iterator<Item = Option<&str>> {
 }
 
 /// The answers of a table, each with what then remains of the items.
-fn put_walk(text: &str, mut items: VecDeque<Item>, script: &[u8], answers: &str, want: &mut Answer) {
-    let mut answers = answers_of(answers);
-    for number in script {
-        take(&mut items, *number);
-        want.part(answers.next().expect("an answer for each step"));
-        want.part(remainder(text.as_bytes(), &items).map(|rest| rest.1));
-    }
-    assert_eq!(answers.next(), None, "a step for each answer");
+fn put_walk(walk: Walk<'_>, answers: &str, want: &mut Answer) {
+    assert_eq!(answers_of(answers).count(), walk.len(), "an answer for each step");
+    want.all(answers_of(answers).zip(walk).map(|(answer, (_, rest))| (answer, rest.map(|rest| rest.1))));
 }
 
 /// A text, where it is split, the ends that are asked, and the answers.
@@ -62,16 +77,6 @@ static PIECES: [(&str, u8, &str, &str); 13] = [
     ("ab", b',', "", ""),
 ];
 
-fn walked_pieces(rows: &mut Rows) {
-    for (text, code, letters, answers) in PIECES {
-        let script = script_of(letters);
-        rows.ask(|asked| {
-            calls::ask_split(asked, code, text.as_bytes(), &script);
-            put_walk(text, pieces(text.as_bytes(), code), &script, answers, &mut asked.want);
-        });
-    }
-}
-
 /// A text, the ends that are asked, and the answers.
 static LINES: [(&str, &str, &str); 14] = [
     ("foo\r\nbar\n\nbaz\n", "FBBFF", "foo|baz||bar|~|"),
@@ -90,16 +95,6 @@ static LINES: [(&str, &str, &str); 14] = [
     ("a\r\n\r\nb\r", "BBB", "b\r||a|"),
 ];
 
-fn walked_lines(rows: &mut Rows) {
-    for (text, letters, answers) in LINES {
-        let script = script_of(letters);
-        rows.ask(|asked| {
-            calls::ask_lines(asked, text.as_bytes(), &script);
-            put_walk(text, lines_of(text.as_bytes()), &script, answers, &mut asked.want);
-        });
-    }
-}
-
 /// Each script of `next`, `next_back`, `nth(1)` and a clone in reverse, of a length.
 fn walked_characters(rows: &mut Rows) {
     for text in ["", "abc", "xyz", "hello world\0"] {
@@ -117,26 +112,8 @@ fn walked_characters(rows: &mut Rows) {
     }
 }
 
-fn counted(rows: &mut Rows) {
-    for (text, code) in [("a-b-c", b'-'), ("a\nb\r\nc", b'\n'), ("", b','), (",", b',')] {
-        for letters in ["", "F", "B", "FB", "BB", "FBF", "FFFF"] {
-            rows.ask(|asked| ask_counts(code, text.as_bytes(), &script_of(letters), asked));
-        }
-    }
-}
-
 /// What remains: its start and its text.
 type Rest = Option<(usize, &'static str)>;
-
-fn put_rest(rest: Rest, want: &mut Answer) {
-    match rest {
-        Some((start, text)) => {
-            want.number(start);
-            want.text(text);
-        }
-        None => want.none(),
-    }
-}
 
 /// A text, where it is split, and for each end that is asked the piece and what remains, both with their starts.
 type PieceSpans = (&'static str, u8, &'static [(char, Rest, Rest)]);
@@ -183,21 +160,15 @@ fn piece_spans(rows: &mut Rows) {
         let script = script_of_rows(steps);
         rows.ask(|asked| {
             calls::ask_split_spans(asked, 0, code, text.as_bytes(), &script);
-            for (_, piece, rest) in steps {
-                put_rest(*piece, &mut asked.want);
-                put_rest(*rest, &mut asked.want);
-            }
+            asked.want.all(steps.iter().map(|step| (step.1, step.2)));
             calls::ask_split(asked, code, text.as_bytes(), &script);
-            for (_, piece, rest) in steps {
-                asked.want.part(piece.map(|piece| piece.1));
-                asked.want.part(rest.map(|rest| rest.1));
-            }
+            asked.want.all(steps.iter().map(|(_, piece, rest)| (piece.map(|piece| piece.1), rest.map(|rest| rest.1))));
         });
     }
 }
 
-/// A line: its start, its ending and its body.
-type Line = Option<(usize, &'static str, &'static str)>;
+/// A line: its ending, its start and its body.
+type Line = Option<(&'static str, usize, &'static str)>;
 
 /// A text, the position at which it starts, and for each end that is asked the line and what remains.
 type LineSpans = (&'static str, usize, &'static [(char, Line, Rest)]);
@@ -207,10 +178,10 @@ static LINE_SPANS: [LineSpans; 9] = [
         "foo\r\nbar\n\nbaz\n",
         0,
         &[
-            ('F', Some((0, "crlf", "foo")), Some((5, "bar\n\nbaz\n"))),
-            ('B', Some((10, "lf", "baz")), Some((5, "bar\n\n"))),
-            ('B', Some((9, "lf", "")), Some((5, "bar\n"))),
-            ('F', Some((5, "lf", "bar")), None),
+            ('F', Some(("crlf", 0, "foo")), Some((5, "bar\n\nbaz\n"))),
+            ('B', Some(("lf", 10, "baz")), Some((5, "bar\n\n"))),
+            ('B', Some(("lf", 9, "")), Some((5, "bar\n"))),
+            ('F', Some(("lf", 5, "bar")), None),
             ('F', None, None),
         ],
     ),
@@ -218,49 +189,29 @@ static LINE_SPANS: [LineSpans; 9] = [
         "\n\r\n\n\r\n",
         0,
         &[
-            ('F', Some((0, "lf", "")), Some((1, "\r\n\n\r\n"))),
-            ('F', Some((1, "crlf", "")), Some((3, "\n\r\n"))),
-            ('F', Some((3, "lf", "")), Some((4, "\r\n"))),
-            ('F', Some((4, "crlf", "")), None),
+            ('F', Some(("lf", 0, "")), Some((1, "\r\n\n\r\n"))),
+            ('F', Some(("crlf", 1, "")), Some((3, "\n\r\n"))),
+            ('F', Some(("lf", 3, "")), Some((4, "\r\n"))),
+            ('F', Some(("crlf", 4, "")), None),
         ],
     ),
-    ("\r\r\n", 0, &[('B', Some((0, "crlf", "\r")), None)]),
-    ("a\r", 0, &[('B', Some((0, "none", "a\r")), None)]),
+    ("\r\r\n", 0, &[('B', Some(("crlf", 0, "\r")), None)]),
+    ("a\r", 0, &[('B', Some(("none", 0, "a\r")), None)]),
     ("", 0, &[('F', None, None), ('B', None, None)]),
-    (
-        "x\r\ny",
-        0,
-        &[('F', Some((0, "crlf", "x")), Some((3, "y"))), ('B', Some((3, "none", "y")), None), ('B', None, None)],
-    ),
-    ("a\nb\r\n", 0, &[('F', Some((0, "lf", "a")), Some((2, "b\r\n"))), ('F', Some((2, "crlf", "b")), None)]),
-    ("a\n\r", 0, &[('B', Some((2, "none", "\r")), Some((0, "a\n"))), ('B', Some((0, "lf", "a")), None)]),
-    ("bar\n\n", 5, &[('F', Some((5, "lf", "bar")), Some((9, "\n"))), ('F', Some((9, "lf", "")), None)]),
+    ("x\r\ny", 0, &[('F', Some(("crlf", 0, "x")), Some((3, "y"))), ('B', Some(("none", 3, "y")), None), ('B', None, None)]),
+    ("a\nb\r\n", 0, &[('F', Some(("lf", 0, "a")), Some((2, "b\r\n"))), ('F', Some(("crlf", 2, "b")), None)]),
+    ("a\n\r", 0, &[('B', Some(("none", 2, "\r")), Some((0, "a\n"))), ('B', Some(("lf", 0, "a")), None)]),
+    ("bar\n\n", 5, &[('F', Some(("lf", 5, "bar")), Some((9, "\n"))), ('F', Some(("lf", 9, "")), None)]),
 ];
-
-fn put_line(line: Line, want: &mut Answer) {
-    match line {
-        Some((start, ending, body)) => {
-            want.fault(ending, start);
-            want.text(body);
-        }
-        None => want.none(),
-    }
-}
 
 fn line_spans(rows: &mut Rows) {
     for (text, from, steps) in LINE_SPANS {
         let script = script_of_rows(steps);
         rows.ask(|asked| {
             calls::ask_line_spans(asked, from, text.as_bytes(), &script);
-            for (_, line, rest) in steps {
-                put_line(*line, &mut asked.want);
-                put_rest(*rest, &mut asked.want);
-            }
+            asked.want.all(steps.iter().map(|step| (step.1, step.2)));
             calls::ask_lines(asked, text.as_bytes(), &script);
-            for (_, line, rest) in steps {
-                asked.want.part(line.map(|line| line.2));
-                asked.want.part(rest.map(|rest| rest.1));
-            }
+            asked.want.all(steps.iter().map(|(_, line, rest)| (line.map(|line| line.2), rest.map(|rest| rest.1))));
         });
     }
 }
@@ -270,17 +221,16 @@ fn largest_positions(rows: &mut Rows) {
     for (script, answers) in [([1, 0], [last, before, before, None]), ([0, 0], [before, last, last, None])] {
         rows.ask(|asked| {
             calls::ask_split_spans(asked, usize::MAX - 2, b',', b"a,", &script);
-            answers.iter().for_each(|answer| put_rest(*answer, &mut asked.want));
+            asked.want.all(answers);
         });
     }
     rows.ask(|asked| {
         calls::ask_line_spans(asked, usize::MAX - 3, b"\r\nb", &[0, 0, 1]);
-        put_line(Some((usize::MAX - 3, "crlf", "")), &mut asked.want);
-        put_rest(Some((usize::MAX - 1, "b")), &mut asked.want);
-        put_line(Some((usize::MAX - 1, "none", "b")), &mut asked.want);
-        (0..3).for_each(|_| asked.want.none());
+        asked.want.put(("crlf", usize::MAX - 3, "", (usize::MAX - 1, "b")));
+        asked.want.put(("none", usize::MAX - 1, "b"));
+        asked.want.times(3, NOTHING);
         calls::ask_line_spans(asked, usize::MAX, b"", &[3]);
-        (0..2).for_each(|_| asked.want.none());
+        asked.want.times(2, NOTHING);
     });
 }
 
@@ -354,20 +304,12 @@ static CHUNKS: [&[&[u8]]; 6] = [
     &[b"a23456789.123456789.123456789.123456789.", b"\x80"],
 ];
 
-/// Chunks with their starts.
-fn with_starts<'a>(chunks: &[&'a [u8]]) -> VecDeque<(usize, &'a [u8])> {
-    let mut start = 0;
-    let starts = chunks.iter().map(|chunk| {
-        start += chunk.len();
-        (start - chunk.len(), *chunk)
-    });
-    starts.collect()
-}
-
 fn chunks(rows: &mut Rows) {
     for chunks in CHUNKS {
+        let source = chunks.concat();
+        assert!(source.chunk_by(|a, b| a.is_ascii() == b.is_ascii()).eq(chunks.iter().copied()));
         for script in [[0; 4], [1; 4], [0, 1, 0, 1], [1, 0, 1, 0]] {
-            rows.ask(|asked| ask_chunks(&chunks.concat(), with_starts(chunks), &script, asked));
+            rows.ask(|asked| ask_chunks(&source, &script, asked));
         }
     }
 }
@@ -387,10 +329,8 @@ fn remainder_of_chunks(rows: &mut Rows) {
     rows.ask(|asked| {
         calls::ask_chunks(asked, b"ab\xc4cd", &CHUNK_STEPS.map(|step| step.0 .0));
         for ((_, kind, rest), chunk, start) in CHUNK_STEPS {
-            asked.want.fault(kind, start);
-            asked.want.text(chunk);
-            span(0, rest, &mut asked.want);
+            asked.want.put((kind, start, chunk, rest));
         }
     });
-    rows.ask(|asked| ask_chunks(b"", VecDeque::new(), &[3], asked));
+    rows.ask(|asked| ask_chunks(b"", &[3], asked));
 }

@@ -1,8 +1,8 @@
 //! Writers of lines, through buffers of many sizes, to sinks that take little at a call or fail.
 
 use super::{Row, Rows};
-use crate::asked::Asked;
-use crate::calls::{self, Device, Step, WHOLE};
+use crate::asked::{Asked, Failed};
+use crate::calls::{self, Device, Steps, WHOLE};
 
 pub static ROWS: &[Row] = &[
     ("all_lines_are_written_through_any_buffer", any_buffer),
@@ -28,12 +28,7 @@ static SESSIONS: [Session; 2] = [
 
 /// Asks a writer for steps.
 fn ask_steps(asked: &mut Asked, all: &[(u8, &str)], size: usize, device: &Device) {
-    let (mut texts, mut steps) = (Vec::new(), Vec::new());
-    for (kind, text) in all {
-        let start = texts.len();
-        texts.extend(text.bytes());
-        steps.push(Step { kind: *kind, start, end: texts.len(), ..Step::default() });
-    }
+    let Steps { texts, steps } = Steps::of(all.iter().map(|(kind, text)| (*kind, 0, *text)));
     calls::ask_writer(asked, &texts, size, device, &steps);
 }
 
@@ -42,12 +37,11 @@ fn any_buffer(rows: &mut Rows) {
         for (size, most) in (0..20).flat_map(|size| [(size, 1), (size, 3), (size, 100)]) {
             rows.ask(|asked| {
                 ask_steps(asked, steps, size, &Device { most, ..WHOLE });
-                steps.iter().for_each(|_| asked.want.text("done"));
+                asked.want.times(steps.len(), "done");
                 let calls = asked.got().len().saturating_sub(written.len() + 17);
                 let calls = asked.got()[calls..].first_chunk().map_or(0, |calls| u64::from_le_bytes(*calls) as usize);
                 // With a byte a call, a call for each byte and for the flush.
-                asked.want.number(if most == 1 { written.len() + 1 } else { calls });
-                asked.want.text(written);
+                asked.want.put((if most == 1 { written.len() + 1 } else { calls }, written));
             });
         }
     }
@@ -60,16 +54,13 @@ fn failed_writes(rows: &mut Rows) {
             rows.ask(|asked| {
                 let after: Vec<(u8, &str)> = [steps, &[(LF, "x\n"), (PART, "x"), (FLUSH, "")]].concat();
                 ask_steps(asked, &after, size, &Device { most: 1, fails: fails as u64, ..WHOLE });
-                let got = asked.got().to_vec();
                 // At the latest the flush fails.
                 for done in 0..steps.len() {
                     asked.want.bytes.clear();
-                    for at in 0..after.len() {
-                        asked.want.text(if at < done { "done" } else { "write" });
-                    }
-                    asked.want.number(fails + 1);
-                    asked.want.text(&written[..fails]);
-                    if asked.want.bytes == got {
+                    asked.want.times(done, "done");
+                    asked.want.times(after.len() - done, "write");
+                    asked.want.put((fails + 1, &written[..fails]));
+                    if !asked.differs() {
                         return;
                     }
                 }
@@ -79,28 +70,22 @@ fn failed_writes(rows: &mut Rows) {
 }
 
 fn line_break(rows: &mut Rows) {
-    let steps =
-        [(LF, "ab"), (ABSENT, "\n"), (ABSENT, "a\r"), (ABSENT, "abcdefgh\r\n"), (ABSENT, "a\nb\r"), (FLUSH, "")];
+    let steps = [(LF, "ab"), (ABSENT, "\n"), (ABSENT, "a\r"), (ABSENT, "abcdefgh\r\n"), (ABSENT, "a\nb\r"), (FLUSH, "")];
     rows.ask(|asked| {
         ask_steps(asked, &steps, 4, &WHOLE);
-        asked.want.text("done");
-        for place in [0, 1, 8, 1] {
-            asked.want.fault("break", place);
-        }
-        asked.want.text("done");
-        asked.want.number(2);
-        asked.want.text("ab\n");
+        asked.want.put("done");
+        asked.want.all([0, 1, 8, 1].map(|place| ("break", place)));
+        asked.want.put(("done", 2, "ab\n"));
     });
 }
 
 fn no_memory(rows: &mut Rows) {
     rows.ask(|asked| {
         ask_steps(asked, &[], usize::MAX, &WHOLE);
-        asked.want.bytes.push(b'!');
+        asked.want.put(Failed);
         // Of a size that there is memory for, a line.
         ask_steps(asked, &[(LF, "a"), (FLUSH, "")], 2, &WHOLE);
-        (0..2).for_each(|_| asked.want.text("done"));
-        asked.want.number(2);
-        asked.want.text("a\n");
+        asked.want.times(2, "done");
+        asked.want.put((2, "a\n"));
     });
 }

@@ -1,5 +1,6 @@
 //! A reader and a writer that give and take little at a time, that fail at one call, and that move no byte at another.
 
+use crate::answer::{Answer, Put};
 use std::alloc::Global;
 use std::io::{self, ErrorKind};
 
@@ -81,9 +82,11 @@ pub(crate) fn error_of(number: u8) -> io::Error {
 }
 
 /// The index in `KINDS` of an error's kind.
-pub(crate) fn number_of(error: &io::Error) -> Option<usize> {
-    let kind = error.kind();
-    KINDS.iter().position(|other| *other == kind)
+impl Put for io::Error {
+    fn put(self, answer: &mut Answer) {
+        let kind = self.kind();
+        answer.put(KINDS.iter().position(|other| *other == kind));
+    }
 }
 
 /// A reader of bytes.
@@ -123,10 +126,7 @@ const KEPT: usize = 4 << 20;
 
 /// An empty list for what a writer takes.
 pub(crate) fn kept(alloc: Global) -> Vec<u8> {
-    match Vec::with_capacity(alloc, KEPT) {
-        Ok(list) => list,
-        Err(_) => Vec::new(alloc),
-    }
+    Vec::with_capacity(alloc, KEPT).unwrap_or(Vec::new(alloc))
 }
 
 /// A writer that keeps what it takes. A flush counts as a call too.
@@ -151,6 +151,13 @@ impl Taken {
         let call = self.calls;
         self.calls = call.saturating_add(1);
         self.device.most_at(call)
+    }
+}
+
+/// The number of calls, and the bytes.
+impl Put for Taken {
+    fn put(self, answer: &mut Answer) {
+        answer.put((self.calls, self.bytes.as_slice()));
     }
 }
 

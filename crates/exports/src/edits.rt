@@ -1,11 +1,9 @@
 //! Runs of commands over both string types, and capacities.
 
-ghost use Rattle.std.specs.Str.{IsAscii};
-
-use crate::answer::Answer;
+use crate::answer::{Answer, Made, Put};
 use crate::slices::range_of;
 use crate::steps::Step;
-use ascii::{AsciiChar, AsciiStr, AsciiString, bytes};
+use ascii::{AsciiChar, AsciiStr, AsciiString};
 use ascii_run::{AsciiBuf, Cmd, Reply, SmallAsciiString, run};
 use std::alloc::{AllocError, Global};
 
@@ -14,55 +12,34 @@ use std::alloc::{AllocError, Global};
 pub fn ask_edits(
     alloc: Global,
     is_small: bool,
-    source: &[u8],
-    texts: &[u8],
+    source: AsciiStr,
+    texts: AsciiStr,
     steps: &[Step],
-    room: &mut [u8],
-) -> usize
-    requires source { IsAscii source.now }
-    requires texts { IsAscii texts.now }
-{
-    let view = bytes::as_ascii_str_unchecked(source);
-    let texts = bytes::as_ascii_str_unchecked(texts);
-    let mut answer = Answer::new(room);
-    if let Ok(cmds) = commands(alloc, texts, steps) {
-        if is_small {
-            let small = SmallAsciiString::from_ascii_str(alloc, view);
-            put_run(alloc, small, &cmds, &mut answer);
-        } else {
-            put_run(alloc, view.to_ascii_string(alloc), &cmds, &mut answer);
-        }
+    answer: &mut Answer,
+) {
+    let Ok(cmds) = commands(alloc, texts, steps) else {
+        return answer.put(AllocError);
+    };
+    if is_small {
+        let small = SmallAsciiString::from_ascii_str(alloc, source);
+        put_run(alloc, small, &cmds, answer);
     } else {
-        answer.failed();
+        put_run(alloc, source.to_ascii_string(alloc), &cmds, answer);
     }
-    answer.finish()
 }
 
 fn put_run<B: AsciiBuf + Drop>(
     alloc: Global,
-    made: Result<B, AllocError>,
+    made: Made<B>,
     cmds: &[Cmd<'_>],
-    answer: &mut Answer<'_>,
+    answer: &mut Answer,
 ) {
     match made {
         Ok(mut buf) => {
-            put_outcome(run(alloc, &mut buf, cmds), answer);
-            answer.text(buf.as_ascii_str());
+            answer.put_result(run(alloc, &mut buf, cmds));
+            answer.put(buf.as_ascii_str());
         }
-        Err(_) => answer.failed(),
-    }
-}
-
-fn put_outcome(replies: Result<Vec<Reply>, AllocError>, answer: &mut Answer<'_>) {
-    match replies {
-        Ok(replies) => put_replies(&replies, answer),
-        Err(_) => answer.failed(),
-    }
-}
-
-pub(crate) fn put_replies(replies: &[Reply], answer: &mut Answer<'_>) {
-    for reply in replies {
-        put_reply(reply, answer);
+        Err(error) => answer.put(error),
     }
 }
 
@@ -70,7 +47,7 @@ pub(crate) fn commands<'a>(
     alloc: Global,
     texts: AsciiStr<'a>,
     steps: &[Step],
-) -> Result<Vec<Cmd<'a>>, AllocError> {
+) -> Made<Vec<Cmd<'a>>> {
     let mut cmds = Vec::with_capacity(alloc, steps.len())?;
     for step in steps {
         cmds.push(command(*step, texts))?;
@@ -103,17 +80,19 @@ fn command<'a>(step: Step, texts: AsciiStr<'a>) -> Cmd<'a> {
     }
 }
 
-fn put_reply(reply: &Reply, answer: &mut Answer<'_>) {
-    match reply {
-        Reply::Done => answer.name("done"),
-        Reply::Char(ch) => answer.character(*ch),
-        Reply::Number(number) => answer.number(*number),
-        Reply::Truth(holds) => answer.flag(*holds),
-        Reply::Text(text) => answer.text(text.as_ascii_str()),
-        Reply::BadPosition => answer.name("position"),
-        Reply::Refused(error) => answer.fault("ascii", error.valid_up_to()),
-        Reply::NoMemory => answer.name("memory"),
-        Reply::TooMany => answer.name("many"),
+impl Put for Reply {
+    fn put(self, answer: &mut Answer) {
+        match self {
+            Reply::Done => answer.put("done"),
+            Reply::Char(ch) => answer.put(ch),
+            Reply::Number(number) => answer.put(number),
+            Reply::Truth(holds) => answer.put(holds),
+            Reply::Text(text) => answer.put(text),
+            Reply::BadPosition => answer.put("position"),
+            Reply::Refused(error) => answer.put(("ascii", error)),
+            Reply::NoMemory => answer.put("memory"),
+            Reply::TooMany => answer.put("many"),
+        }
     }
 }
 
@@ -122,76 +101,49 @@ fn put_reply(reply: &Reply, answer: &mut Answer<'_>) {
 pub fn ask_capacities(
     alloc: Global,
     capacity: usize,
-    texts: &[u8],
+    texts: AsciiStr,
     steps: &[Step],
-    room: &mut [u8],
-) -> usize
-    requires { IsAscii texts.now }
-{
-    let texts = bytes::as_ascii_str_unchecked(texts);
-    let mut answer = Answer::new(room);
+    answer: &mut Answer,
+) {
     match AsciiString::with_capacity(alloc, capacity) {
         Ok(mut string) => {
-            answer.number(string.capacity());
+            answer.put(string.capacity());
             for step in steps {
                 if step.kind == 19 {
-                    reserve_exactly(&mut string, step.at, &mut answer);
+                    reserve_exactly(&mut string, step.at, answer);
                 } else {
-                    follow(alloc, &mut string, *step, texts, &mut answer);
+                    answer.put_result(run(alloc, &mut string, &[command(*step, texts)]));
                 }
-                answer.number(string.capacity());
+                answer.put(string.capacity());
             }
         }
-        Err(_) => answer.failed(),
+        Err(error) => answer.put(error),
     }
-    answer.finish()
 }
 
-fn reserve_exactly(string: &mut AsciiString, additional: usize, answer: &mut Answer<'_>) {
+fn reserve_exactly(string: &mut AsciiString, additional: usize, answer: &mut Answer) {
     if additional > usize::MAX - string.len() {
-        return answer.name("many");
+        return answer.put("many");
     }
-    match string.reserve_exact(additional) {
-        Ok(()) => answer.name("done"),
-        Err(_) => answer.name("memory"),
-    }
-}
-
-fn follow<B: AsciiBuf>(
-    alloc: Global,
-    buf: &mut B,
-    step: Step,
-    texts: AsciiStr<'_>,
-    answer: &mut Answer<'_>,
-) {
-    put_outcome(run(alloc, buf, &[command(step, texts)]), answer);
+    answer.put(string.reserve_exact(additional).map_err(|_| "memory"));
 }
 
 /// Whether an inline string is inline and its capacity; then for each command its reply, and those again.
 pub fn ask_small_capacities(
     alloc: Global,
-    source: &[u8],
-    texts: &[u8],
+    source: AsciiStr,
+    texts: AsciiStr,
     steps: &[Step],
-    room: &mut [u8],
-) -> usize
-    requires source { IsAscii source.now }
-    requires texts { IsAscii texts.now }
-{
-    let texts = bytes::as_ascii_str_unchecked(texts);
-    let view = bytes::as_ascii_str_unchecked(source);
-    let mut answer = Answer::new(room);
-    match SmallAsciiString::from_ascii_str(alloc, view) {
+    answer: &mut Answer,
+) {
+    match SmallAsciiString::from_ascii_str(alloc, source) {
         Ok(mut small) => {
-            answer.flag(small.is_inline());
-            answer.number(small.capacity());
+            answer.put((small.is_inline(), small.capacity()));
             for step in steps {
-                follow(alloc, &mut small, *step, texts, &mut answer);
-                answer.flag(small.is_inline());
-                answer.number(small.capacity());
+                answer.put_result(run(alloc, &mut small, &[command(*step, texts)]));
+                answer.put((small.is_inline(), small.capacity()));
             }
         }
-        Err(_) => answer.failed(),
+        Err(error) => answer.put(error),
     }
-    answer.finish()
 }

@@ -83,6 +83,20 @@ pub fn bench_grep(source: &[u8], needle: &[u8]) -> usize {
     sum
 }
 
+/// The lines of a text that contain another text, ignoring case.
+pub fn bench_grep_ignoring_case(source: &[u8], needle: &[u8]) -> usize {
+    let (Ok(text), Ok(needle)) = (bytes::as_ascii_str(source), bytes::as_ascii_str(needle)) else {
+        return 0;
+    };
+    let mut sum: usize = 0;
+    for line in text.lines() {
+        if line.contains_ignore_ascii_case(needle) {
+            sum = mixed(sum, line.len());
+        }
+    }
+    sum
+}
+
 /// The value after a name in a block of headers.
 pub fn bench_lookup(source: &[u8], name: &[u8]) -> usize {
     let (Ok(text), Ok(wanted)) = (bytes::as_ascii_str(source), bytes::as_ascii_str(name)) else {

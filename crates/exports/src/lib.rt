@@ -2,17 +2,17 @@
 //! benchmark measures those of `measured`, and the differential test compares the answers of the others, whose names
 //! begin with `ask_`, with those of tables and of other implementations.
 //!
-//! Such a call writes its answer into a buffer and returns its length; `answer` says how. It states no more than what
-//! it needs of its caller, because its answers are what is compared.
+//! Such a call puts what the library returns into its answer; `answer` says how that is written. It states no more than
+//! what it needs of its caller, because its answers are what is compared. A program in Rust passes bytes for an
+//! `AsciiStr` and a byte for an `AsciiChar`, and has to know that they are ASCII.
 #![tactic(auto)]
 
-mod answer;
+pub mod answer;
 pub mod characters;
 pub mod conversions;
 pub mod copies;
 pub mod devices;
 pub mod edits;
-pub mod engine_runs;
 pub mod engines;
 pub mod everyday;
 pub mod json_values;

@@ -1,123 +1,90 @@
 //! Lines that are read, written and answered, over devices that give and take little or fail.
 
-ghost use Rattle.std.specs.Str.{IsAscii};
 ghost use Rattle.ascii_lines.specs.Serve.{IsRequest};
 
-use crate::answer::Answer;
+use crate::answer::{Answer, NOTHING, Put};
 use crate::devices::{Device, Given, Taken};
 use crate::steps::Step;
-use crate::walks::ending_name;
 use ascii::iter::Ending;
-use ascii::{AsciiChar, AsciiStr, bytes};
+use ascii::{AsciiChar, AsciiStr};
 use ascii_lines::{
-    Block, BlockEnd, CollectedLines, Duplex, Endings, Handler, Input, LineChannel, LineError,
-    LineReader, LineWriter, Next, Output, Replies, Sink, SkippedLine, Stop, WriteError,
-    collect_lines, read_block, serve,
+    Block, BlockEnd, Duplex, Endings, Handler, Input, LineChannel, LineError, LineReader,
+    LineWriter, Next, Output, OwnedLine, ReadBytes, ReadLine, ReadPart, Replies, Sink, SkippedLine,
+    Stop, WriteError, collect_lines, read_block, serve,
 };
-use std::alloc::{Allocator, Global};
+use std::alloc::{AllocError, Allocator, Global};
 
 /// What a reader with a buffer of `size` bytes returns to each step, and its position after it; and the number of
 /// calls of its source. The kinds are 0 for the next line, 1 to 3 for the endings of `Endings` from now on, 4 for a
-/// part of `at` bytes, 5 for the next line as bytes, 6 for a line of up to `at` bytes that is skipped, 7 for whether
-/// a line is held, and 8 for whether a part of `at` bytes is.
+/// part of `at` bytes, 5 for the next line as bytes, and 6 for a line of up to `at` bytes that is skipped.
 pub fn ask_reader(
     alloc: Global,
     source: &[u8],
     size: usize,
     device: &Device,
     steps: &[Step],
-    room: &mut [u8],
-) -> usize {
-    let mut answer = Answer::new(room);
+    answer: &mut Answer,
+) {
     let source = Input::new(Given::new(source, *device));
-    if let Ok(mut reader) = LineReader::new(alloc, source, size, Endings::Any) {
-        for step in steps {
-            read(&mut reader, *step, &mut answer);
-            answer.long(reader.position());
-        }
-        answer.long(reader.into_source().into_inner().calls);
-    } else {
-        answer.failed();
+    let Ok(mut reader) = LineReader::new(alloc, source, size, Endings::Any) else {
+        return answer.put(AllocError);
+    };
+    for step in steps {
+        read(&mut reader, *step, answer);
+        answer.put(reader.position());
     }
-    answer.finish()
+    answer.put(reader.into_source().into_inner().calls);
 }
 
-fn read(reader: &mut LineReader<Input<Given<'_>>>, step: Step, answer: &mut Answer<'_>) {
+fn read(reader: &mut LineReader<Input<Given>>, step: Step, answer: &mut Answer) {
     match step.kind {
-        0 => put_next_line(reader, answer),
+        0 => answer.put(reader.next_line()),
         1 => reader.lines_ended_by(Endings::Any),
         2 => reader.lines_ended_by(Endings::CrLf),
         3 => reader.lines_ended_by(Endings::CrLfStrict),
-        4 => match reader.read_exact_part(step.at) {
-            Ok(part) => {
-                answer.long(part.start);
-                answer.text(part.text);
-            }
-            Err(error) => put_error(error, answer),
-        },
-        6 => put_skipped(reader.skip_line(step.at as u64), answer),
-        _ => put_next_bytes(reader, answer),
+        4 => answer.put(reader.read_exact_part(step.at)),
+        6 => answer.put(reader.skip_line(step.at as u64)),
+        _ => answer.put(reader.next_bytes()),
     }
 }
 
-fn put_next_line(reader: &mut LineReader<Input<Given<'_>>>, answer: &mut Answer<'_>) {
-    match reader.next_line() {
-        Ok(Some(line)) => put_line(line.start, line.text, line.ending, answer),
-        Ok(None) => answer.none(),
-        Err(error) => put_error(error, answer),
+impl Put for ReadLine<'_> {
+    fn put(self, answer: &mut Answer) {
+        answer.put((self.start, self.text, self.ending));
     }
 }
 
-fn put_next_bytes(reader: &mut LineReader<Input<Given<'_>>>, answer: &mut Answer<'_>) {
-    match reader.next_bytes() {
-        Ok(Some(line)) => {
-            answer.long(line.start);
-            answer.bytes(line.bytes);
-            match line.text {
-                Ok(text) => answer.text(text),
-                Err(position) => put_error_at("ascii", position, answer),
-            }
-            answer.name(ending_name(line.ending));
+impl Put for ReadBytes<'_> {
+    fn put(self, answer: &mut Answer) {
+        answer.put((self.start, self.bytes));
+        answer.put(self.text.map_err(|position| ("ascii", position)));
+        answer.put(self.ending);
+    }
+}
+
+impl Put for ReadPart<'_> {
+    fn put(self, answer: &mut Answer) {
+        answer.put((self.start, self.text));
+    }
+}
+
+impl Put for SkippedLine {
+    fn put(self, answer: &mut Answer) {
+        answer.put((self.start, self.length, self.non_ascii));
+    }
+}
+
+impl Put for LineError {
+    fn put(self, answer: &mut Answer) {
+        match self {
+            LineError::NotAscii(position) => answer.put(("ascii", position)),
+            LineError::LoneBreak(position) => answer.put(("lone", position)),
+            LineError::TooLong(position) => answer.put(("long", position)),
+            LineError::Incomplete(count) => answer.put(("incomplete", count)),
+            LineError::TooFar => answer.put("far"),
+            LineError::Read => answer.put("read"),
         }
-        Ok(None) => answer.none(),
-        Err(error) => put_error(error, answer),
     }
-}
-
-fn put_skipped(skipped: Result<SkippedLine, LineError>, answer: &mut Answer<'_>) {
-    match skipped {
-        Ok(line) => {
-            answer.long(line.start);
-            answer.long(line.length);
-            match line.non_ascii {
-                Some(position) => answer.long(position),
-                None => answer.none(),
-            }
-        }
-        Err(error) => put_error(error, answer),
-    }
-}
-
-fn put_line(start: u64, text: AsciiStr<'_>, ending: Ending, answer: &mut Answer<'_>) {
-    answer.long(start);
-    answer.text(text);
-    answer.name(ending_name(ending));
-}
-
-pub(crate) fn put_error(error: LineError, answer: &mut Answer<'_>) {
-    match error {
-        LineError::NotAscii(position) => put_error_at("ascii", position, answer),
-        LineError::LoneBreak(position) => put_error_at("lone", position, answer),
-        LineError::TooLong(position) => put_error_at("long", position, answer),
-        LineError::Incomplete(count) => answer.fault("incomplete", count),
-        LineError::TooFar => answer.name("far"),
-        LineError::Read => answer.name("read"),
-    }
-}
-
-fn put_error_at(name: &str, position: u64, answer: &mut Answer<'_>) {
-    answer.name(name);
-    answer.long(position);
 }
 
 /// The lines that are collected, and the error or none; or the position of the reader after an allocation that failed.
@@ -126,31 +93,21 @@ pub fn ask_collected_lines(
     source: &[u8],
     size: usize,
     device: &Device,
-    room: &mut [u8],
-) -> usize {
-    let mut answer = Answer::new(room);
+    answer: &mut Answer,
+) {
     let source = Input::new(Given::new(source, *device));
-    if let Ok(mut reader) = LineReader::new(alloc, source, size, Endings::Any) {
-        match collect_lines(alloc, &mut reader) {
-            Ok(kept) => put_collected(&kept, &mut answer),
-            Err(_) => {
-                answer.failed();
-                answer.long(reader.position());
-            }
-        }
-    } else {
-        answer.failed();
+    let Ok(mut reader) = LineReader::new(alloc, source, size, Endings::Any) else {
+        return answer.put(AllocError);
+    };
+    match collect_lines(alloc, &mut reader) {
+        Ok(kept) => answer.put((kept.lines, kept.error)),
+        Err(error) => answer.put((error, reader.position())),
     }
-    answer.finish()
 }
 
-fn put_collected(kept: &CollectedLines, answer: &mut Answer<'_>) {
-    for line in &kept.lines {
-        put_line(line.start, line.text.as_ascii_str(), line.ending, answer);
-    }
-    match kept.error {
-        Some(error) => put_error(error, answer),
-        None => answer.none(),
+impl Put for OwnedLine {
+    fn put(self, answer: &mut Answer) {
+        answer.put((self.start, self.text, self.ending));
     }
 }
 
@@ -162,31 +119,25 @@ pub fn ask_block(
     size: usize,
     device: &Device,
     most: usize,
-    room: &mut [u8],
-) -> usize {
-    let mut answer = Answer::new(room);
+    answer: &mut Answer,
+) {
     let source = Input::new(Given::new(source, *device));
-    if let Ok(mut reader) = LineReader::new(alloc, source, size, Endings::Any) {
-        match read_block(alloc, &mut reader, most) {
-            Ok(block) => put_block(&block, &mut answer),
-            Err(_) => answer.failed(),
-        }
-        answer.long(reader.position());
-    } else {
-        answer.failed();
-    }
-    answer.finish()
+    let Ok(mut reader) = LineReader::new(alloc, source, size, Endings::Any) else {
+        return answer.put(AllocError);
+    };
+    answer.put_result(read_block(alloc, &mut reader, most));
+    answer.put(reader.position());
 }
 
-fn put_block(block: &Block, answer: &mut Answer<'_>) {
-    for line in &block.lines {
-        put_line(line.start, line.text.as_ascii_str(), line.ending, answer);
-    }
-    match block.end {
-        BlockEnd::EmptyLine => answer.name("empty"),
-        BlockEnd::EndOfInput => answer.none(),
-        BlockEnd::Full => answer.name("full"),
-        BlockEnd::Reader(error) => put_error(error, answer),
+impl Put for Block {
+    fn put(self, answer: &mut Answer) {
+        answer.put(self.lines);
+        match self.end {
+            BlockEnd::EmptyLine => answer.put("empty"),
+            BlockEnd::EndOfInput => answer.put(NOTHING),
+            BlockEnd::Full => answer.put("full"),
+            BlockEnd::Reader(error) => answer.put(error),
+        }
     }
 }
 
@@ -195,37 +146,26 @@ fn put_block(block: &Block, answer: &mut Answer<'_>) {
 /// text as it is.
 pub fn ask_writer(
     alloc: Global,
-    texts: &[u8],
+    texts: AsciiStr,
     size: usize,
     device: &Device,
     steps: &[Step],
-    room: &mut [u8],
-) -> usize
-    requires { IsAscii texts.now }
-{
-    let texts = bytes::as_ascii_str_unchecked(texts);
-    let mut answer = Answer::new(room);
+    answer: &mut Answer,
+) {
     let sink = Output::new(Taken::new(alloc, *device));
-    if let Ok(mut writer) = LineWriter::new(alloc, sink, size) {
-        for step in steps {
-            match write(&mut writer, *step, texts) {
-                Ok(()) => answer.name("done"),
-                Err(error) => put_write_error(error, &mut answer),
-            }
-        }
-        let taken = writer.into_sink().into_inner();
-        answer.long(taken.calls);
-        answer.bytes(&taken.bytes);
-    } else {
-        answer.failed();
+    let Ok(mut writer) = LineWriter::new(alloc, sink, size) else {
+        return answer.put(AllocError);
+    };
+    for step in steps {
+        answer.put(write(&mut writer, *step, texts));
     }
-    answer.finish()
+    answer.put(writer.into_sink().into_inner());
 }
 
 fn write(
     writer: &mut LineWriter<Output<Taken>>,
     step: Step,
-    texts: AsciiStr<'_>,
+    texts: AsciiStr,
 ) -> Result<(), WriteError> {
     let text = step.text(texts);
     match step.kind {
@@ -237,10 +177,12 @@ fn write(
     }
 }
 
-pub(crate) fn put_write_error(error: WriteError, answer: &mut Answer<'_>) {
-    match error {
-        WriteError::LineBreak(position) => answer.fault("break", position),
-        WriteError::Write => answer.name("write"),
+impl Put for WriteError {
+    fn put(self, answer: &mut Answer) {
+        match self {
+            WriteError::LineBreak(position) => answer.put(("break", position)),
+            WriteError::Write => answer.put("write"),
+        }
     }
 }
 
@@ -251,29 +193,23 @@ pub fn ask_conversation(
     size: usize,
     reads: &Device,
     writes: &Device,
-    room: &mut [u8],
-) -> usize {
-    let mut answer = Answer::new(room);
+    answer: &mut Answer,
+) {
     let device = Duplex::new(Given::new(source, *reads), Taken::new(alloc, *writes));
-    if let Ok(mut lines) = LineChannel::new(alloc, device, size, Endings::Any, Ending::CrLf) {
-        let mut echo = Echo {
-            alloc,
-            awaits_part: false,
-            fault: None,
-        };
-        match (serve(&mut lines, &mut echo), echo.fault) {
-            (Stop::Closed, Some(error)) => put_write_error(error, &mut answer),
-            (Stop::Closed, None) => answer.name("closed"),
-            (Stop::EndOfInput, _) => answer.none(),
-            (Stop::Reader(error), _) => put_error(error, &mut answer),
-            (Stop::Writer, _) => put_write_error(WriteError::Write, &mut answer),
-        }
-        let (_, output) = lines.into_device().into_parts();
-        answer.bytes(&output.into_inner().bytes);
-    } else {
-        answer.failed();
+    let Ok(mut lines) = LineChannel::new(alloc, device, size, Endings::Any, Ending::CrLf) else {
+        return answer.put(AllocError);
+    };
+    let mut echo = Echo {
+        alloc,
+        awaits_part: false,
+        fault: None,
+    };
+    match (serve(&mut lines, &mut echo), echo.fault) {
+        (Stop::Closed, Some(error)) => answer.put(error),
+        (stop, _) => answer.put(stop),
     }
-    answer.finish()
+    let (_, output) = lines.into_device().into_parts();
+    answer.put(output.into_inner().bytes.as_slice());
 }
 
 /// A handler. It replies to a line or a part in upper case. After a line that starts with `p` it asks for a
@@ -287,7 +223,7 @@ struct Echo {
 
 impl Echo {
     /// What is asked for after a text.
-    fn next(&mut self, text: AsciiStr<'_>) -> Next
+    fn next(&mut self, text: AsciiStr) -> Next
         ensures { IsRequest result }
     {
         let is_part = self.awaits_part;
@@ -311,7 +247,7 @@ impl Handler for Echo {
 
     fn answer<K: Sink, A: Allocator>(
         &mut self,
-        text: AsciiStr<'_>,
+        text: AsciiStr,
         _ending: Ending,
         replies: &mut Replies<K, A>,
     ) -> Next {

@@ -67,9 +67,14 @@ pub fn bench_lines(source: &[u8], from_back: bool) -> usize
 }
 
 /// The lengths of the lines of an input, mixed in their order, read through a buffer of 64 KiB; 0 if a
-/// line is rejected or an allocation fails.
-pub fn bench_read_lines(alloc: Global, source: &[u8]) -> usize {
-    let Ok(reader) = LineReader::new(alloc, Input::new(source), 65_536, Endings::Any) else {
+/// line is rejected or an allocation fails. If it is strict, each line has to end in CR LF.
+pub fn bench_read_lines(alloc: Global, source: &[u8], is_strict: bool) -> usize {
+    let endings = if is_strict {
+        Endings::CrLfStrict
+    } else {
+        Endings::Any
+    };
+    let Ok(reader) = LineReader::new(alloc, Input::new(source), 65_536, endings) else {
         return 0;
     };
     let mut reader = reader;

@@ -1,11 +1,10 @@
 //! Numbers that are read and appended.
 
 ghost use Rattle.std.specs.Prelude.{◌≤◌};
-ghost use Rattle.std.specs.Str.{IsAscii};
 
-use crate::answer::Answer;
+use crate::answer::{Answer, Made, Put};
 use crate::steps::Step;
-use ascii::{AsciiStr, AsciiString, bytes};
+use ascii::{AsciiStr, AsciiString};
 use ascii_formats::decimals::Decimal;
 use ascii_formats::numbers::{Number, NumberError};
 use ascii_formats::{AsciiStrExt, AsciiStringExt};
@@ -14,164 +13,116 @@ use std::alloc::Global;
 use std::string::ToString;
 
 /// The number that a text writes and the one at its start, as each type of number.
-pub fn ask_numbers(alloc: Global, source: &[u8], room: &mut [u8]) -> usize
-    requires { IsAscii source.now }
-{
-    let view = bytes::as_ascii_str_unchecked(source);
-    let mut answer = Answer::new(room);
-    read_number::<u8>(alloc, view, &mut answer);
-    read_number::<u16>(alloc, view, &mut answer);
-    read_number::<u32>(alloc, view, &mut answer);
-    read_number::<u64>(alloc, view, &mut answer);
-    read_number::<u128>(alloc, view, &mut answer);
-    read_number::<usize>(alloc, view, &mut answer);
-    read_number::<i8>(alloc, view, &mut answer);
-    read_number::<i16>(alloc, view, &mut answer);
-    read_number::<i32>(alloc, view, &mut answer);
-    read_number::<i64>(alloc, view, &mut answer);
-    read_number::<i128>(alloc, view, &mut answer);
-    read_number::<isize>(alloc, view, &mut answer);
-    answer.finish()
+pub fn ask_numbers(alloc: Global, source: AsciiStr, answer: &mut Answer) {
+    read_number::<u8>(alloc, source, answer);
+    read_number::<u16>(alloc, source, answer);
+    read_number::<u32>(alloc, source, answer);
+    read_number::<u64>(alloc, source, answer);
+    read_number::<u128>(alloc, source, answer);
+    read_number::<usize>(alloc, source, answer);
+    read_number::<i8>(alloc, source, answer);
+    read_number::<i16>(alloc, source, answer);
+    read_number::<i32>(alloc, source, answer);
+    read_number::<i64>(alloc, source, answer);
+    read_number::<i128>(alloc, source, answer);
+    read_number::<isize>(alloc, source, answer);
 }
 
-fn read_number<N: Number + ToString + Drop>(
-    alloc: Global,
-    view: AsciiStr<'_>,
-    answer: &mut Answer<'_>,
-) {
-    put_result(alloc, view.to_number::<N>(), answer);
+fn read_number<N: Number + ToString + Drop>(alloc: Global, view: AsciiStr, answer: &mut Answer) {
+    put_number(alloc, view.to_number::<N>(), answer);
     match view.take_number::<N>() {
         Ok((n, rest)) => {
-            put_number(alloc, n, answer);
-            answer.text(rest);
+            put_number(alloc, Ok(n), answer);
+            answer.put(rest);
         }
-        Err(error) => put_error(error, answer),
+        Err(error) => answer.put(error),
     }
 }
 
 /// The number that a text writes in a radix, as types of both signs.
-pub fn ask_numbers_of_radix(alloc: Global, radix: u32, source: &[u8], room: &mut [u8]) -> usize
-    requires ascii { IsAscii source.now }
+pub fn ask_numbers_of_radix(alloc: Global, radix: u32, source: AsciiStr, answer: &mut Answer)
     requires two { 2 ≤ radix }
     requires most { radix ≤ 36 }
 {
-    let view = bytes::as_ascii_str_unchecked(source);
-    let mut answer = Answer::new(room);
-    put_result(alloc, view.to_number_radix::<u8>(radix), &mut answer);
-    put_result(alloc, view.to_number_radix::<i8>(radix), &mut answer);
-    put_result(alloc, view.to_number_radix::<u64>(radix), &mut answer);
-    put_result(alloc, view.to_number_radix::<i64>(radix), &mut answer);
-    answer.finish()
+    put_number(alloc, source.to_number_radix::<u8>(radix), answer);
+    put_number(alloc, source.to_number_radix::<i8>(radix), answer);
+    put_number(alloc, source.to_number_radix::<u64>(radix), answer);
+    put_number(alloc, source.to_number_radix::<i64>(radix), answer);
 }
 
-fn put_result<N: ToString + Drop>(
+/// The digits of a number, or the error of one that is read.
+fn put_number<N: ToString + Drop>(
     alloc: Global,
     read: Result<N, NumberError>,
-    answer: &mut Answer<'_>,
+    answer: &mut Answer,
 ) {
     match read {
-        Ok(n) => put_number(alloc, n, answer),
-        Err(error) => put_error(error, answer),
+        Ok(n) => answer.put_result(n.to_string(alloc)),
+        Err(error) => answer.put(error),
     }
 }
 
-fn put_number<N: ToString + Drop>(alloc: Global, n: N, answer: &mut Answer<'_>) {
-    answer.std_string(n.to_string(alloc));
-}
-
-pub(crate) fn put_error(error: NumberError, answer: &mut Answer<'_>) {
-    match error {
-        NumberError::Empty => answer.name("empty"),
-        NumberError::NotDigit(position) => answer.fault("digit", position),
-        NumberError::TooLarge(position) => answer.fault("large", position),
+impl Put for NumberError {
+    fn put(self, answer: &mut Answer) {
+        match self {
+            NumberError::Empty => answer.put("empty"),
+            NumberError::NotDigit(position) => answer.put(("digit", position)),
+            NumberError::TooLarge(position) => answer.put(("large", position)),
+        }
     }
 }
 
 /// A text with the digits of numbers appended, each as some types. `high` and `low` are the bits of a `u128` and an
 /// `i128`, and `low` those of the shorter types, as far as it fits them.
-pub fn ask_decimals(alloc: Global, high: u64, low: u64, source: &[u8], room: &mut [u8]) -> usize
-    requires { IsAscii source.now }
-{
-    let view = bytes::as_ascii_str_unchecked(source);
+pub fn ask_decimals(alloc: Global, high: u64, low: u64, source: AsciiStr, answer: &mut Answer) {
     let long = (u128::from(high) << 64) | u128::from(low);
     let signed = i64::from_le_bytes(low.to_le_bytes());
-    let mut answer = Answer::new(room);
-    push_digits(alloc, Some(long), view, &mut answer);
-    push_digits(
-        alloc,
-        Some(i128::from_le_bytes(long.to_le_bytes())),
-        view,
-        &mut answer,
-    );
-    push_digits(alloc, Some(low), view, &mut answer);
-    push_digits(alloc, Some(signed), view, &mut answer);
-    push_digits(alloc, i32::try_from(signed).ok(), view, &mut answer);
-    push_digits(alloc, u16::try_from(low).ok(), view, &mut answer);
-    push_digits(alloc, i8::try_from(signed).ok(), view, &mut answer);
-    answer.finish()
+    let signed_long = i128::from_le_bytes(long.to_le_bytes());
+    answer.put_result(with_digits(source.to_ascii_string(alloc), long));
+    answer.put_result(with_digits(source.to_ascii_string(alloc), signed_long));
+    answer.put_result(with_digits(source.to_ascii_string(alloc), low));
+    answer.put_result(with_digits(source.to_ascii_string(alloc), signed));
+    if let Ok(n) = i32::try_from(signed) {
+        answer.put_result(with_digits(source.to_ascii_string(alloc), n));
+    }
+    if let Ok(n) = u16::try_from(low) {
+        answer.put_result(with_digits(source.to_ascii_string(alloc), n));
+    }
+    if let Ok(n) = i8::try_from(signed) {
+        answer.put_result(with_digits(source.to_ascii_string(alloc), n));
+    }
 }
 
-fn push_digits<I: Integer>(
-    alloc: Global,
-    number: Option<I>,
-    view: AsciiStr<'_>,
-    answer: &mut Answer<'_>,
-) {
-    let Some(number) = number else {
-        return;
-    };
-    match view.to_ascii_string(alloc) {
-        Ok(mut string) => {
-            answer.flag(string.push_decimal(number).is_ok());
-            answer.text(string.as_ascii_str());
-        }
-        Err(_) => answer.failed(),
-    }
+/// Whether the digits of a number are appended to a string, and the string after that.
+fn with_digits<I: Integer>(made: Made<AsciiString>, n: I) -> Made<(bool, AsciiString)> {
+    let mut string = made?;
+    Ok((string.push_decimal(n).is_ok(), string))
 }
 
 /// The decimal number that a text writes: whether it is negative, its digits and its places.
-pub fn ask_decimal(source: &[u8], room: &mut [u8]) -> usize
-    requires { IsAscii source.now }
-{
-    let mut answer = Answer::new(room);
-    match bytes::as_ascii_str_unchecked(source).to_decimal() {
-        Ok(number) => {
-            answer.flag(number.negative);
-            answer.long(number.digits);
-            answer.number(number.places);
-        }
-        Err(error) => put_error(error, &mut answer),
-    }
-    answer.finish()
+pub fn ask_decimal(source: AsciiStr, answer: &mut Answer) {
+    let number = source.to_decimal();
+    answer.put(number.map(|it| (it.negative, it.digits, it.places)));
 }
 
 /// The texts of decimal numbers. The number of a step has the digits `at`, of which `start` are after the point, and is
 /// negative if its kind is not 0.
-pub fn ask_decimals_written(alloc: Global, steps: &[Step], room: &mut [u8]) -> usize {
-    let mut answer = Answer::new(room);
+pub fn ask_decimals_written(alloc: Global, steps: &[Step], answer: &mut Answer) {
     for step in steps {
         let number = Decimal {
             negative: step.kind != 0,
             digits: step.at as u64,
             places: step.start,
         };
-        put_number(alloc, number, &mut answer);
+        answer.put_result(number.to_string(alloc));
     }
-    answer.finish()
 }
 
 /// A text with the hexadecimal digits of a number appended, filled up to a width by zeros.
-pub fn ask_hex(alloc: Global, n: u64, width: usize, source: &[u8], room: &mut [u8]) -> usize
-    requires { IsAscii source.now }
-{
-    let mut answer = Answer::new(room);
-    let view = bytes::as_ascii_str_unchecked(source);
+pub fn ask_hex(alloc: Global, n: u64, width: usize, source: AsciiStr, answer: &mut Answer) {
     let mut string = AsciiString::new(alloc);
-    if string.push_str(view).is_ok() {
-        answer.flag(string.push_hex(n, width).is_ok());
-        answer.text(string.as_ascii_str());
-    } else {
-        answer.failed();
+    match string.push_str(source) {
+        Ok(()) => answer.put((string.push_hex(n, width).is_ok(), string)),
+        Err(error) => answer.put(error),
     }
-    answer.finish()
 }

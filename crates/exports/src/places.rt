@@ -1,48 +1,37 @@
 //! Parts of a text with their starts, and lines and columns of positions.
 
-ghost use Rattle.std.specs.Str.{IsAscii};
-
-use crate::answer::Answer;
-use crate::numbers::put_error;
+use crate::answer::{Answer, NOTHING, Put};
 use crate::steps::Step;
 use ascii::classes::{Blank, Digit};
-use ascii::{AsciiChar, AsciiStr, bytes};
+use ascii::{AsciiChar, AsciiStr};
 use ascii_formats::AsciiStrExt;
 use ascii_formats::spanned::Spanned;
 use std::alloc::Global;
 
 /// The parts that steps take of a text, each of the part before it, with their starts, their ends and the numbers that
 /// they write.
-pub fn ask_spanned(source: &[u8], texts: &[u8], steps: &[Step], room: &mut [u8]) -> usize
-    requires source { IsAscii source.now }
-    requires texts { IsAscii texts.now }
-{
-    let texts = bytes::as_ascii_str_unchecked(texts);
-    let mut answer = Answer::new(room);
-    let mut part = Spanned::whole(bytes::as_ascii_str_unchecked(source));
+pub fn ask_spanned(source: AsciiStr, texts: AsciiStr, steps: &[Step], answer: &mut Answer) {
+    let mut part = Spanned::whole(source);
     for step in steps {
         match part_by(part, *step, texts) {
             Some(next) => {
                 part = next;
-                put_part(part, &mut answer);
+                answer.put(part);
             }
-            None => answer.none(),
+            None => answer.put(NOTHING),
         }
     }
-    answer.finish()
 }
 
-fn put_part(part: Spanned<'_>, answer: &mut Answer<'_>) {
-    answer.span(Some((part.start, part.text)));
-    answer.number(part.end());
-    match part.to_number::<u8>() {
-        Ok(n) => answer.number(usize::from(n)),
-        Err(error) => put_error(error, answer),
+impl Put for Spanned<'_> {
+    fn put(self, answer: &mut Answer) {
+        answer.put((self.start, self.text, self.end()));
+        answer.put(self.to_number::<u8>());
     }
 }
 
 /// The part that a step takes. The kind of a step is the index of its call here.
-fn part_by<'a>(part: Spanned<'a>, step: Step, texts: AsciiStr<'_>) -> Option<Spanned<'a>> {
+fn part_by<'a>(part: Spanned<'a>, step: Step, texts: AsciiStr) -> Option<Spanned<'a>> {
     let ch = AsciiChar::from_ascii(step.code).ok().unwrap_or_default();
     match step.kind {
         0 => Some(part.trim()),
@@ -67,17 +56,11 @@ fn part_at<'a>(part: Spanned<'a>, at: usize) -> Option<(Spanned<'a>, Spanned<'a>
 }
 
 /// The line and the column of a position in a text, and what prints them with what is wrong there.
-pub fn ask_place(alloc: Global, at: usize, source: &[u8], room: &mut [u8]) -> usize
-    requires { IsAscii source.now }
-{
-    let mut answer = Answer::new(room);
-    let view = bytes::as_ascii_str_unchecked(source);
-    if at <= view.len() {
-        let place = view.line_and_column(at);
-        answer.long(place.line);
-        answer.long(place.column);
-        let fault = view.fault_at(at, "no '='");
-        answer.std_string(format!(in alloc; "{fault}"));
+pub fn ask_place(alloc: Global, at: usize, source: AsciiStr, answer: &mut Answer) {
+    if at <= source.len() {
+        let place = source.line_and_column(at);
+        answer.put((place.line, place.column));
+        let fault = source.fault_at(at, "no '='");
+        answer.put_result(format!(in alloc; "{fault}"));
     }
-    answer.finish()
 }

@@ -3,11 +3,11 @@
 //! Each call takes the next step of the plan. A step of the kind 0 moves at most `at` bytes, and lets a flush succeed; one
 //! of another kind fails with the error number `code`. After the last step all bytes move.
 
-use crate::answer::Answer;
-use crate::devices::{error_of, kept, number_of};
+use crate::answer::{Answer, NOTHING};
+use crate::devices::{error_of, kept};
 use crate::steps::Step;
 use ascii_devices::{BufferedSink, DeviceFault, Duplex, Output, Sink, Source, zeros};
-use std::alloc::Global;
+use std::alloc::{AllocError, Global};
 use std::io;
 
 /// Takes the next step of a plan: how many bytes may move.
@@ -75,9 +75,8 @@ pub fn ask_device_calls(
     steps: &[Step],
     reads: &[Step],
     writes: &[Step],
-    room: &mut [u8],
-) -> usize {
-    let mut answer = Answer::new(room);
+    answer: &mut Answer,
+) {
     let reader = Giving {
         plan: reads,
         bytes: source,
@@ -89,60 +88,47 @@ pub fn ask_device_calls(
     let mut duplex = Duplex::new(reader, writer);
     for step in steps {
         if step.kind == 0 {
-            read(&mut duplex, step.at.min(8), &mut answer);
+            read(&mut duplex, step.at.min(8), answer);
         } else {
-            write(&mut duplex, *step, texts, &mut answer);
+            write(&mut duplex, *step, texts, answer);
         }
-        answer.long(Source::failures(&duplex));
-        answer.long(Sink::failures(&duplex));
+        answer.put((Source::failures(&duplex), Sink::failures(&duplex)));
     }
     let (input, output) = duplex.into_parts();
     if tells_errors {
-        put_error(input.into_error(), &mut answer);
-        put_error(output.into_error(), &mut answer);
+        answer.put((input.into_error(), output.into_error()));
     } else {
-        answer.bytes(&output.into_inner().calls);
+        answer.put(output.into_inner().calls.as_slice());
     }
-    answer.finish()
 }
 
-fn read<S: Source>(source: &mut S, n: usize, answer: &mut Answer<'_>) {
+fn read<S: Source>(source: &mut S, n: usize, answer: &mut Answer) {
     let mut buf = [0; 8];
     if n == 0 || n > 8 || source.failures() == u64::MAX {
-        return answer.none();
+        return answer.put(NOTHING);
     }
     match source.read(&mut buf[..n]) {
-        Ok(count) => answer.bytes(&buf[..count]),
-        Err(DeviceFault) => answer.name("read"),
+        Ok(count) => answer.put(&buf[..count]),
+        Err(DeviceFault) => answer.put("read"),
     }
 }
 
-fn write<K: Sink>(sink: &mut K, step: Step, texts: &[u8], answer: &mut Answer<'_>) {
+fn write<K: Sink>(sink: &mut K, step: Step, texts: &[u8], answer: &mut Answer) {
     let text = text_of(step, texts);
     if sink.failures() == u64::MAX || text.is_empty() && step.kind == 1 {
-        return answer.none();
+        return answer.put(NOTHING);
     }
     let done = if step.kind == 1 {
         sink.write(text)
     } else {
         sink.flush().map(|()| 0)
     };
-    match done {
-        Ok(count) => answer.number(count),
-        Err(DeviceFault) => answer.name("write"),
-    }
+    answer.put(done.map_err(|_| "write"));
 }
 
 /// The step's bytes, which are none if its bounds do not fit.
 fn text_of<'a>(step: Step, texts: &'a [u8]) -> &'a [u8] {
     texts.get(step.start..step.end).unwrap_or_default()
-}
-
-fn put_error(error: Option<io::Error>, answer: &mut Answer<'_>) {
-    match error {
-        Some(error) => answer.position(number_of(&error)),
-        None => answer.none(),
-    }
 }
 
 /// As many zeros as a buffer has bytes. Then what the buffer does before a writer: whether a write has failed after
@@ -154,12 +140,11 @@ pub fn ask_buffered(
     texts: &[u8],
     steps: &[Step],
     plan: &[Step],
-    room: &mut [u8],
-) -> usize {
-    let mut answer = Answer::new(room);
+    answer: &mut Answer,
+) {
     match zeros(alloc, size) {
-        Ok(zeros) => answer.bytes(&zeros),
-        Err(_) => answer.failed(),
+        Ok(zeros) => answer.put(zeros.as_slice()),
+        Err(error) => answer.put(error),
     }
     let mut output = Output::new(Recording {
         plan,
@@ -169,16 +154,14 @@ pub fn ask_buffered(
         for step in steps {
             append(&mut buffer, &mut output, *step, text_of(*step, texts));
         }
-        answer.flag(buffer.is_broken());
+        answer.put(buffer.is_broken());
         if output.failures() < u64::MAX {
-            answer.flag(buffer.finish(&mut output).is_ok());
+            answer.put(buffer.finish(&mut output).is_ok());
         }
-        answer.long(output.failures());
-        answer.bytes(&output.into_inner().calls);
+        answer.put((output.failures(), output.into_inner().calls.as_slice()));
     } else {
-        answer.failed();
+        answer.put(AllocError);
     }
-    answer.finish()
 }
 
 fn append<K: Sink>(buffer: &mut BufferedSink<Global>, sink: &mut K, step: Step, text: &[u8]) {

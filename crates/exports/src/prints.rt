@@ -1,60 +1,34 @@
 //! Printed texts and characters. The number of a form is its index in `print`.
 
-ghost use Rattle.std.specs.Str.{IsAscii};
-
-use crate::answer::Answer;
-use ascii::{AsciiChar, bytes};
+use crate::answer::{Answer, Made};
+use ascii::AsciiStr;
 use ascii_keys::FoldedStr;
 use ascii_run::SmallAsciiString;
-use std::alloc::{AllocError, Global};
+use std::alloc::Global;
 use std::fmt;
 
 /// A text in a form: as a view, ignoring case, as a string and as an inline string.
-pub fn ask_printed(alloc: Global, form: u8, source: &[u8], room: &mut [u8]) -> usize
-    requires { IsAscii source.now }
-{
-    let view = bytes::as_ascii_str_unchecked(source);
-    let mut answer = Answer::new(room);
-    put(alloc, form, Ok(view), &mut answer);
-    put(alloc, form, Ok(FoldedStr::new(view)), &mut answer);
-    put(alloc, form, view.to_ascii_string(alloc), &mut answer);
-    put(
-        alloc,
-        form,
-        SmallAsciiString::from_ascii_str(alloc, view),
-        &mut answer,
-    );
-    answer.finish()
+pub fn ask_printed(alloc: Global, form: u8, source: AsciiStr, answer: &mut Answer) {
+    answer.put_result(print(alloc, form, Ok(source)));
+    answer.put_result(print(alloc, form, Ok(FoldedStr::new(source))));
+    answer.put_result(print(alloc, form, source.to_ascii_string(alloc)));
+    let small = SmallAsciiString::from_ascii_str(alloc, source);
+    answer.put_result(print(alloc, form, small));
 }
 
 /// Each of some characters in a form.
-pub fn ask_printed_characters(alloc: Global, form: u8, codes: &[u8], room: &mut [u8]) -> usize {
-    let mut answer = Answer::new(room);
-    for code in codes {
-        if let Ok(ch) = AsciiChar::from_ascii(*code) {
-            put(alloc, form, Ok(ch), &mut answer);
-        }
-    }
-    answer.finish()
-}
-
-fn put<T: fmt::Display + fmt::Debug + Drop>(
-    alloc: Global,
-    form: u8,
-    value: Result<T, AllocError>,
-    answer: &mut Answer<'_>,
-) {
-    match value {
-        Ok(value) => answer.std_string(print(alloc, form, &value)),
-        Err(_) => answer.failed(),
+pub fn ask_printed_characters(alloc: Global, form: u8, codes: AsciiStr, answer: &mut Answer) {
+    for ch in codes.chars() {
+        answer.put_result(print(alloc, form, Ok(ch)));
     }
 }
 
-fn print<T: fmt::Display + fmt::Debug>(
+fn print<T: fmt::Display + fmt::Debug + Drop>(
     alloc: Global,
     form: u8,
-    value: &T,
-) -> Result<String, AllocError> {
+    value: Made<T>,
+) -> Made<String> {
+    let value = value?;
     match form {
         0 => format!(in alloc; "{value}"),
         1 => format!(in alloc; "{value:?}"),

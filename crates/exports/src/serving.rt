@@ -1,16 +1,14 @@
 //! A conversation with a handler of a few words.
 
 ghost use Rattle.ascii_lines.specs.Serve.{IsRequest};
-ghost use Rattle.std.specs.Str.{IsAscii};
 
-use crate::answer::Answer;
+use crate::answer::{Answer, NOTHING, Put};
 use crate::devices::{Device, Given, Taken};
-use crate::lines_in_and_out::{put_error, put_write_error};
-use ascii::{AsciiStr, bytes, text};
+use ascii::{AsciiStr, text};
 use ascii_lines::{
     Duplex, Ending, Endings, Handler, LineChannel, LineError, Next, Replies, Sink, Stop, serve,
 };
-use std::alloc::{Allocator, Global};
+use std::alloc::{AllocError, Allocator, Global};
 
 /// Why a conversation stops, how many texts the handler was handed, the number of calls of the reader and of the writer,
 /// and what the writer took. `Words` says what is replied. The number of the endings is their index in `Endings`.
@@ -21,33 +19,32 @@ pub fn ask_served(
     source: &[u8],
     reads: &Device,
     writes: &Device,
-    room: &mut [u8],
-) -> usize {
-    let mut answer = Answer::new(room);
+    answer: &mut Answer,
+) {
     let endings = match endings {
         0 => Endings::Any,
         1 => Endings::CrLf,
         _ => Endings::CrLfStrict,
     };
     let device = Duplex::new(Given::new(source, *reads), Taken::new(alloc, *writes));
-    if let Ok(mut lines) = LineChannel::new(alloc, device, size, endings, Ending::CrLf) {
-        let mut words = Words { count: 0 };
-        match serve(&mut lines, &mut words) {
-            Stop::Closed => answer.name("closed"),
-            Stop::EndOfInput => answer.none(),
-            Stop::Reader(error) => put_error(error, &mut answer),
-            Stop::Writer => answer.name("write"),
+    let Ok(mut lines) = LineChannel::new(alloc, device, size, endings, Ending::CrLf) else {
+        return answer.put(AllocError);
+    };
+    let mut words = Words { count: 0 };
+    answer.put(serve(&mut lines, &mut words));
+    let (input, output) = lines.into_device().into_parts();
+    answer.put((words.count, input.into_inner().calls, output.into_inner()));
+}
+
+impl Put for Stop {
+    fn put(self, answer: &mut Answer) {
+        match self {
+            Stop::Closed => answer.put("closed"),
+            Stop::EndOfInput => answer.put(NOTHING),
+            Stop::Reader(error) => answer.put(error),
+            Stop::Writer => answer.put("write"),
         }
-        answer.number(usize::from(words.count));
-        let (input, output) = lines.into_device().into_parts();
-        answer.long(input.into_inner().calls);
-        let taken = output.into_inner();
-        answer.long(taken.calls);
-        answer.bytes(&taken.bytes);
-    } else {
-        answer.failed();
     }
-    answer.finish()
 }
 
 /// What a greeting returns, and after one that is written a conversation; the position in the input after the greeting and
@@ -55,37 +52,31 @@ pub fn ask_served(
 pub fn ask_greeted(
     alloc: Global,
     size: usize,
-    greeting: &[u8],
+    greeting: AsciiStr,
     source: &[u8],
     reads: &Device,
     writes: &Device,
-    room: &mut [u8],
-) -> usize
-    requires { IsAscii greeting.now }
-{
-    let mut answer = Answer::new(room);
-    let greeting = bytes::as_ascii_str_unchecked(greeting);
+    answer: &mut Answer,
+) {
     let device = Duplex::new(Given::new(source, *reads), Taken::new(alloc, *writes));
-    if let Ok(mut lines) = LineChannel::new(alloc, device, size, Endings::Any, Ending::CrLf) {
-        match lines.greet(greeting) {
-            Ok(()) => {
-                answer.long(lines.position());
-                let mut words = Words { count: 0 };
-                let _ = serve(&mut lines, &mut words);
-            }
-            Err(error) => put_write_error(error, &mut answer),
+    let Ok(mut lines) = LineChannel::new(alloc, device, size, Endings::Any, Ending::CrLf) else {
+        return answer.put(AllocError);
+    };
+    match lines.greet(greeting) {
+        Ok(()) => {
+            answer.put(lines.position());
+            let mut words = Words { count: 0 };
+            let _ = serve(&mut lines, &mut words);
         }
-        answer.long(lines.position());
-        let (_, output) = lines.into_device().into_parts();
-        answer.bytes(&output.into_inner().bytes);
-    } else {
-        answer.failed();
+        Err(error) => answer.put(error),
     }
-    answer.finish()
+    answer.put(lines.position());
+    let (_, output) = lines.into_device().into_parts();
+    answer.put(output.into_inner().bytes.as_slice());
 }
 
 /// The view of a text, which is empty if the text is not ASCII.
-fn ascii(source: &str) -> AsciiStr<'_> {
+fn ascii(source: &str) -> AsciiStr {
     text::as_ascii_str(source).unwrap_or_default()
 }
 
@@ -97,7 +88,7 @@ struct Words {
 
 impl Words {
     /// The lines that reply to a text, and what comes next. After `part` comes a part, which is answered as a line is.
-    fn reply(count: u8, text: AsciiStr<'_>) -> (&'static str, Next)
+    fn reply(count: u8, text: AsciiStr) -> (&'static str, Next)
         ensures { IsRequest result.1 }
     {
         match text.as_str() {
@@ -105,6 +96,18 @@ impl Words {
             "two" => ("one\r\ntwo\r\n", Next::Line),
             _ if count > 9 => ("many\r\n", Next::Line),
             _ => ("ok\r\n", Next::Line),
+        }
+    }
+
+    /// The line that replies to an error, and what comes next.
+    fn refusal(error: LineError) -> (&'static str, Next)
+        ensures { IsRequest result.1 }
+    {
+        match error {
+            LineError::NotAscii(_) => ("bad byte\n", Next::Line),
+            LineError::LoneBreak(_) => ("bad break\n", Next::Line),
+            LineError::TooLong(_) => ("too long\n", Next::Part(2)),
+            _ => ("closed\n", Next::Close),
         }
     }
 }
@@ -118,7 +121,7 @@ impl Handler for Words {
 
     fn answer<K: Sink, A: Allocator>(
         &mut self,
-        text: AsciiStr<'_>,
+        text: AsciiStr,
         ending: Ending,
         replies: &mut Replies<K, A>,
     ) -> Next {
@@ -141,23 +144,8 @@ impl Handler for Words {
         error: LineError,
         replies: &mut Replies<K, A>,
     ) -> Next {
-        match error {
-            LineError::NotAscii(_) => {
-                replies.part(ascii("bad byte\n"));
-                Next::Line
-            }
-            LineError::LoneBreak(_) => {
-                replies.part(ascii("bad break\n"));
-                Next::Line
-            }
-            LineError::TooLong(_) => {
-                replies.part(ascii("too long\n"));
-                Next::Part(2)
-            }
-            _ => {
-                replies.part(ascii("closed\n"));
-                Next::Close
-            }
-        }
+        let (reply, next) = Words::refusal(error);
+        replies.part(ascii(reply));
+        next
     }
 }

@@ -1,168 +1,109 @@
 //! The kernels, and texts that are changed, compared and hashed.
 
-ghost use Rattle.std.specs.Str.{IsAscii};
-
-use crate::answer::Answer;
-use ascii::{BoxedAsciiStr, CowAsciiStr, RcAsciiStr, bytes, kernels};
+use crate::answer::{Answer, Made};
+use ascii::{AsciiStr, BoxedAsciiStr, CowAsciiStr, RcAsciiStr, kernels};
 use ascii_keys::FoldedStr;
 use ascii_run::{ArrayAsciiString, SmallAsciiString};
-use std::alloc::{AllocError, Global};
+use std::alloc::Global;
+use std::cmp::Ordering;
 use std::hash::{DefaultHasher, Hash, Hasher};
 
 /// The position of the first non-ASCII byte, and those of the first and the last one that is not whitespace.
-pub fn ask_kernels(source: &[u8], room: &mut [u8]) -> usize {
-    let mut answer = Answer::new(room);
-    answer.position(kernels::first_other(source));
-    answer.position(kernels::first_not_whitespace(source));
-    answer.position(kernels::last_not_whitespace(source));
-    answer.finish()
+pub fn ask_kernels(source: &[u8], answer: &mut Answer) {
+    let first = kernels::first_not_whitespace(source);
+    let last = kernels::last_not_whitespace(source);
+    answer.put((kernels::first_other(source), first, last));
 }
 
 /// Changes the letters of bytes to upper or to lower case.
-pub fn ask_case_in_place(to_upper: bool, source: &mut [u8], room: &mut [u8]) -> usize {
+pub fn ask_case_in_place(to_upper: bool, source: &mut [u8], answer: &mut Answer) {
     if to_upper {
         kernels::upper_in_place(source);
     } else {
         kernels::lower_in_place(source);
     }
-    let mut answer = Answer::new(room);
-    answer.bytes(source);
-    answer.finish()
+    let changed: &[u8] = source;
+    answer.put(changed);
 }
 
 /// Whether any two lists of bytes are equal, ignoring case.
-pub fn ask_equal_bytes(first: &[u8], second: &[u8], room: &mut [u8]) -> usize {
-    let mut answer = Answer::new(room);
-    answer.flag(kernels::eq_ignore_case(first, second));
-    answer.finish()
+pub fn ask_equal_bytes(first: &[u8], second: &[u8], answer: &mut Answer) {
+    answer.put(kernels::eq_ignore_case(first, second));
 }
 
 /// A text without the whitespace at both ends, at its start and at its end.
-pub fn ask_trims(source: &[u8], room: &mut [u8]) -> usize
-    requires { IsAscii source.now }
-{
-    let view = bytes::as_ascii_str_unchecked(source);
-    let mut answer = Answer::new(room);
-    answer.text(view.trim());
-    answer.text(view.trim_start());
-    answer.text(view.trim_end());
-    answer.finish()
+pub fn ask_trims(source: AsciiStr, answer: &mut Answer) {
+    answer.put((source.trim(), source.trim_start(), source.trim_end()));
 }
 
 /// Copies of a text in upper and in lower case, and a string that is changed in place to them.
-pub fn ask_cases(alloc: Global, source: &[u8], room: &mut [u8]) -> usize
-    requires { IsAscii source.now }
-{
-    let view = bytes::as_ascii_str_unchecked(source);
-    let mut answer = Answer::new(room);
-    answer.owned(view.to_ascii_uppercase(alloc));
-    answer.owned(view.to_ascii_lowercase(alloc));
-    match view.to_ascii_string(alloc) {
+pub fn ask_cases(alloc: Global, source: AsciiStr, answer: &mut Answer) {
+    answer.put_result(source.to_ascii_uppercase(alloc));
+    answer.put_result(source.to_ascii_lowercase(alloc));
+    match source.to_ascii_string(alloc) {
         Ok(mut string) => {
             string.make_ascii_uppercase();
-            answer.text(string.as_ascii_str());
+            answer.put(string.as_ascii_str());
             string.make_ascii_lowercase();
-            answer.text(string.as_ascii_str());
+            answer.put(string);
         }
-        Err(_) => answer.failed(),
+        Err(error) => answer.put(error),
     }
-    answer.finish()
 }
 
 /// Whether two texts are equal and which is the lesser one, with case and without; and whether the order that may be missing
 /// is there.
-pub fn ask_comparisons(first: &[u8], second: &[u8], room: &mut [u8]) -> usize
-    requires first { IsAscii first.now }
-    requires second { IsAscii second.now }
-{
-    let view = bytes::as_ascii_str_unchecked(first);
-    let other = bytes::as_ascii_str_unchecked(second);
-    let (folded, other_folded) = (FoldedStr::new(view), FoldedStr::new(other));
-    let mut answer = Answer::new(room);
-    answer.flags(&[
-        view == other,
-        view.eq_str(other.as_str()),
-        view.eq_bytes(second),
-        view.eq_ignore_ascii_case(other),
-        folded == other_folded,
-    ]);
-    answer.order(view.cmp(&other));
-    answer.order(folded.cmp(&other_folded));
-    answer.flag(view.partial_cmp(&other) == Some(view.cmp(&other)));
-    answer.flag(folded < other_folded);
-    answer.finish()
+pub fn ask_comparisons(first: AsciiStr, second: AsciiStr, answer: &mut Answer) {
+    let (folded, other_folded) = (FoldedStr::new(first), FoldedStr::new(second));
+    answer.put((first == second, first.eq_str(second.as_str())));
+    answer.put(first.eq_bytes(second.as_bytes()));
+    answer.put((first.eq_ignore_ascii_case(second), folded == other_folded));
+    answer.put((first.cmp(&second), folded.cmp(&other_folded)));
+    answer.put(first.partial_cmp(&second) == Some(first.cmp(&second)));
+    answer.put(folded < other_folded);
 }
 
 /// Whether two texts are equal and which is the lesser one, also as what may be missing; as strings and as inline strings.
-pub fn ask_owned_comparisons(alloc: Global, first: &[u8], second: &[u8], room: &mut [u8]) -> usize
-    requires first { IsAscii first.now }
-    requires second { IsAscii second.now }
-{
-    let view = bytes::as_ascii_str_unchecked(first);
-    let other = bytes::as_ascii_str_unchecked(second);
-    let mut answer = Answer::new(room);
-    compare(
-        view.to_ascii_string(alloc),
-        other.to_ascii_string(alloc),
-        &mut answer,
-    );
-    let small = SmallAsciiString::from_ascii_str(alloc, view);
-    compare(
-        small,
-        SmallAsciiString::from_ascii_str(alloc, other),
-        &mut answer,
-    );
-    answer.finish()
+pub fn ask_owned_comparisons(
+    alloc: Global,
+    first: AsciiStr,
+    second: AsciiStr,
+    answer: &mut Answer,
+) {
+    let string = first.to_ascii_string(alloc);
+    answer.put_result(compare(string, second.to_ascii_string(alloc)));
+    let small = SmallAsciiString::from_ascii_str(alloc, first);
+    answer.put_result(compare(small, SmallAsciiString::from_ascii_str(alloc, second)));
 }
 
-fn compare<T: Ord + Drop>(
-    first: Result<T, AllocError>,
-    second: Result<T, AllocError>,
-    answer: &mut Answer<'_>,
-) {
-    if let (Ok(first), Ok(second)) = (first, second) {
-        answer.flag(first == second);
-        answer.order(first.cmp(&second));
-        answer.flag(first.partial_cmp(&second) == Some(first.cmp(&second)));
-    } else {
-        answer.failed();
-    }
+fn compare<T: Ord + Drop>(first: Made<T>, second: Made<T>) -> Made<(bool, Ordering, bool)> {
+    let (first, second) = (first?, second?);
+    let order = first.cmp(&second);
+    let is_some = first.partial_cmp(&second) == Some(order);
+    Ok((first == second, order, is_some))
 }
 
 /// The hashes of a text: as a view, ignoring case, as each type of owned text, as borrowed and as owned `Cow` text, and in
 /// an array of 32 bytes if it fits; and of its first character.
-pub fn ask_hashes(alloc: Global, source: &[u8], room: &mut [u8]) -> usize
-    requires { IsAscii source.now }
-{
-    let view = bytes::as_ascii_str_unchecked(source);
-    let mut answer = Answer::new(room);
-    hash(Ok(view), &mut answer);
-    hash(Ok(FoldedStr::new(view)), &mut answer);
-    hash(view.to_ascii_string(alloc), &mut answer);
-    hash(SmallAsciiString::from_ascii_str(alloc, view), &mut answer);
-    hash(BoxedAsciiStr::from_ascii_str(alloc, view), &mut answer);
-    hash(RcAsciiStr::from_ascii_str(alloc, view), &mut answer);
-    hash(Ok(CowAsciiStr::<Global>::from(view)), &mut answer);
-    match view.to_ascii_string(alloc) {
-        Ok(string) => hash(Ok(CowAsciiStr::<Global>::from(string)), &mut answer),
-        Err(_) => answer.failed(),
+pub fn ask_hashes(alloc: Global, source: AsciiStr, answer: &mut Answer) {
+    answer.put((hash_of(source), hash_of(FoldedStr::new(source))));
+    answer.put_result(source.to_ascii_string(alloc).map(hash_of));
+    answer.put_result(SmallAsciiString::from_ascii_str(alloc, source).map(hash_of));
+    answer.put_result(BoxedAsciiStr::from_ascii_str(alloc, source).map(hash_of));
+    answer.put_result(RcAsciiStr::from_ascii_str(alloc, source).map(hash_of));
+    answer.put(hash_of(CowAsciiStr::<Global>::from(source)));
+    let string = source.to_ascii_string(alloc);
+    answer.put_result(string.map(|string| hash_of(CowAsciiStr::<Global>::from(string))));
+    if let Ok(array) = ArrayAsciiString::<32>::from_ascii_str((), source) {
+        answer.put(hash_of(array));
     }
-    if let Ok(array) = ArrayAsciiString::<32>::from_ascii_str((), view) {
-        hash(Ok(array), &mut answer);
+    if let Some(first) = source.first() {
+        answer.put(hash_of(first));
     }
-    if let Some(first) = view.first() {
-        hash(Ok(first), &mut answer);
-    }
-    answer.finish()
 }
 
-fn hash<T: Hash + Drop>(value: Result<T, AllocError>, answer: &mut Answer<'_>) {
-    match value {
-        Ok(value) => {
-            let mut hasher = DefaultHasher::new();
-            value.hash(&mut hasher);
-            answer.long(hasher.finish());
-        }
-        Err(_) => answer.failed(),
-    }
+fn hash_of<T: Hash + Drop>(value: T) -> u64 {
+    let mut hasher = DefaultHasher::new();
+    value.hash(&mut hasher);
+    hasher.finish()
 }
