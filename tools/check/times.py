@@ -1,12 +1,15 @@
 """What each task of the full check takes: CPU seconds, and seconds by the clock. A task's figures are the kernel's account of the
 processes that it started. Those of the proofs in one `rt ci` are read from /proc ten times a second while they run.
 
-The baseline times.txt has a line for each task: its name, its CPU seconds and its seconds by the clock, with tabs between. The
-last run is in times.new, which git leaves out. Machines differ, so a task is compared with the median of all tasks that ran."""
+The baseline times.txt begins with a line that has the commit that was checked and the number of processors. It has a line for
+each task: its name, its CPU seconds and its seconds by the clock, with tabs between. `bin/docs tables` makes the table of
+docs/ARCHITECTURE.md from it. The last run is in times.new, which git leaves out: a run over no kept proofs can take the place of
+the baseline. Machines differ, so a task is compared with the median of all tasks that ran."""
 import os
 import re
 import resource
 import statistics
+import subprocess
 import threading
 import time
 from contextlib import contextmanager
@@ -17,6 +20,8 @@ BASELINE, LAST = FOLDER / "times.txt", FOLDER / "times.new"
 TICKS = os.sysconf("SC_CLK_TCK")
 # A task that takes less is not compared, and by how much a task may grow.
 SMALL, GROWN = 20, 1.5
+# How the names of the tasks begin that are watched in one `rt ci`.
+PROOF = ("the proof of ", "the tests of ")
 
 
 def of_children():
@@ -37,7 +42,7 @@ def task_of(words):
     if "--crate-name" not in words[:-1] or not re.search(r"/rattle$", words[0]):
         return ""
     crate = words[words.index("--crate-name") + 1]
-    return f"the tests of {crate}" if "--test" in words else f"the proof of {crate}"
+    return PROOF["--test" in words] + crate
 
 
 class Watch(threading.Thread):
@@ -110,18 +115,35 @@ class Times:
 
     def end(self):
         """Writes the figures, and returns them as lines with the tasks that grew."""
-        lines = [f"{name}\t{cpu:.0f}\t{clock:.0f}" for name, (cpu, clock) in self.tasks.items()]
+        commit = subprocess.run(["git", "rev-parse", "--short=8", "HEAD"], cwd=FOLDER, capture_output=True, text=True).stdout.strip()
+        lines = [f"{commit}\t{len(os.sched_getaffinity(0))}"]
+        lines += [f"{name}\t{cpu:.0f}\t{clock:.0f}" for name, (cpu, clock) in self.tasks.items()]
         LAST.write_text("".join(f"{line}\n" for line in lines), encoding="utf-8")
-        rows = sorted(self.tasks.items(), key=lambda it: -it[1][0])
-        shown = [f"{cpu:6.0f} {clock:6.0f}  {name}" for name, (cpu, clock) in rows]
-        total = sum(cpu for cpu, _ in self.tasks.values())
-        return ["CPU seconds, seconds by the clock:", *shown, f"{total:6.0f} CPU seconds in all", *grown(self.tasks, baseline())]
+        shown = [f"{cpu:6.0f} {clock:6.0f}  {name}" for name, (cpu, clock) in by_cost(self.tasks)]
+        cpu, clock = total(self.tasks)
+        return ["CPU seconds, seconds by the clock:", *shown, f"{cpu:6.0f} {clock:6.0f}  in all", *grown(self.tasks, baseline())]
+
+
+def by_cost(tasks):
+    """The tasks, the one with the most CPU seconds first."""
+    return sorted(tasks.items(), key=lambda it: -it[1][0])
+
+
+def total(tasks):
+    """The CPU seconds of all tasks, and the seconds by the clock: the proofs are within what `rt ci` takes."""
+    clocks = [clock for name, (_, clock) in tasks.items() if not name.startswith(PROOF)]
+    return sum(cpu for cpu, _ in tasks.values()), sum(clocks)
+
+
+def measured():
+    """The commit and the number of processors of the figures in the repository, and the figures: none if no run is recorded."""
+    head, *lines = [line.split("\t") for line in BASELINE.read_text(encoding="utf-8").splitlines() or ["\t"]]
+    return head, {name: (float(cpu), float(clock)) for name, cpu, clock in lines}
 
 
 def baseline():
     """The figures in the repository."""
-    lines = [line.split("\t") for line in BASELINE.read_text(encoding="utf-8").splitlines()]
-    return {name: (float(cpu), float(clock)) for name, cpu, clock in lines}
+    return measured()[1]
 
 
 def grown(tasks, before):

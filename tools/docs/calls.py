@@ -15,7 +15,7 @@ from uses import head_of
 IMPORTED_FROM = ["ascii", "ascii_formats", "ascii_keys", "ascii_lines", "ascii_run", "ascii_devices", "ascii_base", "cookbook", "ascii_c"]
 # The crates of which the site has each public call.
 SHOWN = [*LIBRARIES, "cookbook", "ascii_c"]
-USERS = ("cookbook", "tests_*", "exports", "example_*", "ascii_show", "ascii_filter")
+USERS = ("cookbook", "tests_*", "exports", "example*", "ascii_show", "ascii_filter")
 # The modules of `exports` that the benchmark measures. The others ask the questions of the differential test.
 MEASURED = {"measured", "everyday"}
 

@@ -209,21 +209,43 @@ def use_lines(lines, crate, about):
     return [f"use {module}::{names[0] if len(names) == 1 else '{' + ', '.join(names) + '}'};" for module, names in modules.items()]
 
 
-def with_a_condition():
-    """The names of the public calls of the libraries that have a condition. A literal's is checked by its text."""
-    calls = [(it, False) for it in items_of_kind("fn")]
-    calls += [(it, True) for item in traits() for it in item.inner]
-    calls += [(it, " for " in item.head) for item in items_of_kind("impl") for it in item.inner if it.kind == "fn"]
-    has_one = lambda it: any(label.startswith("requires") for label, _ in it.clauses)  # noqa: E731
-    return {it.name for it, of_trait in calls if has_one(it) and (it.public or of_trait)} - {"literal"}
+def conditions():
+    """Whether a public call of the libraries has a condition, by its name and the name of its type, trait or module. That of a
+    literal is checked by its text."""
+    owned = [(path[-1] if path else crate, it, it.public) for crate in LIBRARIES for path, items in modules_of(crate).items() for it in items]
+    calls = [it for it in owned if it[1].kind == "fn"]
+    calls += [(item.name, it, True) for item in traits() for it in item.inner]
+    calls += [(sources.impl_name(item)[1], it, it.public or " for " in item.head) for item in items_of_kind("impl") for it in item.inner]
+    found = {}
+    for owner, it, is_public in calls:
+        has_one = is_public and any(label.startswith("requires") for label, _ in it.clauses)
+        found[owner, it.name] = found.get((owner, it.name), False) or has_one and it.name != "literal"
+    # (the call of an impl has the condition of its trait, and does not write it again)
+    for of_trait, owner in implemented():
+        inherited = {name for (trait, name), has_one in found.items() if has_one and trait == re.match(r"\w*", of_trait)[0]}
+        found |= {(owner, name): True for name in inherited}
+    return found
 
 
-def may_have_a_condition(lines, names):
-    """Whether an example names a call that has a condition, or passes `literal` what is not plainly an ASCII text."""
+@cache
+def aliases():
+    """The types that have another name, by it."""
+    # (a parameter of the alias may have a default, so the type is after the last `=`)
+    heads = [(item.name, re.search(r".*= *([A-Z]\w*)", item.head, re.S)) for item in items_of_kind("type")]
+    return {name: of_type[1] for name, of_type in heads if of_type}
+
+
+def may_have_a_condition(lines, known):
+    """Whether an example names a call that has a condition, or passes `literal` what is not plainly an ASCII text. A call by the
+    path of a type or a trait is its own, or of another crate; any other call may be each one of its name."""
     text = "\n".join(lines)
     literals = LITERAL.findall(text)
-    are_ascii = len(literals) == len(re.findall(r"\bliteral\(", text)) and all(map(ASCII.fullmatch, literals))
-    return not are_ascii or bool(names.intersection(re.findall(r"(\w+)(?:::<[^()]*>)?\(", text)))
+    if len(literals) != len(re.findall(r"\bliteral\(", text)) or not all(map(ASCII.fullmatch, literals)):
+        return True
+    names = {name for (_, name), has_one in known.items() if has_one}
+    called = re.findall(r"(?:\b([A-Z]\w*)(?:::<[^()]*?>)?::)?(\w+)(?:::<[^()]*>)?\(", text)
+    of_owner = lambda owner, name: any(known.get((it, name)) for it in (owner, aliases().get(owner)))  # noqa: E731
+    return any(of_owner(owner, name) if owner else name in names for owner, name in called)
 
 
 def examples_by_crate():
@@ -237,10 +259,10 @@ def examples_by_crate():
 def write_crate(folder, is_proved=False, only=""):
     """Writes the sources of a crate with the tests: all of them, or those of one library; or those that are to be proved, since
     they name a call that may have a condition. Returns how many there are."""
-    conditions, count, modules = with_a_condition(), 0, ""
+    known, count, modules = conditions(), 0, ""
     (folder / "src/tests").mkdir(parents=True)
     for crate, own in examples_by_crate():
-        chosen = [it for it in own if only in ("", crate) and (not is_proved or may_have_a_condition(it[2], conditions))]
+        chosen = [it for it in own if only in ("", crate) and (not is_proved or may_have_a_condition(it[2], known))]
         text = "\n".join(tests(crate, chosen, is_proved)) + "\n"
         (folder / f"src/tests/of_{crate}.rt").write_text(text, encoding="utf-8")
         modules, count = f"{modules}mod of_{crate};\n", count + len(chosen)

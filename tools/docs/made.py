@@ -7,8 +7,7 @@ from sources import CRATES, read, read_modules
 TOP = CRATES.parent
 # The crates that have a page CALLING.md, and those whose definitions the site has.
 LIBRARIES = ["ascii_base", "ascii", "ascii_formats", "ascii_keys", "ascii_devices", "ascii_run", "ascii_lines"]
-DEFINED = [*LIBRARIES, "ascii_search", "ascii_show", "ascii_filter", "cookbook", "example_head", "example_ini", "example_lines", "example_nmea", "example_pager", "example_resp", "example_smtp", "example_register",
-           "ascii_c"]
+DEFINED = [*LIBRARIES, "ascii_search", "ascii_show", "ascii_filter", "cookbook", "examples", "example_resp", "example_smtp", "ascii_c"]
 # Ghost members whose value is a proof, which says nothing of an outcome.
 PROOFS = {"laws", "total", "matches_partial_cmp", "matches_eq", "respects_eq", "holds_sure"}
 

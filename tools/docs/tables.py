@@ -4,6 +4,7 @@ A page has a table between a line that says that it is made and a line that ends
   <!-- Made by `bin/docs tables`: modules -->       a row for each module of the libraries, with its public calls
   <!-- Made by `bin/docs tables`: calls CRATE -->   a row for each group of calls: clauses, examples, tests and mutations
   <!-- Made by `bin/docs tables`: sizes -->         the lines of each crate: code, definitions, proofs and tests
+  <!-- Made by `bin/docs tables`: times -->         what the dearest tasks of `bin/test` take, from tools/check/times.txt
   <!-- end of the table -->
 A signpost is a paragraph at the head of a source that begins with "Made by `bin/docs tables`: the other calls of `TYPE` are in": it
 names the modules that have calls of that type, each with its calls.
@@ -14,11 +15,14 @@ import re
 import textwrap
 from functools import cache
 
+import times
 from calls import entries, headings, table
 from made import LIBRARIES, TOP, example, first_sentence, head_lines, module_file, modules_of, settle
 from sources import CRATES, read
 
 MOST = 6
+# A task that takes fewer CPU seconds has no row of its own.
+DEAR = 60
 BLOCK = re.compile(r"(<!-- Made by `bin/docs tables`: (\w+)(?: (\w+))? -->\n).*?(<!-- end of the table -->)", re.S)
 SIGNPOST = re.compile(r"^//! Made by `bin/docs tables`: the other calls of `(\w+)` are in.*\n(?://! .+\n)*", re.M)
 
@@ -82,7 +86,19 @@ def sizes_table(_):
     return lines
 
 
-TABLES = {"modules": modules_table, "calls": calls_table, "sizes": sizes_table}
+def times_table(_):
+    """What the tasks of the full check take that take a minute or more, and all of them."""
+    (commit, processors), tasks = times.measured()
+    if not tasks:
+        return ["No run is recorded."]
+    row = lambda name, cpu, clock: f"| {name} | {cpu:,.0f} | {clock:,.0f} |"  # noqa: E731
+    dear = [row(name, *figures) for name, figures in times.by_cost(tasks) if figures[0] >= DEAR]
+    head = f"At commit {commit} over no kept proofs, on a machine with {processors} processors; tasks of {DEAR} CPU seconds or more:"
+    lines = [head, "", "| Task | CPU seconds | Seconds by the clock |", "|---|--:|--:|", *dear]
+    return [*lines, row("all tasks", *times.total(tasks))]
+
+
+TABLES = {"modules": modules_table, "calls": calls_table, "sizes": sizes_table, "times": times_table}
 
 
 def page_with_tables(text):

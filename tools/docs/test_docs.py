@@ -7,7 +7,7 @@ from pathlib import Path
 
 sys.dont_write_bytecode = True
 TOP = Path(__file__).resolve().parents[2]
-sys.path[:0] = [str(TOP / "tools" / it) for it in ("docs", "reader")]
+sys.path[:0] = [str(TOP / "tools" / it) for it in ("docs", "reader", "check")]
 import clauses  # noqa: E402
 import examples  # noqa: E402
 import lengths  # noqa: E402
@@ -21,7 +21,7 @@ from examples import examples_in, names_of_tests, statements  # noqa: E402
 from functions import functions_of  # noqa: E402
 from items import read_items  # noqa: E402
 from made import conditions, example, first_sentence  # noqa: E402
-from samples import is_sample, named  # noqa: E402
+from samples import in_own_crate, is_sample, named  # noqa: E402
 
 
 class Lengths(unittest.TestCase):
@@ -63,11 +63,12 @@ class Examples(unittest.TestCase):
         self.assertEqual(code, 'assert_debug!(rt;(a(),b().expect(&rt, "an error"),),"(1, \\"x\\")");')
 
     def test_an_example_with_a_condition_is_proved(self):
-        names = {"set", "new"}
-        for line in ("view.set(1, 'a')", "Thing::new(8)", 'AsciiStr::literal("\\u{e9}")', "AsciiStr::literal(text)"):
-            self.assertTrue(examples.may_have_a_condition([line], names), line)
-        for line in ('AsciiStr::literal("a\\u{7f}").len()', "offset(1)", "renew(2)"):
-            self.assertFalse(examples.may_have_a_condition([line], names), line)
+        known = {("Text", "set"): True, ("bytes", "cut"): True, ("Thing", "new"): True, ("Text", "new"): False}
+        with_one = ("view.set(1, 'a')", "Thing::new(8)", "AsciiString::set(text, 0)", "texts::cut(2)")
+        for line in (*with_one, 'AsciiStr::literal("\\u{e9}")', "AsciiStr::literal(text)"):
+            self.assertTrue(examples.may_have_a_condition([line], known), line)
+        for line in ('AsciiStr::literal("a\\u{7f}").len()', "offset(1)", "renew(2)", "AsciiString::new(3)", "Vec::new(alloc)"):
+            self.assertFalse(examples.may_have_a_condition([line], known), line)
 
     def test_an_example_brings_the_traits_that_it_is_about(self):
         line = 'Output::new(Vec::new(alloc)).failures()'
@@ -228,11 +229,17 @@ class Samples(unittest.TestCase):
         self.assertFalse(is_sample("README.md", "crates/none.rt", "fn add() {\n", self.SOURCES))
 
     def test_a_block_of_a_followed_page_is_a_whole_file(self):
-        page, file = "docs/START.md", "crates/a/src/lib.rt"
-        self.assertTrue(is_sample(page, file, self.SOURCES[file], self.SOURCES))
-        self.assertFalse(is_sample(page, file, "fn add() {\n    one\n}\n", self.SOURCES))
-        self.assertTrue(is_sample(page, "crates.txt", "c:\n", self.SOURCES))
-        self.assertFalse(is_sample(page, "crates.txt", "c: d\n", self.SOURCES))
+        self.assertTrue(is_sample("docs/START.md", "HANDLES", "a\nb\n", {"HANDLES": "a\nb\n"}))
+        self.assertFalse(is_sample("docs/START.md", "HANDLES", "b\n", {"HANDLES": "a\nb\n"}))
+
+    def test_a_reader_has_a_module_of_the_examples_as_a_crate(self):
+        program, library = "use Rattle.examples.specs.declared.a.B;\n", "pub mod B\npub mod C\n"
+        sources = {"crates/examples/src/a.rt": program, "crates/examples/specs/Lib.antt": library}
+        read = "use Rattle.a.specs.declared.B;\n"
+        for code, is_same in ((read, True), (f"{read}\n#[cfg(test)]\nmod tests {{}}\n", True), (program, False), ("", False)):
+            self.assertEqual(is_sample("docs/START.md", "crates/a/src/main.rt", code, sources), is_same)
+        self.assertTrue(is_sample("docs/START.md", "crates/a/specs/Lib.antt", "pub mod B\n", sources))
+        self.assertEqual(in_own_crate("a", "fn examples::a::f: ./proofs/a/f in src/a.rt"), "fn a::f: ./proofs/f in src/main.rt")
 
 
 # Two crates: `lines` has its own definitions, and passes on those of `base`.

@@ -104,8 +104,10 @@ class Scan:
                 self.bind(i)
             elif token.text == "match":
                 self.matched = self.value(i + 1, False)[0]
-            elif token.text in ("Ok", "Some", "Err") and [self.word(i + n) for n in (1, 3, 4)] == ["(", ")", "=>"]:
-                self.types[self.word(i + 2)] = inside(self.matched, token.text == "Err")
+            elif token.text in ("Ok", "Some", "Err") and self.word(i + 1) == "(":
+                at = i + 2 + (self.word(i + 2) == "mut")
+                if [self.word(at + 1), self.word(at + 2)] == [")", "=>"]:
+                    self.types[self.word(at)] = inside(self.matched, token.text == "Err")
             elif token.text == "for" or token.text == "|":
                 self.types[self.word(i + 1)] = ""
             elif token.kind == "word" and self.word(i - 1) not in (".", "::"):

@@ -26,7 +26,7 @@ from sources import CRATES, read
 FIRST = ["README.md", "docs/START.md", "docs/CONTRACTS.md", "docs/LINES.md", "docs/PROTOCOLS.md", "docs/RECIPES.md", "docs/PROGRAMS.md",
          "docs/PORTING.md", "docs/PROVED.md", "docs/EVIDENCE.md", "docs/TRUST.md", "docs/MODEL.md", "SECURITY.md"]
 OTHERS = ["CONTRIBUTING.md", "CHANGELOG.md", "bench/README.md", "tools/mutants/README.md", "tools/mutants/edits/README.md"]
-EXAMPLES = ["example_head", "example_host", "example_ini", "example_keys", "example_lines", "example_nmea", "example_pager", "example_register", "example_resp", "example_smtp"]
+EXAMPLES = ["examples", "example_resp", "example_smtp"]
 # What a reader of the front page may want, and where it is.
 WAYS = [
     ("docs-START.html", "Start", "a program that runs within a minute, and its proof"),

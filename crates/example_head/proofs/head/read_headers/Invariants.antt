@@ -1,6 +1,0 @@
-use Rattle.std.proofs.Common.{◌≡◌, length}
-use Rattle.example_head.proofs.head.read_headers.Given as goal
-
--- there is one header for each line so far
-abbrev pub invariant-loop-index : goal.invariant-loop-index
-invariant-loop-index l = length l.headers ≡ l.index
