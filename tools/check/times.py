@@ -1,9 +1,9 @@
 """What each task of the full check takes: CPU seconds, and seconds by the clock. A task's figures are the kernel's account of the
 processes that it started. Those of the proofs in one `rt ci` are read from /proc ten times a second while they run.
 
-The baseline times.txt begins with a line that has the commit that was checked and the number of processors. It has a line for
-each task: its name, its CPU seconds and its seconds by the clock, with tabs between. `bin/docs tables` makes the table of
-docs/ARCHITECTURE.md from it. The last run is in times.new, which git leaves out: a run over no kept proofs can take the place of
+The baseline times.txt begins with a line that has the commit that was checked, the number of processors and the seconds by the
+clock in all: some tasks run beside each other. It has a line for each task: its name, its CPU seconds and its seconds by the
+clock, with tabs between. `bin/docs tables` makes the table of docs/ARCHITECTURE.md from it. The last run is in times.new, which git leaves out: a run over no kept proofs can take the place of
 the baseline. Machines differ, so a task is compared with the median of all tasks that ran."""
 import os
 import re
@@ -91,10 +91,10 @@ class Watch(threading.Thread):
 
 
 class Times:
-    """The tasks of a run."""
+    """The tasks of a run, which begins now."""
 
     def __init__(self):
-        self.tasks = {}
+        self.tasks, self.begun = {}, time.monotonic()
 
     @contextmanager
     def task(self, name, watched=False):
@@ -115,13 +115,14 @@ class Times:
 
     def end(self):
         """Writes the figures, and returns them as lines with the tasks that grew."""
+        clock = time.monotonic() - self.begun
         commit = subprocess.run(["git", "rev-parse", "--short=8", "HEAD"], cwd=FOLDER, capture_output=True, text=True).stdout.strip()
-        lines = [f"{commit}\t{len(os.sched_getaffinity(0))}"]
-        lines += [f"{name}\t{cpu:.0f}\t{clock:.0f}" for name, (cpu, clock) in self.tasks.items()]
+        lines = [f"{commit}\t{len(os.sched_getaffinity(0))}\t{clock:.0f}"]
+        lines += [f"{name}\t{cpu:.0f}\t{took:.0f}" for name, (cpu, took) in self.tasks.items()]
         LAST.write_text("".join(f"{line}\n" for line in lines), encoding="utf-8")
-        shown = [f"{cpu:6.0f} {clock:6.0f}  {name}" for name, (cpu, clock) in by_cost(self.tasks)]
-        cpu, clock = total(self.tasks)
-        return ["CPU seconds, seconds by the clock:", *shown, f"{cpu:6.0f} {clock:6.0f}  in all", *grown(self.tasks, baseline())]
+        shown = [f"{cpu:6.0f} {took:6.0f}  {name}" for name, (cpu, took) in by_cost(self.tasks)]
+        whole = f"{cpu_of(self.tasks):6.0f} {clock:6.0f}  in all"
+        return ["CPU seconds, seconds by the clock:", *shown, whole, *grown(self.tasks, baseline())]
 
 
 def by_cost(tasks):
@@ -129,15 +130,14 @@ def by_cost(tasks):
     return sorted(tasks.items(), key=lambda it: -it[1][0])
 
 
-def total(tasks):
-    """The CPU seconds of all tasks, and the seconds by the clock: the proofs are within what `rt ci` takes."""
-    clocks = [clock for name, (_, clock) in tasks.items() if not name.startswith(PROOF)]
-    return sum(cpu for cpu, _ in tasks.values()), sum(clocks)
+def cpu_of(tasks):
+    """The CPU seconds of all tasks."""
+    return sum(cpu for cpu, _ in tasks.values())
 
 
 def measured():
-    """The commit and the number of processors of the figures in the repository, and the figures: none if no run is recorded."""
-    head, *lines = [line.split("\t") for line in BASELINE.read_text(encoding="utf-8").splitlines() or ["\t"]]
+    """The first line of the figures in the repository, and the figures: none if no run is recorded."""
+    head, *lines = [line.split("\t") for line in BASELINE.read_text(encoding="utf-8").splitlines() or ["\t\t"]]
     return head, {name: (float(cpu), float(clock)) for name, cpu, clock in lines}
 
 

@@ -88,14 +88,14 @@ def sizes_table(_):
 
 def times_table(_):
     """What the tasks of the full check take that take a minute or more, and all of them."""
-    (commit, processors), tasks = times.measured()
+    (commit, processors, clock), tasks = times.measured()
     if not tasks:
         return ["No run is recorded."]
     row = lambda name, cpu, clock: f"| {name} | {cpu:,.0f} | {clock:,.0f} |"  # noqa: E731
     dear = [row(name, *figures) for name, figures in times.by_cost(tasks) if figures[0] >= DEAR]
     head = f"At commit {commit} over no kept proofs, on a machine with {processors} processors; tasks of {DEAR} CPU seconds or more:"
     lines = [head, "", "| Task | CPU seconds | Seconds by the clock |", "|---|--:|--:|", *dear]
-    return [*lines, row("all tasks", *times.total(tasks))]
+    return [*lines, row("all tasks", times.cpu_of(tasks), float(clock))]
 
 
 TABLES = {"modules": modules_table, "calls": calls_table, "sizes": sizes_table, "times": times_table}
