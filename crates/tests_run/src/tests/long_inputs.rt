@@ -26,22 +26,25 @@ fn each_mode(rt: HostRuntime) {
     let alloc = rt.alloc();
     let script = [End::Back];
     let cmds = [Cmd::Len];
-    let input = bytes_of(&rt, "", LENGTH, "");
     let rows: [(Mode<'_>, &str, &str); 8] = [
-        (Mode::Copy, "", ""),
-        (Mode::Lines, "", "\n"),
-        (Mode::Tac, "", "\n"),
-        (Mode::Caret, "", ""),
-        (Mode::Ends(&script), "+", "\n"),
-        (Mode::EndsSpans(&script), "+0 none ", "\n"),
-        (Mode::Edit(&cmds), "", ""),
-        (Mode::Json, "\"", "\""),
+        (Mode::Copy, " ", " "),
+        (Mode::Lines, " ", " \n"),
+        (Mode::Tac, " ", " \n"),
+        (Mode::Caret, " ", " "),
+        (Mode::Ends(&script), "+ ", " \n"),
+        (Mode::EndsSpans(&script), "+0 none  ", " \n"),
+        (Mode::Edit(&cmds), " ", " "),
+        (Mode::Json, "\" ", " \""),
     ];
-    for (mode, before, after) in rows {
-        let mut reader = Input::new(input.as_slice());
-        let mut writer = Output::new(Vec::new(alloc));
-        assert_row!(rt; engine(alloc, mode, &mut reader, &mut writer), Ok(()));
-        assert!(rt; writer.into_inner() == bytes_of(&rt, before, LENGTH, after));
+    for length in [3, LENGTH] {
+        // With blanks at both ends, which no mode removes.
+        let input = bytes_of(&rt, " ", length, " ");
+        for (mode, before, after) in rows {
+            let mut reader = Input::new(input.as_slice());
+            let mut writer = Output::new(Vec::new(alloc));
+            assert_row!(rt; engine(alloc, mode, &mut reader, &mut writer), Ok(()));
+            assert!(rt; writer.into_inner() == bytes_of(&rt, before, length, after));
+        }
     }
 }
 
