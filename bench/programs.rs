@@ -179,7 +179,7 @@ fn programs(show: &str, filter: &str, by_crate: &str, tools: &[String]) -> Vec<P
                 let name = if tool == "grep" {
                     GREP.trim_end_matches(" || :").to_string()
                 } else {
-                    command.join(" ")
+                    in_shell(command)
                 };
                 programs.push(Program::new(mode, &name, command));
             }
@@ -213,6 +213,12 @@ fn compare_outputs(programs: &[Program], text: &str, folder: &str) {
 /// The programs that are measured over texts of several lengths: the mode, and the tool beside it.
 const SIZED: [(&str, usize); 3] = [("copy", 0), ("caret", 4), ("check", 7)];
 
+/// A command as it is written in a shell.
+fn in_shell(command: &[&str]) -> String {
+    let quoted = |word: &&str| if word.contains('\\') { format!("'{word}'") } else { word.to_string() };
+    command.iter().map(quoted).collect::<Vec<String>>().join(" ")
+}
+
 /// Measures the programs over texts from a sixth of `bytes` to 16 times as many.
 fn measure_sizes(bytes: usize, folder: &str, filter: &str, tools: &[String]) {
     let text = format!("{folder}/lines_of_60");
@@ -223,7 +229,7 @@ fn measure_sizes(bytes: usize, folder: &str, filter: &str, tools: &[String]) {
             let (_, tool, command) = TOOLS[at];
             let mut sized = vec![Program::new(mode, &format!("ascii_filter {mode}"), &[filter, mode])];
             if tools.iter().any(|it| it == tool) {
-                let name = if tool == "grep" { "grep" } else { &command.join(" ") };
+                let name = if tool == "grep" { "grep" } else { &in_shell(command) };
                 sized.push(Program::new(mode, name, command));
             }
             for program in &mut sized {

@@ -15,8 +15,8 @@ HEAD = """\
 # ascii: recipes
 
 Problems that users have, solved over the public contracts of the library. Each call is proved, and tested with each of its
-errors. To use a recipe, copy its file from [`crates/cookbook/src`](../crates/cookbook/src), with its definitions in `specs/` and
-its proofs. ([Home](../README.md); [how a contract is read](CONTRACTS.md))
+errors. `bin/add ../yours cookbook` copies all of them into your repository `../yours`, from
+[`crates/cookbook`](../crates/cookbook). ([Home](../README.md); [how a contract is read](CONTRACTS.md))
 """
 ROW = re.compile(r"\| (.+?) \| (.+?) \| `(\w+)` \|")
 # The definitions that nearly every clause names, and that say nothing of the recipe.
