@@ -17,7 +17,7 @@ pub struct Row {
 }
 
 mod ours {
-    //! Exports of crates/exports.
+    //! Exports of crates/measured.
 
     macro_rules! exported {
         ($($name:ident as $export:ident($source:ident)),*) => {

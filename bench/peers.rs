@@ -86,7 +86,7 @@ macro_rules! called {
 }
 
 pub mod ours {
-    //! Exports of crates/exports.
+    //! Exports of crates/measured.
 
     mod exports {
         extern "C" {

@@ -5,8 +5,7 @@ Compares the public calls of the libraries that the differential test does not a
 this file, which has a line for each: the call and the reason, with a tab between. Prints each call that only one of the
 two has. `--list` prints the calls that are not asked.
 
-The differential test asks a call that a question of crates/exports names. Questions are the functions of all its
-modules except those that the benchmark measures. A name is resolved by the types that tools/docs/uses.py knows. If that
+The differential test asks a call that a question of crates/exports names. A name is resolved by the types that tools/docs/uses.py knows. If that
 fails, a call whose name no other public call has is found by its name. Of the calls of traits only those of extension
 traits are compared, because questions reach the others through generic code.
 Status 0: the list is right; 1: it is not; 64: bad arguments."""
@@ -37,12 +36,12 @@ def named_by_type():
     """The calls that questions name, by what is known of their types."""
     known = calls.known()
     known.read_helpers(EXPORTS)
-    return {id(call) for place, found in uses.named_in(known, EXPORTS) if not calls.is_measured(place) for call in found}
+    return {id(call) for _, found in uses.named_in(known, EXPORTS) for call in found}
 
 
 def names_in_questions():
     """The names after a `.` or a `::` that questions call."""
-    texts = [read(module_file(EXPORTS, path)) for path in modules_of(EXPORTS) if path and path[0] not in calls.MEASURED]
+    texts = [read(module_file(EXPORTS, path)) for path in modules_of(EXPORTS)]
     return {name for text in texts for name in re.findall(r"(?:\.|::)(\w+)(?:::<[^;{}]*?>)?\(", text)}
 
 

@@ -16,8 +16,6 @@ IMPORTED_FROM = ["ascii", "ascii_formats", "ascii_keys", "ascii_lines", "ascii_r
 # The crates of which the site has each public call.
 SHOWN = [*LIBRARIES, "cookbook", "ascii_c"]
 USERS = ("cookbook", "tests_*", "exports", "example*", "ascii_show", "ascii_filter")
-# The modules of `exports` that the benchmark measures. The others ask the questions of the differential test.
-MEASURED = {"measured", "everyday"}
 
 
 @dataclass
@@ -160,7 +158,7 @@ def table():
     for crate in crates:
         is_test = crate == "exports" or (crate.startswith("tests_") and crate != "tests_callers")
         for function, calls in uses.named_in(known(), crate):
-            for call in calls if not is_measured(function) else []:
+            for call in calls:
                 names = call.tests if is_test else call.users
                 names += [function] if function not in names else []
     for crate in SHOWN:
@@ -168,12 +166,6 @@ def table():
             for call in {id(it): it for old, _ in mutation.edits for it in changed(crate, mutation.file, old)}.values():
                 call.mutations.append(mutation)
     return table_without_names()
-
-
-def is_measured(function):
-    """Whether the benchmark measures a function that names calls."""
-    crate, _, path = function.name.partition("::")
-    return crate == "exports" and path.partition("::")[0] in MEASURED
 
 
 # Mutations

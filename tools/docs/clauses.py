@@ -25,7 +25,7 @@ from sources import CRATES, exported, impl_name, read, read_modules, without_bra
 
 MOVED = Path(__file__).resolve().parent / "moved.txt"
 # Crates of tests and measurements, whose functions are not calls.
-TESTS = re.compile(r"(tests_\w+|bench_\w+|testing|exports|soak)$")
+TESTS = re.compile(r"(tests_\w+|bench_\w+|testing|exports|measured|soak)$")
 TOKEN = re.compile(r'"(?:[^"\\]|\\.)*"|[(){}\[\];,]|[^\s(){}\[\];,]+')
 
 

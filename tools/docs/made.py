@@ -8,6 +8,8 @@ TOP = CRATES.parent
 # The crates that have a page CALLING.md, and those whose definitions the site has.
 LIBRARIES = ["ascii_base", "ascii", "ascii_formats", "ascii_keys", "ascii_devices", "ascii_run", "ascii_lines"]
 DEFINED = [*LIBRARIES, "ascii_search", "ascii_show", "ascii_filter", "cookbook", "examples", "example_resp", "example_smtp", "ascii_c"]
+# Crates of calls for programs in Rust, of whose sources the site has no page.
+TYPED = {"exports", "measured"}
 # Ghost members whose value is a proof, which says nothing of an outcome.
 PROOFS = {"laws", "total", "matches_partial_cmp", "matches_eq", "respects_eq", "holds_sure"}
 

@@ -6,7 +6,7 @@ import callers
 import kit
 from calls import table
 from definition_pages import short
-from made import first_sentence, head_lines, module_file, modules_of
+from made import TYPED, first_sentence, head_lines, module_file, modules_of
 from markup import Page, anchor_of, chips, clause_html, docs_html, frame, inline, link, linked_code, meanings_html
 from meanings import source_page
 from owners import MAIN, SHOWN_AT, by_name, error_of, owners, result_of, short_key, url_of
@@ -253,6 +253,6 @@ def evidence(call):
 
 def place_html(place):
     crate, _, path = place.file.removeprefix("crates/").partition("/src/")
-    if crate == "exports":  # the site has no page of its sources
+    if crate in TYPED:
         return f"<code>{escape(place.name)}</code>"
     return link(f"{source_page(crate, tuple(path.removesuffix('.rt').split('/')))}#{place.line}", place.name)

@@ -21,7 +21,7 @@ LIST = Path(__file__).resolve().parent / "unused.txt"
 SHARED = {"ascii", "std", "first"}
 MOST = 25
 # Crates whose calls do not count.
-TESTS = re.compile(r"tests_\w+|testing|exports")
+TESTS = re.compile(r"tests_\w+|testing|exports|measured")
 WORD = re.compile(r"[^\s(){}\[\];,]+")
 USE = re.compile(r"^\s*(?:pub )?(?:ghost )?use (\S+?)(?:\.\{([^}]*)\})?(?: as \S+?)?;?$")
 CITED = re.compile(r"(crate|\w+)::((?:proofs|specs)(?:::[^\s:,)]+)+)")

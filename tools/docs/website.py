@@ -16,7 +16,7 @@ from pathlib import Path
 
 import markup
 from definition_pages import DefinitionPages
-from made import DEFINED, LIBRARIES, TOP, first_sentence, module_file, modules_of, parts_of
+from made import DEFINED, LIBRARIES, TOP, TYPED, first_sentence, module_file, modules_of, parts_of
 from markup import FOLDER, frame, html_of, inline, link, linked_docs
 from meanings import page_of, source_page
 from owners import MAIN, by_name, owners
@@ -70,7 +70,7 @@ class Site:
         words.std()
         for page in self.pages:
             self.page(page)
-        for crate in sorted(it.parent.name for it in CRATES.glob("*/src") if it.parent.name != "exports"):
+        for crate in sorted(it.parent.name for it in CRATES.glob("*/src") if it.parent.name not in TYPED):
             for path in modules_of(crate):
                 self.source(crate, path)
         self.examples()
@@ -171,7 +171,7 @@ def url_of_file(path):
     crate, *rest = path.relative_to(CRATES).with_suffix("").parts
     if rest[:1] == ["specs"] and path.suffix == ".antt" and crate in DEFINED:
         return page_of(".".join(["Rattle", crate, *rest]))
-    if rest[:1] == ["src"] and path.suffix == ".rt" and crate != "exports":
+    if rest[:1] == ["src"] and path.suffix == ".rt" and crate not in TYPED:
         return source_page(crate, () if rest[1:] in (["lib"], ["main"]) else tuple(rest[1:]))
     if crate in EXAMPLES:
         return f"examples.html#{crate}"

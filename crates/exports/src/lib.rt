@@ -1,6 +1,6 @@
-//! Calls of the libraries with typed parameters, which `bin/lib/static_library` exports to two programs in Rust: the
-//! benchmark measures those of `measured`, and the differential test compares the answers of the others, whose names
-//! begin with `ask_`, with those of tables and of other implementations.
+//! Calls of the libraries with typed parameters, which `bin/lib/static_library` exports to a program in Rust: the
+//! differential test compares their answers with those of tables and of other implementations. Their names begin with
+//! `ask_`.
 //!
 //! Such a call puts what the library returns into its answer; `answer` says how that is written. It states no more than
 //! what it needs of its caller, because its answers are what is compared. A program in Rust passes bytes for an
@@ -14,11 +14,9 @@ pub mod copies;
 pub mod devices;
 pub mod edits;
 pub mod engines;
-pub mod everyday;
 pub mod json_values;
 pub mod lines_in_and_out;
 pub mod maps;
-pub mod measured;
 pub mod numbers;
 pub mod places;
 pub mod planned_devices;
