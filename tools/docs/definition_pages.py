@@ -11,8 +11,11 @@ from meanings import STD_PAGE, STD_WORDS, definitions, page_of, scope
 from owners import by_name, error_of, short_key, url_of
 from sources import CRATES
 
+# Texts that a call gives back, and what the page calls them all.
+TEXTS, SOURCE = {"AsciiString", "BoxedAsciiStr", "CowAsciiStr", "InlineBuffer", "Text"}, "the source"
 # The errors that have no page of their own.
 OTHER_ERRORS = {
+    SOURCE: "The text itself, unchanged: an allocation for its conversion failed.",
     "AllocError": "The error of std for a failed allocation, as `std::alloc::AllocError`.",
     "Refusal": "The error of a buffer for an edit that it has no room for. It is `AllocError` for a `Vec`, so for `AsciiString`.",
     "usize": "The position of the byte at fault.",
@@ -91,18 +94,30 @@ class DefinitionPages:
         """Each error that a call returns, with the calls that return it."""
         found, page = {}, Page()
         for call in table():
-            if error_of(call) and url_of(call):
-                found.setdefault(error_of(call), []).append(call)
+            for error in errors_of(call):
+                found.setdefault(error, []).append(call)
         page.parts.append("<h1>Errors</h1>\n<p>Each error, and the public calls that return it.</p>")
         for error, group in sorted(found.items()):
             owner, text = by_name().get(error), OTHER_ERRORS.get(error, "")
-            page.heading(f"`{error}`", error)
+            page.heading("The source" if error == SOURCE else f"`{error}`", error.replace(" ", "-"))
             about = f"{inline(first_sentence(owner.docs))} {link(owner.page, error)}" if owner else inline(text)
             page.parts.append(f"<p>{about}</p>")
             page.parts.append(chips(link(url_of(call), short_key(call)) for call in group))
             if not owner:
-                self.name(error, "error", f"errors.html#{error}", text)
+                self.name(error, "error", f"errors.html#{error.replace(' ', '-')}", text)
         self.write("errors.html", frame("Errors", "\n".join(page.parts), "".join(page.side)))
+
+
+def errors_of(call):
+    """The errors under which the page of errors has a call."""
+    error = error_of(call)
+    if not error or not url_of(call):
+        return []
+    if error in TEXTS:
+        return [SOURCE]
+    # The error of a string over a `Vec`.
+    is_string = short_key(call).startswith(("AsciiString::", "AsciiStringExt::"))
+    return [error, "AllocError"] if error == "Refusal" and is_string else [error]
 
 
 def short(text):

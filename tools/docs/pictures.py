@@ -103,7 +103,7 @@ def layers():
         else:
             parts.append(arrow(x + (0 if below < x else width), y + 48, below + (wide if below < x else 0), top - 2))
     parts.append(text(20, 14 + 5 * 84, "A user of text names ascii; a reader of lines names ascii_lines.", "small", "start"))
-    return picture(12 * column + 40, 14 + 5 * 84 + 16, "The crates, each with arrows to those that it uses", parts)
+    return picture(12 * column + 40, 14 + 5 * 84 + 16, "The libraries and programs, each with arrows to the libraries that it uses", parts)
 
 
 def bytes_through():
