@@ -1,9 +1,10 @@
 //! Measures single calls, and writes a line for each: what is called, the number of bytes, the
-//! implementation, nanoseconds.
+//! implementation, nanoseconds; and of a peer how many times as long as ours it takes: the median, the smallest and the
+//! largest of the rounds.
 //! usage: calls ROUNDS MICROSECONDS tasks|SIZE,..
 //!
-//! A round lasts at least the given number of microseconds, and the minimum of the rounds counts. `tasks` measures the
-//! everyday tasks, each over one text; otherwise each call is measured over texts of the given sizes.
+//! A round lasts at least the given number of microseconds. Of the nanoseconds the minimum of the rounds counts; a ratio
+//! is of the times in one round. `tasks` measures the everyday tasks, each over one text; otherwise each call is measured over texts of the given sizes.
 
 mod everyday;
 mod peers;
@@ -85,19 +86,28 @@ impl Clock {
             }
         }
         let times: Vec<usize> = sides.iter_mut().map(|side| self.times(side)).collect();
-        let mut best = vec![f64::MAX; sides.len()];
+        let mut took = vec![Vec::new(); sides.len()];
         for _ in 0..self.rounds {
             for (place, side) in sides.iter_mut().enumerate() {
                 let start = Instant::now();
                 (side.repeat)(times[place]);
-                best[place] =
-                    best[place].min(start.elapsed().as_nanos() as f64 / times[place] as f64);
+                took[place].push(start.elapsed().as_nanos() as f64 / times[place] as f64);
             }
         }
-        for (side, nanoseconds) in sides.iter().zip(best) {
-            println!("{call}\t{size}\t{}\t{nanoseconds:.2}", side.name);
+        for (side, rounds) in sides.iter().zip(&took) {
+            let nanoseconds = rounds.iter().copied().fold(f64::MAX, f64::min);
+            let ratios = if side.name == "ours" { String::new() } else { spread(rounds, &took[0]) };
+            println!("{call}\t{size}\t{}\t{nanoseconds:.2}{ratios}", side.name);
         }
     }
+}
+
+/// How many times as long as ours a peer takes: the median, the smallest and the largest of the rounds.
+fn spread(peer: &[f64], ours: &[f64]) -> String {
+    let mut ratios: Vec<f64> = peer.iter().zip(ours).map(|(peer, ours)| peer / ours).collect();
+    ratios.sort_by(f64::total_cmp);
+    let last = ratios.len() - 1;
+    format!("\t{:.4}\t{:.4}\t{:.4}", ratios[last / 2], ratios[0], ratios[last])
 }
 
 /// The same function of several sides over one text, as a list.

@@ -43,11 +43,31 @@ fn in_order<T: PartialEq>(lists: impl Iterator<Item = Vec<T>>) -> Vec<T> {
     all
 }
 
-/// The calls that were measured: nanoseconds by call, size and side.
+/// How many times as long as ours a peer takes: the median, the smallest and the largest of the rounds.
+#[derive(Clone, Copy)]
+struct Ratio {
+    median: f64,
+    smallest: f64,
+    largest: f64,
+}
+
+impl Ratio {
+    /// The ratio in the last cells of a row, if it has them.
+    fn read(row: &[String]) -> Option<Ratio> {
+        let cell = |at: usize| row.get(at)?.parse().ok();
+        Some(Ratio { median: cell(4)?, smallest: cell(5)?, largest: cell(6)? })
+    }
+
+    fn with_spread(self) -> String {
+        format!("{} ({}–{})", as_ratio(self.median), as_ratio(self.smallest), as_ratio(self.largest))
+    }
+}
+
+/// The calls that were measured: nanoseconds and the ratio by call, size and side.
 struct Calls {
     calls: Vec<String>,
     sizes: Vec<usize>,
-    nanoseconds: HashMap<(String, usize, String), f64>,
+    measured: HashMap<(String, usize, String), (f64, Option<Ratio>)>,
 }
 
 impl Calls {
@@ -59,34 +79,34 @@ impl Calls {
                 let of_size = rows.iter().filter(|row| size(row) == *n);
                 each_once(of_size.map(|row| row[0].clone()))
             })),
-            nanoseconds: rows
+            measured: rows
                 .iter()
                 .map(|row| {
-                    (
-                        (row[0].clone(), size(row), row[2].clone()),
-                        row[3].parse().expect("a time"),
-                    )
+                    let of = (row[0].clone(), size(row), row[2].clone());
+                    (of, (row[3].parse().expect("a time"), Ratio::read(row)))
                 })
                 .collect(),
             sizes,
         }
     }
 
+    fn of(&self, call: &str, size: usize, side: &str) -> Option<(f64, Option<Ratio>)> {
+        self.measured.get(&(call.to_string(), size, side.to_string())).copied()
+    }
+
     fn time(&self, call: &str, size: usize, side: &str) -> Option<f64> {
-        self.nanoseconds
-            .get(&(call.to_string(), size, side.to_string()))
-            .copied()
+        Some(self.of(call, size, side)?.0)
     }
 
     /// How many times as fast as a peer ours is.
     fn ratio(&self, call: &str, size: usize, peer: &str) -> Option<f64> {
-        Some(self.time(call, size, peer)? / self.time(call, size, "ours")?)
+        Some(self.of(call, size, peer)?.1?.median)
     }
 
     /// How many times as fast as the fastest peer ours is.
-    fn best_ratio(&self, call: &str, size: usize) -> Option<f64> {
-        let ratios = PEERS.iter().filter_map(|peer| self.ratio(call, size, peer));
-        ratios.min_by(f64::total_cmp)
+    fn best(&self, call: &str, size: usize) -> Option<Ratio> {
+        let ratios = PEERS.iter().filter_map(|peer| self.of(call, size, peer)?.1);
+        ratios.min_by(|one, other| one.median.total_cmp(&other.median))
     }
 
     /// A table of the sizes at which each call is faster than the fastest peer, level with it, or slower.
@@ -95,7 +115,7 @@ impl Calls {
         for call in &self.calls {
             let mut cells = [const { Vec::new() }; 3];
             for size in &self.sizes {
-                if let Some(ratio) = self.best_ratio(call, *size) {
+                if let Some(Ratio { median: ratio, .. }) = self.best(call, *size) {
                     let cell = if ratio > 1.05 {
                         0
                     } else {
@@ -147,8 +167,8 @@ fn tasks(calls: &Calls, rows: &[Vec<String>]) -> String {
     for (call, size) in each_once(rows.iter().map(|row| (&row[0], row[1].parse().expect("a size")))) {
         let ours = calls.time(call, size, "ours").map(as_time).unwrap_or_default();
         write!(table, "| {call} | {size} | {ours} |").unwrap();
-        let ratios = ["std", "memchr", "crate"].map(|peer| calls.ratio(call, size, peer));
-        for ratio in [calls.best_ratio(call, size)].iter().chain(&ratios) {
+        write!(table, " {} |", calls.best(call, size).map(Ratio::with_spread).unwrap_or_default()).unwrap();
+        for ratio in ["std", "memchr", "crate"].map(|peer| calls.ratio(call, size, peer)) {
             write!(table, " {} |", ratio.map(as_ratio).unwrap_or_default()).unwrap();
         }
         table.push('\n');
@@ -160,7 +180,7 @@ fn tasks(calls: &Calls, rows: &[Vec<String>]) -> String {
 fn short_tasks(calls: &Calls, rows: &[Vec<String>]) -> String {
     let cells: Vec<String> = each_once(rows.iter().map(|row| (&row[0], row[1].parse().expect("a size"))))
         .into_iter()
-        .map(|(call, size)| format!("{call} | {} |", calls.best_ratio(call, size).map(as_ratio).unwrap_or_default()))
+        .map(|(call, size)| format!("{call} | {} |", calls.best(call, size).map(Ratio::with_spread).unwrap_or_default()))
         .collect();
     let third = cells.len().div_ceil(3);
     let mut table = String::from("| Task | | Task | | Task | |\n|---|--:|---|--:|---|--:|\n");
@@ -413,13 +433,15 @@ fn page(
 # Performance
 
 From one run. [bench/README.md](../bench/README.md) says how the calls are measured and what each
-name means. A number in a comparison is the peer's time divided by ours: above 1, this library is faster.
+name means. A number in a comparison is the median over the rounds of the peer's time divided by ours: above 1, this
+library is faster. Beside the fastest peer of a task stand the smallest and the largest of the rounds.
 
 ![Times as fast as the Rust crate and as std](performance.svg)
 
 | | |
 |---|---|
 | Command | `{command}`, {rounds} rounds |
+| Commit | {commit} |
 | Date | {date} |
 | Machine | {machine}, with a load of {load} before the run |
 | Ours | {rattle}, for {cpu} |
@@ -483,6 +505,7 @@ The store of `example_resp` beside redis-server, both with one connection, by `r
 {sizes}",
         command = fact("command"),
         rounds = fact("rounds"),
+        commit = fact("commit"),
         date = fact("date"),
         machine = fact("machine"),
         load = fact("load"),
