@@ -2,6 +2,7 @@
 //! those of `bin/soak`.
 
 mod devices;
+mod flushes;
 mod long_inputs;
 mod small_string;
 mod strings_in_the_value;

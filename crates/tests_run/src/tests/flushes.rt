@@ -1,7 +1,7 @@
 //! A flush of a device flushes its writer. `bin/soak` has a row of it; this test is here because
 //! `tools/mutants/giving_up.txt` names it, whose bodies are run unproved.
 
-use ascii_lines::{Duplex, Output, Sink};
+use ascii_devices::{Duplex, Output, Sink};
 use std::io;
 use std::io::ErrorKind;
 use testing::assert_row;
