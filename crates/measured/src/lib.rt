@@ -1,6 +1,5 @@
 //! Calls of the libraries that `bin/bench` measures, which `bin/lib/static_library` exports to a program in Rust. Their
-//! names begin with `bench_`. They state no more than what they need of their caller, but for a few that show how a whole
-//! contract looks.
+//! names begin with `bench_`. They state what they need of their caller; four also state what they return.
 #![tactic(auto)]
 
 pub mod calls;
