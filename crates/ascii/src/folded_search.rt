@@ -16,7 +16,9 @@ impl<'a> AsciiStr<'a> {
     /// Returns the position of the first `needle` in the view, ignoring ASCII case, or `None` if the
     /// view does not contain it so. An empty needle is found at 0.
     ///
-    /// Compares the needle where its first, its middle and its last character are. At worst that is at each position.
+    /// Compares the needle where its first, its middle and its last character are. If that is at too many positions, the
+    /// remainder of the view is copied in lower case, a part at a time, and searched by the crate `memchr`. So it takes
+    /// linear time if the needle has at most 8,192 characters. At worst a longer one is compared at each position.
     ///
     /// If case matters, use `find`; to ask only whether it is there, `contains_ignore_ascii_case`.
     ///

@@ -1,3 +1,4 @@
 pub mod MarkedBackLemmas
 pub mod MarkedLemmas
 pub mod MasksLemmas
+pub mod WindowLemmas

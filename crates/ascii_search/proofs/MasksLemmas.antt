@@ -517,6 +517,17 @@ module _ (image : ℕ → ℕ) (hay needle : List ℕ) where
       (IsFirst-agree (OccursBy image hay needle) (OccursAt (map image hay) (map image needle)) 0
       (length hay + 1) (λ k _. occurs_images k) (λ k _. images_occur k) found is)
 
+  -- the first one from a position on, if there is none before it
+  pub finds_after : (from : ℕ) (found : Option ℕ) → from ≤ length hay
+      → Nowhere (OccursBy image hay needle) 0 from
+      → FindsNeedle (map image hay) (map image needle) from found → FindsBy image hay needle found
+  finds_after from found inside before is =
+      found_first image hay needle from (length hay + 1) found (λ none. omega arith) before
+      (IsFirst-agree (OccursAt (map image hay) (map image needle)) (OccursBy image hay needle) from
+      (length hay + 1) (λ k _. images_occur k) (λ k _. occurs_images k) found
+      (subst (λ n. IsFirst (OccursAt (map image hay) (map image needle)) from (n + 1) found)
+      (length-map hay image) is))
+
   -- the part at a position has the images of the needle exactly if the needle is there
   pub part_is : (k : ℕ) → k + length needle ≤ length hay
       → (map image (slice_range hay k (k + length needle)) ≡ map image needle)

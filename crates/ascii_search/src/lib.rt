@@ -5,3 +5,4 @@
 pub mod marked;
 pub mod marked_back;
 pub mod short_search;
+mod windows;

@@ -4,14 +4,15 @@
 //! there would have its first, its middle and its last byte. Such a position is a candidate, and a
 //! needle of more than three bytes is compared at the candidates only. Fewer than four positions are
 //! tested one by one. If case matters, the crate `memchr` searches texts of more than 256 bytes and texts with too
-//! many candidates.
+//! many candidates. If case is ignored, `windows` searches the remainder after too many comparisons in vain.
 
 ghost use Rattle.std.specs.Prelude.{◌≡◌, ◌↔◌, ◌+◌, ◌<◌, ◌≤◌, IfSome, IsTrue, length, map, true};
-ghost use Rattle.memchr.specs.Find.{FindsNeedle, IsFirst, is_byte2};
+ghost use Rattle.memchr.specs.Find.{FindsNeedle, IsFirst, Nowhere, is_byte2};
 ghost use Rattle.ascii_base.specs.Case.{lower_image};
 ghost use Rattle.ascii_search.specs.Masks.{FindsBy, HasBit, HasPart, IsCandidate};
 ghost use Rattle.ascii_search.specs.Masks.{MarksCandidates, OccursBy, itself};
 
+use crate::windows::{LONGEST, first_in_windows};
 use ascii_base::kernels::eq_ignore_case;
 use memchr::arch::all::is_prefix;
 use memchr::memmem;
@@ -35,6 +36,13 @@ const SMALL: usize = 16;
 /// The largest number of candidates that are compared here, of 32 positions or more, if there is another search.
 const FEW: u32 = 8;
 
+/// The number of bytes that are compared in one step. A comparison takes two steps more, and a search in windows takes
+/// about one for each position.
+const STEP: usize = 32;
+
+/// The number of steps that comparisons in vain may take besides one for each position tested.
+const PATIENCE: usize = 4_096;
+
 /// Which bytes count as the same.
 trait Comparison {
     ghost use Rattle.std.specs.Prelude.{ℕ};
@@ -52,9 +60,19 @@ trait Comparison {
         requires candidate { IsCandidate image hay.now needle.now position }
         ensures { IsTrue result ↔ OccursBy image hay.now needle.now position };
 
-    /// Finds the first `needle` in another way, if there is one and the needle has too many candidates among some
-    /// positions to be compared at each.
-    fn find_otherwise(hay: &[u8], needle: &[u8], marked: u64) -> Option<Option<usize>>
+    /// Finds the first `needle` in another way, if there is one and the needle has too many candidates to be compared
+    /// at each. It is at none of the `tested` positions before, of which `misses` were candidates, and the
+    /// candidates that follow are marked.
+    fn find_otherwise(
+        hay: &[u8],
+        needle: &[u8],
+        tested: usize,
+        misses: usize,
+        marked: u64,
+    ) -> Option<Option<usize>>
+        requires some { 0 < length needle.now }
+        requires inside { tested ≤ length hay.now }
+        requires before { Nowhere (OccursBy image hay.now needle.now) 0 tested }
         ensures { IfSome result (λ found. FindsBy image hay.now needle.now found) };
 }
 
@@ -82,7 +100,13 @@ impl Comparison for Exact {
 
     #[inline(always)]
     #[tactic(auto, using(crate::proofs::MasksLemmas::finds_same))]
-    fn find_otherwise(hay: &[u8], needle: &[u8], marked: u64) -> Option<Option<usize>> {
+    fn find_otherwise(
+        hay: &[u8],
+        needle: &[u8],
+        _tested: usize,
+        _misses: usize,
+        marked: u64,
+    ) -> Option<Option<usize>> {
         if needle.len() > EXACT && marked.count_ones() > FEW {
             return Some(memmem::find(hay, needle));
         }
@@ -113,7 +137,20 @@ impl Comparison for IgnoringCase {
     }
 
     #[inline(always)]
-    fn find_otherwise(_hay: &[u8], _needle: &[u8], _marked: u64) -> Option<Option<usize>> {
+    #[tactic(auto, using(crate::proofs::MasksLemmas::finds_after))]
+    fn find_otherwise(
+        hay: &[u8],
+        needle: &[u8],
+        tested: usize,
+        misses: usize,
+        _marked: u64,
+    ) -> Option<Option<usize>> {
+        // Wraps only for a text of more than 2^54 bytes, and no answer depends on it.
+        if needle.len() <= LONGEST
+            && misses.wrapping_mul(needle.len() / STEP + 2) > tested + PATIENCE
+        {
+            return Some(first_in_windows(hay, needle, tested));
+        }
         None
     }
 }
@@ -134,7 +171,7 @@ pub fn first_needle(hay: &[u8], needle: &[u8]) -> Option<usize>
 
 /// Returns the position of the first `needle` in `hay`, ignoring ASCII case, or `None` if there is none.
 ///
-/// At worst the needle is compared at each position.
+/// Takes linear time if the needle has at most 8,192 bytes. At worst a longer one is compared at each position.
 #[tactic(auto, using(crate::proofs::MasksLemmas::finds_images))]
 pub fn first_needle_ignoring_case(hay: &[u8], needle: &[u8]) -> Option<usize>
     ensures { FindsNeedle (map lower_image hay.now) (map lower_image needle.now) 0 result }
@@ -183,7 +220,7 @@ fn first_compared<M: Comparison>(hay: &[u8], needle: &[u8], marked: u64) -> Opti
 {
     let positions = hay.len() - needle.len() + 1;
     if positions >= 32
-        && let Some(found) = M::find_otherwise(hay, needle, marked)
+        && let Some(found) = M::find_otherwise(hay, needle, 0, 0, marked)
     {
         return found;
     }
@@ -208,6 +245,7 @@ fn first_by_blocks<M: Comparison>(hay: &[u8], needle: &[u8]) -> Option<usize>
 {
     let positions = hay.len() - needle.len() + 1;
     let mut tested = 0;
+    let mut misses = 0;
     while tested < positions {
         let start = tested.min(positions - BLOCK);
         let marked = candidates::<M, BLOCK>(hay, needle, start);
@@ -215,13 +253,14 @@ fn first_by_blocks<M: Comparison>(hay: &[u8], needle: &[u8]) -> Option<usize>
             tested = start + BLOCK;
             continue;
         }
-        if let Some(found) = M::find_otherwise(hay, needle, marked) {
+        if let Some(found) = M::find_otherwise(hay, needle, start, misses, marked) {
             return found;
         }
         match first_marked::<M>(hay, needle, start, marked) {
             None => tested = start + BLOCK,
             found => return found,
         }
+        misses = misses.wrapping_add(marked.count_ones() as usize);
     }
     None
 }

@@ -12,6 +12,10 @@ loop-tested-preserved-then-marked-eq0 g c =
           (nowhere_in_block _ _ _ start _ c.candidates-marked.ensures c.if-marked-eq0.true);
     }
 
+pub find_otherwise-requires-clause-before : goal.find_otherwise-requires-clause-before
+find_otherwise-requires-clause-before g c k from to =
+    c.loop-tested.invariant.before k from (omega (arith, c.min-start.ensures))
+
 pub loop-tested-preserved : goal.loop-tested-preserved
 loop-tested-preserved g c =
     let start = c.min-start.result in

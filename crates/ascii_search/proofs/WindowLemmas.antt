@@ -1,0 +1,76 @@
+-- Where a needle is in a window of a text, and in the text.
+use Rattle.std.proofs.Common.{◌≡◌, ◌∙◌, ◌+◌, ◌-◌, ◌<◌, ◌≤◌, ℕ, List, get_or, length, arith, sym}
+use Rattle.std.proofs.Common.{ap, drop, map, subst, take}
+use Rattle.std.specs.List.{slice_range}
+use Rattle.std.proofs.lemmas.List.{drop-map, get_or-drop, get_or-take, length-drop, length-take}
+use Rattle.std.proofs.lemmas.List.{take-map}
+use Rattle.memchr.specs.Find.{NoneBefore, Nowhere, OccursAt}
+use Rattle.ascii_search.proofs.MasksLemmas.{nowhere_in_both}
+
+-- the image of a window is the window of the image
+pub image_of_window : (image : ℕ → ℕ) (hay : List ℕ) (start end : ℕ)
+    → map image (slice_range hay start end) ≡ slice_range (map image hay) start end
+image_of_window image hay start end = sym (take-map image (end - start) (drop start hay))
+    ∙ ap (take (end - start)) (sym (drop-map image start hay))
+
+-- the window from `start` up to `end`, and no needle from `from` up to `start`
+module _ (hay needle : List ℕ) (start end : ℕ) (order : start ≤ end) (inside : end ≤ length hay)
+    (from : ℕ) (after : from ≤ start) (none : Nowhere (OccursAt hay needle) from start) where
+  abbrev window : List ℕ
+  window = slice_range hay start end
+
+  size : length window ≡ end - start
+  size = omega (arith, length-take (end - start) (drop start hay), length-drop start hay)
+
+  reads : (i : ℕ) → start + i < end → get_or window i 0 ≡ get_or hay (start + i) 0
+  reads i l = get_or-take (end - start) (drop start hay) i 0 (omega (arith, l))
+      ∙ get_or-drop start hay i 0
+
+  there : (k j : ℕ) → start + k + j ≡ start + (k + j)
+  there k j = omega arith
+
+  in_text : (k : ℕ) → OccursAt window needle k → OccursAt hay needle (start + k)
+  in_text k occurs = let fits = occurs.fits in record {
+    fits = omega (arith, fits, size);
+    reads = λ j l. ap (λ i. get_or hay i 0) (there k j)
+        ∙ sym (reads (k + j) (omega (arith, l, fits, size))) ∙ occurs.reads j l;
+  }
+
+  in_window : (k : ℕ) → start + k + length needle ≤ end → OccursAt hay needle (start + k)
+      → OccursAt window needle k
+  in_window k ends occurs = record {
+    fits = omega (arith, ends, size);
+    reads = λ j l. reads (k + j) (omega (arith, l, ends))
+        ∙ ap (λ i. get_or hay i 0) (sym (there k j)) ∙ occurs.reads j l;
+  }
+
+  nowhere_up_to : (k : ℕ) → Nowhere (OccursAt window needle) 0 k
+      → start + k + length needle ≤ end + 1 → Nowhere (OccursAt hay needle) from (start + k)
+  nowhere_up_to k not ends = nowhere_in_both _ from start _ none (λ at low high occurs.
+      let same : at ≡ start + (at - start) = omega arith in
+      not (at - start) (omega arith) (omega arith)
+      (in_window (at - start) (omega (arith, ends)) (subst (OccursAt hay needle) same occurs)))
+
+  -- a needle that is nowhere in the window is at no position of the text so that it ends in the window
+  pub nowhere_in_window : start + length needle ≤ end
+      → Nowhere (OccursAt window needle) 0 (length window + 1)
+      → Nowhere (OccursAt hay needle) from (end - length needle + 1)
+  nowhere_in_window fits not k low high =
+      nowhere_up_to (end - length needle + 1 - start)
+      (λ at from to. not at from (omega (arith, size))) (omega (arith, fits)) k low
+      (omega (arith, fits))
+
+  -- the first position in the window is the first one in the text
+  pub first_in_window : (found : ℕ)
+      → NoneBefore (OccursAt window needle) 0 (length window + 1) found
+      × OccursAt window needle found
+      → NoneBefore (OccursAt hay needle) from (length hay + 1) (start + found)
+      × OccursAt hay needle (start + found)
+  first_in_window found is = let fits = (in_text found is.1).fits in let ends = is.1.fits in (
+    record {
+      low = omega arith;
+      high = omega (arith, fits);
+      before = nowhere_up_to found is.0.before (omega (arith, ends, size));
+    },
+    in_text found is.1,
+  )
