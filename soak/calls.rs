@@ -234,8 +234,10 @@ calls! {
     fn ask_headers(name: &[u8], block: &[u8]);
     fn ask_hosts(first: &[u8], second: &[u8]);
     fn ask_setting(source: &[u8]);
+    fn ask_settings(source: &[u8]);
     fn ask_row(columns: usize, source: &[u8]);
     fn ask_screen(width: usize, source: &[u8]);
+    fn ask_identifier(source: &[u8]);
     fn ask_lossy(source: &[u8]);
     fn ask_last_lines(n: usize, source: &[u8]);
 }

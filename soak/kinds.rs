@@ -11,7 +11,7 @@ pub mod maps;
 pub mod numbers;
 pub mod places;
 pub mod prints;
-mod recipes;
+pub mod recipes;
 pub mod rewrites;
 pub mod searches;
 pub mod slices;

@@ -13,6 +13,7 @@ mod memory;
 mod numbers;
 mod places;
 mod readers;
+mod recipes;
 mod rewrites;
 mod searches;
 mod serving;
@@ -57,6 +58,7 @@ pub fn all() -> impl Iterator<Item = &'static Row> {
         readers::ROWS,
         writers::ROWS,
         serving::ROWS,
+        recipes::ROWS,
     ]
     .into_iter()
     .flatten()

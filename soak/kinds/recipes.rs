@@ -6,17 +6,20 @@ use super::string;
 use super::walks::{lines_of, pieces};
 use super::words::is_token;
 use super::{allocating, kind, long, Kind};
-use crate::asked::{Answer, Asked, Failed, Fault, Needs, NOTHING};
+use crate::asked::{Asked, Failed, Fault, Needs, Put};
 use crate::calls;
 use crate::random::Random;
+use std::cmp::Ordering;
 
 pub static KINDS: &[Kind] = &[
     kind("headers", header),
     long("blocks of headers", 8, block).allocating(),
     allocating("host names", hosts),
     kind("settings", setting),
+    allocating("settings files", settings),
     allocating("rows", row),
     long("texts on a screen", 4, screen).allocating(),
+    kind("identifiers", identifier),
     allocating("texts with marks", lossy),
     kind("last lines", last_lines),
 ];
@@ -52,39 +55,43 @@ fn headers(random: &mut Random) -> Vec<u8> {
     block
 }
 
-/// The headers of a block, or what is answered if a line is not one.
-fn headers_of<'a>(block: &'a [u8], want: &mut Answer) -> Option<Vec<(&'a [u8], &'a [u8])>> {
-    let mut headers = Vec::new();
-    for line in lines_of(block) {
-        match header_of(line.text) {
-            Ok(header) => headers.push(header),
-            Err(error) => {
-                want.put(("line", headers.len(), line.start, error));
-                // The headers before it are in a list.
-                want.fails(Needs::memory_if(!headers.is_empty()), 0, Failed);
-                return None;
-            }
-        }
-    }
-    Some(headers)
+/// The number and the start of a line that is not a header, and why.
+type NotHeader = ((&'static str, usize), usize, Fault);
+
+fn headers_of(block: &[u8]) -> Result<Vec<(&[u8], &[u8])>, NotHeader> {
+    let lines = lines_of(block).into_iter().enumerate();
+    lines.map(|(number, line)| header_of(line.text).map_err(|fault| (("line", number), line.start, fault))).collect()
 }
 
 pub fn block(random: &mut Random, asked: &mut Asked) {
     let block = headers(random);
     let name: &[u8] = *random.pick(&[b"a".as_slice(), b"A", b"bc", b"BC", b"D-", b"-", b""]);
-    calls::ask_headers(asked, name, &block);
-    if let Some(headers) = headers_of(&block, &mut asked.want) {
-        let is_named = |header: &&(&[u8], &[u8])| header.0.eq_ignore_ascii_case(name);
-        let want = &mut asked.want;
-        want.all(&headers);
-        let start = want.bytes.len();
-        want.put(headers.iter().rev().find(is_named).map(|header| header.1));
-        let in_map = start..want.bytes.len();
-        want.put(headers.iter().find(is_named).map(|header| header.1));
-        let needs = Needs::memory_if(!headers.is_empty());
-        want.fails(needs, 0, Failed);
-        want.fails_in(needs, in_map, |want| want.put(Failed));
+    match headers_of(&block) {
+        Ok(headers) => {
+            let is_named = |header: &(&[u8], &[u8])| header.0.eq_ignore_ascii_case(name);
+            let named = headers.iter().position(is_named).zip(headers.iter().rposition(is_named));
+            ask_headers(name, &block, &headers, named, asked);
+        }
+        Err(error) => {
+            calls::ask_headers(asked, name, &block);
+            asked.want.put(error);
+        }
     }
+}
+
+/// Asks for the headers of a block, the value of a name in their map, and the first header with that name. `named` are
+/// the indexes of the first and of the last header with it.
+pub fn ask_headers<T: Put>(name: &[u8], block: &[u8], headers: &[(T, T)], named: Option<(usize, usize)>, asked: &mut Asked) {
+    calls::ask_headers(asked, name, block);
+    let want = &mut asked.want;
+    want.all(headers);
+    let start = want.bytes.len();
+    want.put(named.map(|(_, last)| &headers[last].1));
+    let in_map = start..want.bytes.len();
+    want.put(named.map(|(first, _)| &headers[first]));
+    let needs = Needs::memory_if(!headers.is_empty());
+    want.fails(needs, 0, Failed);
+    want.fails_in(needs, in_map, |want| want.put(Failed));
 }
 
 /// Why a label is not valid.
@@ -126,39 +133,56 @@ fn host(random: &mut Random) -> Vec<u8> {
 pub fn hosts(random: &mut Random, asked: &mut Asked) {
     let first = host(random);
     let second = if random.below(2) == 0 { random.other(&first) } else { host(random) };
-    calls::ask_hosts(asked, &first, &second);
-    let want = &mut asked.want;
     let (low, lower) = (first.to_ascii_lowercase(), second.to_ascii_lowercase());
-    match host_fault(&first) {
-        Some(error) => want.put(error),
-        None => want.allocated(Needs::memory_if(low.len() > INLINE), &low),
-    }
-    let (fault, other_fault) = (host_fault(&first), host_fault(&second));
+    let fault = host_fault(&first);
+    let order = fault.or(host_fault(&second)).map_or(Ok(low.cmp(&lower)), Err);
+    ask_hosts(&first, &second, fault.map_or(Ok(&low), Err), order, asked);
+}
+
+/// Asks for the first of two names as a host, whether both are the same host, and their order.
+pub fn ask_hosts(first: &[u8], second: &[u8], host: Result<impl Put, Fault>, order: Result<Ordering, Fault>, asked: &mut Asked) {
+    calls::ask_hosts(asked, first, second);
+    let is_copied = host.is_ok() && first.len() > INLINE;
+    asked.want.allocated(Needs::memory_if(is_copied), &host);
     // The first name is copied before the second one is looked at.
-    let needs = Needs::memory_if(fault.is_none() && (first.len() > INLINE || other_fault.is_none() && second.len() > INLINE));
-    match fault.or(other_fault) {
-        Some(error) => (0..2).for_each(|_| want.allocated(needs, error)),
-        None => {
-            want.allocated(needs, low == lower);
-            want.allocated(needs, low.cmp(&lower));
-        }
+    let needs = Needs::memory_if(is_copied || order.is_ok() && second.len() > INLINE);
+    asked.want.allocated(needs, order.map(Ordering::is_eq));
+    asked.want.allocated(needs, order);
+}
+
+/// The key and the value of a line, or `None` if it says nothing.
+fn setting_of(line: &str) -> Result<Option<(&str, &str)>, Fault> {
+    let white = |c: char| is_white(c as u8);
+    let body = line.split('#').next().unwrap_or("");
+    let start = body.len() - body.trim_start_matches(white).len();
+    match body.split_once('=') {
+        _ if start == body.len() => Ok(None),
+        None => Err(Fault("equals", Some(start))),
+        Some((key, _)) if key.trim_matches(white).is_empty() => Err(Fault("key", Some(key.len()))),
+        Some((key, value)) => Ok(Some((key.trim_matches(white), value.trim_matches(white)))),
     }
 }
 
 pub fn setting(random: &mut Random, asked: &mut Asked) {
     let line = string(random.line(b"k= #v\t"));
     calls::ask_setting(asked, line.as_bytes());
-    let (white, want) = (|c: char| is_white(c as u8), &mut asked.want);
-    let body = line.split('#').next().unwrap_or("");
-    let start = body.len() - body.trim_start_matches(white).len();
-    match body.split_once('=') {
-        _ if start == body.len() => want.put(NOTHING),
-        None => want.put(("equals", start)),
-        Some((key, _)) if key.trim_matches(white).is_empty() => want.put(("key", key.len())),
-        Some((key, value)) => {
-            want.put((key.trim_matches(white), value.trim_matches(white)));
+    asked.want.put(setting_of(&line));
+}
+
+pub fn settings(random: &mut Random, asked: &mut Asked) {
+    let file = string(random.joined(&[b"k=v", b" a = b # c\r", b"\n", b"#", b" =", b"\tk"]));
+    calls::ask_settings(asked, file.as_bytes());
+    let mut settings = Vec::new();
+    for (number, line) in file.lines().enumerate() {
+        match setting_of(line) {
+            Ok(setting) => settings.extend(setting),
+            Err(Fault(name, at)) => {
+                let what = if name == "key" { "no key before the '='" } else { "no '='" };
+                return asked.want.put(format!("{}:{}: {what}", number + 1, at.unwrap_or(0) + 1));
+            }
         }
     }
+    asked.want.all(settings);
 }
 
 pub fn row(random: &mut Random, asked: &mut Asked) {
@@ -208,6 +232,13 @@ pub fn screen(random: &mut Random, asked: &mut Asked) {
     lines.push(line);
     let shown = lines.join(&b'\n');
     asked.want.allocated(Needs::memory_if(!shown.is_empty()), (shown, column));
+}
+
+pub fn identifier(random: &mut Random, asked: &mut Asked) {
+    let text = random.line(b"aZ_9-@`[/:{");
+    calls::ask_identifier(asked, &text);
+    let other = text.iter().position(|byte| !byte.is_ascii_alphanumeric() && *byte != b'_');
+    asked.want.put(text.split_at(other.unwrap_or(text.len())));
 }
 
 pub fn lossy(random: &mut Random, asked: &mut Asked) {

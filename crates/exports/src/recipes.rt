@@ -10,9 +10,10 @@ use cookbook::headers::{
     Header, HeaderBlockError, HeaderError, find_header, read_header, read_headers,
 };
 use cookbook::hosts::{HostName, HostNameError, host_order, same_host};
+use cookbook::identifiers::split_identifier;
 use cookbook::last_lines::{is_open, last_body_end, last_lines, without_last_lines};
 use cookbook::screen::{ScreenText, wrap_for_screen};
-use cookbook::settings::{Setting, SettingError, read_setting};
+use cookbook::settings::{Setting, SettingError, SettingsError, read_setting, read_settings};
 use cookbook::table::{RowError, read_row};
 use std::alloc::{AllocError, Global};
 
@@ -48,8 +49,7 @@ pub fn ask_headers(alloc: Global, name: AsciiStr, block: AsciiStr, answer: &mut 
                 Ok(map) => answer.put(map.get(name)),
                 Err(error) => answer.put(error),
             }
-            let first = find_header(&headers, name);
-            answer.put(first.map(|header| header.value));
+            answer.put(find_header(&headers, name));
         }
         Err(error) => answer.put(error),
     }
@@ -114,6 +114,15 @@ impl Put for SettingError {
     }
 }
 
+/// A file as settings, or what its error prints.
+pub fn ask_settings(alloc: Global, source: AsciiStr, answer: &mut Answer) {
+    match read_settings(alloc, source) {
+        Ok(settings) => answer.put(settings),
+        Err(SettingsError::Memory) => answer.put(AllocError),
+        Err(error) => answer.put_result(format!(in alloc; "{error}")),
+    }
+}
+
 /// A line as the fields of a row with a number of columns.
 pub fn ask_row(alloc: Global, columns: usize, source: AsciiStr, answer: &mut Answer) {
     answer.put_result(read_row(alloc, source, columns));
@@ -141,6 +150,11 @@ impl Put for ScreenText {
     fn put(self, answer: &mut Answer) {
         answer.put((self.text, self.column));
     }
+}
+
+/// The identifier at the start of a text, and the rest.
+pub fn ask_identifier(source: AsciiStr, answer: &mut Answer) {
+    answer.put(split_identifier(source));
 }
 
 /// Bytes as a text with a mark in place of each run of non-ASCII bytes.

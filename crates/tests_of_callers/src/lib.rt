@@ -1,5 +1,5 @@
-//! Tests of the cookbook and of `tests_callers`: texts whose parts are known from the rules, and bad input with its exact
-//! error.
+//! Tests of `tests_callers` and of the errors of the cookbook: texts whose parts are known from the rules, and the exact
+//! text of each error.
 #![tactic(auto)]
 
 #[cfg(test)]

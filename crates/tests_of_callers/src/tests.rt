@@ -1,20 +1,11 @@
-//! Each public call of the cookbook, a file for each of its modules, and of `tests_callers`, on texts that are written out
-//! by hand; and `ascii` together with std and the toolchain's crates (`beside`, `serialized`).
+//! What the errors of the cookbook print (`errors`), JSON values of strings, each public call of `tests_callers`, on texts
+//! that are written out by hand, and `ascii` together with std and the toolchain's crates (`beside`, `serialized`).
 
 mod beside;
 mod callers;
-mod copy_lossy;
 mod errors;
-mod header_map;
-mod headers;
-mod hosts;
-mod identifiers;
 mod json_round_trip;
-mod last_lines;
-mod screen;
 mod serialized;
-mod settings;
-mod table;
 
 ghost use Rattle.std.specs.Prelude.{IsTrue};
 
