@@ -10,11 +10,12 @@
 //! whose calls allocate are asked again with each of their allocations failing in turn.
 //! With `row` it asks the row of that name alone. With `planted` it asks each row and each kind while the library is
 //! passed wrong arguments, until an answer differs; and each kind that allocates while the library gets the memory that
-//! it is not to have. `bin/soak` says what is printed. The status is 1 if an answer differs or this program panics, or
-//! if a planted answer is not seen, and 2 for bad arguments.
+//! it is not to have. `bin/soak` says what is printed. The status is 1 if an answer differs, if this program panics or
+//! crashes, or if a planted answer is not seen, and 2 for bad arguments.
 
 mod asked;
 mod calls;
+mod crash;
 mod failing;
 mod heap;
 mod kinds;
@@ -76,6 +77,7 @@ fn panic_text(panic: &(dyn Any + Send)) -> String {
 /// Asks a question of a kind. If its answer differs, asks it again to show it.
 fn ask(kind: &Kind, ask: Ask, random: &mut Random, asked: &mut Asked) {
     let mark = random.mark();
+    crash::note(kind.name);
     heap::begin();
     match asks(ask, random, asked) {
         Ok(false) => return,
@@ -275,6 +277,7 @@ fn main() -> ExitCode {
     let words: Vec<String> = std::env::args().skip(1).collect();
     // A position outside the text makes the upstream crate panic, which is an answer here.
     std::panic::set_hook(Box::new(|_| ()));
+    crash::tell();
     if words.first().is_some_and(|word| word == "row") && words.len() > 1 {
         return match one_row(&words[1], words.len() > 2) {
             Some(as_expected) => ExitCode::from(u8::from(!as_expected)),

@@ -25,7 +25,7 @@ mod walks;
 mod writers;
 
 use crate::asked::{Asked, Put};
-use crate::failing;
+use crate::{crash, failing};
 use crate::heap::{self, Fails};
 use std::collections::HashSet;
 use std::panic::{catch_unwind, AssertUnwindSafe};
@@ -143,6 +143,7 @@ impl Rows {
 pub fn run(row: &Row, is_planted: bool) -> (u64, u64) {
     let mut rows = Rows { asked: Asked::new(), name: row.0, count: 0, differ: 0, sizes: HashSet::new() };
     rows.asked.is_planted = is_planted;
+    crash::note(row.0);
     if let Err(panic) = catch_unwind(AssertUnwindSafe(|| row.1(&mut rows))) {
         rows.differ += 1;
         if !is_planted {
