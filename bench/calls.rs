@@ -6,6 +6,7 @@
 //! A round lasts at least the given number of microseconds. Of the nanoseconds the minimum of the rounds counts; a ratio
 //! is of the times in one round. `tasks` measures the everyday tasks, each over one text; otherwise each call is measured over texts of the given sizes.
 
+mod best;
 mod everyday;
 mod peers;
 mod texts;

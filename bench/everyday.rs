@@ -1,7 +1,9 @@
-//! Tasks as a program has them every day, by the library of this repository, std, the crate memchr and the Rust crate.
+//! Tasks as a program has them every day, by the library of this repository, std, the crate memchr, the Rust crate, and the
+//! best Rust over them (`best`).
 //! A function of one name does the same work and gives the same answer on each side. Each begins with bytes that are
 //! not checked, and gives 0 for a text that is not ASCII or not of the form that it reads.
 
+use crate::best;
 use crate::peers::{mark, mixed};
 use crate::texts::Numbers;
 
@@ -280,14 +282,14 @@ mod by_std {
     }
 }
 
-mod by_memchr {
+pub mod by_memchr {
     //! Bare loops over the Rust crate `memchr`.
 
     use super::mixed;
     use memchr::{Memchr, memchr, memchr2_iter, memchr_iter, memmem, memrchr};
 
     /// The lines of a text, as a careful user of the crate writes them: one iterator over the whole text.
-    struct Lines<'a> {
+    pub struct Lines<'a> {
         feeds: Memchr<'a>,
         source: &'a [u8],
         start: usize,
@@ -314,7 +316,7 @@ mod by_memchr {
     }
 
     /// The lines of a text; none if it is not ASCII.
-    fn lines(source: &[u8]) -> Lines<'_> {
+    pub fn lines(source: &[u8]) -> Lines<'_> {
         let source = if source.is_ascii() { source } else { &[] };
         Lines {
             feeds: memchr_iter(b'\n', source),
@@ -323,7 +325,7 @@ mod by_memchr {
         }
     }
 
-    fn split_once(source: &[u8], on: u8) -> Option<(&[u8], &[u8])> {
+    pub fn split_once(source: &[u8], on: u8) -> Option<(&[u8], &[u8])> {
         let at = memchr(on, source)?;
         Some((&source[..at], &source[at + 1..]))
     }
@@ -347,7 +349,7 @@ mod by_memchr {
         sum
     }
 
-    fn trim_blanks(mut source: &[u8]) -> &[u8] {
+    pub fn trim_blanks(mut source: &[u8]) -> &[u8] {
         while let [b' ' | b'\t', rest @ ..] = source {
             source = rest;
         }
@@ -629,7 +631,7 @@ macro_rules! row {
             name: $name,
             text: Vec::from($text),
             other: $other,
-            sides: vec![("ours", ours::$task), $(($side, $peer::$task)),*],
+            sides: vec![("ours", ours::$task), ("best", best::$task), $(($side, $peer::$task)),*],
         }
     };
 }

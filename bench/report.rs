@@ -162,13 +162,13 @@ impl Calls {
 /// A table of the everyday tasks: for each its text, our time, and how many times as fast as each peer ours is.
 fn tasks(calls: &Calls, rows: &[Vec<String>]) -> String {
     let mut table = String::from(
-        "| Task | Bytes | Ours | Fastest peer | std | `memchr` | Rust crate |\n|---|--:|--:|--:|--:|--:|--:|\n",
+        "| Task | Bytes | Ours | Fastest peer | best Rust | std | `memchr` | Rust crate |\n|---|--:|--:|--:|--:|--:|--:|--:|\n",
     );
     for (call, size) in each_once(rows.iter().map(|row| (&row[0], row[1].parse().expect("a size")))) {
         let ours = calls.time(call, size, "ours").map(as_time).unwrap_or_default();
         write!(table, "| {call} | {size} | {ours} |").unwrap();
         write!(table, " {} |", calls.best(call, size).map(Ratio::with_spread).unwrap_or_default()).unwrap();
-        for ratio in ["std", "memchr", "crate"].map(|peer| calls.ratio(call, size, peer)) {
+        for ratio in ["best", "std", "memchr", "crate"].map(|peer| calls.ratio(call, size, peer)) {
             write!(table, " {} |", ratio.map(as_ratio).unwrap_or_default()).unwrap();
         }
         table.push('\n');
@@ -192,7 +192,7 @@ fn short_tasks(calls: &Calls, rows: &[Vec<String>]) -> String {
 }
 
 /// What a call is compared with.
-const PEERS: [&str; 3] = ["crate", "std", "memchr"];
+const PEERS: [&str; 4] = ["crate", "std", "memchr", "best"];
 
 fn bytes(size: usize) -> String {
     match size {
@@ -451,8 +451,9 @@ library is faster. Beside the fastest peer of a task stand the smallest and the 
 ## Everyday tasks
 
 What programs do with text, from bytes that are not checked yet: each side tests that they are ASCII. A task has one text
-and is the same code on each side, as a user of that side writes it. The last two rows are the worst cases of a search
-for a text.
+and is the same code on each side, as a user of that side writes it. *Best Rust* is the task by a Rust programmer who
+measures: over std and `memchr`, with one walk over the bytes, tables, exact sizes, and one search over the whole text.
+The last two rows are the worst cases of a search for a text.
 
 The code is for x86-64-v2. If each machine that runs it has AVX2, give `--cpu x86-64-v3` to `rt run`, to `rt lib` of a
 static library, to `bin/install` or to `bin/bench`: nothing is proved again below. A program checks its processor as it
