@@ -213,7 +213,7 @@ fn walks(clock: &Clock, size: usize) {
             let strict = &texts::with_cr(text)[..];
             clock.compare(
                 &format!("strict reader, lines of {mean}"),
-                strict.len(),
+                size,
                 sides![strict: "ours" ours::read_strict_lines, "std" by_std::read_lines],
             );
             clock.compare(
