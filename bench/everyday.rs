@@ -654,7 +654,7 @@ pub fn rows() -> Vec<Row> {
             ["std" by_std, "memchr" by_memchr]
         ),
         row!(
-            "line of 100 KB, any case", grep_ignoring_case, log.replace('\n', " "), b"Closed By",
+            "line of 60 KB, any case", grep_ignoring_case, log.replace('\n', " "), b"Closed Bye",
             ["std" by_std, "memchr" by_memchr]
         ),
         row!("header, the last", lookup, HEADERS, b"ORIGIN", ["std" by_std, "memchr" by_memchr]),

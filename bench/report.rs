@@ -176,6 +176,18 @@ fn tasks(calls: &Calls, rows: &[Vec<String>]) -> String {
     table
 }
 
+/// A text in lines of at most 120 characters.
+fn wrapped(text: &str) -> String {
+    let (mut all, mut length) = (String::new(), 0);
+    for word in text.split_whitespace() {
+        let is_full = length + word.chars().count() >= 120;
+        all.push_str(if length == 0 { "" } else if is_full { "\n" } else { " " });
+        length = word.chars().count() + if is_full { 0 } else { length + 1 };
+        all.push_str(word);
+    }
+    all
+}
+
 /// The tasks at which a peer is more than 5 % faster, each with the ratio.
 fn behind(calls: &Calls, rows: &[Vec<String>]) -> String {
     let tasks = each_once(rows.iter().map(|row| (&row[0], row[1].parse().expect("a size"))));
@@ -183,7 +195,8 @@ fn behind(calls: &Calls, rows: &[Vec<String>]) -> String {
         let ratio = calls.best(call, size)?.median;
         (ratio < 0.95).then(|| format!("{call} ({})", as_ratio(ratio)))
     });
-    found.collect::<Vec<_>>().join(", ")
+    let found = found.collect::<Vec<_>>().join(", ");
+    wrapped(&format!("**Where a Rust programmer is faster** by more than 5 %, of the everyday tasks: {found}."))
 }
 
 /// The table of the README: each task and the fastest peer's time divided by ours, three tasks to a row.
@@ -446,9 +459,10 @@ From one run. [bench/README.md](../bench/README.md) says how the calls are measu
 name means. A number in a comparison is the median over the rounds of the peer's time divided by ours: above 1, this
 library is faster. Beside the fastest peer of a task stand the smallest and the largest of the rounds.
 
-**Where a Rust programmer is faster** by more than 5 %, of the everyday tasks: {behind}. The reasons are one search over
-the whole text where this library searches line by line, a text that is collected at its exact size where a growing one
-is copied, and one walk that cuts and reads numbers at once.
+{behind}
+
+The reasons are one search over the whole text where this library searches line by line, a text that is collected at its
+exact size where a growing one is copied, and one walk that cuts and reads numbers at once.
 
 ![Times as fast as the Rust crate and as std](performance.svg)
 

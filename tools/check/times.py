@@ -66,10 +66,11 @@ class Watch(threading.Thread):
                 parents[pid], used[pid] = fields[1].decode(), (fields[19], (int(fields[11]) + int(fields[12])) / TICKS)
         for pid, (begun, seconds) in used.items():
             key = (pid, begun)
-            if key not in self.names:
+            # (what a process has just been started as is not yet the command that it carries out)
+            if not self.names.get(key) and self.is_below(pid, parents):
                 words = read(f"/proc/{pid}/cmdline").decode(errors="replace").split("\0")
-                self.names[key] = task_of(words) if self.is_below(pid, parents) else ""
-            if self.names[key]:
+                self.names[key] = task_of(words)
+            if self.names.get(key):
                 now = time.monotonic()
                 self.used[key], self.seen[key] = seconds, (self.seen.get(key, (now,))[0], now)
 
