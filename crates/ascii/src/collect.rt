@@ -18,7 +18,8 @@ use crate::bytes;
 use ascii_base::ascii_char::AsciiChar;
 use std::alloc::AllocError;
 
-/// The number of characters of an iterator that are gathered before they are appended at once.
+/// The number of characters of an iterator that are gathered before they are appended at once, because a push tests for
+/// room at each of them.
 const GATHERED: usize = 64;
 
 /// Fills a slice from its start with the codes of the characters that an iterator yields, and

@@ -6,13 +6,14 @@ ghost use Rattle.ascii_base.specs.Lanes.{AllBefore, SameBefore};
 use crate::classes::{Ascii, ClassBy};
 use std::simd::prelude::*;
 
-/// How many bytes a step of the loops takes.
+/// How many bytes a step of the loops takes: two vectors of SSE2, one of AVX2, so that one text is for both.
 pub(crate) const LANES: usize = 32;
 
 /// How many bytes a step of the comparison takes: two chunks under one test.
 pub(crate) const WIDE: usize = 2 * LANES;
 
-/// How many bytes one test of `is_ascii_block` takes.
+/// How many bytes one test of `is_ascii_block` takes. The vectors are joined by `or` and tested once, since the test and
+/// its branch cost more than a load.
 pub(crate) const ASCII_BLOCK: usize = 4 * LANES;
 
 /// Whether the 128 bytes from `at` on are all ASCII, with one test.

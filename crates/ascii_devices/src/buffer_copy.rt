@@ -6,7 +6,7 @@ ghost use Rattle.ascii_devices.specs.BufferCopy.{CopiesTo};
 
 use std::simd::Simd;
 
-/// How many bytes `copy_front` copies.
+/// How many bytes `copy_front` copies: a fixed number, which needs no call of `memcpy`, also for two bytes.
 pub(crate) const FIXED: usize = 64;
 
 /// Copies the bytes to the position `at`, and returns the position after them. A short piece is two

@@ -187,7 +187,8 @@ impl<A: Allocator> BufferedSink<A> {
         }
     }
 
-    /// Writes the bytes of the buffer, unless a write has failed, and empties it.
+    /// Writes the bytes of the buffer, unless a write has failed, and empties it. Not inlined, so that `put`, which seldom
+    /// comes to it, is short enough for its caller to inline.
     #[inline(never)]
     fn send<K: Sink>(&mut self, writer: &mut K)
         requires { MayFail (output_state K.Sink writer.old self.old) }

@@ -10,10 +10,11 @@ ghost use Rattle.ascii_search.specs.Marked.{AreMarks, IsFirstRun, IsLowest, Show
 use ascii_base::classes::{ClassBy, Searched};
 use ascii_base::kernels::{first_of, run_end};
 
-/// At most this many bytes have marks at once.
+/// At most this many bytes have marks at once: the bits of a register.
 pub(crate) const BLOCK: usize = 64;
 
-/// Fewer bytes than this have no marks.
+/// Fewer bytes than this have no marks. From 8 bytes on the marks take less time than a search for each word; in 4 bytes
+/// they take as much.
 pub(crate) const FEWEST: usize = 8;
 
 /// Marks of the bytes that come next: bit `at` of the mask is that of the first one.

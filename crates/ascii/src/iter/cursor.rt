@@ -17,7 +17,8 @@ pub struct Cursor<'a> {
     ghost fits: { start + length view.bytes.now < 2 ^ 64 } by { Prim.hlevel props },
 }
 
-/// The number of bytes that are searched inline first: most separators are close together.
+/// The number of bytes that are searched inline first: most separators are close together, and the compiler cuts the
+/// search of 32 bytes down to one vector.
 const NEAR: usize = 32;
 
 /// Returns the position of the first byte that is `on`, or `None` if there is none. The search is
