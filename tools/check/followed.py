@@ -1,4 +1,4 @@
-"""Does what the pages say in an empty folder, and plants the wrong bodies that they quote the check's answer to.
+"""Does what the pages say in an empty folder.
 
 A page is followed block by block: a block that names a file is written there, a block of `sh` is executed, and a block of
 `text` is compared with what the last command printed. The commands that prove are left out, or done if they are asked for. A
@@ -10,34 +10,16 @@ import subprocess
 import sys
 import tempfile
 from pathlib import Path
-from typing import NamedTuple
 
 TOP = Path(__file__).resolve().parents[2]
-sys.path[:0] = [str(TOP / "bin" / "lib"), str(TOP / "tools" / "docs"), str(TOP / "tools" / "reader")]
-import libraries  # noqa: E402
-from samples import in_own_crate  # noqa: E402
+sys.path[:0] = [str(TOP / "tools" / "docs"), str(TOP / "tools" / "reader")]
+from samples import QUOTED  # noqa: E402
 
 BLOCK = re.compile(r"^```(\w+)\n(.*?)^```$", re.MULTILINE | re.DOTALL)
 NAMED = re.compile(r"(?://|#|--) (\S+)\n")
 PROVES = re.compile(r"\brt (check|test|run)\b")
-FOLLOWED = ["README.md", "docs/START.md", "docs/PROTOCOLS.md"]
+FOLLOWED = ["README.md", "docs/START.md", "docs/LINES.md"]
 COMPILED = "docs/PORTING.md"
-
-
-class Wrong(NamedTuple):
-    """A wrong body that pages quote the answer to: the crate, its file, what is written instead of what, and the function."""
-
-    crate: str
-    file: str
-    old: str
-    new: str
-    function: str
-    pages: list
-
-
-WRONG = [
-    Wrong("examples", "src/keys.rt", "split(AsciiChar::Equal)", "split(AsciiChar::Colon)", "key_of", ["README.md", "docs/START.md"]),
-]
 
 
 def run(command, folder, **others):
@@ -106,7 +88,7 @@ class Reader:
 
     def write(self, name, text):
         """Writes a file of the page, if it makes a repository of its own."""
-        if self.page != "README.md":
+        if self.page != "README.md" and not name.startswith(QUOTED):
             file = self.folder / name
             file.parent.mkdir(parents=True, exist_ok=True)
             file.write_text(text, encoding="utf-8")
@@ -121,43 +103,6 @@ def follow(page, proves=False, visits=True):
         for kind, text in BLOCK.findall((TOP / page).read_text(encoding="utf-8")):
             reader.block(kind, text)
     return reader.faults + ([] if reader.compared else [f"{page}: nothing that it prints was compared"])
-
-
-def quoted(page, crate):
-    """The lines that a page quotes of the check's answer about a crate of a reader."""
-    lines = re.findall(r"^    ((?:note: src/|fn \w+::).*)$", (TOP / page).read_text(encoding="utf-8"), re.MULTILINE)
-    return [line for line in lines if line.startswith("note: ") or line.startswith(f"fn {crate}::")]
-
-
-def checking(crate):
-    """The command that checks a program in its folder: over the libraries that `rt ci` left, or else over those that it proves."""
-    uses, _ = libraries.listed()
-    if not libraries.are_built(libraries.below(crate, uses)):
-        return ["rt", "check"]
-    return libraries.words("check", crate, "src/main.rt", uses[crate], uses)
-
-
-def rejected(wrong):
-    """Plants a wrong body in a copy of the crates, and compares the check's answer with the pages. Returns the faults."""
-    with tempfile.TemporaryDirectory() as scratch:
-        copy = Path(scratch)
-        shutil.copytree(TOP / "crates", copy / "crates", symlinks=True, ignore=shutil.ignore_patterns("out", "must-fail", "mutations"))
-        for name in ("crates.txt", "HANDLES"):
-            shutil.copy(TOP / name, copy / name)
-        file = copy / "crates" / wrong.crate / wrong.file
-        text = file.read_text(encoding="utf-8")
-        if text.count(wrong.old) != 1:
-            return [f"{wrong.file} of {wrong.crate}: {wrong.old} is not there exactly once"]
-        file.write_text(text.replace(wrong.old, wrong.new), encoding="utf-8")
-        status, printed, said = run([*checking(wrong.crate), "--only", wrong.function], file.parents[1])
-    lines, name = {line.strip() for line in (printed + said).splitlines()}, Path(wrong.file).stem
-    lines |= {in_own_crate(name, line) for line in lines}
-    if status != 1:
-        return [f"{wrong.function} of {wrong.crate} with {wrong.new}: status {status}\n{(printed + said)[-1500:]}"]
-    quotes = [(page, line) for page in wrong.pages for line in quoted(page, name)]
-    faults = [f"{page}: the check does not print: {line}" for page, line in quotes if line not in lines]
-    silent = [page for page in wrong.pages if page not in {it for it, _ in quotes}]
-    return faults + [f"{page}: no line of the check's answer is quoted" for page in silent]
 
 
 # What the cells of PORTING name, with their types.
@@ -184,7 +129,8 @@ def row_function(number, code):
 
 def compiled():
     """Compiles the column *Here* of PORTING, unproved. Returns the faults."""
-    rows = re.findall(r"^\| .*? \| `([^`]*)` \|", (TOP / COMPILED).read_text(encoding="utf-8"), re.MULTILINE)
+    tables = (TOP / COMPILED).read_text(encoding="utf-8").partition("\n## Why it differs")[0]
+    rows = re.findall(r"^\| .*? \| `([^`]*)` \|", tables, re.MULTILINE)
     program = USES + "".join(row_function(number, code) for number, code in enumerate(rows))
     program += '\nfn main(rt: HostRuntime) -> io::Result<()> {\n    println!(rt; "compiled")\n}\n'
     with tempfile.TemporaryDirectory() as scratch:

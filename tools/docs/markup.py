@@ -130,8 +130,8 @@ def meanings_html(texts, lines, bounds=""):
 
 def frame(title, body, side="", kind=""):
     """A whole page."""
-    links = [("docs-START.html", "Start"), ("docs-LINES.html", "Lines"), ("docs-PROTOCOLS.html", "Protocols"),
-             (CONTRACTS, "Contracts"), ("docs-RECIPES.html", "Recipes"), ("docs-PROVED.html", "Proved"),
+    links = [("docs-START.html", "Start"), ("docs-LINES.html", "Lines"), (CONTRACTS, "Contracts"),
+             ("docs-UNPROVED.html", "Not proved"), ("docs-RECIPES.html", "Recipes"), ("docs-PROVED.html", "Proved"),
              ("errors.html", "Errors"), ("all.html", "All names")]
     nav = "".join(f'<a href="{url}">{text}</a>' for url, text in links)
     aside = f'<aside aria-label="On this page">{side}</aside>' if side else ""

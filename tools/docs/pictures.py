@@ -1,6 +1,6 @@
 """Draws the pictures of the pages, as SVG that can be read on dark and on light: docs/pieces.svg (a text with its pieces,
 their starts and a walk from both ends), docs/layers.svg (the crates), docs/bytes.svg (how bytes pass through the program),
-docs/edit.svg (how an edit reaches its buffer)."""
+docs/edit.svg (how an edit reaches its buffer), docs/check.svg (what goes into a check, and what has to be believed)."""
 from html import escape
 
 from made import TOP, settle
@@ -111,16 +111,16 @@ def bytes_through():
     parts, y = [], 20
     rows = [
         ("printf 'x\\r\\ny' | ascii_show ends FBB", [
-            ("input", "x CR LF y"), ("read, checked", "all ASCII"), ("lines", '"x" CrLf, "y" Absent'),
-            ("F, B, B", '"x", "y", None'), ("output", "+x +y -")], "box", "status 0"),
+            ("input", "x CR LF y"), ("read_all, first_other", "all ASCII"), ("put_ends, line_spans", '"x" CrLf, "y" Absent'),
+            ("put_answer, take_end", 'F, B, B: "x", "y", None'), ("finish", "+x +y -")], "box", "status 0"),
         ("printf 'ab\\304d' | ascii_show ends FBB", [
-            ("input", "a b 0xC4 d"), ("read to the end", "byte 2 is not ASCII"), ("output", "nothing")], "bad", "status 1"),
+            ("input", "a b 0xC4 d"), ("read_all, first_other", "byte 2 is not ASCII"), ("engine", "nothing is written")], "bad", "status 1"),
     ]
     for call, steps, kind, status in rows:
         parts.append(text(20, y, call, "code", "start"))
         for at, (name, what) in enumerate(steps):
             x = 20 + at * 182
-            parts += [box(x, y + 14, 164, 54, kind if at else "mark"), text(x + 82, y + 36, name),
+            parts += [box(x, y + 14, 164, 54, kind if at else "mark"), text(x + 82, y + 36, name, "small code" if at else ""),
                       text(x + 82, y + 56, what, "small")]
             if at:
                 parts.append(arrow(x - 18, y + 41, x - 2, y + 41))
@@ -133,7 +133,7 @@ def bytes_through():
 def edit():
     """How `push` of a string reaches the bytes of its buffer."""
     parts, y = [text(20, 20, "string.push(AsciiChar::A)", "code", "start")], 34
-    steps = [("Text<B>", "GrowsTo B.sure (text ++ 65 ∷ [])"), ("Buffer::append_byte", "the same, of bytes"), ("a buffer", "one of three")]
+    steps = [("Text<B>", "GrowsTo B.sure (text ++ 65 ∷ [])"), ("Buffer::append_byte", "GrowsTo, of its bytes"), ("impl Buffer", "one of three")]
     for at, (name, what) in enumerate(steps):
         x = 20 + at * 200
         parts += [box(x, y + 44, 180, 54, "mark" if at == 0 else "box"), text(x + 90, y + 66, name, "code"),
@@ -146,12 +146,32 @@ def edit():
         top = y + row * 48
         parts += [box(640, top, 290, 42), text(785, top + 18, name, "code"), text(785, top + 34, what, "small"),
                   arrow(602, y + 71, 638, top + 21)]
-    parts.append(text(20, y + 164, "Ok: the text has one code more. Err: the text is as before, and did not fit the old capacity with it.",
+    parts.append(text(20, y + 164, "Ok: the code is appended. Err: the text is unchanged, and the longer text would not have fit the old capacity.",
                       "small", "start"))
     return picture(950, y + 180, "How an edit of a string reaches its buffer", parts)
 
 
+def check():
+    """What goes into `rt check`, what comes out, and which of it has to be believed."""
+    parts = []
+    given = [("code", "bodies of functions, in src/", "box"), ("proof files", "lemmas and answers, in proofs/", "box"),
+             ("clauses", "requires and ensures, in src/", "mark"), ("definitions", "what the clauses say, in specs/", "mark")]
+    for row, (name, what, kind) in enumerate(given):
+        y = 14 + row * 58
+        parts += [box(20, y, 250, 48, kind), text(145, y + 20, name), text(145, y + 38, what, "small"), arrow(272, y + 24, 338, 130)]
+    believed = ["the prover and its logic", "the translation of the source", "contracts of std and its crates", "axioms of the system"]
+    parts += [box(340, 66, 260, 132, "mark"), text(470, 88, "rt check", "code")]
+    parts += [text(470, 112 + at * 22, line, "small") for at, line in enumerate(believed)]
+    answers = [("proved", "for every input; it can be built by LLVM and the linker", "mark"),
+               ("not proved", "one line for each goal: what is not shown, and where", "box")]
+    for row, (name, what, kind) in enumerate(answers):
+        y = 66 + row * 84
+        parts += [arrow(602, 130, 648, y + 24), box(650, y, 340, 48, kind), text(820, y + 20, name), text(820, y + 38, what, "small")]
+    parts.append(text(20, 272, "Blue: what you have to believe, or read. The prover checks the rest.", "small", "start"))
+    return picture(1010, 284, "What goes into a check, what comes out, and what has to be believed", parts)
+
+
 def faults(is_check):
     """Draws the pictures, or compares them with what would be drawn. Returns the faults."""
-    drawn = {"pieces": pieces, "layers": layers, "bytes": bytes_through, "edit": edit}
+    drawn = {"pieces": pieces, "layers": layers, "bytes": bytes_through, "edit": edit, "check": check}
     return [fault for name, draw in drawn.items() for fault in settle(TOP / "docs" / f"{name}.svg", draw(), "pictures", is_check)]

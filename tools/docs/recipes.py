@@ -1,4 +1,5 @@
-"""Makes docs/RECIPES.md from the cookbook: for each recipe its problem, its calls with their code, and what is proved of them.
+"""Makes docs/RECIPES.md from the cookbook: for each recipe its problem, its calls with their code, and what is proved of them. At
+its end is the page beside.md, on other crates.
 
 The problems are the table at the head of crates/cookbook/src/lib.rt. What is proved is each clause of a call, with the comments of
 the definitions that it names."""
@@ -7,8 +8,10 @@ import textwrap
 
 from made import TOP, head_lines, module_file, modules_of, settle
 from meanings import words_in
+from sources import read
 
 PAGE = TOP / "docs/RECIPES.md"
+BESIDE = TOP / "tools/docs/beside.md"
 CRATE = "cookbook"
 HEAD = """\
 <!-- Made by `bin/docs recipes` from crates/cookbook: change the sources, and not this page. -->
@@ -16,7 +19,8 @@ HEAD = """\
 
 Problems that users have, solved over the public contracts of the library. Each call is proved, and tested with each of its
 errors. `bin/add ../yours cookbook` copies all of them into your repository `../yours`, from
-[`crates/cookbook`](../crates/cookbook). ([Home](../README.md); [how a contract is read](CONTRACTS.md))
+[`crates/cookbook`](../crates/cookbook). The last section is about using the library with other crates. ([Home](../README.md);
+[how a contract is read](CONTRACTS.md))
 """
 ROW = re.compile(r"\| (.+?) \| (.+?) \| `(\w+)` \|")
 # The definitions that nearly every clause names, and that say nothing of the recipe.
@@ -79,8 +83,8 @@ def recipe(has, wants, name):
 
 def page():
     """The text of the page."""
-    contents = [f"- [`{name}`](#{name}): {has}" for has, _, name in rows()]
-    lines = [HEAD, *contents, "", *[line for row in rows() for line in recipe(*row)]]
+    contents = [f"- [`{name}`](#{name}): {has}" for has, _, name in rows()] + ["- [With other crates](#with-other-crates)"]
+    lines = [HEAD, *contents, "", *[line for row in rows() for line in recipe(*row)], read(BESIDE)]
     return "\n".join(lines).rstrip() + "\n"
 
 

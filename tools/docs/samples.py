@@ -1,24 +1,27 @@
 """Compares the samples of the pages with the sources.
 
-Each block of Rust or antt of README.md, docs/CONTRACTS.md, docs/MODEL.md, docs/LINES.md, docs/PORTING.md,
-docs/START.md, docs/PROTOCOLS.md and
-the front page of the site is in a source of a crate word for word. A block that begins with `// FILE`, `-- FILE` or `# FILE` is
-in that file, which may be the `stdout` of a stored run. From docs/START.md and docs/PROTOCOLS.md a reader makes a crate NAME:
-a block is a whole file of it, without its tests, as it is in the crate `examples`, whose module NAME is the reader's main.rt.
-A line of crates.txt that a page quotes is in crates.txt, and the tests that docs/BESIDE.md names exist."""
+Each block of Rust or antt of README.md, docs/CONTRACTS.md, docs/UNPROVED.md, docs/PORTING.md, docs/START.md and docs/LINES.md is
+in a source of a crate word for word. A block that begins with `// FILE`, `-- FILE` or `# FILE` is
+in that file, which may be the `stdout` of a stored run. From docs/START.md and docs/LINES.md a reader makes a crate NAME: a
+block with a file of that crate is the whole file, without its tests, as it is in the crate `examples`, whose module NAME is the
+reader's main.rt. A line of crates.txt that a page quotes is in crates.txt, and the tests that tools/docs/beside.md names exist."""
 import re
 
 from made import TOP
 from sources import read
 
-FOLLOWED = ["docs/START.md", "docs/PROTOCOLS.md"]
-PAGES = ["README.md", "docs/CONTRACTS.md", "docs/MODEL.md", "docs/LINES.md", "docs/PORTING.md", "tools/docs/site/front.md", *FOLLOWED]
+FOLLOWED = ["docs/START.md", "docs/LINES.md"]
+PAGES = ["README.md", "docs/CONTRACTS.md", "docs/UNPROVED.md", "docs/PORTING.md", *FOLLOWED]
+# The crate of this repository whose code a page may quote beside that of the reader.
+QUOTED = "crates/examples/"
 BLOCK = re.compile(r"^```(\w+)\n(.*?)^```$", re.MULTILINE | re.DOTALL)
+# Wrong code, which `bin/test rejected` plants.
+WRONG = re.compile(r"^<!-- rejected: .*-->\n```rust\n.*?^```$", re.MULTILINE | re.DOTALL)
 
 
 def blocks(page):
-    """The code blocks of a page, as pairs of a language and a text."""
-    return BLOCK.findall((TOP / page).read_text(encoding="utf-8"))
+    """The code blocks of a page but those of wrong code, as pairs of a language and a text."""
+    return BLOCK.findall(WRONG.sub("", (TOP / page).read_text(encoding="utf-8")))
 
 
 def named(text):
@@ -51,7 +54,7 @@ def is_whole(file, code, sources):
 
 def is_sample(page, file, code, sources):
     """Whether a block of a page is in the file that it names, or in any source if it names none."""
-    if page in FOLLOWED and file:
+    if page in FOLLOWED and file and not file.startswith(QUOTED):
         return is_whole(file, code, sources)
     if file and file not in sources:
         return False
@@ -70,8 +73,8 @@ def faults():
             if (file or language in ("rust", "antt")) and not is_sample(page, file, code, sources):
                 wrong.append(f"{page}: {file or 'no source'} does not have the sample: {code.splitlines()[0]}")
     tests = "".join(text for name, text in sources.items() if "/tests/" in name)
-    named_tests = re.findall(r"\| `(\w+)` \|$", read(TOP / "docs/BESIDE.md"), re.MULTILINE)
-    wrong += [f"docs/BESIDE.md: no test {name}" for name in named_tests if f"fn {name}(" not in tests]
+    named_tests = re.findall(r"\| `(\w+)` \|$", read(TOP / "tools/docs/beside.md"), re.MULTILINE)
+    wrong += [f"tools/docs/beside.md: no test {name}" for name in named_tests if f"fn {name}(" not in tests]
     return wrong + quoted_uses(sources["crates.txt"].splitlines())
 
 

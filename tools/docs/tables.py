@@ -1,10 +1,10 @@
 """Makes the tables of pages, and the signposts in the heads of sources, from the one table of public calls; `--print` prints it.
 
 A page has a table between a line that says that it is made and a line that ends it:
-  <!-- Made by `bin/docs tables`: modules -->       a row for each module of the libraries, with its public calls
   <!-- Made by `bin/docs tables`: calls CRATE -->   a row for each group of calls: clauses, examples, tests and mutations
   <!-- Made by `bin/docs tables`: sizes -->         the lines of each crate: code, definitions, proofs and tests
   <!-- Made by `bin/docs tables`: times -->         what the dearest tasks of `bin/test` take, from tools/check/times.txt
+  <!-- Made by `bin/docs tables`: evidence -->      how many mutations and questions there are, and the answers of soak/answers.txt
   <!-- end of the table -->
 A signpost is a paragraph at the head of a source that begins with "Made by `bin/docs tables`: the other calls of `TYPE` are in": it
 names the modules that have calls of that type, each with its calls.
@@ -15,12 +15,12 @@ import re
 import textwrap
 from functools import cache
 
+import age
 import times
 from calls import entries, headings, table
 from made import LIBRARIES, TOP, example, first_sentence, head_lines, module_file, modules_of, settle
 from sources import CRATES, read
 
-MOST = 6
 # A task that takes fewer CPU seconds has no row of its own.
 DEAR = 60
 BLOCK = re.compile(r"(<!-- Made by `bin/docs tables`: (\w+)(?: (\w+))? -->\n).*?(<!-- end of the table -->)", re.S)
@@ -35,18 +35,6 @@ def rows():
 
 def in_code(names):
     return ", ".join(f"`{name}`" for name in names)
-
-
-def modules_table(_):
-    """What each module has: the first sentence of its head, and its public calls, of which the first are named."""
-    lines = ["| Module | What it has | Public calls |", "|---|---|---|"]
-    for crate in LIBRARIES:
-        for path in modules_of(crate):
-            names = list(dict.fromkeys(call.name for call in rows() if (call.crate, call.module) == (crate, path)))
-            shown = in_code(names[:MOST]) + (f" and {len(names) - MOST} more" if len(names) > MOST else "")
-            about = first_sentence(head_lines(module_file(crate, path)))
-            lines.append(f"| `{'::'.join([crate, *path])}` | {about} | {shown} |")
-    return lines
 
 
 def calls_table(crate):
@@ -98,7 +86,21 @@ def times_table(_):
     return [*lines, row("all tasks", times.cpu_of(tasks), float(clock))]
 
 
-TABLES = {"modules": modules_table, "calls": calls_table, "sizes": sizes_table, "times": times_table}
+def evidence_table(_):
+    """How many mutations there are, and what the last recorded run of the differential test compared."""
+    mutations = lambda *patterns: sum(read(it).count("\n# ") + read(it).startswith("# ") for at in patterns for it in TOP.glob(at))  # noqa: E731
+    listed = lambda name: sum(line[:1] not in ("", "#") for line in read(TOP / "tools/mutants" / name).splitlines())  # noqa: E731
+    of_commit, *answers = read(age.ANSWERS).splitlines()
+    (row_answers, rows, _), (kind_answers, kinds, seed) = (re.match(r"(\d+) answers of (\d+) \w+(.*)", it).groups() for it in answers)
+    table = [("mutations that each full check tries", mutations("crates/*/must-fail/*.edit", "crates/*/mutations/each_check.edit")),
+             ("mutations with a record", mutations("crates/*/mutations/recorded.edit", "tools/mutants/edits/*.edit")),
+             ("bodies that give up, each with its test", listed("giving_up.txt")),
+             ("survivors, each with its reason", listed("survivors.txt")),
+             (f"answers of {rows} rows, at {of_commit}", row_answers), (f"answers of {kinds} kinds, at {of_commit}{seed}", kind_answers)]
+    return ["| What | Number |", "|---|--:|", *[f"| {what} | {int(number):,} |" for what, number in table]]
+
+
+TABLES = {"evidence": evidence_table, "calls": calls_table, "sizes": sizes_table, "times": times_table}
 
 
 def page_with_tables(text):

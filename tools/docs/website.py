@@ -23,15 +23,15 @@ from owners import MAIN, by_name, owners
 from reference import Reference
 from sources import CRATES, read
 
-FIRST = ["README.md", "docs/START.md", "docs/CONTRACTS.md", "docs/LINES.md", "docs/PROTOCOLS.md", "docs/RECIPES.md", "docs/PROGRAMS.md",
-         "docs/PORTING.md", "docs/PROVED.md", "docs/EVIDENCE.md", "docs/TRUST.md", "docs/MODEL.md", "SECURITY.md"]
+FIRST = ["README.md", "docs/START.md", "docs/CONTRACTS.md", "docs/UNPROVED.md", "docs/LINES.md", "docs/RECIPES.md", "docs/PROGRAMS.md",
+         "docs/PORTING.md", "docs/PROVED.md", "docs/EVIDENCE.md", "SECURITY.md"]
 OTHERS = ["CONTRIBUTING.md", "CHANGELOG.md", "bench/README.md", "tools/mutants/README.md", "tools/mutants/edits/README.md"]
 EXAMPLES = ["examples", "example_resp", "example_smtp"]
 # What a reader of the front page may want, and where it is.
 WAYS = [
     ("docs-START.html", "Start", "a program that runs within a minute, and its proof"),
-    ("docs-LINES.html", "Lines", "reading the lines of an input in bounded memory"),
-    ("docs-PROTOCOLS.html", "Protocols", "a server over lines, with its theorem"),
+    ("docs-LINES.html", "Lines", "reading the lines of an input in bounded memory, and a server over them"),
+    ("docs-UNPROVED.html", "When it is not proved", "six failures: what the prover says, and what to do"),
     (markup.CONTRACTS, "Contracts", "how a contract is read, and the definitions that contracts use"),
     ("docs-RECIPES.html", "Recipes", "headers, settings, tables, host names, wrapped text"),
     ("examples.html", "Examples", "whole programs, with their sources"),
@@ -149,7 +149,8 @@ class Site:
         ways = [f'<tr><td><a href="{url}">{text}</a></td><td>{inline(what)}</td></tr>' for url, text, what in WAYS]
         tables = [f'<h2>{title}</h2>\n<div class="table"><table class="names">{"".join(lines)}</table></div>'
                   for title, lines in (("Types", rows), ("Where to go", ways), ("Crates", crates))]
-        self.write("index.html", frame(markup.NAME, "\n".join([html_of(read(FOLDER / "front.md")), *tables])))
+        first_screen = self.with_links("README.md", html_of(read(TOP / "README.md").partition("\n## ")[0]))
+        self.write("index.html", frame(markup.NAME, "\n".join([first_screen, *tables])))
 
     def all_names(self):
         """Each name of the search, for a reader without scripts."""

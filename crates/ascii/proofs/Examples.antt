@@ -1,4 +1,4 @@
--- Worked values of the definitions. docs/MODEL.md quotes them.
+-- Worked values of the definitions. docs/CONTRACTS.md quotes them.
 use Rattle.std.proofs.Common.{◌≡◌, ◌∙◌, [], ◌∷◌, List, Some, ap, rules, refl, sym, ℕ}
 use Rattle.std.specs.Prelude.{codes}
 use Rattle.ascii_base.specs.declared.range.AsciiRange.TheVariants as range

@@ -1,4 +1,4 @@
--- Worked values of the definitions. docs/MODEL.md quotes them.
+-- Worked values of the definitions. docs/CONTRACTS.md quotes them.
 use Rattle.std.proofs.Common.{◌≡◌, None, Some, arith, rules, false, refl, true}
 use Rattle.std.specs.Fmt.{digits}
 use Rattle.std.specs.Prelude.{codes, negsuc}

@@ -8,6 +8,7 @@ pub mod cuts;
 pub mod engines;
 pub mod escapes;
 pub mod folded;
+pub mod goals;
 pub mod in_place;
 pub mod iterators;
 pub mod numbers;

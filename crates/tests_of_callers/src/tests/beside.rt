@@ -1,4 +1,4 @@
-//! The library together with std and the toolchain's crates, one combination a test. docs/BESIDE.md quotes them.
+//! The library together with std and the toolchain's crates, one combination a test. docs/RECIPES.md names them.
 
 use anyhow::Context;
 use ascii::{AsAsciiStrError, AsciiChar, AsciiRange, AsciiStr, AsciiString, bytes, string, vec};
