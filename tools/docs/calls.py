@@ -25,7 +25,7 @@ class Call:
     key: str  # as `AsciiStr::len` or `Display for AsciiStr::fmt`
     item: Item
     module: tuple
-    heading: str  # of its group in CALLING.md
+    heading: str  # of its group
     of_trait: str = ""  # the trait of the `impl` or of the trait itself
     owner: str = ""  # the type, or the trait, or nothing for a free function
     block: Item = None  # the `impl` or the trait around it
@@ -44,12 +44,12 @@ class Call:
 
 @cache
 def entries(crate):
-    """What the page CALLING.md of a crate quotes, and the heading of each."""
-    found, _ = callers.entries_of(crate, modules_of(crate))
-    head = CRATES / crate / "CALLING.head.md"
+    """What callers see of a crate, and the heading of each."""
+    found = callers.entries_of(crate, modules_of(crate))
+    head = callers.groups_file(crate)
     groups = callers.groups_of(read(head).splitlines(), found) if head.is_file() else [("", found)]
     headings = {id(entry): heading for heading, group in groups for entry in group}
-    return [(entry, headings[id(entry)]) for entry in found]
+    return sorted(((entry, headings[id(entry)]) for entry in found), key=lambda pair: list(headings).index(id(pair[0])))
 
 
 @cache
@@ -59,7 +59,7 @@ def headings(crate):
 
 
 def order_of(crate):
-    head = CRATES / crate / "CALLING.head.md"
+    head = callers.groups_file(crate)
     lines = [line[len("### ") :] for line in read(head).splitlines() if line.startswith("### ")] if head.is_file() else [""]
     return lambda pair: lines.index(pair[1])
 

@@ -1,4 +1,4 @@
-"""The examples in the documentation of the libraries that have a page CALLING.md, as tests: one for each call.
+"""The examples in the documentation of the libraries, as tests: one for each call.
 
 An example is a paragraph of a doc comment that is indented by four spaces. The comment after `//` in a line is the `{:?}`
 output of the value before it; the other lines are statements. `alloc` is the allocator. The tests are a crate that
@@ -47,7 +47,7 @@ def examples_of(crate, modules):
     """The examples of a crate, as pairs of a name and lines; and the calls that have none."""
     examples, without = [], []
     hidden = callers.hidden_types(modules)
-    for entry in callers.entries_of(crate, modules)[0]:
+    for entry in callers.entries_of(crate, modules):
         shared = examples_in(entry.docs)
         if shared:
             examples.append((entry.key, shared))
@@ -65,7 +65,7 @@ def examples_of(crate, modules):
 
 def shares(lines, entry, call):
     """Whether the lines of an entry show a call: those of a trait do where they call it by name."""
-    if not any(line.startswith("trait ") for line in entry.lines):
+    if entry.item.kind != "trait":
         return bool(lines)
     return any(re.search(rf"\b{call.name}\(", line) for line in lines)
 

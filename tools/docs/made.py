@@ -5,7 +5,7 @@ from functools import cache
 from sources import CRATES, read, read_modules
 
 TOP = CRATES.parent
-# The crates that have a page CALLING.md, and those whose definitions the site has.
+# The libraries of the reference, and the crates whose definitions the site has.
 LIBRARIES = ["ascii_base", "ascii", "ascii_formats", "ascii_keys", "ascii_devices", "ascii_run", "ascii_lines"]
 DEFINED = [*LIBRARIES, "ascii_search", "ascii_show", "ascii_filter", "cookbook", "examples", "example_resp", "example_smtp", "ascii_c"]
 # Crates of calls for programs in Rust, of whose sources the site has no page.

@@ -1,17 +1,18 @@
 """Compares the samples of the pages with the sources.
 
-Each block of Rust or antt of README.md, docs/CONTRACTS.md, docs/UNPROVED.md, docs/PORTING.md, docs/START.md and docs/LINES.md is
-in a source of a crate word for word. A block that begins with `// FILE`, `-- FILE` or `# FILE` is
+Each block of Rust or antt of README.md, docs/CONTRACTS.md, docs/UNPROVED.md, docs/PORTING.md, docs/START.md, docs/LINES.md and the
+pages CALLING.md is in a source of a crate word for word. A block that begins with `// FILE`, `-- FILE` or `# FILE` is
 in that file, which may be the `stdout` of a stored run. From docs/START.md and docs/LINES.md a reader makes a crate NAME: a
 block with a file of that crate is the whole file, without its tests, as it is in the crate `examples`, whose module NAME is the
 reader's main.rt. A line of crates.txt that a page quotes is in crates.txt, and the tests that tools/docs/beside.md names exist."""
 import re
 
-from made import TOP
+from made import LIBRARIES, TOP
 from sources import read
 
 FOLLOWED = ["docs/START.md", "docs/LINES.md"]
-PAGES = ["README.md", "docs/CONTRACTS.md", "docs/UNPROVED.md", "docs/PORTING.md", *FOLLOWED]
+CALLING = [f"crates/{name}/CALLING.md" for name in LIBRARIES]
+PAGES = ["README.md", "docs/CONTRACTS.md", "docs/UNPROVED.md", "docs/PORTING.md", *CALLING, *FOLLOWED]
 # The crate of this repository whose code a page may quote beside that of the reader.
 QUOTED = "crates/examples/"
 BLOCK = re.compile(r"^```(\w+)\n(.*?)^```$", re.MULTILINE | re.DOTALL)

@@ -15,12 +15,12 @@ import reach  # noqa: E402
 import recipes  # noqa: E402
 import tables  # noqa: E402
 import uses  # noqa: E402
-from callers import use_lines  # noqa: E402
 from definitions import Definitions  # noqa: E402
 from examples import examples_in, names_of_tests, statements  # noqa: E402
 from functions import functions_of  # noqa: E402
 from items import read_items  # noqa: E402
 from made import conditions, example, first_sentence  # noqa: E402
+from reference_text import joined  # noqa: E402
 from samples import in_own_crate, is_sample, named  # noqa: E402
 
 
@@ -350,13 +350,12 @@ class Reach(unittest.TestCase):
 
 
 class Commands(unittest.TestCase):
-    def test_uses_are_broken_at_100_columns(self):
-        lines = use_lines("Rattle.a.specs.B", {f"Word{n:02}": f"Word{n:02}" for n in range(20)})
-        self.assertGreater(len(lines), 1)
-        self.assertTrue(all(len(line) <= 100 for line in lines))
+    def test_uses_of_a_module_are_joined(self):
+        lines = joined({"use a::b::{C, D};", "use a::b::E;", "use a::F;"})
+        self.assertEqual(list(lines), ["use a::F;", "use a::b::{C, D, E};"])
 
     def test_unknown_arguments_are_rejected(self):
-        for words in (["nothing"], ["callers", "x"], ["words", "--check"], ["reach", "--list"], ["site"], []):
+        for words in (["nothing"], ["reference", "x"], ["words", "--check"], ["reach", "--list"], ["site"], []):
             ran = subprocess.run([str(TOP / "bin/docs"), *words], stdout=subprocess.PIPE, stderr=subprocess.PIPE)
             self.assertEqual((ran.returncode, ran.stdout), (64, b""), words)
 

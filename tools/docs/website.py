@@ -25,6 +25,8 @@ from sources import CRATES, read
 
 FIRST = ["README.md", "docs/START.md", "docs/CONTRACTS.md", "docs/UNPROVED.md", "docs/LINES.md", "docs/RECIPES.md", "docs/PROGRAMS.md",
          "docs/PORTING.md", "docs/PROVED.md", "docs/EVIDENCE.md", "SECURITY.md"]
+# The reference in Markdown, whose pages the site has in HTML by the same names.
+REFERENCE = TOP / "docs/reference"
 OTHERS = ["CONTRIBUTING.md", "CHANGELOG.md", "bench/README.md", "tools/mutants/README.md", "tools/mutants/edits/README.md"]
 EXAMPLES = ["examples", "example_resp", "example_smtp"]
 # What a reader of the front page may want, and where it is.
@@ -102,6 +104,8 @@ class Site:
         if not target:
             return f'{kind}="{anchor or "#"}"'
         path = (TOP / page).parent.joinpath(target).resolve()
+        if path.parent == REFERENCE:
+            return f'{kind}="{"index" if path.stem == "README" else path.stem}.html{anchor or ""}"'
         name = str(path.relative_to(TOP)) if TOP in path.parents else ""
         if name in self.pages:
             return f'{kind}="{html_name(name)}{anchor or ""}"'

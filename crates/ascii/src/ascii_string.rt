@@ -18,10 +18,9 @@
 //! | `SmallAsciiString` of `ascii_run` | the value itself, then a `SmallVec` | 24 | `usize::MAX` | `AllocError` |
 //! | `ArrayAsciiString<N>` of `ascii_run` | the value itself | `N` | `N` | `Full` |
 //!
-//! Made by `bin/docs tables`: the other calls of `Text` are in `collect` (`extend_chars`,
-//! `extend_strs`, `collect_chars`, `collect_strs`, `collect_joined`); `copies` (`from_char`,
-//! `from_chars`, `into_chars`); `json` (`to_json`); `range_edits` (`replace_range`); `retain`
-//! (`retain`).
+//! Made by `bin/docs tables`: the other calls of `Text` are in `copies` (`from_char`, `from_chars`,
+//! `into_chars`); `retain` (`retain`); `range_edits` (`replace_range`); `collect` (`extend_chars`,
+//! `extend_strs`, `collect_chars`, `collect_strs`, `collect_joined`); `json` (`to_json`).
 //!
 //! The traits of std are in `conversions`, those of serde in `serde_impls`. Only `AsciiString` has
 //! `from_ascii_unchecked` here, the conversion to boxed text in `boxed`, and `From` of it for a `Vec` and a `String`,
