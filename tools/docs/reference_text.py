@@ -8,6 +8,7 @@ from functools import cache
 
 import callers
 import examples
+import sentences
 from made import LIBRARIES, TOP, first_sentence, modules_of, settle
 from meanings import words_in
 from owners import MAIN, SHOWN_AT, owners
@@ -16,11 +17,11 @@ from sources import impl_name, read, without_braces
 
 FOLDER = TOP / "docs/reference"
 MADE = "<!-- Made by `bin/docs reference` from the sources. -->"
-WIDE = 110
+WIDE = 118
 # A page with this many calls begins with their names.
 MANY = 8
 # What nearly every clause names: CONTRACTS explains them.
-USUAL = {"text_of", "code_of"}
+USUAL = {"text_of", "code_of", "code_text", "mut_text_of"}
 # Of the page that is being made: the `use` lines of its examples, and the words that its group has explained.
 USED, EXPLAINED = set(), set()
 LINK = re.compile(r"\]\((?![a-z]+:)([^)#\s]*)#?([^)\s]*)\)")
@@ -75,7 +76,8 @@ def docs_lines(docs, owner, of_trait=""):
     paragraphs = [it for it in "\n".join(docs).split("\n\n") if it.strip() and not it.startswith("Made by ")]
     code = [line for it in paragraphs if it.startswith("    ") for line in it.splitlines()]
     USED.update(examples.use_lines(code, owner.path.partition("::")[0], f"{owner.name} {of_trait}"))
-    return [line for paragraph in fenced(paragraphs) for line in [*paragraph.splitlines(), ""]]
+    lines = [line for paragraph in fenced(paragraphs) for line in [*paragraph.splitlines(), ""]]
+    return [line for line, after in zip(lines, [*lines[1:], ""]) if line or not after.startswith("```rust")]
 
 
 def joined(uses):
@@ -122,8 +124,23 @@ def meaning_lines(texts, words, crate, bounds=""):
              if it.file.startswith("crates/") and it.text and word not in USUAL | EXPLAINED}
     EXPLAINED.update(found)
     for word, it in found.items():
-        module = "Rattle." + it.file.removeprefix("crates/").removesuffix(".antt").replace("/", ".")
-        yield f"- `{word}`, of [`{callers.for_callers(module, crate)}`](../../{it.file}): {it.text}"
+        yield f"- `{word}`, of {module_link(it.file, crate)}: {it.text}"
+
+
+def module_link(file, crate):
+    """The module that imports the definitions of a file, with a link to the file."""
+    module = "Rattle." + file.removeprefix("crates/").removesuffix(".antt").replace("/", ".")
+    return f"[`{callers.for_callers(module, crate)}`](../../{file})"
+
+
+def word_line(texts, words, crate, bounds=""):
+    """The words of clauses that a sentence says, by the modules that import them."""
+    modules = {}
+    for word, it in {word: it for text in texts for _, word, it in words_in(text, words, bounds)}.items():
+        if it.file.startswith("crates/") and word not in USUAL | EXPLAINED:
+            EXPLAINED.add(word)
+            modules.setdefault(it.file, []).append(f"`{word}`")
+    return [f"- {', '.join(names)}, of {module_link(file, crate)}" for file, names in modules.items()]
 
 
 def block(lines):
@@ -131,12 +148,15 @@ def block(lines):
 
 
 def call_lines(call, owner):
-    """A call: its head and its contract, its documentation, and the words of its contract."""
+    """A call: what is proved of it in words, its head and its contract, its documentation, and the words of its contract."""
     docs, _ = documentation(call)
     bounds = f"{call.item.head} {call.block.head if call.block else ''}"
-    meanings = list(meaning_lines([text for _, text in call.item.clauses], call.item.words, call.crate, bounds))
+    said = sentences.of_call(call.item.clauses)
+    explained = word_line if said else meaning_lines
+    meanings = list(explained([text for _, text in call.item.clauses], call.item.words, call.crate, bounds))
     code = block([re.sub(r"^pub ", "", call.item.head), *clause_lines(call.item.clauses)])
-    return [f"### `{call.name}`", *code, *docs_lines(docs, owner, call.of_trait), *meanings, *([""] if meanings else [])]
+    proved = [*textwrap.wrap(f"Proved: {said[0].lower() if said[0] != '`' else '`'}{said[1:]}", WIDE, break_on_hyphens=False), ""] if said else []
+    return [f"### `{call.name}`", *proved, *code, *docs_lines(docs, owner, call.of_trait), *meanings, *([""] if meanings else [])]
 
 
 def type_lines(owner):
@@ -165,7 +185,9 @@ def impl_lines(impl, owner):
     words = [line for it in [*ghosts, *(call.item for call in impl.calls)] for line in it.words or []]
     meanings = list(meaning_lines(texts, tuple(dict.fromkeys(words)), impl.crate, impl.item.head))
     docs = [line for call in impl.calls if call.item.docs for line in docs_lines(call.item.docs, owner, impl.of_trait)]
-    return [*block(lines), *docs_lines(impl.item.docs, owner, impl.of_trait), *docs, *meanings, *([""] if meanings else [])]
+    said = any(first_sentence(call.item.docs) and not call.item.docs[0].startswith("    ") for call in impl.calls if call.item.docs)
+    about = [] if said else docs_lines(impl.item.docs, owner, impl.of_trait)
+    return [*block(lines), *about, *docs, *meanings, *([""] if meanings else [])]
 
 
 def members_lines(owner):
@@ -218,7 +240,9 @@ def index():
     first = sorted((it for it in found if it.name in MAIN), key=lambda it: MAIN.index(it.name))
     for_implementors = [it for it in found if FOR_IMPLEMENTORS.fullmatch(it.name)]
     lines = [MADE, "# Reference", "", "Each public call with its contract, its documentation and an example. [CONTRACTS](../CONTRACTS.md) says how a",
-             "contract is read, and explains the words that nearly every clause has. Each other word is explained below the call,", "with the module that imports it.", "",
+             "contract is read, and explains the words that nearly every clause has. Each other word is explained below the call,",
+             "with the module that imports it. Where a paragraph begins with *Proved*, it says the whole contract in words, except",
+             "for clauses that only the proof of a loop uses.", "",
              "## The types used first", "", *table("Type", first)]
     for crate in LIBRARIES:
         of_crate = [it for it in found if it.crate == crate and it not in first and it not in for_implementors]

@@ -13,6 +13,7 @@ import examples  # noqa: E402
 import lengths  # noqa: E402
 import reach  # noqa: E402
 import recipes  # noqa: E402
+import sentences  # noqa: E402
 import tables  # noqa: E402
 import uses  # noqa: E402
 from definitions import Definitions  # noqa: E402
@@ -347,6 +348,28 @@ class Reach(unittest.TestCase):
     def test_a_list_has_comments(self):
         self.assertEqual(reach.ceilings("# A list.\nlines::first: 4\n\nlines::Walk::last: 1\n"),
                          [("lines::first", 4), ("lines::Walk::last", 1)])
+
+
+class Clauses(unittest.TestCase):
+    SENTENCES = sentences.Sentences("# A list.\ntext_of v | {v}\nlength l | the length of {l}\nmap =up l | {l} in upper case\nHas l | {l} has one\n"
+                                    "Cuts P Is r | on `None`, {P not}; on `Some`, {Is the first/the second}\nOn r P | on `Ok`, {P the value}\n")
+
+    def said(self, clause):
+        return self.SENTENCES.of(clause)
+
+    def test_terms_are_filled_in_and_coercions_dropped(self):
+        self.assertEqual(self.said("result ≡ length (text_of self.old) - 1"), "The result is one less than the length of the old `self`.")
+
+    def test_closures_say_something_of_what_is_given(self):
+        self.assertEqual(self.said("Cuts (a < b) (λ x y. text_of x ≡ y) result"), "On `None`, `a` is not less than `b`; on `Some`, the first is the second.")
+        self.assertEqual(self.said("On result (λ v. v.text ≡ map up (text_of w.entry))"), "On `Ok`, the value is `w` in upper case.")
+
+    def test_what_has_no_sentence_is_not_said(self):
+        for clause in ("map down l ≡ l", "Unknown l", "Has (λ x. x)", "result ≡ record { a = b }", "¬ (Has l)"):
+            self.assertEqual(self.said(clause), "")
+
+    def test_a_binder_names_what_there_is(self):
+        self.assertEqual(self.said("(n m : List ℕ) × (n ≡ m)"), "There are `n` and `m` such that `n` is `m`.")
 
 
 class Commands(unittest.TestCase):
