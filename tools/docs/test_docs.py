@@ -350,7 +350,7 @@ class Reach(unittest.TestCase):
                          [("lines::first", 4), ("lines::Walk::last", 1)])
 
 
-class Clauses(unittest.TestCase):
+class Sentences(unittest.TestCase):
     SENTENCES = sentences.Sentences("# A list.\ntext_of v | {v}\nlength l | the length of {l}\nmap =up l | {l} in upper case\nHas l | {l} has one\n"
                                     "Cuts P Is r | on `None`, {P not}; on `Some`, {Is the first/the second}\nOn r P | on `Ok`, {P the value}\n")
 
