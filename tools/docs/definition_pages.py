@@ -105,6 +105,7 @@ class DefinitionPages:
             page.parts.append(chips(link(url_of(call), short_key(call)) for call in group))
             if not owner:
                 self.name(error, "error", f"errors.html#{error.replace(' ', '-')}", text)
+        self.name("Errors", "page", "errors.html", "Each error, and the public calls that return it.")
         self.write("errors.html", frame("Errors", "\n".join(page.parts), "".join(page.side)))
 
 

@@ -21,6 +21,10 @@ NAME = "ascii for Rattle"
 # The page that says how a contract is read.
 CONTRACTS = "docs-CONTRACTS.html"
 EXTENSIONS = ["tables", "fenced_code", "toc"]
+# What is colored in code, which is escaped: a comment, a string or a character, a keyword, and the name of a type or a variant.
+KEYWORDS = "as break const continue else enum ensures fn for ghost if impl in let loop match mod mut pub requires return struct trait type use where while"
+TOKENS = re.compile(r"""(?P<c>(?:^|(?<= ))//(?= |$|[/!]).*$)|(?P<s>b?"(?:\\.|[^"\\])*"|b?'(?:\\.|[^'\\\n])')"""
+                    rf"|(?P<k>\b(?:{'|'.join(KEYWORDS.split())})\b)|(?P<t>\b[A-Z]\w*\b)", re.M)
 
 
 def slug(text, separator):
@@ -39,12 +43,14 @@ def html_of(text, headings=None):
         tops = made.toc_tokens[0]["children"] if len(made.toc_tokens) == 1 else made.toc_tokens
         headings += [(it["name"], it["id"]) for it in tops]
     html = html.replace("<table>", '<div class="table"><table>').replace("</table>", "</table></div>")
-    return re.sub(r"(<pre><code[^>]*>)(.*?)(</code></pre>)", lambda m: m[1] + with_comments(m[2]) + m[3], html, flags=re.S)
+    # In a page, blocks without a language are what a command prints.
+    begins = r"<pre><code[^>]*>" if headings is None else r'<pre><code class="language-(?:rust|antt)">'
+    return re.sub(rf"({begins})(.*?)(</code></pre>)", lambda m: m[1] + colored(m[2]) + m[3], html, flags=re.S)
 
 
-def with_comments(code):
-    """Code with its comments in another color."""
-    return re.sub(r"(?m)(^|(?<= ))(//(?= )|//$|//[/!]).*$", lambda m: f'<span class="soft">{m[0]}</span>', code)
+def colored(code):
+    """Code with its comments, keywords, strings and types in colors."""
+    return TOKENS.sub(lambda m: f'<span class="{m.lastgroup}">{m[0]}</span>', code)
 
 
 def inline(text):
@@ -134,7 +140,8 @@ def frame(title, body, side="", kind=""):
              ("docs-UNPROVED.html", "Not proved"), ("docs-RECIPES.html", "Recipes"), ("docs-PROVED.html", "Proved"),
              ("errors.html", "Errors"), ("all.html", "All names")]
     nav = "".join(f'<a href="{url}">{text}</a>' for url, text in links)
-    aside = f'<aside aria-label="On this page">{side}</aside>' if side else ""
+    folded = f"<details open><summary>On this page</summary>{side}</details>"
+    aside = f'<aside aria-label="On this page">{folded}</aside>' if side else ""
     whole = NAME if title == NAME else f"{title} · {NAME}"
     return (f'<!DOCTYPE html>\n<html lang="en">\n<head>\n<meta charset="utf-8"/>\n<title>{escape(whole)}</title>\n'
             f'<meta name="viewport" content="width=device-width, initial-scale=1"/>\n'

@@ -4,6 +4,7 @@ from html import escape
 
 import callers
 import kit
+import sentences
 from calls import table
 from definition_pages import short
 from made import TYPED, first_sentence, head_lines, module_file, modules_of
@@ -233,7 +234,9 @@ def contract(call):
     if not clauses:
         return ""
     meanings = meanings_html([text for _, text in call.item.clauses], call.item.words, bounds)
-    return f'<details class="contract"><summary>Contract</summary>{"".join(clauses)}{meanings}</details>'
+    said = sentences.of_call(call.item.clauses)
+    proved = f"<p><strong>Proved:</strong> {inline(said)}</p>" if said else ""
+    return f'{proved}<details class="contract"><summary>Contract</summary>{"".join(clauses)}{meanings}</details>'
 
 
 def evidence(call):

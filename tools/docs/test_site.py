@@ -32,9 +32,10 @@ QUESTIONS = {
 }
 VOID = {"meta", "link", "input", "img", "br", "hr", "col"}
 # Runs the search of the site over the rows of the standard input, and prints the addresses of the first three answers of each.
-SEARCH = """const { found } = require(process.argv[1] + "/search.js"), names = require(process.argv[1] + "/names.js");
+SEARCH = """const { found } = require(process.argv[1] + "/search.js"), { NAMES, SYNONYMS } = require(process.argv[1] + "/names.js");
+globalThis.SYNONYMS = SYNONYMS;
 const texts = JSON.parse(require("fs").readFileSync(0));
-console.log(JSON.stringify(texts.map((text) => found(names, text).slice(0, 3).map((name) => name[2]))));"""
+console.log(JSON.stringify(texts.map((text) => found(NAMES, text).slice(0, 3).map((name) => name[2]))));"""
 
 
 class Page(HTMLParser):
@@ -147,7 +148,8 @@ def searched(folder):
     if not shutil.which("node"):
         print("test_site: node is not installed: the search is not run", file=sys.stderr)
         return []
-    lines = [line.split() for line in (HERE / "searches.txt").read_text(encoding="utf-8").splitlines() if line and line[0] != "#"]
+    lines = [line.rsplit(maxsplit=1) for line in (HERE / "searches.txt").read_text(encoding="utf-8").splitlines() if line and line[0] != "#"]
+    lines = [(text.strip(), page) for text, page in lines]
     texts = [text for text, _ in lines]
     command = ["node", "-e", SEARCH, str(folder.resolve())]
     ran = subprocess.run(command, input=json.dumps(texts), capture_output=True, text=True, timeout=60)

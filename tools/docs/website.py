@@ -51,6 +51,12 @@ def pages():
     return [it for it in dict.fromkeys([*FIRST, *found, *OTHERS, *callings]) if (TOP / it).is_file()]
 
 
+def synonyms():
+    """Other words for what a reader searches for."""
+    lines = [line for line in read(FOLDER / "synonyms.txt").splitlines() if line and line[0] != "#"]
+    return {word: others.split() for word, _, others in (line.partition(":") for line in lines)}
+
+
 def html_name(page):
     """The file name that a page of the repository has in the site."""
     return re.sub(r"\.md$", "", page).replace("/", "-") + ".html"
@@ -78,8 +84,9 @@ class Site:
         self.examples()
         self.front()
         self.all_names()
-        self.write("names.js", f"var NAMES = {json.dumps(self.names, ensure_ascii=False, separators=(',', ':'))};\n"
-                               'if (typeof module !== "undefined") module.exports = NAMES;\n')
+        data = {"NAMES": self.names, "SYNONYMS": synonyms()}
+        lines = [f"var {name} = {json.dumps(value, ensure_ascii=False, separators=(',', ':'))};\n" for name, value in data.items()]
+        self.write("names.js", "".join(lines) + 'if (typeof module !== "undefined") module.exports = { NAMES, SYNONYMS };\n')
         for name in ("search.js", "style.css"):
             self.write(name, read(FOLDER / name))
 
@@ -153,7 +160,7 @@ class Site:
         ways = [f'<tr><td><a href="{url}">{text}</a></td><td>{inline(what)}</td></tr>' for url, text, what in WAYS]
         tables = [f'<h2>{title}</h2>\n<div class="table"><table class="names">{"".join(lines)}</table></div>'
                   for title, lines in (("Types", rows), ("Where to go", ways), ("Crates", crates))]
-        first_screen = self.with_links("README.md", html_of(read(TOP / "README.md").partition("\n## ")[0]))
+        first_screen = self.with_links("README.md", html_of(read(TOP / "README.md").partition("\n## ")[0], []))
         self.write("index.html", frame(markup.NAME, "\n".join([first_screen, *tables])))
 
     def all_names(self):

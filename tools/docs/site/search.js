@@ -1,6 +1,7 @@
 "use strict";
 // The search over NAMES of names.js: rows of a name, its kind, its address, its first sentence, its signature, and a rank, which is
-// above 0 for a main type and its methods. The page loads names.js when the search is first used.
+// above 0 for a main type and its methods. SYNONYMS of names.js has other words for what a reader asks for. The page loads
+// names.js when the search is first used.
 const KINDS = {
   all: () => true,
   types: (kind) => ["struct", "enum", "trait", "type"].includes(kind),
@@ -10,15 +11,41 @@ const KINDS = {
 };
 
 // How well a name fits a text: exactly, then as a part of a method of a main type, then at its start, then as a part.
-function fits([shown, kind, , sentence, , rank], text) {
+function fits([shown, kind, url, sentence, , rank], text) {
   const whole = shown.toLowerCase(), last = whole.split("::").pop(), short = 1 / (1 + whole.length);
+  if (kind === "page" && url.toLowerCase() === `docs-${text}.html`) return 1500;
   if (last === text || whole === text) return 1000 + 10 * rank + (KINDS.definitions(kind) ? 0 : 5) + short;
   const isWord = last.split("_").includes(text) ? 20 : 0;
   if (rank > 0 && last.includes(text)) return (last.startsWith(text) ? 800 : 700) + isWord + rank + short;
   if (last.startsWith(text)) return 600 + short;
   if (whole.includes(text)) return (last.includes(text) ? 400 : 300) + short;
-  const words = sentence.toLowerCase().split(/[^a-z0-9_]+/);
-  return text.split(/\s+/).every((word) => words.includes(word)) ? 100 + short + rank : 0;
+  return fitsWords(shown, kind, url, sentence, text) + (rank > 0 ? rank / 10 : 0) + short;
+}
+
+// Words of a question that say nothing of its subject.
+const EMPTY = new Set("a an and are as at be by can do does for from get have how i if in into is it its me my of on or that the there this to use using want what when where which why with you".split(" "));
+const stem = (word) => word.replace(/(ations?|ating|ated|ates?|ing|ed|es|s)$/, "");
+
+// How well a name and its sentence have the words of a question: each word, or another word for it.
+function fitsWords(shown, kind, url, sentence, text) {
+  const words = text.split(/[^a-z0-9_]+/).filter((word) => word && !EMPTY.has(word));
+  if (!words.length) return 0;
+  const whole = shown.toLowerCase(), parts = shown.replace(/([a-z])([A-Z])/g, "$1 $2").toLowerCase();
+  const inName = new Set(parts.split(/::|_|[^a-z0-9_]+/).concat(whole.split("::")).map(stem));
+  const inSentence = new Set(sentence.toLowerCase().split(/[^a-z0-9_]+/).map(stem));
+  const others = typeof SYNONYMS === "undefined" ? {} : SYNONYMS;
+  let points = 0;
+  for (const word of words) {
+    const same = (others[word] || []).map((it) => it.toLowerCase());
+    if (inName.has(stem(word))) points += 60;
+    else if (same.some((it) => inName.has(stem(it)))) points += 50;
+    else if (inSentence.has(stem(word))) points += 25;
+    else if (same.some((it) => inSentence.has(stem(it)))) points += 15;
+    else points -= 20;
+  }
+  const isHeading = kind === "page" && url.includes("#");
+  const bonus = isHeading ? 2 : { page: 14, struct: 12, type: 12, trait: 8, method: 10, function: 10 }[kind] || 0;
+  return points > 0 ? points / words.length + bonus + (KINDS.definitions(kind) ? -30 : 0) + 40 : 0;
 }
 
 const plain = (type) => type.replace(/'\w+|\bmut\b|[&\s]/g, "").replace(/<>/g, "").toLowerCase();
@@ -31,7 +58,8 @@ function fitsTypes([shown, , , , signature, rank], text) {
   const result = plain(at < 0 ? "()" : signature.slice(at + 4)), inputs = plain(at < 0 ? signature : signature.slice(0, at));
   const words = inputs.split(/[^\w\[\]]+/);
   if (!takes.split(",").every((type) => !type || words.includes(type) || inputs.includes(type + "<"))) return 0;
-  if (gives && !result.startsWith(gives)) return 0;
+  const inner = result.replace(/^(result|option)</, "");
+  if (gives && !result.startsWith(gives) && !inner.startsWith(gives)) return 0;
   return (result.replace(/<.*/, "") === gives ? 200 : 100) + rank - shown.length / 100;
 }
 
@@ -69,13 +97,22 @@ function begin() {
     item.append(link, ` ${what}. ${sentence}`);
     return item;
   };
+  const nothing = () => {
+    const item = document.createElement("li");
+    item.textContent = "Nothing is found. Try a part of a name, other words, or types such as AsciiStr -> usize.";
+    return item;
+  };
   const show = () => {
     answers = typeof NAMES === "undefined" ? [] : found(NAMES, field.value, kind).slice(0, 30);
     const kinds = document.createElement("div"), list = document.createElement("ol");
     kinds.className = "kinds";
     kinds.append(...Object.keys(KINDS).map(button));
     list.append(...answers.map(answer));
+    if (!answers.length) list.append(nothing());
     panel.replaceChildren(...(field.value.trim() ? [kinds, list] : []));
+    const address = new URL(location.href);
+    if (field.value.trim()) address.searchParams.set("q", field.value); else address.searchParams.delete("q");
+    history.replaceState(null, "", address);
     document.querySelector(".columns").hidden = Boolean(field.value.trim());
   };
   const load = () => {
@@ -106,6 +143,9 @@ function begin() {
   window.addEventListener("hashchange", open);
   if (location.hash) open();
   if (asked) { field.value = asked; load(); show(); }
+  // On a narrow screen what is beside a page is folded.
+  const side = document.querySelector("aside > details");
+  if (side && window.matchMedia("(max-width: 52rem)").matches) side.open = false;
 }
 
 if (typeof document !== "undefined") begin();
